@@ -9,16 +9,16 @@ use Rattle.redomail.specs.declared.reply.Reply.TheVariants as replies
 use Rattle.rmeworld.specs.declared.answer.Answer.TheVariants as answers
 use Rattle.schedule.specs.declared.lines.fault.LineFault.TheVariants as lines
 use Rattle.cli.specs.declared.explain.rule.Rule.TheVariants as rules
-use Rattle.cli.specs.declared.explain.topic.Topic.{Topic}
-use Rattle.cli.specs.declared.explain.topic.Topic.TheVariants.{Fault, Refused, Rule, Against, Answer, Step}
-use Rattle.cli.specs.declared.explain.topic.TheConstants.{TOPICS}
+use Rattle.cli.specs.declared.explain.dictionary_entry.DictionaryEntry.{DictionaryEntry}
+use Rattle.cli.specs.declared.explain.dictionary_entry.DictionaryEntry.TheVariants.{Fault, Refused, Rule, Against, Answer, Step}
+use Rattle.cli.specs.declared.explain.dictionary_entry.TheConstants.{ENTRIES}
 use Rattle.cli.specs.Names.{name_of}
 
 -- the topic at this place of the list doesn't have this name
-passed : (name : List ℕ) → All (λ t. name_of t ≢ name) TOPICS → (i : ℕ) → i < 74 → name_of (get_or TOPICS i (Fault lines.NoHeader)) ≢ name
-passed name all i below = All-get_or (λ t. name_of t ≢ name) TOPICS i (Fault lines.NoHeader) below all
+passed : (name : List ℕ) → All (λ t. name_of t ≢ name) ENTRIES → (i : ℕ) → i < 74 → name_of (get_or ENTRIES i (Fault lines.NoHeader)) ≢ name
+passed name all i below = All-get_or (λ t. name_of t ≢ name) ENTRIES i (Fault lines.NoHeader) below all
 
-pub nowhere : (name : List ℕ) → All (λ t. name_of t ≢ name) TOPICS → (topic : Topic) → name_of topic ≢ name
+pub nowhere : (name : List ℕ) → All (λ t. name_of t ≢ name) ENTRIES → (dictionary_entry : DictionaryEntry) → name_of dictionary_entry ≢ name
 nowhere name all (Fault lines.NoHeader) = passed name all 0 (omega arith)
 nowhere name all (Fault lines.BadWord) = passed name all 1 (omega arith)
 nowhere name all (Fault lines.BadNumber) = passed name all 2 (omega arith)

@@ -14,8 +14,8 @@ use Rattle.schedule.specs.Numbers.{number_of as number_of_line}
 use Rattle.schedule.specs.Verdicts.{number_of_fault}
 use Rattle.cli.specs.declared.explain.rule.Rule.{Rule}
 use Rattle.cli.specs.declared.explain.rule.Rule.TheVariants as rules
-use Rattle.cli.specs.declared.explain.topic.Topic.{Topic}
-use Rattle.cli.specs.declared.explain.topic.Topic.TheVariants.{Fault, Refused, Rule as OfRule, Against, Answer as OfAnswer, Step}
+use Rattle.cli.specs.declared.explain.dictionary_entry.DictionaryEntry.{DictionaryEntry}
+use Rattle.cli.specs.declared.explain.dictionary_entry.DictionaryEntry.TheVariants.{Fault, Refused, Rule as OfRule, Against, Answer as OfAnswer, Step}
 
 -- the number of an image's rule, in the order of docs/dev/texts.md
 abbrev pub number_of_rule : Rule → ℕ
@@ -55,7 +55,7 @@ word_of_kind kinds.Put = codes "put"
 word_of_kind kinds.Glance = codes "glance"
 
 -- the words of a topic's name
-abbrev pub words_of : Topic → List (List ℕ)
+abbrev pub words_of : DictionaryEntry → List (List ℕ)
 words_of (Fault fault) = codes "fault" ∷ decimal (number_of_line fault) ∷ []
 words_of (Refused refusal) = words_of_refusal (number_of_refusal refusal)
 words_of (OfRule rule) = codes "rule" ∷ decimal (number_of_rule rule) ∷ []
@@ -65,8 +65,8 @@ words_of (OfAnswer answer) = codes "answer" ∷ words_of_answer answer
 words_of (Step kind) = codes "step" ∷ word_of_kind kind ∷ []
 
 -- the topic's name: its words with a space between two
-abbrev pub name_of : Topic → List ℕ
-name_of topic = join_with_byte 32 (words_of topic)
+abbrev pub name_of : DictionaryEntry → List ℕ
+name_of dictionary_entry = join_with_byte 32 (words_of dictionary_entry)
 
 -- the name of what `recover` finds
 abbrev pub name_of_found : Found → List ℕ

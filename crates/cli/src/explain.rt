@@ -1,10 +1,10 @@
 //! The meanings of the numbers and names in reports, faults and steps.
 
 mod answers;
+pub mod dictionary_entry;
 pub mod meaning;
 mod refusals;
 pub mod rule;
 mod steps;
 pub mod telling;
 mod texts;
-pub mod topic;

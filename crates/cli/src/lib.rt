@@ -6,7 +6,7 @@ pub mod explain;
 
 pub use arguments::order::Command;
 pub use arguments::words::{WordsFault, read_words};
+pub use explain::dictionary_entry::{DictionaryEntry, ENTRIES, dictionary_entry_named};
 pub use explain::meaning::{Meaning, meaning_of};
 pub use explain::rule::Rule;
-pub use explain::telling::{tell_all_names, tell_topic};
-pub use explain::topic::{TOPICS, Topic, topic_named};
+pub use explain::telling::{tell_all_names, tell_dictionary_entry};

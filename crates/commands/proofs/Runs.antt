@@ -3,7 +3,7 @@ use Rattle.std.proofs.Common.{◌≡◌, ℕ, ◌-◌, ◌*◌, ◌^◌, ◌≤�
 use Rattle.std.proofs.Math.Nat.{min-eq_left, one-le-mul}
 use Rattle.std.proofs.lemmas.Nat.{mul-le}
 use Rattle.one_lock.specs.Lab.{IsBadSpec}
-use Rattle.cli.specs.declared.arguments.order.RunOrder.{RunOrder}
+use Rattle.cli.specs.declared.arguments.order.RunArgs.{RunArgs}
 use Rattle.commands.specs.Commands.{lab_for}
 use Rattle.cli.specs.Sizes.{RunFits}
 
@@ -13,7 +13,7 @@ room_fits p m few some =
     let most = mul-le p m 16 4096 few some in
     min-eq_left (omega (arith, most))
 
-pub fits_lab : (order : RunOrder) → RunFits order → IsBadSpec (lab_for order) order.procs → ⊥
+pub fits_lab : (order : RunArgs) → RunFits order → IsBadSpec (lab_for order) order.procs → ⊥
 fits_lab order fits (inl (inl none)) = omega (arith, fits.0.0, none)
 fits_lab order fits (inl (inr more)) = omega (arith, fits.0.1, more)
 fits_lab order fits (inr (inl (inl none))) = omega (arith, none)

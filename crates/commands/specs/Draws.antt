@@ -2,13 +2,13 @@
 use Rattle.std.specs.Prelude.{◌≡◌, ◌≢◌, List, ℕ, Option, Result}
 use Rattle.crashlab.specs.declared.variant.Variant.TheVariants.{Right}
 use Rattle.commands.specs.declared.schedules.ending.Ending.{Ending}
-use Rattle.commands.specs.declared.schedules.fault.Fault.{Fault}
+use Rattle.commands.specs.declared.schedules.fault.CommandFault.{CommandFault}
 use Rattle.schedule.specs.Tapes.{Tape, Reading}
-use Rattle.cli.specs.declared.arguments.order.DrawOrder.{DrawOrder}
+use Rattle.cli.specs.declared.arguments.order.DrawArgs.{DrawArgs}
 use Rattle.commands.specs.Statuses.{status_ended}
 use Rattle.commands.specs.Tellings.{Drawn, TellsRead}
 
 -- no verdict is against the right lock
-abbrev pub DrawEnds : DrawOrder → Option (List ℕ) → Reading → Reading → Tape → Tape → Result Ending Fault → Type 0
+abbrev pub DrawEnds : DrawArgs → Option (List ℕ) → Reading → Reading → Tape → Tape → Result Ending CommandFault → Type 0
 DrawEnds order image old new before now end =
     (status_ended end ≡ 1 → order.variant ≢ Right) × TellsRead order.variant (Drawn order.style) image old new before now end

@@ -12,13 +12,13 @@ use Rattle.explorer.specs.Paths.{HasMoreStates, IsNumberOfStates}
 use Rattle.schedule.specs.Words.{line_of}
 use Rattle.crashlab.specs.declared.variant.Variant.TheVariants.{Right}
 use Rattle.lock_explorer.specs.declared.space.moves.Move.{Move}
-use Rattle.lock_explorer.specs.SceneWords.{scene_words}
-use Rattle.lock_explorer.specs.Spaces.{first_scene, line_by, rules}
+use Rattle.lock_explorer.specs.GlobalStateWords.{global_state_words}
+use Rattle.lock_explorer.specs.Spaces.{first_global_state, line_by, rules}
 use Rattle.lock_explorer.specs.Finding.{IsFoundIn, IsLeast, NoneOfAtMost, NoneIsFound}
 use Rattle.commands.specs.declared.schedules.ending.Ending.{Ending}
-use Rattle.commands.specs.declared.schedules.fault.Fault.{Fault}
-use Rattle.commands.specs.declared.schedules.fault.Fault.TheVariants.{BadSize, TooManyStates}
-use Rattle.cli.specs.declared.arguments.order.ExploreOrder.{ExploreOrder}
+use Rattle.commands.specs.declared.schedules.fault.CommandFault.{CommandFault}
+use Rattle.commands.specs.declared.schedules.fault.CommandFault.TheVariants.{BadSize, TooManyStates}
+use Rattle.cli.specs.declared.arguments.order.ExploreArgs.{ExploreArgs}
 use Rattle.commands.specs.Endings.{FailsToWrite}
 use Rattle.commands.specs.Statuses.{outcome}
 
@@ -33,7 +33,7 @@ appends width zero = []
 appends width (suc n) = appends width n ++ call.Append (suc n) (take width (replicate 8 (suc n))) ∷ []
 
 -- the calls that the search starts
-abbrev pub calls_of : ExploreOrder → List Call
+abbrev pub calls_of : ExploreArgs → List Call
 calls_of order =
     asked order.calls.lock (call.Lock ∷ [])
     ++ (asked order.calls.unlock (call.Unlock ∷ [])
@@ -44,15 +44,15 @@ calls_of order =
     ++ asked order.calls.close (call.Close ∷ []))))))
 
 -- the sizes of the search's worlds
-abbrev pub layout_of : ExploreOrder → Layout
+abbrev pub layout_of : ExploreArgs → Layout
 layout_of order = record { procs = order.procs; cap = order.cap; width = order.width }
 
 -- the moves as a schedule
-abbrev pub schedule_of : ExploreOrder → List Move → Scheduled
+abbrev pub schedule_of : ExploreArgs → List Move → Scheduled
 schedule_of order path = record { procs = order.procs; limit = order.limit; cap = order.cap; width = order.width; lines = map line_by path }
 
 -- a schedule of fewest moves on which a wrong variant fails was written
-pub record TellsLeast (order : ExploreOrder) (before now : Tape) : Type 0 where
+pub record TellsLeast (order : ExploreArgs) (before now : Tape) : Type 0 where
   pub wrong : order.variant ≢ Right
   pub path : List Move
   pub found : IsFoundIn order.variant (layout_of order) order.limit order.crashes (calls_of order) path
@@ -69,28 +69,28 @@ abbrev pub all_line : ℕ → List ℕ
 all_line states = line_of (codes "nothing" ∷ codes "found:" ∷ codes "all" ∷ decimal states ∷ codes "states" ∷ [])
 
 -- the variant fails on no schedule of at most this many moves, and that was written
-pub record TellsNoneWithin (order : ExploreOrder) (before now : Tape) : Type 0 where
+pub record TellsNoneWithin (order : ExploreArgs) (before now : Tape) : Type 0 where
   pub none : NoneOfAtMost order.variant (layout_of order) order.limit order.crashes (calls_of order) order.moves
   pub text : Writes before now (within_line order.moves)
 
 -- the variant fails on no schedule of any length, and that was written, with the number of states
-pub record TellsNone (order : ExploreOrder) (before now : Tape) : Type 0 where
+pub record TellsNone (order : ExploreArgs) (before now : Tape) : Type 0 where
   pub none : NoneIsFound order.variant (layout_of order) order.limit order.crashes (calls_of order)
   pub states : ℕ
-  pub number : IsNumberOfStates (rules scene_words) (first_scene order.variant (layout_of order) order.limit order.crashes (calls_of order)) states
+  pub number : IsNumberOfStates (rules global_state_words) (first_global_state order.variant (layout_of order) order.limit order.crashes (calls_of order)) states
   pub text : Writes before now (all_line states)
 
 -- no world has these sizes, or no value has this width
-abbrev pub IsNoSize : ExploreOrder → Type 0
+abbrev pub IsNoSize : ExploreArgs → Type 0
 IsNoSize order = (new_refusal (layout_of order) order.limit ≡ None → ⊥) ⊎ ((1 ≤ order.width) × (order.width ≤ 8) → ⊥)
 
 -- there are more states than may be kept, and nothing was written
-pub record HasTooMany (order : ExploreOrder) (before now : Tape) : Type 0 where
-  pub more : HasMoreStates (rules scene_words) (first_scene order.variant (layout_of order) order.limit order.crashes (calls_of order)) order.states
+pub record HasTooMany (order : ExploreArgs) (before now : Tape) : Type 0 where
+  pub more : HasMoreStates (rules global_state_words) (first_global_state order.variant (layout_of order) order.limit order.crashes (calls_of order)) order.states
   pub silent : Silent before now
 
 -- how `explore` ends
-abbrev pub ExploreEnds : ExploreOrder → Tape → Tape → Result Ending Fault → Type 0
+abbrev pub ExploreEnds : ExploreArgs → Tape → Tape → Result Ending CommandFault → Type 0
 ExploreEnds order before now end =
     (outcome end ≡ Ok 1) × TellsLeast order before now
     ⊎ (outcome end ≡ Ok 0) × TellsNoneWithin order before now

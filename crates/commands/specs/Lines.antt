@@ -1,8 +1,8 @@
 -- The one line of a fault.
 use Rattle.std.specs.Prelude.{◌≡◌, ℕ, ◌+◌, ◌-◌, ◌^◌, ◌⊎◌, min, List, [], ◌∷◌, ◌++◌, codes}
 use Rattle.std.specs.Fmt.{decimal}
-use Rattle.commands.specs.declared.schedules.fault.Fault.{Fault}
-use Rattle.commands.specs.declared.schedules.fault.Fault.TheVariants.{Text, Refused, Image, BadVariant, BadSize, Read, Write, OutOfMemory, Member, TooManyStates}
+use Rattle.commands.specs.declared.schedules.fault.CommandFault.{CommandFault}
+use Rattle.commands.specs.declared.schedules.fault.CommandFault.TheVariants.{Text, Refused, Image, BadVariant, BadSize, Read, Write, OutOfMemory, Member, TooManyStates}
 use Rattle.schedule.specs.Words.{line_of}
 use Rattle.schedule.specs.Tapes.{Begins, Tape, Writes}
 
@@ -11,7 +11,7 @@ abbrev pub words_of_place : ℕ → List ℕ → ℕ → List (List ℕ)
 words_of_place line cause number = codes "line" ∷ (decimal line ++ codes ":") ∷ cause ∷ decimal number ∷ []
 
 -- the words of a fault's line
-abbrev pub words_of_fault : Fault → List (List ℕ)
+abbrev pub words_of_fault : CommandFault → List (List ℕ)
 words_of_fault (Text line number) = words_of_place line (codes "fault") number
 words_of_fault (Refused line number) = words_of_place line (codes "refused") number
 words_of_fault (Image rule) = codes "image:" ∷ codes "rule" ∷ decimal rule ∷ []
@@ -24,7 +24,7 @@ words_of_fault TooManyStates = codes "too" ∷ codes "many" ∷ codes "states" �
 words_of_fault (Member p) = codes "member" ∷ decimal p ∷ codes "failed" ∷ []
 
 -- the line of a fault on standard error
-abbrev pub fault_line : Fault → List ℕ
+abbrev pub fault_line : CommandFault → List ℕ
 fault_line fault = line_of (codes "rmelab:" ∷ words_of_fault fault)
 
 -- the line was written, or the device has failed after a prefix of it

@@ -2,8 +2,8 @@
 use Rattle.std.specs.Prelude.{◌≡◌, ◌≤◌, ◌⊎◌, ℕ, List, ◌++◌, [], true, false, String, string_bytes, Vec, Option, None, is_some, option_to_list, Result, Ok, Err, OnOk}
 use Rattle.std.specs.declared.alloc.Global.{Global}
 use Rattle.commands.specs.declared.schedules.ending.Ending.{Ending}
-use Rattle.commands.specs.declared.schedules.fault.Fault.{Fault}
-use Rattle.commands.specs.declared.schedules.fault.Fault.TheVariants.{BadVariant, BadSize, Write, OutOfMemory}
+use Rattle.commands.specs.declared.schedules.fault.CommandFault.{CommandFault}
+use Rattle.commands.specs.declared.schedules.fault.CommandFault.TheVariants.{BadVariant, BadSize, Write, OutOfMemory}
 use Rattle.schedule.specs.Tapes.{Tape, Writes, Reading}
 use Rattle.cli.specs.declared.arguments.order.Command.{Command}
 use Rattle.cli.specs.declared.arguments.words.WordsFault.{WordsFault}
@@ -46,7 +46,7 @@ pub record SavesNone (before now : Used) : Type 0 where
   pub texts : now.texts ≡ before.texts
 
 -- after a fault nothing was saved, unless saving itself has failed; then no write and no flush had failed before
-abbrev pub Saves : Command → Used → Used → Tape → Tape → Result Ending Fault → Type 0
+abbrev pub Saves : Command → Used → Used → Tape → Tape → Result Ending CommandFault → Type 0
 Saves order before now blank written (Ok ending) = SavesAll order before now ending.save
 Saves order before now blank written (Err fault) =
     SavesNone before now ⊎ (status_of fault ≡ 3) × (now.saved ≡ saves_all order before.saved) × (written.failures ≡ blank.failures)
@@ -54,26 +54,26 @@ Saves order before now blank written (Err fault) =
 -- ---- what is read and written
 
 -- the command ends like this, with the text of an image if the command names one
-abbrev pub EndsBeside : Command → Reading → Reading → Tape → Tape → Result Ending Fault → Type 0
+abbrev pub EndsBeside : Command → Reading → Reading → Tape → Tape → Result Ending CommandFault → Type 0
 EndsBeside order old new before now end =
     (image : Option (List ℕ)) × (is_some image ≡ is_some (image_of order)) × CommandEnds order image old new before now end
 
 -- a device or memory may fail as well
-abbrev pub EndsOnInput : Command → Reading → Reading → Tape → Tape → Result Ending Fault → Type 0
+abbrev pub EndsOnInput : Command → Reading → Reading → Tape → Tape → Result Ending CommandFault → Type 0
 EndsOnInput order old new before now end = IsBroken end ⊎ EndsBeside order old new before now end
 
 -- the contract on a file is the one on standard input
-abbrev pub EndsOnFile : Command → Tape → Tape → Result Ending Fault → Type 0
+abbrev pub EndsOnFile : Command → Tape → Tape → Result Ending CommandFault → Type 0
 EndsOnFile order before now end =
     IsBroken end ⊎ ((last : Reading) × EndsBeside order (record { given = []; ended = false; failures = 0 }) last before now end)
 
 -- without a fault, no write and no flush has failed
-abbrev pub IsWhole : Tape → Tape → Result Ending Fault → Type 0
+abbrev pub IsWhole : Tape → Tape → Result Ending CommandFault → Type 0
 IsWhole before now (Ok ending) = (ending.status ≤ 1) × (now.failures ≡ before.failures)
 IsWhole before now (Err fault) = Unit {0}
 
 -- what is done for a command: standard input is read if and only if no file is named
-pub record Does (order : Command) (before now : Used) (old new : Reading) (blank written : Tape) (end : Result Ending Fault) : Type 0 where
+pub record Does (order : Command) (before now : Used) (old new : Reading) (blank written : Tape) (end : Result Ending CommandFault) : Type 0 where
   pub opens_all : OnOk end (now.opened ≡ opens_all order before.opened)
   pub opens_some : OpensSome order before.opened now.opened
   pub saves : Saves order before now blank written end
@@ -83,19 +83,19 @@ pub record Does (order : Command) (before now : Used) (old new : Reading) (blank
   pub on_file : is_some (input_of order) ≡ true → EndsOnFile order blank written end
 
 -- the line of a fault, or nothing
-abbrev pub Tells : Tape → Tape → Result Ending Fault → Type 0
+abbrev pub Tells : Tape → Tape → Result Ending CommandFault → Type 0
 Tells said says (Ok ending) = says ≡ said
 Tells said says (Err fault) = IsTold said says (fault_line fault)
 
 -- the line of a fault is written if there is one, and the status is that of the result
-pub record Closes (said says : Tape) (end : Result Ending Fault) (status : ℕ) : Type 0 where
+pub record Closes (said says : Tape) (end : Result Ending CommandFault) (status : ℕ) : Type 0 where
   pub status_is : status ≡ status_ended end
   pub tells : Tells said says end
 
 -- a command is carried out, and its fault reported
 abbrev pub Obeys : Command → Used → Used → Reading → Reading → Tape → Tape → Tape → Tape → ℕ → Type 0
 Obeys order before now old new blank written said says status =
-    (end : Result Ending Fault) × Does order before now old new blank written end × Closes said says end status
+    (end : Result Ending CommandFault) × Does order before now old new blank written end × Closes said says end status
 
 -- ---- words that are no command
 

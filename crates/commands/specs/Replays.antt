@@ -14,28 +14,28 @@ use Rattle.schedule.specs.Schedules.{Scheduled, schedule_at}
 use Rattle.schedule.specs.Runs.{Part, deeds_of}
 use Rattle.schedule.specs.Verdicts.{verdict_on}
 use Rattle.schedule.specs.Wholes.{WasRead, ReplaysSource, world_run}
-use Rattle.cli.specs.declared.arguments.order.ReplayOrder.{ReplayOrder}
+use Rattle.cli.specs.declared.arguments.order.ReplayArgs.{ReplayArgs}
 use Rattle.commands.specs.declared.schedules.ending.Ending.{Ending}
-use Rattle.commands.specs.declared.schedules.fault.Fault.{Fault}
+use Rattle.commands.specs.declared.schedules.fault.CommandFault.{CommandFault}
 use Rattle.commands.specs.Endings.{IsEnded, TellsReads}
 use Rattle.commands.specs.Statuses.{outcome, outcome_told, status_after, status_ended}
 use Rattle.commands.specs.Tellings.{Replayed, TellsRead}
 
 -- only the report of a schedule on the right lock is asked for
-abbrev pub IsPlainReplay : ReplayOrder → Option (List ℕ) → Type 0
+abbrev pub IsPlainReplay : ReplayArgs → Option (List ℕ) → Type 0
 IsPlainReplay order image = (image ≡ None) × (order.variant ≡ Right) × (order.json ≡ false) × (order.each ≡ false) × (order.save ≡ None)
 
 -- something else is asked for besides the report, and no JSON
-abbrev pub IsTold : ReplayOrder → Option (List ℕ) → Type 0
+abbrev pub IsTold : ReplayArgs → Option (List ℕ) → Type 0
 IsTold order image = (order.json ≡ false) × (IsPlainReplay order image → ⊥)
 
 -- the report of the schedule that was read was written, or the command answers why not
-abbrev pub TellsReplay : Reading → Reading → Tape → Tape → Result Ending Fault → Type 0
+abbrev pub TellsReplay : Reading → Reading → Tape → Tape → Result Ending CommandFault → Type 0
 TellsReplay old new before now end =
     (answer : Result Verdict ReplayFault) × ReplaysSource old new before now answer × (outcome end ≡ outcome_told answer)
 
 -- the right lock is asked for, from the beginning
-abbrev pub IsNew : ReplayOrder → Option (List ℕ) → Type 0
+abbrev pub IsNew : ReplayArgs → Option (List ℕ) → Type 0
 IsNew order image = (image ≡ None) × (order.variant ≡ Right)
 
 -- these bytes are the image after the run of a schedule on a new world
@@ -63,7 +63,7 @@ pub record IsReplayed {S : Type 0} (start : State) (run : Part S (ℕ × Refusal
   pub ended : IsEnded saves before now ending
 
 -- whatever else is asked for, no verdict is against the right lock, and a failed read isn't taken for the end of the text
-abbrev pub ReplayEnds : ReplayOrder → Option (List ℕ) → Reading → Reading → Tape → Tape → Result Ending Fault → Type 0
+abbrev pub ReplayEnds : ReplayArgs → Option (List ℕ) → Reading → Reading → Tape → Tape → Result Ending CommandFault → Type 0
 ReplayEnds order image old new before now end =
     (status_ended end ≡ 1 → order.variant ≢ Right) × (IsPlainReplay order image → TellsReplay old new before now end)
     × (IsNew order image → IfOk end (λ ending. SavesLast old new ending.save))

@@ -11,16 +11,16 @@ use Rattle.rmeworld.specs.WorldState.{new_refusal}
 use Rattle.schedule.specs.declared.lines.fault.LineFault.{LineFault}
 use Rattle.schedule.specs.Numbers.{number_of as number_of_line}
 use Rattle.schedule.specs.Schedules.{Scheduled, schedule_at}
-use Rattle.commands.specs.declared.schedules.fault.Fault.{Fault}
-use Rattle.commands.specs.declared.schedules.fault.Fault.TheVariants.{Text, Refused}
+use Rattle.commands.specs.declared.schedules.fault.CommandFault.{CommandFault}
+use Rattle.commands.specs.declared.schedules.fault.CommandFault.TheVariants.{Text, Refused}
 use Rattle.commands.specs.Statuses.{fault_of_header, fault_of_image}
 use Rattle.schedule.specs.Wholes.{WasRead, layout_of}
 use Rattle.schedule.specs.Tapes.{Reading}
 
 -- the text that was read isn't a schedule
-unfoldable pub IsWrongText : Reading → Reading → Fault → Type 0
+unfoldable pub IsWrongText : Reading → Reading → CommandFault → Type 0
 IsWrongText old new fault =
-    (text : List ℕ) × WasRead old new text × (line : ℕ) × (why : LineFault) × (schedule_at text ≡ Err (line, why)) × (fault ≡ Text line (number_of_line why))
+    (text : List ℕ) × WasRead old new text × (line : ℕ) × (purpose : LineFault) × (schedule_at text ≡ Err (line, purpose)) × (fault ≡ Text line (number_of_line purpose))
 
 -- the image that a text spells. No text spells two images
 abbrev pub IsImageOf : List ℕ → Image → Type 0
@@ -33,12 +33,12 @@ IsPicture (Some text) (Some image) = IsImageOf text image
 IsPicture _ _ = ⊥
 
 -- the text that is given isn't an image
-abbrev pub IsWrongImage : Option (List ℕ) → Fault → Type 0
+abbrev pub IsWrongImage : Option (List ℕ) → CommandFault → Type 0
 IsWrongImage None fault = ⊥
 IsWrongImage (Some text) fault = (refusal : Refusal) × IsNoImage text refusal × (fault ≡ fault_of_image refusal)
 
 -- no world has the header's sizes, or it was out of memory
-abbrev pub IsUnmade : Scheduled → Fault → Type 0
+abbrev pub IsUnmade : Scheduled → CommandFault → Type 0
 IsUnmade schedule fault =
     (refusal : Refusal) × (new_refusal (layout_of schedule) schedule.limit ≡ cause refusal) × (fault ≡ fault_of_header (number_of refusal))
 
@@ -57,7 +57,7 @@ abbrev pub IsMadeFit : ℕ → Image → Image → Type 0
 IsMadeFit width image fitted = ((image.width ≡ width) × (fitted ≡ image)) ⊎ IsWider width image fitted
 
 -- the header names other sizes than the image has, or the image can't be widened
-abbrev pub IsMisfit : Image → Scheduled → Fault → Type 0
+abbrev pub IsMisfit : Image → Scheduled → CommandFault → Type 0
 IsMisfit image schedule fault =
     ((CanFit image schedule → ⊥) × (fault ≡ Refused 1 9))
     ⊎ ((refusal : Refusal) × IsUnwidened schedule.width image refusal × (fault ≡ fault_of_header (number_of refusal)))

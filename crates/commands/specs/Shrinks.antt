@@ -7,11 +7,11 @@ use Rattle.schedule.specs.Tapes.{Tape, Writes, Reading}
 use Rattle.schedule.specs.Reports.{verdict_line}
 use Rattle.schedule.specs.Schedules.{Scheduled, schedule_at, spelling}
 use Rattle.schedule.specs.Wholes.{Silent, WasRead}
-use Rattle.crashlab.specs.Shrunk.{IsWhy, Shrinks}
+use Rattle.crashlab.specs.Shrunk.{IsReason, Shrinks}
 use Rattle.commands.specs.declared.schedules.ending.Ending.{Ending}
-use Rattle.commands.specs.declared.schedules.fault.Fault.{Fault}
-use Rattle.commands.specs.declared.schedules.fault.Fault.TheVariants.{Refused}
-use Rattle.cli.specs.declared.arguments.order.ShrinkOrder.{ShrinkOrder}
+use Rattle.commands.specs.declared.schedules.fault.CommandFault.{CommandFault}
+use Rattle.commands.specs.declared.schedules.fault.CommandFault.TheVariants.{Refused}
+use Rattle.cli.specs.declared.arguments.order.ShrinkArgs.{ShrinkArgs}
 use Rattle.commands.specs.Settings.{IsWrongText}
 use Rattle.commands.specs.Statuses.{outcome, status_ended}
 
@@ -26,27 +26,27 @@ shrunk_status (Some least) = 1
 shrunk_status None = 0
 
 -- what shrinking answers was written
-pub record TellsShrunk (variant : Variant) (schedule : Scheduled) (before now : Tape) (end : Result Ending Fault) : Type 0 where
+pub record TellsShrunk (variant : Variant) (schedule : Scheduled) (before now : Tape) (end : Result Ending CommandFault) : Type 0 where
   pub answer : Option Scheduled
   pub shrinks : Shrinks variant schedule answer
   pub written : Writes before now (shrunk_text answer)
   pub status : outcome end ≡ Ok (shrunk_status answer)
 
 -- the fault is the line that the variant's world refuses, and nothing is written
-pub record TellsRefused (variant : Variant) (schedule : Scheduled) (before now : Tape) (end : Result Ending Fault) : Type 0 where
+pub record TellsRefused (variant : Variant) (schedule : Scheduled) (before now : Tape) (end : Result Ending CommandFault) : Type 0 where
   pub line : ℕ
   pub number : ℕ
-  pub why : IsWhy variant schedule (faults_of_replay.Refused line number)
+  pub purpose : IsReason variant schedule (faults_of_replay.Refused line number)
   pub told : end ≡ Err (Refused line number)
   pub silent : Silent before now
 
 -- the schedule is shrunk, a line of it is refused, or a device or memory has failed
-abbrev pub ShrinksSchedule : Variant → Scheduled → Tape → Tape → Result Ending Fault → Type 0
+abbrev pub ShrinksSchedule : Variant → Scheduled → Tape → Tape → Result Ending CommandFault → Type 0
 ShrinksSchedule variant schedule before now end =
     TellsShrunk variant schedule before now end ⊎ (TellsRefused variant schedule before now end ⊎ (status_ended end ≡ 3))
 
 -- the schedule that was read is shrunk
-pub record ShrinksText (variant : Variant) (old new : Reading) (before now : Tape) (end : Result Ending Fault) : Type 0 where
+pub record ShrinksText (variant : Variant) (old new : Reading) (before now : Tape) (end : Result Ending CommandFault) : Type 0 where
   pub text : List ℕ
   pub read : WasRead old new text
   pub schedule : Scheduled
@@ -54,13 +54,13 @@ pub record ShrinksText (variant : Variant) (old new : Reading) (before now : Tap
   pub shrunk : ShrinksSchedule variant schedule before now end
 
 -- the text isn't a schedule, and nothing is written
-pub record TellsText (old new : Reading) (before now : Tape) (end : Result Ending Fault) : Type 0 where
-  pub fault : Fault
+pub record TellsText (old new : Reading) (before now : Tape) (end : Result Ending CommandFault) : Type 0 where
+  pub fault : CommandFault
   pub wrong : IsWrongText old new fault
   pub told : end ≡ Err fault
   pub silent : Silent before now
 
 -- how `shrink` ends
-abbrev pub ShrinkEnds : ShrinkOrder → Reading → Reading → Tape → Tape → Result Ending Fault → Type 0
+abbrev pub ShrinkEnds : ShrinkArgs → Reading → Reading → Tape → Tape → Result Ending CommandFault → Type 0
 ShrinkEnds order old new before now end =
     ShrinksText order.variant old new before now end ⊎ (TellsText old new before now end ⊎ (status_ended end ≡ 3))

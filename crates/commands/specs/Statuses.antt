@@ -10,12 +10,12 @@ use Rattle.schedule.specs.declared.replays.verdict.Verdict.TheVariants.{Fine, Ag
 use Rattle.rmecore.specs.declared.refusal.Refusal.{Refusal}
 use Rattle.rmecore.specs.declared.refusal.Refusal.TheVariants.{BadImage}
 use Rattle.commands.specs.declared.schedules.ending.Ending.{Ending}
-use Rattle.commands.specs.declared.schedules.fault.Fault.{Fault}
-use Rattle.commands.specs.declared.schedules.fault.Fault.TheVariants.{Text, Refused, Image, Read, Write, OutOfMemory, Member, TooManyStates}
+use Rattle.commands.specs.declared.schedules.fault.CommandFault.{CommandFault}
+use Rattle.commands.specs.declared.schedules.fault.CommandFault.TheVariants.{Text, Refused, Image, Read, Write, OutOfMemory, Member, TooManyStates}
 use Rattle.schedule.specs.Numbers.{number_of as number_of_line}
 
 -- 3 for a fault of a device, of memory or of a member, and for too many states in a search; 2 for one of the input
-abbrev pub status_of : Fault → ℕ
+abbrev pub status_of : CommandFault → ℕ
 status_of Read = 3
 status_of Write = 3
 status_of OutOfMemory = 3
@@ -29,7 +29,7 @@ status_after Fine = 0
 status_after (Against at fault) = 1
 
 -- the program's fault for a fault of a replay, or of the judging of a trace
-abbrev pub fault_of_replay : ReplayFault → Fault
+abbrev pub fault_of_replay : ReplayFault → CommandFault
 fault_of_replay (of_replay.Text line number) = Text line number
 fault_of_replay (of_replay.Refused line number) = Refused line number
 fault_of_replay of_replay.Read = Read
@@ -37,41 +37,41 @@ fault_of_replay of_replay.Write = Write
 fault_of_replay of_replay.OutOfMemory = OutOfMemory
 
 -- the same for a replay to a page in memory: the page refuses a write only when it is out of memory
-abbrev pub fault_on_page : ReplayFault → Fault
+abbrev pub fault_on_page : ReplayFault → CommandFault
 fault_on_page of_replay.Write = OutOfMemory
 fault_on_page fault = fault_of_replay fault
 
 -- the fault for the refusal of a header, by the refusal's number: it names line 1
-abbrev pub fault_of_header : Option ℕ → Fault
+abbrev pub fault_of_header : Option ℕ → CommandFault
 fault_of_header None = OutOfMemory
 fault_of_header (Some number) = Refused 1 number
 
 -- the fault for the refusal of an image's text
-abbrev pub fault_of_image : Refusal → Fault
+abbrev pub fault_of_image : Refusal → CommandFault
 fault_of_image (BadImage rule) = Image rule
 fault_of_image _ = OutOfMemory
 
 -- the fault for the fault of a text
-abbrev pub fault_of_text : TextFault → Fault
+abbrev pub fault_of_text : TextFault → CommandFault
 fault_of_text (of_text.At line fault) = Text line (number_of_line fault)
 fault_of_text of_text.OutOfMemory = OutOfMemory
 
 -- the exit status of a command with this result
-abbrev pub status_ended : Result Ending Fault → ℕ
+abbrev pub status_ended : Result Ending CommandFault → ℕ
 status_ended (Ok ending) = ending.status
 status_ended (Err fault) = status_of fault
 
 -- the program's result for the result of a replay
-abbrev pub answer_told : Result Verdict ReplayFault → Result Verdict Fault
+abbrev pub answer_told : Result Verdict ReplayFault → Result Verdict CommandFault
 answer_told (Ok verdict) = Ok verdict
 answer_told (Err fault) = Err (fault_of_replay fault)
 
 -- the exit status, or the fault
-abbrev pub outcome : Result Ending Fault → Result ℕ Fault
+abbrev pub outcome : Result Ending CommandFault → Result ℕ CommandFault
 outcome (Ok ending) = Ok ending.status
 outcome (Err fault) = Err fault
 
 -- the exit status, or the fault, of a replay or of the judging of a trace
-abbrev pub outcome_told : Result Verdict ReplayFault → Result ℕ Fault
+abbrev pub outcome_told : Result Verdict ReplayFault → Result ℕ CommandFault
 outcome_told (Ok verdict) = Ok (status_after verdict)
 outcome_told (Err fault) = Err (fault_of_replay fault)

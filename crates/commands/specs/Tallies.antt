@@ -1,7 +1,7 @@
 -- How a tally grows by a message, and when it is fine.
 use Rattle.std.specs.Prelude.{◌≡◌, ℕ, Bool, true, false, leb}
 use Rattle.rmecore.specs.Simulated.{one_more}
-use Rattle.commands.specs.declared.tally.Tally.{Tally}
+use Rattle.commands.specs.declared.tally.SenderTally.{SenderTally}
 
 -- one more if the number came before
 abbrev pub and_again : Bool → ℕ → ℕ
@@ -14,5 +14,5 @@ in_step true last seq = leb last seq
 in_step false last seq = false
 
 -- each number came once, and in order
-abbrev pub IsFine : Tally → Type 0
+abbrev pub IsFine : SenderTally → Type 0
 IsFine tally = (tally.twice ≡ 0) × (tally.ordered ≡ true)

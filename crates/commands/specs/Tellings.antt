@@ -4,17 +4,17 @@ use Rattle.std.proofs.Math.ListN.{replicate}
 use Rattle.crashlab.specs.declared.variant.Variant.{Variant}
 use Rattle.crashlab.specs.declared.variant.Variant.TheVariants.{Right}
 use Rattle.crashlab.specs.VariantWorlds as variants
-use Rattle.diagram.specs.declared.act.Row.{Row}
+use Rattle.diagram.specs.declared.act.DiagramRow.{DiagramRow}
 use Rattle.diagram.specs.declared.drawing.End.{End}
 use Rattle.diagram.specs.declared.drawing.End.TheVariants as ends
-use Rattle.diagram.specs.declared.phase.Phase.{Phase}
-use Rattle.diagram.specs.declared.phase.Phase.TheVariants.{Rest, Dead}
-use Rattle.diagram.specs.declared.sheet.Style.{Style}
-use Rattle.diagram.specs.Drawings.{sheet_of, spelled}
+use Rattle.diagram.specs.declared.phase.LifelinePhase.{LifelinePhase}
+use Rattle.diagram.specs.declared.phase.LifelinePhase.TheVariants.{Rest, Dead}
+use Rattle.diagram.specs.declared.diagram_layout.Style.{Style}
+use Rattle.diagram.specs.Drawings.{diagram_layout_of, spelled}
 use Rattle.diagram.specs.Events.{events_on}
 use Rattle.diagram.specs.Followed.{followed, Follows}
 use Rattle.diagram.specs.Rows.{events_in, EndsAs}
-use Rattle.diagram.specs.Sheets.{layout_of as sizes_of}
+use Rattle.diagram.specs.DiagramLayouts.{layout_of as sizes_of}
 use Rattle.judge.specs.Starts.{state_of}
 use Rattle.judge.specs.Table.{State, empty}
 use Rattle.judge.specs.declared.start.Start.{Start}
@@ -31,8 +31,8 @@ use Rattle.rmeworld.specs.Behaviours.{Behaviour}
 use Rattle.schedule.specs.Replays.{Replays}
 use Rattle.schedule.specs.Schedules.{Scheduled, head_of, schedule_at}
 use Rattle.commands.specs.declared.schedules.ending.Ending.{Ending}
-use Rattle.commands.specs.declared.schedules.fault.Fault.{Fault}
-use Rattle.commands.specs.declared.schedules.fault.Fault.TheVariants as faults
+use Rattle.commands.specs.declared.schedules.fault.CommandFault.{CommandFault}
+use Rattle.commands.specs.declared.schedules.fault.CommandFault.TheVariants as faults
 use Rattle.commands.specs.Settings.{IsFitting, IsMadeFit, IsMisfit, IsPicture, IsUnmade, IsWrongImage, IsWrongText}
 use Rattle.commands.specs.Statuses.{outcome, outcome_told, status_after, status_of}
 use Rattle.schedule.specs.Wholes.{Silent, WasRead, layout_of}
@@ -45,66 +45,66 @@ pub data Manner : Type 0 where
   Replayed : Bool → Manner
 
 -- the status of a run that is drawn to its end is that of its verdict; if a line was refused, that is the fault
-abbrev pub ending_of : End → Result Ending Fault
+abbrev pub ending_of : End → Result Ending CommandFault
 ending_of (ends.Judged verdict) = Ok (record { status = status_after verdict; save = None })
 ending_of (ends.Refused line number verdict) = Err (faults.Refused line number)
 
 -- the text of a drawing was written, or a prefix of it if the device or memory has failed
-abbrev pub IsWritten : Tape → Tape → List ℕ → End → Result Ending Fault → Type 0
+abbrev pub IsWritten : Tape → Tape → List ℕ → End → Result Ending CommandFault → Type 0
 IsWritten before now text last (Err faults.Write) = Begins before.taken now.taken text × (now.failures ≡ min (before.failures + 1) (2 ^ 64 - 1))
 IsWritten before now text last (Err faults.OutOfMemory) = Begins before.taken now.taken text × (now.failures ≡ before.failures)
 IsWritten before now text last end = Writes before now text × (end ≡ ending_of last)
 
 -- the rows of the drawing show exactly the steps and crashes of the schedule's run on a machine, and how it ends
-pub record DrawsRun {S : Type 0} (b : Behaviour S) (start : State) (s : S) (first : Phase) (style : Style) (schedule : Scheduled) (before now : Tape) (end : Result Ending Fault) : Type 0 where
-  pub rows : List Row
+pub record DrawsRun {S : Type 0} (b : Behaviour S) (start : State) (s : S) (first : LifelinePhase) (style : Style) (schedule : Scheduled) (before now : Tape) (end : Result Ending CommandFault) : Type 0 where
+  pub rows : List DiagramRow
   pub last : End
   pub shows : events_in rows ≡ events_on b s schedule.lines
   pub ends_as : EndsAs start (run_on b 2 s schedule.lines) last
-  pub written : IsWritten before now (spelled (sheet_of style (head_of schedule) rows last) first rows last) last end
+  pub written : IsWritten before now (spelled (diagram_layout_of style (head_of schedule) rows last) first rows last) last end
 
 -- the result of a replay that writes each step, or the report alone
-abbrev pub AnswersRun : {S : Type 0} → Bool → Behaviour S → (S → Image) → State → S → Phase → Scheduled → Tape → Tape → Result Verdict ReplayFault → Type 0
+abbrev pub AnswersRun : {S : Type 0} → Bool → Behaviour S → (S → Image) → State → S → LifelinePhase → Scheduled → Tape → Tape → Result Verdict ReplayFault → Type 0
 AnswersRun true b picture_of start s first schedule before now answer =
     Follows before now start picture_of (run_on b 2 s schedule.lines) (followed (sizes_of (head_of schedule)) (replicate schedule.procs first) (events_on b s schedule.lines)) answer
 AnswersRun false b picture_of start s first schedule before now answer = Replays before now start picture_of (run_on b 2 s schedule.lines) answer
 
 -- the run was written, and the command has that result; or there was no memory for the image to be saved
-pub record ReplaysRun {S : Type 0} (each : Bool) (b : Behaviour S) (picture_of : S → Image) (start : State) (s : S) (first : Phase) (schedule : Scheduled) (before now : Tape) (end : Result Ending Fault) : Type 0 where
+pub record ReplaysRun {S : Type 0} (each : Bool) (b : Behaviour S) (picture_of : S → Image) (start : State) (s : S) (first : LifelinePhase) (schedule : Scheduled) (before now : Tape) (end : Result Ending CommandFault) : Type 0 where
   pub answer : Result Verdict ReplayFault
   pub answers : AnswersRun each b picture_of start s first schedule before now answer
   pub ends_so : (outcome end ≡ outcome_told answer) ⊎ (end ≡ Err faults.OutOfMemory)
 
 -- nothing is written: out of memory
-pub record Wants (before now : Tape) (end : Result Ending Fault) : Type 0 where
+pub record Wants (before now : Tape) (end : Result Ending CommandFault) : Type 0 where
   pub silent : Silent before now
   pub memory : end ≡ Err faults.OutOfMemory
 
 -- the run is written in this manner, or there was no memory
-abbrev pub Tells : {S : Type 0} → Manner → Behaviour S → (S → Image) → State → S → Phase → Scheduled → Tape → Tape → Result Ending Fault → Type 0
+abbrev pub Tells : {S : Type 0} → Manner → Behaviour S → (S → Image) → State → S → LifelinePhase → Scheduled → Tape → Tape → Result Ending CommandFault → Type 0
 Tells (Drawn style) b picture_of start s first schedule before now end = DrawsRun b start s first style schedule before now end ⊎ Wants before now end
 Tells (Replayed each) b picture_of start s first schedule before now end = ReplaysRun each b picture_of start s first schedule before now end ⊎ Wants before now end
 
 -- ---- the machine that is asked for
 
 -- nothing is written, and the fault is of this kind
-abbrev pub Refuses : Tape → Tape → (Fault → Type 0) → Result Ending Fault → Type 0
-Refuses before now Is end = Silent before now × ((fault : Fault) × (end ≡ Err fault) × Is fault)
+abbrev pub Refuses : Tape → Tape → (CommandFault → Type 0) → Result Ending CommandFault → Type 0
+Refuses before now Is end = Silent before now × ((fault : CommandFault) × (end ≡ Err fault) × Is fault)
 
 -- on a new world of the right lock, all processes at rest
-abbrev pub TellsNew : Manner → Scheduled → Tape → Tape → Result Ending Fault → Type 0
+abbrev pub TellsNew : Manner → Scheduled → Tape → Tape → Result Ending CommandFault → Type 0
 TellsNew manner schedule before now end =
     Refuses before now (IsUnmade schedule) end
     ⊎ Tells manner world_behaviour image_of (empty schedule.procs schedule.cap) (new_world (layout_of schedule) schedule.limit) Rest schedule before now end
 
 -- on a new world of a variant
-abbrev pub TellsVariant : Variant → Manner → Scheduled → Tape → Tape → Result Ending Fault → Type 0
+abbrev pub TellsVariant : Variant → Manner → Scheduled → Tape → Tape → Result Ending CommandFault → Type 0
 TellsVariant variant manner schedule before now end =
     Refuses before now (IsUnmade schedule) end
     ⊎ Tells manner variants.variant_behaviour variants.image_of (empty schedule.procs schedule.cap) (variants.new_world variant (layout_of schedule) schedule.limit) Rest schedule before now end
 
 -- on the world of an image, all processes dead, with a judge that starts in the state of the image
-pub record TellsOn (image : Image) (manner : Manner) (schedule : Scheduled) (before now : Tape) (end : Result Ending Fault) : Type 0 where
+pub record TellsOn (image : Image) (manner : Manner) (schedule : Scheduled) (before now : Tape) (end : Result Ending CommandFault) : Type 0 where
   pub lawful : IsLawfulImage image
   pub fits : IsFitting image schedule
   pub start : Start
@@ -112,13 +112,13 @@ pub record TellsOn (image : Image) (manner : Manner) (schedule : Scheduled) (bef
   pub tells : Tells manner world_behaviour image_of (state_of start) (image_world image) Dead schedule before now end
 
 -- on the world of this image if it fits the header, or of the widened image
-abbrev pub TellsImage : Image → Manner → Scheduled → Tape → Tape → Result Ending Fault → Type 0
+abbrev pub TellsImage : Image → Manner → Scheduled → Tape → Tape → Result Ending CommandFault → Type 0
 TellsImage image manner schedule before now end =
     Refuses before now (IsMisfit image schedule) end
     ⊎ (Wants before now end ⊎ ((fitted : Image) × IsMadeFit schedule.width image fitted × TellsOn fitted manner schedule before now end))
 
 -- an image goes with the right lock only
-abbrev pub TellsSchedule : Variant → Option Image → Manner → Scheduled → Tape → Tape → Result Ending Fault → Type 0
+abbrev pub TellsSchedule : Variant → Option Image → Manner → Scheduled → Tape → Tape → Result Ending CommandFault → Type 0
 TellsSchedule variant (Some image) manner schedule before now end = TellsImage image manner schedule before now end
 TellsSchedule variant None manner schedule before now end =
     (variant ≡ Right → TellsNew manner schedule before now end) × (variant ≢ Right → TellsVariant variant manner schedule before now end)
@@ -126,7 +126,7 @@ TellsSchedule variant None manner schedule before now end =
 -- ---- the whole
 
 -- the run of the schedule that was read is written, on the image of the text that is given, if one is
-pub record TellsText (variant : Variant) (manner : Manner) (image : Option (List ℕ)) (old new : Reading) (before now : Tape) (end : Result Ending Fault) : Type 0 where
+pub record TellsText (variant : Variant) (manner : Manner) (image : Option (List ℕ)) (old new : Reading) (before now : Tape) (end : Result Ending CommandFault) : Type 0 where
   pub text : List ℕ
   pub read : WasRead old new text
   pub schedule : Scheduled
@@ -136,11 +136,11 @@ pub record TellsText (variant : Variant) (manner : Manner) (image : Option (List
   pub told : TellsSchedule variant picture manner schedule before now end
 
 -- what is wrong with what was read: the image or the text; or a device or memory has failed
-abbrev pub IsUnread : Option (List ℕ) → Reading → Reading → Fault → Type 0
+abbrev pub IsUnread : Option (List ℕ) → Reading → Reading → CommandFault → Type 0
 IsUnread image old new fault =
     (status_of fault ≡ 3) ⊎ (IsWrongImage image fault ⊎ IsWrongText old new fault)
 
 -- the run is written, or the fault of what was to be read is answered
-abbrev pub TellsRead : Variant → Manner → Option (List ℕ) → Reading → Reading → Tape → Tape → Result Ending Fault → Type 0
+abbrev pub TellsRead : Variant → Manner → Option (List ℕ) → Reading → Reading → Tape → Tape → Result Ending CommandFault → Type 0
 TellsRead variant manner image old new before now end =
     Refuses before now (IsUnread image old new) end ⊎ TellsText variant manner image old new before now end

@@ -9,30 +9,32 @@ ghost use Rattle.commands.specs.Programs.{Closes};
 ghost use Rattle.commands.specs.Statuses.{status_of};
 
 use crate::exploring::explore_order;
-use crate::running::run_order;
-use crashlab::hunting::hunt_watched;
-use crashlab::{HuntFault, Variant};
-use cli::{Topic, tell_all_names, tell_topic};
-use cli::arguments::order::{Command, HuntOrder};
 use crate::progress::meter::Meter;
 use crate::progress::screen::{NoScreen, Screen};
 use crate::progress::work::Work;
-use schedule::texts::device::write_all;
-use schedule::{Schedule, Sink, Source};
+use crate::running::run_order;
 use crate::schedules::drawn::draw_order;
 use crate::schedules::ending::{Ending, status_after_verdict};
-use crate::schedules::fault::Fault;
+use crate::schedules::fault::CommandFault;
 use crate::schedules::line::told;
 use crate::schedules::replaying::replay_order;
 use crate::schedules::shrunk::{shrink_order, write_lines};
-use crashlab::shrink_found;
+use cli::arguments::order::{Command, HuntArgs};
+use cli::{DictionaryEntry, tell_all_names, tell_dictionary_entry};
+use crashlab::hunting::hunt_watched;
+use crashlab::{HuntFault, Variant, shrink_found};
+use schedule::texts::device::write_all;
+use schedule::{Schedule, Sink, Source, judge_trace, put_verdict};
 use std::alloc::Global;
 use std::sync::Wait;
 use std::thread::Threads;
-use schedule::{judge_trace, put_verdict};
 
 /// Writes the verdict line of a trace.
-fn judge_order<R: Source, W: Sink>(alloc: Global, r: &mut R, w: &mut W) -> Result<Ending, Fault>
+fn judge_order<R: Source, W: Sink>(
+    alloc: Global,
+    r: &mut R,
+    w: &mut W,
+) -> Result<Ending, CommandFault>
     ensures ends { JudgeEnds (R.reading r.old) (R.reading r.new) (W.tape w.old) (W.tape w.new) result }
     ensures ended { IfOk result (IsEnded false (W.tape w.old).failures (W.tape w.new).failures) }
 {
@@ -40,7 +42,7 @@ fn judge_order<R: Source, W: Sink>(alloc: Global, r: &mut R, w: &mut W) -> Resul
     let mut line = Vec::new(alloc);
     put_verdict(&mut line, verdict)?;
     if write_all(w, &line).is_err() {
-        return Err(Fault::Write);
+        return Err(CommandFault::Write);
     }
     Ok(Ending {
         status: status_after_verdict(verdict),
@@ -54,7 +56,7 @@ fn write_least<W: Sink>(
     variant: Variant,
     found: &Schedule,
     w: &mut W,
-) -> Result<(), Fault>
+) -> Result<(), CommandFault>
     requires { IsFound variant found.now }
     ensures written { OnOk result (TellsFound true variant found.now (W.tape w.old) (W.tape w.new)) }
     ensures failed { IfErr result (λ fault. status_of fault ≡ 3) }
@@ -66,10 +68,10 @@ fn write_least<W: Sink>(
 /// Writes the schedule that a hunt has found, shrunk if that is asked for.
 fn write_found<W: Sink>(
     alloc: Global,
-    order: &HuntOrder,
+    order: &HuntArgs,
     found: &Schedule,
     w: &mut W,
-) -> Result<(), Fault>
+) -> Result<(), CommandFault>
     requires { IsFound order.now.variant found.now }
     ensures written { OnOk result (TellsFound order.now.shrink order.now.variant found.now (W.tape w.old) (W.tape w.new)) }
     ensures failed { IfErr result (λ fault. status_of fault ≡ 3) }
@@ -85,10 +87,10 @@ fn write_found<W: Sink>(
 /// number is outside its range. Other faults are those of the writer and of memory.
 pub fn hunt_order<S: Screen, W: Sink>(
     alloc: Global,
-    order: &HuntOrder,
+    order: &HuntArgs,
     screen: &mut S,
     w: &mut W,
-) -> Result<Ending, Fault>
+) -> Result<Ending, CommandFault>
     ensures ends { HuntEnds order.now (W.tape w.old) (W.tape w.new) result }
     ensures ended { IfOk result (IsEnded false (W.tape w.old).failures (W.tape w.new).failures) }
 {
@@ -110,23 +112,26 @@ pub fn hunt_order<S: Screen, W: Sink>(
                 save: None,
             })
         }
-        Ok(None) if write_all(w, b"nothing found\n").is_err() => Err(Fault::Write),
+        Ok(None) if write_all(w, b"nothing found\n").is_err() => Err(CommandFault::Write),
         Ok(None) => Ok(Ending {
             status: 0,
             save: None,
         }),
-        Err(HuntFault::BadRounds | HuntFault::BadSteps) => Err(Fault::BadSize),
-        Err(HuntFault::OutOfMemory) => Err(Fault::OutOfMemory),
+        Err(HuntFault::BadRounds | HuntFault::BadSteps) => Err(CommandFault::BadSize),
+        Err(HuntFault::OutOfMemory) => Err(CommandFault::OutOfMemory),
     }
 }
 
 /// Writes what a topic means, or the names of all topics.
-fn explain_order<W: Sink>(topic: Option<Topic>, w: &mut W) -> Result<Ending, Fault>
-    ensures ends { ExplainEnds topic (W.tape w.old) (W.tape w.new) result }
+fn explain_order<W: Sink>(
+    dictionary_entry: Option<DictionaryEntry>,
+    w: &mut W,
+) -> Result<Ending, CommandFault>
+    ensures ends { ExplainEnds dictionary_entry (W.tape w.old) (W.tape w.new) result }
     ensures ended { IfOk result (IsEnded false (W.tape w.old).failures (W.tape w.new).failures) }
 {
-    let told = match topic {
-        Some(topic) => tell_topic(topic, w),
+    let told = match dictionary_entry {
+        Some(dictionary_entry) => tell_dictionary_entry(dictionary_entry, w),
         None => tell_all_names(w),
     };
     match told {
@@ -134,7 +139,7 @@ fn explain_order<W: Sink>(topic: Option<Topic>, w: &mut W) -> Result<Ending, Fau
             status: 0,
             save: None,
         }),
-        Err(_) => Err(Fault::Write),
+        Err(_) => Err(CommandFault::Write),
     }
 }
 
@@ -148,8 +153,9 @@ pub fn ended<T: Threads + Wait + Sync, S: Screen, R: Source, W: Sink>(
     screen: &mut S,
     r: &mut R,
     w: &mut W,
-) -> Result<Ending, Fault>
-    ensures ends { CommandEnds command.now (option_copied image.entry) (R.reading r.old) (R.reading r.new) (W.tape w.old) (W.tape w.new) result }
+) -> Result<Ending, CommandFault>
+    ensures ends { CommandEnds command.now (option_copied image.entry) (R.reading r.old) (R.reading r.new) (W.tape w.old)
+        (W.tape w.new) result }
     ensures ended { IfOk result (IsEnded (is_some (save_of command.now)) (W.tape w.old).failures (W.tape w.new).failures) }
 {
     match command {
@@ -160,7 +166,7 @@ pub fn ended<T: Threads + Wait + Sync, S: Screen, R: Source, W: Sink>(
         Command::Hunt(order) => hunt_order(alloc, order, screen, w),
         Command::Explore(order) => explore_order(alloc, order, screen, w),
         Command::Run(order) => run_order(rt, alloc, order, w),
-        Command::Explain(topic) => explain_order(*topic, w),
+        Command::Explain(dictionary_entry) => explain_order(*dictionary_entry, w),
     }
 }
 
@@ -176,7 +182,8 @@ pub fn command_shown<T: Threads + Wait + Sync, S: Screen, R: Source, W: Sink, E:
     w: &mut W,
     e: &mut E,
 ) -> Ending
-    ensures ends { (end : Result Ending Fault) × CommandEnds command.now (option_copied image.entry) (R.reading r.old) (R.reading r.new) (W.tape w.old) (W.tape w.new) end × Closes (E.tape e.old) (E.tape e.new) end result.status }
+    ensures ends { (end : Result Ending CommandFault) × CommandEnds command.now (option_copied image.entry) (R.reading r.old)
+        (R.reading r.new) (W.tape w.old) (W.tape w.new) end × Closes (E.tape e.old) (E.tape e.new) end result.status }
     ensures unsaved { is_some (save_of command.now) ≡ false → is_some result.save ≡ false }
 {
     match ended(rt, alloc, command, image, screen, r, w) {
@@ -198,7 +205,8 @@ pub fn command<T: Threads + Wait + Sync, R: Source, W: Sink, E: Sink>(
     w: &mut W,
     e: &mut E,
 ) -> Ending
-    ensures ends { (end : Result Ending Fault) × CommandEnds command.now (option_copied image.entry) (R.reading r.old) (R.reading r.new) (W.tape w.old) (W.tape w.new) end × Closes (E.tape e.old) (E.tape e.new) end result.status }
+    ensures ends { (end : Result Ending CommandFault) × CommandEnds command.now (option_copied image.entry) (R.reading r.old)
+        (R.reading r.new) (W.tape w.old) (W.tape w.new) end × Closes (E.tape e.old) (E.tape e.new) end result.status }
     ensures unsaved { is_some (save_of command.now) ≡ false → is_some result.save ≡ false }
 {
     command_shown(rt, alloc, command, image, &mut NoScreen, r, w, e)

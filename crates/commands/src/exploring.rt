@@ -7,21 +7,20 @@ ghost use Rattle.schedule.specs.Tapes.{Writes};
 ghost use Rattle.commands.specs.Explores.{appends as appends_of, asked, all_line, calls_of as calls_asked, ExploreEnds, schedule_of as schedule_by, within_line};
 ghost use Rattle.lock_explorer.specs.Spaces.{line_by};
 
-use schedule::{Count, Line};
-use lock_explorer::{Bounds, ExploreFault, Found, Move, shortest_schedule};
-use cli::arguments::order::ExploreOrder;
 use crate::progress::meter::Meter;
 use crate::progress::screen::Screen;
 use crate::progress::work::Work;
+use crate::schedules::ending::Ending;
+use crate::schedules::fault::CommandFault;
+use crate::schedules::line::line_around;
+use crate::schedules::shrunk::write_lines;
+use cli::arguments::order::ExploreArgs;
+use lock_explorer::{Bounds, ExploreFault, Found, Move, shortest_schedule};
 use redomail::Layout;
 use rmecore::Body;
 use rmeworld::Call;
 use schedule::texts::device::write_all;
-use schedule::{Schedule, Sink};
-use crate::schedules::ending::Ending;
-use crate::schedules::fault::Fault;
-use crate::schedules::line::line_around;
-use crate::schedules::shrunk::write_lines;
+use schedule::{Count, Line, Schedule, Sink};
 use std::alloc::{AllocError, Global};
 
 /// Adds a call to the list, if it is asked for.
@@ -50,13 +49,13 @@ fn append_of(seq: u64, width: u64) -> Option<Call>
 }
 
 /// Adds the appends with each number from 1 to the capacity.
-fn put_appends(calls: &mut Vec<Call>, order: &ExploreOrder) -> Result<(), Fault>
+fn put_appends(calls: &mut Vec<Call>, order: &ExploreArgs) -> Result<(), CommandFault>
     ensures listed { OnOk result (calls.new.items ≡ calls.old.items ++ appends_of order.now.width order.now.cap) }
-    ensures failed { IfErr result (λ fault. fault ≡ Fault.OutOfMemory) }
+    ensures failed { IfErr result (λ fault. fault ≡ CommandFault.OutOfMemory) }
 {
     for seq in 0..order.cap {
         let Some(call) = append_of(seq + 1, order.width) else {
-            return Err(Fault::OutOfMemory);
+            return Err(CommandFault::OutOfMemory);
         };
         calls.push(call)?;
     }
@@ -64,9 +63,9 @@ fn put_appends(calls: &mut Vec<Call>, order: &ExploreOrder) -> Result<(), Fault>
 }
 
 /// The calls that the search starts, always in this order.
-fn calls_of(alloc: Global, order: &ExploreOrder) -> Result<Vec<Call>, Fault>
+fn calls_of(alloc: Global, order: &ExploreArgs) -> Result<Vec<Call>, CommandFault>
     ensures listed { IfOk result (λ calls. calls.items ≡ calls_asked order.now) }
-    ensures failed { IfErr result (λ fault. fault ≡ Fault.OutOfMemory) }
+    ensures failed { IfErr result (λ fault. fault ≡ CommandFault.OutOfMemory) }
 {
     let asked = &order.calls;
     let mut calls = Vec::new(alloc);
@@ -94,24 +93,29 @@ fn line_of_move(made: &Move) -> Line
 }
 
 /// The moves as a schedule.
-fn schedule_of(alloc: Global, order: &ExploreOrder, path: &[Move]) -> Result<Schedule, Fault>
+fn schedule_of(alloc: Global, order: &ExploreArgs, path: &[Move]) -> Result<Schedule, CommandFault>
     ensures schedule { IfOk result (λ schedule. schedule ≡ schedule_by order.now path.now) }
-    ensures failed { IfErr result (λ fault. fault ≡ Fault.OutOfMemory) }
+    ensures failed { IfErr result (λ fault. fault ≡ CommandFault.OutOfMemory) }
 {
     let Ok(mut schedule) = Schedule::new(alloc, order.procs, order.limit, order.cap, order.width)
     else {
-        return Err(Fault::OutOfMemory);
+        return Err(CommandFault::OutOfMemory);
     };
     for made in path {
         if schedule.push(line_of_move(made)).is_err() {
-            return Err(Fault::OutOfMemory);
+            return Err(CommandFault::OutOfMemory);
         }
     }
     Ok(schedule)
 }
 
 /// Writes that nothing was found, and how far the search got.
-fn tell_none<W: Sink>(before: &str, number: u64, after: &str, w: &mut W) -> Result<Ending, Fault>
+fn tell_none<W: Sink>(
+    before: &str,
+    number: u64,
+    after: &str,
+    w: &mut W,
+) -> Result<Ending, CommandFault>
     requires { (length before.now ≤ 21) × (length after.now ≤ 20) }
     ensures told { OnOk result (Writes (W.tape w.old) (W.tape w.new) (before.now ++ decimal number ++ after.now)) }
     ensures status { IfOk result (λ ending. ending.status ≡ 0) }
@@ -120,7 +124,7 @@ fn tell_none<W: Sink>(before: &str, number: u64, after: &str, w: &mut W) -> Resu
 {
     let line = line_around(before, number, after);
     if write_all(w, line.as_bytes()).is_err() {
-        return Err(Fault::Write);
+        return Err(CommandFault::Write);
     }
     Ok(Ending {
         status: 0,
@@ -129,7 +133,7 @@ fn tell_none<W: Sink>(before: &str, number: u64, after: &str, w: &mut W) -> Resu
 }
 
 /// Writes that nothing was found within this many moves.
-fn tell_within<W: Sink>(moves: u64, w: &mut W) -> Result<Ending, Fault>
+fn tell_within<W: Sink>(moves: u64, w: &mut W) -> Result<Ending, CommandFault>
     ensures told { OnOk result (Writes (W.tape w.old) (W.tape w.new) (within_line moves)) }
     ensures status { IfOk result (λ ending. ending.status ≡ 0) }
     ensures ended { IfOk result (IsEnded false (W.tape w.old).failures (W.tape w.new).failures) }
@@ -139,7 +143,7 @@ fn tell_within<W: Sink>(moves: u64, w: &mut W) -> Result<Ending, Fault>
 }
 
 /// Writes that nothing was found in this many states, which are all.
-fn tell_all<W: Sink>(states: u64, w: &mut W) -> Result<Ending, Fault>
+fn tell_all<W: Sink>(states: u64, w: &mut W) -> Result<Ending, CommandFault>
     ensures told { OnOk result (Writes (W.tape w.old) (W.tape w.new) (all_line states)) }
     ensures status { IfOk result (λ ending. ending.status ≡ 0) }
     ensures ended { IfOk result (IsEnded false (W.tape w.old).failures (W.tape w.new).failures) }
@@ -152,15 +156,15 @@ fn tell_all<W: Sink>(states: u64, w: &mut W) -> Result<Ending, Fault>
 /// screen. `BadSize`: a size is outside its limits. `TooManyStates`: the search reached more states than it may keep.
 pub fn explore_order<S: Screen, W: Sink>(
     alloc: Global,
-    order: &ExploreOrder,
+    order: &ExploreArgs,
     screen: &mut S,
     w: &mut W,
-) -> Result<Ending, Fault>
+) -> Result<Ending, CommandFault>
     ensures ends { ExploreEnds order.now (W.tape w.old) (W.tape w.new) result }
     ensures ended { IfOk result (IsEnded false (W.tape w.old).failures (W.tape w.new).failures) }
 {
     if order.width == 0 || order.width > 8 {
-        return Err(Fault::BadSize);
+        return Err(CommandFault::BadSize);
     }
     let layout = Layout {
         procs: order.procs,
@@ -195,8 +199,8 @@ pub fn explore_order<S: Screen, W: Sink>(
         }
         Ok(Found::NoneWithin) => tell_within(order.moves, w),
         Ok(Found::Nowhere(states)) => tell_all(states, w),
-        Err(ExploreFault::Refused(_)) => Err(Fault::BadSize),
-        Err(ExploreFault::TooManyStates) => Err(Fault::TooManyStates),
-        Err(ExploreFault::OutOfMemory) => Err(Fault::OutOfMemory),
+        Err(ExploreFault::Refused(_)) => Err(CommandFault::BadSize),
+        Err(ExploreFault::TooManyStates) => Err(CommandFault::TooManyStates),
+        Err(ExploreFault::OutOfMemory) => Err(CommandFault::OutOfMemory),
     }
 }

@@ -5,7 +5,7 @@ ghost use Rattle.commands.specs.Endings.{IsEnded};
 ghost use Rattle.schedule.specs.Tapes.{Writes};
 ghost use Rattle.cli.specs.FilesNamed.{image_of, input_of, save_of};
 ghost use Rattle.commands.specs.Lines.{IsTold};
-ghost use Rattle.commands.specs.declared.schedules.fault.Fault.TheVariants.{Write as WriteFault};
+ghost use Rattle.commands.specs.declared.schedules.fault.CommandFault.TheVariants.{Write as WriteFault};
 ghost use Rattle.commands.specs.Programs.{Answers, Closes, Does, EndsOnFile, EndsOnInput, Helps, IsProgram, Obeys, opens_all, OpensSome, SavesAll, Scolds};
 ghost use Rattle.cli.specs.Sizes.{IsSized};
 ghost use Rattle.commands.specs.Faults.{fault_of_opening, fault_of_saving};
@@ -13,45 +13,49 @@ ghost use Rattle.commands.specs.Statuses.{status_of};
 
 use crate::command::ended;
 use crate::folder::{FileFault, Folder};
+use crate::progress::screen::Screen;
+use crate::schedules::ending::Ending;
+use crate::schedules::fault::CommandFault;
+use crate::schedules::line::told;
 use cli::arguments::order::Command;
 use cli::arguments::words::{WordsFault, read_words};
-use crate::progress::screen::Screen;
+use schedule::replays::pieces::read_all;
 use schedule::texts::device::write_all;
 use schedule::{Failed, FromReader, Sink, Source, ToWriter};
-use crate::schedules::ending::Ending;
-use crate::schedules::fault::Fault;
-use crate::schedules::line::told;
 use std::alloc::Global;
 use std::io::{BufWriter, Read, Write};
 use std::process::ExitCode;
 use std::sync::Wait;
 use std::thread::Threads;
-use schedule::replays::pieces::read_all;
 
 /// The command's fault for a file that wasn't opened.
-fn unopened(fault: FileFault) -> Fault
+fn unopened(fault: FileFault) -> CommandFault
     ensures told { result ≡ fault_of_opening fault }
     ensures status { status_of result ≡ 3 }
 {
     match fault {
-        FileFault::Failed => Fault::Read,
-        FileFault::OutOfMemory => Fault::OutOfMemory,
+        FileFault::Failed => CommandFault::Read,
+        FileFault::OutOfMemory => CommandFault::OutOfMemory,
     }
 }
 
 /// The command's fault for a file that wasn't written.
-fn unsaved(fault: FileFault) -> Fault
+fn unsaved(fault: FileFault) -> CommandFault
     ensures told { result ≡ fault_of_saving fault }
     ensures status { status_of result ≡ 3 }
 {
     match fault {
-        FileFault::Failed => Fault::Write,
-        FileFault::OutOfMemory => Fault::OutOfMemory,
+        FileFault::Failed => CommandFault::Write,
+        FileFault::OutOfMemory => CommandFault::OutOfMemory,
     }
 }
 
 /// Reads a whole file.
-fn file_text<F: Folder>(alloc: Global, folder: &mut F, name: &String) -> Result<Vec<u8>, Fault>
+fn file_text<F: Folder>(
+    alloc: Global,
+    folder: &mut F,
+    name: &String,
+) -> Result<Vec<u8>, CommandFault>
     ensures opened { (F.used folder.new).opened ≡ (F.used folder.old).opened ++ name.now ∷ [] }
     ensures saved { (F.used folder.new).saved ≡ (F.used folder.old).saved }
     ensures texts { (F.used folder.new).texts ≡ (F.used folder.old).texts }
@@ -66,7 +70,7 @@ fn image_text<F: Folder>(
     alloc: Global,
     order: &Command,
     folder: &mut F,
-) -> Result<Option<Vec<u8>>, Fault>
+) -> Result<Option<Vec<u8>>, CommandFault>
     ensures opened { (F.used folder.new).opened ≡ (F.used folder.old).opened ++ option_to_list (image_of order.now) }
     ensures saved { (F.used folder.new).saved ≡ (F.used folder.old).saved }
     ensures texts { (F.used folder.new).texts ≡ (F.used folder.old).texts }
@@ -89,7 +93,7 @@ fn ended_on_file<T: Threads + Wait + Sync, F: Folder, S: Screen, W: Sink>(
     name: &String,
     screen: &mut S,
     out: &mut W,
-) -> Result<Ending, Fault>
+) -> Result<Ending, CommandFault>
     requires { is_some image ≡ is_some (image_of order.now) }
     ensures opened { (F.used folder.new).opened ≡ (F.used folder.old).opened ++ name.now ∷ [] }
     ensures saved { (F.used folder.new).saved ≡ (F.used folder.old).saved }
@@ -110,14 +114,15 @@ fn ordered<T: Threads + Wait + Sync, F: Folder, S: Screen, R: Source, W: Sink>(
     screen: &mut S,
     input: &mut R,
     out: &mut W,
-) -> Result<Ending, Fault>
+) -> Result<Ending, CommandFault>
     ensures all { OnOk result ((F.used folder.new).opened ≡ opens_all order.now (F.used folder.old).opened) }
     ensures opened { OpensSome order.now (F.used folder.old).opened (F.used folder.new).opened }
     ensures saved { (F.used folder.new).saved ≡ (F.used folder.old).saved }
     ensures texts { (F.used folder.new).texts ≡ (F.used folder.old).texts }
     ensures ended { IfOk result (IsEnded (is_some (save_of order.now)) (W.tape out.old).failures (W.tape out.new).failures) }
     ensures apart { is_some (input_of order.now) ≡ true → R.reading input.new ≡ R.reading input.old }
-    ensures on_input { input_of order.now ≡ None → EndsOnInput order.now (R.reading input.old) (R.reading input.new) (W.tape out.old) (W.tape out.new) result }
+    ensures on_input { input_of order.now ≡ None → EndsOnInput order.now (R.reading input.old) (R.reading input.new)
+        (W.tape out.old) (W.tape out.new) result }
     ensures on_file { is_some (input_of order.now) ≡ true → EndsOnFile order.now (W.tape out.old) (W.tape out.new) result }
 {
     let image = image_text(alloc, order, folder)?;
@@ -137,7 +142,7 @@ fn ordered<T: Threads + Wait + Sync, F: Folder, S: Screen, R: Source, W: Sink>(
 }
 
 /// Saves the image, if the command names a file for it.
-fn save<F: Folder>(folder: &mut F, order: &Command, ending: &Ending) -> Result<(), Fault>
+fn save<F: Folder>(folder: &mut F, order: &Command, ending: &Ending) -> Result<(), CommandFault>
     requires { is_some ending.now.save ≡ is_some (save_of order.now) }
     ensures opened { (F.used folder.new).opened ≡ (F.used folder.old).opened }
     ensures saved { SavesAll order.now (F.used folder.old) (F.used folder.new) ending.now.save }
@@ -151,12 +156,12 @@ fn save<F: Folder>(folder: &mut F, order: &Command, ending: &Ending) -> Result<(
 
 /// Flushes the output.
 #[tactic(auto, using(crate::proofs::Tapes::same_tape))]
-fn handed_on<W: Sink>(out: &mut W) -> Result<(), Fault>
+fn handed_on<W: Sink>(out: &mut W) -> Result<(), CommandFault>
     ensures same { OnOk result (W.tape out.new ≡ W.tape out.old) }
     ensures failed { IfErr result (λ fault. fault ≡ WriteFault) }
 {
     if out.flush().is_err() {
-        return Err(Fault::Write);
+        return Err(CommandFault::Write);
     }
     Ok(())
 }
@@ -170,8 +175,9 @@ fn carried_out<T: Threads + Wait + Sync, F: Folder, S: Screen, R: Source, W: Sin
     screen: &mut S,
     input: &mut R,
     out: &mut W,
-) -> Result<Ending, Fault>
-    ensures { Does order.now (F.used folder.old) (F.used folder.new) (R.reading input.old) (R.reading input.new) (W.tape out.old) (W.tape out.new) result }
+) -> Result<Ending, CommandFault>
+    ensures { Does order.now (F.used folder.old) (F.used folder.new) (R.reading input.old) (R.reading input.new)
+        (W.tape out.old) (W.tape out.new) result }
 {
     let ended = ordered(rt, alloc, order, folder, screen, input, out);
     handed_on(out)?;
@@ -181,7 +187,7 @@ fn carried_out<T: Threads + Wait + Sync, F: Folder, S: Screen, R: Source, W: Sin
 }
 
 /// The exit status of this result. The one line of a fault is written to `err`.
-pub fn closed<E: Sink>(end: Result<Ending, Fault>, err: &mut E) -> u8
+pub fn closed<E: Sink>(end: Result<Ending, CommandFault>, err: &mut E) -> u8
     ensures { Closes (E.tape err.old) (E.tape err.new) end result }
 {
     match end {
@@ -202,7 +208,8 @@ pub fn obey<T: Threads + Wait + Sync, F: Folder, S: Screen, R: Source, W: Sink, 
     out: &mut W,
     err: &mut E,
 ) -> u8
-    ensures { Obeys order.now (F.used folder.old) (F.used folder.new) (R.reading input.old) (R.reading input.new) (W.tape out.old) (W.tape out.new) (E.tape err.old) (E.tape err.new) result }
+    ensures { Obeys order.now (F.used folder.old) (F.used folder.new) (R.reading input.old) (R.reading input.new)
+        (W.tape out.old) (W.tape out.new) (E.tape err.old) (E.tape err.new) result }
 {
     let end = carried_out(rt, alloc, order, folder, screen, input, out);
     closed(end, err)
@@ -222,7 +229,7 @@ fn helped<W: Sink, E: Sink>(text: &str, out: &mut W, err: &mut E) -> u8
 {
     match printed(text, out) {
         Ok(()) => 0,
-        Err(_) => told(Fault::Write, err),
+        Err(_) => told(CommandFault::Write, err),
     }
 }
 
@@ -246,9 +253,9 @@ fn answered<W: Sink, E: Sink>(fault: &WordsFault, out: &mut W, err: &mut E) -> u
         WordsFault::Help { text } => helped(text.as_str(), out, err),
         WordsFault::Refused { text } => scolded(text.as_str(), err),
         WordsFault::Unreadable => scolded(UNREADABLE, err),
-        WordsFault::BadVariant => told(Fault::BadVariant, err),
-        WordsFault::BadSize => told(Fault::BadSize, err),
-        WordsFault::OutOfMemory => told(Fault::OutOfMemory, err),
+        WordsFault::BadVariant => told(CommandFault::BadVariant, err),
+        WordsFault::BadSize => told(CommandFault::BadSize, err),
+        WordsFault::OutOfMemory => told(CommandFault::OutOfMemory, err),
     }
 }
 
@@ -271,7 +278,8 @@ pub fn program<T: Threads + Wait + Sync, F: Folder, S: Screen, R: Source, W: Sin
     out: &mut W,
     err: &mut E,
 ) -> u8
-    ensures { IsProgram (F.used folder.old) (F.used folder.new) (R.reading input.old) (R.reading input.new) (W.tape out.old) (W.tape out.new) (E.tape err.old) (E.tape err.new) result }
+    ensures { IsProgram (F.used folder.old) (F.used folder.new) (R.reading input.old) (R.reading input.new) (W.tape out.old)
+        (W.tape out.new) (E.tape err.old) (E.tape err.new) result }
 {
     match order_of(alloc, words) {
         Ok(order) => obey(rt, alloc, &order, folder, screen, input, out, err),
@@ -299,7 +307,7 @@ pub fn run_program<T: Threads + Wait + Sync, F: Folder, S: Screen>(
                 rt, alloc, words, folder, screen, &mut input, &mut out, &mut err,
             )
         }
-        Err(_) => told(Fault::OutOfMemory, &mut err),
+        Err(_) => told(CommandFault::OutOfMemory, &mut err),
     };
     ExitCode::from(status)
 }

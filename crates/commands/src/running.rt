@@ -9,15 +9,15 @@ ghost use Rattle.cli.specs.Sizes.{RunFits};
 ghost use Rattle.commands.specs.Statuses.{status_of};
 ghost use Rattle.commands.specs.Tallies.{IsFine};
 
-use crate::tally::{Tally, tallied};
+use crate::schedules::ending::Ending;
+use crate::schedules::fault::CommandFault;
+use crate::tally::{SenderTally, tallied};
+use cli::arguments::order::RunArgs;
 use crashlab::Seeded;
 use indexmap::IndexMap;
-use cli::arguments::order::RunOrder;
 use robust::{LabFault, Spec, run_lab};
 use schedule::Sink;
 use schedule::texts::device::write_all;
-use crate::schedules::ending::Ending;
-use crate::schedules::fault::Fault;
 use std::alloc::{AllocError, Global};
 use std::sync::Wait;
 use std::thread::Threads;
@@ -26,7 +26,7 @@ use std::thread::Threads;
 const MOST: u64 = 1 << 62;
 
 /// The sizes of a run's lab: room for each message, and the greatest limit.
-fn spec_of(order: &RunOrder) -> Spec
+fn spec_of(order: &RunArgs) -> Spec
     ensures { result ≡ lab_for order.now }
 {
     Spec {
@@ -40,7 +40,7 @@ fn spec_of(order: &RunOrder) -> Spec
 
 /// The crash plan of each sender. `AllocError`: out of memory.
 #[tactic(auto, using(crate::proofs::Gates::gates_more))]
-pub fn gates_of(alloc: Global, order: &RunOrder) -> Result<Vec<Seeded>, AllocError>
+pub fn gates_of(alloc: Global, order: &RunArgs) -> Result<Vec<Seeded>, AllocError>
     ensures each { IfOk result (λ gates. gates.items ≡ gates_for order.now) }
     ensures count { IfOk result (λ gates. vec_len gates ≡ order.now.procs) }
 {
@@ -52,7 +52,7 @@ pub fn gates_of(alloc: Global, order: &RunOrder) -> Result<Vec<Seeded>, AllocErr
 }
 
 /// One line for each sender, and a last line with the total. `AllocError`: out of memory.
-pub fn lines_of(alloc: Global, tallies: &IndexMap<u64, Tally>) -> Result<String, AllocError> {
+pub fn lines_of(alloc: Global, tallies: &IndexMap<u64, SenderTally>) -> Result<String, AllocError> {
     let mut text = String::new(alloc);
     let mut total = 0u64;
     for (sender, tally) in tallies {
@@ -70,7 +70,7 @@ pub fn lines_of(alloc: Global, tallies: &IndexMap<u64, Tally>) -> Result<String,
 }
 
 /// The exit status: 0 if each message came once and in order, otherwise 1.
-pub fn status_of_tallies(tallies: &IndexMap<u64, Tally>) -> u8
+pub fn status_of_tallies(tallies: &IndexMap<u64, SenderTally>) -> u8
     ensures either { (result ≡ 0) ⊎ (result ≡ 1) }
     ensures fine { (result ≡ 0) ↔ All (λ e. IsFine e.1) tallies.now.entries }
 {
@@ -83,13 +83,13 @@ pub fn status_of_tallies(tallies: &IndexMap<u64, Tally>) -> u8
 }
 
 /// The command's fault for the fault of a lab.
-fn unrun(fault: LabFault) -> Fault
+fn unrun(fault: LabFault) -> CommandFault
     ensures { result ≡ fault_of_lab fault }
 {
     match fault {
-        LabFault::BadSpec => Fault::BadSize,
-        LabFault::OutOfMemory => Fault::OutOfMemory,
-        LabFault::Member { p, .. } | LabFault::Reply { p, .. } => Fault::Member { p },
+        LabFault::BadSpec => CommandFault::BadSize,
+        LabFault::OutOfMemory => CommandFault::OutOfMemory,
+        LabFault::Member { p, .. } | LabFault::Reply { p, .. } => CommandFault::Member { p },
     }
 }
 
@@ -98,8 +98,8 @@ fn unrun(fault: LabFault) -> Fault
 fn counted<T: Threads + Wait + Sync>(
     rt: &T,
     alloc: Global,
-    order: &RunOrder,
-) -> Result<IndexMap<u64, Tally>, Fault>
+    order: &RunArgs,
+) -> Result<IndexMap<u64, SenderTally>, CommandFault>
     ensures { IfErr result (λ fault. status_of fault ≡ 2 → RunFits order.now → ⊥) }
 {
     let gates = gates_of(alloc, order)?;
@@ -110,15 +110,15 @@ fn counted<T: Threads + Wait + Sync>(
 /// Writes the lines of the tallies.
 fn write_lines<W: Sink>(
     alloc: Global,
-    tallies: &IndexMap<u64, Tally>,
+    tallies: &IndexMap<u64, SenderTally>,
     w: &mut W,
-) -> Result<(), Fault>
+) -> Result<(), CommandFault>
     ensures failed { IfErr result (λ fault. status_of fault ≡ 3) }
     ensures whole { OnOk result ((W.tape w.new).failures ≡ (W.tape w.old).failures) }
 {
     let text = lines_of(alloc, tallies)?;
     if write_all(w, text.as_bytes()).is_err() {
-        return Err(Fault::Write);
+        return Err(CommandFault::Write);
     }
     Ok(())
 }
@@ -128,9 +128,9 @@ fn write_lines<W: Sink>(
 pub fn run_order<T: Threads + Wait + Sync, W: Sink>(
     rt: &T,
     alloc: Global,
-    order: &RunOrder,
+    order: &RunArgs,
     w: &mut W,
-) -> Result<Ending, Fault>
+) -> Result<Ending, CommandFault>
     ensures ends { RunEnds order.now result }
     ensures ended { IfOk result (IsEnded false (W.tape w.old).failures (W.tape w.new).failures) }
 {

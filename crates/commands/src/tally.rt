@@ -11,19 +11,19 @@ use std::alloc::{AllocError, Global};
 /// The count of one sender's messages: how many there are, how many of them have a number that came before, the last number,
 /// and whether the numbers never fall.
 #[derive(Clone, Copy, Debug, PartialEq, Eq)]
-pub struct Tally {
+pub struct SenderTally {
     pub messages: u64,
     pub twice: u64,
     pub last: u64,
     pub ordered: bool,
 }
 
-impl Tally {
+impl SenderTally {
     /// The tally of a sender without messages.
-    pub fn new() -> Tally
+    pub fn new() -> SenderTally
         ensures { result ≡ record { messages = 0; twice = 0; last = 0; ordered = true } }
     {
-        Tally {
+        SenderTally {
             messages: 0,
             twice: 0,
             last: 0,
@@ -32,7 +32,7 @@ impl Tally {
     }
 
     /// With one more message. `again`: its number came before.
-    pub fn with(self, seq: u64, again: bool) -> Tally
+    pub fn with(self, seq: u64, again: bool) -> SenderTally
         ensures messages { result.messages ≡ one_more self.messages }
         ensures twice { result.twice ≡ and_again again self.twice }
         ensures last { result.last ≡ seq }
@@ -43,7 +43,7 @@ impl Tally {
         } else {
             self.twice
         };
-        Tally {
+        SenderTally {
             messages: self.messages.saturating_add(1),
             twice,
             last: seq,
@@ -60,17 +60,17 @@ impl Tally {
 }
 
 /// The tallies of senders without messages.
-fn no_tallies(alloc: Global, procs: u64) -> Result<IndexMap<u64, Tally>, AllocError> {
+fn no_tallies(alloc: Global, procs: u64) -> Result<IndexMap<u64, SenderTally>, AllocError> {
     let mut tallies = IndexMap::new(alloc);
     for sender in 0..procs {
-        tallies.insert(sender, Tally::new())?;
+        tallies.insert(sender, SenderTally::new())?;
     }
     Ok(tallies)
 }
 
 /// Counts one message, if its sender has a tally.
 fn count(
-    tallies: &mut IndexMap<u64, Tally>,
+    tallies: &mut IndexMap<u64, SenderTally>,
     met: &mut IndexSet<(u64, u64)>,
     message: &Message,
 ) -> Result<(), AllocError> {
@@ -86,7 +86,7 @@ pub fn tallied(
     alloc: Global,
     procs: u64,
     messages: &[Message],
-) -> Result<IndexMap<u64, Tally>, AllocError> {
+) -> Result<IndexMap<u64, SenderTally>, AllocError> {
     let mut tallies = no_tallies(alloc, procs)?;
     let mut met = IndexSet::new(alloc);
     for message in messages {

@@ -41,7 +41,7 @@ impl Askings {
     }
 
     /// Counts askings at which the plan does not fall.
-    pub fn count_calm(&mut self, askings: u64)
+    pub fn count_never_crashes(&mut self, askings: u64)
         ensures { self.new ≡ record self.old { asked = so_many_more askings self.old.asked } }
     {
         self.asked = self.asked.saturating_add(askings);
@@ -49,7 +49,10 @@ impl Askings {
 
     /// Counts one asking, and whether the plan falls there.
     pub fn count(&mut self, falls: bool)
-        ensures { self.new ≡ record { asked = one_more self.old.asked; fallen = if falls then one_more self.old.fallen else self.old.fallen } }
+        ensures { self.new ≡ record {
+          asked = one_more self.old.asked;
+          fallen = if falls then one_more self.old.fallen else self.old.fallen;
+        } }
     {
         self.asked = self.asked.saturating_add(1);
         if falls {

@@ -49,7 +49,8 @@ impl CrashPlan for Both {
     fn falls(&mut self) -> bool
         ensures asked { self.new.count.asked ≡ one_more self.old.count.asked }
         ensures fallen { self.new.count.fallen ≡ (if result then one_more self.old.count.fallen else self.old.count.fallen) }
-        ensures falls { IsTrue result ↔ ((next_asking self.old.count ≡ Some self.old.place) ⊎ (next_asking self.old.count ≡ Some (self.old.place + self.old.later))) }
+        ensures falls { IsTrue result ↔ ((next_asking self.old.count ≡ Some self.old.place)
+            ⊎ (next_asking self.old.count ≡ Some (self.old.place + self.old.later))) }
         ensures place { self.new.place ≡ self.old.place }
         ensures later { self.new.later ≡ self.old.later }
     {

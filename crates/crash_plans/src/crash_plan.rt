@@ -14,12 +14,12 @@ pub trait CrashPlan {
     ghost fallen: { Self → ℕ };
 
     /// Whether the plan never falls. Its type decides that.
-    ghost calm: { Self → Bool } = { λ _. false };
+    ghost never_crashes: { Self → Bool } = { λ _. false };
 
     /// Whether the plan is known never to fall. If so, a process may take its steps first and count their askings
     /// afterwards, as the lock's fast path does. A plan without its own answer counts as one that may fall.
-    fn is_calm(&self) -> bool
-        ensures { result ≡ true → calm self.now ≡ true }
+    fn is_never_crashes(&self) -> bool
+        ensures { result ≡ true → never_crashes self.now ≡ true }
     {
         false
     }
@@ -28,8 +28,8 @@ pub trait CrashPlan {
     /// calls it only on a plan that never falls.
     fn count_askings(&mut self, askings: u64)
         ensures asked { asked self.new ≡ so_many_more askings (asked self.old) }
-        ensures fallen { calm self.old ≡ true → fallen self.new ≡ fallen self.old }
-        ensures calm { calm self.old ≡ true → calm self.new ≡ true }
+        ensures fallen { never_crashes self.old ≡ true → fallen self.new ≡ fallen self.old }
+        ensures never_crashes { never_crashes self.old ≡ true → never_crashes self.new ≡ true }
     {
         for _ in 0..askings {
             self.falls();
@@ -40,5 +40,5 @@ pub trait CrashPlan {
     fn falls(&mut self) -> bool
         ensures asked { asked self.new ≡ one_more (asked self.old) }
         ensures fallen { fallen self.new ≡ (if result then one_more (fallen self.old) else fallen self.old) }
-        ensures calm { calm self.old ≡ true → (result ≡ false) × (calm self.new ≡ true) };
+        ensures never_crashes { never_crashes self.old ≡ true → (result ≡ false) × (never_crashes self.new ≡ true) };
 }

@@ -39,14 +39,14 @@ impl CrashPlan for Never {
 
     ghost fallen = { λ n. n.fallen };
 
-    ghost calm = { λ _. true };
+    ghost never_crashes = { λ _. true };
 
-    fn is_calm(&self) -> bool {
+    fn is_never_crashes(&self) -> bool {
         true
     }
 
     fn count_askings(&mut self, askings: u64) {
-        self.askings.count_calm(askings);
+        self.askings.count_never_crashes(askings);
     }
 
     fn falls(&mut self) -> bool

@@ -26,33 +26,33 @@ pub use Rattle.judge.specs.Table.{empty}
 pub use Rattle.rmeworld.specs.declared.answer.Answer.{Answer}
 pub use Rattle.rmeworld.specs.declared.call.Call.{Call}
 pub use Rattle.rmeworld.specs.declared.call.Call.TheVariants.{Consistent}
-pub use Rattle.rmeworld.specs.declared.errand.Errand.{Errand}
-pub use Rattle.rmeworld.specs.declared.errand.Errand.TheVariants.{Free, Doing as Does}
+pub use Rattle.rmeworld.specs.declared.script_state.ScriptState.{ScriptState}
+pub use Rattle.rmeworld.specs.declared.script_state.ScriptState.TheVariants.{Free, Doing as Does}
 pub use Rattle.rmeworld.specs.declared.outcome.Outcome.{Outcome}
-pub use Rattle.rmeworld.specs.declared.why.Why.{Why}
-pub use Rattle.rmeworld.specs.declared.why.Why.TheVariants.{Mending}
+pub use Rattle.rmeworld.specs.declared.purpose.Purpose.{Purpose}
+pub use Rattle.rmeworld.specs.declared.purpose.Purpose.TheVariants.{Mending}
 pub use Rattle.rmeworld.specs.Advancing.{GoesOn}
 pub use Rattle.rmeworld.specs.Answered.{by_script, answer_by, done_by}
-pub use Rattle.rmeworld.specs.Errands.{errand_of, HasStep}
+pub use Rattle.rmeworld.specs.ScriptStates.{script_state_of, HasStep}
 pub use Rattle.rmeworld.specs.Replayed.{list_of, mail_by, or_else, words_by, cells_by, the_deed}
-pub use Rattle.rmeworld.specs.Spot.{Doing, Spot, Happening, Begins, Falls, Moves, next_spot, begun_from, only_spot, settled, outer_by}
-pub use Rattle.rmeworld.specs.Stand.{Stand, access_by, spot_of, IsSize, next_access, outcome, started, spot_after, IsAllowed, StoresOwn, job_left, happening, InWords}
+pub use Rattle.rmeworld.specs.ProcessState.{Doing, ProcessState, WorldEvent, Begins, Falls, Moves, next_process_state, begun_from, only_process_state, settled, outer_by}
+pub use Rattle.rmeworld.specs.MachineState.{MachineState, access_by, process_state_of, IsSize, next_access, outcome, started, process_state_after, IsAllowed, StoresOwn, job_left, world_event, InWords}
 pub use Rattle.rmeworld.specs.World.{reading_of}
 pub use Rattle.schedule.specs.declared.lines.line.Line.TheVariants.{Start}
 pub use Rattle.schedule.specs.Schedules.{Scheduled}
 pub use Rattle.crashlab.specs.declared.change.Change.{Change}
 pub use Rattle.crashlab.specs.declared.change.Change.TheVariants.{Nothing, LeavesOut, Counts, Counted}
-pub use Rattle.crashlab.specs.declared.detour.Detour.{Detour}
-pub use Rattle.crashlab.specs.declared.detour.Detour.TheVariants.{Straight, Dropping, Over}
-pub use Rattle.crashlab.specs.declared.moves.Made.TheVariants.{On}
+pub use Rattle.crashlab.specs.declared.deviation.Deviation.{Deviation}
+pub use Rattle.crashlab.specs.declared.deviation.Deviation.TheVariants.{Straight, Dropping, Over}
+pub use Rattle.crashlab.specs.declared.moves.MoveOutcome.TheVariants.{On}
 pub use Rattle.crashlab.specs.declared.variant.Variant.{Variant}
 pub use Rattle.crashlab.specs.declared.variant.Variant.TheVariants.{Right, NoLook, NoTies, Renumber, ExitOnCrash, CountUp, LastSkipped}
 pub use Rattle.crashlab.specs.Found.{Ends, Told, with_line, line_by}
 pub use Rattle.crashlab.specs.Hunts.{first_world, deeds_of_lines, IsPlayed}
 pub use Rattle.crashlab.specs.LockWorlds.{IsLockWorld}
-pub use Rattle.crashlab.specs.VariantRuns.{IsRun, spot_at}
+pub use Rattle.crashlab.specs.VariantRuns.{IsRun, process_state_at}
 pub use Rattle.crashlab.specs.VariantScripts.{raised, counting_up, leaving_out}
-pub use Rattle.crashlab.specs.VariantSpots.{beside, variant_begun, variant_spot, variant_outer, at_variant, variant_moved, variant_outer_by, variant_answer_by, variant_done_by, variant_answer_at, variant_done_at}
-pub use Rattle.crashlab.specs.VariantStands.{changed_errand, changed_access, weighed, access_beside, is_put, VariantStand, variant_spot_of, outside_at, over_by, over_way, silent, IsPlain, variant_resting, variant_crashed, variant_next_access, variant_stepped, stepped_beside, variant_outcome, outcome_beside, variant_started, change_of, changed_script, unless_answered, plain_outcome, by_row, last_put_next}
-pub use Rattle.crashlab.specs.VariantWorlds.{VariantState, stand_at, access_at, advance_refusal, unless_step, start_refusal, stepped, advanced, advanced_if, crash_deed, crashed, IsSeated, at_rest_from, new_world, found_by, HasSeat, outcome_of, deeds_of, stepped_by, advanced_by, stepped_if}
-pub use Rattle.crashlab.specs.Variants.{variant_access, and_detour}
+pub use Rattle.crashlab.specs.VariantProcessStates.{beside, variant_begun, variant_process_state, variant_outer, at_variant, variant_moved, variant_outer_by, variant_answer_by, variant_done_by, variant_answer_at, variant_done_at}
+pub use Rattle.crashlab.specs.VariantStands.{changed_script_state, changed_access, weighed, access_beside, is_put, VariantMachineState, variant_process_state_of, outside_at, over_by, over_way, silent_outcome, IsPlain, variant_resting, variant_crashed, variant_next_access, variant_stepped, stepped_beside, variant_outcome, outcome_beside, variant_started, change_of, changed_script, unless_answered, plain_outcome, by_row, last_put_next}
+pub use Rattle.crashlab.specs.VariantWorlds.{VariantState, machine_state_at, access_at, advance_refusal, unless_step, start_refusal, stepped, advanced, advanced_if, crash_deed, crashed, IsConfigured, at_rest_from, new_world, found_by, HasConfiguration, outcome_of, deeds_of, stepped_by, advanced_by, stepped_if}
+pub use Rattle.crashlab.specs.Variants.{variant_access, and_deviation}

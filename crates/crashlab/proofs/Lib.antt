@@ -1,10 +1,10 @@
 pub mod Common
-pub mod Seats
+pub mod Configurations
 pub mod Rests
 pub mod Steady
 pub mod Rows
 pub mod Waits
-pub mod Detours
+pub mod Deviations
 pub mod Repairs
 pub mod Skips
 pub mod VariantRuns

@@ -8,10 +8,10 @@ use Rattle.judge.specs.Kept.{Kept}
 use Rattle.schedule.specs.declared.lines.line.Line.{Line}
 use Rattle.schedule.specs.declared.lines.line.Line.TheVariants.{Step, Crash}
 use Rattle.crashlab.specs.Hunts.{hunt_layout, is_answered, after_steps, after_line, after_lines, deeds_of_steps, deeds_of_line, Unless, MaySteps, MayLine, MayLines, IsOfHunt, IsFound}
-use Rattle.crashlab.specs.declared.moves.Made.{Made}
-use Rattle.crashlab.specs.declared.moves.Made.TheVariants.{Caught}
+use Rattle.crashlab.specs.declared.moves.MoveOutcome.{MoveOutcome}
+use Rattle.crashlab.specs.declared.moves.MoveOutcome.TheVariants.{Caught}
 use Rattle.crashlab.specs.Found.{IsCaught, IsRefused}
-use Rattle.rmeworld.specs.Law.{EveryStoryIsLegal}
+use Rattle.rmeworld.specs.Law.{EveryExecutionIsLegal}
 use Rattle.crashlab.specs.VariantWorlds.{started, crash_refusal}
 use Rattle.crashlab.proofs.LockWorlds.{IsLock, lock_new, lock_started, lock_crashed, lock_advanced, lock_legal}
 use Rattle.redomail.specs.declared.layout.Layout.{Layout}
@@ -102,7 +102,7 @@ lines_lock l s h (line ∷ lines) lock may =
     (lines_lock l (after_line s line) (h ++ deeds_of_line s line) lines (line_lock l s h line lock may.0) may.1)
 
 -- the lock theorem: nothing is found of the lock
-never_found : EveryStoryIsLegal → (schedule : Scheduled) → IsFound Right schedule → ⊥
+never_found : EveryExecutionIsLegal → (schedule : Scheduled) → IsFound Right schedule → ⊥
 never_found law schedule found =
     let legal = lock_legal law hunt_layout _ _ (lines_lock hunt_layout (first_world Right) [] schedule.lines (lock_new hunt_layout 1000000 refl) found.runs) in
     let both : Ok legal.0 ≡ Err found.fault = sym legal.1 ∙ ap (judged_all (empty 3 64)) found.deeds ∙ found.refused in
@@ -112,7 +112,7 @@ never_found law schedule found =
 told_ends :
     (variant : Variant) (schedule : Scheduled) (world : VariantState) (judge : Kept) → IsPlayed variant schedule world judge → (line : Line) → MayLine world line
     → (next : VariantState) → next ≡ after_line world line → (deed : Option Deed) → deeds_of_line world line ≡ list_of deed
-    → (made : Made) (written : Scheduled) (later : Kept)
+    → (made : MoveOutcome) (written : Scheduled) (later : Kept)
     → written ≡ with_line schedule line → Told (deeds_of_lines (first_world variant) schedule.lines) deed later made → Ends variant written next later made
 told_ends variant schedule world judge played line may next to deed done On written later is told =
     subst (λ s. IsPlayed variant s next later) (sym is) (goes_on variant schedule world judge played line may next (list_of deed) later to done told)
@@ -124,7 +124,7 @@ told_ends variant schedule world judge played line may next to deed done Caught 
 pub step_ends :
     (variant : Variant) (schedule : Scheduled) (world : VariantState) (judge : Kept) → IsPlayed variant schedule world judge → (p : ℕ) → advance_refusal world p ≡ None
     → (next : VariantState) → next ≡ advanced world p → (deed : Option Deed) → deed ≡ (stepped world p).deed
-    → (made : Made) (written : Scheduled) (later : Kept) → written ≡ with_line schedule (Step p 1) → Told (deeds_of_lines (first_world variant) schedule.lines) deed later made
+    → (made : MoveOutcome) (written : Scheduled) (later : Kept) → written ≡ with_line schedule (Step p 1) → Told (deeds_of_lines (first_world variant) schedule.lines) deed later made
     → Ends variant written next later made
 step_ends variant schedule world judge played p may next to deed is made written later writes told =
     told_ends variant schedule world judge played (Step p 1) (may_one world p may) next (to ∙ sym (after_one world p)) deed
@@ -132,21 +132,21 @@ step_ends variant schedule world judge played p may next to deed is made written
 
 pub crash_ends :
     (variant : Variant) (schedule : Scheduled) (world : VariantState) (judge : Kept) → IsPlayed variant schedule world judge → (p : ℕ) → crash_refusal world p ≡ None
-    → (next : VariantState) → next ≡ crashed world p → (made : Made) (written : Scheduled) (later : Kept)
+    → (next : VariantState) → next ≡ crashed world p → (made : MoveOutcome) (written : Scheduled) (later : Kept)
     → written ≡ with_line schedule (Crash p) → Told (deeds_of_lines (first_world variant) schedule.lines) (Some (crash_deed p)) later made → Ends variant written next later made
 crash_ends variant schedule world judge played p may next to made written later is told =
     told_ends variant schedule world judge played (Crash p) may next to (Some (crash_deed p)) refl made written later is told
 
 pub start_ends :
     (variant : Variant) (schedule : Scheduled) (world : VariantState) (judge : Kept) → IsPlayed variant schedule world judge → (p : ℕ) (call : Call) → start_refusal world p call ≡ None
-    → (next : VariantState) → next ≡ started world p call → (made : Made) (written : Scheduled) (later : Kept)
+    → (next : VariantState) → next ≡ started world p call → (made : MoveOutcome) (written : Scheduled) (later : Kept)
     → written ≡ with_line schedule (Start p call) → Told (deeds_of_lines (first_world variant) schedule.lines) None later made → Ends variant written next later made
 start_ends variant schedule world judge played p call may next to made written later is told =
     told_ends variant schedule world judge played (Start p call) may next to None refl made written later is
     told
 
 -- what a move ends with, where the world took it
-pub then_ends : {P Q : Made → Type 0} (o : Option Made) → ((m : Made) → P m → Q m) → IfSome o P → IfSome o Q
+pub then_ends : {P Q : MoveOutcome → Type 0} (o : Option MoveOutcome) → ((m : MoveOutcome) → P m → Q m) → IfSome o P → IfSome o Q
 then_ends None go h = tt
 then_ends (Some m) go h = go m h
 

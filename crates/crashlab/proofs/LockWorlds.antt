@@ -1,8 +1,8 @@
 -- What a world of Right does is what a world of the lock does.
 use Rattle.std.proofs.Common.{◌≡◌, ℕ, zero, suc, ◌+◌, ◌<◌, false, List, [], ◌∷◌, ◌++◌, map, slice_set, nat_lt, if◌then◌else◌, Option, Some, None, IfSome, refl, sym, ap, ◌∙◌, subst, lt-ltb}
 use Rattle.crashlab.proofs.Common.{Nothing, Right, Consistent, Access, Place, Inside, Deed, Layout, words_of, Call, Outcome, mail_by, or_else, words_by, cells_by, the_deed, list_of}
-use Rattle.crashlab.proofs.Common.{Stand, spot_of, next_access, access_by, errand_of, outcome, started as stand_started, StoresOwn, IsLockWorld, VariantStand, variant_next_access, variant_stepped}
-use Rattle.crashlab.proofs.Common.{variant_outcome, variant_started, variant_crashed, change_of, VariantState, stand_at, access_at, start_refusal, advance_refusal, unless_step, stepped, stepped_if}
+use Rattle.crashlab.proofs.Common.{MachineState, process_state_of, next_access, access_by, script_state_of, outcome, started as machine_state_started, StoresOwn, IsLockWorld, VariantMachineState, variant_next_access, variant_stepped}
+use Rattle.crashlab.proofs.Common.{variant_outcome, variant_started, variant_crashed, change_of, VariantState, machine_state_at, access_at, start_refusal, advance_refusal, unless_step, stepped, stepped_if}
 use Rattle.crashlab.proofs.Common.{advanced, advanced_if, crash_deed, crashed, at_rest_from, new_world, found_by, outcome_of}
 use Rattle.std.proofs.lemmas.List.{map-set}
 use Rattle.std.proofs.Math.ListN.{get_or-map}
@@ -11,13 +11,13 @@ use Rattle.rmecore.specs.declared.refusal.Refusal.TheVariants.{NoSuchProcess, No
 use Rattle.rmecore.specs.Machine.{access}
 use Rattle.rmecore.specs.Place.{Rest, Dead}
 use Rattle.rmecore.specs.Refused.{is_idle as is_idle_place}
-use Rattle.rmeworld.specs.Law.{EveryStoryIsLegal}
-use Rattle.rmeworld.specs.Refused.{is_idle, is_idle_by, start_refusal as spot_refusal}
+use Rattle.rmeworld.specs.Law.{EveryExecutionIsLegal}
+use Rattle.rmeworld.specs.Refused.{is_idle, is_idle_by, start_refusal as process_state_refusal}
 use Rattle.rmeworld.specs.Replayed as world
-use Rattle.rmeworld.specs.Spot.{Errand, Free}
-use Rattle.rmeworld.specs.Stand.{resting, stepped as stand_stepped, crashed as stand_crashed}
+use Rattle.rmeworld.specs.ProcessState.{ScriptState, Free}
+use Rattle.rmeworld.specs.MachineState.{resting, stepped as machine_state_stepped, crashed as machine_state_crashed}
 use Rattle.rmeworld.specs.World.{at_first}
-use Rattle.rmeworld.specs.WorldState.{WorldState, IsSeated, stand_at as world_stand, new_refusal, at_rest_from as world_rest, new_world as world_new, absent}
+use Rattle.rmeworld.specs.WorldState.{WorldState, IsConfigured, machine_state_at as world_machine_state, new_refusal, at_rest_from as world_rest, new_world as world_new, absent}
 use Rattle.rmeworld.proofs.Beginning.{follows_new}
 use Rattle.rmeworld.proofs.Following.{Follows, below_if, follows_started, follows_advanced, follows_crashed}
 use Rattle.rmeworld.proofs.Ordered.{owns}
@@ -27,10 +27,10 @@ use Rattle.crashlab.specs.VariantWorlds.{started, crash_refusal}
 
 -- its processes
 
-stand_is : (w : WorldState) (p : ℕ) → stand_at (as_variant w).processes p ≡ unchanged (world_stand w.processes p)
-stand_is w p = get_or-map unchanged w.processes p absent
+machine_state_is : (w : WorldState) (p : ℕ) → machine_state_at (as_variant w).processes p ≡ unchanged (world_machine_state w.processes p)
+machine_state_is w p = get_or-map unchanged w.processes p absent
 
-set_is : (w : WorldState) (p : ℕ) (t : Stand) (u : VariantStand) → u ≡ unchanged t → map unchanged (slice_set w.processes p t) ≡ slice_set (as_variant w).processes p u
+set_is : (w : WorldState) (p : ℕ) (t : MachineState) (u : VariantMachineState) → u ≡ unchanged t → map unchanged (slice_set w.processes p t) ≡ slice_set (as_variant w).processes p u
 set_is w p t u is = map-set unchanged w.processes p t ∙ ap (slice_set (map unchanged w.processes) p) (sym is)
 
 rests_are : (l : Layout) (limit p n : ℕ) → map unchanged (world_rest l limit p n) ≡ at_rest_from Right l limit p n
@@ -45,41 +45,41 @@ no_change _ = refl
 
 started_is : (w : WorldState) (p : ℕ) (c : Call) → as_variant (world.started w p c) ≡ started (as_variant w) p c
 started_is w p c =
-    let t : Stand = stand_started (world_stand w.processes p) c in
-    let is : variant_started (stand_at (as_variant w).processes p) c ≡ unchanged t = ap (λ u. variant_started u c) (stand_is w p) ∙ ap (λ change. record (unchanged t) { change = change }) (no_change c) in
-    ap (λ ts. record (as_variant w) { processes = ts }) (set_is w p t (variant_started (stand_at (as_variant w).processes p) c) is)
+    let t : MachineState = machine_state_started (world_machine_state w.processes p) c in
+    let is : variant_started (machine_state_at (as_variant w).processes p) c ≡ unchanged t = ap (λ u. variant_started u c) (machine_state_is w p) ∙ ap (λ change. record (unchanged t) { change = change }) (no_change c) in
+    ap (λ ts. record (as_variant w) { processes = ts }) (set_is w p t (variant_started (machine_state_at (as_variant w).processes p) c) is)
 
 crashed_is : (w : WorldState) (p : ℕ) → as_variant (world.crashed w p) ≡ crashed (as_variant w) p
 crashed_is w p =
-    ap (λ ts. record (as_variant w) { processes = ts }) (set_is w p (stand_crashed (world_stand w.processes p)) (variant_crashed (stand_at (as_variant w).processes p)) (ap variant_crashed (stand_is w p)))
+    ap (λ ts. record (as_variant w) { processes = ts }) (set_is w p (machine_state_crashed (world_machine_state w.processes p)) (variant_crashed (machine_state_at (as_variant w).processes p)) (ap variant_crashed (machine_state_is w p)))
 
-access_is : (w : WorldState) (p : ℕ) → access_at (as_variant w) p ≡ next_access (world_stand w.processes p)
-access_is w p = ap variant_next_access (stand_is w p)
+access_is : (w : WorldState) (p : ℕ) → access_at (as_variant w) p ≡ next_access (world_machine_state w.processes p)
+access_is w p = ap variant_next_access (machine_state_is w p)
 
 advanced_is : (w : WorldState) (p : ℕ) → as_variant (world.advanced w p) ≡ advanced (as_variant w) p
-advanced_is w p = by (next_access (world_stand w.processes p)) ∙ ap (advanced_if (as_variant w) p) (sym (access_is w p))
+advanced_is w p = by (next_access (world_machine_state w.processes p)) ∙ ap (advanced_if (as_variant w) p) (sym (access_is w p))
   where
     by : (o : Option Access) → as_variant (world.advanced_if w p o) ≡ advanced_if (as_variant w) p o
     by None = refl
     by (Some a) =
         let v : ℕ = found_by (as_variant w) a in
         ap (λ ts. record (as_variant w) { words = words_by w.words a; cells = cells_by w.cells a; processes = ts })
-        (set_is w p (stand_stepped (world_stand w.processes p) v) (variant_stepped (stand_at (as_variant w).processes p) v) (ap (λ u. variant_stepped u v) (stand_is w p)))
+        (set_is w p (machine_state_stepped (world_machine_state w.processes p) v) (variant_stepped (machine_state_at (as_variant w).processes p) v) (ap (λ u. variant_stepped u v) (machine_state_is w p)))
 
 -- and its steps are the same deeds
-deed_is : (w : WorldState) (p : ℕ) → IsSeated w.layout w.limit w.words w.processes w.tallies → p < w.layout.procs → (world.stepped w p).deed ≡ (stepped (as_variant w) p).deed
-deed_is w p seated below = by (next_access t) refl ∙ ap (λ o. (stepped_if (as_variant w) p o).deed) (sym (access_is w p))
+deed_is : (w : WorldState) (p : ℕ) → IsConfigured w.layout w.limit w.words w.processes w.tallies → p < w.layout.procs → (world.stepped w p).deed ≡ (stepped (as_variant w) p).deed
+deed_is w p configured below = by (next_access t) refl ∙ ap (λ o. (stepped_if (as_variant w) p o).deed) (sym (access_is w p))
   where
-    t : Stand
-    t = world_stand w.processes p
+    t : MachineState
+    t = world_machine_state w.processes p
 
     by : (o : Option Access) → next_access t ≡ o → (world.stepped_if w p o).deed ≡ (stepped_if (as_variant w) p o).deed
     by None is = refl
     by (Some a) is =
         let v : ℕ = found_by (as_variant w) a in
         let own : StoresOwn t.index a = subst (λ o. IfSome o (StoresOwn t.index)) is (owns t) in
-        let told : outcome t (Some a) v ≡ outcome_of (as_variant w) p a = ap (λ o. outcome t o v) (sym is) ∙ ap (λ u. variant_outcome u v) (sym (stand_is w p)) in
-        ap the_deed (sym (deeds_are w p a t.index seated below own is) ∙ ap (λ (o : Outcome). or_else o.progress.outer (mail_by w.layout p (words_of w.cells) a)) told)
+        let told : outcome t (Some a) v ≡ outcome_of (as_variant w) p a = ap (λ o. outcome t o v) (sym is) ∙ ap (λ u. variant_outcome u v) (sym (machine_state_is w p)) in
+        ap the_deed (sym (deeds_are w p a t.index configured below own is) ∙ ap (λ (o : Outcome). or_else o.progress.outer (mail_by w.layout p (words_of w.cells) a)) told)
 
 -- a process with a next step has a call under way
 
@@ -89,11 +89,11 @@ place_is_busy limit p Dead a is = cc
 place_is_busy limit p Inside a is = cc
 place_is_busy limit p _ a is = refl
 
-is_busy : (t : Stand) (o : Option Access) → next_access t ≡ o → unless_step o ≡ None → is_idle (spot_of t) ≡ false
+is_busy : (t : MachineState) (o : Option Access) → next_access t ≡ o → unless_step o ≡ None → is_idle (process_state_of t) ≡ false
 is_busy t None is may = cc
-is_busy t (Some a) is may = by (errand_of t.errand) is
+is_busy t (Some a) is may = by (script_state_of t.script_state) is
   where
-    by : (e : Errand) → access_by t.limit t.index t.lock e ≡ Some a → is_idle_by t.lock e ≡ false
+    by : (e : ScriptState) → access_by t.limit t.index t.lock e ≡ Some a → is_idle_by t.lock e ≡ false
     by Free is = place_is_busy t.limit t.index t.lock a is
     by _ is = refl
 
@@ -119,7 +119,7 @@ module _ (l : Layout) (s : VariantState) (h : List Deed) (p : ℕ) (lock : IsLoc
   pub lock_started : (c : Call) → start_refusal s p c ≡ None → IsLock l (started s p c) h
   lock_started c may =
       let w : WorldState = lock.world in
-      let refusal : world.start_refusal w p c ≡ start_refusal (as_variant w) p c = ap (λ (u : VariantStand). if nat_lt p w.layout.procs then spot_refusal w.layout (spot_of u.stand) c else Some NoSuchProcess) (sym (stand_is w p)) in
+      let refusal : world.start_refusal w p c ≡ start_refusal (as_variant w) p c = ap (λ (u : VariantMachineState). if nat_lt p w.layout.procs then process_state_refusal w.layout (process_state_of u.machine_state) c else Some NoSuchProcess) (sym (machine_state_is w p)) in
       record {
         world = world.started w p c;
         same = started_is w p c ∙ ap (λ x. started x p c) lock.same;
@@ -140,9 +140,9 @@ module _ (l : Layout) (s : VariantState) (h : List Deed) (p : ℕ) (lock : IsLoc
   lock_advanced may =
       let w : WorldState = lock.world in
       let has = below_if p w.layout.procs (unless_step (access_at (as_variant w) p)) (ap (λ x. advance_refusal x p) lock.same ∙ may) in
-      let idle = is_busy (world_stand w.processes p) (access_at (as_variant w) p) (sym (access_is w p)) has.1 in
+      let idle = is_busy (world_machine_state w.processes p) (access_at (as_variant w) p) (sym (access_is w p)) has.1 in
       let may' : world.advance_refusal w p ≡ None = rw (lt-ltb p w.layout.procs has.0) (ap (λ b. if b then Some NothingToDo else None) idle) in
-      let deed = deed_is w p lock.follows.world.seated has.0 ∙ ap (λ x. (stepped x p).deed) lock.same in
+      let deed = deed_is w p lock.follows.world.configured has.0 ∙ ap (λ x. (stepped x p).deed) lock.same in
       record {
         world = world.advanced w p;
         same = advanced_is w p ∙ ap (λ x. advanced x p) lock.same;
@@ -150,14 +150,14 @@ module _ (l : Layout) (s : VariantState) (h : List Deed) (p : ℕ) (lock : IsLoc
         follows = subst (λ d. Follows at_first (world.advanced w p) (h ++ list_of d)) deed (follows_advanced w p lock.follows may');
       }
 
-pub lock_legal : EveryStoryIsLegal → (l : Layout) (s : VariantState) (h : List Deed) → IsLock l s h → IsLegal l.procs l.cap h
+pub lock_legal : EveryExecutionIsLegal → (l : Layout) (s : VariantState) (h : List Deed) → IsLock l s h → IsLegal l.procs l.cap h
 lock_legal law l s h lock =
     let w : WorldState = lock.world in
     let comes = lock.follows.comes in
     subst (λ (x : Layout). IsLegal x.procs x.cap h) (ap (λ (x : VariantState). x.layout) lock.same ∙ lock.layout)
-    (subst (IsLegal w.layout.procs w.layout.cap) comes.done (law w.layout w.limit comes.story lock.follows.world.sized.layout comes.told))
+    (subst (IsLegal w.layout.procs w.layout.cap) comes.done (law w.layout w.limit comes.execution lock.follows.world.sized.layout comes.told))
 
 pub lock_world : {l : Layout} {s : VariantState} {h : List Deed} → IsLock l s h → IsLockWorld s h
 lock_world lock =
     let comes = lock.follows.comes in
-    record { world = lock.world; same = lock.same; story = comes.story; told = comes.told; last = comes.last; done = comes.done }
+    record { world = lock.world; same = lock.same; execution = comes.execution; told = comes.told; last = comes.last; done = comes.done }

@@ -1,6 +1,6 @@
 -- The processes of a new world of a variant.
 use Rattle.std.proofs.Common.{◌≡◌, ℕ, zero, suc, ◌+◌, ◌<◌, [], ◌∷◌, ◌++◌, length, refl, sym, ap, ◌∙◌, subst, arith}
-use Rattle.crashlab.proofs.Common.{length-replicate, zeros, Layout, size, IsSize, Variant, variant_resting, stand_at, IsSeated, at_rest_from, new_world, HasSeat}
+use Rattle.crashlab.proofs.Common.{length-replicate, zeros, Layout, size, IsSize, Variant, variant_resting, machine_state_at, IsConfigured, at_rest_from, new_world, HasConfiguration}
 
 -- one more of them at the end
 pub rest_more : (variant : Variant) (l : Layout) (limit p n : ℕ) → at_rest_from variant l limit p n ++ variant_resting variant l limit (p + n) ∷ [] ≡ at_rest_from variant l limit p (suc n)
@@ -13,17 +13,17 @@ length_rest : (variant : Variant) (l : Layout) (limit p n : ℕ) → length (at_
 length_rest variant l limit p zero = refl
 length_rest variant l limit p (suc n) = ap suc (length_rest variant l limit (p + 1) n)
 
-pub rest_at : (variant : Variant) (l : Layout) (limit p n q : ℕ) → q < n → stand_at (at_rest_from variant l limit p n) q ≡ variant_resting variant l limit (p + q)
+pub rest_at : (variant : Variant) (l : Layout) (limit p n q : ℕ) → q < n → machine_state_at (at_rest_from variant l limit p n) q ≡ variant_resting variant l limit (p + q)
 rest_at variant l limit p zero q h = absurd (omega arith)
 rest_at variant l limit p (suc n) zero h = let e : p ≡ p + 0 = omega arith in ap (variant_resting variant l limit) e
 rest_at variant l limit p (suc n) (suc q) h = let e : p + 1 + q ≡ p + suc q = omega arith in rest_at variant l limit (p + 1) n q (omega arith) ∙ ap (variant_resting variant l limit) e
 
-pub seated_new : (variant : Variant) (l : Layout) (limit : ℕ) → IsSize l → IsSeated (new_world variant l limit)
-seated_new variant l limit sized =
+pub configured_new : (variant : Variant) (l : Layout) (limit : ℕ) → IsSize l → IsConfigured (new_world variant l limit)
+configured_new variant l limit sized =
     record {
       sized = sized;
       words_each = length-replicate l.procs zeros;
       cells_each = length-replicate (size l) 0;
       processes_each = length_rest variant l limit 0 l.procs;
-      seats = λ p below. subst (HasSeat variant l limit p) (sym (rest_at variant l limit 0 l.procs p below)) (let e : 0 + p ≡ p = omega arith in (refl, refl, refl, e));
+      configurations = λ p below. subst (HasConfiguration variant l limit p) (sym (rest_at variant l limit 0 l.procs p below)) (let e : 0 + p ≡ p = omega arith in (refl, refl, refl, e));
     }

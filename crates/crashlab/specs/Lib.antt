@@ -1,7 +1,7 @@
 pub use Rattle.crash_plans.specs.Plans
 pub mod Variants
 pub mod VariantScripts
-pub mod VariantSpots
+pub mod VariantProcessStates
 pub mod VariantStands
 pub mod VariantWorlds
 pub mod VariantSeams

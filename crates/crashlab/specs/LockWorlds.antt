@@ -1,19 +1,19 @@
 -- Worlds of Right: they are those that executions of the lock lead to.
 use Rattle.std.specs.Prelude.{◌≡◌, List, map}
 use Rattle.redomail.specs.declared.deed.Deed.{Deed}
-use Rattle.rmeworld.specs.Spot.{Happening}
-use Rattle.rmeworld.specs.Stand.{Stand}
-use Rattle.rmeworld.specs.World.{at_first, Story, last_scene, deeds}
-use Rattle.rmeworld.specs.WorldState.{WorldState, scene_of}
+use Rattle.rmeworld.specs.ProcessState.{WorldEvent}
+use Rattle.rmeworld.specs.MachineState.{MachineState}
+use Rattle.rmeworld.specs.World.{at_first, Execution, last_global_state, deeds}
+use Rattle.rmeworld.specs.WorldState.{WorldState, global_state_of}
 use Rattle.crashlab.specs.declared.change.Change.TheVariants.{Nothing}
-use Rattle.crashlab.specs.declared.detour.Detour.TheVariants.{Straight}
+use Rattle.crashlab.specs.declared.deviation.Deviation.TheVariants.{Straight}
 use Rattle.crashlab.specs.declared.variant.Variant.TheVariants.{Right}
-use Rattle.crashlab.specs.VariantStands.{VariantStand}
+use Rattle.crashlab.specs.VariantStands.{VariantMachineState}
 use Rattle.crashlab.specs.VariantWorlds.{VariantState}
 
 -- a process of the lock as one of Right
-abbrev pub unchanged : Stand → VariantStand
-unchanged s = record { variant = Right; stand = s; detour = Straight; change = Nothing }
+abbrev pub unchanged : MachineState → VariantMachineState
+unchanged s = record { variant = Right; machine_state = s; deviation = Straight; change = Nothing }
 
 -- a world of the lock as one of Right
 abbrev pub as_variant : WorldState → VariantState
@@ -24,7 +24,7 @@ as_variant w =
 pub record IsLockWorld (s : VariantState) (history : List Deed) : Type 0 where
   pub world : WorldState
   pub same : as_variant world ≡ s
-  pub story : List Happening
-  pub told : Story world.layout world.limit at_first story
-  pub last : last_scene world.layout world.limit at_first story ≡ scene_of world
-  pub done : deeds world.layout world.limit at_first story ≡ history
+  pub execution : List WorldEvent
+  pub told : Execution world.layout world.limit at_first execution
+  pub last : last_global_state world.layout world.limit at_first execution ≡ global_state_of world
+  pub done : deeds world.layout world.limit at_first execution ≡ history

@@ -101,17 +101,17 @@ Shrinks variant schedule None = (refusal_of variant schedule ≡ None) × (verdi
 Shrinks variant schedule (Some least) = (number : ℕ) × GoesWrong variant number schedule × IsShrunk variant number schedule least
 
 -- why it answers no schedule: the line that is refused, as a replay answers it
-abbrev pub IsWhy : Variant → Scheduled → ReplayFault → Type 0
-IsWhy variant schedule (Refused line number) = (refusal : Refusal) × (refusal_of variant schedule ≡ Some (line, refusal)) × (number_of refusal ≡ Some number)
-IsWhy variant schedule OutOfMemory = Unit {0}
-IsWhy variant schedule fault = ⊥
+abbrev pub IsReason : Variant → Scheduled → ReplayFault → Type 0
+IsReason variant schedule (Refused line number) = (refusal : Refusal) × (refusal_of variant schedule ≡ Some (line, refusal)) × (number_of refusal ≡ Some number)
+IsReason variant schedule OutOfMemory = Unit {0}
+IsReason variant schedule fault = ⊥
 
 -- ---- between
 
 -- what playing it answers
 abbrev pub Answers : Variant → Scheduled → Result Verdict ReplayFault → Type 0
 Answers variant schedule (Ok verdict) = (refusal_of variant schedule ≡ None) × (verdict ≡ verdict_of variant schedule)
-Answers variant schedule (Err fault) = IsWhy variant schedule fault
+Answers variant schedule (Err fault) = IsReason variant schedule fault
 
 -- the schedule with other lines
 abbrev pub with_lines : Scheduled → List Line → Scheduled

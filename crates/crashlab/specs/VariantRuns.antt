@@ -3,11 +3,11 @@ use Rattle.std.specs.Prelude.{◌≡◌, ℕ, List, [], ◌∷◌}
 use Rattle.rmecore.specs.Machine.{kind_of, word_of, carried}
 use Rattle.rmecore.specs.declared.access.Access.{Access}
 use Rattle.rmeworld.specs.Acts.{Act, Starts, Steps, Crashes, unless}
-use Rattle.rmeworld.specs.Spot.{Happening, Moves}
-use Rattle.rmeworld.specs.Stand.{IsSize}
-use Rattle.crashlab.specs.VariantSpots.{VariantSpot}
-use Rattle.crashlab.specs.VariantStands.{variant_spot_of}
-use Rattle.crashlab.specs.VariantWorlds.{VariantState, stand_at, new_world, start_refusal, started, found_by, advance_refusal, advanced, crash_refusal, crashed}
+use Rattle.rmeworld.specs.ProcessState.{WorldEvent, Moves}
+use Rattle.rmeworld.specs.MachineState.{IsSize}
+use Rattle.crashlab.specs.VariantProcessStates.{VariantProcessState}
+use Rattle.crashlab.specs.VariantStands.{variant_process_state_of}
+use Rattle.crashlab.specs.VariantWorlds.{VariantState, machine_state_at, new_world, start_refusal, started, found_by, advance_refusal, advanced, crash_refusal, crashed}
 
 -- the world after a start, step or crash; one that is refused changes nothing
 abbrev pub acted : VariantState → Act → VariantState
@@ -27,9 +27,9 @@ pub record IsRun (s : VariantState) : Type 0 where
   pub is : run_of (new_world s.variant s.layout s.limit) acts ≡ s
 
 -- the process state of p
-abbrev pub spot_at : VariantState → ℕ → VariantSpot
-spot_at s p = variant_spot_of (stand_at s.processes p)
+abbrev pub process_state_at : VariantState → ℕ → VariantProcessState
+process_state_at s p = variant_process_state_of (machine_state_at s.processes p)
 
 -- the event of process p that this access is, with the word that it finds
-abbrev pub move : VariantState → ℕ → Access → Happening
+abbrev pub move : VariantState → ℕ → Access → WorldEvent
 move s p a = Moves p (kind_of a) (word_of a) (carried a (found_by s a))

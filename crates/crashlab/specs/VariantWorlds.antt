@@ -17,13 +17,13 @@ use Rattle.rmeworld.specs.declared.call.Call.{Call}
 use Rattle.rmeworld.specs.declared.image.Image.{Image}
 use Rattle.rmeworld.specs.declared.outcome.Outcome.{Outcome}
 use Rattle.rmeworld.specs.declared.stepped.Stepped.{Stepped}
-use Rattle.rmeworld.specs.Refused.{start_refusal as spot_refusal}
+use Rattle.rmeworld.specs.Refused.{start_refusal as process_state_refusal}
 use Rattle.rmeworld.specs.Replayed.{words_by, cells_by, mail_by, or_else, the_deed, no_step}
-use Rattle.rmeworld.specs.Stand.{IsSize, spot_of}
+use Rattle.rmeworld.specs.MachineState.{IsSize, process_state_of}
 use Rattle.rmeworld.specs.World.{reading_of}
 use Rattle.crashlab.specs.declared.variant.Variant.{Variant}
 use Rattle.crashlab.specs.declared.variant.Variant.TheVariants.{Right}
-use Rattle.crashlab.specs.VariantStands.{VariantStand, variant_resting, variant_crashed, variant_next_access, variant_stepped, variant_outcome, variant_started}
+use Rattle.crashlab.specs.VariantStands.{VariantMachineState, variant_resting, variant_crashed, variant_next_access, variant_stepped, variant_outcome, variant_started}
 
 -- a world of a variant
 pub record VariantState : Type 0 where
@@ -32,30 +32,30 @@ pub record VariantState : Type 0 where
   pub limit : ℕ
   pub words : List Own
   pub cells : List ℕ
-  pub processes : List VariantStand
+  pub processes : List VariantMachineState
 
 -- the process at an index that has none
-abbrev pub absent : VariantStand
+abbrev pub absent : VariantMachineState
 absent = variant_resting Right (record { procs = 0; cap = 0; width = 0 }) 0 0
 
 -- process p of a world
-abbrev pub stand_at : List VariantStand → ℕ → VariantStand
-stand_at processes p = slice_index_or processes p absent
+abbrev pub machine_state_at : List VariantMachineState → ℕ → VariantMachineState
+machine_state_at processes p = slice_index_or processes p absent
 
 -- process p of a world of this variant and size
-abbrev pub HasSeat : Variant → Layout → ℕ → ℕ → VariantStand → Type 0
-HasSeat variant l limit p s = (s.variant ≡ variant) × (s.stand.layout ≡ l) × (s.stand.limit ≡ limit) × (s.stand.index ≡ p)
+abbrev pub HasConfiguration : Variant → Layout → ℕ → ℕ → VariantMachineState → Type 0
+HasConfiguration variant l limit p s = (s.variant ≡ variant) × (s.machine_state.layout ≡ l) × (s.machine_state.limit ≡ limit) × (s.machine_state.index ≡ p)
 
 -- the lists are as long as the sizes say, and each process has its index
-pub record IsSeated (s : VariantState) : Type 0 where
+pub record IsConfigured (s : VariantState) : Type 0 where
   pub sized : IsSize s.layout
   pub words_each : length s.words ≡ s.layout.procs
   pub cells_each : length s.cells ≡ size s.layout
   pub processes_each : length s.processes ≡ s.layout.procs
-  pub seats : (p : ℕ) → p < s.layout.procs → HasSeat s.variant s.layout s.limit p (stand_at s.processes p)
+  pub configurations : (p : ℕ) → p < s.layout.procs → HasConfiguration s.variant s.layout s.limit p (machine_state_at s.processes p)
 
 -- this many processes at rest, from p on
-abbrev pub at_rest_from : Variant → Layout → ℕ → ℕ → ℕ → List VariantStand
+abbrev pub at_rest_from : Variant → Layout → ℕ → ℕ → ℕ → List VariantMachineState
 at_rest_from variant l limit p zero = []
 at_rest_from variant l limit p (suc n) = variant_resting variant l limit p ∷ at_rest_from variant l limit (p + 1) n
 
@@ -74,15 +74,15 @@ new_world variant l limit =
 -- why a start is refused (the specification's refusals of `start`)
 abbrev pub start_refusal : VariantState → ℕ → Call → Option Refusal
 start_refusal s p call =
-    if nat_lt p s.layout.procs then spot_refusal s.layout (spot_of (stand_at s.processes p).stand) call else Some NoSuchProcess
+    if nat_lt p s.layout.procs then process_state_refusal s.layout (process_state_of (machine_state_at s.processes p).machine_state) call else Some NoSuchProcess
 
 -- the world after a start
 abbrev pub started : VariantState → ℕ → Call → VariantState
-started s p call = record s { processes = slice_set s.processes p (variant_started (stand_at s.processes p) call) }
+started s p call = record s { processes = slice_set s.processes p (variant_started (machine_state_at s.processes p) call) }
 
 -- the next step of p
 abbrev pub access_at : VariantState → ℕ → Option Access
-access_at s p = variant_next_access (stand_at s.processes p)
+access_at s p = variant_next_access (machine_state_at s.processes p)
 
 -- a step is refused where there is none
 abbrev pub unless_step : Option Access → Option Refusal
@@ -99,7 +99,7 @@ found_by s a = reading_of (own_at s.words) (words_of s.cells) (word_of a)
 
 -- the outcome of a step of p
 abbrev pub outcome_of : VariantState → ℕ → Access → Outcome
-outcome_of s p a = variant_outcome (stand_at s.processes p) (found_by s a)
+outcome_of s p a = variant_outcome (machine_state_at s.processes p) (found_by s a)
 
 -- the deeds of a step: the lock's, or that of a put
 abbrev pub deeds_of : VariantState → ℕ → Access → List Deed
@@ -120,7 +120,7 @@ advanced_by s p a =
     record s {
       words = words_by s.words a;
       cells = cells_by s.cells a;
-      processes = slice_set s.processes p (variant_stepped (stand_at s.processes p) (found_by s a));
+      processes = slice_set s.processes p (variant_stepped (machine_state_at s.processes p) (found_by s a));
     }
 
 -- the same for a step that there may not be
@@ -151,7 +151,7 @@ crash_deed p = Outer (Crash p)
 
 -- the world after a crash
 abbrev pub crashed : VariantState → ℕ → VariantState
-crashed s p = record s { processes = slice_set s.processes p (variant_crashed (stand_at s.processes p)) }
+crashed s p = record s { processes = slice_set s.processes p (variant_crashed (machine_state_at s.processes p)) }
 
 -- the words of the world, with the sizes
 abbrev pub image_of : VariantState → Image

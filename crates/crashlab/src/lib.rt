@@ -2,25 +2,25 @@
 #![tactic(auto)]
 
 pub mod change;
-pub mod detour;
-pub mod hunting;
+pub mod deviation;
+mod drawn_moves;
 pub mod hunt_fault;
+pub mod hunting;
 pub mod laws;
 mod moves;
+mod observer;
 mod round;
-mod route;
-mod sights;
-mod telling;
 pub mod shrinking;
+mod telling;
 pub mod variant;
 pub mod variant_memory;
 pub mod variant_process;
 pub mod variant_world;
 
+pub use crash_plans::{At, Both, CrashPlan, Never, Seeded};
 pub use hunt_fault::HuntFault;
 pub use hunting::{hunt, hunt_watched};
 pub use shrinking::whole::{shrink, shrink_found};
-pub use crash_plans::{At, Both, CrashPlan, Never, Seeded};
 pub use variant::Variant;
 pub use variant_memory::VariantMemory;
 pub use variant_world::VariantWorld;

@@ -3,13 +3,13 @@
 ghost use Rattle.std.specs.Prelude.{◌≡◌, ◌∷◌, []};
 ghost use Rattle.crashlab.specs.Found.{call_by, line_by};
 
-use schedule::{Count, Line};
 use rmecore::Body;
 use rmeworld::Call;
+use schedule::{Count, Line};
 
 /// A call that a hunt starts.
 #[derive(Clone, Copy, Debug, PartialEq, Eq)]
-pub enum Due {
+pub enum NextCall {
     Lock,
     Consistent,
     /// Appends the message of this number, whose one word is the number.
@@ -17,19 +17,19 @@ pub enum Due {
     Unlock,
 }
 
-impl Due {
+impl NextCall {
     /// The call itself, which takes five times the room.
     pub fn call(self) -> Call
         ensures { result ≡ call_by self }
     {
         match self {
-            Due::Lock => Call::Lock,
-            Due::Consistent => Call::Consistent,
-            Due::Append(seq) => Call::Append {
+            NextCall::Lock => Call::Lock,
+            NextCall::Consistent => Call::Consistent,
+            NextCall::Append(seq) => Call::Append {
                 seq,
                 value: body(seq),
             },
-            Due::Unlock => Call::Unlock,
+            NextCall::Unlock => Call::Unlock,
         }
     }
 }
@@ -46,31 +46,31 @@ fn body(word: u64) -> Body
 
 /// A move of a hunt.
 #[derive(Clone, Copy, Debug, PartialEq, Eq)]
-pub enum Move {
+pub enum DrawnMove {
     /// A process starts a call.
-    Start(u64, Due),
+    Start(u64, NextCall),
     /// A process takes a step.
     Step(u64),
     /// A process crashes.
     Crash(u64),
 }
 
-impl Move {
+impl DrawnMove {
     /// The move as a line of a schedule.
     pub fn line(self) -> Line
         ensures { result ≡ line_by self }
     {
         match self {
-            Move::Start(p, due) => Line::Start(p, due.call()),
-            Move::Step(p) => Line::Step(p, Count::ONE),
-            Move::Crash(p) => Line::Crash(p),
+            DrawnMove::Start(p, next_call) => Line::Start(p, next_call.call()),
+            DrawnMove::Step(p) => Line::Step(p, Count::ONE),
+            DrawnMove::Crash(p) => Line::Crash(p),
         }
     }
 }
 
 /// What a move of a round ends in.
 #[derive(Clone, Copy, Debug, PartialEq, Eq)]
-pub enum Made {
+pub enum MoveOutcome {
     /// The round goes on: the move has no deed, or the judge allows it.
     On,
     /// The judge refuses the deed of the move.

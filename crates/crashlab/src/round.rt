@@ -7,8 +7,8 @@ ghost use Rattle.crashlab.specs.declared.variant.Variant.{Variant as VariantOf};
 ghost use Rattle.crashlab.specs.Hunts.{IsPlayed};
 ghost use Rattle.crashlab.specs.Found.{Ends, call_by, line_by, with_line};
 
-use crate::moves::{Due, Made, Move};
-use crate::sights::Sights;
+use crate::moves::{DrawnMove, MoveOutcome, NextCall};
+use crate::observer::Observer;
 use crate::telling::tell;
 use crate::variant_world::VariantWorld;
 use judge::Judge;
@@ -21,28 +21,43 @@ use rmeworld::Call;
 pub fn make(
     world: &mut VariantWorld,
     judge: &mut Judge,
-    sights: &mut Sights,
-    made: Move,
-) -> Option<Made>
-    ensures ends { IfSome result (λ m. (variant : VariantOf) (schedule : Scheduled) → IsPlayed variant schedule world.old judge.old → Ends variant (with_line schedule (line_by made)) world.new judge.new m) }
+    observer: &mut Observer,
+    made: DrawnMove,
+) -> Option<MoveOutcome>
+    ensures ends { IfSome result (λ m. (variant : VariantOf) (schedule : Scheduled)
+        → IsPlayed variant schedule world.old judge.old
+        → Ends variant (with_line schedule (line_by made)) world.new judge.new m) }
     ensures same { result ≡ None → (world.new ≡ world.old) × (judge.new ≡ judge.old) }
 {
     match made {
-        Move::Step(p) => walk(world, judge, sights, p),
-        Move::Start(p, Due::Lock) => start(world, sights, p, Due::Lock, Call::Lock),
-        Move::Start(p, due) => take_up(world, sights, p, due),
-        Move::Crash(p) => crash(world, judge, sights, p),
+        DrawnMove::Step(p) => walk(world, judge, observer, p),
+        DrawnMove::Start(p, NextCall::Lock) => start(
+            world,
+            observer,
+            p,
+            NextCall::Lock,
+            Call::Lock,
+        ),
+        DrawnMove::Start(p, next_call) => take_up(world, observer, p, next_call),
+        DrawnMove::Crash(p) => crash(world, judge, observer, p),
     }
 }
 
 /// Starts a call that may carry a message.
 // Apart: clears room for a message.
 #[inline(never)]
-fn take_up(world: &mut VariantWorld, sights: &mut Sights, p: u64, due: Due) -> Option<Made>
-    ensures ends { IfSome result (λ m. (variant : VariantOf) (schedule : Scheduled) (judge : Kept) → IsPlayed variant schedule world.old judge → Ends variant (with_line schedule (line_by (Move.Start p due))) world.new judge m) }
+fn take_up(
+    world: &mut VariantWorld,
+    observer: &mut Observer,
+    p: u64,
+    next_call: NextCall,
+) -> Option<MoveOutcome>
+    ensures ends { IfSome result (λ m. (variant : VariantOf) (schedule : Scheduled) (judge : Kept)
+        → IsPlayed variant schedule world.old judge
+        → Ends variant (with_line schedule (line_by (DrawnMove.Start p next_call))) world.new judge m) }
     ensures same { result ≡ None → world.new ≡ world.old }
 {
-    start(world, sights, p, due, due.call())
+    start(world, observer, p, next_call, next_call.call())
 }
 
 /// Starts a call. A start has no deed.
@@ -50,19 +65,21 @@ fn take_up(world: &mut VariantWorld, sights: &mut Sights, p: u64, due: Due) -> O
 #[inline(always)]
 fn start(
     world: &mut VariantWorld,
-    sights: &mut Sights,
+    observer: &mut Observer,
     p: u64,
-    due: Due,
+    next_call: NextCall,
     call: Call,
-) -> Option<Made>
-    requires { call ≡ call_by due }
-    ensures ends { IfSome result (λ m. (variant : VariantOf) (schedule : Scheduled) (judge : Kept) → IsPlayed variant schedule world.old judge → Ends variant (with_line schedule (line_by (Move.Start p due))) world.new judge m) }
+) -> Option<MoveOutcome>
+    requires { call ≡ call_by next_call }
+    ensures ends { IfSome result (λ m. (variant : VariantOf) (schedule : Scheduled) (judge : Kept)
+        → IsPlayed variant schedule world.old judge
+        → Ends variant (with_line schedule (line_by (DrawnMove.Start p next_call))) world.new judge m) }
     ensures same { result ≡ None → world.new ≡ world.old }
 {
     match world.take_start(p, call) {
         Ok(()) => {
-            sights.started(p, due);
-            Some(Made::On)
+            observer.started(p, next_call);
+            Some(MoveOutcome::On)
         }
         Err(_) => None,
     }
@@ -71,29 +88,43 @@ fn start(
 /// Takes a step. Most steps have no deed and no answer.
 // Inline: one call a move.
 #[inline(always)]
-fn walk(world: &mut VariantWorld, judge: &mut Judge, sights: &mut Sights, p: u64) -> Option<Made>
-    ensures ends { IfSome result (λ m. (variant : VariantOf) (schedule : Scheduled) → IsPlayed variant schedule world.old judge.old → Ends variant (with_line schedule (line_by (Move.Step p))) world.new judge.new m) }
+fn walk(
+    world: &mut VariantWorld,
+    judge: &mut Judge,
+    observer: &mut Observer,
+    p: u64,
+) -> Option<MoveOutcome>
+    ensures ends { IfSome result (λ m. (variant : VariantOf) (schedule : Scheduled)
+        → IsPlayed variant schedule world.old judge.old
+        → Ends variant (with_line schedule (line_by (DrawnMove.Step p))) world.new judge.new m) }
     ensures same { result ≡ None → (world.new ≡ world.old) × (judge.new ≡ judge.old) }
 {
-    if world.take_quiet_step(p) {
-        return Some(Made::On);
+    if world.take_silent_step(p) {
+        return Some(MoveOutcome::On);
     }
-    step(world, judge, sights, p)
+    step(world, judge, observer, p)
 }
 
 /// Takes a step that may have a deed, or end its call.
-fn step(world: &mut VariantWorld, judge: &mut Judge, sights: &mut Sights, p: u64) -> Option<Made>
-    ensures ends { IfSome result (λ m. (variant : VariantOf) (schedule : Scheduled) → IsPlayed variant schedule world.old judge.old → Ends variant (with_line schedule (line_by (Move.Step p))) world.new judge.new m) }
+fn step(
+    world: &mut VariantWorld,
+    judge: &mut Judge,
+    observer: &mut Observer,
+    p: u64,
+) -> Option<MoveOutcome>
+    ensures ends { IfSome result (λ m. (variant : VariantOf) (schedule : Scheduled)
+        → IsPlayed variant schedule world.old judge.old
+        → Ends variant (with_line schedule (line_by (DrawnMove.Step p))) world.new judge.new m) }
     ensures same { result ≡ None → (world.new ≡ world.old) × (judge.new ≡ judge.old) }
 {
     if let Some(access) = world.job_next(p) {
         let told = world.job_on(judge, p, access);
-        sights.stepped(p, told.1);
+        observer.stepped(p, told.1);
         return Some(told.0);
     }
     match world.step_before(judge, p) {
         Ok((made, answer)) => {
-            sights.stepped(p, answer);
+            observer.stepped(p, answer);
             Some(made)
         }
         Err(_) => None,
@@ -101,14 +132,21 @@ fn step(world: &mut VariantWorld, judge: &mut Judge, sights: &mut Sights, p: u64
 }
 
 /// Crashes a process.
-fn crash(world: &mut VariantWorld, judge: &mut Judge, sights: &mut Sights, p: u64) -> Option<Made>
-    ensures ends { IfSome result (λ m. (variant : VariantOf) (schedule : Scheduled) → IsPlayed variant schedule world.old judge.old → Ends variant (with_line schedule (line_by (Move.Crash p))) world.new judge.new m) }
+fn crash(
+    world: &mut VariantWorld,
+    judge: &mut Judge,
+    observer: &mut Observer,
+    p: u64,
+) -> Option<MoveOutcome>
+    ensures ends { IfSome result (λ m. (variant : VariantOf) (schedule : Scheduled)
+        → IsPlayed variant schedule world.old judge.old
+        → Ends variant (with_line schedule (line_by (DrawnMove.Crash p))) world.new judge.new m) }
     ensures same { result ≡ None → (world.new ≡ world.old) × (judge.new ≡ judge.old) }
 {
     match world.take_crash(p) {
         Ok(deed) => {
             let made = tell(judge, &deed);
-            sights.crashed(p);
+            observer.crashed(p);
             Some(made)
         }
         Err(_) => None,

@@ -1,7 +1,7 @@
 //! Minimizes a schedule that goes wrong on a variant.
 
 mod change;
-mod far;
+mod large_steps;
 mod least;
 mod played;
 mod replaced;

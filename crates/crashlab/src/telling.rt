@@ -8,7 +8,7 @@ ghost use Rattle.judge.specs.Stands.{StandsAfter};
 ghost use Rattle.rmeworld.specs.Replayed.{list_of, mail_by, or_else, the_deed};
 ghost use Rattle.crashlab.specs.Found.{Told};
 
-use crate::moves::Made;
+use crate::moves::MoveOutcome;
 use judge::Judge;
 use redomail::{Deed, Layout};
 use rmecore::{Access, Outer};
@@ -17,13 +17,13 @@ use rmeworld::memory::deed_of;
 /// Gives the judge a deed. `Caught` where it refuses the deed.
 // Inline: one call a deed.
 #[inline(always)]
-pub fn tell(judge: &mut Judge, deed: &Deed) -> Made
+pub fn tell(judge: &mut Judge, deed: &Deed) -> MoveOutcome
     ensures { (history : List DeedOf) → StandsAfter (empty 3 64) history judge.old → Told history (Some deed.now) judge.new result }
 {
     if judge.feed_from(deed).is_err() {
-        return Made::Caught;
+        return MoveOutcome::Caught;
     }
-    Made::On
+    MoveOutcome::On
 }
 
 /// Gives the judge the deed of a step of process p, if it has one. Most steps are loads, and few loads have a deed.
@@ -36,14 +36,17 @@ pub fn tell_step(
     cells: &[u64],
     access: &Access,
     outer: &Option<Outer>,
-) -> Made
+) -> MoveOutcome
     requires size { IsLayout layout.now }
     requires filled { length cells.now ≡ size layout.now }
-    ensures told { (history : List DeedOf) → StandsAfter (empty 3 64) history judge.old → Told history (the_deed (or_else outer.now (mail_by layout.now p (words_of cells.now) access.now))) judge.new result }
-    ensures one { list_of (the_deed (or_else outer.now (mail_by layout.now p (words_of cells.now) access.now))) ≡ or_else outer.now (mail_by layout.now p (words_of cells.now) access.now) }
+    ensures told { (history : List DeedOf) → StandsAfter (empty 3 64) history judge.old
+        → Told history (the_deed (or_else outer.now (mail_by layout.now p (words_of cells.now) access.now)))
+        judge.new result }
+    ensures one { list_of (the_deed (or_else outer.now (mail_by layout.now p (words_of cells.now) access.now)))
+        ≡ or_else outer.now (mail_by layout.now p (words_of cells.now) access.now) }
 {
     match (outer, access) {
-        (None, Access::Load(..)) => Made::On,
+        (None, Access::Load(..)) => MoveOutcome::On,
         (Some(outer), _) => tell(judge, &Deed::Outer(*outer)),
         _ => tell_deed(judge, layout, p, cells, access, outer),
     }
@@ -59,14 +62,17 @@ fn tell_deed(
     cells: &[u64],
     access: &Access,
     outer: &Option<Outer>,
-) -> Made
+) -> MoveOutcome
     requires size { IsLayout layout.now }
     requires filled { length cells.now ≡ size layout.now }
-    ensures told { (history : List DeedOf) → StandsAfter (empty 3 64) history judge.old → Told history (the_deed (or_else outer.now (mail_by layout.now p (words_of cells.now) access.now))) judge.new result }
-    ensures one { list_of (the_deed (or_else outer.now (mail_by layout.now p (words_of cells.now) access.now))) ≡ or_else outer.now (mail_by layout.now p (words_of cells.now) access.now) }
+    ensures told { (history : List DeedOf) → StandsAfter (empty 3 64) history judge.old
+        → Told history (the_deed (or_else outer.now (mail_by layout.now p (words_of cells.now) access.now)))
+        judge.new result }
+    ensures one { list_of (the_deed (or_else outer.now (mail_by layout.now p (words_of cells.now) access.now)))
+        ≡ or_else outer.now (mail_by layout.now p (words_of cells.now) access.now) }
 {
     match deed_of(*layout, p, cells, *access, *outer) {
         Some(deed) => tell(judge, &deed),
-        None => Made::On,
+        None => MoveOutcome::On,
     }
 }

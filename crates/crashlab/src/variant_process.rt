@@ -8,14 +8,14 @@ ghost use Rattle.crashlab.specs.VariantStands.{change_of, is_put};
 mod lock_rows;
 
 use crate::change::Change;
-use crate::detour::Detour;
+use crate::deviation::Deviation;
 use crate::variant::Variant;
 use crate::variant_memory::VariantMemory;
-use lock_rows::errand_of;
+use lock_rows::script_state_of;
 use redomail::Layout;
 use redomail::layout::COUNT;
 use rmecore::{Access, Kind, Progress, Refusal, Scan, Word};
-use rmeworld::errand::Errand;
+use rmeworld::script_state::ScriptState;
 use rmeworld::{Answer, Call, Outcome, Process};
 use std::marker::Model;
 
@@ -34,27 +34,27 @@ const SILENT: Outcome = Outcome {
 pub struct VariantProcess {
     variant: Variant,
     process: Process,
-    detour: Detour,
+    deviation: Deviation,
     change: Change,
 }
 
 impl Model for VariantProcess {
-    ghost use Rattle.crashlab.specs.VariantStands.{VariantStand};
+    ghost use Rattle.crashlab.specs.VariantStands.{VariantMachineState};
 
-    ghost Value = { VariantStand };
+    ghost Value = { VariantMachineState };
 
-    ghost view = { λ s. record { variant = s.variant; stand = s.process; detour = s.detour; change = s.change } };
+    ghost view = { λ s. record { variant = s.variant; machine_state = s.process; deviation = s.deviation; change = s.change } };
 }
 
 impl VariantProcess {
-    ghost use Rattle.rmeworld.specs.Spot.{Begins, next_spot};
-    ghost use Rattle.rmecore.specs.Machine.{word_of, place_of, at_scan, quiet};
+    ghost use Rattle.rmeworld.specs.ProcessState.{Begins, next_process_state};
+    ghost use Rattle.rmecore.specs.Machine.{word_of, place_of, at_scan, silent};
     ghost use Rattle.rmeworld.specs.Advancing.{GoesOn};
     ghost use Rattle.rmeworld.specs.InPlace.{IsWorking, Works};
-    ghost use Rattle.rmeworld.specs.declared.errand.Errand.TheVariants.{Free};
-    ghost use Rattle.rmeworld.specs.Errands.{Held};
+    ghost use Rattle.rmeworld.specs.declared.script_state.ScriptState.TheVariants.{Free};
+    ghost use Rattle.rmeworld.specs.ScriptStates.{Held};
     ghost use Rattle.crashlab.specs.VariantSeams.{with_variant_memory};
-    ghost use Rattle.rmeworld.specs.Stand.{IsSize, InWords, IsAllowed, StoresOwn, standing, spot_of, next_access, spot_after};
+    ghost use Rattle.rmeworld.specs.MachineState.{IsSize, InWords, IsAllowed, StoresOwn, standing, process_state_of, next_access, process_state_after};
     ghost use Rattle.rmeworld.specs.Refused.{start_refusal};
     ghost use Rattle.crashlab.specs.VariantStands.{IsPlain, variant_resting, variant_crashed, variant_next_access, variant_stepped, variant_outcome, variant_started};
 
@@ -67,7 +67,7 @@ impl VariantProcess {
         VariantProcess {
             variant,
             process: Process::new(layout, limit, index),
-            detour: Detour::Straight,
+            deviation: Deviation::Straight,
             change: Change::Nothing,
         }
     }
@@ -79,7 +79,7 @@ impl VariantProcess {
         ensures { self.new ≡ variant_crashed self.old }
     {
         self.process.crash();
-        self.detour = Detour::Straight;
+        self.deviation = Deviation::Straight;
         self.change = Change::Nothing;
     }
 
@@ -89,7 +89,7 @@ impl VariantProcess {
     {
         VariantMemory {
             process: self.process.seam_memory(),
-            detour: self.detour,
+            deviation: self.deviation,
             change: self.change,
         }
     }
@@ -98,12 +98,13 @@ impl VariantProcess {
     pub fn seam_set(&mut self, memory: &VariantMemory) -> bool
         ensures set { IsTrue result → self.new ≡ with_variant_memory self.old memory.now }
         ensures same { result ≡ false → self.new ≡ self.old }
-        ensures held { IsTrue result ↔ Held memory.now.process.errand (place_of self.old.stand.layout.procs self.old.stand.index memory.now.process.stage) }
+        ensures held { IsTrue result ↔ Held memory.now.process.script_state
+            (place_of self.old.machine_state.layout.procs self.old.machine_state.index memory.now.process.stage) }
     {
         if !self.process.seam_set(&memory.process) {
             return false;
         }
-        self.detour = memory.detour;
+        self.deviation = memory.deviation;
         self.change = memory.change;
         true
     }
@@ -113,9 +114,9 @@ impl VariantProcess {
     #[inline(always)]
     pub fn next(&self) -> Option<Access>
         ensures next { result ≡ variant_next_access self.now }
-        ensures within { IfSome result (λ a. InWords self.now.stand.layout.procs (word_of a)) }
-        ensures allowed { IsPlain self.now → IfSome result (IsAllowed self.now.stand) }
-        ensures own { IsPlain self.now → IfSome result (StoresOwn self.now.stand.index) }
+        ensures within { IfSome result (λ a. InWords self.now.machine_state.layout.procs (word_of a)) }
+        ensures allowed { IsPlain self.now → IfSome result (IsAllowed self.now.machine_state) }
+        ensures own { IsPlain self.now → IfSome result (StoresOwn self.now.machine_state.index) }
     {
         match self.variant {
             Variant::NoLook | Variant::ExitOnCrash | Variant::CountUp => self.next_otherwise(),
@@ -130,16 +131,16 @@ impl VariantProcess {
     #[inline(never)]
     fn next_otherwise(&self) -> Option<Access>
         ensures next { result ≡ variant_next_access self.now }
-        ensures within { IfSome result (λ a. InWords self.now.stand.layout.procs (word_of a)) }
-        ensures allowed { IsPlain self.now → IfSome result (IsAllowed self.now.stand) }
-        ensures own { IsPlain self.now → IfSome result (StoresOwn self.now.stand.index) }
+        ensures within { IfSome result (λ a. InWords self.now.machine_state.layout.procs (word_of a)) }
+        ensures allowed { IsPlain self.now → IfSome result (IsAllowed self.now.machine_state) }
+        ensures own { IsPlain self.now → IfSome result (StoresOwn self.now.machine_state.index) }
     {
         match (self.variant, self.process.next()) {
             (Variant::NoLook, Some(Access::Load(Kind::Look, Word::Choosing(j)))) => {
                 Some(Access::Load(Kind::Weigh, Word::Number(j)))
             }
-            (Variant::ExitOnCrash, next) => match (self.detour, errand_of(&self.process)) {
-                (Detour::Dropping, Errand::Free) => {
+            (Variant::ExitOnCrash, next) => match (self.deviation, script_state_of(&self.process)) {
+                (Deviation::Dropping, ScriptState::Free) => {
                     Some(Access::Store(Kind::Drop, Word::Number(self.process.index()), 0))
                 }
                 _ => next,
@@ -162,10 +163,10 @@ impl VariantProcess {
     #[inline(always)]
     pub(crate) fn scan(&self) -> Option<(Scan, Access)>
         ensures plain { IfSome result (λ r. IsPlain self.now) }
-        ensures goes_on { IfSome result (λ r. GoesOn self.now.stand r.0 r.1) }
+        ensures goes_on { IfSome result (λ r. GoesOn self.now.machine_state r.0 r.1) }
     {
-        match (self.variant, self.detour, self.change) {
-            (Variant::Right, Detour::Straight, Change::Nothing) => {}
+        match (self.variant, self.deviation, self.change) {
+            (Variant::Right, Deviation::Straight, Change::Nothing) => {}
             _ => return None,
         }
         let (scan, access) = self.process.scan()?;
@@ -180,8 +181,8 @@ impl VariantProcess {
     #[inline(always)]
     pub(crate) fn scan_on(&mut self, scan: Scan, value: u64) -> Outcome
         requires plain { IsPlain self.old }
-        requires free { self.old.stand.errand ≡ Free }
-        requires at { at_scan (standing self.old.stand) scan ≡ standing self.old.stand }
+        requires free { self.old.machine_state.script_state ≡ Free }
+        requires at { at_scan (standing self.old.machine_state) scan ≡ standing self.old.machine_state }
         ensures exact { self.new ≡ variant_stepped self.old value }
         ensures outcome { result ≡ variant_outcome self.old value }
     {
@@ -191,13 +192,13 @@ impl VariantProcess {
     /// The next step, where it is likely to be silent. None unless the process is one of the lock, with nothing changed.
     // Inline: one call a step.
     #[inline(always)]
-    pub(crate) fn next_quietly(&self) -> Option<Access>
+    pub(crate) fn next_silently(&self) -> Option<Access>
         ensures plain { IfSome result (λ a. IsPlain self.now) }
         ensures next { IfSome result (λ a. variant_next_access self.now ≡ Some a) }
-        ensures within { IfSome result (λ a. InWords self.now.stand.layout.procs (word_of a)) }
+        ensures within { IfSome result (λ a. InWords self.now.machine_state.layout.procs (word_of a)) }
     {
-        match (self.variant, self.detour, self.change) {
-            (Variant::Right, Detour::Straight, Change::Nothing) => self.process.next_quietly(),
+        match (self.variant, self.deviation, self.change) {
+            (Variant::Right, Deviation::Straight, Change::Nothing) => self.process.next_silently(),
             _ => None,
         }
     }
@@ -206,13 +207,14 @@ impl VariantProcess {
     /// true then. Else it answers false, and changes nothing.
     // Inline: one call a step.
     #[inline(always)]
-    pub(crate) fn feed_quietly(&mut self, value: u64) -> bool
+    pub(crate) fn feed_silently(&mut self, value: u64) -> bool
         requires plain { IsPlain self.old }
         ensures exact { IsTrue result → self.new ≡ variant_stepped self.old value }
-        ensures quiet { IsTrue result → ((variant_outcome self.old value).progress.outer ≡ None) × ((variant_outcome self.old value).answer ≡ None) }
+        ensures silent { IsTrue result → ((variant_outcome self.old value).progress.outer ≡ None)
+            × ((variant_outcome self.old value).answer ≡ None) }
         ensures same { result ≡ false → self.new ≡ self.old }
     {
-        match self.process.feed_quietly(value) {
+        match self.process.feed_silently(value) {
             Some(_) => true,
             None => false,
         }
@@ -223,10 +225,10 @@ impl VariantProcess {
     #[inline(always)]
     pub(crate) fn job_next(&self) -> Option<Access>
         ensures plain { IfSome result (λ a. IsPlain self.now) }
-        ensures works { IfSome result (Works self.now.stand) }
+        ensures works { IfSome result (Works self.now.machine_state) }
     {
-        match (self.variant, self.detour, self.change) {
-            (Variant::Right, Detour::Straight, Change::Nothing) => self.process.job_next(),
+        match (self.variant, self.deviation, self.change) {
+            (Variant::Right, Deviation::Straight, Change::Nothing) => self.process.job_next(),
             _ => None,
         }
     }
@@ -236,9 +238,9 @@ impl VariantProcess {
     #[inline(always)]
     pub(crate) fn job_on(&mut self, value: u64) -> Option<Answer>
         requires plain { IsPlain self.old }
-        requires working { IsWorking self.old.stand.errand }
+        requires working { IsWorking self.old.machine_state.script_state }
         ensures exact { self.new ≡ variant_stepped self.old value }
-        ensures outcome { variant_outcome self.old value ≡ record { progress = quiet; answer = result } }
+        ensures outcome { variant_outcome self.old value ≡ record { progress = silent; answer = result } }
     {
         self.process.job_on(value)
     }
@@ -247,11 +249,14 @@ impl VariantProcess {
     // Inline: one call a start.
     #[inline(always)]
     pub fn start(&mut self, call: Call) -> Result<(), Refusal>
-        ensures accepted { OnOk result (start_refusal self.old.stand.layout (spot_of self.old.stand) call ≡ None) }
-        ensures refused { IfErr result (λ e. start_refusal self.old.stand.layout (spot_of self.old.stand) call ≡ Some e) }
+        ensures accepted { OnOk result (start_refusal self.old.machine_state.layout (process_state_of self.old.machine_state) call ≡ None) }
+        ensures refused { IfErr result (λ e. start_refusal self.old.machine_state.layout
+            (process_state_of self.old.machine_state) call ≡ Some e) }
         ensures memory { IsErrOf result Refusal.OutOfMemory → ⊥ }
         ensures ok { OnOk result (self.new ≡ variant_started self.old call) }
-        ensures spot { OnOk result (next_spot self.old.stand.layout self.old.stand.limit (spot_of self.old.stand) (Begins self.old.stand.index call) ≡ Some (spot_of self.new.stand)) }
+        ensures process_state { OnOk result (next_process_state self.old.machine_state.layout self.old.machine_state.limit
+            (process_state_of self.old.machine_state) (Begins self.old.machine_state.index call)
+            ≡ Some (process_state_of self.new.machine_state)) }
         ensures err { OnErr result (self.new ≡ self.old) }
     {
         let change = change_by(self.variant, &call);
@@ -273,7 +278,8 @@ impl VariantProcess {
     pub fn feed(&mut self, value: u64) -> Outcome
         ensures exact { self.new ≡ variant_stepped self.old value }
         ensures outcome { result ≡ variant_outcome self.old value }
-        ensures plain { IsPlain self.old → spot_of self.new.stand ≡ spot_after self.old.stand (next_access self.old.stand) value }
+        ensures plain { IsPlain self.old → process_state_of self.new.machine_state
+            ≡ process_state_after self.old.machine_state (next_access self.old.machine_state) value }
     {
         match (self.variant, self.process.stage()) {
             (Variant::Right, Some(_)) => self.process.lock_on(value),
@@ -287,7 +293,8 @@ impl VariantProcess {
     fn feed_otherwise(&mut self, value: u64) -> Outcome
         ensures exact { self.new ≡ variant_stepped self.old value }
         ensures outcome { result ≡ variant_outcome self.old value }
-        ensures plain { IsPlain self.old → spot_of self.new.stand ≡ spot_after self.old.stand (next_access self.old.stand) value }
+        ensures plain { IsPlain self.old → process_state_of self.new.machine_state
+            ≡ process_state_after self.old.machine_state (next_access self.old.machine_state) value }
     {
         match self.variant {
             Variant::Right => self.process.feed(value),

@@ -3,12 +3,12 @@
 ghost use Rattle.std.specs.Prelude.{◌≡◌, ◌<◌, ◌⊎◌, ℕ, IfOk, IfErr, ◌↔◌, false, length, slice_get, IfSome, IsSome, IsTrue, OnOk, OnErr, IsErrOf, Some, None, vec_len};
 ghost use Rattle.rmecore.specs.Machine.{carried};
 ghost use Rattle.rmecore.specs.Simulated.{cause};
-ghost use Rattle.rmeworld.specs.Stand.{IsSize};
+ghost use Rattle.rmeworld.specs.MachineState.{IsSize};
 ghost use Rattle.rmeworld.specs.WorldState.{new_refusal};
 ghost use Rattle.crashlab.specs.VariantWorlds.{at_rest_from, new_world};
 ghost use Rattle.rmecore.specs.declared.refusal.Refusal.TheVariants.{OutOfMemory};
 
-use crate::moves::Made;
+use crate::moves::MoveOutcome;
 use crate::telling::tell_step;
 use crate::variant::Variant;
 use crate::variant_memory::VariantMemory;
@@ -16,9 +16,9 @@ use crate::variant_process::VariantProcess;
 use judge::Judge;
 use redomail::{Deed, Layout};
 use rmecore::{Access, Happened, Outer, Own, Refusal, Scan};
-use rmeworld::memory::{deed_of, load, puts_quietly, store};
+use rmeworld::memory::{deed_of, load, puts_silently, store};
 use rmeworld::size::size_refusal;
-use rmeworld::{Answer, Call, Cells, Image, Machine, Owns, Stepped};
+use rmeworld::{Answer, Call, DataWords, Image, Machine, Owns, Stepped};
 use std::alloc::Global;
 use std::marker::Model;
 
@@ -40,13 +40,13 @@ pub struct VariantWorld {
 }
 
 impl Model for VariantWorld {
-    ghost use Rattle.crashlab.specs.VariantWorlds.{VariantState, IsSeated};
+    ghost use Rattle.crashlab.specs.VariantWorlds.{VariantState, IsConfigured};
 
     ghost Value = { VariantState };
 
     ghost view = { λ w. record { variant = w.variant; layout = w.layout; limit = w.limit; words = w.words.items; cells = w.cells.items; processes = w.processes.items } };
 
-    ghost invariant = { λ w. IsSeated (record { variant = w.variant; layout = w.layout; limit = w.limit; words = w.words.items; cells = w.cells.items; processes = w.processes.items }) };
+    ghost invariant = { λ w. IsConfigured (record { variant = w.variant; layout = w.layout; limit = w.limit; words = w.words.items; cells = w.cells.items; processes = w.processes.items }) };
 }
 
 fn all_at_rest(
@@ -111,7 +111,7 @@ impl VariantWorld {
     ghost use Rattle.crashlab.specs.Found.{Told};
     ghost use Rattle.crashlab.specs.VariantWorlds.{start_refusal, started, advance_refusal, stepped, advanced, crash_refusal, crash_deed, crashed};
     ghost use Rattle.crashlab.specs.VariantStands.{IsPlain};
-    ghost use Rattle.crashlab.specs.VariantWorlds.{stand_at};
+    ghost use Rattle.crashlab.specs.VariantWorlds.{machine_state_at};
     ghost use Rattle.rmeworld.specs.Advancing.{GoesOn};
     ghost use Rattle.rmeworld.specs.InPlace.{Works};
 
@@ -170,10 +170,11 @@ impl VariantWorld {
         &mut self,
         judge: &mut Judge,
         p: u64,
-    ) -> Result<(Made, Option<Answer>), Refusal>
+    ) -> Result<(MoveOutcome, Option<Answer>), Refusal>
         ensures accepted { OnOk result (advance_refusal self.old p ≡ None) }
         ensures refused { IfErr result (λ e. advance_refusal self.old p ≡ Some e) }
-        ensures told { (history : List DeedOf) → StandsAfter (empty 3 64) history judge.old → IfOk result (λ r. Told history (stepped self.old p).deed judge.new r.0) }
+        ensures told { (history : List DeedOf) → StandsAfter (empty 3 64) history judge.old
+            → IfOk result (λ r. Told history (stepped self.old p).deed judge.new r.0) }
         ensures ok { OnOk result (self.new ≡ advanced self.old p) }
         ensures err { OnErr result ((self.new ≡ self.old) × (judge.new ≡ judge.old)) }
     {
@@ -196,8 +197,8 @@ impl VariantWorld {
     #[inline(always)]
     pub(crate) fn job_next(&self, p: u64) -> Option<Access>
         ensures below { IfSome result (λ a. p < self.now.layout.procs) }
-        ensures plain { IfSome result (λ a. IsPlain (stand_at self.now.processes p)) }
-        ensures works { IfSome result (Works (stand_at self.now.processes p).stand) }
+        ensures plain { IfSome result (λ a. IsPlain (machine_state_at self.now.processes p)) }
+        ensures works { IfSome result (Works (machine_state_at self.now.processes p).machine_state) }
     {
         if p >= self.layout.procs {
             return None;
@@ -213,12 +214,13 @@ impl VariantWorld {
         judge: &mut Judge,
         p: u64,
         access: Access,
-    ) -> (Made, Option<Answer>)
+    ) -> (MoveOutcome, Option<Answer>)
         requires below { p < self.old.layout.procs }
-        requires plain { IsPlain (stand_at self.old.processes p) }
-        requires works { Works (stand_at self.old.processes p).stand access }
+        requires plain { IsPlain (machine_state_at self.old.processes p) }
+        requires works { Works (machine_state_at self.old.processes p).machine_state access }
         ensures accepted { advance_refusal self.old p ≡ None }
-        ensures told { (history : List DeedOf) → StandsAfter (empty 3 64) history judge.old → Told history (stepped self.old p).deed judge.new result.0 }
+        ensures told { (history : List DeedOf) → StandsAfter (empty 3 64) history judge.old
+            → Told history (stepped self.old p).deed judge.new result.0 }
         ensures ok { self.new ≡ advanced self.old p }
     {
         let found = load(&self.words, &self.cells, access.word());
@@ -233,9 +235,9 @@ impl VariantWorld {
     /// then. Leaves any other step to `take_step`, and answers false.
     // Inline: one call a step.
     #[inline(always)]
-    pub(crate) fn take_quiet_step(&mut self, p: u64) -> bool
+    pub(crate) fn take_silent_step(&mut self, p: u64) -> bool
         ensures accepted { IsTrue result → advance_refusal self.old p ≡ None }
-        ensures quiet { IsTrue result → ((stepped self.old p).deed ≡ None) × ((stepped self.old p).answer ≡ None) }
+        ensures silent { IsTrue result → ((stepped self.old p).deed ≡ None) × ((stepped self.old p).answer ≡ None) }
         ensures ok { IsTrue result → self.new ≡ advanced self.old p }
         ensures same { result ≡ false → self.new ≡ self.old }
     {
@@ -244,30 +246,30 @@ impl VariantWorld {
                 self.scan_on(p, scan, access);
                 true
             }
-            None => self.step_unheard(p),
+            None => self.step_unobserved(p),
         }
     }
 
-    /// As `take_quiet_step`, for a step that is none of a scan.
+    /// As `take_silent_step`, for a step that is none of a scan.
     // Inline: one call a step.
     #[inline(always)]
-    fn step_unheard(&mut self, p: u64) -> bool
+    fn step_unobserved(&mut self, p: u64) -> bool
         ensures accepted { IsTrue result → advance_refusal self.old p ≡ None }
-        ensures quiet { IsTrue result → ((stepped self.old p).deed ≡ None) × ((stepped self.old p).answer ≡ None) }
+        ensures silent { IsTrue result → ((stepped self.old p).deed ≡ None) × ((stepped self.old p).answer ≡ None) }
         ensures ok { IsTrue result → self.new ≡ advanced self.old p }
         ensures same { result ≡ false → self.new ≡ self.old }
     {
         if p >= self.layout.procs {
             return false;
         }
-        let Some(access) = self.processes[p as usize].next_quietly() else {
+        let Some(access) = self.processes[p as usize].next_silently() else {
             return false;
         };
-        if !puts_quietly(access) {
+        if !puts_silently(access) {
             return false;
         }
         let found = load(&self.words, &self.cells, access.word());
-        if !self.processes[p as usize].feed_quietly(found) {
+        if !self.processes[p as usize].feed_silently(found) {
             return false;
         }
         store(&mut self.words, &mut self.cells, access);
@@ -279,8 +281,8 @@ impl VariantWorld {
     #[inline(always)]
     fn scan(&self, p: u64) -> Option<(Scan, Access)>
         ensures below { IfSome result (λ r. p < self.now.layout.procs) }
-        ensures plain { IfSome result (λ r. IsPlain (stand_at self.now.processes p)) }
-        ensures goes_on { IfSome result (λ r. GoesOn (stand_at self.now.processes p).stand r.0 r.1) }
+        ensures plain { IfSome result (λ r. IsPlain (machine_state_at self.now.processes p)) }
+        ensures goes_on { IfSome result (λ r. GoesOn (machine_state_at self.now.processes p).machine_state r.0 r.1) }
     {
         if p >= self.layout.procs {
             return None;
@@ -293,10 +295,10 @@ impl VariantWorld {
     #[inline(always)]
     fn scan_on(&mut self, p: u64, scan: Scan, access: Access)
         requires below { p < self.old.layout.procs }
-        requires plain { IsPlain (stand_at self.old.processes p) }
-        requires goes_on { GoesOn (stand_at self.old.processes p).stand scan access }
+        requires plain { IsPlain (machine_state_at self.old.processes p) }
+        requires goes_on { GoesOn (machine_state_at self.old.processes p).machine_state scan access }
         ensures accepted { advance_refusal self.old p ≡ None }
-        ensures quiet { ((stepped self.old p).deed ≡ None) × ((stepped self.old p).answer ≡ None) }
+        ensures silent { ((stepped self.old p).deed ≡ None) × ((stepped self.old p).answer ≡ None) }
         ensures ok { self.new ≡ advanced self.old p }
     {
         let found = load(&self.words, &self.cells, access.word());
@@ -326,9 +328,9 @@ impl VariantWorld {
 impl VariantWorld {
     ghost use Rattle.redomail.specs.Layout.{size};
     ghost use Rattle.rmecore.specs.Machine.{place_of};
-    ghost use Rattle.rmeworld.specs.Errands.{Held};
+    ghost use Rattle.rmeworld.specs.ScriptStates.{Held};
     ghost use Rattle.crashlab.specs.VariantSeams.{with_variant_memory, with_process};
-    ghost use Rattle.crashlab.specs.VariantWorlds.{stand_at};
+    ghost use Rattle.crashlab.specs.VariantWorlds.{machine_state_at};
 
     /// The sizes of the world.
     pub fn layout(&self) -> Layout
@@ -349,7 +351,8 @@ impl VariantWorld {
     pub fn seam_process(&self, p: u64) -> Option<(Own, VariantMemory)>
         ensures some { IsSome result ↔ (p < self.now.layout.procs) }
         ensures own { IfSome result (λ r. slice_get self.now.words p ≡ Some r.0) }
-        ensures memory { IfSome result (λ r. with_variant_memory (stand_at self.now.processes p) r.1 ≡ stand_at self.now.processes p) }
+        ensures memory { IfSome result (λ r. with_variant_memory (machine_state_at self.now.processes p) r.1
+            ≡ machine_state_at self.now.processes p) }
     {
         if p >= self.layout.procs {
             return None;
@@ -377,7 +380,8 @@ impl VariantWorld {
     pub fn seam_set_process(&mut self, p: u64, own: Own, memory: &VariantMemory) -> bool
         ensures set { IsTrue result → self.new ≡ with_process self.old p own memory.now }
         ensures same { result ≡ false → self.new ≡ self.old }
-        ensures held { IsTrue result ↔ ((p < self.old.layout.procs) × Held memory.now.process.errand (place_of self.old.layout.procs p memory.now.process.stage)) }
+        ensures held { IsTrue result ↔ ((p < self.old.layout.procs)
+            × Held memory.now.process.script_state (place_of self.old.layout.procs p memory.now.process.stage)) }
     {
         if p >= self.layout.procs {
             return false;
@@ -413,8 +417,8 @@ impl Machine for VariantWorld {
         self.take_step(p)
     }
 
-    fn step_quietly(&mut self, p: u64) -> bool {
-        self.take_quiet_step(p)
+    fn step_silently(&mut self, p: u64) -> bool {
+        self.take_silent_step(p)
     }
 
     fn crash(&mut self, p: u64) -> Result<Deed, Refusal> {
@@ -424,7 +428,7 @@ impl Machine for VariantWorld {
     fn image(&self) -> Result<Image, Refusal> {
         Ok(Image {
             cap: self.layout.cap,
-            cells: Cells::new(self.cells.clone()?),
+            cells: DataWords::new(self.cells.clone()?),
             limit: self.limit,
             lock: Owns::new(self.words.clone()?),
             version: 2,

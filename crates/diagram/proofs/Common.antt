@@ -13,7 +13,7 @@ pub use Rattle.schedule.specs.declared.lines.line.Line.{Line}
 pub use Rattle.schedule.specs.declared.lines.line.Line.TheVariants.{Start, Step, Crash}
 pub use Rattle.schedule.specs.declared.replays.replay_fault.ReplayFault.{ReplayFault}
 pub use Rattle.schedule.specs.declared.replays.verdict.Verdict.{Verdict}
-pub use Rattle.schedule.specs.Hearings.{Bench, Hears, opened, bench}
+pub use Rattle.schedule.specs.RunningVerdicts.{RunningJudge, Hears, opened, running_judge}
 pub use Rattle.schedule.specs.Tapes.{WritesFront, Tape, Writes, Begins}
 pub use Rattle.schedule.specs.Plays.{halted}
 pub use Rattle.schedule.specs.Runs.{Part, deeds_of, did, told_of, Told, unless, Did}
@@ -23,12 +23,12 @@ pub use Rattle.schedule.specs.Verdicts.{verdict_on}
 pub use Rattle.schedule.proofs.Heard.{hears_both, hears_none}
 pub use Rattle.schedule.proofs.Playing.{begins_further, begins_wider, begins_nothing, deeds_append, deeds_told, start_part, step_part, crash_part, is_refused}
 pub use Rattle.diagram.specs.declared.act.Act.{Act}
-pub use Rattle.diagram.specs.declared.act.Row.{Row}
+pub use Rattle.diagram.specs.declared.act.DiagramRow.{DiagramRow}
 pub use Rattle.diagram.specs.declared.drawing.End.{End}
 pub use Rattle.diagram.specs.declared.drawing.End.TheVariants.{Judged, Refused}
-pub use Rattle.diagram.specs.declared.phase.Phase.{Phase}
-pub use Rattle.diagram.specs.declared.phase.Phase.TheVariants.{Rest, Doorway, Waiting, Section, Dead}
-pub use Rattle.diagram.specs.declared.stop.Stop.{Stop}
+pub use Rattle.diagram.specs.declared.phase.LifelinePhase.{LifelinePhase}
+pub use Rattle.diagram.specs.declared.phase.LifelinePhase.TheVariants.{Rest, Doorway, Waiting, Section, Dead}
+pub use Rattle.diagram.specs.declared.stop.DiagramStop.{DiagramStop}
 pub use Rattle.diagram.specs.Columns.{spaces, columns, head, heads, bars}
 pub use Rattle.diagram.specs.Drawings.{Spells, row_spelled, rows_spelled, top_in, end_in}
 pub use Rattle.diagram.specs.Events.{Event, Took, told_in, Fell, told_by}
@@ -36,5 +36,5 @@ unfoldable pub use Rattle.diagram.specs.Events.{steps_of, events_of, events_on}
 pub use Rattle.diagram.specs.Followed.{Ending, Follows, IsAllFollowed, row_of, row_told, phases_with, phases_behind, rows_told, followed, Tells}
 pub use Rattle.diagram.specs.Pictures.{around, key, class_of, lifeline_tops}
 unfoldable pub use Rattle.diagram.specs.Pictures.{keys, key_name, measured, line_looks, text_looks, step_mark, lifeline}
-pub use Rattle.diagram.specs.Rows.{events_in, PlaysOn, EndsAs, IsEndOf, IsJudged, events_shown, quiet, deed_of, stopped, Adds, Plays}
-pub use Rattle.diagram.specs.Sheets.{PenState, layout_of, pen_with}
+pub use Rattle.diagram.specs.Rows.{events_in, PlaysOn, EndsAs, IsEndOf, IsJudged, events_shown, silent_step, deed_of, stopped, Adds, Plays}
+pub use Rattle.diagram.specs.DiagramLayouts.{LifelineStateState, layout_of, lifeline_state_with}

@@ -2,7 +2,7 @@
 use Rattle.std.proofs.Common.{◌≡◌, ℕ, List, [], Result, Ok, Err, ◌∙◌}
 use Rattle.diagram.proofs.Common.{Refusal, State, Verdict, Part, deeds_of, verdict_on, Row, End, Stop, Event, events_in, PlaysOn, EndsAs, IsEndOf, IsJudged}
 use Rattle.diagram.specs.declared.drawing.End.TheVariants as ends
-use Rattle.diagram.specs.declared.stop.Stop.TheVariants as stops
+use Rattle.diagram.specs.declared.stop.DiagramStop.TheVariants as stops
 
 pub record Drawn {S : Type 0} (now : List Row) (events : List Event) (run : Part S (ℕ × Refusal)) (s : S) (verdict : Verdict) (end : End) : Type 0 where
   pub shows : events_in now ≡ events
@@ -12,9 +12,9 @@ pub record Drawn {S : Type 0} (now : List Row) (events : List Event) (run : Part
 pub drawn : {S A : Type 0} (now : List Row) (events : List Event) (run : Part S (ℕ × Refusal)) (s : S) (verdict : Verdict) (r : Result A (ℕ × Stop)) (end : End)
     → PlaysOn [] now events run s r → IsEndOf r verdict end → Drawn now events run s verdict end
 drawn now events run s verdict (Ok x) (ends.Judged said) played is = record { shows = played.0; stands = λ judged. played.2; ends_so = λ start ruled. (played.1, is ∙ ruled) }
-drawn now events run s verdict (Ok x) (ends.Refused at why said) played is = absurd is
+drawn now events run s verdict (Ok x) (ends.Refused at purpose said) played is = absurd is
 drawn now events run s verdict (Err (line, stops.Refused number)) (ends.Judged said) played is = absurd is
-drawn now events run s verdict (Err (line, stops.Refused number)) (ends.Refused at why said) played is =
+drawn now events run s verdict (Err (line, stops.Refused number)) (ends.Refused at purpose said) played is =
     record { shows = played.0; stands = λ judged. absurd judged; ends_so = λ start ruled. (rw (is.0, is.1) played.1, is.2 ∙ ruled) }
 drawn now events run s verdict (Err (line, stops.OutOfMemory)) (ends.Judged said) played is = absurd is
-drawn now events run s verdict (Err (line, stops.OutOfMemory)) (ends.Refused at why said) played is = absurd is
+drawn now events run s verdict (Err (line, stops.OutOfMemory)) (ends.Refused at purpose said) played is = absurd is

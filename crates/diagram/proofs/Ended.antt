@@ -54,7 +54,7 @@ steps_end t u v start image_of run s steps (Judged verdict) (Err faults.Write) w
     (begins_end t u v start image_of run s steps verdict written h.0 ends.0 ends.1 (left tt), rw (← written.fine) h.1)
 steps_end t u v start image_of run s steps (Judged verdict) (Err faults.OutOfMemory) written h ends left =
     (begins_end t u v start image_of run s steps verdict written h.0 ends.0 ends.1 (left tt), h.1 ∙ written.fine)
-steps_end t u v start image_of run s steps (Refused line number verdict) (Err (faults.Refused at why)) written h ends left =
+steps_end t u v start image_of run s steps (Refused line number verdict) (Err (faults.Refused at purpose)) written h ends left =
     (record { taken = h.2.taken ∙ append-nil u.taken ∙ written.taken; fine = h.2.fine ∙ written.fine }, rw (h.0, h.1) ends.0)
 steps_end t u v start image_of run s steps (Refused line number verdict) (Err faults.Write) written h ends left = (
   λ text all.

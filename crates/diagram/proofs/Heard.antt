@@ -1,18 +1,18 @@
 -- Rows whose deeds are judged one after another.
 use Rattle.std.proofs.Common.{◌≡◌, ℕ, zero, suc, List, [], ◌∷◌, ◌++◌, refl, ap, ◌∙◌}
-use Rattle.diagram.proofs.Common.{replicate, append-nil, flat_map-cons, flat_map-append, Happened, Deed, Bench, Hears, deeds_of, did, told_of, hears_both, deeds_append, deeds_told, Act, Row, Event}
-use Rattle.diagram.proofs.Common.{Took, told_in, events_in, events_shown, quiet, deed_of}
-use Rattle.diagram.specs.declared.act.Act.TheVariants.{Quiet, Telling, Fell}
+use Rattle.diagram.proofs.Common.{replicate, append-nil, flat_map-cons, flat_map-append, Happened, Deed, RunningJudge, Hears, deeds_of, did, told_of, hears_both, deeds_append, deeds_told, Act, Row, Event}
+use Rattle.diagram.proofs.Common.{Took, told_in, events_in, events_shown, silent_step, deed_of}
+use Rattle.diagram.specs.declared.act.Act.TheVariants.{Silent, Telling, Fell}
 use Rattle.diagram.specs.Events as events
 use Rattle.diagram.proofs.Telling.{told_cons, told_append}
 
-quiet_tells : (p : ℕ) (happened : Happened) (times : ℕ) → told_in (replicate times (Took p (quiet happened))) ≡ []
-quiet_tells p happened zero = refl
-quiet_tells p happened (suc n) = told_cons (Took p (quiet happened)) (replicate n (Took p (quiet happened))) ∙ quiet_tells p happened n
+silent_tells : (p : ℕ) (happened : Happened) (times : ℕ) → told_in (replicate times (Took p (silent_step happened))) ≡ []
+silent_tells p happened zero = refl
+silent_tells p happened (suc n) = told_cons (Took p (silent_step happened)) (replicate n (Took p (silent_step happened))) ∙ silent_tells p happened n
 
 -- a row reports its deed
 pub row_deeds : (p : ℕ) (act : Act) → deeds_of (told_in (events_shown p act)) ≡ deeds_of (did (deed_of act))
-row_deeds p (Quiet happened times) = ap deeds_of (quiet_tells p happened times)
+row_deeds p (Silent happened times) = ap deeds_of (silent_tells p happened times)
 row_deeds p (Telling step) =
     ap deeds_of (told_cons (Took p step) []) ∙ deeds_append (told_of p step.deed step.answer) [] ∙ append-nil (deeds_of (told_of p step.deed step.answer)) ∙ deeds_told p step.deed step.answer
 row_deeds p (Fell deed) = ap deeds_of (told_cons (events.Fell p deed) [])
@@ -26,7 +26,7 @@ events_last rows row =
     (flat_map-cons (λ row. events_shown row.p row.act) row [] ∙ append-nil (events_shown row.p row.act))
 
 -- one more row is judged
-pub hears_row : (first mid now : Bench) (rows : List Row) (row : Row) → Hears first (deeds_of (told_in (events_in rows))) mid → Hears mid (deeds_of (did (deed_of row.act))) now
+pub hears_row : (first mid now : RunningJudge) (rows : List Row) (row : Row) → Hears first (deeds_of (told_in (events_in rows))) mid → Hears mid (deeds_of (did (deed_of row.act))) now
     → Hears first (deeds_of (told_in (events_in (rows ++ row ∷ [])))) now
 hears_row first mid now rows row before one =
     let deeds : deeds_of (told_in (events_in (rows ++ row ∷ []))) ≡ deeds_of (told_in (events_in rows)) ++ deeds_of (did (deed_of row.act)) =

@@ -1,14 +1,14 @@
 -- Parts of a run that are shown one after another.
 use Rattle.std.proofs.Common.{◌≡◌, ℕ, suc, ◌+◌, true, false, is_some, List, [], ◌∷◌, ◌++◌, Option, Some, None, Result, Ok, Err, refl, sym, ap, ◌∙◌, append_assoc, ◌⊎◌, inl, inr, length, take, get_or, set, arith}
 use Rattle.diagram.proofs.Common.{replicate, length-set, append-nil, take_more, take_more_set, take_all, Happened, Refusal, Deed, Line, Start, Step, Crash, Part, Told, Behaviour, unless, steps}
-use Rattle.diagram.proofs.Common.{line_on, run_on, Row, Stop, Event, Took, Fell, steps_of, events_of, events_on, events_in, PlaysOn, events_shown, quiet, stopped, Adds, Plays}
+use Rattle.diagram.proofs.Common.{line_on, run_on, Row, Stop, Event, Took, Fell, steps_of, events_of, events_on, events_in, PlaysOn, events_shown, silent_step, stopped, Adds, Plays}
 use Rattle.std.proofs.lemmas.Grind.{replicate_next}
 use Rattle.rmecore.specs.declared.refusal.Refusal.TheVariants as refusals
 use Rattle.rmecore.specs.Refused.{number_of}
 use Rattle.rmeworld.specs.declared.call.Call.{Call}
 use Rattle.rmeworld.specs.declared.stepped.Stepped.{Stepped}
 use Rattle.diagram.specs.declared.act.Act.TheVariants as acts
-use Rattle.diagram.specs.declared.stop.Stop.TheVariants.{Refused, OutOfMemory}
+use Rattle.diagram.specs.declared.stop.DiagramStop.TheVariants.{Refused, OutOfMemory}
 use Rattle.diagram.proofs.Heard.{events_last}
 
 -- what was still to be shown is shown
@@ -29,10 +29,10 @@ shown_some mid now es after rest all still note e =
 -- a part that is refused before anything of it is shown, or that is out of memory
 pub refused_plays : {S : Type 0} (rows now : List Row) (es : List Event) (o : Option Refusal) (left s : S) (e : Refusal) → (e ≡ refusals.OutOfMemory) ⊎ (o ≡ Some e)
     → (o ≡ Some e → es ≡ []) → now ≡ rows → Plays {S = S} {A = Unit {0}} rows now es o left s (Err (stopped (number_of e)))
-refused_plays {S = S} rows now es o left s e why silent same = by (number_of e) refl why
+refused_plays {S = S} rows now es o left s e purpose silent same = by (number_of e) refl purpose
   where
     by : (n : Option ℕ) → number_of e ≡ n → (e ≡ refusals.OutOfMemory) ⊎ (o ≡ Some e) → Plays {S = S} {A = Unit {0}} rows now es o left s (Err (stopped n))
-    by None is why = tt
+    by None is purpose = tt
     by (Some number) is (inl memory) = absurd (let no : number_of refusals.OutOfMemory ≡ Some number = ap number_of (sym memory) ∙ is in cc)
     by (Some number) is (inr refused) =
         (rw (same, silent refused) (sym (append-nil (events_in rows))), (e, refused, is))
@@ -58,15 +58,15 @@ plays_noted first now all o left s (Err (Refused number)) p deed told adds e sam
 plays_noted first now all o left s (Err OutOfMemory) p deed told adds e same accepted is = tt
 
 -- a row is counted once more
-pub counted : (rows now : List Row) (i n p : ℕ) (happened : Happened) (row : Row) → length rows ≡ i + 1 → get_or rows i row ≡ row → row ≡ record { p = p; act = acts.Quiet happened n }
-    → now ≡ set rows i (record { p = p; act = acts.Quiet happened (n + 1) }) → events_in now ≡ events_in rows ++ Took p (quiet happened) ∷ []
+pub counted : (rows now : List Row) (i n p : ℕ) (happened : Happened) (row : Row) → length rows ≡ i + 1 → get_or rows i row ≡ row → row ≡ record { p = p; act = acts.Silent happened n }
+    → now ≡ set rows i (record { p = p; act = acts.Silent happened (n + 1) }) → events_in now ≡ events_in rows ++ Took p (silent_step happened) ∷ []
 counted rows now i n p happened row long at is changed =
     let before : rows ≡ take i rows ++ row ∷ [] =
     sym (take_all (i + 1) rows (omega (arith, long))) ∙ take_more rows i row (omega (arith, long)) ∙ ap (λ (r : Row). take i rows ++ r ∷ []) at in
-    let again : Row = record { p = p; act = acts.Quiet happened (n + 1) } in
+    let again : Row = record { p = p; act = acts.Silent happened (n + 1) } in
     let after : now ≡ take i rows ++ again ∷ [] =
     changed ∙ sym (take_all (i + 1) (set rows i again) (omega (arith, long, length-set rows i again))) ∙ take_more_set rows i again (omega (arith, long)) in
-    let x : Event = Took p (quiet happened) in
+    let x : Event = Took p (silent_step happened) in
     let old : events_in rows ≡ events_in (take i rows) ++ replicate n x = ap events_in before ∙ events_last (take i rows) row ∙ ap (λ (r : Row). events_in (take i rows) ++ events_shown r.p r.act) is in
     ap events_in after ∙ events_last (take i rows) again ∙ ap (λ (es : List Event). events_in (take i rows) ++ es) (replicate_next n x)
     ∙ sym (append_assoc (events_in (take i rows)) (replicate n x) (x ∷ [])) ∙ ap (λ (es : List Event). es ++ x ∷ []) (sym old)

@@ -1,6 +1,6 @@
 -- Rows that are written one after another.
 use Rattle.std.proofs.Common.{◌≡◌, ℕ, zero, suc, List, [], ◌∷◌, ◌++◌, map, refl, sym, ap, ◌∙◌, append_assoc}
-use Rattle.diagram.proofs.Common.{replicate, flat_map-cons, Happened, Row, Phase, Event, Took, row_of, row_told, phases_with, phases_behind, rows_told, followed, events_in, events_shown, quiet}
+use Rattle.diagram.proofs.Common.{replicate, flat_map-cons, Happened, Row, Phase, Event, Took, row_of, row_told, phases_with, phases_behind, rows_told, followed, events_in, events_shown, silent_step}
 use Rattle.redomail.specs.declared.layout.Layout.{Layout}
 use Rattle.diagram.specs.declared.act.Act.TheVariants as acts
 
@@ -18,9 +18,9 @@ rows_both [] fs = refl
 rows_both (e ∷ es) fs = ap (λ (rows : List Row). row_of e ∷ rows) (rows_both es fs)
 
 -- a step that is taken again and again
-pub again_and_again : (p n : ℕ) (happened : Happened) → replicate n (record { p = p; act = acts.Quiet happened 1 }) ≡ map row_of (replicate n (Took p (quiet happened)))
+pub again_and_again : (p n : ℕ) (happened : Happened) → replicate n (record { p = p; act = acts.Silent happened 1 }) ≡ map row_of (replicate n (Took p (silent_step happened)))
 again_and_again p zero happened = refl
-again_and_again p (suc n) happened = ap (λ (rows : List Row). record { p = p; act = acts.Quiet happened 1 } ∷ rows) (again_and_again p n happened)
+again_and_again p (suc n) happened = ap (λ (rows : List Row). record { p = p; act = acts.Silent happened 1 } ∷ rows) (again_and_again p n happened)
 
 -- what a row shows, and what the rows after it show
 pub followed_more : (l : Layout) (phases : List Phase) (row : Row) (rows : List Row)

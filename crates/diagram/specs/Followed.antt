@@ -18,12 +18,12 @@ use Rattle.schedule.specs.Runs.{Part, deeds_of}
 use Rattle.schedule.specs.Verdicts.{verdict_on}
 use Rattle.diagram.specs.declared.act.Act.{Act}
 use Rattle.diagram.specs.declared.act.Act.TheVariants as acts
-use Rattle.diagram.specs.declared.act.Row.{Row}
+use Rattle.diagram.specs.declared.act.DiagramRow.{DiagramRow}
 use Rattle.diagram.specs.declared.drawing.End.{End}
 use Rattle.diagram.specs.declared.drawing.End.TheVariants.{Judged}
 use Rattle.diagram.specs.declared.drawing.End.TheVariants as ends
-use Rattle.diagram.specs.declared.phase.Phase.{Phase}
-use Rattle.diagram.specs.declared.phase.Phase.TheVariants.{Rest}
+use Rattle.diagram.specs.declared.phase.LifelinePhase.{LifelinePhase}
+use Rattle.diagram.specs.declared.phase.LifelinePhase.TheVariants.{Rest}
 use Rattle.diagram.specs.Drawings.{Spells}
 use Rattle.diagram.specs.Events.{Event, Took, Fell}
 use Rattle.diagram.specs.Phases.{phase_shown, with_phase}
@@ -34,11 +34,11 @@ use Rattle.diagram.specs.Signs.{sign}
 
 -- a step as it is drawn in a row
 abbrev pub act_of_step : Option Deed → Option Answer → Stepped → Act
-act_of_step None None step = acts.Quiet step.happened 1
+act_of_step None None step = acts.Silent step.happened 1
 act_of_step deed answer step = acts.Telling step
 
 -- an event as a row of its own
-abbrev pub row_of : Event → Row
+abbrev pub row_of : Event → DiagramRow
 row_of (Took p step) = record { p = p; act = act_of_step step.deed step.answer step }
 row_of (Fell p deed) = record { p = p; act = acts.Fell deed }
 
@@ -48,36 +48,36 @@ access_of l p (acts.Fell deed) = []
 access_of l p act = 32 ∷ sign l p act
 
 -- the phase of a row's process, and what the row reads or writes
-unfoldable pub place_line : Layout → List Phase → Row → List ℕ
+unfoldable pub place_line : Layout → List LifelinePhase → DiagramRow → List ℕ
 place_line l phases row =
     around (codes "at ") row.p (codes " ") ++ class_of (get_or phases row.p Rest) ++ access_of l row.p row.act ++ 10 ∷ []
 
 -- a row, after which the processes are in these phases
-unfoldable pub row_told : Layout → List Phase → Row → List ℕ
+unfoldable pub row_told : Layout → List LifelinePhase → DiagramRow → List ℕ
 row_told l phases row = place_line l phases row ++ told_by row.p row.act
 
 -- ---- a run
 
 -- the phases after a row
-abbrev pub phases_with : List Phase → Row → List Phase
+abbrev pub phases_with : List LifelinePhase → DiagramRow → List LifelinePhase
 phases_with phases row = with_phase phases row.p (phase_shown row.act)
 
 -- the phases of the processes after rows
-abbrev pub phases_behind : List Phase → List Row → List Phase
+abbrev pub phases_behind : List LifelinePhase → List DiagramRow → List LifelinePhase
 phases_behind phases [] = phases
 phases_behind phases (row ∷ rows) = phases_behind (phases_with phases row) rows
 
 -- rows, one after the other
-abbrev pub rows_told : Layout → List Phase → List Row → List ℕ
+abbrev pub rows_told : Layout → List LifelinePhase → List DiagramRow → List ℕ
 rows_told l phases [] = []
 rows_told l phases (row ∷ rows) = row_told l (phases_with phases row) row ++ rows_told l (phases_with phases row) rows
 
 -- the steps and crashes of a run
-abbrev pub followed : Layout → List Phase → List Event → List ℕ
+abbrev pub followed : Layout → List LifelinePhase → List Event → List ℕ
 followed l phases events = rows_told l phases (map row_of events)
 
 -- rows are written, and the phases after them are left; or a beginning is written, and the reason why not the rest
-abbrev pub Tells : {A : Type 0} → Tape → Tape → Layout → List Phase → List Phase → List Row → Result A ReplayFault → Type 0
+abbrev pub Tells : {A : Type 0} → Tape → Tape → Layout → List LifelinePhase → List LifelinePhase → List DiagramRow → Result A ReplayFault → Type 0
 Tells before now l phases behind rows result = Spells before now (rows_told l phases rows) result × OnOk result (behind ≡ phases_behind phases rows)
 
 -- ---- the whole
@@ -89,7 +89,7 @@ Ending before now image (Judged verdict) (Err Write) =
     ((end : List ℕ) → IsEnd image verdict end → Begins before.taken now.taken end) × (now.failures ≡ min (before.failures + 1) (2 ^ 64 - 1))
 Ending before now image (Judged verdict) (Err OutOfMemory) =
     ((end : List ℕ) → IsEnd image verdict end → Begins before.taken now.taken end) × (now.failures ≡ before.failures)
-Ending before now image (ends.Refused line number verdict) (Err (Refused at why)) = (at ≡ line) × (why ≡ number) × Writes before now []
+Ending before now image (ends.Refused line number verdict) (Err (Refused at purpose)) = (at ≡ line) × (purpose ≡ number) × Writes before now []
 Ending before now image (ends.Refused line number verdict) (Err Write) =
     (now.taken ≡ before.taken) × (now.failures ≡ min (before.failures + 1) (2 ^ 64 - 1))
 Ending before now image end result = ⊥

@@ -2,7 +2,7 @@ pub mod Events
 pub mod Rows
 pub mod Phases
 pub mod Signs
-pub mod Sheets
+pub mod DiagramLayouts
 pub mod Columns
 pub mod Pictures
 pub mod Drawings

@@ -6,12 +6,12 @@ use Rattle.rmecore.specs.declared.outer.Outer.TheVariants as outers
 use Rattle.redomail.specs.declared.deed.Deed.{Deed}
 use Rattle.redomail.specs.declared.deed.Deed.TheVariants as deeds
 use Rattle.diagram.specs.declared.act.Act.{Act}
-use Rattle.diagram.specs.declared.act.Act.TheVariants.{Quiet, Telling, Fell}
-use Rattle.diagram.specs.declared.phase.Phase.{Phase}
-use Rattle.diagram.specs.declared.phase.Phase.TheVariants.{Rest, Doorway, Waiting, Section, Dead}
+use Rattle.diagram.specs.declared.act.Act.TheVariants.{Silent, Telling, Fell}
+use Rattle.diagram.specs.declared.phase.LifelinePhase.{LifelinePhase}
+use Rattle.diagram.specs.declared.phase.LifelinePhase.TheVariants.{Rest, Doorway, Waiting, Section, Dead}
 
 -- the phase that a deed leads to. A deed of the mailbox is done in the section
-abbrev pub phase_of_deed : Deed → Phase
+abbrev pub phase_of_deed : Deed → LifelinePhase
 phase_of_deed (deeds.Outer (outers.Begin p)) = Doorway
 phase_of_deed (deeds.Outer (outers.Ready p)) = Waiting
 phase_of_deed (deeds.Outer (outers.Enter p)) = Section
@@ -23,7 +23,7 @@ phase_of_deed deed = Section
 
 -- the phase that a step without a deed shows by its kind: it is a step of the doorway, of waiting, or of the section, or the
 -- last of an exit. After a crash it shows where the process goes on
-abbrev pub phase_of_kind : Kind → Option Phase
+abbrev pub phase_of_kind : Kind → Option LifelinePhase
 phase_of_kind kinds.Peek = Some Doorway
 phase_of_kind kinds.Shut = Some Waiting
 phase_of_kind kinds.Look = Some Waiting
@@ -34,23 +34,23 @@ phase_of_kind kinds.Mark = Some Rest
 phase_of_kind kind = None
 
 -- the same for a step that ends a call: a recover ends at rest
-abbrev pub phase_of_last : Kind → Option Phase
+abbrev pub phase_of_last : Kind → Option LifelinePhase
 phase_of_last kinds.Reread = Some Rest
 phase_of_last kinds.Shut = Some Rest
 phase_of_last kind = phase_of_kind kind
 
 -- the phase that a step shows which has a deed or ends a call
-abbrev pub phase_of_telling : Option Deed → Kind → Option Phase
+abbrev pub phase_of_telling : Option Deed → Kind → Option LifelinePhase
 phase_of_telling (Some deed) kind = Some (phase_of_deed deed)
 phase_of_telling None kind = phase_of_last kind
 
 -- the phase that a row shows of its process, if it shows one
-abbrev pub phase_shown : Act → Option Phase
-phase_shown (Quiet happened times) = phase_of_kind happened.kind
+abbrev pub phase_shown : Act → Option LifelinePhase
+phase_shown (Silent happened times) = phase_of_kind happened.kind
 phase_shown (Telling step) = phase_of_telling step.deed step.happened.kind
 phase_shown (Fell deed) = Some Dead
 
 -- the phases of all processes after a row of p
-abbrev pub with_phase : List Phase → ℕ → Option Phase → List Phase
+abbrev pub with_phase : List LifelinePhase → ℕ → Option LifelinePhase → List LifelinePhase
 with_phase phases p None = phases
 with_phase phases p (Some phase) = slice_set phases p phase

@@ -9,10 +9,10 @@ use Rattle.schedule.specs.Reports.{told_line, told_text}
 use Rattle.schedule.specs.Runs.{Did, Answered, told_of}
 use Rattle.diagram.specs.declared.act.Act.{Act}
 use Rattle.diagram.specs.declared.act.Act.TheVariants.{Fell}
-use Rattle.diagram.specs.declared.act.Row.{Row}
+use Rattle.diagram.specs.declared.act.DiagramRow.{DiagramRow}
 use Rattle.diagram.specs.declared.drawing.End.{End}
-use Rattle.diagram.specs.declared.phase.Phase.{Phase}
-use Rattle.diagram.specs.declared.phase.Phase.TheVariants.{Rest, Doorway, Waiting, Section, Dead}
+use Rattle.diagram.specs.declared.phase.LifelinePhase.{LifelinePhase}
+use Rattle.diagram.specs.declared.phase.LifelinePhase.TheVariants.{Rest, Doorway, Waiting, Section, Dead}
 use Rattle.diagram.specs.Columns.{end_line}
 use Rattle.diagram.specs.Phases.{phase_shown}
 use Rattle.diagram.specs.Rows.{deed_of, answer_of}
@@ -47,7 +47,7 @@ abbrev pub around : List ℕ → ℕ → List ℕ → List ℕ
 around before n after = before ++ decimal n ++ after
 
 -- the name of a phase, which is the class of its colour
-abbrev pub class_of : Phase → List ℕ
+abbrev pub class_of : LifelinePhase → List ℕ
 class_of Rest = codes "rest"
 class_of Doorway = codes "doorway"
 class_of Waiting = codes "waiting"
@@ -55,11 +55,11 @@ class_of Section = codes "section"
 class_of Dead = codes "dead"
 
 -- a lifeline downward from here, in the colour of a phase
-unfoldable pub lifeline : Phase → ℕ → List ℕ
+unfoldable pub lifeline : LifelinePhase → ℕ → List ℕ
 lifeline phase long = codes "<rect class='" ++ class_of phase ++ around (codes "' x='-4.5' y='.5' width='9' height='") long (codes "'/>")
 
 -- such a lifeline, if there is a phase
-abbrev pub lifeline_if : Option Phase → ℕ → List ℕ
+abbrev pub lifeline_if : Option LifelinePhase → ℕ → List ℕ
 lifeline_if None long = []
 lifeline_if (Some phase) long = lifeline phase long
 
@@ -78,7 +78,7 @@ abbrev pub told_by : ℕ → Act → List ℕ
 told_by p act = told_text (told_of p (deed_of act) (answer_of act))
 
 -- the title of a row, which a viewer shows where the reader points at it
-unfoldable pub row_title : Layout → Row → List ℕ
+unfoldable pub row_title : Layout → DiagramRow → List ℕ
 row_title l row = around (codes "<title>process ") row.p (codes " ") ++ sign l row.p row.act ++ 10 ∷ (told_by row.p row.act ++ codes "</title>")
 
 -- the dot of a step, with its access
@@ -123,15 +123,15 @@ flag marked far =
     else []
 
 -- the part of a row at the lifeline of its process, with this much room below it
-unfoldable pub left_of : Layout → Row → ℕ → List ℕ
+unfoldable pub left_of : Layout → DiagramRow → ℕ → List ℕ
 left_of l row below = row_title l row ++ lifeline_if (phase_shown row.act) below ++ mark l row.p row.act
 
 -- the part of a row at its right
-unfoldable pub right_of : Row → ℕ → Bool → List ℕ
+unfoldable pub right_of : DiagramRow → ℕ → Bool → List ℕ
 right_of row far marked = join (deed_of row.act) far ++ margin far row.p (deed_of row.act) (answer_of row.act) ++ flag marked far
 
 -- a row at this height
-abbrev pub row_picture : Layout → ℕ → ℕ → Bool → Row → List ℕ
+abbrev pub row_picture : Layout → ℕ → ℕ → Bool → DiagramRow → List ℕ
 row_picture l y below marked row =
     group_at (x_of row.p) y ++ left_of l row below ++ right_of row (far_from l.procs row.p) marked ++ group_end
 
@@ -164,11 +164,11 @@ paper =
     ++ codes "<rect x='3' width='2' height='2'/></pattern></defs><rect width='100%' height='100%' fill='#fff'/>" ++ 10 ∷ []
 
 -- the name of a colour in the key
-unfoldable pub key_name : Phase → List ℕ
+unfoldable pub key_name : LifelinePhase → List ℕ
 key_name phase = codes "<text x='10' y='12'>" ++ class_of phase ++ codes "</text>"
 
 -- what a colour means
-unfoldable pub key : ℕ → Phase → List ℕ
+unfoldable pub key : ℕ → LifelinePhase → List ℕ
 key x phase = group_at x 30 ++ lifeline phase 14 ++ key_name phase ++ group_end
 
 -- the key: what the colours, the cross and the ring mean
@@ -187,11 +187,11 @@ unfoldable pub lifeline_name : ℕ → List ℕ
 lifeline_name p = around (codes "<title>process ") p (around (codes "</title><text class='p' text-anchor='middle' y='-8'>") p (codes "</text>"))
 
 -- the top of a lifeline of a process
-unfoldable pub lifeline_top : ℕ → Phase → ℕ → List ℕ
+unfoldable pub lifeline_top : ℕ → LifelinePhase → ℕ → List ℕ
 lifeline_top p phase long = group_at (x_of p) 80 ++ lifeline_name p ++ lifeline phase long ++ group_end
 
 -- those of the processes from p on
-abbrev pub lifeline_tops : ℕ → ℕ → List Phase → List ℕ
+abbrev pub lifeline_tops : ℕ → ℕ → List LifelinePhase → List ℕ
 lifeline_tops long p [] = []
 lifeline_tops long p (phase ∷ phases) = lifeline_top p phase long ++ lifeline_tops long (p + 1) phases
 
@@ -202,7 +202,7 @@ mailbox_top x long =
     ++ group_end
 
 -- the part above the rows
-abbrev pub top_picture : ℕ → ℕ → List Phase → List ℕ
+abbrev pub top_picture : ℕ → ℕ → List LifelinePhase → List ℕ
 top_picture procs bottom phases =
     head_picture (x_of procs + 300) (held (bottom + 40)) ++ mailbox_top (x_of procs) (bottom - 80) ++ lifeline_tops (bottom - 80) 0 phases
 

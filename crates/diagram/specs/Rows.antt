@@ -13,55 +13,55 @@ use Rattle.schedule.specs.declared.replays.verdict.Verdict.{Verdict}
 use Rattle.schedule.specs.Runs.{Part, deeds_of}
 use Rattle.schedule.specs.Verdicts.{verdict_on}
 use Rattle.diagram.specs.declared.act.Act.{Act}
-use Rattle.diagram.specs.declared.act.Act.TheVariants.{Quiet, Telling, Fell}
-use Rattle.diagram.specs.declared.act.Row.{Row}
-use Rattle.diagram.specs.declared.stop.Stop.{Stop}
-use Rattle.diagram.specs.declared.stop.Stop.TheVariants as stops
+use Rattle.diagram.specs.declared.act.Act.TheVariants.{Silent, Telling, Fell}
+use Rattle.diagram.specs.declared.act.DiagramRow.{DiagramRow}
+use Rattle.diagram.specs.declared.stop.DiagramStop.{DiagramStop}
+use Rattle.diagram.specs.declared.stop.DiagramStop.TheVariants as stops
 use Rattle.diagram.specs.declared.drawing.End.{End}
 use Rattle.diagram.specs.declared.drawing.End.TheVariants as ends
 use Rattle.diagram.specs.Events.{Event, Took}
 use Rattle.diagram.specs.Events as events
 
 -- a silent step: it has no deed and ends no call
-abbrev pub quiet : Happened → Stepped
-quiet happened = record { happened = happened; deed = None; answer = None }
+abbrev pub silent_step : Happened → Stepped
+silent_step happened = record { happened = happened; deed = None; answer = None }
 
 -- the events that a row shows. A silent step is shown as often as it was taken
 abbrev pub events_shown : ℕ → Act → List Event
-events_shown p (Quiet happened times) = replicate times (Took p (quiet happened))
+events_shown p (Silent happened times) = replicate times (Took p (silent_step happened))
 events_shown p (Telling step) = Took p step ∷ []
 events_shown p (Fell deed) = events.Fell p deed ∷ []
 
 -- the events that rows show
-abbrev pub events_in : List Row → List Event
+abbrev pub events_in : List DiagramRow → List Event
 events_in rows = flat_map (λ row. events_shown row.p row.act) rows
 
 -- the deed of a row, if it has one
 abbrev pub deed_of : Act → Option Deed
-deed_of (Quiet happened times) = None
+deed_of (Silent happened times) = None
 deed_of (Telling step) = step.deed
 deed_of (Fell deed) = Some deed
 
 -- the answer of the call that a row ends, if it ends one
 abbrev pub answer_of : Act → Option Answer
-answer_of (Quiet happened times) = None
+answer_of (Silent happened times) = None
 answer_of (Telling step) = step.answer
 answer_of (Fell deed) = None
 
 -- the refusal OutOfMemory has no number
-abbrev pub stopped : Option ℕ → Stop
+abbrev pub stopped : Option ℕ → DiagramStop
 stopped None = stops.OutOfMemory
 stopped (Some number) = stops.Refused number
 
 -- how a part of a run was played: all of it, or up to a refusal. Of out of memory nothing is said
-abbrev pub Plays : {S A : Type 0} → List Row → List Row → List Event → Option Refusal → S → S → Result A Stop → Type 0
+abbrev pub Plays : {S A : Type 0} → List DiagramRow → List DiagramRow → List Event → Option Refusal → S → S → Result A DiagramStop → Type 0
 Plays before now events refused left s (Ok x) = (events_in now ≡ events_in before ++ events) × (refused ≡ None) × (s ≡ left)
 Plays before now events refused left s (Err (stops.Refused number)) =
     (events_in now ≡ events_in before ++ events) × ((refusal : Refusal) × (refused ≡ Some refusal) × (number_of refusal ≡ Some number))
 Plays before now events refused left s (Err stops.OutOfMemory) = Unit {0}
 
 -- how the lines of a run were played, and the machine after all of them
-abbrev pub PlaysOn : {S A : Type 0} → List Row → List Row → List Event → Part S (ℕ × Refusal) → S → Result A (ℕ × Stop) → Type 0
+abbrev pub PlaysOn : {S A : Type 0} → List DiagramRow → List DiagramRow → List Event → Part S (ℕ × Refusal) → S → Result A (ℕ × DiagramStop) → Type 0
 PlaysOn before now events run s (Ok x) = (events_in now ≡ events_in before ++ events) × (run.refused ≡ None) × (s ≡ run.left)
 PlaysOn before now events run s (Err (line, stops.Refused number)) =
     (events_in now ≡ events_in before ++ events) × ((refusal : Refusal) × (run.refused ≡ Some (line, refusal)) × (number_of refusal ≡ Some number))
@@ -79,17 +79,17 @@ IsJudged (ends.Judged verdict) = Unit {0}
 IsJudged end = ⊥
 
 -- one more row is there, or out of memory
-abbrev pub Adds : {A : Type 0} → List Row → List Row → Row → Result A Stop → Type 0
+abbrev pub Adds : {A : Type 0} → List DiagramRow → List DiagramRow → DiagramRow → Result A DiagramStop → Type 0
 Adds before now row (Ok x) = now ≡ before ++ row ∷ []
 Adds before now row (Err stop) = stop ≡ stops.OutOfMemory
 
 -- one more event is shown, or out of memory
-abbrev pub Notes : {A : Type 0} → List Row → List Row → Event → Result A Stop → Type 0
+abbrev pub Notes : {A : Type 0} → List DiagramRow → List DiagramRow → Event → Result A DiagramStop → Type 0
 Notes before now event (Ok x) = events_in now ≡ events_in before ++ event ∷ []
 Notes before now event (Err stop) = stop ≡ stops.OutOfMemory
 
 -- how a run ends, by how its lines were played
-abbrev pub IsEndOf : {A : Type 0} → Result A (ℕ × Stop) → Verdict → End → Type 0
+abbrev pub IsEndOf : {A : Type 0} → Result A (ℕ × DiagramStop) → Verdict → End → Type 0
 IsEndOf (Ok x) verdict (ends.Judged said) = said ≡ verdict
-IsEndOf (Err (line, stops.Refused number)) verdict (ends.Refused at why said) = (at ≡ line) × (why ≡ number) × (said ≡ verdict)
+IsEndOf (Err (line, stops.Refused number)) verdict (ends.Refused at purpose said) = (at ≡ line) × (purpose ≡ number) × (said ≡ verdict)
 IsEndOf played verdict end = ⊥

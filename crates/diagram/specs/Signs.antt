@@ -8,7 +8,7 @@ use Rattle.rmecore.specs.declared.word.Word.{Word}
 use Rattle.rmecore.specs.declared.word.Word.TheVariants as words
 use Rattle.redomail.specs.declared.layout.Layout.{Layout}
 use Rattle.diagram.specs.declared.act.Act.{Act}
-use Rattle.diagram.specs.declared.act.Act.TheVariants.{Quiet, Telling, Fell}
+use Rattle.diagram.specs.declared.act.Act.TheVariants.{Silent, Telling, Fell}
 
 -- the name of a kind of step (the specification's step kinds)
 abbrev pub name_of : Kind → List ℕ
@@ -95,6 +95,6 @@ repeated_sign l p h times = name_of h.kind ++ codes " " ++ word_sign l p h.word 
 
 -- what a row does. A crash has no text
 abbrev pub sign : Layout → ℕ → Act → List ℕ
-sign l p (Quiet h times) = if times == 1 then access_sign l p h else repeated_sign l p h times
+sign l p (Silent h times) = if times == 1 then access_sign l p h else repeated_sign l p h times
 sign l p (Telling step) = access_sign l p step.happened
 sign l p (Fell deed) = []

@@ -12,7 +12,7 @@ use rmeworld::{Answer, Stepped};
 pub enum Act {
     /// A silent step: it has no deed and ends no call.
     /// A blocked step counts how often it was taken with no other step between.
-    Quiet(Happened, u64),
+    Silent(Happened, u64),
     /// A step that has a deed, or ends a call.
     Telling(Stepped),
     /// A crash.
@@ -21,18 +21,18 @@ pub enum Act {
 
 /// One row of a drawing.
 #[derive(Clone, Copy, Debug, PartialEq, Eq)]
-pub struct Row {
+pub struct DiagramRow {
     pub p: u64,
     pub act: Act,
 }
 
-impl Row {
+impl DiagramRow {
     /// The deed of the row, if it has one.
     pub fn deed(&self) -> Option<Deed>
         ensures { result ≡ deed_of self.now.act }
     {
         match self.act {
-            Act::Quiet(..) => None,
+            Act::Silent(..) => None,
             Act::Telling(stepped) => stepped.deed,
             Act::Fell(deed) => Some(deed),
         }
@@ -44,7 +44,7 @@ impl Row {
     {
         match self.act {
             Act::Telling(stepped) => stepped.answer,
-            Act::Quiet(..) | Act::Fell(_) => None,
+            Act::Silent(..) | Act::Fell(_) => None,
         }
     }
 }

@@ -3,32 +3,32 @@
 ghost use Rattle.std.specs.Prelude.{◌≡◌, ◌++◌, ◌∷◌, [], OnOk};
 ghost use Rattle.diagram.specs.Columns.{bar_at as bar_in, bar_of as bar_for, bars, blank, cell, column, columns, head, heads, wide_of as wide_in};
 
-use crate::act::{Act, Row};
+use crate::act::{Act, DiagramRow};
 use crate::paging::{fill, put_decimal, put_spaces};
-use crate::phase::Phase;
+use crate::phase::LifelinePhase;
 use crate::signs::put_sign;
 use redomail::Layout;
 use std::alloc::AllocError;
 
-fn bar_of(phase: Phase) -> u8
+fn bar_of(phase: LifelinePhase) -> u8
     ensures { result ≡ bar_for phase }
 {
     match phase {
-        Phase::Rest => b'.',
-        Phase::Doorway => b':',
-        Phase::Waiting => b'|',
-        Phase::Section => b'#',
-        Phase::Dead => b' ',
+        LifelinePhase::Rest => b'.',
+        LifelinePhase::Doorway => b':',
+        LifelinePhase::Waiting => b'|',
+        LifelinePhase::Section => b'#',
+        LifelinePhase::Dead => b' ',
     }
 }
 
 /// The first byte of a cell: the bar of the phase, or `x` for a crash.
-fn bar_at(act: &Act, phase: Phase) -> u8
+fn bar_at(act: &Act, phase: LifelinePhase) -> u8
     ensures { result ≡ bar_in act.now phase }
 {
     match act {
         Act::Fell(_) => b'x',
-        Act::Quiet(..) | Act::Telling(_) => bar_of(phase),
+        Act::Silent(..) | Act::Telling(_) => bar_of(phase),
     }
 }
 
@@ -37,13 +37,13 @@ fn wide_of(act: &Act) -> usize
     ensures { result ≡ wide_in act.now }
 {
     match act {
-        Act::Quiet(_, times) => { if *times == 1 { 24 } else { 25 } }
+        Act::Silent(_, times) => { if *times == 1 { 24 } else { 25 } }
         Act::Telling(_) | Act::Fell(_) => 24,
     }
 }
 
 /// Writes the cell of a row: what its process does.
-fn put_cell(out: &mut Vec<u8>, layout: &Layout, row: &Row) -> Result<(), AllocError>
+fn put_cell(out: &mut Vec<u8>, layout: &Layout, row: &DiagramRow) -> Result<(), AllocError>
     ensures { OnOk result (out.new.items ≡ out.old.items ++ cell layout.now row.now) }
 {
     out.push(b' ')?;
@@ -54,7 +54,7 @@ fn put_cell(out: &mut Vec<u8>, layout: &Layout, row: &Row) -> Result<(), AllocEr
 
 /// Writes a column without an access.
 #[tactic(auto, unfolding(crate::specs::Columns::blank))]
-fn put_blank(out: &mut Vec<u8>, phase: Phase) -> Result<(), AllocError>
+fn put_blank(out: &mut Vec<u8>, phase: LifelinePhase) -> Result<(), AllocError>
     ensures { OnOk result (out.new.items ≡ out.old.items ++ blank phase) }
 {
     out.push(bar_of(phase))?;
@@ -65,9 +65,9 @@ fn put_blank(out: &mut Vec<u8>, phase: Phase) -> Result<(), AllocError>
 fn put_column(
     out: &mut Vec<u8>,
     layout: &Layout,
-    row: &Row,
+    row: &DiagramRow,
     q: u64,
-    phase: Phase,
+    phase: LifelinePhase,
 ) -> Result<(), AllocError>
     ensures { OnOk result (out.new.items ≡ out.old.items ++ column layout.now row.now q phase) }
 {
@@ -82,8 +82,8 @@ fn put_column(
 pub fn put_columns(
     out: &mut Vec<u8>,
     layout: &Layout,
-    row: &Row,
-    phases: &[Phase],
+    row: &DiagramRow,
+    phases: &[LifelinePhase],
 ) -> Result<(), AllocError>
     ensures { OnOk result (out.new.items ≡ out.old.items ++ columns layout.now row.now 0 phases.now) }
 {
@@ -96,7 +96,7 @@ pub fn put_columns(
 }
 
 /// Writes columns without an access.
-pub fn put_bars(out: &mut Vec<u8>, phases: &[Phase]) -> Result<(), AllocError>
+pub fn put_bars(out: &mut Vec<u8>, phases: &[LifelinePhase]) -> Result<(), AllocError>
     ensures { OnOk result (out.new.items ≡ out.old.items ++ bars phases.now) }
 {
     for phase in phases {
@@ -116,7 +116,7 @@ fn put_number(out: &mut Vec<u8>, p: u64) -> Result<(), AllocError>
 }
 
 /// Writes the numbers of the processes above their columns.
-pub fn put_heads(out: &mut Vec<u8>, phases: &[Phase]) -> Result<(), AllocError>
+pub fn put_heads(out: &mut Vec<u8>, phases: &[LifelinePhase]) -> Result<(), AllocError>
     ensures { OnOk result (out.new.items ≡ out.old.items ++ heads 0 phases.now) }
 {
     for p in 0..phases.len() {

@@ -3,16 +3,16 @@
 ghost use Rattle.std.specs.Prelude.{◌≡◌, ◌++◌, OnOk};
 ghost use Rattle.diagram.specs.Columns.{end_line, end_text, lead as lead_in, row_text, telling, top_text};
 
-use crate::act::Row;
+use crate::act::DiagramRow;
 use crate::bars::{put_bars, put_columns, put_heads};
 use crate::drawing::End;
 use crate::paging::{put_around, put_text};
-use crate::phase::Phase;
-use schedule::lines::answer::{put_answer, put_deed};
+use crate::phase::LifelinePhase;
 use redomail::{Deed, Layout};
 use rmeworld::Answer;
-use std::alloc::AllocError;
+use schedule::lines::answer::{put_answer, put_deed};
 use schedule::put_verdict;
+use std::alloc::AllocError;
 
 fn lead(marked: bool) -> &'static [u8]
     ensures { result.now ≡ lead_in marked }
@@ -23,7 +23,7 @@ fn lead(marked: bool) -> &'static [u8]
 /// Writes what a row reports, as lines of the report.
 fn put_telling(
     out: &mut Vec<u8>,
-    phases: &[Phase],
+    phases: &[LifelinePhase],
     marked: bool,
     p: u64,
     deed: &Option<Deed>,
@@ -52,9 +52,9 @@ fn put_telling(
 pub fn put_row(
     out: &mut Vec<u8>,
     layout: &Layout,
-    phases: &[Phase],
+    phases: &[LifelinePhase],
     marked: bool,
-    row: &Row,
+    row: &DiagramRow,
 ) -> Result<(), AllocError>
     ensures { OnOk result (out.new.items ≡ out.old.items ++ row_text layout.now phases.now marked row.now) }
 {
@@ -64,7 +64,7 @@ pub fn put_row(
 }
 
 /// Writes the numbers of the processes above their columns.
-pub fn put_top(out: &mut Vec<u8>, phases: &[Phase]) -> Result<(), AllocError>
+pub fn put_top(out: &mut Vec<u8>, phases: &[LifelinePhase]) -> Result<(), AllocError>
     ensures { OnOk result (out.new.items ≡ out.old.items ++ top_text phases.now) }
 {
     put_heads(out, phases)?;

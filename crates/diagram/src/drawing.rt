@@ -8,17 +8,16 @@ ghost use Rattle.schedule.specs.Schedules.{head_of};
 ghost use Rattle.diagram.specs.Events.{events_on, told_in};
 ghost use Rattle.diagram.specs.Rows.{events_in, EndsAs, IsEndOf, IsJudged};
 
-use crate::act::Row;
+use crate::act::DiagramRow;
 use crate::collecting::take_lines;
-use crate::court::verdict_on;
-use crate::phase::Phase;
-use crate::stop::Stop;
+use crate::deed_verdict::verdict_on;
+use crate::phase::LifelinePhase;
+use crate::stop::DiagramStop;
 use judge::Judge;
 use rmeworld::Machine;
 use schedule::texts::head::Head;
-use schedule::{OutOfMemory, Schedule};
+use schedule::{OutOfMemory, Schedule, Verdict};
 use std::alloc::Global;
-use schedule::Verdict;
 
 /// How a run ends.
 #[derive(Clone, Copy, Debug, PartialEq, Eq)]
@@ -39,23 +38,23 @@ pub struct Drawing {
     /// The header of the schedule.
     pub head: Head,
     /// The phase in which all processes begin.
-    pub first: Phase,
-    pub rows: Vec<Row>,
+    pub first: LifelinePhase,
+    pub rows: Vec<DiagramRow>,
     pub end: End,
 }
 
 /// How a run ends, by how its lines were played and the verdict on its deeds.
-fn end_of(played: Result<(), (u64, Stop)>, verdict: Verdict) -> Result<End, OutOfMemory>
+fn end_of(played: Result<(), (u64, DiagramStop)>, verdict: Verdict) -> Result<End, OutOfMemory>
     ensures { IfOk result (λ end. IsEndOf played verdict end) }
 {
     match played {
         Ok(()) => Ok(End::Judged(verdict)),
-        Err((line, Stop::Refused(number))) => Ok(End::Refused {
+        Err((line, DiagramStop::Refused(number))) => Ok(End::Refused {
             line,
             number,
             verdict,
         }),
-        Err((_, Stop::OutOfMemory)) => Err(OutOfMemory),
+        Err((_, DiagramStop::OutOfMemory)) => Err(OutOfMemory),
     }
 }
 
@@ -67,16 +66,19 @@ pub fn draw<M: Machine>(
     machine: &mut M,
     judge: &mut Judge,
     schedule: &Schedule,
-    first: Phase,
+    first: LifelinePhase,
 ) -> Result<Drawing, OutOfMemory>
     // The rows show just the run of the schedule on the machine: its steps and crashes.
     ensures events { IfOk result (λ drawing. events_in drawing.rows.items ≡ events_on M.behaviour machine.old schedule.now.lines) }
     // The rows report just what a replay reports.
-    ensures told { IfOk result (λ drawing. told_in (events_in drawing.rows.items) ≡ (run_on M.behaviour 2 machine.old schedule.now.lines).told) }
+    ensures told { IfOk result (λ drawing. told_in (events_in drawing.rows.items)
+        ≡ (run_on M.behaviour 2 machine.old schedule.now.lines).told) }
     // The drawing ends as the run ends.
-    ensures end { (start : State) → Keeps judge.old start → IfOk result (λ drawing. EndsAs start (run_on M.behaviour 2 machine.old schedule.now.lines) drawing.end) }
+    ensures end { (start : State) → Keeps judge.old start
+        → IfOk result (λ drawing. EndsAs start (run_on M.behaviour 2 machine.old schedule.now.lines) drawing.end) }
     // After a verdict the machine is as the run leaves it.
-    ensures left { IfOk result (λ drawing. IsJudged drawing.end → machine.new ≡ (run_on M.behaviour 2 machine.old schedule.now.lines).left) }
+    ensures left { IfOk result (λ drawing. IsJudged drawing.end
+        → machine.new ≡ (run_on M.behaviour 2 machine.old schedule.now.lines).left) }
     ensures sizes { IfOk result (λ drawing. (drawing.head ≡ head_of schedule.now) × (drawing.first ≡ first)) }
 {
     let mut rows = Vec::new(alloc);

@@ -10,36 +10,35 @@ ghost use Rattle.diagram.specs.Drawings.{Spells};
 ghost use Rattle.diagram.specs.Events.{Took, events_on};
 ghost use Rattle.diagram.specs.Followed.{access_of, Ending, followed, Follows, place_line, row_of as row_for, row_told, Tells};
 ghost use Rattle.diagram.specs.Rows.{events_in, events_shown};
-ghost use Rattle.diagram.specs.Sheets.{layout_of as layout_in};
+ghost use Rattle.diagram.specs.DiagramLayouts.{layout_of as layout_in};
 
-use crate::act::{Act, Row};
+use crate::act::{Act, DiagramRow};
+use crate::diagram_layout::layout_of;
 use crate::drawing::{Drawing, End, draw};
+use crate::lifeline_state::LifelineState;
 use crate::lifelines::class_of;
 use crate::paging::{put_around, put_text};
-use crate::pen::Pen;
-use crate::phase::Phase;
+use crate::phase::LifelinePhase;
 use crate::picture::put_told;
-use crate::sheet::layout_of;
 use crate::signs::put_sign;
 use judge::Judge;
 use redomail::Layout;
 use rmeworld::{Machine, Stepped};
-use schedule::texts::device::write_all;
-use schedule::{Schedule, Sink};
-use std::alloc::{AllocError, Global};
 use schedule::replays::replaying::close;
-use schedule::{ReplayFault, Verdict};
+use schedule::texts::device::write_all;
+use schedule::{ReplayFault, Schedule, Sink, Verdict};
+use std::alloc::{AllocError, Global};
 
 /// A step as a row of its own.
-fn row_of(p: u64, step: &Stepped) -> Row
+fn row_of(p: u64, step: &Stepped) -> DiagramRow
     ensures { result ≡ row_for (Took p step.now) }
 {
     match (step.deed, step.answer) {
-        (None, None) => Row {
+        (None, None) => DiagramRow {
             p,
-            act: Act::Quiet(step.happened, 1),
+            act: Act::Silent(step.happened, 1),
         },
-        _ => Row {
+        _ => DiagramRow {
             p,
             act: Act::Telling(*step),
         },
@@ -47,19 +46,22 @@ fn row_of(p: u64, step: &Stepped) -> Row
 }
 
 /// The phase of process p; past the list at rest.
-fn phase_of(phases: &[Phase], p: u64) -> Phase
-    ensures { result ≡ get_or phases.now p Phase.Rest }
+fn phase_of(phases: &[LifelinePhase], p: u64) -> LifelinePhase
+    ensures { result ≡ get_or phases.now p LifelinePhase.Rest }
 {
-    phases.get(p as usize).copied().unwrap_or(Phase::Rest)
+    phases
+        .get(p as usize)
+        .copied()
+        .unwrap_or(LifelinePhase::Rest)
 }
 
 /// Writes what a row reads or writes.
-fn put_access(out: &mut Vec<u8>, layout: &Layout, row: &Row) -> Result<(), AllocError>
+fn put_access(out: &mut Vec<u8>, layout: &Layout, row: &DiagramRow) -> Result<(), AllocError>
     ensures { OnOk result (out.new.items ≡ out.old.items ++ access_of layout.now row.now.p row.now.act) }
 {
     match row.act {
         Act::Fell(_) => Ok(()),
-        Act::Quiet(..) | Act::Telling(_) => {
+        Act::Silent(..) | Act::Telling(_) => {
             put_text(out, b" ")?;
             put_sign(out, layout, row)
         }
@@ -71,8 +73,8 @@ fn put_access(out: &mut Vec<u8>, layout: &Layout, row: &Row) -> Result<(), Alloc
 fn put_place(
     out: &mut Vec<u8>,
     layout: &Layout,
-    phases: &[Phase],
-    row: &Row,
+    phases: &[LifelinePhase],
+    row: &DiagramRow,
 ) -> Result<(), AllocError>
     ensures { OnOk result (out.new.items ≡ out.old.items ++ place_line layout.now phases.now row.now) }
 {
@@ -87,8 +89,8 @@ fn put_place(
 fn put_row(
     out: &mut Vec<u8>,
     layout: &Layout,
-    phases: &[Phase],
-    row: &Row,
+    phases: &[LifelinePhase],
+    row: &DiagramRow,
 ) -> Result<(), AllocError>
     ensures { OnOk result (out.new.items ≡ out.old.items ++ row_told layout.now phases.now row.now) }
 {
@@ -100,14 +102,14 @@ fn put_row(
 fn write_row<W: Sink>(
     page: &mut Vec<u8>,
     layout: &Layout,
-    pen: &Pen,
-    row: &Row,
+    lifeline_state: &LifelineState,
+    row: &DiagramRow,
     w: &mut W,
 ) -> Result<(), ReplayFault>
-    ensures { Spells (W.tape w.old) (W.tape w.new) (row_told layout.now pen.now.phases row.now) result }
+    ensures { Spells (W.tape w.old) (W.tape w.new) (row_told layout.now lifeline_state.now.phases row.now) result }
 {
     page.clear();
-    put_row(page, layout, pen.phases(), row)?;
+    put_row(page, layout, lifeline_state.phases(), row)?;
     write_all(w, page)?;
     Ok(())
 }
@@ -116,16 +118,17 @@ fn write_row<W: Sink>(
 fn write_times<W: Sink>(
     page: &mut Vec<u8>,
     layout: &Layout,
-    pen: &mut Pen,
-    row: &Row,
+    lifeline_state: &mut LifelineState,
+    row: &DiagramRow,
     times: u64,
     w: &mut W,
 ) -> Result<(), ReplayFault>
-    ensures { Tells (W.tape w.old) (W.tape w.new) layout.now pen.old.phases pen.new.phases (replicate times row.now) result }
+    ensures { Tells (W.tape w.old) (W.tape w.new) layout.now lifeline_state.old.phases lifeline_state.new.phases
+        (replicate times row.now) result }
 {
     for _ in 0..times {
-        pen.take(row);
-        write_row(page, layout, pen, row, w)?;
+        lifeline_state.take(row);
+        write_row(page, layout, lifeline_state, row, w)?;
     }
     Ok(())
 }
@@ -134,20 +137,35 @@ fn write_times<W: Sink>(
 fn write_shown<W: Sink>(
     page: &mut Vec<u8>,
     layout: &Layout,
-    pen: &mut Pen,
-    row: &Row,
+    lifeline_state: &mut LifelineState,
+    row: &DiagramRow,
     w: &mut W,
 ) -> Result<(), ReplayFault>
-    ensures { Tells (W.tape w.old) (W.tape w.new) layout.now pen.old.phases pen.new.phases (map row_for (events_shown row.now.p row.now.act)) result }
+    ensures { Tells (W.tape w.old) (W.tape w.new) layout.now lifeline_state.old.phases lifeline_state.new.phases
+        (map row_for (events_shown row.now.p row.now.act)) result }
 {
     let p = row.p;
     match &row.act {
-        Act::Quiet(happened, times) => {
-            let act = Act::Quiet(*happened, 1);
-            write_times(page, layout, pen, &Row { p, act }, *times, w)
+        Act::Silent(happened, times) => {
+            let act = Act::Silent(*happened, 1);
+            write_times(
+                page,
+                layout,
+                lifeline_state,
+                &DiagramRow { p, act },
+                *times,
+                w,
+            )
         }
-        Act::Telling(stepped) => write_times(page, layout, pen, &row_of(p, stepped), 1, w),
-        Act::Fell(_) => write_times(page, layout, pen, row, 1, w),
+        Act::Telling(stepped) => write_times(
+            page,
+            layout,
+            lifeline_state,
+            &row_of(p, stepped),
+            1,
+            w,
+        ),
+        Act::Fell(_) => write_times(page, layout, lifeline_state, row, 1, w),
     }
 }
 
@@ -155,26 +173,33 @@ fn write_shown<W: Sink>(
 fn write_rows<W: Sink>(
     page: &mut Vec<u8>,
     layout: &Layout,
-    pen: &mut Pen,
-    rows: &[Row],
+    lifeline_state: &mut LifelineState,
+    rows: &[DiagramRow],
     w: &mut W,
 ) -> Result<(), ReplayFault>
-    ensures { Spells (W.tape w.old) (W.tape w.new) (followed layout.now pen.old.phases (events_in rows.now)) result }
+    ensures { Spells (W.tape w.old) (W.tape w.new) (followed layout.now lifeline_state.old.phases (events_in rows.now)) result }
 {
     for row in rows {
-        write_shown(page, layout, pen, row, w)?;
+        write_shown(page, layout, lifeline_state, row, w)?;
     }
     Ok(())
 }
 
 /// Writes the steps and crashes of a run, from its drawing.
 fn write_steps<W: Sink>(alloc: Global, drawing: &Drawing, w: &mut W) -> Result<(), ReplayFault>
-    ensures { Spells (W.tape w.old) (W.tape w.new) (followed (layout_in drawing.now.head) (replicate drawing.now.head.procs drawing.now.first) (events_in drawing.now.rows.items)) result }
+    ensures { Spells (W.tape w.old) (W.tape w.new) (followed (layout_in drawing.now.head)
+        (replicate drawing.now.head.procs drawing.now.first) (events_in drawing.now.rows.items)) result }
 {
     let mut page = Vec::new(alloc);
-    let mut pen = Pen::new(alloc, drawing.head.procs, drawing.first)?;
+    let mut lifeline_state = LifelineState::new(alloc, drawing.head.procs, drawing.first)?;
     let layout = layout_of(drawing.head);
-    write_rows(&mut page, &layout, &mut pen, drawing.rows.as_slice(), w)
+    write_rows(
+        &mut page,
+        &layout,
+        &mut lifeline_state,
+        drawing.rows.as_slice(),
+        w,
+    )
 }
 
 /// Writes the end of a machine's report after the steps. A run that was refused has no such end.
@@ -207,12 +232,15 @@ pub fn follow<M: Machine, W: Sink>(
     machine: &mut M,
     judge: &mut Judge,
     schedule: &Schedule,
-    first: Phase,
+    first: LifelinePhase,
     w: &mut W,
 ) -> Result<Verdict, ReplayFault>
     // Just this run is written and its verdict answered, or the reason why not.
-    ensures follows { (start : State) → Keeps judge.old start → Follows (W.tape w.old) (W.tape w.new) start M.behaviour.image_of (run_on M.behaviour 2 machine.old schedule.now.lines)
-        (followed (layout_in (head_of schedule.now)) (replicate schedule.now.procs first) (events_on M.behaviour machine.old schedule.now.lines)) result }
+    ensures follows { (start : State) → Keeps judge.old start
+        → Follows (W.tape w.old) (W.tape w.new) start M.behaviour.image_of
+        (run_on M.behaviour 2 machine.old schedule.now.lines)
+        (followed (layout_in (head_of schedule.now)) (replicate schedule.now.procs first)
+        (events_on M.behaviour machine.old schedule.now.lines)) result }
     // After a verdict the machine is as the run leaves it.
     ensures left { OnOk result (machine.new ≡ (run_on M.behaviour 2 machine.old schedule.now.lines).left) }
 {

@@ -7,7 +7,7 @@ use crate::columns::put_last;
 use crate::drawing::End;
 use crate::lifelines::{class_of, put_group, put_group_end, put_lifeline, x_of};
 use crate::paging::{put_around, put_text};
-use crate::phase::Phase;
+use crate::phase::LifelinePhase;
 use std::alloc::AllocError;
 
 /// Writes the size of the picture.
@@ -80,7 +80,7 @@ fn put_paper(out: &mut Vec<u8>) -> Result<(), AllocError>
 
 /// Writes the name of a colour in the key.
 #[tactic(auto, unfolding(crate::specs::Pictures::key_name))]
-fn put_key_name(out: &mut Vec<u8>, phase: Phase) -> Result<(), AllocError>
+fn put_key_name(out: &mut Vec<u8>, phase: LifelinePhase) -> Result<(), AllocError>
     ensures { OnOk result (out.new.items ≡ out.old.items ++ key_name phase) }
 {
     put_text(out, b"<text x='10' y='12'>")?;
@@ -90,7 +90,7 @@ fn put_key_name(out: &mut Vec<u8>, phase: Phase) -> Result<(), AllocError>
 
 /// Writes what a colour means.
 #[tactic(auto, unfolding(crate::specs::Pictures::key))]
-fn put_key(out: &mut Vec<u8>, x: u64, phase: Phase) -> Result<(), AllocError>
+fn put_key(out: &mut Vec<u8>, x: u64, phase: LifelinePhase) -> Result<(), AllocError>
     ensures { OnOk result (out.new.items ≡ out.old.items ++ key x phase) }
 {
     put_group(out, x, 30)?;
@@ -104,11 +104,11 @@ fn put_key(out: &mut Vec<u8>, x: u64, phase: Phase) -> Result<(), AllocError>
 fn put_keys(out: &mut Vec<u8>) -> Result<(), AllocError>
     ensures { OnOk result (out.new.items ≡ out.old.items ++ keys) }
 {
-    put_key(out, 24, Phase::Rest)?;
-    put_key(out, 84, Phase::Doorway)?;
-    put_key(out, 168, Phase::Waiting)?;
-    put_key(out, 252, Phase::Section)?;
-    put_key(out, 336, Phase::Dead)?;
+    put_key(out, 24, LifelinePhase::Rest)?;
+    put_key(out, 84, LifelinePhase::Doorway)?;
+    put_key(out, 168, LifelinePhase::Waiting)?;
+    put_key(out, 252, LifelinePhase::Section)?;
+    put_key(out, 336, LifelinePhase::Dead)?;
     put_text(
         out,
         b"<path class='crash' d='M394 32l10 10m0 -10l-10 10'/><text x='412' y='42'>crash</text>",
@@ -135,7 +135,7 @@ fn put_name(out: &mut Vec<u8>, p: u64) -> Result<(), AllocError>
 
 /// Writes the top of a lifeline.
 #[tactic(auto, unfolding(crate::specs::Pictures::lifeline_top))]
-fn put_top_of(out: &mut Vec<u8>, p: u64, phase: Phase, long: u64) -> Result<(), AllocError>
+fn put_top_of(out: &mut Vec<u8>, p: u64, phase: LifelinePhase, long: u64) -> Result<(), AllocError>
     ensures { OnOk result (out.new.items ≡ out.old.items ++ lifeline_top p phase long) }
 {
     put_group(out, x_of(p), 80)?;
@@ -145,7 +145,7 @@ fn put_top_of(out: &mut Vec<u8>, p: u64, phase: Phase, long: u64) -> Result<(), 
 }
 
 /// Writes the tops of the lifelines of all processes.
-fn put_tops(out: &mut Vec<u8>, long: u64, phases: &[Phase]) -> Result<(), AllocError>
+fn put_tops(out: &mut Vec<u8>, long: u64, phases: &[LifelinePhase]) -> Result<(), AllocError>
     ensures { OnOk result (out.new.items ≡ out.old.items ++ lifeline_tops long 0 phases.now) }
 {
     let mut p = 0;
@@ -189,7 +189,7 @@ pub fn put_top(
     out: &mut Vec<u8>,
     procs: u64,
     bottom: u64,
-    phases: &[Phase],
+    phases: &[LifelinePhase],
 ) -> Result<(), AllocError>
     ensures { OnOk result (out.new.items ≡ out.old.items ++ top_picture procs bottom phases.now) }
 {

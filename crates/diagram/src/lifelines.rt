@@ -4,7 +4,7 @@ ghost use Rattle.std.specs.Prelude.{◌≡◌, ◌≤◌, ◌<◌, ◌^◌, ◌+
 ghost use Rattle.diagram.specs.Pictures.{bottom_of as bottom_for, class_of as class_for, far_from as far_between, group_at, group_end, lifeline, lifeline_if, x_of as x_for, y_of as y_for};
 
 use crate::paging::{put_around, put_text};
-use crate::phase::Phase;
+use crate::phase::LifelinePhase;
 use std::alloc::AllocError;
 
 /// The x of a process's lifeline. That of the mailbox is the x of a next process.
@@ -38,21 +38,21 @@ pub fn bottom_of(rows: u64) -> u64
 }
 
 /// The name of a phase, which is the class of its colour.
-pub fn class_of(phase: Phase) -> &'static [u8]
+pub fn class_of(phase: LifelinePhase) -> &'static [u8]
     ensures { result.now ≡ class_for phase }
 {
     match phase {
-        Phase::Rest => b"rest",
-        Phase::Doorway => b"doorway",
-        Phase::Waiting => b"waiting",
-        Phase::Section => b"section",
-        Phase::Dead => b"dead",
+        LifelinePhase::Rest => b"rest",
+        LifelinePhase::Doorway => b"doorway",
+        LifelinePhase::Waiting => b"waiting",
+        LifelinePhase::Section => b"section",
+        LifelinePhase::Dead => b"dead",
     }
 }
 
 /// Writes a lifeline downward from here, in the colour of a phase.
 #[tactic(auto, unfolding(crate::specs::Pictures::lifeline))]
-pub fn put_lifeline(out: &mut Vec<u8>, phase: Phase, long: u64) -> Result<(), AllocError>
+pub fn put_lifeline(out: &mut Vec<u8>, phase: LifelinePhase, long: u64) -> Result<(), AllocError>
     ensures { OnOk result (out.new.items ≡ out.old.items ++ lifeline phase long) }
 {
     put_text(out, b"<rect class='")?;
@@ -61,7 +61,11 @@ pub fn put_lifeline(out: &mut Vec<u8>, phase: Phase, long: u64) -> Result<(), Al
 }
 
 /// Writes such a lifeline, if there is a phase.
-pub fn put_lifeline_if(out: &mut Vec<u8>, phase: Option<Phase>, long: u64) -> Result<(), AllocError>
+pub fn put_lifeline_if(
+    out: &mut Vec<u8>,
+    phase: Option<LifelinePhase>,
+    long: u64,
+) -> Result<(), AllocError>
     ensures { OnOk result (out.new.items ≡ out.old.items ++ lifeline_if phase long) }
 {
     match phase {

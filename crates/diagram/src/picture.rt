@@ -3,18 +3,18 @@
 ghost use Rattle.std.specs.Prelude.{◌≡◌, ◌≤◌, ◌++◌, OnOk};
 ghost use Rattle.diagram.specs.Pictures.{flag, join, joint, left_of, margin, mark, remarks, remarks_at, right_of, row_picture, row_title, step_mark, told_by};
 
-use crate::act::{Act, Row};
+use crate::act::{Act, DiagramRow};
 use crate::lifelines::{far_from, put_group, put_group_end, put_lifeline_if, x_of};
 use crate::paging::{put_around, put_text};
 use crate::phase::phase_shown;
 use crate::signs::put_sign;
-use schedule::lines::answer::{put_answer, put_deed};
 use redomail::{Deed, Layout};
 use rmeworld::Answer;
+use schedule::lines::answer::{put_answer, put_deed};
 use std::alloc::AllocError;
 
 /// Writes what a row reports.
-pub fn put_told(out: &mut Vec<u8>, row: &Row) -> Result<(), AllocError>
+pub fn put_told(out: &mut Vec<u8>, row: &DiagramRow) -> Result<(), AllocError>
     ensures { OnOk result (out.new.items ≡ out.old.items ++ told_by row.now.p row.now.act) }
 {
     if let Some(deed) = row.deed() {
@@ -28,7 +28,7 @@ pub fn put_told(out: &mut Vec<u8>, row: &Row) -> Result<(), AllocError>
 
 /// Writes the title of a row, which a viewer shows where the reader points at it.
 #[tactic(auto, unfolding(crate::specs::Pictures::row_title))]
-fn put_title(out: &mut Vec<u8>, layout: &Layout, row: &Row) -> Result<(), AllocError>
+fn put_title(out: &mut Vec<u8>, layout: &Layout, row: &DiagramRow) -> Result<(), AllocError>
     ensures { OnOk result (out.new.items ≡ out.old.items ++ row_title layout.now row.now) }
 {
     put_around(out, b"<title>process ", row.p, b" ")?;
@@ -40,7 +40,7 @@ fn put_title(out: &mut Vec<u8>, layout: &Layout, row: &Row) -> Result<(), AllocE
 
 /// Writes the dot of a step, with its access.
 #[tactic(auto, unfolding(crate::specs::Pictures::step_mark))]
-fn put_step(out: &mut Vec<u8>, layout: &Layout, row: &Row) -> Result<(), AllocError>
+fn put_step(out: &mut Vec<u8>, layout: &Layout, row: &DiagramRow) -> Result<(), AllocError>
     ensures { OnOk result (out.new.items ≡ out.old.items ++ step_mark layout.now row.now.p row.now.act) }
 {
     put_around(
@@ -54,12 +54,12 @@ fn put_step(out: &mut Vec<u8>, layout: &Layout, row: &Row) -> Result<(), AllocEr
 }
 
 /// Writes the dot of a step, or the cross of a crash.
-fn put_mark(out: &mut Vec<u8>, layout: &Layout, row: &Row) -> Result<(), AllocError>
+fn put_mark(out: &mut Vec<u8>, layout: &Layout, row: &DiagramRow) -> Result<(), AllocError>
     ensures { OnOk result (out.new.items ≡ out.old.items ++ mark layout.now row.now.p row.now.act) }
 {
     match row.act {
         Act::Fell(_) => { put_text(out, b"<path class='crash' d='M-6 -6l12 12m0 -12l-12 12'/>") }
-        Act::Quiet(..) | Act::Telling(_) => put_step(out, layout, row),
+        Act::Silent(..) | Act::Telling(_) => put_step(out, layout, row),
     }
 }
 
@@ -163,7 +163,7 @@ fn put_flag(out: &mut Vec<u8>, marked: bool, far: u64) -> Result<(), AllocError>
 
 /// Writes the part of a row at its right.
 #[tactic(auto, unfolding(crate::specs::Pictures::right_of))]
-fn put_right(out: &mut Vec<u8>, row: &Row, far: u64, marked: bool) -> Result<(), AllocError>
+fn put_right(out: &mut Vec<u8>, row: &DiagramRow, far: u64, marked: bool) -> Result<(), AllocError>
     requires { far ≤ 12348 }
     ensures { OnOk result (out.new.items ≡ out.old.items ++ right_of row.now far marked) }
 {
@@ -174,7 +174,12 @@ fn put_right(out: &mut Vec<u8>, row: &Row, far: u64, marked: bool) -> Result<(),
 
 /// Writes the part of a row at the lifeline of its process.
 #[tactic(auto, unfolding(crate::specs::Pictures::left_of))]
-fn put_left(out: &mut Vec<u8>, layout: &Layout, row: &Row, below: u64) -> Result<(), AllocError>
+fn put_left(
+    out: &mut Vec<u8>,
+    layout: &Layout,
+    row: &DiagramRow,
+    below: u64,
+) -> Result<(), AllocError>
     ensures { OnOk result (out.new.items ≡ out.old.items ++ left_of layout.now row.now below) }
 {
     put_title(out, layout, row)?;
@@ -189,7 +194,7 @@ pub fn put_row(
     y: u64,
     below: u64,
     marked: bool,
-    row: &Row,
+    row: &DiagramRow,
 ) -> Result<(), AllocError>
     ensures { OnOk result (out.new.items ≡ out.old.items ++ row_picture layout.now y below marked row.now) }
 {

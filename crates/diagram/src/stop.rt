@@ -1,7 +1,7 @@
 //! Why the lines of a schedule are not played to their end.
 
 ghost use Rattle.std.specs.Prelude.{◌≡◌};
-ghost use Rattle.diagram.specs.declared.stop.Stop.TheVariants.{OutOfMemory as StopOutOfMemory};
+ghost use Rattle.diagram.specs.declared.stop.DiagramStop.TheVariants.{OutOfMemory as StopOutOfMemory};
 ghost use Rattle.rmecore.specs.Refused.{number_of};
 ghost use Rattle.diagram.specs.Rows.{stopped};
 
@@ -10,28 +10,28 @@ use std::alloc::AllocFailed;
 
 /// Why the lines of a schedule are not played to their end.
 #[derive(Clone, Copy, Debug, PartialEq, Eq)]
-pub enum Stop {
+pub enum DiagramStop {
     /// The machine refuses the line. The number is that of the `Refusal`.
     Refused(u64),
     /// Out of memory.
     OutOfMemory,
 }
 
-impl From<Refusal> for Stop {
+impl From<Refusal> for DiagramStop {
     ghost from_gives = { λ refusal e. e ≡ stopped (number_of refusal) };
 
-    fn from(refusal: Refusal) -> Stop {
+    fn from(refusal: Refusal) -> DiagramStop {
         match refusal.number() {
-            Some(number) => Stop::Refused(number),
-            None => Stop::OutOfMemory,
+            Some(number) => DiagramStop::Refused(number),
+            None => DiagramStop::OutOfMemory,
         }
     }
 }
 
-impl<T: Drop> From<AllocFailed<T>> for Stop {
+impl<T: Drop> From<AllocFailed<T>> for DiagramStop {
     ghost from_gives = { λ _ e. e ≡ StopOutOfMemory };
 
-    fn from(_e: AllocFailed<T>) -> Stop {
-        Stop::OutOfMemory
+    fn from(_e: AllocFailed<T>) -> DiagramStop {
+        DiagramStop::OutOfMemory
     }
 }

@@ -1,66 +1,85 @@
 //! Writes a drawing.
 
 ghost use Rattle.std.specs.Prelude.{◌≡◌, ◌++◌, OnOk};
-ghost use Rattle.diagram.specs.Drawings.{end_in, row_spelled, rows_spelled, sheet_of as sheet_for, spelled, spelled_from, Spells, top_in};
+ghost use Rattle.diagram.specs.Drawings.{end_in, row_spelled, rows_spelled, diagram_layout_of as diagram_layout_for, spelled, spelled_from, Spells, top_in};
 
-use crate::act::Row;
+use crate::act::DiagramRow;
+use crate::diagram_layout::{DiagramLayout, Style, diagram_layout_of};
 use crate::drawing::{Drawing, End};
+use crate::lifeline_state::LifelineState;
 use crate::lifelines::{bottom_of, y_of};
-use crate::pen::Pen;
-use crate::phase::Phase;
-use crate::sheet::{Sheet, Style, sheet_of};
+use crate::phase::LifelinePhase;
 use crate::{columns, frame, picture};
-use schedule::Sink;
 use schedule::texts::device::write_all;
+use schedule::{ReplayFault, Sink};
 use std::alloc::{AllocError, Global};
-use schedule::ReplayFault;
 
 /// Writes a row. The lifeline state has taken the row.
-fn put_row(out: &mut Vec<u8>, sheet: &Sheet, pen: &Pen, row: &Row) -> Result<(), AllocError>
-    ensures { OnOk result (out.new.items ≡ out.old.items ++ row_spelled sheet.now pen.now row.now) }
+fn put_row(
+    out: &mut Vec<u8>,
+    diagram_layout: &DiagramLayout,
+    lifeline_state: &LifelineState,
+    row: &DiagramRow,
+) -> Result<(), AllocError>
+    ensures { OnOk result (out.new.items ≡ out.old.items ++ row_spelled diagram_layout.now lifeline_state.now row.now) }
 {
-    let marked = pen.is_deed(sheet.against, row);
-    match sheet.style {
-        Style::Text => columns::put_row(out, &sheet.layout, pen.phases(), marked, row),
+    let marked = lifeline_state.is_deed(diagram_layout.against, row);
+    match diagram_layout.style {
+        Style::Text => columns::put_row(
+            out,
+            &diagram_layout.layout,
+            lifeline_state.phases(),
+            marked,
+            row,
+        ),
         Style::Svg => {
-            let y = y_of(pen.rows());
-            let below = bottom_of(sheet.rows).saturating_sub(y);
-            picture::put_row(out, &sheet.layout, y, below, marked, row)
+            let y = y_of(lifeline_state.rows());
+            let below = bottom_of(diagram_layout.rows).saturating_sub(y);
+            picture::put_row(out, &diagram_layout.layout, y, below, marked, row)
         }
     }
 }
 
 /// Writes the part above the rows.
-fn put_top(out: &mut Vec<u8>, sheet: &Sheet, phases: &[Phase]) -> Result<(), AllocError>
-    ensures { OnOk result (out.new.items ≡ out.old.items ++ top_in sheet.now.style sheet.now phases.now) }
+fn put_top(
+    out: &mut Vec<u8>,
+    diagram_layout: &DiagramLayout,
+    phases: &[LifelinePhase],
+) -> Result<(), AllocError>
+    ensures { OnOk result (out.new.items ≡ out.old.items ++ top_in diagram_layout.now.style diagram_layout.now phases.now) }
 {
-    match sheet.style {
+    match diagram_layout.style {
         Style::Text => columns::put_top(out, phases),
-        Style::Svg => frame::put_top(out, sheet.layout.procs, bottom_of(sheet.rows), phases),
+        Style::Svg => frame::put_top(
+            out,
+            diagram_layout.layout.procs,
+            bottom_of(diagram_layout.rows),
+            phases,
+        ),
     }
 }
 
 /// Writes the part below the rows.
-fn put_end(out: &mut Vec<u8>, sheet: &Sheet, end: &End) -> Result<(), AllocError>
-    ensures { OnOk result (out.new.items ≡ out.old.items ++ end_in sheet.now.style sheet.now end.now) }
+fn put_end(out: &mut Vec<u8>, diagram_layout: &DiagramLayout, end: &End) -> Result<(), AllocError>
+    ensures { OnOk result (out.new.items ≡ out.old.items ++ end_in diagram_layout.now.style diagram_layout.now end.now) }
 {
-    match sheet.style {
+    match diagram_layout.style {
         Style::Text => columns::put_end(out, end),
-        Style::Svg => frame::put_end(out, bottom_of(sheet.rows), end),
+        Style::Svg => frame::put_end(out, bottom_of(diagram_layout.rows), end),
     }
 }
 
 /// Writes the part above the rows to a sink.
 fn write_top<W: Sink>(
     page: &mut Vec<u8>,
-    sheet: &Sheet,
-    phases: &[Phase],
+    diagram_layout: &DiagramLayout,
+    phases: &[LifelinePhase],
     w: &mut W,
 ) -> Result<(), ReplayFault>
-    ensures { Spells (W.tape w.old) (W.tape w.new) (top_in sheet.now.style sheet.now phases.now) result }
+    ensures { Spells (W.tape w.old) (W.tape w.new) (top_in diagram_layout.now.style diagram_layout.now phases.now) result }
 {
     page.clear();
-    put_top(page, sheet, phases)?;
+    put_top(page, diagram_layout, phases)?;
     write_all(w, page)?;
     Ok(())
 }
@@ -68,15 +87,15 @@ fn write_top<W: Sink>(
 /// Writes a row to a sink.
 fn write_row<W: Sink>(
     page: &mut Vec<u8>,
-    sheet: &Sheet,
-    pen: &Pen,
-    row: &Row,
+    diagram_layout: &DiagramLayout,
+    lifeline_state: &LifelineState,
+    row: &DiagramRow,
     w: &mut W,
 ) -> Result<(), ReplayFault>
-    ensures { Spells (W.tape w.old) (W.tape w.new) (row_spelled sheet.now pen.now row.now) result }
+    ensures { Spells (W.tape w.old) (W.tape w.new) (row_spelled diagram_layout.now lifeline_state.now row.now) result }
 {
     page.clear();
-    put_row(page, sheet, pen, row)?;
+    put_row(page, diagram_layout, lifeline_state, row)?;
     write_all(w, page)?;
     Ok(())
 }
@@ -84,16 +103,16 @@ fn write_row<W: Sink>(
 /// Writes all rows to a sink.
 fn write_rows<W: Sink>(
     page: &mut Vec<u8>,
-    sheet: &Sheet,
-    pen: &mut Pen,
-    rows: &[Row],
+    diagram_layout: &DiagramLayout,
+    lifeline_state: &mut LifelineState,
+    rows: &[DiagramRow],
     w: &mut W,
 ) -> Result<(), ReplayFault>
-    ensures { Spells (W.tape w.old) (W.tape w.new) (rows_spelled sheet.now pen.old rows.now) result }
+    ensures { Spells (W.tape w.old) (W.tape w.new) (rows_spelled diagram_layout.now lifeline_state.old rows.now) result }
 {
     for row in rows {
-        pen.take(row);
-        write_row(page, sheet, pen, row, w)?;
+        lifeline_state.take(row);
+        write_row(page, diagram_layout, lifeline_state, row, w)?;
     }
     Ok(())
 }
@@ -101,14 +120,14 @@ fn write_rows<W: Sink>(
 /// Writes the part below the rows to a sink.
 fn write_last<W: Sink>(
     page: &mut Vec<u8>,
-    sheet: &Sheet,
+    diagram_layout: &DiagramLayout,
     end: &End,
     w: &mut W,
 ) -> Result<(), ReplayFault>
-    ensures { Spells (W.tape w.old) (W.tape w.new) (end_in sheet.now.style sheet.now end.now) result }
+    ensures { Spells (W.tape w.old) (W.tape w.new) (end_in diagram_layout.now.style diagram_layout.now end.now) result }
 {
     page.clear();
-    put_end(page, sheet, end)?;
+    put_end(page, diagram_layout, end)?;
     write_all(w, page)?;
     Ok(())
 }
@@ -116,13 +135,13 @@ fn write_last<W: Sink>(
 /// Writes the part below the rows to a sink, and flushes it.
 fn write_end<W: Sink>(
     page: &mut Vec<u8>,
-    sheet: &Sheet,
+    diagram_layout: &DiagramLayout,
     end: &End,
     w: &mut W,
 ) -> Result<(), ReplayFault>
-    ensures { Spells (W.tape w.old) (W.tape w.new) (end_in sheet.now.style sheet.now end.now) result }
+    ensures { Spells (W.tape w.old) (W.tape w.new) (end_in diagram_layout.now.style diagram_layout.now end.now) result }
 {
-    write_last(page, sheet, end, w)?;
+    write_last(page, diagram_layout, end, w)?;
     w.flush()?;
     Ok(())
 }
@@ -130,17 +149,17 @@ fn write_end<W: Sink>(
 /// Writes all parts of a drawing, one after the other.
 fn write_parts<W: Sink>(
     page: &mut Vec<u8>,
-    sheet: &Sheet,
-    pen: &mut Pen,
-    rows: &[Row],
+    diagram_layout: &DiagramLayout,
+    lifeline_state: &mut LifelineState,
+    rows: &[DiagramRow],
     end: &End,
     w: &mut W,
 ) -> Result<(), ReplayFault>
-    ensures { Spells (W.tape w.old) (W.tape w.new) (spelled_from sheet.now pen.old rows.now end.now) result }
+    ensures { Spells (W.tape w.old) (W.tape w.new) (spelled_from diagram_layout.now lifeline_state.old rows.now end.now) result }
 {
-    write_top(page, sheet, pen.phases(), w)?;
-    write_rows(page, sheet, pen, rows, w)?;
-    write_end(page, sheet, end, w)
+    write_top(page, diagram_layout, lifeline_state.phases(), w)?;
+    write_rows(page, diagram_layout, lifeline_state, rows, w)?;
+    write_end(page, diagram_layout, end, w)
 }
 
 /// Writes a drawing, a row at a time.
@@ -151,15 +170,17 @@ pub fn write_drawing<W: Sink>(
     w: &mut W,
 ) -> Result<(), ReplayFault>
     // Just the drawing's text is written, or a beginning of it and the reason why not the rest.
-    ensures { Spells (W.tape w.old) (W.tape w.new) (spelled (sheet_for style drawing.now.head drawing.now.rows.items drawing.now.end) drawing.now.first drawing.now.rows.items drawing.now.end) result }
+    ensures { Spells (W.tape w.old) (W.tape w.new) (spelled
+        (diagram_layout_for style drawing.now.head drawing.now.rows.items drawing.now.end)
+        drawing.now.first drawing.now.rows.items drawing.now.end) result }
 {
-    let sheet = sheet_of(style, drawing);
+    let diagram_layout = diagram_layout_of(style, drawing);
     let mut page = Vec::new(alloc);
-    let mut pen = Pen::new(alloc, drawing.head.procs, drawing.first)?;
+    let mut lifeline_state = LifelineState::new(alloc, drawing.head.procs, drawing.first)?;
     write_parts(
         &mut page,
-        &sheet,
-        &mut pen,
+        &diagram_layout,
+        &mut lifeline_state,
         drawing.rows.as_slice(),
         &drawing.end,
         w,

@@ -1,13 +1,13 @@
 -- A call that has been started is under way, and has few steps left.
 use Rattle.std.proofs.Common.{◌≡◌, ℕ, zero, suc, ◌+◌, ◌*◌, ◌≤◌, Bool, true, false, ◌&&◌, ◌==◌, nat_lt, nat_le, if◌then◌else◌, List, [], ◌∷◌, ◌++◌, length, Some, None, IsSome, unwrap_or, refl, sym, ap, ◌∙◌, subst, arith, length-append, eqb-true}
 use Rattle.execution.proofs.Common.{and_parts, ltb-true, Place, Rest, Dead, Wait, Inside, Layout, Reply, IsLayout, last_at, held, place_at, tail, Script, Get as Asks, Put as Writes, Done, puts, gets, in_row}
-use Rattle.execution.proofs.Common.{append, repair, redo, consistent, apply_steps, store_steps, record_of, Call, Lock, Unlock, Consistent, Recover, Append, Close, Withdraw, Why, Errand, Free, Doing, Spot}
-use Rattle.execution.proofs.Common.{begun_from, inside_only, Begins, next_spot, Setup, Within, Pass, IsPass, spot_now, Replies, Mends, Begun, Appends}
+use Rattle.execution.proofs.Common.{append, repair, redo, consistent, apply_steps, store_steps, record_of, Call, Lock, Unlock, Consistent, Recover, Append, Close, Withdraw, Purpose, ScriptState, Free, Doing, ProcessState}
+use Rattle.execution.proofs.Common.{begun_from, inside_only, Begins, next_process_state, Setup, Within, SeatView, IsSeatView, process_state_now, Replies, Mends, Begun, Appends}
 use Rattle.redomail.specs.declared.reply.Reply.TheVariants as reply
 use Rattle.redomail.specs.declared.record.Record.{Record}
 use Rattle.rmeworld.specs.declared.call.Call.TheVariants.{Get, Put}
 use Rattle.redomail.proofs.Scripts.{length-in_row}
-use Rattle.execution.proofs.Running.{spot_begun}
+use Rattle.execution.proofs.Running.{process_state_begun}
 
 within_puts : (xs : List (ℕ × ℕ)) (r : Script Reply) (k : ℕ) → Within k r → Within (length xs + k) (puts xs r)
 within_puts [] r k h = let e : k ≡ 0 + k = omega arith in subst (λ (m : ℕ). Within m r) e h
@@ -97,16 +97,16 @@ pub mends_consistent : (l : Layout) (p : ℕ) → Replies Mends (consistent l p)
 mends_consistent l p = λ ruined. replies_if Mends (ruined == 1) _ _ (λ e. tt) (λ e. replies_repair Mends (λ repaired. tt) l p)
 
 -- a start from inside
-pub guard_inside : (P : Spot → Type 0) (s : Place) (b fits : Bool) (why : Why) (left : Script Reply) (d : Spot) → (fits ≡ true → P (record { lock = Inside; mended = b; barred = false; errand = Doing why left })) → IsSome (inside_only s b fits why left) → P (unwrap_or (inside_only s b fits why left) d)
-guard_inside P Inside b true why left d h some = h refl
-guard_inside P Inside b false why left d h some = absurd (cc)
-guard_inside P _ b fits why left d h some = absurd (cc)
+pub guard_inside : (P : ProcessState → Type 0) (s : Place) (b fits : Bool) (purpose : Purpose) (left : Script Reply) (d : ProcessState) → (fits ≡ true → P (record { lock = Inside; mended = b; barred = false; script_state = Doing purpose left })) → IsSome (inside_only s b fits purpose left) → P (unwrap_or (inside_only s b fits purpose left) d)
+guard_inside P Inside b true purpose left d h some = h refl
+guard_inside P Inside b false purpose left d h some = absurd (cc)
+guard_inside P _ b fits purpose left d h some = absurd (cc)
 
 module _ (l : Layout) (p : ℕ) (fits : IsLayout l) where
   lock_few : 3 * l.procs + 11 ≤ 256
   lock_few = let f = fits.few in omega arith
 
-  pub begins : (call : Call) (s : Place) (b : Bool) (e : Errand) (d : Spot) → IsSome (begun_from l p s b e call) → Begun call l.procs (unwrap_or (begun_from l p s b e call) d)
+  pub begins : (call : Call) (s : Place) (b : Bool) (e : ScriptState) (d : ProcessState) → IsSome (begun_from l p s b e call) → Begun call l.procs (unwrap_or (begun_from l p s b e call) d)
   begins Lock Rest b Free d some = (refl, refl, (tt, lock_few))
   begins Lock Dead b Free d some = (refl, refl, (tt, lock_few))
   begins Recover Rest b Free d some = (refl, refl, (tt, lock_few))
@@ -123,11 +123,11 @@ module _ (l : Layout) (p : ℕ) (fits : IsLayout l) where
   begins (Put i v) s b Free d some = guard_inside (Begun (Put i v) l.procs) s b (nat_lt i 4) _ _ d (λ fit. (tt, refl, (1, tt, omega arith, tt))) some
   begins _ _ true Free d some = absurd (cc)
   begins _ _ false Free d some = absurd (cc)
-  begins _ _ true (Doing why left) d some = absurd (cc)
-  begins _ _ false (Doing why left) d some = absurd (cc)
+  begins _ _ true (Doing purpose left) d some = absurd (cc)
+  begins _ _ false (Doing purpose left) d some = absurd (cc)
 
-pub begun_now : (x y : Pass) (call : Call) → x.start ≡ None → y ≡ record x { start = Some call } → IsPass y → IsSome (next_spot x.setup.layout x.setup.limit (spot_now x) (Begins x.by call)) → Begun call x.setup.layout.procs (spot_now y)
-begun_now x y call none e pass some =
-    let q = spot_now x in
-    let fits : IsLayout x.setup.layout = subst (λ (s : Setup). IsLayout s.layout) (ap (λ (p : Pass). p.setup) e) pass.size.layout in
-    subst (Begun call x.setup.layout.procs) (sym (ap spot_now e ∙ spot_begun x call none)) (begins x.setup.layout x.by fits call q.lock q.mended q.errand q some)
+pub begun_now : (x y : SeatView) (call : Call) → x.start ≡ None → y ≡ record x { start = Some call } → IsSeatView y → IsSome (next_process_state x.setup.layout x.setup.limit (process_state_now x) (Begins x.by call)) → Begun call x.setup.layout.procs (process_state_now y)
+begun_now x y call none e seat_view some =
+    let q = process_state_now x in
+    let fits : IsLayout x.setup.layout = subst (λ (s : Setup). IsLayout s.layout) (ap (λ (p : SeatView). p.setup) e) seat_view.size.layout in
+    subst (Begun call x.setup.layout.procs) (sym (ap process_state_now e ∙ process_state_begun x call none)) (begins x.setup.layout x.by fits call q.lock q.mended q.script_state q some)

@@ -1,11 +1,11 @@
 -- A word of the board holds what was put there last. Since its Enter, a process's own puts are the last ones.
 use Rattle.std.proofs.Common.{◌≡◌, ℕ, ◌+◌, ◌*◌, ◌<◌, ◌==◌, ◌&&◌, nat_lt, lt-ltb, Bool, true, false, if◌then◌else◌, List, [], ◌∷◌, ◌++◌, Option, Some, None, refl, sym, ap, ◌∙◌, subst, arith, append_assoc, eqb-true, eq-eqb, inl, inr}
 use Rattle.execution.proofs.Common.{and_parts, cases_Bool, eqb-false, true≢false, Kind, Word, Data as DataAt, put, is_store, put_same, put_other, Layout, IsLayout, Words}
-use Rattle.execution.proofs.Common.{board_at, size, place_at, Answer, Call, Happening, Scene, at_first, Story, last_scene, put_cell, holders_put, TakenStep, Setup, is_data, or_earlier, last_put, value_or}
-use Rattle.execution.proofs.Common.{LastIsOwn, Served, IsPass, Seated, began, before, taken, happenings, spelled, own, IsRun, end_of}
+use Rattle.execution.proofs.Common.{board_at, size, place_at, Answer, Call, WorldEvent, GlobalState, at_first, Execution, last_global_state, put_cell, holders_put, TakenStep, Setup, is_data, or_earlier, last_put, value_or}
+use Rattle.execution.proofs.Common.{LastIsOwn, Served, IsSeatView, Seated, began, before, taken, world_events, spelled, own, IsRun, end_of}
 use Rattle.rmeworld.specs.Holders.{puts_data, AllPutBy}
 use Rattle.execution.specs.Board.{puts}
-use Rattle.execution.proofs.Runs.{spelled-append, by_kind, who_taken, scene-append, entry_leaves, cells_now}
+use Rattle.execution.proofs.Runs.{spelled-append, by_kind, who_taken, global_state-append, entry_leaves, cells_now}
 
 pub none_earlier : (o : Option TakenStep) → or_earlier o None ≡ o
 none_earlier None = refl
@@ -52,19 +52,19 @@ module _ (s : Setup) (i : ℕ) (low : i < 4) where
   if_value true e v = refl
   if_value false e v = refl
 
-  board_after : (w : Scene) (es : List TakenStep) → (last_scene s.layout s.limit w (spelled es)).cells at ≡ value_or (last_put s i es) (w.cells at)
+  board_after : (w : GlobalState) (es : List TakenStep) → (last_global_state s.layout s.limit w (spelled es)).cells at ≡ value_or (last_put s i es) (w.cells at)
   board_after w [] = refl
   board_after w (e ∷ es) =
-      let u = last_scene s.layout s.limit w (happenings e) in
+      let u = last_global_state s.layout s.limit w (world_events e) in
       let here : u.cells at ≡ value_or (if puts s i e then Some e else None) (w.cells at) =
       ap (λ (c : Words). c at) (entry_leaves s.layout s.limit w e.by e.step.kind e.step.word e.value e.step.crashed e.step.start).1 ∙ cell_now w.cells e.step.kind e.step.word e.value ∙ if_value (puts s i e) e (w.cells at) in
-      ap (λ (x : Scene). x.cells at) (scene-append s.layout s.limit w (happenings e) (spelled es)) ∙ board_after u es ∙ ap (value_or (last_put s i es)) here ∙ value_joins (last_put s i es) (if puts s i e then Some e else None) (w.cells at)
+      ap (λ (x : GlobalState). x.cells at) (global_state-append s.layout s.limit w (world_events e) (spelled es)) ∙ board_after u es ∙ ap (value_or (last_put s i es)) here ∙ value_joins (last_put s i es) (if puts s i e then Some e else None) (w.cells at)
 
   -- a word of the board holds what the run has put there last
   pub board_holds : (es : List TakenStep) → (end_of s es).cells at ≡ value_or (last_put s i es) 0
   board_holds es = board_after at_first es
 
-all_back : (p : ℕ) (xs ys : List Happening) → AllPutBy p (xs ++ ys) → AllPutBy p ys
+all_back : (p : ℕ) (xs ys : List WorldEvent) → AllPutBy p (xs ++ ys) → AllPutBy p ys
 all_back p [] ys h = h
 all_back p (x ∷ xs) ys h = all_back p xs ys h.1
 
@@ -94,10 +94,10 @@ puts_own s i p (e ∷ es) h = go (puts_own s i p es h'.1) (e.by == p) refl (puts
 -- since its Enter a process's own puts are the last
 pub last_is_own : (s : Setup) (p i : ℕ) (es : List TakenStep) → IsLayout s.layout → p < s.layout.procs → IsRun s es → LastIsOwn s p i es
 last_is_own s p i es layout below run since e k is =
-    let told : Story s.layout s.limit at_first (spelled k.before ++ spelled since) = subst (Story s.layout s.limit at_first) (ap spelled k.split ∙ spelled-append k.before since) run in
+    let told : Execution s.layout s.limit at_first (spelled k.before ++ spelled since) = subst (Execution s.layout s.limit at_first) (ap spelled k.split ∙ spelled-append k.before since) run in
     let mine = holders_put s.layout s.limit p (spelled k.before) (spelled since) k.earlier layout below told k.entered k.stays in
     ap (last_put s i) k.split ∙ last-append s i k.before since ∙ ap (λ (o : Option TakenStep). or_earlier o (last_put s i k.before)) (sym (puts_own s i p since mine) ∙ is)
 
-pub last_is_own_after : (x y : Seated) (call : Call) (answers : List Answer) (mine : List TakenStep) (i : ℕ) → IsPass x.pass → Served (began x call) call answers 0 y mine → LastIsOwn x.pass.setup x.pass.by i y.pass.seen
-last_is_own_after x y call answers mine i pass r =
-    last_is_own x.pass.setup x.pass.by i y.pass.seen pass.size.layout pass.below (subst (λ (s : Setup). IsRun s y.pass.seen) r.calls.setup r.calls.run)
+pub last_is_own_after : (x y : Seated) (call : Call) (answers : List Answer) (mine : List TakenStep) (i : ℕ) → IsSeatView x.seat_view → Served (began x call) call answers 0 y mine → LastIsOwn x.seat_view.setup x.seat_view.by i y.seat_view.seen
+last_is_own_after x y call answers mine i seat_view r =
+    last_is_own x.seat_view.setup x.seat_view.by i y.seat_view.seen seat_view.size.layout seat_view.below (subst (λ (s : Setup). IsRun s y.seat_view.seen) r.calls.setup r.calls.run)

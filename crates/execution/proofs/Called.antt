@@ -1,10 +1,10 @@
 -- Steps of a call are a call.
 use Rattle.std.proofs.Common.{◌≡◌, ℕ, suc, ◌+◌, ◌⊎◌, true, false, List, [], ◌∷◌, ◌++◌, length, Option, Some, None, Result, Ok, Err, OnErr, All, refl, sym, ap, ◌∙◌, subst, inl, inr, arith, append-nil, append_assoc}
 use Rattle.execution.proofs.Common.{All-nil, All-cons, is_glance, one_more, Answer, Call, TakenStep, Served, and_call, starts, FirstStart, AreMoves, FirstCrash, answers_of, blocked_of, Takes, blocks, Ran}
-use Rattle.execution.proofs.Common.{CutOff, Crashes, Pass, IsPass, EndsWith, Adds, Calls, Seated, many_more, fell, own, IsRun}
+use Rattle.execution.proofs.Common.{CutOff, Crashes, SeatView, IsSeatView, EndsWith, Adds, Calls, Seated, many_more, fell, own, IsRun}
 use Rattle.execution.proofs.Runs.{own-append, own_mine}
 
-calls_none : (x : Pass) → IsRun x.setup x.seen → Calls x [] x
+calls_none : (x : SeatView) → IsRun x.setup x.seen → Calls x [] x
 calls_none x run = record { table = refl; setup = refl; by = refl; since = []; seen = sym (append-nil x.seen); mine_are = refl; last = ends_none x.seen; run = run }
   where
     ends_none : (es : List TakenStep) → EndsWith [] es
@@ -21,15 +21,15 @@ ends_cons e f fs es h [] last k = absurd (let t : f ∷ fs ≡ [] = cc in cc)
 ends_cons e f fs es h (g ∷ front) last k = h front last (let t : f ∷ fs ≡ front ++ last ∷ [] = cc in t)
 
 -- steps in a row, each with its entry
-abbrev pub Grows : Pass → List TakenStep → Pass → Type 0
+abbrev pub Grows : SeatView → List TakenStep → SeatView → Type 0
 Grows x [] y = y ≡ x
-Grows x (e ∷ es) y = (z : Pass) × (e.by ≡ x.by) × Adds x e z × Grows z es y
+Grows x (e ∷ es) y = (z : SeatView) × (e.by ≡ x.by) × Adds x e z × Grows z es y
 
-ends_with : (e : TakenStep) (es : List TakenStep) (z y : Pass) (xs : List TakenStep) → z.seen ≡ xs ++ e ∷ [] → Grows z es y → EndsWith es y.seen → EndsWith (e ∷ es) y.seen
-ends_with e [] z y xs h t last = ends_one e y.seen xs (ap (λ (p : Pass). p.seen) t ∙ h)
+ends_with : (e : TakenStep) (es : List TakenStep) (z y : SeatView) (xs : List TakenStep) → z.seen ≡ xs ++ e ∷ [] → Grows z es y → EndsWith es y.seen → EndsWith (e ∷ es) y.seen
+ends_with e [] z y xs h t last = ends_one e y.seen xs (ap (λ (p : SeatView). p.seen) t ∙ h)
 ends_with e (f ∷ fs) z y xs h t last = ends_cons e f fs y.seen last
 
-pub calls_grown : (x y : Pass) (mine : List TakenStep) → IsRun x.setup x.seen → Grows x mine y → Calls x mine y
+pub calls_grown : (x y : SeatView) (mine : List TakenStep) → IsRun x.setup x.seen → Grows x mine y → Calls x mine y
 calls_grown x y [] run h = subst (Calls x []) (sym h) (calls_none x run)
 calls_grown x y (e ∷ es) run h =
     let z = h.0 in
@@ -48,89 +48,89 @@ calls_grown x y (e ∷ es) run h =
       run = c.run;
     }
 
-grows_taken : (x y : Pass) (mine : List TakenStep) → Takes x mine y → Grows x mine y
+grows_taken : (x y : SeatView) (mine : List TakenStep) → Takes x mine y → Grows x mine y
 grows_taken x y [] h = h
 grows_taken x y (e ∷ es) h =
     (h.0, ap (λ (f : TakenStep). f.by) h.1, subst (λ (f : TakenStep). Adds x f h.0) (sym h.1) h.2.adds, grows_taken h.0 y es h.3)
 
-pub calls_of : (x y : Pass) (mine : List TakenStep) → IsRun x.setup x.seen → Takes x mine y → Calls x mine y
+pub calls_of : (x y : SeatView) (mine : List TakenStep) → IsRun x.setup x.seen → Takes x mine y → Calls x mine y
 calls_of x y mine run h = calls_grown x y mine run (grows_taken x y mine h)
 
 -- where nothing is pending, the steps carry nothing
-nothing_carried : (z y : Pass) (es : List TakenStep) → Takes z es y → z.fallen ≡ false → z.start ≡ None → All (λ (f : TakenStep). f.step.crashed ≡ false) es × All (λ (f : TakenStep). f.step.start ≡ None) es × (starts es ≡ [])
-nothing_carried z y [] h calm none = (All-nil _, All-nil _, refl)
-nothing_carried z y (e ∷ es) h calm none =
+nothing_carried : (z y : SeatView) (es : List TakenStep) → Takes z es y → z.fallen ≡ false → z.start ≡ None → All (λ (f : TakenStep). f.step.crashed ≡ false) es × All (λ (f : TakenStep). f.step.start ≡ None) es × (starts es ≡ [])
+nothing_carried z y [] h never_crashes none = (All-nil _, All-nil _, refl)
+nothing_carried z y (e ∷ es) h never_crashes none =
     let later = nothing_carried h.0 y es h.3 h.2.fallen h.2.start in
     let first : e.step.start ≡ None = ap (λ (f : TakenStep). f.step.start) h.1 ∙ none in
-    (All-cons (λ (f : TakenStep). f.step.crashed ≡ false) e es (ap (λ (f : TakenStep). f.step.crashed) h.1 ∙ calm) later.0, All-cons (λ (f : TakenStep). f.step.start ≡ None) e es first later.1, ap (λ (o : Option Call). and_call o (starts es)) first ∙ later.2)
+    (All-cons (λ (f : TakenStep). f.step.crashed ≡ false) e es (ap (λ (f : TakenStep). f.step.crashed) h.1 ∙ never_crashes) later.0, All-cons (λ (f : TakenStep). f.step.start ≡ None) e es first later.1, ap (λ (o : Option Call). and_call o (starts es)) first ∙ later.2)
 
-pub first_crash : (x y : Pass) (mine : List TakenStep) → Takes x mine y → FirstCrash x.fallen mine
+pub first_crash : (x y : SeatView) (mine : List TakenStep) → Takes x mine y → FirstCrash x.fallen mine
 first_crash x y [] h = tt
 first_crash x y (e ∷ es) h = (ap (λ (f : TakenStep). f.step.crashed) h.1, (nothing_carried h.0 y es h.3 h.2.fallen h.2.start).0)
 
-pub started_as : (x y : Pass) (mine : List TakenStep) (call : Call) → Takes x mine y → x.start ≡ Some call → (mine ≡ []) ⊎ (starts mine ≡ call ∷ [])
+pub started_as : (x y : SeatView) (mine : List TakenStep) (call : Call) → Takes x mine y → x.start ≡ Some call → (mine ≡ []) ⊎ (starts mine ≡ call ∷ [])
 started_as x y [] call h is = inl refl
 started_as x y (e ∷ es) call h is =
     let first : e.step.start ≡ Some call = ap (λ (f : TakenStep). f.step.start) h.1 ∙ is in
     inr (ap (λ (o : Option Call). and_call o (starts es)) first ∙ ap (λ (cs : List Call). call ∷ cs) (nothing_carried h.0 y es h.3 h.2.fallen h.2.start).2)
 
-pub first_start : (x y : Pass) (mine : List TakenStep) (call : Call) → Takes x mine y → x.start ≡ Some call → (mine ≡ [] → ⊥) → FirstStart call mine
+pub first_start : (x y : SeatView) (mine : List TakenStep) (call : Call) → Takes x mine y → x.start ≡ Some call → (mine ≡ [] → ⊥) → FirstStart call mine
 first_start x y [] call h is some = some refl
 first_start x y (e ∷ es) call h is some = (ap (λ (f : TakenStep). f.step.start) h.1 ∙ is, (nothing_carried h.0 y es h.3 h.2.fallen h.2.start).1)
 
-pub are_moves : (x y : Pass) (mine : List TakenStep) → Takes x mine y → AreMoves mine
+pub are_moves : (x y : SeatView) (mine : List TakenStep) → Takes x mine y → AreMoves mine
 are_moves x y [] h = All-nil _
 are_moves x y (e ∷ es) h = All-cons (λ (f : TakenStep). is_glance f.step.kind ≡ false) e es h.4 (are_moves h.0 y es h.3)
 
 -- after a step nothing is pending
-pub nothing_owed : (x y : Pass) (mine : List TakenStep) → Takes x mine y → (mine ≡ [] → ⊥) → (y.fallen ≡ false) × (y.start ≡ None)
-nothing_owed x y [] h some = absurd (some refl)
-nothing_owed x y (e ∷ []) h some = (ap (λ (p : Pass). p.fallen) h.3 ∙ h.2.fallen, ap (λ (p : Pass). p.start) h.3 ∙ h.2.start)
-nothing_owed x y (e ∷ f ∷ es) h some = nothing_owed h.0 y (f ∷ es) h.3 (λ k. cc)
+pub nothing_pending_events : (x y : SeatView) (mine : List TakenStep) → Takes x mine y → (mine ≡ [] → ⊥) → (y.fallen ≡ false) × (y.start ≡ None)
+nothing_pending_events x y [] h some = absurd (some refl)
+nothing_pending_events x y (e ∷ []) h some = (ap (λ (p : SeatView). p.fallen) h.3 ∙ h.2.fallen, ap (λ (p : SeatView). p.start) h.3 ∙ h.2.start)
+nothing_pending_events x y (e ∷ f ∷ es) h some = nothing_pending_events h.0 y (f ∷ es) h.3 (λ k. cc)
 
-pub served_of : (x y : Seated) (call : Call) (answers : List Answer) (blocked : ℕ) (mine : List TakenStep) → IsPass x.pass → x.pass.start ≡ Some call → Takes x.pass mine y.pass → answers_of x.pass mine ≡ answers → blocked_of x.pass mine ≡ blocked
+pub served_of : (x y : Seated) (call : Call) (answers : List Answer) (blocked : ℕ) (mine : List TakenStep) → IsSeatView x.seat_view → x.seat_view.start ≡ Some call → Takes x.seat_view mine y.seat_view → answers_of x.seat_view mine ≡ answers → blocked_of x.seat_view mine ≡ blocked
     → y.steps ≡ many_more (length mine) x.steps → (mine ≡ [] → ⊥) → Served x call answers blocked y mine
-served_of x y call answers blocked mine pass start takes answered blocks steps some =
-    let owed = nothing_owed x.pass y.pass mine takes some in
+served_of x y call answers blocked mine seat_view start takes answered blocks steps some =
+    let pending_events = nothing_pending_events x.seat_view y.seat_view mine takes some in
     record {
-      calls = calls_of x.pass y.pass mine pass.run takes;
-      crash = first_crash x.pass y.pass mine takes;
-      started = at_all (started_as x.pass y.pass mine call takes start);
-      first = first_start x.pass y.pass mine call takes start some;
-      moves = are_moves x.pass y.pass mine takes;
+      calls = calls_of x.seat_view y.seat_view mine seat_view.run takes;
+      crash = first_crash x.seat_view y.seat_view mine takes;
+      started = at_all (started_as x.seat_view y.seat_view mine call takes start);
+      first = first_start x.seat_view y.seat_view mine call takes start some;
+      moves = are_moves x.seat_view y.seat_view mine takes;
       answered = answered;
       blocks = blocks;
       steps = steps;
-      alive = owed.0;
-      idle = owed.1;
+      alive = pending_events.0;
+      idle = pending_events.1;
     }
   where
     at_all : (mine ≡ []) ⊎ (starts mine ≡ call ∷ []) → starts mine ≡ call ∷ []
     at_all (inl e) = absurd (some e)
     at_all (inr e) = e
 
-pub calls_fell : (x z y : Pass) (mine : List TakenStep) → Calls x mine z → y ≡ record z { fallen = true; start = None } → Calls x mine y
+pub calls_fell : (x z y : SeatView) (mine : List TakenStep) → Calls x mine z → y ≡ record z { fallen = true; start = None } → Calls x mine y
 calls_fell x z y mine c e = subst (Calls x mine) (sym e) (record { table = c.table; setup = c.setup; by = c.by; since = c.since; seen = c.seen; mine_are = c.mine_are; last = c.last; run = c.run })
 
-pub crashes_of : (x y : Seated) (call : Call) (mine : List TakenStep) → IsPass x.pass → x.pass.start ≡ Some call → CutOff x mine y → Crashes x call y mine
-crashes_of x y call mine pass start cut =
-    let is = ap (λ (s : Seated). s.pass) cut.crash in
+pub crashes_of : (x y : Seated) (call : Call) (mine : List TakenStep) → IsSeatView x.seat_view → x.seat_view.start ≡ Some call → CutOff x mine y → Crashes x call y mine
+crashes_of x y call mine seat_view start cut =
+    let is = ap (λ (s : Seated). s.seat_view) cut.crash in
     record {
-      calls = calls_fell x.pass cut.last.pass y.pass mine (calls_of x.pass cut.last.pass mine pass.run cut.takes) is;
-      unmoved = λ none. ap (λ (p : Pass). p.seen) is ∙ ap (λ (p : Pass). p.seen) (subst (λ (es : List TakenStep). Takes x.pass es cut.last.pass) none cut.takes);
-      crash = first_crash x.pass cut.last.pass mine cut.takes;
-      started = started_as x.pass cut.last.pass mine call cut.takes start;
+      calls = calls_fell x.seat_view cut.last.seat_view y.seat_view mine (calls_of x.seat_view cut.last.seat_view mine seat_view.run cut.takes) is;
+      unmoved = λ none. ap (λ (p : SeatView). p.seen) is ∙ ap (λ (p : SeatView). p.seen) (subst (λ (es : List TakenStep). Takes x.seat_view es cut.last.seat_view) none cut.takes);
+      crash = first_crash x.seat_view cut.last.seat_view mine cut.takes;
+      started = started_as x.seat_view cut.last.seat_view mine call cut.takes start;
       steps = ap (λ (s : Seated). s.steps) cut.crash ∙ cut.steps;
-      fallen = ap (λ (p : Pass). p.fallen) is;
-      idle = ap (λ (p : Pass). p.start) is;
+      fallen = ap (λ (p : SeatView). p.fallen) is;
+      idle = ap (λ (p : SeatView). p.start) is;
     }
 
 -- there is at least one step with an answer
-pub some_steps : (x : Seated) (mine : List TakenStep) (a : Answer) → answers_of x.pass mine ≡ a ∷ [] → mine ≡ [] → ⊥
-some_steps x mine a e none = absurd (let k : [] ≡ a ∷ [] = sym (ap (answers_of x.pass) none) ∙ e in cc)
+pub some_steps : (x : Seated) (mine : List TakenStep) (a : Answer) → answers_of x.seat_view mine ≡ a ∷ [] → mine ≡ [] → ⊥
+some_steps x mine a e none = absurd (let k : [] ≡ a ∷ [] = sym (ap (answers_of x.seat_view) none) ∙ e in cc)
 
-pub served_ran : (x y : Seated) (call : Call) (a : Answer) (mine : List TakenStep) → IsPass x.pass → x.pass.start ≡ Some call → Ran x (Some a) y mine → Served x call (a ∷ []) 0 y mine
-served_ran x y call a mine pass start r = served_of x y call (a ∷ []) 0 mine pass start r.takes r.answers r.blocked r.steps (some_steps x mine a r.answers)
+pub served_ran : (x y : Seated) (call : Call) (a : Answer) (mine : List TakenStep) → IsSeatView x.seat_view → x.seat_view.start ≡ Some call → Ran x (Some a) y mine → Served x call (a ∷ []) 0 y mine
+served_ran x y call a mine seat_view start r = served_of x y call (a ∷ []) 0 mine seat_view start r.takes r.answers r.blocked r.steps (some_steps x mine a r.answers)
 
 pub cut_ran : (x y z : Seated) (o : Option Answer) (mine : List TakenStep) → Ran x o y mine → z ≡ fell y → CutOff x mine z
 cut_ran x y z o mine r e = record { last = y; takes = r.takes; steps = r.steps; crash = e }
@@ -143,5 +143,5 @@ on_err P (Err e) p = p
 pub fell_more : (mine : List TakenStep) (asked before now : ℕ) → now ≡ one_more before → before ≡ many_more (length mine) asked → now ≡ many_more (length mine + 1) asked
 fell_more mine asked before now e f = e ∙ ap one_more f ∙ ap (λ (k : ℕ). many_more k asked) (let s : suc (length mine) ≡ length mine + 1 = omega arith in s)
 
-pub served_as : (x y z : Seated) (call : Call) (a : Answer) (mine : List TakenStep) → IsPass x.pass → x.pass.start ≡ Some call → {o : Option Answer} → o ≡ Some a → Ran x o y mine → z ≡ y → Served x call (a ∷ []) 0 z mine
-served_as x y z call a mine pass start {o} is r e = subst (λ (s : Seated). Served x call (a ∷ []) 0 s mine) (sym e) (served_ran x y call a mine pass start (subst (λ (t : Option Answer). Ran x t y mine) is r))
+pub served_as : (x y z : Seated) (call : Call) (a : Answer) (mine : List TakenStep) → IsSeatView x.seat_view → x.seat_view.start ≡ Some call → {o : Option Answer} → o ≡ Some a → Ran x o y mine → z ≡ y → Served x call (a ∷ []) 0 z mine
+served_as x y z call a mine seat_view start {o} is r e = subst (λ (s : Seated). Served x call (a ∷ []) 0 s mine) (sym e) (served_ran x y call a mine seat_view start (subst (λ (t : Option Answer). Ran x t y mine) is r))

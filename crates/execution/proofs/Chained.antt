@@ -1,18 +1,18 @@
 -- Calls in a row are calls.
 use Rattle.std.proofs.Common.{◌≡◌, ℕ, suc, ◌+◌, ◌⊎◌, Bool, false, List, [], ◌∷◌, ◌++◌, length, Option, Some, None, All, refl, sym, ap, ◌∙◌, subst, inl, inr, arith, append-nil, append_assoc, length-append}
-use Rattle.execution.proofs.Common.{All-nil, All-cons, All-append, is_glance, one_more, Answer, Call, Lock, Spot, at_rest, TakenStep, Setup, and_call, starts, FirstStart, FirstCrash, answers_of}
-use Rattle.execution.proofs.Common.{blocked_of, Ran, CutOff, Crashes, StartsWith, FirstStarts, answers_from, blocked_from, ServedAll, CrashesIn, Calm, Fell, CutBy, CutIn, AnsweredBy, LockBy, LockEnds}
-use Rattle.execution.proofs.Common.{Pass, IsPass, EndsWith, Calls, Seated, many_more, fell, behind, spelled, own, gone, spot_of}
+use Rattle.execution.proofs.Common.{All-nil, All-cons, All-append, is_glance, one_more, Answer, Call, Lock, ProcessState, at_rest, TakenStep, Setup, and_call, starts, FirstStart, FirstCrash, answers_of}
+use Rattle.execution.proofs.Common.{blocked_of, Ran, CutOff, Crashes, StartsWith, FirstStarts, answers_from, blocked_from, ServedAll, CrashesIn, NeverCrashes, Fell, CutBy, CutIn, AnsweredBy, LockBy, LockEnds}
+use Rattle.execution.proofs.Common.{SeatView, IsSeatView, EndsWith, Calls, Seated, many_more, fell, behind, spelled, own, gone, process_state_of}
 use Rattle.execution.proofs.Runs.{own-append, spelled-append}
 use Rattle.execution.proofs.Leads.{gone-append}
 use Rattle.execution.proofs.Called.{ends_cons, calls_fell, served_ran, crashes_of}
 use Rattle.execution.proofs.Turned.{answers-append, blocked-append, many_append, many_add}
 
 -- the state after some own entries
-pub calls_spot : (x y : Pass) (mine : List TakenStep) → Calls x mine y → spot_of y.setup y.by y.seen ≡ gone x.setup (spot_of x.setup x.by x.seen) (spelled mine)
-calls_spot x y mine c =
+pub calls_process_state : (x y : SeatView) (mine : List TakenStep) → Calls x mine y → process_state_of y.setup y.by y.seen ≡ gone x.setup (process_state_of x.setup x.by x.seen) (spelled mine)
+calls_process_state x y mine c =
     let own_are : own x.by y.seen ≡ own x.by x.seen ++ mine = ap (own x.by) c.seen ∙ own-append x.by x.seen c.since ∙ ap (λ (l : List TakenStep). own x.by x.seen ++ l) c.mine_are in
-    ap (λ (t : Setup × ℕ). spot_of t.0 t.1 y.seen) (λ i. (c.setup i, c.by i))
+    ap (λ (t : Setup × ℕ). process_state_of t.0 t.1 y.seen) (λ i. (c.setup i, c.by i))
     ∙ ap (λ (es : List TakenStep). gone x.setup at_rest (spelled es)) own_are
     ∙ ap (gone x.setup at_rest) (spelled-append (own x.by x.seen) mine)
     ∙ gone-append x.setup at_rest (spelled (own x.by x.seen)) (spelled mine)
@@ -26,7 +26,7 @@ ends_both : (a b es fs : List TakenStep) → EndsWith a es → EndsWith b fs →
 ends_both a [] es fs h k none = subst (λ (t : List TakenStep × List TakenStep). EndsWith t.0 t.1) (λ i. (sym (append-nil a) i, sym (none refl) i)) h
 ends_both a (f ∷ more) es fs h k none = ends_after a f more fs k
 
-calls-append : (x y z : Pass) (a b : List TakenStep) → Calls x a y → Calls y b z → (b ≡ [] → z.seen ≡ y.seen) → Calls x (a ++ b) z
+calls-append : (x y z : SeatView) (a b : List TakenStep) → Calls x a y → Calls y b z → (b ≡ [] → z.seen ≡ y.seen) → Calls x (a ++ b) z
 calls-append x y z a b c d none = record {
   table = d.table ∙ c.table;
   setup = d.setup ∙ c.setup;
@@ -46,13 +46,13 @@ starts-append : (a b : List TakenStep) → starts (a ++ b) ≡ starts a ++ start
 starts-append [] b = refl
 starts-append (e ∷ es) b = ap (and_call e.step.start) (starts-append es b) ∙ and_call-append e.step.start (starts es) (starts b)
 
-calm_all : (b : List TakenStep) → FirstCrash false b → All (λ (f : TakenStep). f.step.crashed ≡ false) b
-calm_all [] h = All-nil _
-calm_all (e ∷ es) h = All-cons (λ (f : TakenStep). f.step.crashed ≡ false) e es h.0 h.1
+never_crashes_all : (b : List TakenStep) → FirstCrash false b → All (λ (f : TakenStep). f.step.crashed ≡ false) b
+never_crashes_all [] h = All-nil _
+never_crashes_all (e ∷ es) h = All-cons (λ (f : TakenStep). f.step.crashed ≡ false) e es h.0 h.1
 
 first-append : (c : Bool) (a b : List TakenStep) → (a ≡ [] → ⊥) → FirstCrash c a → FirstCrash false b → FirstCrash c (a ++ b)
 first-append c [] b some h k = absurd (some refl)
-first-append c (e ∷ es) b some h k = (h.0, All-append (λ (f : TakenStep). f.step.crashed ≡ false) es b h.1 (calm_all b k))
+first-append c (e ∷ es) b some h k = (h.0, All-append (λ (f : TakenStep). f.step.crashed ≡ false) es b h.1 (never_crashes_all b k))
 
 some_more : (a b : List TakenStep) → (a ≡ [] → ⊥) → a ++ b ≡ [] → ⊥
 some_more [] b some e = some refl
@@ -74,30 +74,30 @@ first_more c d [] ds a b h = starts_on c a b (starts_alone c a h)
 first_more c d (k ∷ ks) ds a b h = starts_on c a b h
 
 -- the base is the same where only a start is pending
-calls_from : (y z : Pass) (c : Call) (n : List TakenStep) → Calls (record y { start = Some c }) n z → Calls y n z
+calls_from : (y z : SeatView) (c : Call) (n : List TakenStep) → Calls (record y { start = Some c }) n z → Calls y n z
 calls_from y z c n d = record { table = d.table; setup = d.setup; by = d.by; since = d.since; seen = d.seen; mine_are = d.mine_are; last = d.last; run = d.run }
 
 served_from : (y z : Seated) (c : Call) (order : List Call) (told : List Answer) (k : ℕ) (n : List TakenStep) → ServedAll (behind y c) order told k z n → ServedAll y order told k z n
-served_from y z c order told k n s = record { calls = calls_from y.pass z.pass c n s.calls; crash = s.crash; started = s.started; first = s.first; moves = s.moves; answered = s.answered; blocks = s.blocks; steps = s.steps; alive = s.alive; idle = s.idle }
+served_from y z c order told k n s = record { calls = calls_from y.seat_view z.seat_view c n s.calls; crash = s.crash; started = s.started; first = s.first; moves = s.moves; answered = s.answered; blocks = s.blocks; steps = s.steps; alive = s.alive; idle = s.idle }
 
 crashes_from : (y z : Seated) (c : Call) (P : List Call → Type 0) (n : List TakenStep) → CrashesIn (behind y c) P z n → CrashesIn y P z n
-crashes_from y z c P n s = record { calls = calls_from y.pass z.pass c n s.calls; unmoved = s.unmoved; crash = s.crash; started = s.started; steps = s.steps; fallen = s.fallen; idle = s.idle }
+crashes_from y z c P n s = record { calls = calls_from y.seat_view z.seat_view c n s.calls; unmoved = s.unmoved; crash = s.crash; started = s.started; steps = s.steps; fallen = s.fallen; idle = s.idle }
 
 module _ (x y z : Seated) (c : Call) (cs : List Call) (told : List Answer) (j : ℕ) (m : List TakenStep) (s : ServedAll x (c ∷ cs) told j y m) where
-  later_answers : (n : List TakenStep) → answers_of x.pass (m ++ n) ≡ told ++ answers_of y.pass n
+  later_answers : (n : List TakenStep) → answers_of x.seat_view (m ++ n) ≡ told ++ answers_of y.seat_view n
   later_answers n =
-      answers-append x.pass.setup (spot_of x.pass.setup x.pass.by x.pass.seen) m n ∙ ap (λ (l : List Answer). l ++ answers_from x.pass.setup (gone x.pass.setup (spot_of x.pass.setup x.pass.by x.pass.seen) (spelled m)) n) s.answered
-      ∙ ap (λ (u : Setup × Spot). told ++ answers_from u.0 u.1 n) (λ i. (sym s.calls.setup i, sym (calls_spot x.pass y.pass m s.calls) i))
+      answers-append x.seat_view.setup (process_state_of x.seat_view.setup x.seat_view.by x.seat_view.seen) m n ∙ ap (λ (l : List Answer). l ++ answers_from x.seat_view.setup (gone x.seat_view.setup (process_state_of x.seat_view.setup x.seat_view.by x.seat_view.seen) (spelled m)) n) s.answered
+      ∙ ap (λ (u : Setup × ProcessState). told ++ answers_from u.0 u.1 n) (λ i. (sym s.calls.setup i, sym (calls_process_state x.seat_view y.seat_view m s.calls) i))
 
-  later_blocked : (n : List TakenStep) → blocked_of x.pass (m ++ n) ≡ j + blocked_of y.pass n
+  later_blocked : (n : List TakenStep) → blocked_of x.seat_view (m ++ n) ≡ j + blocked_of y.seat_view n
   later_blocked n =
-      blocked-append x.pass.setup (spot_of x.pass.setup x.pass.by x.pass.seen) m n ∙ ap (λ (k : ℕ). k + blocked_from x.pass.setup (gone x.pass.setup (spot_of x.pass.setup x.pass.by x.pass.seen) (spelled m)) n) s.blocks
-      ∙ ap (λ (u : Setup × Spot). j + blocked_from u.0 u.1 n) (λ i. (sym s.calls.setup i, sym (calls_spot x.pass y.pass m s.calls) i))
+      blocked-append x.seat_view.setup (process_state_of x.seat_view.setup x.seat_view.by x.seat_view.seen) m n ∙ ap (λ (k : ℕ). k + blocked_from x.seat_view.setup (gone x.seat_view.setup (process_state_of x.seat_view.setup x.seat_view.by x.seat_view.seen) (spelled m)) n) s.blocks
+      ∙ ap (λ (u : Setup × ProcessState). j + blocked_from u.0 u.1 n) (λ i. (sym s.calls.setup i, sym (calls_process_state x.seat_view y.seat_view m s.calls) i))
 
   pub served-append : (d : Call) (ds : List Call) (bs : List Answer) (k : ℕ) (n : List TakenStep) → ServedAll y (d ∷ ds) bs k z n → ServedAll x (c ∷ cs ++ d ∷ ds) (told ++ bs) (j + k) z (m ++ n)
   served-append d ds bs k n t = record {
-    calls = calls-append x.pass y.pass z.pass m n s.calls t.calls (λ none. absurd (some_started d ds n t.started none));
-    crash = first-append x.pass.fallen m n (some_started c cs m s.started) s.crash (subst (λ (b : Bool). FirstCrash b n) s.alive t.crash);
+    calls = calls-append x.seat_view y.seat_view z.seat_view m n s.calls t.calls (λ none. absurd (some_started d ds n t.started none));
+    crash = first-append x.seat_view.fallen m n (some_started c cs m s.started) s.crash (subst (λ (b : Bool). FirstCrash b n) s.alive t.crash);
     started = starts-append m n ∙ ap (λ (l : List Call). l ++ starts n) s.started ∙ ap (λ (l : List Call). c ∷ cs ++ l) t.started;
     first = first_more c d cs ds m n s.first;
     moves = All-append (λ (e : TakenStep). is_glance e.step.kind ≡ false) m n s.moves t.moves;
@@ -113,9 +113,9 @@ module _ (x y z : Seated) (c : Call) (cs : List Call) (told : List Answer) (j : 
   crashes_after P Q n t first more =
       let started : starts (m ++ n) ≡ c ∷ cs ++ starts n = starts-append m n ∙ ap (λ (l : List Call). l ++ starts n) s.started in
       record {
-        calls = calls-append x.pass y.pass z.pass m n s.calls t.calls t.unmoved;
+        calls = calls-append x.seat_view y.seat_view z.seat_view m n s.calls t.calls t.unmoved;
         unmoved = λ none. absurd (some_more m n (some_started c cs m s.started) none);
-        crash = first-append x.pass.fallen m n (some_started c cs m s.started) s.crash (subst (λ (b : Bool). FirstCrash b n) s.alive t.crash);
+        crash = first-append x.seat_view.fallen m n (some_started c cs m s.started) s.crash (subst (λ (b : Bool). FirstCrash b n) s.alive t.crash);
         started = inr (subst Q (sym started) (either t.started));
         steps = t.steps ∙ ap (many_more (length n)) s.steps ∙ many_append m n x.steps;
         fallen = t.fallen;
@@ -129,25 +129,25 @@ module _ (x y z : Seated) (c : Call) (cs : List Call) (told : List Answer) (j : 
   -- a crash right after them
   pub crashes_behind : (Q : List Call → Type 0) → z ≡ fell y → Q (c ∷ cs) → CrashesIn x Q z m
   crashes_behind Q e q = record {
-    calls = calls_fell x.pass y.pass z.pass m s.calls (ap (λ (u : Seated). u.pass) e);
+    calls = calls_fell x.seat_view y.seat_view z.seat_view m s.calls (ap (λ (u : Seated). u.seat_view) e);
     unmoved = λ none. absurd (some_started c cs m s.started none);
     crash = s.crash;
     started = inr (subst Q (sym s.started) q);
     steps = ap (λ (u : Seated). u.steps) e ∙ s.steps;
-    fallen = ap (λ (u : Seated). u.pass.fallen) e;
-    idle = ap (λ (u : Seated). u.pass.start) e;
+    fallen = ap (λ (u : Seated). u.seat_view.fallen) e;
+    idle = ap (λ (u : Seated). u.seat_view.start) e;
   }
 
 pub none_more : (m : List TakenStep) (c : ℕ) → many_more (length m) c ≡ many_more (length m + 0) c
 none_more m c = ap (λ (t : ℕ). many_more t c) (let e : length m ≡ length m + 0 = omega arith in e)
 
-calm-append : (m n : List TakenStep) (more a0 a1 a2 f0 f1 f2 : ℕ) → Calm (length m + 0) a0 a1 f0 f1 → Calm (length n + more) a1 a2 f1 f2 → Calm (length (m ++ n) + more) a0 a2 f0 f2
-calm-append m n more a0 a1 a2 f0 f1 f2 h k =
+never_crashes-append : (m n : List TakenStep) (more a0 a1 a2 f0 f1 f2 : ℕ) → NeverCrashes (length m + 0) a0 a1 f0 f1 → NeverCrashes (length n + more) a1 a2 f1 f2 → NeverCrashes (length (m ++ n) + more) a0 a2 f0 f2
+never_crashes-append m n more a0 a1 a2 f0 f1 f2 h k =
     let l = length-append m n in
     let sum : (length m + 0) + (length n + more) ≡ length (m ++ n) + more = omega arith in
     (k.0 ∙ ap (many_more (length n + more)) h.0 ∙ many_add (length m + 0) (length n + more) a0 ∙ ap (λ (t : ℕ). many_more t a0) sum, k.1 ∙ h.1)
 
-fell-append : (m n : List TakenStep) (a0 a1 a2 f0 f1 f2 : ℕ) → Calm (length m + 0) a0 a1 f0 f1 → Fell (length n + 1) a1 a2 f1 f2 → Fell (length (m ++ n) + 1) a0 a2 f0 f2
+fell-append : (m n : List TakenStep) (a0 a1 a2 f0 f1 f2 : ℕ) → NeverCrashes (length m + 0) a0 a1 f0 f1 → Fell (length n + 1) a1 a2 f1 f2 → Fell (length (m ++ n) + 1) a0 a2 f0 f2
 fell-append m n a0 a1 a2 f0 f1 f2 h k =
     let l = length-append m n in
     let sum : (length m + 0) + (length n + 1) ≡ length (m ++ n) + 1 = omega arith in
@@ -165,17 +165,17 @@ cut_asked x y z c cs told j a0 a1 a2 f0 f1 f2 Q h e a f q = (h.0, crashes_behind
 
 pub answered-append : (x y z : Seated) (c d : Call) (cs ds : List Call) (told bs : List Answer) (j k more a0 a1 a2 f0 f1 f2 : ℕ) → AnsweredBy 0 x (c ∷ cs) told j y a0 a1 f0 f1 → AnsweredBy more y (d ∷ ds) bs k z a1 a2 f1 f2
     → AnsweredBy more x (c ∷ cs ++ d ∷ ds) (told ++ bs) (j + k) z a0 a2 f0 f2
-answered-append x y z c d cs ds told bs j k more a0 a1 a2 f0 f1 f2 h t = (h.0 ++ t.0, served-append x y z c cs told j h.0 h.1 d ds bs k t.0 t.1, calm-append h.0 t.0 more a0 a1 a2 f0 f1 f2 h.2 t.2)
+answered-append x y z c d cs ds told bs j k more a0 a1 a2 f0 f1 f2 h t = (h.0 ++ t.0, served-append x y z c cs told j h.0 h.1 d ds bs k t.0 t.1, never_crashes-append h.0 t.0 more a0 a1 a2 f0 f1 f2 h.2 t.2)
 
 pub cut_after : (x y z : Seated) (c : Call) (cs : List Call) (told : List Answer) (j a0 a1 a2 f0 f1 f2 : ℕ) (P Q : List Call → Type 0) → AnsweredBy 0 x (c ∷ cs) told j y a0 a1 f0 f1 → CutBy y P z a1 a2 f1 f2 → Q (c ∷ cs) → ((ds : List Call) → P ds → Q (c ∷ cs ++ ds)) → CutBy x Q z a0 a2 f0 f2
 cut_after x y z c cs told j a0 a1 a2 f0 f1 f2 P Q h t first more = (h.0 ++ t.0, crashes_after x y z c cs told j h.0 h.1 P Q t.0 t.1 first more, fell-append h.0 t.0 a0 a1 a2 f0 f1 f2 h.2 t.2)
 
 -- a call after another one
-pub ran_behind : (y z : Seated) (call : Call) (a : Answer) (n : List TakenStep) → IsPass (behind y call).pass → Ran (behind y call) (Some a) z n → ServedAll y (call ∷ []) (a ∷ []) 0 z n
-ran_behind y z call a n pass r = served_from y z call (call ∷ []) (a ∷ []) 0 n (served_ran (behind y call) z call a n pass refl r)
+pub ran_behind : (y z : Seated) (call : Call) (a : Answer) (n : List TakenStep) → IsSeatView (behind y call).seat_view → Ran (behind y call) (Some a) z n → ServedAll y (call ∷ []) (a ∷ []) 0 z n
+ran_behind y z call a n seat_view r = served_from y z call (call ∷ []) (a ∷ []) 0 n (served_ran (behind y call) z call a n seat_view refl r)
 
-pub cut_behind : (y z : Seated) (call : Call) (n : List TakenStep) → IsPass (behind y call).pass → CutOff (behind y call) n z → Crashes y call z n
-cut_behind y z call n pass h = crashes_from y z call (λ (order : List Call). order ≡ call ∷ []) n (crashes_of (behind y call) z call n pass refl h)
+pub cut_behind : (y z : Seated) (call : Call) (n : List TakenStep) → IsSeatView (behind y call).seat_view → CutOff (behind y call) n z → Crashes y call z n
+cut_behind y z call n seat_view h = crashes_from y z call (λ (order : List Call). order ≡ call ∷ []) n (crashes_of (behind y call) z call n seat_view refl h)
 
 -- a lock and the asking before its answer
 pub lock_asked : (x y z : Seated) (turns : ℕ) (o : Option Answer) (a0 a1 a2 f0 f1 f2 : ℕ) → LockBy 0 x turns o y a0 a1 f0 f1 → z ≡ y → a2 ≡ one_more a1 → f2 ≡ f1 → LockEnds x turns o z a0 a2 f0 f2
@@ -186,10 +186,10 @@ pub lock_cut : (x y z : Seated) (turns : ℕ) (o : Option Answer) (a0 a1 a2 f0 f
 lock_cut x y z turns (Some a) a0 a1 a2 f0 f1 f2 h e k f = cut_asked x y z Lock [] (a ∷ []) h.0 a0 a1 a2 f0 f1 f2 (λ (order : List Call). order ≡ Lock ∷ []) h.2 e k f refl
 lock_cut x y z turns None a0 a1 a2 f0 f1 f2 h e k f = cut_asked x y z Lock [] [] (turns + 1) a0 a1 a2 f0 f1 f2 (λ (order : List Call). order ≡ Lock ∷ []) h e k f refl
 
-pub lock_idle : (x y : Seated) (turns : ℕ) (o : Option Answer) (a0 a1 f0 f1 : ℕ) → LockBy 0 x turns o y a0 a1 f0 f1 → y.pass.start ≡ None
+pub lock_idle : (x y : Seated) (turns : ℕ) (o : Option Answer) (a0 a1 f0 f1 : ℕ) → LockBy 0 x turns o y a0 a1 f0 f1 → y.seat_view.start ≡ None
 lock_idle x y turns (Some a) a0 a1 f0 f1 h = h.2.1.idle
 lock_idle x y turns None a0 a1 f0 f1 h = h.1.idle
 
-pub lock_setup : (x y : Seated) (turns : ℕ) (o : Option Answer) (a0 a1 f0 f1 : ℕ) → LockBy 0 x turns o y a0 a1 f0 f1 → y.pass.setup ≡ x.pass.setup
+pub lock_setup : (x y : Seated) (turns : ℕ) (o : Option Answer) (a0 a1 f0 f1 : ℕ) → LockBy 0 x turns o y a0 a1 f0 f1 → y.seat_view.setup ≡ x.seat_view.setup
 lock_setup x y turns (Some a) a0 a1 f0 f1 h = h.2.1.calls.setup
 lock_setup x y turns None a0 a1 f0 f1 h = h.1.calls.setup

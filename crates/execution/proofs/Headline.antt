@@ -1,16 +1,16 @@
 -- The lock theorem over a run: where an append is answered it is shown.
 use Rattle.std.proofs.Common.{◌≡◌, ℕ, Bool, true, false, ◌⊎◌, List, [], ◌∷◌, ◌++◌, Option, None, refl, sym, ap, ◌∙◌, subst, inl, inr, append_assoc, append-nil, eq-eqb}
-use Rattle.execution.proofs.Common.{Layout, Message, Reply, Stored, Already, IsAmong, Script, Done, tail, all_after, State, empty, state_led, Call, Working, answer_by, Errand, Doing, Spot, Happening}
-use Rattle.execution.proofs.Common.{Moves, Scene, at_first, last_scene, onward, event_deeds, deeds, own_happenings, all_after-append, sound_ends, answers, TakenStep, Setup, deeds_of, judged_by, shown_by}
-use Rattle.execution.proofs.Common.{spot_at, AnsweredIsShown, before, taken, spelled, end_of, gone}
+use Rattle.execution.proofs.Common.{Layout, Message, Reply, Stored, Already, IsAmong, Script, Done, tail, all_after, State, empty, state_led, Call, Working, answer_by, ScriptState, Doing, ProcessState, WorldEvent}
+use Rattle.execution.proofs.Common.{Moves, GlobalState, at_first, last_global_state, onward, event_deeds, deeds, own_world_events, all_after-append, sound_ends, answers, TakenStep, Setup, deeds_of, judged_by, shown_by}
+use Rattle.execution.proofs.Common.{process_state_at, AnsweredIsShown, before, taken, spelled, end_of, gone}
 use Rattle.redomail.specs.declared.task.Task.TheVariants as task
-use Rattle.rmeworld.specs.Law.{AppendTells, ErrandTells, Tells, Sound, Sits}
-use Rattle.rmeworld.proofs.StoryGrows.{spots_are_own}
-use Rattle.execution.proofs.Runs.{spelled-append, spelled_snoc, spot_in_run, scene-append}
+use Rattle.rmeworld.specs.Law.{AppendTells, ScriptStateTells, Tells, Sound, Sits}
+use Rattle.rmeworld.proofs.ExecutionGrows.{process_states_are_own}
+use Rattle.execution.proofs.Runs.{spelled-append, spelled_snoc, process_state_in_run, global_state-append}
 use Rattle.execution.proofs.Running.{taken_moves}
 
 -- what a sound execution says of the event at some place in it
-pub tells_at : (l : Layout) (limit : ℕ) (w : Scene) (s : State) (xs : List Happening) (h : Happening) (ys : List Happening) → Sound l limit w s (xs ++ h ∷ ys) → Tells (last_scene l limit w xs) h (all_after s (deeds l limit w (xs ++ h ∷ []))).mail.shown
+pub tells_at : (l : Layout) (limit : ℕ) (w : GlobalState) (s : State) (xs : List WorldEvent) (h : WorldEvent) (ys : List WorldEvent) → Sound l limit w s (xs ++ h ∷ ys) → Tells (last_global_state l limit w xs) h (all_after s (deeds l limit w (xs ++ h ∷ []))).mail.shown
 tells_at l limit w s [] h ys k =
     let g = k.1 in
     subst (λ (t : State). Tells w h t.mail.shown) (state_led s g.0 (event_deeds l w h) g.1 ∙ ap (all_after s) (sym (append-nil (event_deeds l w h)))) g.2
@@ -19,22 +19,22 @@ tells_at l limit w s (x ∷ xs) h ys k =
     let later = tells_at l limit (onward l limit w x) g.0 xs h ys g.3 in
     let rest = deeds l limit (onward l limit w x) (xs ++ h ∷ []) in
     let there : all_after g.0 rest ≡ all_after s (event_deeds l w x ++ rest) = ap (λ (t : State). all_after t rest) (state_led s g.0 (event_deeds l w x) g.1) ∙ sym (all_after-append s (event_deeds l w x) rest) in
-    subst (λ (t : State). Tells (last_scene l limit (onward l limit w x) xs) h t.mail.shown) there later
+    subst (λ (t : State). Tells (last_global_state l limit (onward l limit w x) xs) h t.mail.shown) there later
 
 -- a process's own crash and start
-own_before : (c : Bool) (o : Option Call) (q : ℕ) → own_happenings q (before c o q) ≡ before c o q
+own_before : (c : Bool) (o : Option Call) (q : ℕ) → own_world_events q (before c o q) ≡ before c o q
 own_before false None q = refl
 own_before true None q = rw (eq-eqb q q refl) refl
 own_before _ _ q = rw (eq-eqb q q refl) refl
 
 -- the global state right before the step of e, after these entries
-abbrev pub scene_at : Setup → List TakenStep → TakenStep → Scene
-scene_at s es e = last_scene s.layout s.limit (end_of s es) (before e.step.crashed e.step.start e.by)
+abbrev pub global_state_at : Setup → List TakenStep → TakenStep → GlobalState
+global_state_at s es e = last_global_state s.layout s.limit (end_of s es) (before e.step.crashed e.step.start e.by)
 
-pub spot_is : (s : Setup) (es : List TakenStep) (e : TakenStep) → (scene_at s es e).spots e.by ≡ spot_at s es e
-spot_is s es e =
-    spots_are_own s.layout s.limit e.by (end_of s es) (before e.step.crashed e.step.start e.by) ∙ ap (gone s ((end_of s es).spots e.by)) (own_before e.step.crashed e.step.start e.by)
-    ∙ ap (λ (q : Spot). gone s q (before e.step.crashed e.step.start e.by)) (spot_in_run s es e.by)
+pub process_state_is : (s : Setup) (es : List TakenStep) (e : TakenStep) → (global_state_at s es e).process_states e.by ≡ process_state_at s es e
+process_state_is s es e =
+    process_states_are_own s.layout s.limit e.by (end_of s es) (before e.step.crashed e.step.start e.by) ∙ ap (gone s ((end_of s es).process_states e.by)) (own_before e.step.crashed e.step.start e.by)
+    ∙ ap (λ (q : ProcessState). gone s q (before e.step.crashed e.step.start e.by)) (process_state_in_run s es e.by)
 
 -- how far a run is spelled out before the step of e
 pub spelled_to : (s : Setup) (es : List TakenStep) (e : TakenStep) → spelled (es ++ e ∷ []) ≡ (spelled es ++ before e.step.crashed e.step.start e.by) ++ taken e.by e.step.kind e.step.word e.value ∷ []
@@ -49,18 +49,18 @@ answered s es sound front e back seq reply split ends stored =
     let l = s.layout in
     let hs = spelled front ++ before e.step.crashed e.step.start e.by in
     let h = taken e.by e.step.kind e.step.word e.value in
-    let whole : spelled es ≡ hs ++ h ∷ spelled back = ap spelled split ∙ spelled-append (front ++ e ∷ []) back ∙ ap (λ (xs : List Happening). xs ++ spelled back) (spelled_to s front e) ∙ append_assoc hs (h ∷ []) (spelled back) in
+    let whole : spelled es ≡ hs ++ h ∷ spelled back = ap spelled split ∙ spelled-append (front ++ e ∷ []) back ∙ ap (λ (xs : List WorldEvent). xs ++ spelled back) (spelled_to s front e) ∙ append_assoc hs (h ∷ []) (spelled back) in
     let told = tells_at l s.limit at_first (empty l.procs l.cap) hs h (spelled back) (subst (Sound l s.limit at_first (empty l.procs l.cap)) whole sound) in
-    let here : last_scene l s.limit at_first hs ≡ scene_at s front e = scene-append l s.limit at_first (spelled front) (before e.step.crashed e.step.start e.by) in
+    let here : last_global_state l s.limit at_first hs ≡ global_state_at s front e = global_state-append l s.limit at_first (spelled front) (before e.step.crashed e.step.start e.by) in
     let deeds_are : deeds l s.limit at_first (hs ++ h ∷ []) ≡ deeds_of s (front ++ e ∷ []) = ap (deeds l s.limit at_first) (sym (spelled_to s front e)) in
     let shown : List Message = shown_by s (front ++ e ∷ []) in
-    let moved : Tells (scene_at s front e) (Moves e.by e.step.kind e.step.word e.value) shown =
-    subst (λ (t : Scene × Happening × List Message). Tells t.0 t.1 t.2) (λ i. (here i, taken_moves e.by e.step.kind e.step.word e.value ends.step i, (all_after (empty l.procs l.cap) (deeds_are i)).mail.shown)) told in
-    let at_errand : ErrandTells e.by (Doing (Working (task.Append seq ends.value)) ends.left) e.value shown = subst (λ (x : Errand). ErrandTells e.by x e.value shown) (ap (λ (q : Spot). q.errand) (spot_is s front e) ∙ ends.append) moved in
-    let spot = spot_at s front e in
+    let moved : Tells (global_state_at s front e) (Moves e.by e.step.kind e.step.word e.value) shown =
+    subst (λ (t : GlobalState × WorldEvent × List Message). Tells t.0 t.1 t.2) (λ i. (here i, taken_moves e.by e.step.kind e.step.word e.value ends.step i, (all_after (empty l.procs l.cap) (deeds_are i)).mail.shown)) told in
+    let at_script_state : ScriptStateTells e.by (Doing (Working (task.Append seq ends.value)) ends.left) e.value shown = subst (λ (x : ScriptState). ScriptStateTells e.by x e.value shown) (ap (λ (q : ProcessState). q.script_state) (process_state_is s front e) ∙ ends.append) moved in
+    let process_state = process_state_at s front e in
     let done : tail ends.left e.value ≡ Done reply =
-    answers (task.Append seq ends.value) spot.mended (tail ends.left e.value) reply (ap (λ (x : Errand). answer_by spot.lock spot.mended spot.barred x e.step.kind e.value) (sym ends.append) ∙ ends.answer) in
-    append_shown e.by seq reply shown (subst (λ (r : Script Reply). AppendTells e.by seq r shown) done at_errand) stored
+    answers (task.Append seq ends.value) process_state.mended (tail ends.left e.value) reply (ap (λ (x : ScriptState). answer_by process_state.lock process_state.mended process_state.barred x e.step.kind e.value) (sym ends.append) ∙ ends.answer) in
+    append_shown e.by seq reply shown (subst (λ (r : Script Reply). AppendTells e.by seq r shown) done at_script_state) stored
 
 pub words_sit : (s : Setup) (es : List TakenStep) → Sound s.layout s.limit at_first (empty s.layout.procs s.layout.cap) (spelled es) → Sits s.layout (end_of s es).cells (judged_by s es)
 words_sit s es sound =

@@ -1,8 +1,8 @@
 -- Each step keeps the rule. What is proved here doesn't use the lock's machine.
 use Rattle.std.proofs.Common.{◌≡◌, ◌≢◌, ◌⊎◌, ℕ, zero, suc, ◌+◌, ◌<◌, ◌≤◌, ◌==◌, ltb, Bool, true, false, cond, All, true≢false, List, [], ◌∷◌, ◌++◌, length, set, replicate, refl, sym, ap, ◌∙◌, subst, inl, inr, ⊎_elim, arith, eqb-true, eq-eqb, ne_eqb, length-set, length-append, append_assoc, append-nil, ltb-true, ltb-false}
-use Rattle.execution.proofs.Common.{set-get_or, or_cases, All-nil, All-cons, All-append, slice_index, dite, ℕ_discrete, keeps, Allows, Splits, Joins, opening, Spot, at_rest, at_first, reading, Known, Step, TakenStep, View}
-use Rattle.execution.proofs.Common.{Setup, count_from, joined, IsIn, Did, MayLoad, stepper, entry_of, opening_known, longer, spent_known, IsAnswered, AllFit, IsMember, IsKept, Kept, May, MayStore, MayPass}
-use Rattle.execution.proofs.Common.{happenings, spelled, own, IsRun, end_of, gone, spot_of, has, index, InTable, Goes, word_count, IsBeyond, Shows, stores}
+use Rattle.execution.proofs.Common.{set-get_or, or_cases, All-nil, All-cons, All-append, slice_index, dite, ℕ_discrete, keeps, Allows, Splits, Joins, opening, ProcessState, at_rest, at_first, reading, SeatKnowledge, Step, TakenStep, View}
+use Rattle.execution.proofs.Common.{Setup, count_from, joined, IsIn, Did, MayLoad, stepper, entry_of, opening_known, longer, spent_known, IsAnswered, AllFit, IsMember, IsKept, Kept, May, MayStore, MaySeatView}
+use Rattle.execution.proofs.Common.{world_events, spelled, own, IsRun, end_of, gone, process_state_of, has, index, InTable, Goes, word_count, IsBeyond, Shows, stores}
 use mathlib.Core.Option.{Option, some, some-injective, some-ne-none}
 use lib.ListN.{get_elem?}
 use Rattle.atomic_table.specs.Table.{Act, Valid, stepped, carried_after}
@@ -50,20 +50,20 @@ within (y ∷ ys) zero x h = omega arith
 within (y ∷ ys) (suc i) x h = let k : i < length ys = within ys i x h in omega arith
 
 -- seat id still answers for p
-member_set : (views : List Known) (owner : ℕ → ℕ) (id : ℕ) (v w : Known) (p : ℕ) → get_elem? views id ≡ some v → (has p v.view.answers ≡ true → has p w.view.answers ≡ true) → IsMember views owner p → IsMember (set views id w) owner p
+member_set : (views : List SeatKnowledge) (owner : ℕ → ℕ) (id : ℕ) (v w : SeatKnowledge) (p : ℕ) → get_elem? views id ≡ some v → (has p v.view.answers ≡ true → has p w.view.answers ≡ true) → IsMember views owner p → IsMember (set views id w) owner p
 member_set views owner id v w p at keep m =
     dite (ℕ_discrete (owner p) id)
     (λ (s : owner p ≡ id).
     let same_one : m.0 ≡ v = some-injective m.0 v (sym m.1 ∙ ap (get_elem? views) s ∙ at) in
-    (w, ap (get_elem? (set views id w)) s ∙ set_here views id w (within views id v at), keep (ap (λ (u : Known). has p u.view.answers) (sym same_one) ∙ m.2)))
+    (w, ap (get_elem? (set views id w)) s ∙ set_here views id w (within views id v at), keep (ap (λ (u : SeatKnowledge). has p u.view.answers) (sym same_one) ∙ m.2)))
     (λ (s : owner p ≢ id). (m.0, set_else views id (owner p) w s ∙ m.1, m.2))
 
 -- the one lemma for all kinds: an entry that is allowed at the stepper's place, and by the words, prolongs the run
-module _ (sizes : Setup) (log : List TakenStep) (owner : ℕ → ℕ) (words : List ℕ) (views : List Known) (k : IsKept sizes log owner words views) (id : ℕ) (v : Known) (at : get_elem? views id ≡ some v) (step : Step) (value : ℕ) (may : May step v.view value) where
+module _ (sizes : Setup) (log : List TakenStep) (owner : ℕ → ℕ) (words : List ℕ) (views : List SeatKnowledge) (k : IsKept sizes log owner words views) (id : ℕ) (v : SeatKnowledge) (at : get_elem? views id ≡ some v) (step : Step) (value : ℕ) (may : May step v.view value) where
   abbrev e : TakenStep
   e = entry_of v.view step value
 
-  abbrev w : Known
+  abbrev w : SeatKnowledge
   w = record { view = record { setup = v.view.setup; answers = v.view.answers; seen = log ++ e ∷ [] }; told = [] }
 
   mine : IsAnswered sizes log owner id v.view (stepper v.view)
@@ -72,9 +72,9 @@ module _ (sizes : Setup) (log : List TakenStep) (owner : ℕ → ℕ) (words : L
   longer_run : (stores e ≡ false → reading (end_of sizes log) step.word ≡ value) → IsRun sizes (log ++ e ∷ [])
   longer_run reads =
       let p = stepper v.view in
-      let here : spot_of sizes p v.view.seen ≡ spot_of sizes p log = ap (λ (es : List TakenStep). gone sizes at_rest (spelled es)) (sym mine.own_is) in
-      let goes : Goes sizes (spot_of sizes p v.view.seen) (happenings e) = subst (λ (z : Setup). Goes z (spot_of z p v.view.seen) (happenings e)) mine.setup may.1 in
-      prolongs sizes log e k.run mine.within (subst (λ (q : Spot). Goes sizes q (happenings e)) here goes) reads
+      let here : process_state_of sizes p v.view.seen ≡ process_state_of sizes p log = ap (λ (es : List TakenStep). gone sizes at_rest (spelled es)) (sym mine.own_is) in
+      let goes : Goes sizes (process_state_of sizes p v.view.seen) (world_events e) = subst (λ (z : Setup). Goes z (process_state_of z p v.view.seen) (world_events e)) mine.setup may.1 in
+      prolongs sizes log e k.run mine.within (subst (λ (q : ProcessState). Goes sizes q (world_events e)) here goes) reads
 
   -- what was known of the caller's setup holds of the table's
   known : (P : Setup → Type 0) → P v.view.setup → P sizes
@@ -91,10 +91,10 @@ module _ (sizes : Setup) (log : List TakenStep) (owner : ℕ → ℕ) (words : L
   here : AllFit sizes (log ++ e ∷ []) owner id w
   here = ((([], sym (append-nil _)), λ p h. let x = (k.fits id v at).0.1 p h in record { setup = x.setup; within = x.within; seat = x.seat; own_is = refl }), All-nil _)
 
-  fits_after : (j : ℕ) (u : Known) → get_elem? (set views id w) j ≡ some u → AllFit sizes (log ++ e ∷ []) owner j u
+  fits_after : (j : ℕ) (u : SeatKnowledge) → get_elem? (set views id w) j ≡ some u → AllFit sizes (log ++ e ∷ []) owner j u
   fits_after j u there =
       ⊎_elim
-      (λ (x : (j ≡ id) × (w ≡ u)). subst (λ (y : ℕ × Known). AllFit sizes (log ++ e ∷ []) owner y.0 y.1) (λ i. (sym x.0 i, x.1 i)) here)
+      (λ (x : (j ≡ id) × (w ≡ u)). subst (λ (y : ℕ × SeatKnowledge). AllFit sizes (log ++ e ∷ []) owner y.0 y.1) (λ i. (sym x.0 i, x.1 i)) here)
       (λ (x : (j ≢ id) × (get_elem? views j ≡ some u)). let f = k.fits j u x.1 in (other_fits j u.view x.0 f.0, λ i d h. other_fits j _ x.0 (f.1 i d h)))
       (at_set views id j w u there)
 
@@ -126,10 +126,10 @@ module _ (sizes : Setup) (log : List TakenStep) (owner : ℕ → ℕ) (words : L
 
   -- so the step may be taken, and the caller learns this
   allowed : (homes : List (Option (Unit {0}))) (c : List (ℕ × Unit {0})) (word new : ℕ) (now : List ℕ) → set words word new ≡ now → IsKept sizes (log ++ e ∷ []) owner now (set views id w)
-      → (u : Known) × (a : Act (Unit {0})) × Valid homes c a × Kept sizes (stepped (record { words = words; homes = homes; views = views }) word new id c u a) × (Did step v value u × (carried_after c a ≡ c))
+      → (u : SeatKnowledge) × (a : Act (Unit {0})) × Valid homes c a × Kept sizes (stepped (record { words = words; homes = homes; views = views }) word new id c u a) × (Did step v value u × (carried_after c a ≡ c))
   allowed homes c word new now same kept = (w, keeps, tt, (log ++ e ∷ [], owner, subst (λ (ws : List ℕ). IsKept sizes (log ++ e ∷ []) owner ws (set views id w)) (sym same) kept), (told kept.run, refl))
 
-pub loads : (sizes : Setup) (slots id : ℕ) (v : Known) (c : List (ℕ × Unit {0})) (step : Step) (word : ℕ)
+pub loads : (sizes : Setup) (slots id : ℕ) (v : SeatKnowledge) (c : List (ℕ × Unit {0})) (step : Step) (word : ℕ)
     → MayLoad step word v.view
     → Allows (Kept sizes) slots id (v, c) word (λ x. x) (λ found m. Did step v found m.0 × (m.1 ≡ c))
 loads sizes slots id v c step word may s h homes at small =
@@ -140,7 +140,7 @@ loads sizes slots id v c step word may s h homes at small =
     let k = kept_load sizes h.0 h.1 s.words s.views h.2 id v at step value m there.1 may.2 (ap (slice_index s.words) (sym there.0)) in
     allowed sizes h.0 h.1 s.words s.views h.2 id v at step value m s.homes c word value s.words (set-get_or s.words word 0) k
 
-pub stores_kept : (sizes : Setup) (slots id : ℕ) (v : Known) (c : List (ℕ × Unit {0})) (step : Step) (word new : ℕ)
+pub stores_kept : (sizes : Setup) (slots id : ℕ) (v : SeatKnowledge) (c : List (ℕ × Unit {0})) (step : Step) (word new : ℕ)
     → MayStore step word v.view new
     → Allows (Kept sizes) slots id (v, c) word (λ _. new) (λ _ m. Did step v new m.0 × (m.1 ≡ c))
 stores_kept sizes slots id v c step word new may s h homes at small =
@@ -150,8 +150,8 @@ stores_kept sizes slots id v c step word new may s h homes at small =
     let k = kept_store sizes h.0 h.1 s.words s.views h.2 id v at step new m there.1 may.2 in
     allowed sizes h.0 h.1 s.words s.views h.2 id v at step new m s.homes c word new (set s.words (index sizes step.word) new) (ap (λ (i : ℕ). set s.words i new) there.0) k
 
-pub passes : (sizes : Setup) (slots id : ℕ) (v : Known) (c : List (ℕ × Unit {0})) (step : Step) (word value : ℕ)
-    → MayPass step v.view value
+pub passes : (sizes : Setup) (slots id : ℕ) (v : SeatKnowledge) (c : List (ℕ × Unit {0})) (step : Step) (word value : ℕ)
+    → MaySeatView step v.view value
     → Allows (Kept sizes) slots id (v, c) word (λ x. x) (λ found m. Did step v value m.0 × (m.1 ≡ c))
 passes sizes slots id v c step word value may s h homes at small =
     let m = may.2 in
@@ -209,8 +209,8 @@ count_has p k (suc n) l h =
 pub opens : (sizes : Setup) (words : List ℕ) (homes : List (Unit {0})) → words ≡ replicate (word_count sizes) 0 → Kept sizes (opening words homes (opening_known sizes))
 opens sizes words homes e = ([], λ _. 0, record { run = tt; shows = subst (Shows sizes at_first) (sym e) (shows_rest sizes); fits = fits; members = members })
   where
-    fits : (i : ℕ) (v : Known) → get_elem? (opening_known sizes ∷ []) i ≡ some v → AllFit sizes [] (λ _. 0) i v
-    fits zero v h = subst (λ (u : Known). AllFit sizes [] (λ _. 0) 0 u) (some-injective _ _ h) ((([], refl), λ p m. record { setup = refl; within = (let r = has_count p 0 sizes.layout.procs m in omega arith); seat = refl; own_is = refl }), All-nil _)
+    fits : (i : ℕ) (v : SeatKnowledge) → get_elem? (opening_known sizes ∷ []) i ≡ some v → AllFit sizes [] (λ _. 0) i v
+    fits zero v h = subst (λ (u : SeatKnowledge). AllFit sizes [] (λ _. 0) 0 u) (some-injective _ _ h) ((([], refl), λ p m. record { setup = refl; within = (let r = has_count p 0 sizes.layout.procs m in omega arith); seat = refl; own_is = refl }), All-nil _)
     fits (suc i) v h = absurd (some-ne-none v (sym h))
 
     members : (p : ℕ) → p < sizes.layout.procs → IsMember (opening_known sizes ∷ []) (λ _. 0) p
@@ -250,17 +250,17 @@ own_seat : (sizes : Setup) (log : List TakenStep) (owner now : ℕ → ℕ) (i j
 own_seat sizes log owner now i j v u q x seat setup seen = record { setup = setup ∙ x.setup; within = x.within; seat = seat; own_is = x.own_is ∙ ap (own q) (sym seen) }
 
 -- the first process of a seat gets a seat of its own
-module _ (sizes : Setup) (log : List TakenStep) (owner : ℕ → ℕ) (words : List ℕ) (views : List Known) (k : IsKept sizes log owner words views) (id : ℕ) (mine : Setup) (p : ℕ) (ps : List ℕ) (seen : List TakenStep) where
-  abbrev whole : Known
+module _ (sizes : Setup) (log : List TakenStep) (owner : ℕ → ℕ) (words : List ℕ) (views : List SeatKnowledge) (k : IsKept sizes log owner words views) (id : ℕ) (mine : Setup) (p : ℕ) (ps : List ℕ) (seen : List TakenStep) where
+  abbrev whole : SeatKnowledge
   whole = record { view = record { setup = mine; answers = p ∷ ps; seen = seen }; told = [] }
 
-  abbrev left : Known
+  abbrev left : SeatKnowledge
   left = record { view = record { setup = mine; answers = ps; seen = seen }; told = [] }
 
-  abbrev right : Known
+  abbrev right : SeatKnowledge
   right = record { view = record { setup = mine; answers = p ∷ []; seen = seen }; told = [] }
 
-  abbrev cut_views : List Known
+  abbrev cut_views : List SeatKnowledge
   cut_views = set views id left ++ right ∷ []
 
   abbrev now : ℕ → ℕ
@@ -303,16 +303,16 @@ module _ (sizes : Setup) (log : List TakenStep) (owner : ℕ → ℕ) (words : L
           own_seat sizes log owner now j j u u q x (given_other owner p (length views) q (λ (e : q ≡ p). away (sym x.seat ∙ ap owner e ∙ first_is.seat)) ∙ x.seat) refl refl,
     )
 
-    cut_fits : (j : ℕ) (u : Known) → get_elem? cut_views j ≡ some u → AllFit sizes log now j u
+    cut_fits : (j : ℕ) (u : SeatKnowledge) → get_elem? cut_views j ≡ some u → AllFit sizes log now j u
     cut_fits j u there =
         ⊎_elim
         (λ (m : get_elem? (set views id left) j ≡ some u).
         ⊎_elim
-        (λ (x : (j ≡ id) × (left ≡ u)). subst (λ (y : ℕ × Known). AllFit sizes log now y.0 y.1) (λ i. (sym x.0 i, x.1 i)) left_fits)
+        (λ (x : (j ≡ id) × (left ≡ u)). subst (λ (y : ℕ × SeatKnowledge). AllFit sizes log now y.0 y.1) (λ i. (sym x.0 i, x.1 i)) left_fits)
         (λ (x : (j ≢ id) × (get_elem? views j ≡ some u)). let f = k.fits j u x.1 in (other_fits_cut j u.view x.0 f.0, λ i d h. other_fits_cut j _ x.0 (f.1 i d h)))
         (at_set views id j left u m))
         (λ (m : (j ≡ length (set views id left)) × (right ≡ u)).
-        subst (λ (y : ℕ × Known). AllFit sizes log now y.0 y.1) (λ i. (sym (m.0 ∙ length-set views id left) i, m.1 i)) right_fits)
+        subst (λ (y : ℕ × SeatKnowledge). AllFit sizes log now y.0 y.1) (λ i. (sym (m.0 ∙ length-set views id left) i, m.1 i)) right_fits)
         (at_end (set views id left) right u j there)
 
     cut_members : (q : ℕ) → q < sizes.layout.procs → IsMember cut_views now q
@@ -331,11 +331,11 @@ pub cuts : (sizes : Setup) (id : ℕ) (mine : Setup) (p : ℕ) (ps : List ℕ) (
 cuts sizes id mine p ps seen once s h at = (h.0, given h.1 p (length s.views), cut_kept sizes h.0 h.1 s.words s.views h.2 id mine p ps seen at once)
 
 -- one seat answers for the processes of both
-module _ (sizes : Setup) (log : List TakenStep) (owner : ℕ → ℕ) (words : List ℕ) (views : List Known) (k : IsKept sizes log owner words views) (id : ℕ) (v : Known) (other : ℕ) (w : Known) where
-  abbrev both : Known
+module _ (sizes : Setup) (log : List TakenStep) (owner : ℕ → ℕ) (words : List ℕ) (views : List SeatKnowledge) (k : IsKept sizes log owner words views) (id : ℕ) (v : SeatKnowledge) (other : ℕ) (w : SeatKnowledge) where
+  abbrev both : SeatKnowledge
   both = joined v w
 
-  abbrev glued_views : List Known
+  abbrev glued_views : List SeatKnowledge
   glued_views = set (set views id both) other spent_known
 
   abbrev seats : ℕ → ℕ
@@ -379,13 +379,13 @@ module _ (sizes : Setup) (log : List TakenStep) (owner : ℕ → ℕ) (words : L
     spent_fits : AllFit sizes log seats other spent_known
     spent_fits = (((log, refl), λ q h. absurd (true≢false (sym h))), All-nil _)
 
-    glued_fits : (j : ℕ) (u : Known) → get_elem? glued_views j ≡ some u → AllFit sizes log seats j u
+    glued_fits : (j : ℕ) (u : SeatKnowledge) → get_elem? glued_views j ≡ some u → AllFit sizes log seats j u
     glued_fits j u m =
         ⊎_elim
-        (λ (x : (j ≡ other) × (spent_known ≡ u)). subst (λ (y : ℕ × Known). AllFit sizes log seats y.0 y.1) (λ i. (sym x.0 i, x.1 i)) spent_fits)
+        (λ (x : (j ≡ other) × (spent_known ≡ u)). subst (λ (y : ℕ × SeatKnowledge). AllFit sizes log seats y.0 y.1) (λ i. (sym x.0 i, x.1 i)) spent_fits)
         (λ (x : (j ≢ other) × (get_elem? (set views id both) j ≡ some u)).
         ⊎_elim
-        (λ (y : (j ≡ id) × (both ≡ u)). subst (λ (z : ℕ × Known). AllFit sizes log seats z.0 z.1) (λ i. (sym y.0 i, y.1 i)) both_fits)
+        (λ (y : (j ≡ id) × (both ≡ u)). subst (λ (z : ℕ × SeatKnowledge). AllFit sizes log seats z.0 z.1) (λ i. (sym y.0 i, y.1 i)) both_fits)
         (λ (y : (j ≢ id) × (get_elem? views j ≡ some u)). let f = k.fits j u y.1 in (this_fits j u.view x.0 f.0, λ i d h. this_fits j _ x.0 (f.1 i d h)))
         (at_set views id j both u x.1))
         (at_set (set views id both) other j spent_known u m)
@@ -396,7 +396,7 @@ module _ (sizes : Setup) (log : List TakenStep) (owner : ℕ → ℕ) (words : L
         (λ (e : owner q ≡ other).
         let m = k.members q h in
         let same_one : m.0 ≡ w = some-injective m.0 w (sym m.1 ∙ ap (get_elem? views) e ∙ there) in
-        (both, ap (get_elem? glued_views) (moved_it owner other id q e) ∙ set_else (set views id both) other id spent_known one ∙ set_here views id both (within views id v at), has-append_right q v.view.answers w.view.answers (ap (λ (u : Known). has q u.view.answers) (sym same_one) ∙ m.2)))
+        (both, ap (get_elem? glued_views) (moved_it owner other id q e) ∙ set_else (set views id both) other id spent_known one ∙ set_here views id both (within views id v at), has-append_right q v.view.answers w.view.answers (ap (λ (u : SeatKnowledge). has q u.view.answers) (sym same_one) ∙ m.2)))
         (λ (e : owner q ≢ other).
         let m = member_set views owner id v both q at (λ (t : has q v.view.answers ≡ true). has-append_left q v.view.answers w.view.answers t) (k.members q h) in
         (m.0, ap (get_elem? glued_views) (moved_other owner other id q e) ∙ set_else (set views id both) other (owner q) spent_known e ∙ m.1, m.2))
@@ -405,7 +405,7 @@ module _ (sizes : Setup) (log : List TakenStep) (owner : ℕ → ℕ) (words : L
     glued_kept = record { run = k.run; shows = k.shows; fits = glued_fits; members = glued_members }
 
 -- the rule knows one setup for both, since each answers for some process
-pub glues : (sizes : Setup) (id : ℕ) (v : Known) (other : ℕ) (w : Known) (p q : ℕ) → has p v.view.answers ≡ true → has q w.view.answers ≡ true → Joins (Kept sizes) id v other w (joined v w) spent_known
+pub glues : (sizes : Setup) (id : ℕ) (v : SeatKnowledge) (other : ℕ) (w : SeatKnowledge) (p q : ℕ) → has p v.view.answers ≡ true → has q w.view.answers ≡ true → Joins (Kept sizes) id v other w (joined v w) spent_known
 glues sizes id v other w p q has_p has_q s h at two m =
     let there : get_elem? s.views other ≡ some w = sym (set_else s.views id other (joined v w) two) ∙ m in
     let same : v.view.setup ≡ w.view.setup = ((h.2.fits id v at).0.1 p has_p).setup ∙ sym ((h.2.fits other w there).0.1 q has_q).setup in

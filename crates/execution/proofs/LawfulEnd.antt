@@ -1,7 +1,7 @@
 -- The words at the end of a run are a lawful image.
 use Rattle.std.proofs.Common.{◌≡◌, ℕ, zero, suc, ◌+◌, ◌<◌, ◌≤◌, ◌^◌, List, [], ◌∷◌, length, map, refl, sym, ap, ◌∙◌, inl, inr, arith}
 use Rattle.execution.proofs.Common.{cases_lt, get_or_past, length-map, slice_index_or, Own, Data as DataAt, Event, zeros, own_at, World, after, Run, final, Tied, kept, size, words_of, empty, IsSize}
-use Rattle.execution.proofs.Common.{at_first, every_story_leaves_an_image, projected, TakenStep, Setup, image_at, count_from, spelled, IsRun, end_of}
+use Rattle.execution.proofs.Common.{at_first, every_execution_leaves_an_image, projected, TakenStep, Setup, image_at, count_from, spelled, IsRun, end_of}
 use Rattle.rmecore.specs.AbstractLock.{Abstract, nobody}
 use Rattle.rmecore.specs.World.{at_rest as core_rest}
 use Rattle.rmecore.proofs.Runs.{at_first as core_first}
@@ -63,4 +63,4 @@ lawful_end s es run sized limited =
       words = own_counted s es run;
       cells = cells_counted s es run;
     } in
-    every_story_leaves_an_image l s.limit at_first (empty l.procs l.cap) (spelled es) (image_at s w) sized limited (inl (refl, refl)) run is
+    every_execution_leaves_an_image l s.limit at_first (empty l.procs l.cap) (spelled es) (image_at s w) sized limited (inl (refl, refl)) run is

@@ -1,6 +1,6 @@
 -- The members of a new table, and how many words it has.
 use Rattle.std.proofs.Common.{◌≡◌, ℕ, zero, suc, ◌+◌, ◌-◌, ◌<◌, List, [], ◌∷◌, ◌++◌, map, sym, ap, ◌∙◌, subst, arith}
-use Rattle.execution.proofs.Common.{Splits, Layout, IsLayout, size, place_at, Known, Setup, rest_known, count_from, Kept, without_first, first_alone}
+use Rattle.execution.proofs.Common.{Splits, Layout, IsLayout, size, place_at, SeatKnowledge, Setup, rest_known, count_from, Kept, without_first, first_alone}
 use Rattle.std.proofs.lemmas.List.{map-append}
 use Rattle.std.proofs.lemmas.Nat.{mul-le}
 use Rattle.execution.proofs.Runs.{count_step, above_absent}
@@ -13,12 +13,12 @@ size_small l h = let m = mul-le (2 + l.width) l.cap 10 65536 (let w = h.most in 
 rest_is : (s : Setup) (p : ℕ) → p < s.layout.procs → rest_known s p ≡ record { view = record { setup = s; answers = p ∷ count_from (suc p) (s.layout.procs - suc p); seen = [] }; told = [] }
 rest_is s p h = ap (λ (ps : List ℕ). record { view = record { setup = s; answers = ps; seen = [] }; told = [] }) (count_step p s.layout.procs h)
 
-pub cut_rest : (sizes : Setup) (id : ℕ) (s : Setup) (p : ℕ) (k : Known) → k ≡ rest_known s p → p < s.layout.procs → Splits (Kept sizes) id k (without_first k) (first_alone k)
+pub cut_rest : (sizes : Setup) (id : ℕ) (s : Setup) (p : ℕ) (k : SeatKnowledge) → k ≡ rest_known s p → p < s.layout.procs → Splits (Kept sizes) id k (without_first k) (first_alone k)
 cut_rest sizes id s p k e h =
-    subst (λ (x : Known). Splits (Kept sizes) id x (without_first x) (first_alone x)) (sym (e ∙ rest_is s p h))
+    subst (λ (x : SeatKnowledge). Splits (Kept sizes) id x (without_first x) (first_alone x)) (sym (e ∙ rest_is s p h))
     (cuts sizes id s p (count_from (suc p) (s.layout.procs - suc p)) [] (above_absent p (suc p) (s.layout.procs - suc p) (omega arith)))
 
-pub rest_step : (s : Setup) (p : ℕ) (k : Known) → k ≡ rest_known s p → p < s.layout.procs → without_first k ≡ rest_known s (p + 1)
+pub rest_step : (s : Setup) (p : ℕ) (k : SeatKnowledge) → k ≡ rest_known s p → p < s.layout.procs → without_first k ≡ rest_known s (p + 1)
 rest_step s p k e h = ap without_first (e ∙ rest_is s p h) ∙ ap (rest_known s) (omega arith)
 
 count_snoc : (k n : ℕ) → count_from k (suc n) ≡ count_from k n ++ (k + n) ∷ []

@@ -1,7 +1,7 @@
 -- A worker's appends start their calls in order, and a worker that is answered NotRecoverable has read the ruin.
 use Rattle.std.proofs.Common.{◌≡◌, ◌⊎◌, ℕ, Bool, true, false, List, [], ◌∷◌, ◌++◌, Option, Some, None, Result, Ok, Err, IfOk, IfErr, All, refl, sym, ap, ◌∙◌, subst, inl, inr}
 use Rattle.execution.proofs.Common.{All-head, All-tail, Reply, Answer, Call, Lock, Unlock, Consistent, Append, is_idle, TakenStep, Entry as Entering, LockFault, and_call, starts, FirstCrash, ready}
-use Rattle.execution.proofs.Common.{IsGlance, spot_now, Calls, own_of, last_call, last_of, MayStart, AreInOrder, Seated, began, own, WholeEnds, AppendFails, Comes, IsFront, IsWithin, calls_inside}
+use Rattle.execution.proofs.Common.{IsGlance, process_state_now, Calls, own_of, last_call, last_of, MayStart, AreInOrder, Seated, began, own, WholeEnds, AppendFails, Comes, IsFront, IsWithin, calls_inside}
 use Rattle.execution.specs.declared.entry_kind.Entry.TheVariants as entering
 use Rattle.execution.proofs.Outside.{ready_same}
 use Rattle.execution.proofs.Runs.{own-append}
@@ -17,8 +17,8 @@ order_calls last (c ∷ cs) more h = (h.0, order_calls (Some c) cs more h.1)
 
 -- entries without a crash that start these calls
 started_in_order : (last : Option Call) (es : List TakenStep) → All (λ (f : TakenStep). f.step.crashed ≡ false) es → CallsInOrder last (starts es) → AreInOrder last es
-started_in_order last [] calm h = tt
-started_in_order last (e ∷ es) calm h = go e.step.crashed e.step.start refl refl (All-head (λ (f : TakenStep). f.step.crashed ≡ false) e es calm) (λ last2 k. started_in_order last2 es (All-tail (λ (f : TakenStep). f.step.crashed ≡ false) e es calm) k)
+started_in_order last [] never_crashes h = tt
+started_in_order last (e ∷ es) never_crashes h = go e.step.crashed e.step.start refl refl (All-head (λ (f : TakenStep). f.step.crashed ≡ false) e es never_crashes) (λ last2 k. started_in_order last2 es (All-tail (λ (f : TakenStep). f.step.crashed ≡ false) e es never_crashes) k)
   where
     go : (c : Bool) (o : Option Call) → e.step.crashed ≡ c → e.step.start ≡ o → c ≡ false → ((last2 : Option Call) → CallsInOrder last2 (starts es) → AreInOrder last2 es) → AreInOrder last (e ∷ es)
     go true o is starts_is k later = absurd (cc)
@@ -97,15 +97,15 @@ module _ (seq : ℕ) (value : List ℕ) (l : Option Call) where
   cut_order mine (inr h) = within_order (starts mine) h
 
 abbrev pub InOrder : Seated → Type 0
-InOrder x = AreInOrder None (own_of x.pass)
+InOrder x = AreInOrder None (own_of x.seat_view)
 
-pub own_now : (x y : Seated) (mine : List TakenStep) → Calls (began (ready x) Lock).pass mine y.pass → own_of y.pass ≡ own_of x.pass ++ mine
+pub own_now : (x y : Seated) (mine : List TakenStep) → Calls (began (ready x) Lock).seat_view mine y.seat_view → own_of y.seat_view ≡ own_of x.seat_view ++ mine
 own_now x y mine c =
     let z = began (ready x) Lock in
-    ap (λ (p : ℕ). own p y.pass.seen) c.by ∙ ap (own z.pass.by) c.seen ∙ own-append z.pass.by z.pass.seen c.since ∙ ap (λ (l : List TakenStep). own_of z.pass ++ l) c.mine_are ∙ ap (λ (l : List TakenStep). l ++ mine) (ready_same (is_idle (spot_now x.pass)) x).2
+    ap (λ (p : ℕ). own p y.seat_view.seen) c.by ∙ ap (own z.seat_view.by) c.seen ∙ own-append z.seat_view.by z.seat_view.seen c.since ∙ ap (λ (l : List TakenStep). own_of z.seat_view ++ l) c.mine_are ∙ ap (λ (l : List TakenStep). l ++ mine) (ready_same (is_idle (process_state_now x.seat_view)) x).2
 
-orders_calls : (x y : Seated) (c : Bool) (mine : List TakenStep) → Calls (began (ready x) Lock).pass mine y.pass → FirstCrash c mine → ((other : Option Call) → CallsInOrder other (starts mine)) → InOrder x → InOrder y
-orders_calls x y c mine calls crash any old = subst (AreInOrder None) (sym (own_now x y mine calls)) (order_append None (own_of x.pass) mine old (mine_in_order (last_of None (own_of x.pass)) c mine crash any))
+orders_calls : (x y : Seated) (c : Bool) (mine : List TakenStep) → Calls (began (ready x) Lock).seat_view mine y.seat_view → FirstCrash c mine → ((other : Option Call) → CallsInOrder other (starts mine)) → InOrder x → InOrder y
+orders_calls x y c mine calls crash any old = subst (AreInOrder None) (sym (own_now x y mine calls)) (order_append None (own_of x.seat_view) mine old (mine_in_order (last_of None (own_of x.seat_view)) c mine crash any))
 
 module _ (x y : Seated) (seq : ℕ) (value : List ℕ) (a b c d : ℕ) (old : InOrder x) where
   orders_whole : (turns : ℕ) (r : Result Reply LockFault) → WholeEnds (began (ready x) Lock) turns (Append seq value) r y a b c d → InOrder y

@@ -1,30 +1,30 @@
 -- A process that isn't in the section may start another lock.
 use Rattle.std.proofs.Common.{◌≡◌, ℕ, List, Bool, true, false, if◌then◌else◌, Option, None, refl, sym, ap, ◌∙◌}
-use Rattle.execution.proofs.Common.{Dead, Call, Lock, Withdraw, is_idle, is_waiting, is_inside, CutBy, ready, refusal_now, spot_now, own_of, Seated, fell, before, gone, spot_of}
+use Rattle.execution.proofs.Common.{Dead, Call, Lock, Withdraw, is_idle, is_waiting, is_inside, CutBy, ready, refusal_now, process_state_now, own_of, Seated, fell, before, gone, process_state_of}
 
 -- a call that starts from anywhere keeps the sizes, the process and the entries
-pub ready_same : (b : Bool) (x : Seated) → ((if b then x else fell x).pass.setup ≡ x.pass.setup) × ((if b then x else fell x).pass.by ≡ x.pass.by) × (own_of (if b then x else fell x).pass ≡ own_of x.pass)
+pub ready_same : (b : Bool) (x : Seated) → ((if b then x else fell x).seat_view.setup ≡ x.seat_view.setup) × ((if b then x else fell x).seat_view.by ≡ x.seat_view.by) × (own_of (if b then x else fell x).seat_view ≡ own_of x.seat_view)
 ready_same true x = (refl, refl, refl)
 ready_same false x = (refl, refl, refl)
 
-either_out : (b : Bool) (x : Seated) → is_idle (spot_now x.pass) ≡ b → (b ≡ true → is_inside (spot_now x.pass).lock ≡ false) → refusal_now (if b then x else fell x) Lock ≡ None
+either_out : (b : Bool) (x : Seated) → is_idle (process_state_now x.seat_view) ≡ b → (b ≡ true → is_inside (process_state_now x.seat_view).lock ≡ false) → refusal_now (if b then x else fell x) Lock ≡ None
 either_out true x idle away = rw idle (rw (away refl) refl)
 either_out false x idle away = refl
 
 -- a process whose lock still waits
-pub busy_out : (x : Seated) → is_idle (spot_now x.pass) ≡ false → refusal_now (ready x) Lock ≡ None
-busy_out x busy = either_out (is_idle (spot_now x.pass)) x refl (λ idle. absurd (let no : false ≡ true = sym busy ∙ idle in cc))
+pub busy_out : (x : Seated) → is_idle (process_state_now x.seat_view) ≡ false → refusal_now (ready x) Lock ≡ None
+busy_out x busy = either_out (is_idle (process_state_now x.seat_view)) x refl (λ idle. absurd (let no : false ≡ true = sym busy ∙ idle in cc))
 
 -- a process that waits in the line may withdraw
-pub waiting_out : (x : Seated) → is_waiting (spot_now x.pass).lock ≡ true → refusal_now x Withdraw ≡ None
+pub waiting_out : (x : Seated) → is_waiting (process_state_now x.seat_view).lock ≡ true → refusal_now x Withdraw ≡ None
 waiting_out x waits = rw waits refl
 
 -- a process that has crashed
-pub fallen_out : (x : Seated) → x.pass.fallen ≡ true → x.pass.start ≡ None → refusal_now (ready x) Lock ≡ None
+pub fallen_out : (x : Seated) → x.seat_view.fallen ≡ true → x.seat_view.start ≡ None → refusal_now (ready x) Lock ≡ None
 fallen_out x fallen none =
-    let s = x.pass.setup in
-    let dead : (spot_now x.pass).lock ≡ Dead = ap (λ (u : Bool × Option Call). (gone s (spot_of s x.pass.by x.pass.seen) (before u.0 u.1 x.pass.by)).lock) (λ i. (fallen i, none i)) in
-    either_out (is_idle (spot_now x.pass)) x refl (λ e. ap is_inside dead)
+    let s = x.seat_view.setup in
+    let dead : (process_state_now x.seat_view).lock ≡ Dead = ap (λ (u : Bool × Option Call). (gone s (process_state_of s x.seat_view.by x.seat_view.seen) (before u.0 u.1 x.seat_view.by)).lock) (λ i. (fallen i, none i)) in
+    either_out (is_idle (process_state_now x.seat_view)) x refl (λ e. ap is_inside dead)
 
 -- a process whose call was cut off by a crash
 pub cut_out : (x y : Seated) (P : List Call → Type 0) (a b c d : ℕ) → CutBy x P y a b c d → refusal_now (ready y) Lock ≡ None

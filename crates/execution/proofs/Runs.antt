@@ -1,13 +1,13 @@
 -- Two laws of runs: a process's state follows from its own entries, and an entry that is allowed prolongs a run.
 use Rattle.std.proofs.Common.{◌≡◌, ◌≢◌, ℕ, zero, suc, ◌-◌, ◌<◌, ◌==◌, ◌≤◌, nat_lt, lt-ltb, le-ltb, ltb-true, Bool, true, false, if◌then◌else◌, List, [], ◌∷◌, ◌++◌, length, set, get_or, replicate, Option, Some, None, IsSome, unwrap_or, refl, sym, ap, ◌∙◌, subst, inl, inr, arith, append_assoc, append-nil, eq-eqb, ne_eqb, length-set, get_or-set_same, get_or-set_other}
 use Rattle.execution.proofs.Common.{cases_Bool, cases_eq, length-replicate, get_or-replicate, filter-append, dite, ℕ_discrete, Kind, Glance, Own, Word}
-use Rattle.execution.proofs.Common.{Choosing as ChoosingOf, Number as NumberOf, Data as DataAt, put, is_store, write, put_same, put_other, Layout, Words, size, Call, Spot, Begins, next_spot, Happening}
-use Rattle.execution.proofs.Common.{at_rest, Moves, Falls, Glances, who, dead, Scene, at_first, Story, last_scene, put_cell, reading, onward, own_happenings, words_after, cells_after, story_front}
-use Rattle.execution.proofs.Common.{story_back, TakenStep, Setup, count_from, before, taken, happenings, spelled, own, IsRun, end_of, gone, spot_of, has, index, InTable, Goes, word_count, IsBeyond, Shows}
+use Rattle.execution.proofs.Common.{Choosing as ChoosingOf, Number as NumberOf, Data as DataAt, put, is_store, write, put_same, put_other, Layout, Words, size, Call, ProcessState, Begins, next_process_state, WorldEvent}
+use Rattle.execution.proofs.Common.{at_rest, Moves, Falls, Glances, who, dead, GlobalState, at_first, Execution, last_global_state, put_cell, reading, onward, own_world_events, words_after, cells_after, execution_front}
+use Rattle.execution.proofs.Common.{execution_back, TakenStep, Setup, count_from, before, taken, world_events, spelled, own, IsRun, end_of, gone, process_state_of, has, index, InTable, Goes, word_count, IsBeyond, Shows}
 use Rattle.execution.proofs.Common.{stores}
 use Rattle.rmecore.specs.declared.word.Word.TheVariants.{Inside as InsideOf}
 use Rattle.rmeworld.specs.World.{Reads}
-use Rattle.rmeworld.proofs.StoryGrows.{spots_are_own}
+use Rattle.rmeworld.proofs.ExecutionGrows.{process_states_are_own}
 
 pub own-append : (p : ℕ) (xs ys : List TakenStep) → own p (xs ++ ys) ≡ own p xs ++ own p ys
 own-append p xs ys = filter-append (λ (e : TakenStep). e.by == p) xs ys
@@ -29,102 +29,102 @@ above_absent j k (suc n) h = rw (ne_eqb k j (λ (e : k ≡ j). omega arith)) (ab
 
 pub spelled-append : (xs ys : List TakenStep) → spelled (xs ++ ys) ≡ spelled xs ++ spelled ys
 spelled-append [] ys = refl
-spelled-append (x ∷ xs) ys = ap (λ (l : List Happening). happenings x ++ l) (spelled-append xs ys) ∙ sym (append_assoc (happenings x) (spelled xs) (spelled ys))
+spelled-append (x ∷ xs) ys = ap (λ (l : List WorldEvent). world_events x ++ l) (spelled-append xs ys) ∙ sym (append_assoc (world_events x) (spelled xs) (spelled ys))
 
-pub spelled_snoc : (xs : List TakenStep) (e : TakenStep) → spelled (xs ++ e ∷ []) ≡ spelled xs ++ happenings e
-spelled_snoc xs e = spelled-append xs (e ∷ []) ∙ ap (λ (l : List Happening). spelled xs ++ l) (append-nil (happenings e))
+pub spelled_snoc : (xs : List TakenStep) (e : TakenStep) → spelled (xs ++ e ∷ []) ≡ spelled xs ++ world_events e
+spelled_snoc xs e = spelled-append xs (e ∷ []) ∙ ap (λ (l : List WorldEvent). spelled xs ++ l) (append-nil (world_events e))
 
 -- a step is a glance, or a move of its kind
-pub by_kind : (P : Kind → Happening → Type 0) (p : ℕ) (word : Word) (v : ℕ) → P Glance (Glances p word v) → ((kind : Kind) → P kind (Moves p kind word v)) → (kind : Kind) → P kind (taken p kind word v)
+pub by_kind : (P : Kind → WorldEvent → Type 0) (p : ℕ) (word : Word) (v : ℕ) → P Glance (Glances p word v) → ((kind : Kind) → P kind (Moves p kind word v)) → (kind : Kind) → P kind (taken p kind word v)
 by_kind P p word v glance move Glance = glance
 by_kind P p word v glance move kind = move kind
 
 pub who_taken : (p : ℕ) (kind : Kind) (word : Word) (v : ℕ) → who (taken p kind word v) ≡ p
 who_taken p kind word v = by_kind (λ _ h. who h ≡ p) p word v refl (λ _. refl) kind
 
-own_happenings-append : (p : ℕ) (xs ys : List Happening) → own_happenings p (xs ++ ys) ≡ own_happenings p xs ++ own_happenings p ys
-own_happenings-append p [] ys = refl
-own_happenings-append p (x ∷ xs) ys =
-    let later = own_happenings-append p xs ys in
-    elim (cases_Bool (who x == p)) [ inl is ↦ rw is (ap (λ (l : List Happening). x ∷ l) later) | inr is ↦ rw is later ]
+own_world_events-append : (p : ℕ) (xs ys : List WorldEvent) → own_world_events p (xs ++ ys) ≡ own_world_events p xs ++ own_world_events p ys
+own_world_events-append p [] ys = refl
+own_world_events-append p (x ∷ xs) ys =
+    let later = own_world_events-append p xs ys in
+    elim (cases_Bool (who x == p)) [ inl is ↦ rw is (ap (λ (l : List WorldEvent). x ∷ l) later) | inr is ↦ rw is later ]
 
 -- each event that an entry is spelled out to is of the entry's process
-own_all : (p q : ℕ) (h : Happening) → who h ≡ q → (c : Bool) (o : Option Call) (b : Bool) → (q == p) ≡ b → own_happenings p (before c o q ++ h ∷ []) ≡ (if b then before c o q ++ h ∷ [] else [])
+own_all : (p q : ℕ) (h : WorldEvent) → who h ≡ q → (c : Bool) (o : Option Call) (b : Bool) → (q == p) ≡ b → own_world_events p (before c o q ++ h ∷ []) ≡ (if b then before c o q ++ h ∷ [] else [])
 own_all p q h e false None true is = rw (e, is) refl
 own_all p q h e false (Some call) true is = rw (e, is) refl
 own_all p q h e true None true is = rw (e, is) refl
 own_all p q h e true (Some call) true is = rw (e, is) refl
 own_all p q h e _ _ _ is = rw (e, is) refl
 
-pub own_spelled : (p : ℕ) (es : List TakenStep) → own_happenings p (spelled es) ≡ spelled (own p es)
+pub own_spelled : (p : ℕ) (es : List TakenStep) → own_world_events p (spelled es) ≡ spelled (own p es)
 own_spelled p [] = refl
 own_spelled p (e ∷ es) =
     let later = own_spelled p es in
-    own_happenings-append p (happenings e) (spelled es)
-    ∙ ap (λ (l : List Happening). l ++ own_happenings p (spelled es)) (own_all p e.by (taken e.by e.step.kind e.step.word e.value) (who_taken e.by e.step.kind e.step.word e.value) e.step.crashed e.step.start (e.by == p) refl)
-    ∙ elim (cases_Bool (e.by == p)) [ inl is ↦ rw is (ap (λ (l : List Happening). happenings e ++ l) later) | inr is ↦ rw is later ]
+    own_world_events-append p (world_events e) (spelled es)
+    ∙ ap (λ (l : List WorldEvent). l ++ own_world_events p (spelled es)) (own_all p e.by (taken e.by e.step.kind e.step.word e.value) (who_taken e.by e.step.kind e.step.word e.value) e.step.crashed e.step.start (e.by == p) refl)
+    ∙ elim (cases_Bool (e.by == p)) [ inl is ↦ rw is (ap (λ (l : List WorldEvent). world_events e ++ l) later) | inr is ↦ rw is later ]
 
 -- the first law: the state follows from the own entries
-pub spot_in_run : (s : Setup) (es : List TakenStep) (p : ℕ) → (end_of s es).spots p ≡ spot_of s p es
-spot_in_run s es p = spots_are_own s.layout s.limit p at_first (spelled es) ∙ ap (gone s at_rest) (own_spelled p es)
+pub process_state_in_run : (s : Setup) (es : List TakenStep) (p : ℕ) → (end_of s es).process_states p ≡ process_state_of s p es
+process_state_in_run s es p = process_states_are_own s.layout s.limit p at_first (spelled es) ∙ ap (gone s at_rest) (own_spelled p es)
 
 module _ (l : Layout) (limit : ℕ) where
-  pub scene-append : (w : Scene) (xs ys : List Happening) → last_scene l limit w (xs ++ ys) ≡ last_scene l limit (last_scene l limit w xs) ys
-  scene-append w [] ys = refl
-  scene-append w (x ∷ xs) ys = scene-append (onward l limit w x) xs ys
+  pub global_state-append : (w : GlobalState) (xs ys : List WorldEvent) → last_global_state l limit w (xs ++ ys) ≡ last_global_state l limit (last_global_state l limit w xs) ys
+  global_state-append w [] ys = refl
+  global_state-append w (x ∷ xs) ys = global_state-append (onward l limit w x) xs ys
 
-  pub story-append : (w : Scene) (xs ys : List Happening) → Story l limit w xs → Story l limit (last_scene l limit w xs) ys → Story l limit w (xs ++ ys)
-  story-append w [] ys r t = t
-  story-append w (x ∷ xs) ys r t = (r.0, story-append (onward l limit w x) xs ys r.1 t)
+  pub execution-append : (w : GlobalState) (xs ys : List WorldEvent) → Execution l limit w xs → Execution l limit (last_global_state l limit w xs) ys → Execution l limit w (xs ++ ys)
+  execution-append w [] ys r t = t
+  execution-append w (x ∷ xs) ys r t = (r.0, execution-append (onward l limit w x) xs ys r.1 t)
 
 -- one entry, from the state of its process
-module _ (s : Setup) (q : ℕ) (lt : q < s.layout.procs) (h : Happening) (by : who h ≡ q) where
-  move_goes : (w : Scene) (spot : Spot) → w.spots q ≡ spot → Goes s spot (h ∷ []) → Reads w h → Story s.layout s.limit w (h ∷ [])
-  move_goes w spot at goes reads =
-      let here : w.spots (who h) ≡ spot = ap w.spots by ∙ at in
-      ((subst (λ (p : ℕ). p < s.layout.procs) (sym by) lt, subst (λ (x : Spot). IsSome (next_spot s.layout s.limit x h)) (sym here) goes.0, reads), tt)
+module _ (s : Setup) (q : ℕ) (lt : q < s.layout.procs) (h : WorldEvent) (by : who h ≡ q) where
+  move_goes : (w : GlobalState) (process_state : ProcessState) → w.process_states q ≡ process_state → Goes s process_state (h ∷ []) → Reads w h → Execution s.layout s.limit w (h ∷ [])
+  move_goes w process_state at goes reads =
+      let here : w.process_states (who h) ≡ process_state = ap w.process_states by ∙ at in
+      ((subst (λ (p : ℕ). p < s.layout.procs) (sym by) lt, subst (λ (x : ProcessState). IsSome (next_process_state s.layout s.limit x h)) (sym here) goes.0, reads), tt)
 
-  start_goes : (w : Scene) (spot : Spot) (call : Call) → w.spots q ≡ spot → Goes s spot (Begins q call ∷ h ∷ []) → ((u : Scene) → u.words ≡ w.words → u.cells ≡ w.cells → Reads u h) → Story s.layout s.limit w (Begins q call ∷ h ∷ [])
-  start_goes w spot call at goes reads =
-      let u : Scene = onward s.layout s.limit w (Begins q call) in
-      let there : u.spots q ≡ unwrap_or (next_spot s.layout s.limit spot (Begins q call)) spot =
-      put_same w.spots q _ ∙ ap (λ (x : Spot). unwrap_or (next_spot s.layout s.limit x (Begins q call)) x) at in
-      ((lt, subst (λ (x : Spot). IsSome (next_spot s.layout s.limit x (Begins q call))) (sym at) goes.0, tt), move_goes u (unwrap_or (next_spot s.layout s.limit spot (Begins q call)) spot) there goes.1 (reads u refl refl))
+  start_goes : (w : GlobalState) (process_state : ProcessState) (call : Call) → w.process_states q ≡ process_state → Goes s process_state (Begins q call ∷ h ∷ []) → ((u : GlobalState) → u.words ≡ w.words → u.cells ≡ w.cells → Reads u h) → Execution s.layout s.limit w (Begins q call ∷ h ∷ [])
+  start_goes w process_state call at goes reads =
+      let u : GlobalState = onward s.layout s.limit w (Begins q call) in
+      let there : u.process_states q ≡ unwrap_or (next_process_state s.layout s.limit process_state (Begins q call)) process_state =
+      put_same w.process_states q _ ∙ ap (λ (x : ProcessState). unwrap_or (next_process_state s.layout s.limit x (Begins q call)) x) at in
+      ((lt, subst (λ (x : ProcessState). IsSome (next_process_state s.layout s.limit x (Begins q call))) (sym at) goes.0, tt), move_goes u (unwrap_or (next_process_state s.layout s.limit process_state (Begins q call)) process_state) there goes.1 (reads u refl refl))
 
-  entry_goes : (w : Scene) (spot : Spot) (c : Bool) (o : Option Call) → w.spots q ≡ spot → Goes s spot (before c o q ++ h ∷ []) → ((u : Scene) → u.words ≡ w.words → u.cells ≡ w.cells → Reads u h) → Story s.layout s.limit w (before c o q ++ h ∷ [])
-  entry_goes w spot false None at goes reads = move_goes w spot at goes (reads w refl refl)
-  entry_goes w spot false (Some call) at goes reads = start_goes w spot call at goes reads
-  entry_goes w spot true None at goes reads =
-      let u : Scene = onward s.layout s.limit w (Falls q) in
-      ((lt, refl, tt), move_goes u dead (put_same w.spots q dead) goes.1 (reads u refl refl))
-  entry_goes w spot true (Some call) at goes reads =
-      let u : Scene = onward s.layout s.limit w (Falls q) in
-      ((lt, refl, tt), start_goes u dead call (put_same w.spots q dead) goes.1 reads)
+  entry_goes : (w : GlobalState) (process_state : ProcessState) (c : Bool) (o : Option Call) → w.process_states q ≡ process_state → Goes s process_state (before c o q ++ h ∷ []) → ((u : GlobalState) → u.words ≡ w.words → u.cells ≡ w.cells → Reads u h) → Execution s.layout s.limit w (before c o q ++ h ∷ [])
+  entry_goes w process_state false None at goes reads = move_goes w process_state at goes (reads w refl refl)
+  entry_goes w process_state false (Some call) at goes reads = start_goes w process_state call at goes reads
+  entry_goes w process_state true None at goes reads =
+      let u : GlobalState = onward s.layout s.limit w (Falls q) in
+      ((lt, refl, tt), move_goes u dead (put_same w.process_states q dead) goes.1 (reads u refl refl))
+  entry_goes w process_state true (Some call) at goes reads =
+      let u : GlobalState = onward s.layout s.limit w (Falls q) in
+      ((lt, refl, tt), start_goes u dead call (put_same w.process_states q dead) goes.1 reads)
 
-pub reading_same : (w u : Scene) (word : Word) → u.words ≡ w.words → u.cells ≡ w.cells → reading u word ≡ reading w word
+pub reading_same : (w u : GlobalState) (word : Word) → u.words ≡ w.words → u.cells ≡ w.cells → reading u word ≡ reading w word
 reading_same w u (ChoosingOf p) e f = ap (λ (g : ℕ → Own). (g p).choosing) e
 reading_same w u (NumberOf p) e f = ap (λ (g : ℕ → Own). (g p).number) e
 reading_same w u (InsideOf p) e f = ap (λ (g : ℕ → Own). (g p).inside) e
 reading_same w u (DataAt i) e f = ap (λ (g : Words). g i) f
 
-reads_taken : (w u : Scene) (p : ℕ) (word : Word) (v : ℕ) (kind : Kind) → u.words ≡ w.words → u.cells ≡ w.cells → (is_store kind ≡ false → reading w word ≡ v) → Reads u (taken p kind word v)
+reads_taken : (w u : GlobalState) (p : ℕ) (word : Word) (v : ℕ) (kind : Kind) → u.words ≡ w.words → u.cells ≡ w.cells → (is_store kind ≡ false → reading w word ≡ v) → Reads u (taken p kind word v)
 reads_taken w u p word v kind e f =
     by_kind (λ kind h. (is_store kind ≡ false → reading w word ≡ v) → Reads u h) p word v (λ r. reading_same w u word e f ∙ r refl) (λ kind r loads. reading_same w u word e f ∙ r loads) kind
 
 -- the second law: an allowed entry prolongs a run
-pub prolongs : (s : Setup) (es : List TakenStep) (e : TakenStep) → IsRun s es → e.by < s.layout.procs → Goes s (spot_of s e.by es) (happenings e) → (stores e ≡ false → reading (end_of s es) e.step.word ≡ e.value) → IsRun s (es ++ e ∷ [])
+pub prolongs : (s : Setup) (es : List TakenStep) (e : TakenStep) → IsRun s es → e.by < s.layout.procs → Goes s (process_state_of s e.by es) (world_events e) → (stores e ≡ false → reading (end_of s es) e.step.word ≡ e.value) → IsRun s (es ++ e ∷ [])
 prolongs s es e run lt goes reads =
-    subst (Story s.layout s.limit at_first) (sym (spelled_snoc es e))
-    (story-append s.layout s.limit at_first (spelled es) (happenings e) run
-    (entry_goes s e.by lt (taken e.by e.step.kind e.step.word e.value) (who_taken e.by e.step.kind e.step.word e.value) (end_of s es) (spot_of s e.by es) e.step.crashed e.step.start (spot_in_run s es e.by) goes
+    subst (Execution s.layout s.limit at_first) (sym (spelled_snoc es e))
+    (execution-append s.layout s.limit at_first (spelled es) (world_events e) run
+    (entry_goes s e.by lt (taken e.by e.step.kind e.step.word e.value) (who_taken e.by e.step.kind e.step.word e.value) (end_of s es) (process_state_of s e.by es) e.step.crashed e.step.start (process_state_in_run s es e.by) goes
     (λ u same cells. reads_taken (end_of s es) u e.by e.step.word e.value e.step.kind same cells reads)))
 
 -- a prefix of a run is a run
 pub legal_front : (s : Setup) (xs ys : List TakenStep) → IsRun s (xs ++ ys) → IsRun s xs
-legal_front s xs ys run = story_front s.layout s.limit at_first (spelled xs) (spelled ys) (subst (Story s.layout s.limit at_first) (spelled-append xs ys) run)
+legal_front s xs ys run = execution_front s.layout s.limit at_first (spelled xs) (spelled ys) (subst (Execution s.layout s.limit at_first) (spelled-append xs ys) run)
 
-pub legal_back : (s : Setup) (xs ys : List TakenStep) → IsRun s (xs ++ ys) → Story s.layout s.limit (end_of s xs) (spelled ys)
-legal_back s xs ys run = story_back s.layout s.limit at_first (spelled xs) (spelled ys) (subst (Story s.layout s.limit at_first) (spelled-append xs ys) run)
+pub legal_back : (s : Setup) (xs ys : List TakenStep) → IsRun s (xs ++ ys) → Execution s.layout s.limit (end_of s xs) (spelled ys)
+legal_back s xs ys run = execution_back s.layout s.limit at_first (spelled xs) (spelled ys) (subst (Execution s.layout s.limit at_first) (spelled-append xs ys) run)
 
 -- the words after a step
 abbrev pub words_now : (ℕ → Own) → Kind → Word → ℕ → ℕ → Own
@@ -134,20 +134,20 @@ abbrev pub cells_now : Layout → Words → Kind → Word → ℕ → Words
 cells_now l cells kind word v = if is_store kind then put_cell l cells word v else cells
 
 module _ (l : Layout) (limit : ℕ) where
-  pub entry_leaves : (w : Scene) (q : ℕ) (kind : Kind) (word : Word) (v : ℕ) (c : Bool) (o : Option Call)
-      → ((last_scene l limit w (before c o q ++ taken q kind word v ∷ [])).words ≡ words_now w.words kind word v) × ((last_scene l limit w (before c o q ++ taken q kind word v ∷ [])).cells ≡ cells_now l w.cells kind word v)
+  pub entry_leaves : (w : GlobalState) (q : ℕ) (kind : Kind) (word : Word) (v : ℕ) (c : Bool) (o : Option Call)
+      → ((last_global_state l limit w (before c o q ++ taken q kind word v ∷ [])).words ≡ words_now w.words kind word v) × ((last_global_state l limit w (before c o q ++ taken q kind word v ∷ [])).cells ≡ cells_now l w.cells kind word v)
   entry_leaves w q kind word v false None = by_kind (λ kind h. (words_after w.words h ≡ words_now w.words kind word v) × (cells_after l w.cells h ≡ cells_now l w.cells kind word v)) q word v (refl, refl) (λ _. (refl, refl)) kind
   entry_leaves w q kind word v true None = by_kind (λ kind h. (words_after w.words h ≡ words_now w.words kind word v) × (cells_after l w.cells h ≡ cells_now l w.cells kind word v)) q word v (refl, refl) (λ _. (refl, refl)) kind
   entry_leaves w q kind word v _ _ = by_kind (λ kind h. (words_after w.words h ≡ words_now w.words kind word v) × (cells_after l w.cells h ≡ cells_now l w.cells kind word v)) q word v (refl, refl) (λ _. (refl, refl)) kind
 
-scene_snoc : (s : Setup) (es : List TakenStep) (e : TakenStep) → end_of s (es ++ e ∷ []) ≡ last_scene s.layout s.limit (end_of s es) (happenings e)
-scene_snoc s es e = ap (last_scene s.layout s.limit at_first) (spelled_snoc es e) ∙ scene-append s.layout s.limit at_first (spelled es) (happenings e)
+global_state_snoc : (s : Setup) (es : List TakenStep) (e : TakenStep) → end_of s (es ++ e ∷ []) ≡ last_global_state s.layout s.limit (end_of s es) (world_events e)
+global_state_snoc s es e = ap (last_global_state s.layout s.limit at_first) (spelled_snoc es e) ∙ global_state-append s.layout s.limit at_first (spelled es) (world_events e)
 
 pub words_snoc : (s : Setup) (es : List TakenStep) (e : TakenStep) → (end_of s (es ++ e ∷ [])).words ≡ words_now (end_of s es).words e.step.kind e.step.word e.value
-words_snoc s es e = ap (λ (w : Scene). w.words) (scene_snoc s es e) ∙ (entry_leaves s.layout s.limit (end_of s es) e.by e.step.kind e.step.word e.value e.step.crashed e.step.start).0
+words_snoc s es e = ap (λ (w : GlobalState). w.words) (global_state_snoc s es e) ∙ (entry_leaves s.layout s.limit (end_of s es) e.by e.step.kind e.step.word e.value e.step.crashed e.step.start).0
 
 pub cells_snoc : (s : Setup) (es : List TakenStep) (e : TakenStep) → (end_of s (es ++ e ∷ [])).cells ≡ cells_now s.layout (end_of s es).cells e.step.kind e.step.word e.value
-cells_snoc s es e = ap (λ (w : Scene). w.cells) (scene_snoc s es e) ∙ (entry_leaves s.layout s.limit (end_of s es) e.by e.step.kind e.step.word e.value e.step.crashed e.step.start).1
+cells_snoc s es e = ap (λ (w : GlobalState). w.cells) (global_state_snoc s es e) ∙ (entry_leaves s.layout s.limit (end_of s es) e.by e.step.kind e.step.word e.value e.step.crashed e.step.start).1
 
 put_keeps : (g : Own → ℕ) (words : ℕ → Own) (p : ℕ) (x : Own) (q : ℕ) → g x ≡ g (words p) → g (put words p x q) ≡ g (words q)
 put_keeps g words p x q h =
@@ -157,11 +157,11 @@ put_keeps g words p x q h =
     ]
 
 -- the value that a store leaves
-abbrev written : Setup → (ℕ → Own) → Words → Word → ℕ → Scene
-written s words cells word v = record { words = write words word v; cells = put_cell s.layout cells word v; spots = λ _. at_rest }
+abbrev written : Setup → (ℕ → Own) → Words → Word → ℕ → GlobalState
+written s words cells word v = record { words = write words word v; cells = put_cell s.layout cells word v; process_states = λ _. at_rest }
 
-abbrev standing : (ℕ → Own) → Words → Scene
-standing words cells = record { words = words; cells = cells; spots = λ _. at_rest }
+abbrev standing : (ℕ → Own) → Words → GlobalState
+standing words cells = record { words = words; cells = cells; process_states = λ _. at_rest }
 
 read_written_same : (s : Setup) (words : ℕ → Own) (cells : Words) (word : Word) (v : ℕ) → InTable s word → reading (written s words cells word v) word ≡ v
 read_written_same s words cells (ChoosingOf p) v t = ap (λ (x : Own). x.choosing) (put_same words p _)
@@ -229,7 +229,7 @@ shows_store s es e words is t h =
     )
 
 -- a data word past the mailbox's end reads 0, whatever was stored
-beyond_zero : (s : Setup) (hs : List Happening) (w : Scene) (i : ℕ) → size s.layout ≤ i → w.cells i ≡ 0 → (last_scene s.layout s.limit w hs).cells i ≡ 0
+beyond_zero : (s : Setup) (hs : List WorldEvent) (w : GlobalState) (i : ℕ) → size s.layout ≤ i → w.cells i ≡ 0 → (last_global_state s.layout s.limit w hs).cells i ≡ 0
 beyond_zero s [] w i h z = z
 beyond_zero s (x ∷ xs) w i h z = beyond_zero s xs (onward s.layout s.limit w x) i h (after_one x)
   where
@@ -242,7 +242,7 @@ beyond_zero s (x ∷ xs) w i h z = beyond_zero s xs (onward s.layout s.limit w x
     by true word v = put_one word v
     by false word v = z
 
-    after_one : (x : Happening) → cells_after s.layout w.cells x i ≡ 0
+    after_one : (x : WorldEvent) → cells_after s.layout w.cells x i ≡ 0
     after_one (Moves p kind word v) = by (is_store kind) word v
     after_one _ = z
 
@@ -270,10 +270,10 @@ shows_beyond s es e words t h =
     same_cells _ k cells v = absurd k
 
 -- the last entry of a run, if it is a load, read the word's value before it
-move_read : (w : Scene) (p : ℕ) (word : Word) (v : ℕ) (kind : Kind) → Reads w (taken p kind word v) → is_store kind ≡ false → reading w word ≡ v
+move_read : (w : GlobalState) (p : ℕ) (word : Word) (v : ℕ) (kind : Kind) → Reads w (taken p kind word v) → is_store kind ≡ false → reading w word ≡ v
 move_read w p word v kind = by_kind (λ kind h. Reads w h → is_store kind ≡ false → reading w word ≡ v) p word v (λ r _. r) (λ kind r loads. r loads) kind
 
-last_entry : (l : Layout) (limit : ℕ) (w : Scene) (q : ℕ) (kind : Kind) (word : Word) (v : ℕ) (c : Bool) (o : Option Call) → Story l limit w ((before c o q ++ taken q kind word v ∷ []) ++ []) → is_store kind ≡ false → reading w word ≡ v
+last_entry : (l : Layout) (limit : ℕ) (w : GlobalState) (q : ℕ) (kind : Kind) (word : Word) (v : ℕ) (c : Bool) (o : Option Call) → Execution l limit w ((before c o q ++ taken q kind word v ∷ []) ++ []) → is_store kind ≡ false → reading w word ≡ v
 last_entry l limit w q kind word v false None run loads = move_read w q word v kind run.0.2 loads
 last_entry l limit w q kind word v false (Some call) run loads = sym (reading_same w (onward l limit w (Begins q call)) word refl refl) ∙ move_read (onward l limit w (Begins q call)) q word v kind run.1.0.2 loads
 last_entry l limit w q kind word v true None run loads = sym (reading_same w (onward l limit w (Falls q)) word refl refl) ∙ move_read (onward l limit w (Falls q)) q word v kind run.1.0.2 loads
@@ -283,7 +283,7 @@ last_entry l limit w q kind word v true (Some call) run loads =
 pub last_reads : (s : Setup) (es : List TakenStep) (e : TakenStep) → IsRun s (es ++ e ∷ []) → stores e ≡ false → reading (end_of s es) e.step.word ≡ e.value
 last_reads s es e run loads = last_entry s.layout s.limit (end_of s es) e.by e.step.kind e.step.word e.value e.step.crashed e.step.start (legal_back s es (e ∷ []) run) loads
 
-first_within : (l : Layout) (limit : ℕ) (w : Scene) (q : ℕ) (h : Happening) → who h ≡ q → (c : Bool) (o : Option Call) (rest : List Happening) → Story l limit w ((before c o q ++ h ∷ []) ++ rest) → q < l.procs
+first_within : (l : Layout) (limit : ℕ) (w : GlobalState) (q : ℕ) (h : WorldEvent) → who h ≡ q → (c : Bool) (o : Option Call) (rest : List WorldEvent) → Execution l limit w ((before c o q ++ h ∷ []) ++ rest) → q < l.procs
 first_within l limit w q h e false None rest run = subst (λ (p : ℕ). p < l.procs) e run.0.0
 first_within l limit w q h e _ _ rest run = run.0.0
 

@@ -8,7 +8,7 @@ use Rattle.redomail.specs.declared.deed.Deed.TheVariants.{Show}
 use Rattle.redomail.proofs.Stands.{stand_by}
 use Rattle.judge.specs.Legal.{Leads, judged_all}
 use Rattle.judge.specs.Table.{after}
-use Rattle.rmeworld.proofs.Stories.{before_is}
+use Rattle.rmeworld.proofs.Executions.{before_is}
 use Rattle.judge.proofs.Histories.{judged_all-append}
 use Rattle.execution.proofs.Runs.{spelled-append, legal_front}
 

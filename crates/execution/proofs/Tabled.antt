@@ -1,16 +1,16 @@
 -- The own steps of a member's call are those of the table.
 use Rattle.std.proofs.Common.{◌≡◌, ℕ, suc, ◌+◌, ◌==◌, Bool, true, false, if◌then◌else◌, List, [], ◌∷◌, ◌++◌, length, Some, None, All, refl, sym, ap, ◌∙◌, subst, append_assoc, eqb-true, inl, inr}
-use Rattle.execution.proofs.Common.{cases_Bool, All-nil, All-cons, All-head, All-tail, is_glance, Answer, Call, answer_at, blocked_by, next_or_same, and_answer, answers_in, blocked_in, last_spot, Tells, Spot, Begins}
-use Rattle.execution.proofs.Common.{Happening, Moves, Scene, Story, own_happenings, TakenStep, Setup, FirstStart, AreMoves, FirstCrash, answers_of, blocked_of, answers_from, blocked_from, spot_before}
-use Rattle.execution.proofs.Common.{Pass, Calls, before, taken, happenings, spelled, own, IsRun, end_of, gone, spot_of, crash_first, KeepsTable, words_begun, spot_begun, CallsKeepTheTable}
+use Rattle.execution.proofs.Common.{cases_Bool, All-nil, All-cons, All-head, All-tail, is_glance, Answer, Call, answer_at, blocked_by, next_or_same, and_answer, answers_in, blocked_in, last_process_state, Tells, ProcessState, Begins}
+use Rattle.execution.proofs.Common.{WorldEvent, Moves, GlobalState, Execution, own_world_events, TakenStep, Setup, FirstStart, AreMoves, FirstCrash, answers_of, blocked_of, answers_from, blocked_from, process_state_before}
+use Rattle.execution.proofs.Common.{SeatView, Calls, before, taken, world_events, spelled, own, IsRun, end_of, gone, process_state_of, crash_first, KeepsTable, words_begun, process_state_begun, CallsKeepTheTable}
 use Rattle.rmeworld.proofs.CallWalks.{calls_take_their_steps}
-use Rattle.execution.proofs.Runs.{own_spelled, spot_in_run, legal_back}
+use Rattle.execution.proofs.Runs.{own_spelled, process_state_in_run, legal_back}
 use Rattle.execution.proofs.Leads.{gone-append}
 use Rattle.execution.proofs.Running.{taken_moves}
-use Rattle.execution.proofs.Walked.{OwnMoves, StartsAt, starts_calm, starts_fallen}
+use Rattle.execution.proofs.Walked.{OwnMoves, StartsAt, starts_never_crashes, starts_fallen}
 
 -- entries of p as its steps
-abbrev steps_of : ℕ → List TakenStep → List Happening
+abbrev steps_of : ℕ → List TakenStep → List WorldEvent
 steps_of p [] = []
 steps_of p (e ∷ es) = Moves p e.step.kind e.step.word e.value ∷ steps_of p es
 
@@ -55,74 +55,74 @@ spelled_plain p (e ∷ es) plain =
     λ i. (before (plain.0.1 i) (plain.0.2 i) (plain.0.0 i) ++ here i ∷ []) ++ later i
 
 module _ (s : Setup) (p : ℕ) where
-  abbrev from : Spot → TakenStep → Spot
+  abbrev from : ProcessState → TakenStep → ProcessState
   from t e = next_or_same s.layout s.limit t (Moves p e.step.kind e.step.word e.value)
 
-  step_leads : (q : Spot) (e : TakenStep) → e.by ≡ p → is_glance e.step.kind ≡ false → gone s q (happenings e) ≡ from (spot_before s q e) e
+  step_leads : (q : ProcessState) (e : TakenStep) → e.by ≡ p → is_glance e.step.kind ≡ false → gone s q (world_events e) ≡ from (process_state_before s q e) e
   step_leads q e by moves =
       gone-append s q (before e.step.crashed e.step.start e.by) (taken e.by e.step.kind e.step.word e.value ∷ [])
-      ∙ ap (λ (h : Happening). next_or_same s.layout s.limit (spot_before s q e) h) (taken_own p e by moves)
+      ∙ ap (λ (h : WorldEvent). next_or_same s.layout s.limit (process_state_before s q e) h) (taken_own p e by moves)
 
-  nothing_before : (q : Spot) (e : TakenStep) → IsPlain p e → spot_before s q e ≡ q
+  nothing_before : (q : ProcessState) (e : TakenStep) → IsPlain p e → process_state_before s q e ≡ q
   nothing_before q e plain = λ i. gone s q (before (plain.1 i) (plain.2 i) e.by)
 
   -- these entries from state q have the same outcome as their steps from state t
-  abbrev Alike : List TakenStep → Spot → Spot → Type 0
+  abbrev Alike : List TakenStep → ProcessState → ProcessState → Type 0
   Alike es q t = (answers_from s q es ≡ answers_in s.layout s.limit t (steps_of p es)) × (blocked_from s q es ≡ blocked_in s.layout s.limit t (steps_of p es))
 
-  told_first : (q : Spot) (e : TakenStep) (es : List TakenStep) → e.by ≡ p → is_glance e.step.kind ≡ false → ((t : Spot) → Alike es t t) → Alike (e ∷ es) q (spot_before s q e)
+  told_first : (q : ProcessState) (e : TakenStep) (es : List TakenStep) → e.by ≡ p → is_glance e.step.kind ≡ false → ((t : ProcessState) → Alike es t t) → Alike (e ∷ es) q (process_state_before s q e)
   told_first q e es by moves later =
-      let t = spot_before s q e in
-      let rest : Alike es (gone s q (happenings e)) (from t e) = subst (λ (u : Spot). Alike es u (from t e)) (sym (step_leads q e by moves)) (later (from t e)) in (
+      let t = process_state_before s q e in
+      let rest : Alike es (gone s q (world_events e)) (from t e) = subst (λ (u : ProcessState). Alike es u (from t e)) (sym (step_leads q e by moves)) (later (from t e)) in (
         ap (and_answer (answer_at t e.step.kind e.value)) rest.0,
-        ap (λ (r : ℕ). (if blocked_by r t.lock t.errand e.step.kind e.value then 1 else 0) + blocked_from s (gone s q (happenings e)) es) by
-            ∙ ap (λ (n : ℕ). (if blocked_by p t.lock t.errand e.step.kind e.value then 1 else 0) + n) rest.1,
+        ap (λ (r : ℕ). (if blocked_by r t.lock t.script_state e.step.kind e.value then 1 else 0) + blocked_from s (gone s q (world_events e)) es) by
+            ∙ ap (λ (n : ℕ). (if blocked_by p t.lock t.script_state e.step.kind e.value then 1 else 0) + n) rest.1,
       )
 
-  told_plain : (es : List TakenStep) → ArePlain p es → (q : Spot) → Alike es q q
+  told_plain : (es : List TakenStep) → ArePlain p es → (q : ProcessState) → Alike es q q
   told_plain [] plain q = (refl, refl)
   told_plain (e ∷ es) plain q = subst (Alike (e ∷ es) q) (nothing_before q e plain.0) (told_first q e es plain.0.0 plain.0.3 (told_plain es plain.1))
 
   -- a start, with the pending crash
-  pub start_leads : (q : Spot) (c : Bool) (call : Call) → gone s q (before c (Some call) p) ≡ next_or_same s.layout s.limit (gone s q (crash_first c p)) (Begins p call)
+  pub start_leads : (q : ProcessState) (c : Bool) (call : Call) → gone s q (before c (Some call) p) ≡ next_or_same s.layout s.limit (gone s q (crash_first c p)) (Begins p call)
   start_leads q true call = refl
   start_leads q false call = refl
 
-  starts : (hs : List Happening) (w : Scene) (c : Bool) (call : Call) (ms : List Happening) → Story s.layout s.limit w hs → own_happenings p hs ≡ before c (Some call) p ++ ms → OwnMoves p ms
-      → StartsAt s.layout s.limit p (w.words p) (gone s (w.spots p) (crash_first c p)) call ms
-  starts hs w true call ms story is moves = starts_fallen s.layout s.limit p hs w call ms story is moves
-  starts hs w false call ms story is moves = starts_calm s.layout s.limit p hs w call ms story is moves
+  starts : (hs : List WorldEvent) (w : GlobalState) (c : Bool) (call : Call) (ms : List WorldEvent) → Execution s.layout s.limit w hs → own_world_events p hs ≡ before c (Some call) p ++ ms → OwnMoves p ms
+      → StartsAt s.layout s.limit p (w.words p) (gone s (w.process_states p) (crash_first c p)) call ms
+  starts hs w true call ms execution is moves = starts_fallen s.layout s.limit p hs w call ms execution is moves
+  starts hs w false call ms execution is moves = starts_never_crashes s.layout s.limit p hs w call ms execution is moves
 
-keeps : (x : Pass) (call : Call) (answers : List Answer) (t : Spot) (blocked steps : ℕ) → Tells x.setup.layout (words_begun x) (spot_begun x).mended call answers t steps blocked → KeepsTable x call answers blocked steps
+keeps : (x : SeatView) (call : Call) (answers : List Answer) (t : ProcessState) (blocked steps : ℕ) → Tells x.setup.layout (words_begun x) (process_state_begun x).mended call answers t steps blocked → KeepsTable x call answers blocked steps
 keeps x call [] t blocked steps h = (h.1.0, h.1.2, h.1.3)
 keeps x call (a ∷ []) t blocked steps h = h.1
 keeps x call (a ∷ b ∷ more) t blocked steps h = h
 
 -- the steps of a call, from its start
-abbrev pub start_of : Pass → Call → Spot
-start_of x call = next_or_same x.setup.layout x.setup.limit (spot_begun x) (Begins x.by call)
+abbrev pub start_of : SeatView → Call → ProcessState
+start_of x call = next_or_same x.setup.layout x.setup.limit (process_state_begun x) (Begins x.by call)
 
-pub record Stepped (x : Pass) (call : Call) (mine : List TakenStep) : Type 0 where
-  pub steps : List Happening
+pub record Stepped (x : SeatView) (call : Call) (mine : List TakenStep) : Type 0 where
+  pub steps : List WorldEvent
   pub own : OwnMoves x.by steps
   pub spelled_as : spelled mine ≡ before x.fallen (Some call) x.by ++ steps
   pub long : length steps ≡ length mine
   pub answers : answers_in x.setup.layout x.setup.limit (start_of x call) steps ≡ answers_of x mine
   pub blocked : blocked_in x.setup.layout x.setup.limit (start_of x call) steps ≡ blocked_of x mine
 
-pub stepped : (x y : Pass) (call : Call) (mine : List TakenStep) → Calls x mine y → FirstCrash x.fallen mine → FirstStart call mine → AreMoves mine → Stepped x call mine
+pub stepped : (x y : SeatView) (call : Call) (mine : List TakenStep) → Calls x mine y → FirstCrash x.fallen mine → FirstStart call mine → AreMoves mine → Stepped x call mine
 stepped x y call [] calls crash started moved = absurd started
 stepped x y call (e ∷ es) calls crash started moved =
     let s : Setup = x.setup in
     let p : ℕ = x.by in
-    let q : Spot = spot_of s p x.seen in
+    let q : ProcessState = process_state_of s p x.seen in
     let by = subst (All (λ (e : TakenStep). e.by ≡ p)) calls.mine_are (own_are p calls.since) in
     let mine : e.by ≡ p = All-head (λ (e : TakenStep). e.by ≡ p) e es by in
     let move : is_glance e.step.kind ≡ false = All-head (λ (e : TakenStep). is_glance e.step.kind ≡ false) e es moved in
     let plain : ArePlain p es = plain_all p es (All-tail (λ (e : TakenStep). e.by ≡ p) e es by) crash.1 started.1 (All-tail (λ (e : TakenStep). is_glance e.step.kind ≡ false) e es moved) in
     let first = taken_own p e mine move in
     let later = spelled_plain p es plain in
-    let there : spot_before s q e ≡ start_of x call = (λ i. gone s q (before (crash.0 i) (started.0 i) (mine i))) ∙ start_leads s p q x.fallen call in
+    let there : process_state_before s q e ≡ start_of x call = (λ i. gone s q (before (crash.0 i) (started.0 i) (mine i))) ∙ start_leads s p q x.fallen call in
     let told = subst (Alike s p (e ∷ es) q) there (told_first s p q e es mine move (told_plain s p es plain)) in
     record {
       steps = steps_of p (e ∷ es);
@@ -134,7 +134,7 @@ stepped x y call (e ∷ es) calls crash started moved =
     }
 
 -- steps of a call, from what is known of them
-pub keeps_the_table : (x y : Pass) (call : Call) (answers : List Answer) (blocked : ℕ) (mine : List TakenStep) → Calls x mine y → FirstCrash x.fallen mine → FirstStart call mine → AreMoves mine → answers_of x mine ≡ answers → blocked_of x mine ≡ blocked → KeepsTable x call answers blocked (length mine)
+pub keeps_the_table : (x y : SeatView) (call : Call) (answers : List Answer) (blocked : ℕ) (mine : List TakenStep) → Calls x mine y → FirstCrash x.fallen mine → FirstStart call mine → AreMoves mine → answers_of x mine ≡ answers → blocked_of x mine ≡ blocked → KeepsTable x call answers blocked (length mine)
 keeps_the_table x y call answers blocked mine calls crash started moved answered blocks =
     let s : Setup = x.setup in
     let p : ℕ = x.by in
@@ -142,11 +142,11 @@ keeps_the_table x y call answers blocked mine calls crash started moved answered
     let run : IsRun s (x.seen ++ calls.since) = subst (λ (t : Setup × List TakenStep). IsRun t.0 t.1) (λ i. (calls.setup i, calls.seen i)) calls.run in
     let own_is = own_spelled p calls.since ∙ ap spelled calls.mine_are ∙ m.spelled_as in
     let begun = starts s p (spelled calls.since) (end_of s x.seen) x.fallen call m.steps (legal_back s x.seen calls.since run) own_is m.own in
-    let told = subst (λ (t : Spot). StartsAt s.layout s.limit p (words_begun x) (gone s t (crash_first x.fallen p)) call m.steps) (spot_in_run s x.seen p) begun in
-    let last : Spot = last_spot s.layout s.limit (start_of x call) m.steps in
+    let told = subst (λ (t : ProcessState). StartsAt s.layout s.limit p (words_begun x) (gone s t (crash_first x.fallen p)) call m.steps) (process_state_in_run s x.seen p) begun in
+    let last : ProcessState = last_process_state s.layout s.limit (start_of x call) m.steps in
     keeps x call answers last blocked (length mine)
-    (subst (λ (t : List Answer × ℕ × ℕ). Tells s.layout (words_begun x) (spot_begun x).mended call t.0 last t.1 t.2) (λ i. ((m.answers ∙ answered) i, m.long i, (m.blocked ∙ blocks) i))
-    (calls_take_their_steps s.layout s.limit p (words_begun x) (spot_begun x) call m.steps told.0 told.1 told.2))
+    (subst (λ (t : List Answer × ℕ × ℕ). Tells s.layout (words_begun x) (process_state_begun x).mended call t.0 last t.1 t.2) (λ i. ((m.answers ∙ answered) i, m.long i, (m.blocked ∙ blocks) i))
+    (calls_take_their_steps s.layout s.limit p (words_begun x) (process_state_begun x) call m.steps told.0 told.1 told.2))
 
 pub calls_keep_the_table : CallsKeepTheTable
-calls_keep_the_table x call answers blocked y mine r = keeps_the_table x.pass y.pass call answers blocked mine r.calls r.crash r.first r.moves r.answered r.blocks
+calls_keep_the_table x call answers blocked y mine r = keeps_the_table x.seat_view y.seat_view call answers blocked mine r.calls r.crash r.first r.moves r.answered r.blocks

@@ -1,53 +1,53 @@
 -- Steps in a row, and their outcome.
 use Rattle.std.proofs.Common.{◌≡◌, ℕ, suc, ◌+◌, ◌≤◌, Bool, true, false, if◌then◌else◌, List, [], ◌∷◌, ◌++◌, length, Option, Some, None, IsSome, unwrap_or, refl, sym, ap, ◌∙◌, subst, arith, length-append}
 use Rattle.execution.proofs.Common.{Kind, Look, Weigh, Word, answer, is_blocked, kind_of, word_of, carried, Place, Wait, one_more, Answer, Call, Lock, by_lock, answer_at, blocked_by, and_answer}
-use Rattle.execution.proofs.Common.{is_idle, is_waiting, Errand, Free, Doing, Spot, next_spot, Moves, TakenStep, Setup, answers_of, blocked_of, Takes, blocks, Ran, answers_from, blocked_from, spot_before}
-use Rattle.execution.proofs.Common.{is_blocked_at, Going, Still, Lasts, LastsBy, Pass, spot_now, next_entry, moved_spot, Seated, many_more, TakesStep, before, happenings, spelled, gone, spot_of}
+use Rattle.execution.proofs.Common.{is_idle, is_waiting, ScriptState, Free, Doing, ProcessState, next_process_state, Moves, TakenStep, Setup, answers_of, blocked_of, Takes, blocks, Ran, answers_from, blocked_from, process_state_before}
+use Rattle.execution.proofs.Common.{is_blocked_at, Going, Still, Lasts, LastsBy, SeatView, process_state_now, next_entry, moved_process_state, Seated, many_more, TakesStep, before, world_events, spelled, gone, process_state_of}
 use Rattle.execution.proofs.Common.{IsUnder, Fits, Leaves, UnderBy}
 use Rattle.rmeworld.specs.declared.outcome.Outcome.{Outcome}
 use Rattle.execution.proofs.Under.{blocked_lock}
-use Rattle.execution.proofs.Leads.{gone-append, spot_after, spot_moves}
+use Rattle.execution.proofs.Leads.{gone-append, process_state_after, process_state_moves}
 use Rattle.execution.proofs.Running.{taken_moves, next_moves}
-use Rattle.execution.proofs.Goes.{SpotTo, spot_step, blocked_waits}
+use Rattle.execution.proofs.Goes.{ProcessStateTo, process_state_step, blocked_waits}
 
-pub takes_sizes : (x y : Pass) (mine : List TakenStep) → Takes x mine y → (y.setup ≡ x.setup) × (y.by ≡ x.by)
-takes_sizes x y [] h = (ap (λ (p : Pass). p.setup) h, ap (λ (p : Pass). p.by) h)
+pub takes_sizes : (x y : SeatView) (mine : List TakenStep) → Takes x mine y → (y.setup ≡ x.setup) × (y.by ≡ x.by)
+takes_sizes x y [] h = (ap (λ (p : SeatView). p.setup) h, ap (λ (p : SeatView). p.by) h)
 takes_sizes x y (e ∷ es) h = let later = takes_sizes h.0 y es h.3 in let a = h.2.adds in (later.0 ∙ a.setup, later.1 ∙ a.by)
 
-pub takes_spot : (x y : Pass) (mine : List TakenStep) → Takes x mine y → spot_of y.setup y.by y.seen ≡ gone x.setup (spot_of x.setup x.by x.seen) (spelled mine)
-takes_spot x y [] h = ap (λ (p : Pass). spot_of p.setup p.by p.seen) h
-takes_spot x y (e ∷ es) h =
+pub takes_process_state : (x y : SeatView) (mine : List TakenStep) → Takes x mine y → process_state_of y.setup y.by y.seen ≡ gone x.setup (process_state_of x.setup x.by x.seen) (spelled mine)
+takes_process_state x y [] h = ap (λ (p : SeatView). process_state_of p.setup p.by p.seen) h
+takes_process_state x y (e ∷ es) h =
     let z = h.0 in
-    let here : spot_of z.setup z.by z.seen ≡ gone x.setup (spot_of x.setup x.by x.seen) (happenings e) = spot_after x z (next_entry x e.step.kind e.step.word e.value) refl h.2.adds ∙ ap (λ (f : TakenStep). gone x.setup (spot_of x.setup x.by x.seen) (happenings f)) (sym h.1) in
-    takes_spot z y es h.3 ∙ ap (λ (t : Setup × Spot). gone t.0 t.1 (spelled es)) (λ i. (h.2.adds.setup i, here i)) ∙ sym (gone-append x.setup (spot_of x.setup x.by x.seen) (happenings e) (spelled es))
+    let here : process_state_of z.setup z.by z.seen ≡ gone x.setup (process_state_of x.setup x.by x.seen) (world_events e) = process_state_after x z (next_entry x e.step.kind e.step.word e.value) refl h.2.adds ∙ ap (λ (f : TakenStep). gone x.setup (process_state_of x.setup x.by x.seen) (world_events f)) (sym h.1) in
+    takes_process_state z y es h.3 ∙ ap (λ (t : Setup × ProcessState). gone t.0 t.1 (spelled es)) (λ i. (h.2.adds.setup i, here i)) ∙ sym (gone-append x.setup (process_state_of x.setup x.by x.seen) (world_events e) (spelled es))
 
 pub and_append : (o : Option Answer) (xs ys : List Answer) → and_answer o (xs ++ ys) ≡ and_answer o xs ++ ys
 and_append None xs ys = refl
 and_append (Some a) xs ys = refl
 
-pub takes-append : (x y z : Pass) (a b : List TakenStep) → Takes x a y → Takes y b z → Takes x (a ++ b) z
-takes-append x y z [] b h k = subst (λ (p : Pass). Takes p b z) h k
+pub takes-append : (x y z : SeatView) (a b : List TakenStep) → Takes x a y → Takes y b z → Takes x (a ++ b) z
+takes-append x y z [] b h k = subst (λ (p : SeatView). Takes p b z) h k
 takes-append x y z (e ∷ es) b h k = (h.0, h.1, h.2, takes-append h.0 y z es b h.3 k, h.4)
 
-pub answers-append : (s : Setup) (q : Spot) (a b : List TakenStep) → answers_from s q (a ++ b) ≡ answers_from s q a ++ answers_from s (gone s q (spelled a)) b
+pub answers-append : (s : Setup) (q : ProcessState) (a b : List TakenStep) → answers_from s q (a ++ b) ≡ answers_from s q a ++ answers_from s (gone s q (spelled a)) b
 answers-append s q [] b = refl
 answers-append s q (x ∷ xs) b =
-    ap (and_answer (answer_at (spot_before s q x) x.step.kind x.value)) (answers-append s (gone s q (happenings x)) xs b ∙ ap (λ (r : Spot). answers_from s (gone s q (happenings x)) xs ++ answers_from s r b) (sym (gone-append s q (happenings x) (spelled xs))))
-    ∙ and_append (answer_at (spot_before s q x) x.step.kind x.value) (answers_from s (gone s q (happenings x)) xs) (answers_from s (gone s q (spelled (x ∷ xs))) b)
+    ap (and_answer (answer_at (process_state_before s q x) x.step.kind x.value)) (answers-append s (gone s q (world_events x)) xs b ∙ ap (λ (r : ProcessState). answers_from s (gone s q (world_events x)) xs ++ answers_from s r b) (sym (gone-append s q (world_events x) (spelled xs))))
+    ∙ and_append (answer_at (process_state_before s q x) x.step.kind x.value) (answers_from s (gone s q (world_events x)) xs) (answers_from s (gone s q (spelled (x ∷ xs))) b)
 
 assoc : (a b c : ℕ) → a + (b + c) ≡ (a + b) + c
 assoc a b c = omega arith
 
-pub blocked-append : (s : Setup) (q : Spot) (a b : List TakenStep) → blocked_from s q (a ++ b) ≡ blocked_from s q a + blocked_from s (gone s q (spelled a)) b
+pub blocked-append : (s : Setup) (q : ProcessState) (a b : List TakenStep) → blocked_from s q (a ++ b) ≡ blocked_from s q a + blocked_from s (gone s q (spelled a)) b
 blocked-append s q [] b = omega arith
 blocked-append s q (x ∷ xs) b =
-    let later = blocked-append s (gone s q (happenings x)) xs b ∙ ap (λ (r : Spot). blocked_from s (gone s q (happenings x)) xs + blocked_from s r b) (sym (gone-append s q (happenings x) (spelled xs))) in
-    let first = if is_blocked_at (spot_before s q x) x then 1 else 0 in
-    ap (λ (m : ℕ). first + m) later ∙ assoc first (blocked_from s (gone s q (happenings x)) xs) (blocked_from s (gone s q (spelled (x ∷ xs))) b)
+    let later = blocked-append s (gone s q (world_events x)) xs b ∙ ap (λ (r : ProcessState). blocked_from s (gone s q (world_events x)) xs + blocked_from s r b) (sym (gone-append s q (world_events x) (spelled xs))) in
+    let first = if is_blocked_at (process_state_before s q x) x then 1 else 0 in
+    ap (λ (m : ℕ). first + m) later ∙ assoc first (blocked_from s (gone s q (world_events x)) xs) (blocked_from s (gone s q (spelled (x ∷ xs))) b)
 
 -- the process state at the next step of a view
-at_now : (x y : Pass) (mine : List TakenStep) (kind : Kind) (word : Word) (v : ℕ) → Takes x mine y → spot_before x.setup (gone x.setup (spot_of x.setup x.by x.seen) (spelled mine)) (next_entry y kind word v) ≡ spot_now y
-at_now x y mine kind word v h = ap (λ (t : Setup × Spot). gone t.0 t.1 (before y.fallen y.start y.by)) (λ i. (sym (takes_sizes x y mine h).0 i, sym (takes_spot x y mine h) i))
+at_now : (x y : SeatView) (mine : List TakenStep) (kind : Kind) (word : Word) (v : ℕ) → Takes x mine y → process_state_before x.setup (gone x.setup (process_state_of x.setup x.by x.seen) (spelled mine)) (next_entry y kind word v) ≡ process_state_now y
+at_now x y mine kind word v h = ap (λ (t : Setup × ProcessState). gone t.0 t.1 (before y.fallen y.start y.by)) (λ i. (sym (takes_sizes x y mine h).0 i, sym (takes_process_state x y mine h) i))
 
 alone : (m : ℕ) → 0 + (m + 0) ≡ m
 alone m = omega arith
@@ -55,7 +55,7 @@ alone m = omega arith
 -- one more step
 module _ (x y z : Seated) (mine : List TakenStep) (o : Outcome) (g : Going x mine y) (s : TakesStep y o z) where
   abbrev pub last : TakenStep
-  last = next_entry y.pass (kind_of s.access) (word_of s.access) (carried s.access s.value)
+  last = next_entry y.seat_view (kind_of s.access) (word_of s.access) (carried s.access s.value)
 
   pub steps_more : z.steps ≡ many_more (length (mine ++ last ∷ [])) x.steps
   steps_more =
@@ -63,52 +63,52 @@ module _ (x y z : Seated) (mine : List TakenStep) (o : Outcome) (g : Going x min
       let k : suc (length mine) ≡ length (mine ++ last ∷ []) = omega arith in
       s.steps ∙ ap one_more g.steps ∙ ap (λ (k : ℕ). many_more k x.steps) k
 
-  pub takes_more : Takes x.pass (mine ++ last ∷ []) z.pass
-  takes_more = takes-append x.pass y.pass z.pass mine (last ∷ []) g.takes (z.pass, refl, s.advances, refl, next_moves y.pass s.access s.next)
+  pub takes_more : Takes x.seat_view (mine ++ last ∷ []) z.seat_view
+  takes_more = takes-append x.seat_view y.seat_view z.seat_view mine (last ∷ []) g.takes (z.seat_view, refl, s.advances, refl, next_moves y.seat_view s.access s.next)
 
-  pub answers_more : answers_of x.pass (mine ++ last ∷ []) ≡ and_answer o.answer []
+  pub answers_more : answers_of x.seat_view (mine ++ last ∷ []) ≡ and_answer o.answer []
   answers_more =
-      answers-append x.pass.setup (spot_of x.pass.setup x.pass.by x.pass.seen) mine (last ∷ []) ∙ ap (λ (l : List Answer). l ++ and_answer (answer_at (spot_before x.pass.setup (gone x.pass.setup (spot_of x.pass.setup x.pass.by x.pass.seen) (spelled mine)) last) (kind_of s.access) (carried s.access s.value)) []) g.answers
-      ∙ ap (λ (q : Spot). and_answer (answer_at q (kind_of s.access) (carried s.access s.value)) []) (at_now x.pass y.pass mine (kind_of s.access) (word_of s.access) (carried s.access s.value) g.takes) ∙ ap (λ (u : Outcome). and_answer u.answer []) (sym s.told)
+      answers-append x.seat_view.setup (process_state_of x.seat_view.setup x.seat_view.by x.seat_view.seen) mine (last ∷ []) ∙ ap (λ (l : List Answer). l ++ and_answer (answer_at (process_state_before x.seat_view.setup (gone x.seat_view.setup (process_state_of x.seat_view.setup x.seat_view.by x.seat_view.seen) (spelled mine)) last) (kind_of s.access) (carried s.access s.value)) []) g.answers
+      ∙ ap (λ (q : ProcessState). and_answer (answer_at q (kind_of s.access) (carried s.access s.value)) []) (at_now x.seat_view y.seat_view mine (kind_of s.access) (word_of s.access) (carried s.access s.value) g.takes) ∙ ap (λ (u : Outcome). and_answer u.answer []) (sym s.told)
 
-  pub blocked_more : blocked_of x.pass (mine ++ last ∷ []) ≡ (if o.progress.blocked then 1 else 0)
+  pub blocked_more : blocked_of x.seat_view (mine ++ last ∷ []) ≡ (if o.progress.blocked then 1 else 0)
   blocked_more =
-      blocked-append x.pass.setup (spot_of x.pass.setup x.pass.by x.pass.seen) mine (last ∷ []) ∙ ap (λ (m : ℕ). m + blocked_from x.pass.setup (gone x.pass.setup (spot_of x.pass.setup x.pass.by x.pass.seen) (spelled mine)) (last ∷ [])) g.blocked
-      ∙ alone (if is_blocked_at (spot_before x.pass.setup (gone x.pass.setup (spot_of x.pass.setup x.pass.by x.pass.seen) (spelled mine)) last) last then 1 else 0)
-      ∙ ap (λ (q : Spot). if is_blocked_at q last then 1 else 0) (at_now x.pass y.pass mine (kind_of s.access) (word_of s.access) (carried s.access s.value) g.takes) ∙ ap (λ (u : Outcome). if u.progress.blocked then 1 else 0) (sym s.told)
+      blocked-append x.seat_view.setup (process_state_of x.seat_view.setup x.seat_view.by x.seat_view.seen) mine (last ∷ []) ∙ ap (λ (m : ℕ). m + blocked_from x.seat_view.setup (gone x.seat_view.setup (process_state_of x.seat_view.setup x.seat_view.by x.seat_view.seen) (spelled mine)) (last ∷ [])) g.blocked
+      ∙ alone (if is_blocked_at (process_state_before x.seat_view.setup (gone x.seat_view.setup (process_state_of x.seat_view.setup x.seat_view.by x.seat_view.seen) (spelled mine)) last) last then 1 else 0)
+      ∙ ap (λ (q : ProcessState). if is_blocked_at q last then 1 else 0) (at_now x.seat_view y.seat_view mine (kind_of s.access) (word_of s.access) (carried s.access s.value) g.takes) ∙ ap (λ (u : Outcome). if u.progress.blocked then 1 else 0) (sym s.told)
 
 -- the process state after a step of a call
-pub step_to : (call : Call) (y z : Seated) (o : Outcome) (k : ℕ) → TakesStep y o z → IsUnder call (spot_now y.pass) → Lasts y.pass.setup.layout.procs (suc k) (spot_now y.pass) → SpotTo call y.pass.setup.layout.procs k o.answer o.progress.blocked (spot_now z.pass)
+pub step_to : (call : Call) (y z : Seated) (o : Outcome) (k : ℕ) → TakesStep y o z → IsUnder call (process_state_now y.seat_view) → Lasts y.seat_view.setup.layout.procs (suc k) (process_state_now y.seat_view) → ProcessStateTo call y.seat_view.setup.layout.procs k o.answer o.progress.blocked (process_state_now z.seat_view)
 step_to call y z o k s u lasts =
-    let q = spot_now y.pass in
-    let l = y.pass.setup.layout in
+    let q = process_state_now y.seat_view in
+    let l = y.seat_view.setup.layout in
     let kind = kind_of s.access in
     let word = word_of s.access in
     let v = carried s.access s.value in
-    let moves = next_moves y.pass s.access s.next in
-    let is : moved_spot y.pass kind word v ≡ next_spot l y.pass.setup.limit q (Moves y.pass.by kind word v) = ap (next_spot l y.pass.setup.limit q) (taken_moves y.pass.by kind word v moves) in
-    let some : IsSome (next_spot l y.pass.setup.limit q (Moves y.pass.by kind word v)) = subst (λ (t : Option Spot). IsSome t) is s.may in
-    let there = spot_step l y.pass.by k call y.pass.setup.limit q.lock q.mended q.barred q.errand kind word v some moves u lasts in
-    let now : spot_now z.pass ≡ unwrap_or (next_spot l y.pass.setup.limit q (Moves y.pass.by kind word v)) q = spot_moves y.pass z.pass kind word v s.advances ∙ ap (λ (t : Option Spot). unwrap_or t q) is in
-    subst (λ (t : Outcome × Spot). SpotTo call l.procs k t.0.answer t.0.progress.blocked t.1) (λ i. (sym s.told i, sym now i)) there
+    let moves = next_moves y.seat_view s.access s.next in
+    let is : moved_process_state y.seat_view kind word v ≡ next_process_state l y.seat_view.setup.limit q (Moves y.seat_view.by kind word v) = ap (next_process_state l y.seat_view.setup.limit q) (taken_moves y.seat_view.by kind word v moves) in
+    let some : IsSome (next_process_state l y.seat_view.setup.limit q (Moves y.seat_view.by kind word v)) = subst (λ (t : Option ProcessState). IsSome t) is s.may in
+    let there = process_state_step l y.seat_view.by k call y.seat_view.setup.limit q.lock q.mended q.barred q.script_state kind word v some moves u lasts in
+    let now : process_state_now z.seat_view ≡ unwrap_or (next_process_state l y.seat_view.setup.limit q (Moves y.seat_view.by kind word v)) q = process_state_moves y.seat_view z.seat_view kind word v s.advances ∙ ap (λ (t : Option ProcessState). unwrap_or t q) is in
+    subst (λ (t : Outcome × ProcessState). ProcessStateTo call l.procs k t.0.answer t.0.progress.blocked t.1) (λ i. (sym s.told i, sym now i)) there
 
 -- a step that is blocked leaves the process in the line
-step_waits : (y z : Seated) (o : Outcome) → TakesStep y o z → o.progress.blocked ≡ true → is_waiting (spot_now z.pass).lock ≡ true
+step_waits : (y z : Seated) (o : Outcome) → TakesStep y o z → o.progress.blocked ≡ true → is_waiting (process_state_now z.seat_view).lock ≡ true
 step_waits y z o s h =
-    let q = spot_now y.pass in
-    let l = y.pass.setup.layout in
+    let q = process_state_now y.seat_view in
+    let l = y.seat_view.setup.layout in
     let kind = kind_of s.access in
     let word = word_of s.access in
     let v = carried s.access s.value in
-    let moves = next_moves y.pass s.access s.next in
-    let is : moved_spot y.pass kind word v ≡ next_spot l y.pass.setup.limit q (Moves y.pass.by kind word v) = ap (next_spot l y.pass.setup.limit q) (taken_moves y.pass.by kind word v moves) in
-    let now : spot_now z.pass ≡ unwrap_or (next_spot l y.pass.setup.limit q (Moves y.pass.by kind word v)) q = spot_moves y.pass z.pass kind word v s.advances ∙ ap (λ (t : Option Spot). unwrap_or t q) is in
-    let b : blocked_by y.pass.by q.lock q.errand kind v ≡ true = ap (λ (u : Outcome). u.progress.blocked) (sym s.told) ∙ h in
-    subst (λ (t : Spot). is_waiting t.lock ≡ true) (sym now) (blocked_waits l y.pass.by 0 y.pass.setup.limit q.lock q.mended q.barred q.errand kind word v b)
+    let moves = next_moves y.seat_view s.access s.next in
+    let is : moved_process_state y.seat_view kind word v ≡ next_process_state l y.seat_view.setup.limit q (Moves y.seat_view.by kind word v) = ap (next_process_state l y.seat_view.setup.limit q) (taken_moves y.seat_view.by kind word v moves) in
+    let now : process_state_now z.seat_view ≡ unwrap_or (next_process_state l y.seat_view.setup.limit q (Moves y.seat_view.by kind word v)) q = process_state_moves y.seat_view z.seat_view kind word v s.advances ∙ ap (λ (t : Option ProcessState). unwrap_or t q) is in
+    let b : blocked_by y.seat_view.by q.lock q.script_state kind v ≡ true = ap (λ (u : Outcome). u.progress.blocked) (sym s.told) ∙ h in
+    subst (λ (t : ProcessState). is_waiting t.lock ≡ true) (sym now) (blocked_waits l y.seat_view.by 0 y.seat_view.setup.limit q.lock q.mended q.barred q.script_state kind word v b)
 
-lasts_more : (n k m : ℕ) (s : Place) (e : Errand) → k ≤ m → LastsBy n k s e → LastsBy n m s e
+lasts_more : (n k m : ℕ) (s : Place) (e : ScriptState) → k ≤ m → LastsBy n k s e → LastsBy n m s e
 lasts_more n k m s Free h l = (l.0, (let few = l.1 in omega arith))
-lasts_more n k m s (Doing why left) h l = (l.0, l.1, (let few = l.2 in omega arith), l.3)
+lasts_more n k m s (Doing purpose left) h l = (l.0, l.1, (let few = l.2 in omega arith), l.3)
 
 -- a blocked reading has no answer, and is a lock's
 lock_silent : (p : ℕ) (s : Place) (kind : Kind) (v : ℕ) → is_blocked p s kind v ≡ true → answer s kind v ≡ None
@@ -116,13 +116,13 @@ lock_silent p (Wait k unpassed None) Look v h = refl
 lock_silent p (Wait k unpassed (Some j)) Weigh v h = refl
 lock_silent p _ _ v h = absurd (cc)
 
-blocked_silent : (p : ℕ) (s : Place) (b c : Bool) (e : Errand) (kind : Kind) (v : ℕ) → blocked_by p s e kind v ≡ true → answer_at (record { lock = s; mended = b; barred = c; errand = e }) kind v ≡ None
+blocked_silent : (p : ℕ) (s : Place) (b c : Bool) (e : ScriptState) (kind : Kind) (v : ℕ) → blocked_by p s e kind v ≡ true → answer_at (record { lock = s; mended = b; barred = c; script_state = e }) kind v ≡ None
 blocked_silent p s b c Free kind v h = ap (by_lock c) (lock_silent p s kind v h)
-blocked_silent p s b c (Doing why left) kind v h = absurd (cc)
+blocked_silent p s b c (Doing purpose left) kind v h = absurd (cc)
 
-blocked_is_lock : (n limit p : ℕ) (call : Call) (s : Place) (c : Bool) (e : Errand) (kind : Kind) (v : ℕ) → UnderBy call s c e → blocked_by p s e kind v ≡ true → call ≡ Lock
+blocked_is_lock : (n limit p : ℕ) (call : Call) (s : Place) (c : Bool) (e : ScriptState) (kind : Kind) (v : ℕ) → UnderBy call s c e → blocked_by p s e kind v ≡ true → call ≡ Lock
 blocked_is_lock n limit p call s c Free kind v u h = blocked_lock n limit p call c s kind v u h
-blocked_is_lock n limit p call s c (Doing why left) kind v u h = absurd (cc)
+blocked_is_lock n limit p call s c (Doing purpose left) kind v u h = absurd (cc)
 
 pub length_snoc : (mine : List TakenStep) (e : TakenStep) → length (mine ++ e ∷ []) ≡ suc (length mine)
 length_snoc mine e = let l = length-append mine (e ∷ []) in omega arith
@@ -134,9 +134,9 @@ not_both false o a h e = refl
 module _ (x y z : Seated) (mine : List TakenStep) (o : Outcome) (g : Going x mine y) (s : TakesStep y o z) where
   silent : o.progress.blocked ≡ true → o.answer ≡ None
   silent h =
-      let q = spot_now y.pass in
-      let b : blocked_by y.pass.by q.lock q.errand (kind_of s.access) (carried s.access s.value) ≡ true = ap (λ (u : Outcome). u.progress.blocked) (sym s.told) ∙ h in
-      ap (λ (u : Outcome). u.answer) s.told ∙ blocked_silent y.pass.by q.lock q.mended q.barred q.errand (kind_of s.access) (carried s.access s.value) b
+      let q = process_state_now y.seat_view in
+      let b : blocked_by y.seat_view.by q.lock q.script_state (kind_of s.access) (carried s.access s.value) ≡ true = ap (λ (u : Outcome). u.progress.blocked) (sym s.told) ∙ h in
+      ap (λ (u : Outcome). u.answer) s.told ∙ blocked_silent y.seat_view.by q.lock q.mended q.barred q.script_state (kind_of s.access) (carried s.access s.value) b
 
   abbrev pub more : List TakenStep
   more = mine ++ last x y z mine o g s ∷ []
@@ -167,23 +167,23 @@ module _ (x y z : Seated) (mine : List TakenStep) (o : Outcome) (g : Going x min
   asked_more asked before now e f = e ∙ ap one_more f ∙ ap (λ (k : ℕ). many_more k asked) (sym (length_snoc mine (last x y z mine o g s)))
 
 -- what follows such a step
-pub fits_answer : (call : Call) (y z : Seated) (o : Outcome) (k : ℕ) (a : Answer) → TakesStep y o z → IsUnder call (spot_now y.pass) → Lasts y.pass.setup.layout.procs (suc k) (spot_now y.pass) → o.answer ≡ Some a → Fits call a × Leaves call a (spot_now z.pass)
-fits_answer call y z o k a s u lasts e = subst (λ (t : Option Answer). SpotTo call y.pass.setup.layout.procs k t o.progress.blocked (spot_now z.pass)) e (step_to call y z o k s u lasts)
+pub fits_answer : (call : Call) (y z : Seated) (o : Outcome) (k : ℕ) (a : Answer) → TakesStep y o z → IsUnder call (process_state_now y.seat_view) → Lasts y.seat_view.setup.layout.procs (suc k) (process_state_now y.seat_view) → o.answer ≡ Some a → Fits call a × Leaves call a (process_state_now z.seat_view)
+fits_answer call y z o k a s u lasts e = subst (λ (t : Option Answer). ProcessStateTo call y.seat_view.setup.layout.procs k t o.progress.blocked (process_state_now z.seat_view)) e (step_to call y z o k s u lasts)
 
-pub goes_with : (call : Call) (y z : Seated) (o : Outcome) (k : ℕ) (b : Bool) → TakesStep y o z → IsUnder call (spot_now y.pass) → Lasts y.pass.setup.layout.procs (suc k) (spot_now y.pass) → o.answer ≡ None → o.progress.blocked ≡ b
-    → IsUnder call (spot_now z.pass) × (is_idle (spot_now z.pass) ≡ false) × Lasts z.pass.setup.layout.procs (if b then suc k else k) (spot_now z.pass)
+pub goes_with : (call : Call) (y z : Seated) (o : Outcome) (k : ℕ) (b : Bool) → TakesStep y o z → IsUnder call (process_state_now y.seat_view) → Lasts y.seat_view.setup.layout.procs (suc k) (process_state_now y.seat_view) → o.answer ≡ None → o.progress.blocked ≡ b
+    → IsUnder call (process_state_now z.seat_view) × (is_idle (process_state_now z.seat_view) ≡ false) × Lasts z.seat_view.setup.layout.procs (if b then suc k else k) (process_state_now z.seat_view)
 goes_with call y z o k b s u lasts e h =
-    let n = y.pass.setup.layout.procs in
-    let t : SpotTo call n k None b (spot_now z.pass) = subst (λ (t : Option Answer × Bool). SpotTo call n k t.0 t.1 (spot_now z.pass)) (λ i. (e i, h i)) (step_to call y z o k s u lasts) in
-    (t.1, t.0, subst (λ (m : ℕ). Lasts m (if b then suc k else k) (spot_now z.pass)) (ap (λ (t : Setup). t.layout.procs) (sym s.advances.adds.setup)) t.2)
+    let n = y.seat_view.setup.layout.procs in
+    let t : ProcessStateTo call n k None b (process_state_now z.seat_view) = subst (λ (t : Option Answer × Bool). ProcessStateTo call n k t.0 t.1 (process_state_now z.seat_view)) (λ i. (e i, h i)) (step_to call y z o k s u lasts) in
+    (t.1, t.0, subst (λ (m : ℕ). Lasts m (if b then suc k else k) (process_state_now z.seat_view)) (ap (λ (t : Setup). t.layout.procs) (sym s.advances.adds.setup)) t.2)
 
-pub still_blocked : (call : Call) (y z : Seated) (o : Outcome) (k : ℕ) → suc k ≤ 256 → TakesStep y o z → IsUnder call (spot_now y.pass) → Lasts y.pass.setup.layout.procs (suc k) (spot_now y.pass) → o.answer ≡ None → o.progress.blocked ≡ true → Still call z None
+pub still_blocked : (call : Call) (y z : Seated) (o : Outcome) (k : ℕ) → suc k ≤ 256 → TakesStep y o z → IsUnder call (process_state_now y.seat_view) → Lasts y.seat_view.setup.layout.procs (suc k) (process_state_now y.seat_view) → o.answer ≡ None → o.progress.blocked ≡ true → Still call z None
 still_blocked call y z o k few s u lasts e h =
-    let q = spot_now y.pass in
-    let r = spot_now z.pass in
+    let q = process_state_now y.seat_view in
+    let r = process_state_now z.seat_view in
     let t = goes_with call y z o k true s u lasts e h in
-    let b : blocked_by y.pass.by q.lock q.errand (kind_of s.access) (carried s.access s.value) ≡ true = ap (λ (u : Outcome). u.progress.blocked) (sym s.told) ∙ h in
-    (blocked_is_lock 0 0 y.pass.by call q.lock q.barred q.errand (kind_of s.access) (carried s.access s.value) u b, t.0, t.1, lasts_more z.pass.setup.layout.procs (suc k) 256 r.lock r.errand few t.2, step_waits y z o s h)
+    let b : blocked_by y.seat_view.by q.lock q.script_state (kind_of s.access) (carried s.access s.value) ≡ true = ap (λ (u : Outcome). u.progress.blocked) (sym s.told) ∙ h in
+    (blocked_is_lock 0 0 y.seat_view.by call q.lock q.barred q.script_state (kind_of s.access) (carried s.access s.value) u b, t.0, t.1, lasts_more z.seat_view.setup.layout.procs (suc k) 256 r.lock r.script_state few t.2, step_waits y z o s h)
 
 pub none_of : {A : Type 0} (o : Option A) → ((a : A) → o ≡ Some a → ⊥) → o ≡ None
 none_of None h = refl

@@ -8,26 +8,26 @@ all_both P Q [] h g = All-nil _
 all_both P Q (x ∷ xs) h g = All-cons (λ x. P x × Q x) x xs (All-head P x xs h, All-head Q x xs g) (all_both P Q xs (All-tail P x xs h) (All-tail Q x xs g))
 
 -- a member of each process
-pub member_at : (P : Seated → Type 0) (p : ℕ) (xs : List Seated) → has_member p xs ≡ true → All P xs → (x : Seated) × (x.pass.by ≡ p) × P x
+pub member_at : (P : Seated → Type 0) (p : ℕ) (xs : List Seated) → has_member p xs ≡ true → All P xs → (x : Seated) × (x.seat_view.by ≡ p) × P x
 member_at P p [] h all = absurd (cc)
 member_at P p (x ∷ xs) h all =
-    elim (cases_Bool (x.pass.by == p)) [ inl is ↦ (x, eqb-true x.pass.by p is, All-head P x xs all) | inr is ↦ member_at P p xs (rw is at h) (All-tail P x xs all) ]
+    elim (cases_Bool (x.seat_view.by == p)) [ inl is ↦ (x, eqb-true x.seat_view.by p is, All-head P x xs all) | inr is ↦ member_at P p xs (rw is at h) (All-tail P x xs all) ]
 
 module _ (Q : ℕ → List TakenStep → Type 0) (more : (p : ℕ) (es glances : List TakenStep) → All IsGlance glances → Q p es → Q p (es ++ glances)) (first : Seated) (others : List Seated) (count : ℕ) (run : List TakenStep) (told : IsTold first others count run) where
   abbrev pub Keeps : Seated → Type 0
-  Keeps x = Q x.pass.by (own_of x.pass)
+  Keeps x = Q x.seat_view.by (own_of x.seat_view)
 
   abbrev pub Holds : Seated → Type 0
-  Holds x = Q x.pass.by (own x.pass.by run) × Begins x.pass.seen run
+  Holds x = Q x.seat_view.by (own x.seat_view.by run) × Begins x.seat_view.seen run
 
   first_holds : Keeps first → Holds first
-  first_holds h = (subst (Q first.pass.by) (sym told.own_is) (more first.pass.by (own_of first.pass) told.glances told.are_glances h), told.begins)
+  first_holds h = (subst (Q first.seat_view.by) (sym told.own_is) (more first.seat_view.by (own_of first.seat_view) told.glances told.are_glances h), told.begins)
 
   other_holds : Holds first → (x : Seated) → IsWhole first run x × Keeps x → Holds x
   other_holds of_first x h =
-      elim (cases_eq x.pass.by first.pass.by) [
+      elim (cases_eq x.seat_view.by first.seat_view.by) [
         | inl same ↦ (subst (λ (p : ℕ). Q p (own p run)) (sym same) of_first.0, h.0.begins)
-        | inr other ↦ (subst (Q x.pass.by) (sym (h.0.own_is other)) h.1, h.0.begins)
+        | inr other ↦ (subst (Q x.seat_view.by) (sym (h.0.own_is other)) h.1, h.0.begins)
       ]
 
   pub all_hold : All Keeps (first ∷ others) → All Holds (first ∷ others)

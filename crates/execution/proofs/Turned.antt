@@ -1,9 +1,9 @@
 -- Steps of a lock, then more of its steps.
 use Rattle.std.proofs.Common.{◌≡◌, ℕ, zero, suc, ◌+◌, List, [], ◌∷◌, ◌++◌, length, Option, Some, None, refl, sym, ap, ◌∙◌, arith, length-append}
-use Rattle.execution.proofs.Common.{one_more, Answer, Call, and_answer, Spot, TakenStep, Setup, Served, answers_of, blocked_of, blocks, Ran, CutOff, answers_from, blocked_from, Turning}
-use Rattle.execution.proofs.Common.{IsPass, Seated, many_more, spelled, gone, spot_of}
+use Rattle.execution.proofs.Common.{one_more, Answer, Call, and_answer, ProcessState, TakenStep, Setup, Served, answers_of, blocked_of, blocks, Ran, CutOff, answers_from, blocked_from, Turning}
+use Rattle.execution.proofs.Common.{IsSeatView, Seated, many_more, spelled, gone, process_state_of}
 pub use Rattle.execution.proofs.Taken.{answers-append, blocked-append}
-use Rattle.execution.proofs.Taken.{takes_sizes, takes_spot, takes-append}
+use Rattle.execution.proofs.Taken.{takes_sizes, takes_process_state, takes-append}
 use Rattle.execution.proofs.Called.{served_of}
 
 pub many_add : (j k c : ℕ) → many_more k (many_more j c) ≡ many_more (j + k) c
@@ -20,15 +20,15 @@ pub turning_first : (x : Seated) → Turning x [] 0 x
 turning_first x = record { takes = refl; answers = refl; blocked = refl; steps = refl }
 
 module _ (x y z : Seated) (a b : List TakenStep) (k : ℕ) (t : Turning x a k y) where
-  later_answers : answers_of x.pass (a ++ b) ≡ answers_of y.pass b
+  later_answers : answers_of x.seat_view (a ++ b) ≡ answers_of y.seat_view b
   later_answers =
-      answers-append x.pass.setup (spot_of x.pass.setup x.pass.by x.pass.seen) a b ∙ ap (λ (l : List Answer). l ++ answers_from x.pass.setup (gone x.pass.setup (spot_of x.pass.setup x.pass.by x.pass.seen) (spelled a)) b) t.answers
-      ∙ ap (λ (u : Setup × Spot). answers_from u.0 u.1 b) (λ i. (sym (takes_sizes x.pass y.pass a t.takes).0 i, sym (takes_spot x.pass y.pass a t.takes) i))
+      answers-append x.seat_view.setup (process_state_of x.seat_view.setup x.seat_view.by x.seat_view.seen) a b ∙ ap (λ (l : List Answer). l ++ answers_from x.seat_view.setup (gone x.seat_view.setup (process_state_of x.seat_view.setup x.seat_view.by x.seat_view.seen) (spelled a)) b) t.answers
+      ∙ ap (λ (u : Setup × ProcessState). answers_from u.0 u.1 b) (λ i. (sym (takes_sizes x.seat_view y.seat_view a t.takes).0 i, sym (takes_process_state x.seat_view y.seat_view a t.takes) i))
 
-  pub later_blocked : blocked_of x.pass (a ++ b) ≡ k + blocked_of y.pass b
+  pub later_blocked : blocked_of x.seat_view (a ++ b) ≡ k + blocked_of y.seat_view b
   later_blocked =
-      blocked-append x.pass.setup (spot_of x.pass.setup x.pass.by x.pass.seen) a b ∙ ap (λ (m : ℕ). m + blocked_from x.pass.setup (gone x.pass.setup (spot_of x.pass.setup x.pass.by x.pass.seen) (spelled a)) b) t.blocked
-      ∙ ap (λ (u : Setup × Spot). k + blocked_from u.0 u.1 b) (λ i. (sym (takes_sizes x.pass y.pass a t.takes).0 i, sym (takes_spot x.pass y.pass a t.takes) i))
+      blocked-append x.seat_view.setup (process_state_of x.seat_view.setup x.seat_view.by x.seat_view.seen) a b ∙ ap (λ (m : ℕ). m + blocked_from x.seat_view.setup (gone x.seat_view.setup (process_state_of x.seat_view.setup x.seat_view.by x.seat_view.seen) (spelled a)) b) t.blocked
+      ∙ ap (λ (u : Setup × ProcessState). k + blocked_from u.0 u.1 b) (λ i. (sym (takes_sizes x.seat_view y.seat_view a t.takes).0 i, sym (takes_process_state x.seat_view y.seat_view a t.takes) i))
 
   later_steps : z.steps ≡ many_more (length b) y.steps → z.steps ≡ many_more (length (a ++ b)) x.steps
   later_steps e = e ∙ ap (many_more (length b)) t.steps ∙ many_append a b x.steps
@@ -36,21 +36,21 @@ module _ (x y z : Seated) (a b : List TakenStep) (k : ℕ) (t : Turning x a k y)
   pub turned : {o : Option Answer} → o ≡ None → Ran y o z b → Turning x (a ++ b) (k + 1) z
   turned {o} e r =
       record {
-        takes = takes-append x.pass y.pass z.pass a b t.takes r.takes;
+        takes = takes-append x.seat_view y.seat_view z.seat_view a b t.takes r.takes;
         answers = later_answers ∙ r.answers ∙ ap (λ (u : Option Answer). and_answer u []) e;
         blocked = later_blocked ∙ ap (λ (m : ℕ). k + m) (r.blocked ∙ ap blocks e);
         steps = later_steps r.steps;
       }
 
-  pub turned_served : (call : Call) (c : Answer) {o : Option Answer} → o ≡ Some c → IsPass x.pass → x.pass.start ≡ Some call → Ran y o z b → Served x call (c ∷ []) k z (a ++ b)
-  turned_served call c {o} e pass start r =
+  pub turned_served : (call : Call) (c : Answer) {o : Option Answer} → o ≡ Some c → IsSeatView x.seat_view → x.seat_view.start ≡ Some call → Ran y o z b → Served x call (c ∷ []) k z (a ++ b)
+  turned_served call c {o} e seat_view start r =
       let answers = later_answers ∙ r.answers ∙ ap (λ (u : Option Answer). and_answer u []) e in
-      served_of x z call (c ∷ []) k (a ++ b) pass start (takes-append x.pass y.pass z.pass a b t.takes r.takes) answers (later_blocked ∙ ap (λ (m : ℕ). k + m) (r.blocked ∙ ap blocks e) ∙ (let n : k + 0 ≡ k = omega arith in n)) (later_steps r.steps)
-      (λ none. absurd (let bad : [] ≡ c ∷ [] = sym (ap (answers_of x.pass) none) ∙ answers in cc))
+      served_of x z call (c ∷ []) k (a ++ b) seat_view start (takes-append x.seat_view y.seat_view z.seat_view a b t.takes r.takes) answers (later_blocked ∙ ap (λ (m : ℕ). k + m) (r.blocked ∙ ap blocks e) ∙ (let n : k + 0 ≡ k = omega arith in n)) (later_steps r.steps)
+      (λ none. absurd (let bad : [] ≡ c ∷ [] = sym (ap (answers_of x.seat_view) none) ∙ answers in cc))
 
   pub turned_cut : CutOff y b z → CutOff x (a ++ b) z
-  turned_cut cut = record { last = cut.last; takes = takes-append x.pass y.pass cut.last.pass a b t.takes cut.takes; steps = cut.steps ∙ ap (many_more (length b)) t.steps ∙ many_append a b x.steps; crash = cut.crash }
+  turned_cut cut = record { last = cut.last; takes = takes-append x.seat_view y.seat_view cut.last.seat_view a b t.takes cut.takes; steps = cut.steps ∙ ap (many_more (length b)) t.steps ∙ many_append a b x.steps; crash = cut.crash }
 
-pub turned_out : (x y : Seated) (mine : List TakenStep) (k : ℕ) (call : Call) → IsPass x.pass → x.pass.start ≡ Some call → Turning x mine (k + 1) y → Served x call [] (k + 1) y mine
-turned_out x y mine k call pass start t =
-    served_of x y call [] (k + 1) mine pass start t.takes t.answers t.blocked t.steps (λ none. let bad : 0 ≡ k + 1 = sym (ap (blocked_of x.pass) none) ∙ t.blocked in omega arith)
+pub turned_out : (x y : Seated) (mine : List TakenStep) (k : ℕ) (call : Call) → IsSeatView x.seat_view → x.seat_view.start ≡ Some call → Turning x mine (k + 1) y → Served x call [] (k + 1) y mine
+turned_out x y mine k call seat_view start t =
+    served_of x y call [] (k + 1) mine seat_view start t.takes t.answers t.blocked t.steps (λ none. let bad : 0 ≡ k + 1 = sym (ap (blocked_of x.seat_view) none) ∙ t.blocked in omega arith)

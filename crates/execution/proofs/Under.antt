@@ -3,7 +3,7 @@ use Rattle.std.proofs.Common.{◌≡◌, ℕ, zero, suc, max, Bool, true, false,
 use Rattle.execution.proofs.Common.{cases_Bool, Kind, Look as Looks, Weigh as Weighs, Open as Opens, Peek as Peeks, Take as Takes, Shut as Shuts, Mark as Marks, Drop as Drops, Glance as Glances, Word}
 use Rattle.execution.proofs.Common.{Choosing as ChoosingOf, Number as NumberOf, answer, is_blocked, again, found, is_glance, Place, Rest, Wait, Inside, Reread, Opening, Door, Shutting, Leaving}
 use Rattle.execution.proofs.Common.{Withdrawing, Unmarking, is_before, next, without, others, relocked, recovered, guard, Answer, NumbersSpent, NotRecoverable, Unlocked, Call, Lock, Unlock, Recover}
-use Rattle.execution.proofs.Common.{Withdraw, by_lock, is_entry, Spot, under_place, Fits, Leaves}
+use Rattle.execution.proofs.Common.{Withdraw, by_lock, is_entry, ProcessState, under_place, Fits, Leaves}
 use Rattle.rmecore.specs.Place.{has}
 use Rattle.rmecore.specs.Refused.{is_idle as is_idle_place}
 use Rattle.rmecore.specs.declared.core_call.CoreCall.TheVariants as core
@@ -12,7 +12,7 @@ use Rattle.rmecore.specs.declared.word.Word.TheVariants.{Inside as InsideOf}
 
 -- after a step of the lock's part
 abbrev pub LockTo : Call → Bool → Place → Option Answer → Place → Type 0
-LockTo call c s (Some a) t = Fits call a × ((u : Spot) → u.lock ≡ t → Leaves call a u)
+LockTo call c s (Some a) t = Fits call a × ((u : ProcessState) → u.lock ≡ t → Leaves call a u)
 LockTo call c s None t = ((is_entry s t ≡ true) × (call ≡ Lock)) ⊎ ((is_entry s t ≡ false) × (is_idle_place t ≡ false) × (under_place call c t ≡ true))
 
 module _ (n limit p : ℕ) where

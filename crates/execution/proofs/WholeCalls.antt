@@ -1,7 +1,7 @@
 -- A whole mailbox call from its parts.
 use Rattle.std.proofs.Common.{◌≡◌, ℕ, ◌+◌, ◌≤◌, ◌⊎◌, Bool, true, List, [], ◌∷◌, Result, Ok, Err, Option, Some, None, IfOk, IfErr, refl, sym, ap, ◌∙◌, subst, inl, inr, arith, append-nil}
 use Rattle.execution.proofs.Common.{one_more, Reply, Answer, Call, is_idle, TakenStep, Entry as Entering, LockFault, Setup, starts, Ran, CutOff, Crashes, ServedAll, CutBy, CutIn, AnsweredBy, LockBy, ready}
-use Rattle.execution.proofs.Common.{refusal_now, answer_of, IsPass, spot_now, Seated, began, fell, behind, Fits, IsTask, WholeEnds, Comes, IsFront, IsWithin, calls_inside, IsInner, Inner, WholeBy}
+use Rattle.execution.proofs.Common.{refusal_now, answer_of, IsSeatView, process_state_now, Seated, began, fell, behind, Fits, IsTask, WholeEnds, Comes, IsFront, IsWithin, calls_inside, IsInner, Inner, WholeBy}
 use Rattle.execution.proofs.Common.{WholeGoes, WholeFails, mended_by, SumCounts, InsideCounts}
 use Rattle.redomail.specs.declared.reply.Reply.TheVariants as reply
 use Rattle.rmeworld.specs.declared.call.Call.TheVariants as call
@@ -104,24 +104,24 @@ module _ (x y z : Seated) (a0 a1 a2 f0 f1 f2 : ℕ) where
 
   pub whole_cut : (turns : ℕ) (task : Call) (r : Result Reply LockFault) → WholeBy 0 x turns task r y a0 a1 f0 f1 → z ≡ fell y → a2 ≡ one_more a1 → f2 ≡ one_more f1 → CutBy x (IsWithin task) z a0 a2 f0 f2
   whole_cut turns task (Ok it) h e k f = cut_at_lock h.0 (calls_inside h.3.1 task) h.1 h.2 task h.3.3 (inl (h.3.1, front_all (call.Lock ∷ calls_inside h.3.1 task))) h.4 e k f
-  whole_cut turns task (Err why) h e k f = by_cause h.3
+  whole_cut turns task (Err purpose) h e k f = by_cause h.3
     where
       alone : h.0 ≡ call.Lock ∷ [] → CutBy x (IsWithin task) z a0 a2 f0 f2
       alone is = cut_at_lock h.0 [] h.1 h.2 task is (within_lock task) h.4 e k f
 
-      answered : ((why ≡ fault.NumbersSpent) × (h.0 ≡ call.Lock ∷ []) × (h.1 ≡ answer.NumbersSpent ∷ []))
-          ⊎ (((why ≡ fault.NotRecoverable) × (h.0 ≡ call.Lock ∷ []) × (h.1 ≡ answer.NotRecoverable ∷ [])) ⊎ ((why ≡ fault.NotRecoverable) × (h.0 ≡ call.Lock ∷ call.Consistent ∷ call.Unlock ∷ []) × (h.1 ≡ answer.OwnerDied ∷ answer.NotRecoverable ∷ answer.Unlocked ∷ [])))
+      answered : ((purpose ≡ fault.NumbersSpent) × (h.0 ≡ call.Lock ∷ []) × (h.1 ≡ answer.NumbersSpent ∷ []))
+          ⊎ (((purpose ≡ fault.NotRecoverable) × (h.0 ≡ call.Lock ∷ []) × (h.1 ≡ answer.NotRecoverable ∷ [])) ⊎ ((purpose ≡ fault.NotRecoverable) × (h.0 ≡ call.Lock ∷ call.Consistent ∷ call.Unlock ∷ []) × (h.1 ≡ answer.OwnerDied ∷ answer.NotRecoverable ∷ answer.Unlocked ∷ [])))
           → CutBy x (IsWithin task) z a0 a2 f0 f2
       answered (inl c) = alone c.1
       answered (inr (inl c)) = alone c.1
       answered (inr (inr c)) = cut_at_lock h.0 (call.Consistent ∷ call.Unlock ∷ []) h.1 h.2 task c.1 (inr (front_all (call.Lock ∷ call.Consistent ∷ call.Unlock ∷ []))) h.4 e k f
 
-      by_cause : Comes turns task (Err why) h.0 h.1 h.2 → CutBy x (IsWithin task) z a0 a2 f0 f2
+      by_cause : Comes turns task (Err purpose) h.0 h.1 h.2 → CutBy x (IsWithin task) z a0 a2 f0 f2
       by_cause (inl c) = alone c.1
       by_cause (inr c) = answered c.1
 
 module _ (x y : Seated) (turns : ℕ) (task : Call) (a0 a1 f0 f1 : ℕ) where
-  pub goes_idle : (r : Result Reply LockFault) → WholeGoes x turns task r y a0 a1 f0 f1 → y.pass.start ≡ None
+  pub goes_idle : (r : Result Reply LockFault) → WholeGoes x turns task r y a0 a1 f0 f1 → y.seat_view.start ≡ None
   goes_idle r (inl h) = h.4.1.idle
   goes_idle r (inr h) = h.1.1.idle
 
@@ -139,12 +139,12 @@ module _ (x y : Seated) (turns : ℕ) (task : Call) (a0 a1 f0 f1 : ℕ) (may : r
       inr (may, inl (is, cut_more (began (ready x) call.Lock) y a0 a1 f0 f1 (λ (order : List Call). order ≡ call.Lock ∷ []) (IsWithin task) h (λ done k. subst (IsWithin task) (sym k) (within_lock task))))
 
 -- a call that was accepted, and its steps
-pub cut_from : (y w z : Seated) (task : Call) (n : List TakenStep) → w ≡ behind y task → IsPass w.pass → CutOff w n z → Crashes y task z n
-cut_from y w z task n e pass h = cut_behind y z task n (subst (λ (u : Seated). IsPass u.pass) e pass) (subst (λ (u : Seated). CutOff u n z) e h)
+pub cut_from : (y w z : Seated) (task : Call) (n : List TakenStep) → w ≡ behind y task → IsSeatView w.seat_view → CutOff w n z → Crashes y task z n
+cut_from y w z task n e seat_view h = cut_behind y z task n (subst (λ (u : Seated). IsSeatView u.seat_view) e seat_view) (subst (λ (u : Seated). CutOff u n z) e h)
 
-pub ran_from : (y w z : Seated) (task : Call) (a : Answer) (n : List TakenStep) → w ≡ behind y task → IsPass w.pass → {o : Option Answer} → o ≡ Some a → Ran w o z n → ServedAll y (task ∷ []) (a ∷ []) 0 z n
-ran_from y w z task a n e pass {o} is h =
-    ran_behind y z task a n (subst (λ (u : Seated). IsPass u.pass) e pass) (subst (λ (t : Seated × Option Answer). Ran t.0 t.1 z n) (λ i. (e i, is i)) h)
+pub ran_from : (y w z : Seated) (task : Call) (a : Answer) (n : List TakenStep) → w ≡ behind y task → IsSeatView w.seat_view → {o : Option Answer} → o ≡ Some a → Ran w o z n → ServedAll y (task ∷ []) (a ∷ []) 0 z n
+ran_from y w z task a n e seat_view {o} is h =
+    ran_behind y z task a n (subst (λ (u : Seated). IsSeatView u.seat_view) e seat_view) (subst (λ (t : Seated × Option Answer). Ran t.0 t.1 z n) (λ i. (e i, is i)) h)
 
 -- a lock that entered, and the calls after it
 pub lock_is : (x y : Seated) (turns : ℕ) (a0 a1 f0 f1 : ℕ) (o p : Option Answer) → o ≡ p → LockBy 0 x turns o y a0 a1 f0 f1 → LockBy 0 x turns p y a0 a1 f0 f1
@@ -157,30 +157,30 @@ module _ (x w y : Seated) (turns : ℕ) (task : Call) (a0 a1 f0 f1 : ℕ) (e : w
 
   pub whole_replied : (r : Result Reply LockFault) → WholeGoes w turns task r y a0 a1 f0 f1 → IfOk r (λ (it : Reply). WholeEnds (began (ready x) call.Lock) turns task (Ok it) y a0 a1 f0 f1)
   whole_replied (Ok it) h = goes_ok (began (ready x) call.Lock) y turns task a0 a1 f0 f1 it (from_start (Ok it) h)
-  whole_replied (Err why) h = tt
+  whole_replied (Err purpose) h = tt
 
   pub whole_fails : refusal_now (ready x) call.Lock ≡ None → (r : Result Reply LockFault) → WholeGoes w turns task r y a0 a1 f0 f1 → IfErr r (WholeFails x turns task y a0 a1 f0 f1)
   whole_fails may (Ok it) h = tt
-  whole_fails may (Err why) h = goes_err x y turns task a0 a1 f0 f1 may why (from_start (Err why) h)
+  whole_fails may (Err purpose) h = goes_err x y turns task a0 a1 f0 f1 may purpose (from_start (Err purpose) h)
 
-  pub cut_fails : refusal_now (ready x) call.Lock ≡ None → (why : LockFault) → why ≡ fault.Crashed → CutIn w call.Lock y a0 a1 f0 f1 → WholeFails x turns task y a0 a1 f0 f1 why
-  cut_fails may why is h = lock_fails x y turns task a0 a1 f0 f1 may why is (subst (λ (u : Seated). CutIn u call.Lock y a0 a1 f0 f1) e h)
+  pub cut_fails : refusal_now (ready x) call.Lock ≡ None → (purpose : LockFault) → purpose ≡ fault.Crashed → CutIn w call.Lock y a0 a1 f0 f1 → WholeFails x turns task y a0 a1 f0 f1 purpose
+  cut_fails may purpose is h = lock_fails x y turns task a0 a1 f0 f1 may purpose is (subst (λ (u : Seated). CutIn u call.Lock y a0 a1 f0 f1) e h)
 
 -- the task still fits
-pub task_fits : (x w y : Seated) (turns : ℕ) (o : Option Answer) (task : Call) (a0 a1 f0 f1 : ℕ) → w ≡ began (ready x) call.Lock → LockBy 0 w turns o y a0 a1 f0 f1 → IsTask x.pass.setup.layout task → IsTask y.pass.setup.layout task
+pub task_fits : (x w y : Seated) (turns : ℕ) (o : Option Answer) (task : Call) (a0 a1 f0 f1 : ℕ) → w ≡ began (ready x) call.Lock → LockBy 0 w turns o y a0 a1 f0 f1 → IsTask x.seat_view.setup.layout task → IsTask y.seat_view.setup.layout task
 task_fits x w y turns o task a0 a1 f0 f1 e h fits =
-    let same : y.pass.setup ≡ x.pass.setup = lock_setup w y turns o a0 a1 f0 f1 h ∙ ap (λ (u : Seated). u.pass.setup) e ∙ (ready_same (is_idle (spot_now x.pass)) x).0 in
+    let same : y.seat_view.setup ≡ x.seat_view.setup = lock_setup w y turns o a0 a1 f0 f1 h ∙ ap (λ (u : Seated). u.seat_view.setup) e ∙ (ready_same (is_idle (process_state_now x.seat_view)) x).0 in
     subst (λ (s : Setup). IsTask s.layout task) (sym same) fits
 
 -- a fact of an answer, with the number of turns that it holds for
 pub ok_some : {T E : Type 0} (P : ℕ → T → Type 0) (r : Result T E) (turns : ℕ) → IfOk r (P turns) → IfOk r (λ (it : T). (k : ℕ) × P k it)
 ok_some P (Ok it) turns h = (turns, h)
-ok_some P (Err why) turns h = tt
+ok_some P (Err purpose) turns h = tt
 
-pub err_some : {T E : Type 0} (P : ℕ → E → Type 0) (r : Result T E) (turns : ℕ) → IfErr r (P turns) → IfErr r (λ (why : E). (k : ℕ) × P k why)
+pub err_some : {T E : Type 0} (P : ℕ → E → Type 0) (r : Result T E) (turns : ℕ) → IfErr r (P turns) → IfErr r (λ (purpose : E). (k : ℕ) × P k purpose)
 err_some P (Ok it) turns h = tt
-err_some P (Err why) turns h = (turns, h)
+err_some P (Err purpose) turns h = (turns, h)
 
-pub err_more : {T E : Type 0} (P Q : E → Type 0) (r : Result T E) → IfErr r P → ((why : E) → P why → Q why) → IfErr r Q
+pub err_more : {T E : Type 0} (P Q : E → Type 0) (r : Result T E) → IfErr r P → ((purpose : E) → P purpose → Q purpose) → IfErr r Q
 err_more P Q (Ok it) h more = tt
-err_more P Q (Err why) h more = more why h
+err_more P Q (Err purpose) h more = more purpose h

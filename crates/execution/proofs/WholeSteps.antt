@@ -1,7 +1,7 @@
 -- The steps that a whole mailbox call counts are the sum of the table, and at most its bound.
 use Rattle.std.proofs.Common.{◌≡◌, ℕ, ◌+◌, ◌*◌, ◌≤◌, Bool, true, false, List, [], ◌∷◌, Option, Some, None, IfSome, Err, refl, sym, ap, ◌∙◌, subst, inl, inr, arith}
 use Rattle.execution.proofs.Common.{Own, Layout, Reply, Mended, Answer, Call, Lock, Unlock, Consistent, Append, Close, most_steps, own_steps, Entry as Entering, Setup, AnsweredBy, LockBy, ready, answer_of}
-use Rattle.execution.proofs.Common.{spot_now, Seated, began, many_more, behind, CountsAtMost, words_begun, spot_begun, table_steps, Fits, IsHolder, IsTask, WholeBy, mended_by, SumCounts, InsideCounts}
+use Rattle.execution.proofs.Common.{process_state_now, Seated, began, many_more, behind, CountsAtMost, words_begun, process_state_begun, table_steps, Fits, IsHolder, IsTask, WholeBy, mended_by, SumCounts, InsideCounts}
 use Rattle.execution.proofs.Common.{both, table_sum, StoredAppendSteps, most_inside, most_whole}
 use Rattle.rmeworld.specs.declared.answer.Answer.TheVariants as answer
 use Rattle.execution.specs.declared.lock_fault.LockFault.TheVariants as fault
@@ -34,7 +34,7 @@ entry_mends m entering.OwnerDied = refl
 
 -- one call, by the table
 abbrev One : Seated → Call → Answer → ℕ → Seated → Type 0
-One x call a blocked y = (k : ℕ) × (table_steps x.pass call a ≡ Some k) × (y.steps ≡ many_more (k + blocked) x.steps)
+One x call a blocked y = (k : ℕ) × (table_steps x.seat_view call a ≡ Some k) × (y.steps ≡ many_more (k + blocked) x.steps)
 
 one_counts : (x y : Seated) (call : Call) (a : Answer) (blocked more a0 a1 f0 f1 : ℕ) → AnsweredBy more x (call ∷ []) (a ∷ []) blocked y a0 a1 f0 f1 → One x call a blocked y
 one_counts x y call a blocked more a0 a1 f0 f1 h =
@@ -42,41 +42,41 @@ one_counts x y call a blocked more a0 a1 f0 f1 h =
     (told.0, told.1, h.1.steps ∙ ap (λ (n : ℕ). many_more n x.steps) told.2)
 
 -- a call of a holder, and the calls after it
-inside_first : (x y z : Seated) (m n : Bool) (c : Call) (a : Answer) (order : List Call) (answers : List Answer) (k : ℕ) → y.pass.setup ≡ x.pass.setup → mended_by m a ≡ n → ((w : Own) → own_steps x.pass.setup.layout w m c a ≡ Some k) → y.steps ≡ many_more (k + 0) x.steps
+inside_first : (x y z : Seated) (m n : Bool) (c : Call) (a : Answer) (order : List Call) (answers : List Answer) (k : ℕ) → y.seat_view.setup ≡ x.seat_view.setup → mended_by m a ≡ n → ((w : Own) → own_steps x.seat_view.setup.layout w m c a ≡ Some k) → y.steps ≡ many_more (k + 0) x.steps
     → InsideCounts y n order answers z → InsideCounts x m (c ∷ order) (a ∷ answers) z
 inside_first x y z m n c a order answers k same mends told steps h = (
   k + h.0,
-  λ w. both_are (own_steps x.pass.setup.layout w m c a) (table_sum x.pass.setup.layout w (mended_by m a) order answers) k h.0 (told w)
+  λ w. both_are (own_steps x.seat_view.setup.layout w m c a) (table_sum x.seat_view.setup.layout w (mended_by m a) order answers) k h.0 (told w)
       (subst (λ (u : Setup × Bool). table_sum u.0.layout w u.1 order answers ≡ Some h.0) (λ i. (same i, sym mends i)) (h.1 w)),
   h.2 ∙ ap (many_more h.0) steps ∙ many_add (k + 0) h.0 x.steps ∙ ap (λ (t : ℕ). many_more t x.steps) (let j = h.0 in let e : (k + 0) + j ≡ k + j = omega arith in e),
 )
 
 module _ (x y : Seated) (a : Answer) (a0 a1 f0 f1 : ℕ) where
   -- the unlock
-  left_counts : (m : Bool) → a ≡ answer.Unlocked → (spot_begun x.pass).mended ≡ m → AnsweredBy 0 x (Unlock ∷ []) (a ∷ []) 0 y a0 a1 f0 f1 → InsideCounts x m (Unlock ∷ []) (answer.Unlocked ∷ []) y
+  left_counts : (m : Bool) → a ≡ answer.Unlocked → (process_state_begun x.seat_view).mended ≡ m → AnsweredBy 0 x (Unlock ∷ []) (a ∷ []) 0 y a0 a1 f0 f1 → InsideCounts x m (Unlock ∷ []) (answer.Unlocked ∷ []) y
   left_counts m is mended h =
       let t : AnsweredBy 0 x (Unlock ∷ []) (answer.Unlocked ∷ []) 0 y a0 a1 f0 f1 = subst (λ (u : Answer). AnsweredBy 0 x (Unlock ∷ []) (u ∷ []) 0 y a0 a1 f0 f1) is h in
       let one = one_counts x y Unlock answer.Unlocked 0 0 a0 a1 f0 f1 t in
-      inside_first x y y m m Unlock answer.Unlocked [] [] one.0 t.1.calls.setup refl (λ w. unlock_words x.pass.setup.layout x.pass.setup.layout w (words_begun x.pass) (spot_begun x.pass).mended m one.0 mended one.1) one.2 (0, (λ w. refl), refl)
+      inside_first x y y m m Unlock answer.Unlocked [] [] one.0 t.1.calls.setup refl (λ w. unlock_words x.seat_view.setup.layout x.seat_view.setup.layout w (words_begun x.seat_view) (process_state_begun x.seat_view).mended m one.0 mended one.1) one.2 (0, (λ w. refl), refl)
 
-module _ (x y z : Seated) (a b : Answer) (a0 a1 a2 f0 f1 f2 : ℕ) (idle : x.pass.start ≡ None) where
+module _ (x y z : Seated) (a b : Answer) (a0 a1 a2 f0 f1 f2 : ℕ) (idle : x.seat_view.start ≡ None) where
   -- the task and the unlock
-  pub work_counts : (task : Call) (reply : Reply) → IsHolder (spot_now x.pass) → (spot_now x.pass).mended ≡ true → IsTask x.pass.setup.layout task → a ≡ answer.Mail reply → b ≡ answer.Unlocked
+  pub work_counts : (task : Call) (reply : Reply) → IsHolder (process_state_now x.seat_view) → (process_state_now x.seat_view).mended ≡ true → IsTask x.seat_view.setup.layout task → a ≡ answer.Mail reply → b ≡ answer.Unlocked
       → AnsweredBy 0 x (task ∷ []) (a ∷ []) 0 y a0 a1 f0 f1 → AnsweredBy 0 y (Unlock ∷ []) (b ∷ []) 0 z a1 a2 f1 f2 → InsideCounts x true (task ∷ Unlock ∷ []) (answer.Mail reply ∷ answer.Unlocked ∷ []) z
   work_counts task reply holder mended fits is so h t =
       let d : AnsweredBy 0 x (task ∷ []) (answer.Mail reply ∷ []) 0 y a0 a1 f0 f1 = subst (λ (u : Answer). AnsweredBy 0 x (task ∷ []) (u ∷ []) 0 y a0 a1 f0 f1) is h in
       let one = one_counts x y task (answer.Mail reply) 0 0 a0 a1 f0 f1 d in
-      let still : (spot_begun y.pass).mended ≡ true = still_mended x y task (answer.Mail reply) 0 d.0 idle d.1 fits holder mended in
+      let still : (process_state_begun y.seat_view).mended ≡ true = still_mended x y task (answer.Mail reply) 0 d.0 idle d.1 fits holder mended in
       inside_first x y z true true task (answer.Mail reply) (Unlock ∷ []) (answer.Unlocked ∷ []) one.0 d.1.calls.setup (reply_keeps reply)
-      (λ w. task_words x.pass.setup.layout w (words_begun x.pass) true (spot_begun x.pass).mended task reply fits ∙ one.1) one.2 (left_counts y z b a1 a2 f1 f2 true so still t)
+      (λ w. task_words x.seat_view.setup.layout w (words_begun x.seat_view) true (process_state_begun x.seat_view).mended task reply fits ∙ one.1) one.2 (left_counts y z b a1 a2 f1 f2 true so still t)
 
   -- a mending that finds the lock ruined, and the unlock
-  pub ruined_counts : IsHolder (spot_now x.pass) → (spot_now x.pass).mended ≡ false → a ≡ answer.NotRecoverable → b ≡ answer.Unlocked
+  pub ruined_counts : IsHolder (process_state_now x.seat_view) → (process_state_now x.seat_view).mended ≡ false → a ≡ answer.NotRecoverable → b ≡ answer.Unlocked
       → AnsweredBy 0 x (Consistent ∷ []) (a ∷ []) 0 y a0 a1 f0 f1 → AnsweredBy 0 y (Unlock ∷ []) (b ∷ []) 0 z a1 a2 f1 f2 → InsideCounts x false (Consistent ∷ Unlock ∷ []) (answer.NotRecoverable ∷ answer.Unlocked ∷ []) z
   ruined_counts holder unmended is so h t =
       let d : AnsweredBy 0 x (Consistent ∷ []) (answer.NotRecoverable ∷ []) 0 y a0 a1 f0 f1 = subst (λ (u : Answer). AnsweredBy 0 x (Consistent ∷ []) (u ∷ []) 0 y a0 a1 f0 f1) is h in
       let one = one_counts x y Consistent answer.NotRecoverable 0 0 a0 a1 f0 f1 d in
-      let still : (spot_begun y.pass).mended ≡ false = still_unmended x y Consistent answer.NotRecoverable 0 d.0 idle d.1 refl refl holder unmended in
+      let still : (process_state_begun y.seat_view).mended ≡ false = still_unmended x y Consistent answer.NotRecoverable 0 d.0 idle d.1 refl refl holder unmended in
       inside_first x y z false false Consistent answer.NotRecoverable (Unlock ∷ []) (answer.Unlocked ∷ []) one.0 d.1.calls.setup refl (λ w. one.1) one.2 (left_counts y z b a1 a2 f1 f2 false so still t)
 
 -- a mending, and the calls after it
@@ -91,15 +91,15 @@ mend_counts x y z a a0 a1 f0 f1 mended order answers is h t =
 pub whole_counts : (x y z : Seated) (turns : ℕ) (entry : Entering) (order : List Call) (answers : List Answer) (a0 a1 f0 f1 : ℕ) → (h : LockBy 0 x turns (Some (answer_of entry)) y a0 a1 f0 f1) → InsideCounts y (mended_by true (answer_of entry)) order answers z
     → SumCounts x (Lock ∷ order) (answer_of entry ∷ answers) (h.0 + 0) z
 whole_counts x y z turns entry order answers a0 a1 f0 f1 h t =
-    let l : Layout = x.pass.setup.layout in
-    let w : Own = words_begun x.pass in
-    let m : Bool = (spot_begun x.pass).mended in
+    let l : Layout = x.seat_view.setup.layout in
+    let w : Own = words_begun x.seat_view in
+    let m : Bool = (process_state_begun x.seat_view).mended in
     let a : Answer = answer_of entry in
     let one = one_counts x y Lock a h.0 0 a0 a1 f0 f1 h.2 in
-    let same : y.pass.setup ≡ x.pass.setup = h.2.1.calls.setup in
+    let same : y.seat_view.setup ≡ x.seat_view.setup = h.2.1.calls.setup in
     let later : table_sum l w (mended_by m a) order answers ≡ Some t.0 = subst (λ (u : Setup × Bool). table_sum u.0.layout w u.1 order answers ≡ Some t.0) (λ i. (same i, sym (entry_mends m entry) i)) (t.1 w) in (
       one.0 + t.0,
-      both_are (table_steps x.pass Lock a) (table_sum l w (mended_by m a) order answers) one.0 t.0 one.1 later,
+      both_are (table_steps x.seat_view Lock a) (table_sum l w (mended_by m a) order answers) one.0 t.0 one.1 later,
       t.2 ∙ ap (many_more t.0) one.2 ∙ many_add (one.0 + h.0) t.0 x.steps ∙ ap (λ (n : ℕ). many_more n x.steps) (let j = one.0 in let b = h.0 in let k = t.0 in let e : (j + b) + k ≡ (j + k) + (b + 0) = omega arith in e),
     )
 
@@ -108,7 +108,7 @@ module _ (x y : Seated) (turns a0 a1 f0 f1 : ℕ) (task : Call) where
   lock_sum : (a : Answer) → (h : LockBy 0 x turns (Some a) y a0 a1 f0 f1) → SumCounts x (Lock ∷ []) (a ∷ []) h.0 y
   lock_sum a h =
       let one = one_counts x y Lock a h.0 0 a0 a1 f0 f1 h.2 in
-      (one.0 + 0, both_are (table_steps x.pass Lock a) (Some 0) one.0 0 one.1 refl, one.2 ∙ ap (λ (n : ℕ). many_more n x.steps) (let j = one.0 in let b = h.0 in let e : j + b ≡ (j + 0) + b = omega arith in e))
+      (one.0 + 0, both_are (table_steps x.seat_view Lock a) (Some 0) one.0 0 one.1 refl, one.2 ∙ ap (λ (n : ℕ). many_more n x.steps) (let j = one.0 in let b = h.0 in let e : j + b ≡ (j + 0) + b = omega arith in e))
 
   pub spent_whole : LockBy 0 x turns (Some answer.NumbersSpent) y a0 a1 f0 f1 → WholeBy 0 x turns task (Err fault.NumbersSpent) y a0 a1 f0 f1
   spent_whole h = (Lock ∷ [], answer.NumbersSpent ∷ [], h.0, inr (h.1, inl (refl, refl, refl)), h.2, lock_sum answer.NumbersSpent h)
@@ -132,11 +132,11 @@ pub none_at_most : (x z : Seated) (most : ℕ) → z.steps ≡ x.steps → Count
 none_at_most x z most same = (0, omega arith, same)
 
 -- a call after another one counts on
-pub few_behind : (y w z : Seated) (call : Call) → w ≡ behind y call → CountsAtMost (most_steps w.pass.setup.layout call) w z → CountsAtMost (most_steps y.pass.setup.layout call) y z
-few_behind y w z call e h = subst (λ (u : Seated). CountsAtMost (most_steps u.pass.setup.layout call) u z) e h
+pub few_behind : (y w z : Seated) (call : Call) → w ≡ behind y call → CountsAtMost (most_steps w.seat_view.setup.layout call) w z → CountsAtMost (most_steps y.seat_view.setup.layout call) y z
+few_behind y w z call e h = subst (λ (u : Seated). CountsAtMost (most_steps u.seat_view.setup.layout call) u z) e h
 
-pub owes : (y w : Seated) (call : Call) → w ≡ behind y call → w.pass.start ≡ Some call
-owes y w call e = ap (λ (u : Seated). u.pass.start) e
+pub awaits : (y w : Seated) (call : Call) → w ≡ behind y call → w.seat_view.start ≡ Some call
+awaits y w call e = ap (λ (u : Seated). u.seat_view.start) e
 
 -- sums of the parts' bounds
 sum_joined : (a b c : ℕ) → a + (b + c) ≤ (a + b) + c
@@ -149,17 +149,17 @@ sum_less : (a b c : ℕ) → a + b ≤ (a + c) + b
 sum_less a b c = omega arith
 
 -- a mending, and the calls after it
-pub mend_few : (x y z : Seated) (task : Call) → y.pass.setup ≡ x.pass.setup → CountsAtMost (most_steps x.pass.setup.layout Consistent) x y → CountsAtMost (most_steps y.pass.setup.layout task + 3) y z → CountsAtMost (most_inside x.pass.setup.layout task) x z
+pub mend_few : (x y z : Seated) (task : Call) → y.seat_view.setup ≡ x.seat_view.setup → CountsAtMost (most_steps x.seat_view.setup.layout Consistent) x y → CountsAtMost (most_steps y.seat_view.setup.layout task + 3) y z → CountsAtMost (most_inside x.seat_view.setup.layout task) x z
 mend_few x y z task same h t =
-    let l : Layout = x.pass.setup.layout in
+    let l : Layout = x.seat_view.setup.layout in
     let mended : ℕ = most_steps l Consistent in
     let worked : ℕ = most_steps l task in
     let later : CountsAtMost (worked + 3) y z = subst (λ (s : Setup). CountsAtMost (most_steps s.layout task + 3) y z) same t in
     at_most_more x z z (mended + (worked + 3)) (most_inside l task) (sum_joined mended worked 3) (at_most_both x y z mended (worked + 3) h later) refl
 
-pub ruined_few : (x y z : Seated) (task : Call) → CountsAtMost (most_steps x.pass.setup.layout Consistent) x y → CountsAtMost 3 y z → CountsAtMost (most_inside x.pass.setup.layout task) x z
+pub ruined_few : (x y z : Seated) (task : Call) → CountsAtMost (most_steps x.seat_view.setup.layout Consistent) x y → CountsAtMost 3 y z → CountsAtMost (most_inside x.seat_view.setup.layout task) x z
 ruined_few x y z task h t =
-    let l : Layout = x.pass.setup.layout in
+    let l : Layout = x.seat_view.setup.layout in
     let mended : ℕ = most_steps l Consistent in
     at_most_more x z z (mended + 3) (most_inside l task) (sum_less mended 3 (most_steps l task)) (at_most_both x y z mended 3 h t) refl
 
@@ -179,16 +179,16 @@ module _ (x u y z : Seated) (task : Call) (turns : ℕ) (e : u ≡ began (ready 
   abbrev most_of : Layout → ℕ
   most_of l = most_whole l task + turns
 
-  pub few_whole : y.pass.setup ≡ u.pass.setup → CountsAtMost (most_steps u.pass.setup.layout Lock + turns) u y → CountsAtMost (most_inside y.pass.setup.layout task) y z → z.steps ≤ most_whole x.pass.setup.layout task + turns
+  pub few_whole : y.seat_view.setup ≡ u.seat_view.setup → CountsAtMost (most_steps u.seat_view.setup.layout Lock + turns) u y → CountsAtMost (most_inside y.seat_view.setup.layout task) y z → z.steps ≤ most_whole x.seat_view.setup.layout task + turns
   few_whole same h t =
-      let l : Layout = u.pass.setup.layout in
+      let l : Layout = u.seat_view.setup.layout in
       let later : CountsAtMost (most_inside l task) y z = subst (λ (s : Setup). CountsAtMost (most_inside s.layout task) y z) same t in
       few_out x u z Lock most_of e (at_most_more u z z ((most_steps l Lock + turns) + most_inside l task) (most_of l) (sum_moved (most_steps l Lock) turns (most_inside l task)) (at_most_both u y z (most_steps l Lock + turns) (most_inside l task) h later) refl)
 
   -- a lock that is cut off
-  pub few_lock : CountsAtMost (most_steps u.pass.setup.layout Lock + turns) u y → y.steps ≤ most_whole x.pass.setup.layout task + turns
+  pub few_lock : CountsAtMost (most_steps u.seat_view.setup.layout Lock + turns) u y → y.steps ≤ most_whole x.seat_view.setup.layout task + turns
   few_lock h =
-      let l : Layout = u.pass.setup.layout in
+      let l : Layout = u.seat_view.setup.layout in
       few_out x u y Lock most_of e (at_most_more u y y (most_steps l Lock + turns) (most_of l) (sum_less (most_steps l Lock) turns (most_inside l task)) h refl)
 
 -- an append that stores, in numbers

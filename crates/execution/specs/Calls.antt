@@ -3,13 +3,13 @@ use Rattle.std.specs.Prelude.{◌≡◌, ℕ, ◌+◌, ◌⊎◌, Bool, true, fa
 use Rattle.rmeworld.specs.declared.call.Call.{Call}
 use Rattle.rmeworld.specs.declared.answer.Answer.{Answer}
 use Rattle.rmecore.specs.Paid.{is_glance}
-use Rattle.rmeworld.specs.Spot.{Spot}
+use Rattle.rmeworld.specs.ProcessState.{ProcessState}
 use Rattle.rmeworld.specs.Answered.{answer_at, blocked_by}
 use Rattle.rmeworld.specs.Refused.{is_idle, is_waiting}
 use Rattle.execution.specs.declared.setup.Setup.{Setup}
 use Rattle.execution.specs.declared.entry.TakenStep.{TakenStep}
-use Rattle.execution.specs.Runs.{before, happenings, gone, spot_of}
-use Rattle.execution.specs.Pass.{Pass, spot_now, next_entry, Advances, Calls}
+use Rattle.execution.specs.Runs.{before, world_events, gone, process_state_of}
+use Rattle.execution.specs.SeatView.{SeatView, process_state_now, next_entry, Advances, Calls}
 use Rattle.execution.specs.Running.{Seated, many_more, fell}
 use Rattle.rmecore.specs.Simulated.{one_more}
 use Rattle.execution.specs.Lasting.{Lasts}
@@ -18,22 +18,22 @@ use Rattle.rmeworld.specs.declared.call.Call.TheVariants.{Lock}
 use Rattle.rmeworld.specs.CallWalk.{and_answer}
 
 -- the state of a process right before the step of one of its entries
-abbrev pub spot_before : Setup → Spot → TakenStep → Spot
-spot_before s spot e = gone s spot (before e.step.crashed e.step.start e.by)
+abbrev pub process_state_before : Setup → ProcessState → TakenStep → ProcessState
+process_state_before s process_state e = gone s process_state (before e.step.crashed e.step.start e.by)
 
 -- the answers of one process's entries, from its state before them
-abbrev pub answers_from : Setup → Spot → List TakenStep → List Answer
-answers_from s spot [] = []
-answers_from s spot (e ∷ es) = and_answer (answer_at (spot_before s spot e) e.step.kind e.value) (answers_from s (gone s spot (happenings e)) es)
+abbrev pub answers_from : Setup → ProcessState → List TakenStep → List Answer
+answers_from s process_state [] = []
+answers_from s process_state (e ∷ es) = and_answer (answer_at (process_state_before s process_state e) e.step.kind e.value) (answers_from s (gone s process_state (world_events e)) es)
 
 -- the entry is blocked in this process state
-abbrev pub is_blocked_at : Spot → TakenStep → Bool
-is_blocked_at spot e = blocked_by e.by spot.lock spot.errand e.step.kind e.value
+abbrev pub is_blocked_at : ProcessState → TakenStep → Bool
+is_blocked_at process_state e = blocked_by e.by process_state.lock process_state.script_state e.step.kind e.value
 
 -- how many of the entries were blocked
-abbrev pub blocked_from : Setup → Spot → List TakenStep → ℕ
-blocked_from s spot [] = 0
-blocked_from s spot (e ∷ es) = (if is_blocked_at (spot_before s spot e) e then 1 else 0) + blocked_from s (gone s spot (happenings e)) es
+abbrev pub blocked_from : Setup → ProcessState → List TakenStep → ℕ
+blocked_from s process_state [] = 0
+blocked_from s process_state (e ∷ es) = (if is_blocked_at (process_state_before s process_state e) e then 1 else 0) + blocked_from s (gone s process_state (world_events e)) es
 
 -- one more call in front, if there is one
 abbrev pub and_call : Option Call → List Call → List Call
@@ -71,18 +71,18 @@ FirstCrash c [] = Unit {0}
 FirstCrash c (e ∷ es) = (e.step.crashed ≡ c) × All (λ (f : TakenStep). f.step.crashed ≡ false) es
 
 -- the answers of a view's later own entries
-abbrev pub answers_of : Pass → List TakenStep → List Answer
-answers_of x mine = answers_from x.setup (spot_of x.setup x.by x.seen) mine
+abbrev pub answers_of : SeatView → List TakenStep → List Answer
+answers_of x mine = answers_from x.setup (process_state_of x.setup x.by x.seen) mine
 
 -- the number of blocked steps among a view's later own entries
-abbrev pub blocked_of : Pass → List TakenStep → ℕ
-blocked_of x mine = blocked_from x.setup (spot_of x.setup x.by x.seen) mine
+abbrev pub blocked_of : SeatView → List TakenStep → ℕ
+blocked_of x mine = blocked_from x.setup (process_state_of x.setup x.by x.seen) mine
 
 -- steps in a row, none a glance. Each carries the pending crash and start
-abbrev pub Takes : Pass → List TakenStep → Pass → Type 0
+abbrev pub Takes : SeatView → List TakenStep → SeatView → Type 0
 Takes x [] y = y ≡ x
 Takes x (e ∷ es) y =
-    (z : Pass) × (e ≡ next_entry x e.step.kind e.step.word e.value) × Advances x e.step.kind e.step.word e.value z × Takes z es y × (is_glance e.step.kind ≡ false)
+    (z : SeatView) × (e ≡ next_entry x e.step.kind e.step.word e.value) × Advances x e.step.kind e.step.word e.value z × Takes z es y × (is_glance e.step.kind ≡ false)
 
 -- the blocked readings of steps that end with an answer (none), or with a blocked reading (one)
 abbrev pub blocks : Option Answer → ℕ
@@ -91,45 +91,45 @@ blocks (Some a) = 0
 
 -- steps of a call up to its answer, or up to a blocked reading
 pub record Ran (x : Seated) (o : Option Answer) (y : Seated) (mine : List TakenStep) : Type 0 where
-  pub takes : Takes x.pass mine y.pass
-  pub answers : answers_of x.pass mine ≡ and_answer o []
-  pub blocked : blocked_of x.pass mine ≡ blocks o
+  pub takes : Takes x.seat_view mine y.seat_view
+  pub answers : answers_of x.seat_view mine ≡ and_answer o []
+  pub blocked : blocked_of x.seat_view mine ≡ blocks o
   pub steps : y.steps ≡ many_more (length mine) x.steps
 
 -- steps of a call that has no answer yet
 pub record Going (x : Seated) (mine : List TakenStep) (y : Seated) : Type 0 where
-  pub takes : Takes x.pass mine y.pass
-  pub answers : answers_of x.pass mine ≡ []
-  pub blocked : blocked_of x.pass mine ≡ 0
+  pub takes : Takes x.seat_view mine y.seat_view
+  pub answers : answers_of x.seat_view mine ≡ []
+  pub blocked : blocked_of x.seat_view mine ≡ 0
   pub steps : y.steps ≡ many_more (length mine) x.steps
 
 -- steps of a call, then a crash
 pub record CutOff (x : Seated) (mine : List TakenStep) (y : Seated) : Type 0 where
   pub last : Seated
-  pub takes : Takes x.pass mine last.pass
+  pub takes : Takes x.seat_view mine last.seat_view
   pub steps : last.steps ≡ many_more (length mine) x.steps
   pub crash : y ≡ fell last
 
 -- the state after some steps of a call: an answer that fits the call, in the state that it leaves; or a lock that waits in
 -- the line
 abbrev pub Still : Call → Seated → Option Answer → Type 0
-Still call y (Some a) = Fits call a × Leaves call a (spot_now y.pass)
-Still call y None = (call ≡ Lock) × IsUnder call (spot_now y.pass) × (is_idle (spot_now y.pass) ≡ false) × Lasts y.pass.setup.layout.procs 256 (spot_now y.pass) × (is_waiting (spot_now y.pass).lock ≡ true)
+Still call y (Some a) = Fits call a × Leaves call a (process_state_now y.seat_view)
+Still call y None = (call ≡ Lock) × IsUnder call (process_state_now y.seat_view) × (is_idle (process_state_now y.seat_view) ≡ false) × Lasts y.seat_view.setup.layout.procs 256 (process_state_now y.seat_view) × (is_waiting (process_state_now y.seat_view).lock ≡ true)
 
 -- Calls in a row. The run so far begins with all that the caller had seen, ends with the last call, and has just the entries
 -- `mine` of the caller. The first entry carries a pending crash, the first entry of each call its start, and none is a
 -- glance. The record also has their answers, the number of blocked readings and of own steps.
 pub record ServedAll (x : Seated) (order : List Call) (answers : List Answer) (blocked : ℕ) (y : Seated) (mine : List TakenStep) : Type 0 where
-  pub calls : Calls x.pass mine y.pass
-  pub crash : FirstCrash x.pass.fallen mine
+  pub calls : Calls x.seat_view mine y.seat_view
+  pub crash : FirstCrash x.seat_view.fallen mine
   pub started : starts mine ≡ order
   pub first : FirstStarts order mine
   pub moves : AreMoves mine
-  pub answered : answers_of x.pass mine ≡ answers
-  pub blocks : blocked_of x.pass mine ≡ blocked
+  pub answered : answers_of x.seat_view mine ≡ answers
+  pub blocks : blocked_of x.seat_view mine ≡ blocked
   pub steps : y.steps ≡ many_more (length mine) x.steps
-  pub alive : y.pass.fallen ≡ false
-  pub idle : y.pass.start ≡ None
+  pub alive : y.seat_view.fallen ≡ false
+  pub idle : y.seat_view.start ≡ None
 
 -- one call
 abbrev pub Served : Seated → Call → List Answer → ℕ → Seated → List TakenStep → Type 0
@@ -138,13 +138,13 @@ Served x call answers blocked y mine = ServedAll x (call ∷ []) answers blocked
 -- Calls that a crash cut off, before their first step, between two steps, or after their last: the next step carries the
 -- crash. `Begun` holds of the calls that were started.
 pub record CrashesIn (x : Seated) (Begun : List Call → Type 0) (y : Seated) (mine : List TakenStep) : Type 0 where
-  pub calls : Calls x.pass mine y.pass
-  pub unmoved : mine ≡ [] → y.pass.seen ≡ x.pass.seen
-  pub crash : FirstCrash x.pass.fallen mine
+  pub calls : Calls x.seat_view mine y.seat_view
+  pub unmoved : mine ≡ [] → y.seat_view.seen ≡ x.seat_view.seen
+  pub crash : FirstCrash x.seat_view.fallen mine
   pub started : (mine ≡ []) ⊎ Begun (starts mine)
   pub steps : y.steps ≡ many_more (length mine) x.steps
-  pub fallen : y.pass.fallen ≡ true
-  pub idle : y.pass.start ≡ None
+  pub fallen : y.seat_view.fallen ≡ true
+  pub idle : y.seat_view.start ≡ None
 
 -- one call
 abbrev pub Crashes : Seated → Call → Seated → List TakenStep → Type 0
@@ -155,12 +155,12 @@ abbrev pub Fell : ℕ → (asked asked_now fallen fallen_now : ℕ) → Type 0
 Fell k asked asked_now fallen fallen_now = (asked_now ≡ many_more k asked) × (fallen_now ≡ one_more fallen)
 
 -- the plan was asked k times and never crashed the process
-abbrev pub Calm : ℕ → (asked asked_now fallen fallen_now : ℕ) → Type 0
-Calm k asked asked_now fallen fallen_now = (asked_now ≡ many_more k asked) × (fallen_now ≡ fallen)
+abbrev pub NeverCrashes : ℕ → (asked asked_now fallen fallen_now : ℕ) → Type 0
+NeverCrashes k asked asked_now fallen fallen_now = (asked_now ≡ many_more k asked) × (fallen_now ≡ fallen)
 
 -- steps of a lock that has been blocked k times so far
 pub record Turning (x : Seated) (mine : List TakenStep) (k : ℕ) (y : Seated) : Type 0 where
-  pub takes : Takes x.pass mine y.pass
-  pub answers : answers_of x.pass mine ≡ []
-  pub blocked : blocked_of x.pass mine ≡ k
+  pub takes : Takes x.seat_view mine y.seat_view
+  pub answers : answers_of x.seat_view mine ≡ []
+  pub blocked : blocked_of x.seat_view mine ≡ k
   pub steps : y.steps ≡ many_more (length mine) x.steps

@@ -12,9 +12,9 @@ use Rattle.execution.specs.declared.lock_fault.LockFault.{LockFault}
 use Rattle.execution.specs.declared.lock_fault.LockFault.TheVariants.{Crashed, NotYet, NumbersSpent, NotRecoverable, AlreadyIn, NotOwner, NotInconsistent, BadIndex}
 use Rattle.execution.specs.declared.entry_kind.Entry.{Entry as Entering}
 use Rattle.execution.specs.declared.entry_kind.Entry.TheVariants as entering
-use Rattle.execution.specs.Pass.{spot_now}
+use Rattle.execution.specs.SeatView.{process_state_now}
 use Rattle.execution.specs.Running.{Seated, began, fell}
-use Rattle.execution.specs.Calls.{ServedAll, Served, CrashesIn, Crashes, Fell, Calm}
+use Rattle.execution.specs.Calls.{ServedAll, Served, CrashesIn, Crashes, Fell, NeverCrashes}
 
 -- the fault that a refused start answers
 abbrev pub fault_for : Call → Refusal → LockFault
@@ -25,7 +25,7 @@ fault_for call refusal = NotOwner
 
 -- why the member can't start the call now, if so
 abbrev pub refusal_now : Seated → Call → Option Refusal
-refusal_now x call = start_refusal x.pass.setup.layout (spot_now x.pass) call
+refusal_now x call = start_refusal x.seat_view.setup.layout (process_state_now x.seat_view) call
 
 -- refused: no step was taken, the plan wasn't asked, and nothing has changed
 abbrev pub Refused : Seated → Call → Seated → (asked asked_now fallen fallen_now : ℕ) → LockFault → Type 0
@@ -41,7 +41,7 @@ Fails x call y asked asked_now fallen fallen_now e = Refused x call y asked aske
 
 -- a call that may start from anywhere outside the section. A member whose lock still waits crashes first
 abbrev pub ready : Seated → Seated
-ready x = if is_idle (spot_now x.pass) then x else fell x
+ready x = if is_idle (process_state_now x.seat_view) then x else fell x
 
 -- a crash while calls are under way
 abbrev pub CutBy : Seated → (List Call → Type 0) → Seated → (asked asked_now fallen fallen_now : ℕ) → Type 0
@@ -53,11 +53,11 @@ CutIn x call y asked asked_now fallen fallen_now = (mine : List TakenStep) × Cr
 
 -- calls with their answers, and `more` askings beside those of their steps
 abbrev pub AnsweredBy : ℕ → Seated → List Call → List Answer → ℕ → Seated → (asked asked_now fallen fallen_now : ℕ) → Type 0
-AnsweredBy more x order answers blocked y asked asked_now fallen fallen_now = (mine : List TakenStep) × ServedAll x order answers blocked y mine × Calm (length mine + more) asked asked_now fallen fallen_now
+AnsweredBy more x order answers blocked y asked asked_now fallen fallen_now = (mine : List TakenStep) × ServedAll x order answers blocked y mine × NeverCrashes (length mine + more) asked asked_now fallen fallen_now
 
 -- an answer of a call that was blocked `blocked` times
 abbrev pub AnsweredIn : Seated → Call → List Answer → ℕ → Seated → (asked asked_now fallen fallen_now : ℕ) → Type 0
-AnsweredIn x call answers blocked y asked asked_now fallen fallen_now = (mine : List TakenStep) × Served x call answers blocked y mine × Calm (length mine + 1) asked asked_now fallen fallen_now
+AnsweredIn x call answers blocked y asked asked_now fallen fallen_now = (mine : List TakenStep) × Served x call answers blocked y mine × NeverCrashes (length mine + 1) asked asked_now fallen fallen_now
 
 -- how a lock ends that may be blocked `turns` times, from right after its start, with `more` askings beside those of its
 -- steps: with an answer after at most `turns` blocked readings, or without one after one more

@@ -5,35 +5,35 @@ use Rattle.atomic_table.specs.Seated.{TableId}
 use Rattle.rmecore.specs.declared.word.Word.{Word}
 use Rattle.redomail.specs.Layout.{size}
 use Rattle.rmeworld.specs.declared.image.Image.{Image}
-use Rattle.rmeworld.specs.World.{Scene, reading}
+use Rattle.rmeworld.specs.World.{GlobalState, reading}
 use Rattle.execution.specs.declared.setup.Setup.{Setup}
 use Rattle.execution.specs.declared.entry.TakenStep.{TakenStep}
 use Rattle.execution.specs.declared.entry.View.{View}
-use Rattle.execution.specs.declared.entry.Known.{Known}
+use Rattle.execution.specs.declared.entry.SeatKnowledge.{SeatKnowledge}
 use Rattle.execution.specs.Runs.{own, has, IsRun, end_of}
 use Rattle.execution.specs.Rule.{count_from, joined, Begins, IsIn, Did}
-use Rattle.execution.specs.Pass.{Pass, alone, glanced}
+use Rattle.execution.specs.SeatView.{SeatView, alone, glanced}
 use Rattle.execution.specs.Running.{Seated}
 
 -- the members are of one arena: their seats belong to one table
 abbrev pub OneArena : List Seated → Type 0
-OneArena xs = (t : TableId) × All (λ (x : Seated). x.pass.table ≡ t) xs
+OneArena xs = (t : TableId) × All (λ (x : Seated). x.seat_view.table ≡ t) xs
 
 -- process p has a member in the list
 abbrev pub has_member : ℕ → List Seated → Bool
-has_member p xs = list_any (λ (x : Seated). x.pass.by == p) xs
+has_member p xs = list_any (λ (x : Seated). x.seat_view.by == p) xs
 
 -- the number of processes of their arena
 abbrev pub procs_of : List Seated → ℕ
 procs_of [] = 0
-procs_of (x ∷ xs) = x.pass.setup.layout.procs
+procs_of (x ∷ xs) = x.seat_view.setup.layout.procs
 
 -- some process of the arena has no member in the list
 abbrev pub IsMissing : List Seated → Type 0
 IsMissing xs = (xs ≡ []) ⊎ ((p : ℕ) × (p < procs_of xs) × (has_member p xs ≡ false))
 
 -- the image of a global state (the specification's "Image"), with the sizes
-abbrev pub image_at : Setup → Scene → Image
+abbrev pub image_at : Setup → GlobalState → Image
 image_at s w =
     record {
       cap = s.layout.cap;
@@ -50,8 +50,8 @@ IsGlance e = (word : Word) × (e.step ≡ glanced word)
 
 -- the view of x is a prefix of the run and has all entries of its process, which isn't the first member's
 pub record IsWhole (first : Seated) (run : List TakenStep) (x : Seated) : Type 0 where
-  pub begins : Begins x.pass.seen run
-  pub own_is : x.pass.by ≢ first.pass.by → own x.pass.by run ≡ own x.pass.by x.pass.seen
+  pub begins : Begins x.seat_view.seen run
+  pub own_is : x.seat_view.by ≢ first.seat_view.by → own x.seat_view.by run ≡ own x.seat_view.by x.seat_view.seen
 
 -- Each member's view is a prefix of the run. The run has no entry of a process that isn't in its member's view, but for the
 -- first member's process, whose seat took `count` more glances.
@@ -59,8 +59,8 @@ pub record IsTold (first : Seated) (others : List Seated) (count : ℕ) (run : L
   pub glances : List TakenStep
   pub are_glances : All IsGlance glances
   pub count_is : length glances ≡ count
-  pub begins : Begins first.pass.seen run
-  pub own_is : own first.pass.by run ≡ own first.pass.by first.pass.seen ++ glances
+  pub begins : Begins first.seat_view.seen run
+  pub own_is : own first.seat_view.by run ≡ own first.seat_view.by first.seat_view.seen ++ glances
   pub whole : All (IsWhole first run) others
 
 -- There is one run. It has each member's view as a prefix, and no further entries but one glance before each joining of two
@@ -69,33 +69,33 @@ pub record Gathers (xs : List Seated) (image : Image) : Type 0 where
   pub first : Seated
   pub others : List Seated
   pub are : xs ≡ first ∷ others
-  pub all : (p : ℕ) → p < first.pass.setup.layout.procs → has_member p xs ≡ true
+  pub all : (p : ℕ) → p < first.seat_view.setup.layout.procs → has_member p xs ≡ true
   pub run : List TakenStep
-  pub legal : IsRun first.pass.setup run
+  pub legal : IsRun first.seat_view.setup run
   pub told : IsTold first others (length others) run
-  pub words : image ≡ image_at first.pass.setup (end_of first.pass.setup run)
+  pub words : image ≡ image_at first.seat_view.setup (end_of first.seat_view.setup run)
 
 -- the processes for which the first member's seat answers once these are joined into it, the last one first
 abbrev pub answers_of : Seated → List Seated → List ℕ
-answers_of first [] = first.pass.by ∷ []
-answers_of first (x ∷ xs) = answers_of first xs ++ x.pass.by ∷ []
+answers_of first [] = first.seat_view.by ∷ []
+answers_of first (x ∷ xs) = answers_of first xs ++ x.seat_view.by ∷ []
 
 -- what the first member's seat knows once these are joined into it, after `count` glances
-pub record Knows (first : Seated) (others : List Seated) (count : ℕ) (k : Known) : Type 0 where
-  pub setup : k.view.setup ≡ first.pass.setup
+pub record Knows (first : Seated) (others : List Seated) (count : ℕ) (k : SeatKnowledge) : Type 0 where
+  pub setup : k.view.setup ≡ first.seat_view.setup
   pub answers : k.view.answers ≡ answers_of first others
   pub tells : (run : List TakenStep) → IsIn run k.view → All (IsIn run) k.told → IsTold first others count run
 
 -- a glance of the seat, then the joining of another seat
-abbrev pub Absorbs : Known → Pass → Known → Type 0
-Absorbs k x l = (word : Word) × (found : ℕ) × (m : Known) × Did (glanced word) k found m × (l ≡ joined m (alone x.setup x.by x.seen))
+abbrev pub Absorbs : SeatKnowledge → SeatView → SeatKnowledge → Type 0
+Absorbs k x l = (word : Word) × (found : ℕ) × (m : SeatKnowledge) × Did (glanced word) k found m × (l ≡ joined m (alone x.setup x.by x.seen))
 
 -- the seat answers for all processes
 abbrev pub AnswersAll : Setup → View → Type 0
 AnswersAll s v = (v.setup ≡ s) × ((p : ℕ) → p < s.layout.procs → has p v.answers ≡ true) × (0 < s.layout.procs)
 
 -- a glance of such a seat: no other step comes in between
-pub record Looked (s : Setup) (word : Word) (k : Known) (found : ℕ) (l : Known) : Type 0 where
+pub record Looked (s : Setup) (word : Word) (k : SeatKnowledge) (found : ℕ) (l : SeatKnowledge) : Type 0 where
   pub setup : l.view.setup ≡ k.view.setup
   pub answers : l.view.answers ≡ k.view.answers
   pub run : IsRun s k.view.seen
@@ -105,7 +105,7 @@ pub record Looked (s : Setup) (word : Word) (k : Known) (found : ℕ) (l : Known
   pub told : All (IsIn k.view.seen) k.told
 
 -- glances of such a seat change nothing that it can read
-pub record Stays (s : Setup) (k : Known) (l : Known) : Type 0 where
+pub record Stays (s : Setup) (k : SeatKnowledge) (l : SeatKnowledge) : Type 0 where
   pub setup : l.view.setup ≡ k.view.setup
   pub answers : l.view.answers ≡ k.view.answers
   pub words : (end_of s l.view.seen).words ≡ (end_of s k.view.seen).words

@@ -16,15 +16,15 @@ use Rattle.judge.specs.Legal.{IsLegal}
 use Rattle.judge.specs.Plain.{IsPlain}
 use Rattle.judge.specs.Table.{State, empty}
 use Rattle.rmeworld.specs.declared.answer.Answer.TheVariants.{Mail}
-use Rattle.rmeworld.specs.declared.why.Why.TheVariants.{Working}
+use Rattle.rmeworld.specs.declared.purpose.Purpose.TheVariants.{Working}
 use Rattle.rmeworld.specs.Answered.{answer_at}
 use Rattle.rmeworld.specs.Law.{Sits}
-use Rattle.rmeworld.specs.Spot.{Spot, Doing}
+use Rattle.rmeworld.specs.ProcessState.{ProcessState, Doing}
 use Rattle.rmeworld.specs.World.{at_first, deeds}
 use Rattle.execution.specs.declared.setup.Setup.{Setup}
 use Rattle.execution.specs.declared.entry.TakenStep.{TakenStep}
-use Rattle.execution.specs.Runs.{IsRun, spelled, end_of, spot_of}
-use Rattle.execution.specs.Calls.{spot_before}
+use Rattle.execution.specs.Runs.{IsRun, spelled, end_of, process_state_of}
+use Rattle.execution.specs.Calls.{process_state_before}
 
 -- the deeds of a run
 abbrev pub deeds_of : Setup → List TakenStep → List Deed
@@ -39,16 +39,16 @@ abbrev pub shown_by : Setup → List TakenStep → List Message
 shown_by s es = (judged_by s es).mail.shown
 
 -- the process state right before the step of the entry e, after the entries es
-abbrev pub spot_at : Setup → List TakenStep → TakenStep → Spot
-spot_at s es e = spot_before s (spot_of s e.by es) e
+abbrev pub process_state_at : Setup → List TakenStep → TakenStep → ProcessState
+process_state_at s es e = process_state_before s (process_state_of s e.by es) e
 
 -- the step of e ends an append with this number, with this reply
 pub record EndsAppend (s : Setup) (es : List TakenStep) (e : TakenStep) (seq : ℕ) (reply : Reply) : Type 0 where
   pub value : List ℕ
   pub left : Script Reply
   pub step : is_glance e.step.kind ≡ false
-  pub append : (spot_at s es e).errand ≡ Doing (Working (task.Append seq value)) left
-  pub answer : answer_at (spot_at s es e) e.step.kind e.value ≡ Some (Mail reply)
+  pub append : (process_state_at s es e).script_state ≡ Doing (Working (task.Append seq value)) left
+  pub answer : answer_at (process_state_at s es e) e.step.kind e.value ≡ Some (Mail reply)
 
 -- an append that is answered Stored or Already has its number among its sender's shown messages at that point
 abbrev pub AnsweredIsShown : Setup → List TakenStep → Type 0

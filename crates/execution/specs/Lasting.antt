@@ -4,9 +4,9 @@ use Rattle.rmecore.specs.Place.{Place, Rest, Dead, Reread, Opening, Door, Shutti
 use Rattle.rmecore.specs.declared.core_call.CoreCall.TheVariants.{Lock}
 use Rattle.redomail.specs.Script.{Script, Get, Put, Done}
 use Rattle.redomail.specs.declared.reply.Reply.{Reply}
-use Rattle.rmeworld.specs.declared.why.Why.{Why}
-use Rattle.rmeworld.specs.declared.why.Why.TheVariants.{Checking, Ruining, Mending, Working}
-use Rattle.rmeworld.specs.Spot.{Errand, Free, Doing, Spot}
+use Rattle.rmeworld.specs.declared.purpose.Purpose.{Purpose}
+use Rattle.rmeworld.specs.declared.purpose.Purpose.TheVariants.{Checking, Ruining, Mending, Working}
+use Rattle.rmeworld.specs.ProcessState.{ScriptState, Free, Doing, ProcessState}
 
 -- a script ends within k steps, whatever it reads
 abbrev pub Within : ℕ → Script Reply → Type 0
@@ -41,7 +41,7 @@ IsFair (Wait k unpassed (Some j)) = has unpassed j ≡ true
 IsFair place = Unit {0}
 
 -- the steps of the exit after a script
-abbrev pub exit_of : Why → ℕ
+abbrev pub exit_of : Purpose → ℕ
 exit_of Checking = 2
 exit_of Ruining = 2
 exit_of Mending = 0
@@ -54,10 +54,10 @@ HasStep (Get i rest) = Unit {0}
 HasStep (Put i v rest) = Unit {0}
 
 -- at most k steps are left at this place, with this script under way
-abbrev pub LastsBy : ℕ → ℕ → Place → Errand → Type 0
+abbrev pub LastsBy : ℕ → ℕ → Place → ScriptState → Type 0
 LastsBy n k place Free = IsFair place × (lock_left n place ≤ k)
-LastsBy n k place (Doing why left) = (m : ℕ) × Within m left × (m + exit_of why ≤ k) × HasStep left
+LastsBy n k place (Doing purpose left) = (m : ℕ) × Within m left × (m + exit_of purpose ≤ k) × HasStep left
 
 -- at most k steps are left in this process state, blocked ones not counted
-abbrev pub Lasts : ℕ → ℕ → Spot → Type 0
-Lasts n k spot = LastsBy n k spot.lock spot.errand
+abbrev pub Lasts : ℕ → ℕ → ProcessState → Type 0
+Lasts n k process_state = LastsBy n k process_state.lock process_state.script_state

@@ -1,6 +1,6 @@
 pub mod Runs
 pub mod Rule
-pub mod Pass
+pub mod SeatView
 pub mod Lasting
 pub mod Running
 pub mod Calls

@@ -12,7 +12,7 @@ use Rattle.rmeworld.specs.World.{at_first, reading, deeds}
 use Rattle.execution.specs.declared.setup.Setup.{Setup}
 use Rattle.execution.specs.declared.entry.TakenStep.{TakenStep}
 use Rattle.execution.specs.Runs.{own, spelled, IsRun, end_of, stores}
-use Rattle.execution.specs.Pass.{Pass, glance_entry, Looks, Calls}
+use Rattle.execution.specs.SeatView.{SeatView, glance_entry, Looks, Calls}
 use Rattle.execution.specs.Running.{Seated}
 
 -- the data words after a run
@@ -37,16 +37,16 @@ entry_words l a (suc n) = entry_words l a n ++ row_words (place_at l (a + n)) (2
 -- glances at these words in turn. They aren't own steps of a call
 abbrev pub Glances : Seated → List Word → Seated → Type 0
 Glances x [] y = y ≡ x
-Glances x (w ∷ ws) y = (z : Seated) × (v : ℕ) × Looks x.pass w v z.pass × (z.steps ≡ x.steps) × Glances z ws y
+Glances x (w ∷ ws) y = (z : Seated) × (v : ℕ) × Looks x.seat_view w v z.seat_view × (z.steps ≡ x.steps) × Glances z ws y
 
 -- these entries are the process's glances at these words
-abbrev pub AreGlances : Pass → List Word → List TakenStep → Type 0
+abbrev pub AreGlances : SeatView → List Word → List TakenStep → Type 0
 AreGlances x [] [] = Unit {0}
 AreGlances x (w ∷ ws) (e ∷ es) = (e ≡ glance_entry x w e.value) × AreGlances x ws es
 AreGlances x _ _ = ⊥
 
 -- the run up to the reader's glance of count, which is its last entry
-abbrev pub up_to_count : Pass → List TakenStep → ℕ → List TakenStep
+abbrev pub up_to_count : SeatView → List TakenStep → ℕ → List TakenStep
 up_to_count x between count = (x.seen ++ between) ++ glance_entry x (DataAt 2) count ∷ []
 
 -- A reading of the mailbox from a place on. The run up to the glance of count begins with all that the caller had seen. The
@@ -54,27 +54,27 @@ up_to_count x between count = (x.seen ++ between) ++ glance_entry x (DataAt 2) c
 -- at the words of the messages answered. A pending crash or start stays pending, and the count of own steps stays.
 pub record ReadsFrom (x : Seated) (place : ℕ) (messages : List Message) (y : Seated) : Type 0 where
   pub between : List TakenStep
-  pub apart : own x.pass.by between ≡ []
+  pub apart : own x.seat_view.by between ≡ []
   pub count : ℕ
   pub shown : List Message
-  pub are_shown : AreShown x.pass.setup (up_to_count x.pass between count) shown
+  pub are_shown : AreShown x.seat_view.setup (up_to_count x.seat_view between count) shown
   pub counted : count ≡ length shown
   pub answer : messages ≡ drop place shown
   pub later : List TakenStep
-  pub seen : y.pass.seen ≡ up_to_count x.pass between count ++ later
+  pub seen : y.seat_view.seen ≡ up_to_count x.seat_view between count ++ later
   pub mine : List TakenStep
-  pub calls : Calls x.pass mine y.pass
-  pub glances : AreGlances x.pass (DataAt 2 ∷ entry_words x.pass.setup.layout place (length messages)) mine
-  pub own_steps : length mine ≡ 1 + (2 + x.pass.setup.layout.width) * length messages
+  pub calls : Calls x.seat_view mine y.seat_view
+  pub glances : AreGlances x.seat_view (DataAt 2 ∷ entry_words x.seat_view.setup.layout place (length messages)) mine
+  pub own_steps : length mine ≡ 1 + (2 + x.seat_view.setup.layout.width) * length messages
   pub steps : y.steps ≡ x.steps
-  pub fallen : y.pass.fallen ≡ x.pass.fallen
-  pub start : y.pass.start ≡ x.pass.start
+  pub fallen : y.seat_view.fallen ≡ x.seat_view.fallen
+  pub start : y.seat_view.start ≡ x.seat_view.start
 
 -- what a reading that ran out of memory leaves: only the glance of count was taken, and the place is below count
 pub record ReadsCount (x : Seated) (place : ℕ) (y : Seated) : Type 0 where
   pub count : ℕ
   pub below : place < count
-  pub looks : Looks x.pass (DataAt 2) count y.pass
+  pub looks : Looks x.seat_view (DataAt 2) count y.seat_view
   pub steps : y.steps ≡ x.steps
 
 -- A load finds the word's value in the global state right before it.

@@ -11,8 +11,8 @@ use Rattle.execution.specs.declared.setup.Setup.{Setup}
 use Rattle.execution.specs.declared.entry.Step.{Step}
 use Rattle.execution.specs.declared.entry.TakenStep.{TakenStep}
 use Rattle.execution.specs.declared.entry.View.{View}
-use Rattle.execution.specs.declared.entry.Known.{Known}
-use Rattle.execution.specs.Runs.{own, has, spot_of, happenings, IsRun, end_of, Goes, index, InTable, IsBeyond, Shows}
+use Rattle.execution.specs.declared.entry.SeatKnowledge.{SeatKnowledge}
+use Rattle.execution.specs.Runs.{own, has, process_state_of, world_events, IsRun, end_of, Goes, index, InTable, IsBeyond, Shows}
 
 -- the step of a name that names none
 abbrev pub no_step : Step
@@ -24,7 +24,7 @@ count_from k zero = []
 count_from k (suc n) = k ∷ count_from (suc k) n
 
 -- what the first seat of a new table knows: it answers for all processes
-abbrev pub opening_known : Setup → Known
+abbrev pub opening_known : Setup → SeatKnowledge
 opening_known s = record { view = record { setup = s; answers = count_from 0 s.layout.procs; seen = [] }; told = [] }
 
 -- the first process, alone
@@ -38,11 +38,11 @@ rest_of [] = []
 rest_of (p ∷ ps) = ps
 
 -- what the seat knows that is split off, for the first process
-abbrev pub first_alone : Known → Known
+abbrev pub first_alone : SeatKnowledge → SeatKnowledge
 first_alone k = record { view = record { setup = k.view.setup; answers = first_of k.view.answers; seen = k.view.seen }; told = [] }
 
 -- what the other seat keeps
-abbrev pub without_first : Known → Known
+abbrev pub without_first : SeatKnowledge → SeatKnowledge
 without_first k = record { view = record { setup = k.view.setup; answers = rest_of k.view.answers; seen = k.view.seen }; told = [] }
 
 -- the longer of two prefixes of one run
@@ -54,11 +54,11 @@ abbrev pub joined_view : View → View → View
 joined_view v w = record { setup = v.setup; answers = v.answers ++ w.answers; seen = longer v.seen w.seen }
 
 -- both views stay listed until the next step shows that they are prefixes of one run
-abbrev pub joined : Known → Known → Known
+abbrev pub joined : SeatKnowledge → SeatKnowledge → SeatKnowledge
 joined k l = record { view = joined_view k.view l.view; told = (k.view ∷ k.told) ++ (l.view ∷ l.told) }
 
 -- what is left of a seat that was joined into another: it answers for no process
-abbrev pub spent_known : Known
+abbrev pub spent_known : SeatKnowledge
 spent_known = record { view = record { setup = record { layout = record { procs = 0; cap = 0; width = 0 }; limit = 0 }; answers = []; seen = [] }; told = [] }
 
 -- xs is a prefix of es
@@ -77,12 +77,12 @@ abbrev pub Fits : Setup → List TakenStep → (ℕ → ℕ) → ℕ → View �
 Fits s log owner i v = Begins v.seen log × ((p : ℕ) → has p v.answers ≡ true → IsAnswered s log owner i v p)
 
 -- the same of all views that a seat knows
-abbrev pub AllFit : Setup → List TakenStep → (ℕ → ℕ) → ℕ → Known → Type 0
+abbrev pub AllFit : Setup → List TakenStep → (ℕ → ℕ) → ℕ → SeatKnowledge → Type 0
 AllFit s log owner i k = Fits s log owner i k.view × All (Fits s log owner i) k.told
 
 -- some seat answers for p
-abbrev pub IsMember : List Known → (ℕ → ℕ) → ℕ → Type 0
-IsMember views owner p = (k : Known) × (get_elem? views (owner p) ≡ some k) × (has p k.view.answers ≡ true)
+abbrev pub IsMember : List SeatKnowledge → (ℕ → ℕ) → ℕ → Type 0
+IsMember views owner p = (k : SeatKnowledge) × (get_elem? views (owner p) ≡ some k) × (has p k.view.answers ≡ true)
 
 -- the view o is a prefix of the run so far, and has all entries of its processes
 pub record IsIn (log : List TakenStep) (o : View) : Type 0 where
@@ -91,14 +91,14 @@ pub record IsIn (log : List TakenStep) (o : View) : Type 0 where
 
 -- There is one run, whose words are these. Each view is a prefix of it, with all entries of its processes. Each process has
 -- a seat.
-pub record IsKept (s : Setup) (log : List TakenStep) (owner : ℕ → ℕ) (words : List ℕ) (views : List Known) : Type 0 where
+pub record IsKept (s : Setup) (log : List TakenStep) (owner : ℕ → ℕ) (words : List ℕ) (views : List SeatKnowledge) : Type 0 where
   pub run : IsRun s log
   pub shows : Shows s (end_of s log) words
-  pub fits : (i : ℕ) (k : Known) → get_elem? views i ≡ some k → AllFit s log owner i k
+  pub fits : (i : ℕ) (k : SeatKnowledge) → get_elem? views i ≡ some k → AllFit s log owner i k
   pub members : (p : ℕ) → p < s.layout.procs → IsMember views owner p
 
 -- the rule: the table keeps it between any two steps
-abbrev pub Kept : Setup → State (Unit {0}) Known → Type 0
+abbrev pub Kept : Setup → State (Unit {0}) SeatKnowledge → Type 0
 Kept s state = (log : List TakenStep) × (owner : ℕ → ℕ) × IsKept s log owner state.words state.views
 
 -- the process for which a seat steps: the first one that it answers for
@@ -111,7 +111,7 @@ entry_of v step value = record { by = stepper v; step = step; value = value }
 
 -- What the caller learns from a step: the run so far begins with all that was seen and ends with this step. No process of
 -- this seat stepped in between. The views that were joined into it are prefixes of that run too.
-pub record Did (step : Step) (k : Known) (found : ℕ) (l : Known) : Type 0 where
+pub record Did (step : Step) (k : SeatKnowledge) (found : ℕ) (l : SeatKnowledge) : Type 0 where
   pub setup : l.view.setup ≡ k.view.setup
   pub answers : l.view.answers ≡ k.view.answers
   pub none_told : l.told ≡ []
@@ -123,7 +123,7 @@ pub record Did (step : Step) (k : Known) (found : ℕ) (l : Known) : Type 0 wher
 
 -- the process may take this step with this value: its own entries alone decide that
 abbrev pub May : Step → View → ℕ → Type 0
-May step v value = (has (stepper v) v.answers ≡ true) × Goes v.setup (spot_of v.setup (stepper v) v.seen) (happenings (entry_of v step value))
+May step v value = (has (stepper v) v.answers ≡ true) × Goes v.setup (process_state_of v.setup (stepper v) v.seen) (world_events (entry_of v step value))
 
 -- the process may load this word, whatever value it finds
 abbrev pub MayLoad : Step → ℕ → View → Type 0
@@ -135,5 +135,5 @@ MayStore step word v new = (word ≡ index v.setup step.word) × InTable v.setup
 
 -- A step at a data word past the end of the mailbox: no word changes, and a load reads 0. No run has such a step. The lock
 -- theorem says so, not this rule.
-abbrev pub MayPass : Step → View → ℕ → Type 0
-MayPass step v value = IsBeyond v.setup step.word × (is_store step.kind ≡ false → value ≡ 0) × May step v value
+abbrev pub MaySeatView : Step → View → ℕ → Type 0
+MaySeatView step v value = IsBeyond v.setup step.word × (is_store step.kind ≡ false → value ≡ 0) × May step v value

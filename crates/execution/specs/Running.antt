@@ -6,20 +6,20 @@ use Rattle.rmecore.specs.declared.access.Access.{Access}
 use Rattle.rmeworld.specs.declared.call.Call.{Call}
 use Rattle.rmeworld.specs.declared.outcome.Outcome.{Outcome}
 use Rattle.rmeworld.specs.Answered.{answer_at}
-use Rattle.rmeworld.specs.Stand.{Stand, spot_of as standing_at, access_by, progress_by}
-use Rattle.execution.specs.Pass.{Pass, spot_now, moved_spot, Advances}
+use Rattle.rmeworld.specs.MachineState.{MachineState, process_state_of as standing_at, access_by, progress_by}
+use Rattle.execution.specs.SeatView.{SeatView, process_state_now, moved_process_state, Advances}
 
 -- what contracts see of a member: its view, and the number of own steps of its last call
 pub record Seated : Type 0 where
-  pub pass : Pass
+  pub seat_view : SeatView
   pub steps : ℕ
 
 -- the machine's state is the one that follows from the view
-pub record IsRunBy (x : Pass) (s : Stand) : Type 0 where
+pub record IsRunBy (x : SeatView) (s : MachineState) : Type 0 where
   pub layout : s.layout ≡ x.setup.layout
   pub limit : s.limit ≡ x.setup.limit
   pub index : s.index ≡ x.by
-  pub spot : standing_at s ≡ spot_now x
+  pub process_state : standing_at s ≡ process_state_now x
 
 -- k more, at most the greatest u64
 abbrev pub many_more : ℕ → ℕ → ℕ
@@ -27,31 +27,31 @@ many_more zero count = count
 many_more (suc k) count = one_more (many_more k count)
 
 -- the next step
-abbrev pub next_of : Pass → Option Access
-next_of x = access_by x.setup.limit x.by (spot_now x).lock (spot_now x).errand
+abbrev pub next_of : SeatView → Option Access
+next_of x = access_by x.setup.limit x.by (process_state_now x).lock (process_state_now x).script_state
 
 -- what a step means for others and for its call
-abbrev pub outcome_of : Pass → Access → ℕ → Outcome
-outcome_of x a v = record { progress = progress_by x.by (spot_now x) a v; answer = answer_at (spot_now x) (kind_of a) (carried a v) }
+abbrev pub outcome_of : SeatView → Access → ℕ → Outcome
+outcome_of x a v = record { progress = progress_by x.by (process_state_now x) a v; answer = answer_at (process_state_now x) (kind_of a) (carried a v) }
 
 -- one step of the machine, as one load or store of the table
 pub record TakesStep (x : Seated) (outcome : Outcome) (y : Seated) : Type 0 where
   pub access : Access
   pub value : ℕ
-  pub next : next_of x.pass ≡ Some access
-  pub may : IsSome (moved_spot x.pass (kind_of access) (word_of access) (carried access value))
-  pub advances : Advances x.pass (kind_of access) (word_of access) (carried access value) y.pass
-  pub told : outcome ≡ outcome_of x.pass access value
+  pub next : next_of x.seat_view ≡ Some access
+  pub may : IsSome (moved_process_state x.seat_view (kind_of access) (word_of access) (carried access value))
+  pub advances : Advances x.seat_view (kind_of access) (word_of access) (carried access value) y.seat_view
+  pub told : outcome ≡ outcome_of x.seat_view access value
   pub steps : y.steps ≡ one_more x.steps
 
 -- after a crash
 abbrev pub fell : Seated → Seated
-fell x = record x { pass = record x.pass { fallen = true; start = None } }
+fell x = record x { seat_view = record x.seat_view { fallen = true; start = None } }
 
 -- after the start of a call that follows another one in the same whole call: its steps are counted on
 abbrev pub behind : Seated → Call → Seated
-behind x call = record x { pass = record x.pass { start = Some call } }
+behind x call = record x { seat_view = record x.seat_view { start = Some call } }
 
 -- after the start of a call
 abbrev pub began : Seated → Call → Seated
-began x call = record { pass = record x.pass { start = Some call }; steps = 0 }
+began x call = record { seat_view = record x.seat_view { start = Some call }; steps = 0 }

@@ -8,38 +8,38 @@ use Rattle.rmecore.specs.declared.word.Word.{Word}
 use Rattle.rmecore.specs.declared.word.Word.TheVariants.{Choosing as ChoosingOf, Number as NumberOf, Inside as InsideOf, Data as DataAt}
 use Rattle.redomail.specs.Layout.{size}
 use Rattle.rmeworld.specs.declared.call.Call.{Call}
-use Rattle.rmeworld.specs.Spot.{Spot, at_rest, Happening, Begins, Falls, Moves, Glances, next_spot}
-use Rattle.rmeworld.specs.World.{Scene, at_first, Story, last_scene, reading, spot_after}
+use Rattle.rmeworld.specs.ProcessState.{ProcessState, at_rest, WorldEvent, Begins, Falls, Moves, Glances, next_process_state}
+use Rattle.rmeworld.specs.World.{GlobalState, at_first, Execution, last_global_state, reading, process_state_after}
 use Rattle.execution.specs.declared.setup.Setup.{Setup}
 use Rattle.execution.specs.declared.entry.TakenStep.{TakenStep}
 
 -- the crash, if there is one
-abbrev pub crash_first : Bool → ℕ → List Happening
+abbrev pub crash_first : Bool → ℕ → List WorldEvent
 crash_first true p = Falls p ∷ []
 crash_first false p = []
 
 -- the start of a call, if there is one
-abbrev pub start_then : Option Call → ℕ → List Happening
+abbrev pub start_then : Option Call → ℕ → List WorldEvent
 start_then None p = []
 start_then (Some call) p = Begins p call ∷ []
 
 -- what comes before a step of process p: at most one crash, then at most one start
-abbrev pub before : Bool → Option Call → ℕ → List Happening
+abbrev pub before : Bool → Option Call → ℕ → List WorldEvent
 before crashed start p = crash_first crashed p ++ start_then start p
 
 -- one load or store of process p
-abbrev pub taken : ℕ → Kind → Word → ℕ → Happening
+abbrev pub taken : ℕ → Kind → Word → ℕ → WorldEvent
 taken p Looks word v = Glances p word v
 taken p kind word v = Moves p kind word v
 
 -- the events of an entry: its crash, its start, and its load or store
-abbrev pub happenings : TakenStep → List Happening
-happenings e = before e.step.crashed e.step.start e.by ++ taken e.by e.step.kind e.step.word e.value ∷ []
+abbrev pub world_events : TakenStep → List WorldEvent
+world_events e = before e.step.crashed e.step.start e.by ++ taken e.by e.step.kind e.step.word e.value ∷ []
 
 -- a run as the list of its events
-abbrev pub spelled : List TakenStep → List Happening
+abbrev pub spelled : List TakenStep → List WorldEvent
 spelled [] = []
-spelled (e ∷ es) = happenings e ++ spelled es
+spelled (e ∷ es) = world_events e ++ spelled es
 
 -- the entries of process p
 abbrev pub own : ℕ → List TakenStep → List TakenStep
@@ -52,24 +52,24 @@ has p (q ∷ qs) = (q == p) || has p qs
 
 -- the entries are a run from the first global state on, all words 0
 abbrev pub IsRun : Setup → List TakenStep → Type 0
-IsRun s es = Story s.layout s.limit at_first (spelled es)
+IsRun s es = Execution s.layout s.limit at_first (spelled es)
 
 -- the global state after a run
-abbrev pub end_of : Setup → List TakenStep → Scene
-end_of s es = last_scene s.layout s.limit at_first (spelled es)
+abbrev pub end_of : Setup → List TakenStep → GlobalState
+end_of s es = last_global_state s.layout s.limit at_first (spelled es)
 
 -- the state of a process after these events of its own. An event that isn't allowed leaves the state as it is
-abbrev pub gone : Setup → Spot → List Happening → Spot
-gone s spot hs = spot_after s.layout s.limit spot hs
+abbrev pub gone : Setup → ProcessState → List WorldEvent → ProcessState
+gone s process_state hs = process_state_after s.layout s.limit process_state hs
 
 -- the state of process p, a function of its own entries
-abbrev pub spot_of : Setup → ℕ → List TakenStep → Spot
-spot_of s p es = gone s at_rest (spelled (own p es))
+abbrev pub process_state_of : Setup → ℕ → List TakenStep → ProcessState
+process_state_of s p es = gone s at_rest (spelled (own p es))
 
 -- each of these events is allowed to the process in turn, from this state on
-abbrev pub Goes : Setup → Spot → List Happening → Type 0
-Goes s spot [] = Unit {0}
-Goes s spot (h ∷ hs) = IsSome (next_spot s.layout s.limit spot h) × Goes s (unwrap_or (next_spot s.layout s.limit spot h) spot) hs
+abbrev pub Goes : Setup → ProcessState → List WorldEvent → Type 0
+Goes s process_state [] = Unit {0}
+Goes s process_state (h ∷ hs) = IsSome (next_process_state s.layout s.limit process_state h) × Goes s (unwrap_or (next_process_state s.layout s.limit process_state h) process_state) hs
 
 -- how many words the table has: three for each process, then the data words
 abbrev pub word_count : Setup → ℕ
@@ -95,7 +95,7 @@ IsBeyond s (DataAt i) = size s.layout ≤ i
 IsBeyond s word = ⊥
 
 -- the table's words are those of the global state
-abbrev pub Shows : Setup → Scene → List ℕ → Type 0
+abbrev pub Shows : Setup → GlobalState → List ℕ → Type 0
 Shows s w words = (length words ≡ word_count s) × ((word : Word) → InTable s word → slice_index words (index s word) ≡ reading w word)
 
 -- the entry is a store

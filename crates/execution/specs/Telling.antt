@@ -11,5 +11,5 @@ use Rattle.execution.specs.Running.{Seated}
 pub record ToldIn (x : Seated) (seq : ℕ) (reply : Reply) (y : Seated) : Type 0 where
   pub since : List TakenStep
   pub later : List TakenStep
-  pub seen : y.pass.seen ≡ (x.pass.seen ++ since) ++ later
-  pub tells : ReplyTells x.pass.setup.layout x.pass.by seq reply (judged_by x.pass.setup (x.pass.seen ++ since)).mail
+  pub seen : y.seat_view.seen ≡ (x.seat_view.seen ++ since) ++ later
+  pub tells : ReplyTells x.seat_view.setup.layout x.seat_view.by seq reply (judged_by x.seat_view.setup (x.seat_view.seen ++ since)).mail

@@ -9,10 +9,10 @@ use Rattle.rmeworld.specs.declared.call.Call.{Call}
 use Rattle.rmeworld.specs.declared.call.Call.TheVariants.{Lock, Unlock, Consistent, Recover, Append, Close, Get, Put, Withdraw}
 use Rattle.rmeworld.specs.declared.answer.Answer.{Answer}
 use Rattle.rmeworld.specs.declared.answer.Answer.TheVariants.{Clean, OwnerDied, NumbersSpent, NotRecoverable, Unlocked, Found, Mail, Withdrawn}
-use Rattle.rmeworld.specs.declared.why.Why.{Why}
-use Rattle.rmeworld.specs.declared.why.Why.TheVariants.{Checking, Ruining, Mending, Working}
+use Rattle.rmeworld.specs.declared.purpose.Purpose.{Purpose}
+use Rattle.rmeworld.specs.declared.purpose.Purpose.TheVariants.{Checking, Ruining, Mending, Working}
 use Rattle.rmeworld.specs.Refused.{is_idle}
-use Rattle.rmeworld.specs.Spot.{Errand, Free, Doing, Spot}
+use Rattle.rmeworld.specs.ProcessState.{ScriptState, Free, Doing, ProcessState}
 use Rattle.execution.specs.Lasting.{Lasts}
 
 -- a place of the lock's part of a call. A lock that found the lock ruined is on its way out
@@ -60,7 +60,7 @@ Appends seq Closed = Unit {0}
 Appends seq _ = ⊥
 
 -- a script that belongs to the call
-abbrev pub UnderScript : Call → Bool → Why → Script Reply → Type 0
+abbrev pub UnderScript : Call → Bool → Purpose → Script Reply → Type 0
 UnderScript Lock c Checking left = Unit {0}
 UnderScript Unlock c Ruining left = c ≡ false
 UnderScript Consistent c Mending left = Replies Mends left
@@ -71,13 +71,13 @@ UnderScript (Put i v) c (Working task) left = Unit {0}
 UnderScript _ _ _ _ = ⊥
 
 -- the call is under way at this place, with this script
-abbrev pub UnderBy : Call → Place → Bool → Errand → Type 0
+abbrev pub UnderBy : Call → Place → Bool → ScriptState → Type 0
 UnderBy call s c Free = under_place call c s ≡ true
-UnderBy call s c (Doing why left) = UnderScript call c why left
+UnderBy call s c (Doing purpose left) = UnderScript call c purpose left
 
 -- the call is under way in this process state
-abbrev pub IsUnder : Call → Spot → Type 0
-IsUnder call spot = UnderBy call spot.lock spot.barred spot.errand
+abbrev pub IsUnder : Call → ProcessState → Type 0
+IsUnder call process_state = UnderBy call process_state.lock process_state.barred process_state.script_state
 
 -- the answers that a call can have
 abbrev pub Fits : Call → Answer → Type 0
@@ -97,12 +97,12 @@ Fits (Put i v) (Mail reply) = Unit {0}
 Fits _ _ = ⊥
 
 -- a holder with no call under way
-abbrev pub IsHolder : Spot → Type 0
-IsHolder t = (t.lock ≡ Inside) × (t.errand ≡ Free)
+abbrev pub IsHolder : ProcessState → Type 0
+IsHolder t = (t.lock ≡ Inside) × (t.script_state ≡ Free)
 
 -- The process state after the answer of a call. A holder is inside. After a lock or a mending it has nothing to mend, unless
 -- the owner died. After an unlock, or a lock that found the lock ruined, the process is at rest.
-abbrev pub Leaves : Call → Answer → Spot → Type 0
+abbrev pub Leaves : Call → Answer → ProcessState → Type 0
 Leaves Lock Clean t = IsHolder t × (t.mended ≡ true)
 Leaves Lock OwnerDied t = IsHolder t × (t.mended ≡ false)
 Leaves Lock NumbersSpent t = t.lock ≡ Rest
@@ -115,5 +115,5 @@ Leaves Close (Mail reply) t = IsHolder t
 Leaves _ _ t = Unit {0}
 
 -- the call is under way, has a next step, and few steps are left
-abbrev pub Begun : Call → ℕ → Spot → Type 0
+abbrev pub Begun : Call → ℕ → ProcessState → Type 0
 Begun call n t = IsUnder call t × (is_idle t ≡ false) × Lasts n 256 t

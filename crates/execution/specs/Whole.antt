@@ -90,5 +90,5 @@ WholeFails x turns task y asked asked_now fallen fallen_now e =
 -- a value of another width is refused first, and the plan isn't asked
 abbrev pub AppendFails : Seated → ℕ → ℕ → List ℕ → Seated → (asked asked_now fallen fallen_now : ℕ) → LockFault → Type 0
 AppendFails x turns seq value y asked asked_now fallen fallen_now e =
-    (e ≡ BadWidth) × (length value ≢ x.pass.setup.layout.width) × (y ≡ x) × (asked_now ≡ asked) × (fallen_now ≡ fallen)
-    ⊎ (length value ≡ x.pass.setup.layout.width) × WholeFails x turns (Append seq value) y asked asked_now fallen fallen_now e
+    (e ≡ BadWidth) × (length value ≢ x.seat_view.setup.layout.width) × (y ≡ x) × (asked_now ≡ asked) × (fallen_now ≡ fallen)
+    ⊎ (length value ≡ x.seat_view.setup.layout.width) × WholeFails x turns (Append seq value) y asked asked_now fallen fallen_now e

@@ -10,7 +10,7 @@ use Rattle.rmeworld.specs.declared.call.Call.{Call}
 use Rattle.rmeworld.specs.declared.call.Call.TheVariants.{Lock, Unlock, Consistent, Append}
 use Rattle.rmeworld.specs.OwnSteps.{own_steps, most_steps}
 use Rattle.execution.specs.Running.{Seated, many_more}
-use Rattle.execution.specs.Tabled.{words_begun, spot_begun}
+use Rattle.execution.specs.Tabled.{words_begun, process_state_begun}
 
 -- the sum of two numbers of the table, where it has both
 abbrev pub both : Option ℕ → Option ℕ → Option ℕ
@@ -40,14 +40,14 @@ StoredAppendSteps =
 -- How many own steps have been counted for a lock and the calls after it with these answers: the table's sum, and the
 -- blocked steps. A lock without an answer has counted fewer than the most that a lock takes, and the blocked steps.
 abbrev pub SumCounts : Seated → List Call → List Answer → ℕ → Seated → Type 0
-SumCounts x order [] blocked y = (k : ℕ) × (k < most_steps x.pass.setup.layout Lock) × (y.steps ≡ many_more (k + blocked) x.steps)
+SumCounts x order [] blocked y = (k : ℕ) × (k < most_steps x.seat_view.setup.layout Lock) × (y.steps ≡ many_more (k + blocked) x.steps)
 SumCounts x order (a ∷ answers) blocked y =
-    (k : ℕ) × (table_sum x.pass.setup.layout (words_begun x.pass) (spot_begun x.pass).mended order (a ∷ answers) ≡ Some k) × (y.steps ≡ many_more (k + blocked) x.steps)
+    (k : ℕ) × (table_sum x.seat_view.setup.layout (words_begun x.seat_view) (process_state_begun x.seat_view).mended order (a ∷ answers) ≡ Some k) × (y.steps ≡ many_more (k + blocked) x.steps)
 
 -- the same for the calls of a holder: none is blocked, and its lock words don't matter
 abbrev pub InsideCounts : Seated → Bool → List Call → List Answer → Seated → Type 0
 InsideCounts x mended order answers y =
-    (k : ℕ) × ((words : Own) → table_sum x.pass.setup.layout words mended order answers ≡ Some k) × (y.steps ≡ many_more k x.steps)
+    (k : ℕ) × ((words : Own) → table_sum x.seat_view.setup.layout words mended order answers ≡ Some k) × (y.steps ≡ many_more k x.steps)
 
 -- the most own steps of the calls after the lock in a whole mailbox call
 abbrev pub most_inside : Layout → Call → ℕ

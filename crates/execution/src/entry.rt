@@ -1,4 +1,4 @@
-//! The types that a run of the table is made of. `TakenStep`, `View` and `Known` have no value at run time: only contracts
+//! The types that a run of the table is made of. `TakenStep`, `View` and `SeatKnowledge` have no value at run time: only contracts
 //! and proofs use them.
 
 use crate::setup::Setup;
@@ -32,7 +32,7 @@ pub struct View {
 }
 
 /// What a seat knows: its view, and the views of the seats that were joined into it since its last step.
-pub struct Known {
+pub struct SeatKnowledge {
     pub view: View,
     pub told: LinkedList<View>,
 }

@@ -115,26 +115,26 @@ next_is_own s p (d ∷ ds) (suc j) sole lp e ok none here =
 -- p is inside and crashes at position c
 dead_after : (s : State) (p : ℕ) (ds : List Deed) (c j : ℕ) → Sole s → p < s.procs → s.lock.phase p ≡ phase.Inside → Allowed s ds → NoneBefore ds c (IsExitOf p) → Stands ds c (deed.Outer (Crash p))
     → c < j → NoneBetween ds c j IsEntry → At ds j IsEntry → Stands ds j (deed.Outer (Reenter p))
-dead_after s p [] c j sole lp e ok none crash l quiet here = here
-dead_after s p (d ∷ ds) c zero sole lp e ok none crash l quiet here = absurd (omega arith)
-dead_after s p (d ∷ ds) zero (suc j) sole lp e ok none crash l quiet here =
+dead_after s p [] c j sole lp e ok none crash l silent here = here
+dead_after s p (d ∷ ds) c zero sole lp e ok none crash l silent here = absurd (omega arith)
+dead_after s p (d ∷ ds) zero (suc j) sole lp e ok none crash l silent here =
     let P : Deed → Type 0 = λ k. (after s k).lock.phase p ≡ phase.DeadIn in
     let dead : (after s d).lock.phase p ≡ phase.DeadIn = subst P (sym crash) (put_same s.lock.phase p (crashed (s.lock.phase p)) ∙ ap crashed e) in
     next_is_own (after s d) p ds j (Sole-after s d ok.0 sole) (rw (procs-after s d) lp) dead ok.1
-    (λ k l. quiet (suc k) (omega arith) (omega arith)) here
-dead_after s p (d ∷ ds) (suc c) (suc j) sole lp e ok none crash l quiet here =
+    (λ k l. silent (suc k) (omega arith) (omega arith)) here
+dead_after s p (d ∷ ds) (suc c) (suc j) sole lp e ok none crash l silent here =
     dead_after (after s d) p ds c j (Sole-after s d ok.0 sole) (rw (procs-after s d) lp)
     (inside_stays s d p ok.0 e (none zero (omega arith))) ok.1 (λ k l. none (suc k) (omega arith)) crash (omega arith)
-    (λ k a b. quiet (suc k) (omega arith) (omega arith)) here
+    (λ k a b. silent (suc k) (omega arith) (omega arith)) here
 
 pub DeadReenters-from_allowed : (s : State) (ds : List Deed) → Sole s → Allowed s ds → DeadReenters ds
-DeadReenters-from_allowed s [] sole ok p i c j entry l none crash m quiet here = here
-DeadReenters-from_allowed s (d ∷ ds) sole ok p i zero j entry l none crash m quiet here = absurd (omega arith)
-DeadReenters-from_allowed s (d ∷ ds) sole ok p i (suc c) zero entry l none crash m quiet here = absurd (omega arith)
-DeadReenters-from_allowed s (d ∷ ds) sole ok p zero (suc c) (suc j) entry l none crash m quiet here =
+DeadReenters-from_allowed s [] sole ok p i c j entry l none crash m silent here = here
+DeadReenters-from_allowed s (d ∷ ds) sole ok p i zero j entry l none crash m silent here = absurd (omega arith)
+DeadReenters-from_allowed s (d ∷ ds) sole ok p i (suc c) zero entry l none crash m silent here = absurd (omega arith)
+DeadReenters-from_allowed s (d ∷ ds) sole ok p zero (suc c) (suc j) entry l none crash m silent here =
     let at = entered s d p ok.0 entry in
     dead_after (after s d) p ds c j (Sole-after s d ok.0 sole) at.1 at.0 ok.1 (λ k l. none (suc k) (omega arith) (omega arith))
-    crash (omega arith) (λ k a b. quiet (suc k) (omega arith) (omega arith)) here
-DeadReenters-from_allowed s (d ∷ ds) sole ok p (suc i) (suc c) (suc j) entry l none crash m quiet here =
+    crash (omega arith) (λ k a b. silent (suc k) (omega arith) (omega arith)) here
+DeadReenters-from_allowed s (d ∷ ds) sole ok p (suc i) (suc c) (suc j) entry l none crash m silent here =
     DeadReenters-from_allowed (after s d) ds (Sole-after s d ok.0 sole) ok.1 p i c j entry (omega arith)
-    (λ k a b. none (suc k) (omega arith) (omega arith)) crash (omega arith) (λ k a b. quiet (suc k) (omega arith) (omega arith)) here
+    (λ k a b. none (suc k) (omega arith) (omega arith)) crash (omega arith) (λ k a b. silent (suc k) (omega arith) (omega arith)) here

@@ -96,39 +96,39 @@ committed s (d ∷ ds) ok p (suc i) at seq v here =
     ]
 
 -- closed, and nothing is pending
-abbrev pub Quiet : State → Type 0
-Quiet s = (s.mail.closed ≡ true) × (is_none s.mail.pending ≡ true)
+abbrev pub Silent : State → Type 0
+Silent s = (s.mail.closed ≡ true) × (is_none s.mail.pending ≡ true)
 
 none_pending : (o : Option Message) (p seq : ℕ) (v : List ℕ) → is_none o ≡ true → is_pending o p seq v ≡ true → ⊥
 none_pending None p seq v e h = false≢true h
 none_pending (Some m) p seq v e h = false≢true e
 
-no_commit_now : (s : State) (p seq : ℕ) (v : List ℕ) → AllHold (needs s (deed.Commit p seq v)) → Quiet s → ⊥
-no_commit_now s p seq v h quiet = true≢false (sym quiet.0 ∙ not-true s.mail.closed h.1.1.1.1.1.1.0)
+no_commit_now : (s : State) (p seq : ℕ) (v : List ℕ) → AllHold (needs s (deed.Commit p seq v)) → Silent s → ⊥
+no_commit_now s p seq v h silent = true≢false (sym silent.0 ∙ not-true s.mail.closed h.1.1.1.1.1.1.0)
 
-no_show_now : (s : State) (p at seq : ℕ) (v : List ℕ) → AllHold (needs s (deed.Show p at seq v)) → Quiet s → ⊥
-no_show_now s p at seq v h quiet = none_pending s.mail.pending p seq v quiet.1 h.1.1.0
+no_show_now : (s : State) (p at seq : ℕ) (v : List ℕ) → AllHold (needs s (deed.Show p at seq v)) → Silent s → ⊥
+no_show_now s p at seq v h silent = none_pending s.mail.pending p seq v silent.1 h.1.1.0
 
 -- a Close leaves the mailbox closed, with nothing pending
-closes : (s : State) (d : Deed) (q : ℕ) → AllHold (needs s d) → d ≡ deed.Close q → Quiet (after s d)
+closes : (s : State) (d : Deed) (q : ℕ) → AllHold (needs s d) → d ≡ deed.Close q → Silent (after s d)
 closes s d q h e =
-    let P : Deed → Type 0 = λ k. AllHold (needs s k) → Quiet (after s k) in
+    let P : Deed → Type 0 = λ k. AllHold (needs s k) → Silent (after s k) in
     subst P (sym e) (λ g. (refl, g.1.1.0)) h
 
-Quiet-after : (s : State) (d : Deed) → AllHold (needs s d) → Quiet s → Quiet (after s d)
-Quiet-after s (deed.Commit q n w) h quiet = absurd (no_commit_now s q n w h quiet)
-Quiet-after s (deed.Show q at n w) h quiet = (quiet.0, refl)
-Quiet-after s (deed.Close q) h quiet = (refl, quiet.1)
-Quiet-after s (deed.Outer (Begin q)) h quiet = quiet
-Quiet-after s _ h quiet = quiet
+Silent-after : (s : State) (d : Deed) → AllHold (needs s d) → Silent s → Silent (after s d)
+Silent-after s (deed.Commit q n w) h silent = absurd (no_commit_now s q n w h silent)
+Silent-after s (deed.Show q at n w) h silent = (silent.0, refl)
+Silent-after s (deed.Close q) h silent = (refl, silent.1)
+Silent-after s (deed.Outer (Begin q)) h silent = silent
+Silent-after s _ h silent = silent
 
 -- neither comes after a Close
-pub none_after : (s : State) (ds : List Deed) → Quiet s → Allowed s ds → (p j at seq : ℕ) (v : List ℕ) → (Stands ds j (deed.Commit p seq v) → ⊥) × (Stands ds j (deed.Show p at seq v) → ⊥)
-none_after s [] quiet ok p j at seq v = (λ here. here, λ here. here)
-none_after s (d ∷ ds) quiet ok p zero at seq v =
+pub none_after : (s : State) (ds : List Deed) → Silent s → Allowed s ds → (p j at seq : ℕ) (v : List ℕ) → (Stands ds j (deed.Commit p seq v) → ⊥) × (Stands ds j (deed.Show p at seq v) → ⊥)
+none_after s [] silent ok p j at seq v = (λ here. here, λ here. here)
+none_after s (d ∷ ds) silent ok p zero at seq v =
     let P : Deed → Type 0 = λ k. AllHold (needs s k) in
-    (λ here. no_commit_now s p seq v (subst P here ok.0) quiet, λ here. no_show_now s p at seq v (subst P here ok.0) quiet)
-none_after s (d ∷ ds) quiet ok p (suc j) at seq v = none_after (after s d) ds (Quiet-after s d ok.0 quiet) ok.1 p j at seq v
+    (λ here. no_commit_now s p seq v (subst P here ok.0) silent, λ here. no_show_now s p at seq v (subst P here ok.0) silent)
+none_after s (d ∷ ds) silent ok p (suc j) at seq v = none_after (after s d) ds (Silent-after s d ok.0 silent) ok.1 p j at seq v
 
 pub after_close : (s : State) (ds : List Deed) → Allowed s ds → (p q i j at seq : ℕ) (v : List ℕ) → Stands ds i (deed.Close q) → i < j → (Stands ds j (deed.Commit p seq v) → ⊥) × (Stands ds j (deed.Show p at seq v) → ⊥)
 after_close s [] ok p q i j at seq v close l = absurd close

@@ -8,15 +8,15 @@ use Rattle.judge.proofs.Steps.{Allowed, put_cases, none_below-at, procs-after, d
 
 -- the same, one deed later
 later : (d : Deed) (ds : List Deed) (p e : ℕ) → (IsEndOf p d → ⊥) → GoneBefore ds p e → GoneBefore (d ∷ ds) p (suc e)
-later d ds p e quiet w = record {
+later d ds p e silent w = record {
   place = suc w.place;
   before = omega (arith, w.before);
   gone = w.gone;
-  same = none_before d ds p w.place quiet w.same;
+  same = none_before d ds p w.place silent w.same;
 } where
   none_before : (d : Deed) (ds : List Deed) (p k : ℕ) → (IsEndOf p d → ⊥) → NoneBefore ds k (IsEndOf p) → NoneBefore (d ∷ ds) (suc k) (IsEndOf p)
-  none_before d ds p k quiet none zero l h = quiet h
-  none_before d ds p k quiet none (suc j) l h = none j (omega arith) h
+  none_before d ds p k silent none zero l h = silent h
+  none_before d ds p k silent none (suc j) l h = none j (omega arith) h
 
 first : (d : Deed) (ds : List Deed) (p e : ℕ) → IsGoneOf p d → GoneBefore (d ∷ ds) p (suc e)
 first d ds p e here = record { place = 0; before = omega arith; gone = here; same = λ k l h. absurd (omega arith) }

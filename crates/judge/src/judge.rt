@@ -127,9 +127,12 @@ impl Judge {
         ensures made { IfOk result (λ judge. StandsAfter (state_of start.now) [] judge) }
         ensures start { OnOk result (IsStart start.now) }
         ensures procs { IsErrOf result Refusal.BadProcs ↔ ((start.now.procs ≡ 0) ⊎ (64 < start.now.procs)) }
-        ensures cap { IsErrOf result Refusal.BadCap ↔ ((0 < start.now.procs) × (start.now.procs ≤ 64) × ((start.now.cap ≡ 0) ⊎ (65536 < start.now.cap))) }
-        ensures shape { IsErrOf result Refusal.BadShape ↔ (IsWithin start.now.procs start.now.cap × (LockHolds start.now × MailHolds start.now → ⊥)) }
-        ensures only { IfErr result (λ r. (r ≡ Refusal.BadProcs) ⊎ (r ≡ Refusal.BadCap) ⊎ (r ≡ Refusal.BadShape) ⊎ (r ≡ Refusal.OutOfMemory)) }
+        ensures cap { IsErrOf result Refusal.BadCap ↔ ((0 < start.now.procs) × (start.now.procs ≤ 64)
+            × ((start.now.cap ≡ 0) ⊎ (65536 < start.now.cap))) }
+        ensures shape { IsErrOf result Refusal.BadShape ↔ (IsWithin start.now.procs start.now.cap
+            × (LockHolds start.now × MailHolds start.now → ⊥)) }
+        ensures only { IfErr result (λ r. (r ≡ Refusal.BadProcs) ⊎ (r ≡ Refusal.BadCap) ⊎ (r ≡ Refusal.BadShape)
+            ⊎ (r ≡ Refusal.OutOfMemory)) }
     {
         if start.procs == 0 || start.procs > 64 {
             return Err(Refusal::BadProcs);
@@ -301,7 +304,8 @@ impl Judge {
     /// Sets the phase of p, and takes p out of all ahead sets.
     fn pass(&mut self, p: u64, phase: Phase)
         requires { p < self.old.procs }
-        ensures { (s : State) → Keeps self.old s → Keeps self.new (record s { lock = record { phase = put s.lock.phase p phase; ahead = λ q. put (s.lock.ahead q) p false } }) }
+        ensures { (s : State) → Keeps self.old s → Keeps self.new
+            (record s { lock = record { phase = put s.lock.phase p phase; ahead = λ q. put (s.lock.ahead q) p false } }) }
     {
         rows::clear_column(&mut self.ahead, p);
         self.phases[p as usize] = phase;
@@ -351,8 +355,11 @@ impl Judge {
     /// fault the judge is unchanged, and may be fed another deed. It does not allocate. It looks through the processes at
     /// most four times.
     pub fn feed(&mut self, deed: Deed) -> Result<(), Fault>
-        ensures judged { (s : State) → Keeps self.old s → MatchResult result (λ _. (judged s deed ≡ Ok (after s deed)) × Keeps self.new (after s deed)) (λ fault. judged s deed ≡ Err fault) }
-        ensures fed { (start : State) (history : List Deed) → StandsAfter start history self.old → MatchResult result (λ _. StandsAfter start (history ++ deed ∷ []) self.new) (λ fault. judged_all start (history ++ deed ∷ []) ≡ Err fault) }
+        ensures judged { (s : State) → Keeps self.old s → MatchResult result
+            (λ _. (judged s deed ≡ Ok (after s deed)) × Keeps self.new (after s deed)) (λ fault. judged s deed ≡ Err fault) }
+        ensures fed { (start : State) (history : List Deed) → StandsAfter start history self.old
+            → MatchResult result (λ _. StandsAfter start (history ++ deed ∷ []) self.new)
+            (λ fault. judged_all start (history ++ deed ∷ []) ≡ Err fault) }
         ensures same { OnErr result (self.new ≡ self.old) }
     {
         self.feed_from(&deed)
@@ -362,8 +369,12 @@ impl Judge {
     // Inline: one call a deed.
     #[inline(always)]
     pub fn feed_from(&mut self, deed: &Deed) -> Result<(), Fault>
-        ensures judged { (s : State) → Keeps self.old s → MatchResult result (λ _. (judged s deed.now ≡ Ok (after s deed.now)) × Keeps self.new (after s deed.now)) (λ fault. judged s deed.now ≡ Err fault) }
-        ensures fed { (start : State) (history : List Deed) → StandsAfter start history self.old → MatchResult result (λ _. StandsAfter start (history ++ deed.now ∷ []) self.new) (λ fault. judged_all start (history ++ deed.now ∷ []) ≡ Err fault) }
+        ensures judged { (s : State) → Keeps self.old s → MatchResult result
+            (λ _. (judged s deed.now ≡ Ok (after s deed.now)) × Keeps self.new (after s deed.now))
+            (λ fault. judged s deed.now ≡ Err fault) }
+        ensures fed { (start : State) (history : List Deed) → StandsAfter start history self.old
+            → MatchResult result (λ _. StandsAfter start (history ++ deed.now ∷ []) self.new)
+            (λ fault. judged_all start (history ++ deed.now ∷ []) ≡ Err fault) }
         ensures same { OnErr result (self.new ≡ self.old) }
     {
         if let Some(fault) = self.fault(deed) {
@@ -424,7 +435,12 @@ impl Judge {
 
     /// For this workspace alone, as `seam_phases`: the state of the mailbox.
     pub fn seam_mail(&self) -> MailPart
-        ensures { result ≡ record { shown = self.now.shown; pending = self.now.pending; closed = self.now.closed; ruined = self.now.ruined } }
+        ensures { result ≡ record {
+          shown = self.now.shown;
+          pending = self.now.pending;
+          closed = self.now.closed;
+          ruined = self.now.ruined;
+        } }
     {
         MailPart {
             shown: self.shown,

@@ -27,14 +27,17 @@ pub fn legal_histories_are_plain()
 
 /// Every history that continues from a start which `Judge::from_start` accepts has the plain properties from that start.
 pub fn histories_from_a_start_are_plain()
-    ensures { (start : Start) (history : List Deed) (t : State) → IsStart start → Leads (state_of start) history t → IsPlainFrom start history }
+    ensures { (start : Start) (history : List Deed) (t : State) → IsStart start → Leads (state_of start) history t
+        → IsPlainFrom start history }
 {}
 
 /// The deeds of every run of the core from all words 0 are legal beside a mailbox of any capacity, and have the lock's plain
 /// properties. It holds for any number of processes and any limit.
 pub fn core_runs_are_legal()
-    ensures legal { (n limit cap : ℕ) (events : List Event) → Run n limit at_rest events → IsLegal n cap (map Deed.Outer (deeds n limit at_rest events)) }
-    ensures plain { (n limit : ℕ) (events : List Event) → Run n limit at_rest events → LockInOrder (map Deed.Outer (deeds n limit at_rest events)) }
+    ensures legal { (n limit cap : ℕ) (events : List Event) → Run n limit at_rest events
+        → IsLegal n cap (map Deed.Outer (deeds n limit at_rest events)) }
+    ensures plain { (n limit : ℕ) (events : List Event) → Run n limit at_rest events
+        → LockInOrder (map Deed.Outer (deeds n limit at_rest events)) }
 {
     rmecore::laws::every_run_is_legal();
 }
@@ -42,7 +45,8 @@ pub fn core_runs_are_legal()
 /// A list of deeds is legal from a state exactly if the abstract lock allows its deeds of the lock and the mailbox list
 /// allows each deed.
 pub fn histories_have_two_halves()
-    ensures together { (s : State) (history : List Deed) → Legal s.procs s.lock (outers history) → MailAllows s.procs s.cap s.lock s.mail history → Leads s history (all_after s history) }
+    ensures together { (s : State) (history : List Deed) → Legal s.procs s.lock (outers history)
+        → MailAllows s.procs s.cap s.lock s.mail history → Leads s history (all_after s history) }
     ensures lock { (s t : State) (history : List Deed) → Leads s history t → Legal s.procs s.lock (outers history) }
     ensures mail { (s t : State) (history : List Deed) → Leads s history t → MailAllows s.procs s.cap s.lock s.mail history }
     ensures state { (s t : State) (history : List Deed) → Leads s history t → t ≡ all_after s history }
@@ -52,8 +56,10 @@ pub fn histories_have_two_halves()
 /// the judge table gives. A legal history with one more legal deed is legal, and so is one followed by another that
 /// continues from its end.
 pub fn histories_grow()
-    ensures deed { (s : State) (deed : Deed) → doer deed < s.procs → AllHold (lock_needs s deed) → AllHold (mail_needs s deed) → judged s deed ≡ Ok (after s deed) }
-    ensures grow { (s t u : State) (history : List Deed) (deed : Deed) → Leads s history t → judged t deed ≡ Ok u → Leads s (history ++ deed ∷ []) u }
+    ensures deed { (s : State) (deed : Deed) → doer deed < s.procs → AllHold (lock_needs s deed)
+        → AllHold (mail_needs s deed) → judged s deed ≡ Ok (after s deed) }
+    ensures grow { (s t u : State) (history : List Deed) (deed : Deed) → Leads s history t → judged t deed ≡ Ok u
+        → Leads s (history ++ deed ∷ []) u }
     ensures go_on { (s t u : State) (history later : List Deed) → Leads s history t → Leads t later u → Leads s (history ++ later) u }
 {}
 
@@ -61,7 +67,8 @@ pub fn histories_grow()
 /// agrees on these processes.
 pub fn only_the_processes_count()
     ensures lock { (n : ℕ) (a b : Abstract) (deeds : List Outer) → Agree n a b → Legal n a deeds → Legal n b deeds }
-    ensures history { (s t : State) (b : Abstract) (history : List Deed) → Agree s.procs s.lock b → Leads s history t → Leads (record s { lock = b }) history (all_after (record s { lock = b }) history) }
+    ensures history { (s t : State) (b : Abstract) (history : List Deed) → Agree s.procs s.lock b → Leads s history t
+        → Leads (record s { lock = b }) history (all_after (record s { lock = b }) history) }
 {}
 
 /// The number of a row of bits has these bits and no others.

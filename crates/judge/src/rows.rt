@@ -77,7 +77,8 @@ fn row_of(names: &[u64]) -> u64
 pub(crate) fn rows_of(alloc: Global, sets: &[Vec<u64>]) -> Result<Vec<u64>, Refusal>
     requires { All (All (λ q. q < 64)) (map (λ names. names.items) sets.now) }
     ensures len { IfOk result (λ rows. length rows.items ≡ length sets.now) }
-    ensures rows { IfOk result (λ rows. (p : ℕ) → p < length sets.now → HasBits (slice_index rows.items p) 64 (is_named (slice_index_or (map (λ names. names.items) sets.now) p []))) }
+    ensures rows { IfOk result (λ rows. (p : ℕ) → p < length sets.now
+        → HasBits (slice_index rows.items p) 64 (is_named (slice_index_or (map (λ names. names.items) sets.now) p []))) }
     ensures only { IfErr result (λ refusal. refusal ≡ Refusal.OutOfMemory) }
 {
     let mut rows = Vec::new(alloc);

@@ -104,7 +104,9 @@ fn lock_holds(start: &Start) -> bool
 fn pending_holds(start: &Start, counts: &[u64; 64]) -> bool
     requires few { start.now.procs ≤ 64 }
     requires counts { Lists counts.now 64 (λ p. count_by (is_by p) start.now.shown) }
-    ensures { IsTrue result ↔ (IfSome start.now.pending (λ m. IsNext start.now.procs start.now.shown m × (length start.now.shown < start.now.cap)) × (start.now.closed ≡ true → is_none start.now.pending ≡ true)) }
+    ensures { IsTrue result ↔ (IfSome start.now.pending
+        (λ m. IsNext start.now.procs start.now.shown m × (length start.now.shown < start.now.cap))
+        × (start.now.closed ≡ true → is_none start.now.pending ≡ true)) }
 {
     match &start.pending {
         None => true,

@@ -15,20 +15,20 @@ const PIECE: usize = 240;
 
 /// All memory, taken, with a reserve.
 #[derive(Drop)]
-pub struct Scarce {
+pub struct ScarceMemory {
     reserve: Vec<Vec<u8>>,
     taken: Vec<Vec<u8>>,
 }
 
-impl Scarce {
+impl ScarceMemory {
     /// Takes all memory that is free. `AllocError`: there is not even enough for the reserve.
-    pub fn new(alloc: Global) -> Result<Scarce, AllocError> {
+    pub fn new(alloc: Global) -> Result<ScarceMemory, AllocError> {
         let mut reserve = Vec::with_capacity(alloc, PIECES)?;
         for _ in 0..PIECES {
             reserve.push(Vec::<u8>::with_capacity(alloc, PIECE)?)?;
         }
         let taken = all_that_is_left(alloc)?;
-        Ok(Scarce { reserve, taken })
+        Ok(ScarceMemory { reserve, taken })
     }
 
     /// Frees one piece of the reserve, if one is left.
@@ -39,7 +39,7 @@ impl Scarce {
 
     /// Frees everything.
     pub fn end(self) {
-        let Scarce { reserve, taken } = self;
+        let ScarceMemory { reserve, taken } = self;
         drop(reserve);
         drop(taken);
     }

@@ -4,7 +4,7 @@ use Rattle.one_lock.proofs.LabCommon.{true≢false, cases_lt, get_or-map, length
 use Rattle.one_lock.proofs.LabCommon.{AlreadyIn, NotOwner, NotInconsistent, BadIndex, BadWidth, Setup, AllSent, Fault, Refused, LabFault, BadSpec, Member, Spec, HaveAllSent, WantedMemory, fault_by}
 use Rattle.one_lock.proofs.LabCommon.{IsOfLeast, IsReplyTo, WasSent, WereSent, MayEnd, MayEndLab, setup_of, words_sent, Seat, Goes, of_wait, new_seats, place_of}
 use Rattle.std.proofs.lemmas.Option.{slice_get-get_or, slice_get_within, slice_get-map, get_or_from_slice_get}
-use Rattle.one_lock.specs.declared.lab.ending.Ending.{Ending}
+use Rattle.one_lock.specs.declared.lab.ending.WorkerEnd.{WorkerEnd}
 use Rattle.one_lock.specs.declared.lab.lab_fault.LabFault.TheVariants.{OutOfMemory as WantsMemory, Reply}
 use Rattle.execution.specs.declared.lock_fault.LockFault.TheVariants.{NumbersSpent}
 use Rattle.redomail.specs.declared.reply.Reply.{Reply as ReplyOf}
@@ -16,48 +16,48 @@ use Rattle.one_lock.proofs.Places.{number_at}
 use Rattle.one_lock.proofs.Seats.{new_count}
 
 -- the ending of the worker at a place
-ends : {D : Type 0} (f : D → Ending) (ds : List D) (p : ℕ) (d : D) → p < length ds → get_or (map f ds) p (f d) ≡ f (get_or ds p d)
+ends : {D : Type 0} (f : D → WorkerEnd) (ds : List D) (p : ℕ) (d : D) → p < length ds → get_or (map f ds) p (f d) ≡ f (get_or ds p d)
 ends f ds p d within = get_or-map f ds p d (f d) within
 
-inside : {D : Type 0} (f : D → Ending) (ds : List D) (p : ℕ) → p < length ds → p < length (map f ds)
+inside : {D : Type 0} (f : D → WorkerEnd) (ds : List D) (p : ℕ) → p < length ds → p < length (map f ds)
 inside f ds p within = subst (λ (n : ℕ). p < n) (sym (length-map ds f)) within
 
 -- what is known of those before a place and of the one there
-pub all_more : {D : Type 0} (P : Ending → Type 0) (f : D → Ending) (ds : List D) (p : ℕ) (d : D) → p < length ds → All P (take p (map f ds)) → P (f (get_or ds p d)) → All P (take (p + 1) (map f ds))
+pub all_more : {D : Type 0} (P : WorkerEnd → Type 0) (f : D → WorkerEnd) (ds : List D) (p : ℕ) (d : D) → p < length ds → All P (take p (map f ds)) → P (f (get_or ds p d)) → All P (take (p + 1) (map f ds))
 all_more P f ds p d within before here = All-more P (map f ds) p (f d) (inside f ds p within) before (subst P (sym (ends f ds p d within)) here)
 
-pub all_of : {D : Type 0} (P : Ending → Type 0) (f : D → Ending) (ds : List D) (p : ℕ) → length ds ≤ p → All P (take p (map f ds)) → All P (map f ds)
-all_of P f ds p past before = subst (λ (es : List Ending). All P es) (take_all p (map f ds) (subst (λ (n : ℕ). n ≤ p) (sym (length-map ds f)) past)) before
+pub all_of : {D : Type 0} (P : WorkerEnd → Type 0) (f : D → WorkerEnd) (ds : List D) (p : ℕ) → length ds ≤ p → All P (take p (map f ds)) → All P (map f ds)
+all_of P f ds p past before = subst (λ (es : List WorkerEnd). All P es) (take_all p (map f ds) (subst (λ (n : ℕ). n ≤ p) (sym (length-map ds f)) past)) before
 
 -- the worker with the least number of those that ended early
-pub is_of_least : {D : Type 0} (f : D → Ending) (ds : List D) (p : ℕ) (d : D) (fault : LabFault) → p < length ds → HaveAllSent (take p (map f ds)) → fault_by p (f (get_or ds p d)) ≡ Some fault → IsOfLeast (map f ds) fault
+pub is_of_least : {D : Type 0} (f : D → WorkerEnd) (ds : List D) (p : ℕ) (d : D) (fault : LabFault) → p < length ds → HaveAllSent (take p (map f ds)) → fault_by p (f (get_or ds p d)) ≡ Some fault → IsOfLeast (map f ds) fault
 is_of_least f ds p d fault within before told =
     record {
       p = p;
       ending = f (get_or ds p d);
-      at = slice_get-get_or (map f ds) p (f d) (inside f ds p within) ∙ ap (λ (e : Ending). Some e) (ends f ds p d within);
+      at = slice_get-get_or (map f ds) p (f d) (inside f ds p within) ∙ ap (λ (e : WorkerEnd). Some e) (ends f ds p d within);
       before = before;
       told = told;
     }
 
 -- whether some worker ended out of memory
-pub one_wanted : {D : Type 0} (f : D → Ending) (ds : List D) (p : ℕ) (d : D) → p < length ds → d ≡ get_or ds p d → f d ≡ Fault OutOfMemory → WantedMemory (map f ds)
+pub one_wanted : {D : Type 0} (f : D → WorkerEnd) (ds : List D) (p : ℕ) (d : D) → p < length ds → d ≡ get_or ds p d → f d ≡ Fault OutOfMemory → WantedMemory (map f ds)
 one_wanted f ds p d within is wanted = subst (Contains (map f ds)) (ends f ds p d within ∙ ap f (sym is) ∙ wanted) (Contains-get_or (map f ds) p (f d) (inside f ds p within))
 
-pub none_wanted : (es : List Ending) → All (λ e. e ≢ Fault OutOfMemory) es → WantedMemory es → ⊥
-none_wanted es none one = All-contains (λ (e : Ending). e ≢ Fault OutOfMemory) es (Fault OutOfMemory) none one refl
+pub none_wanted : (es : List WorkerEnd) → All (λ e. e ≢ Fault OutOfMemory) es → WantedMemory es → ⊥
+none_wanted es none one = All-contains (λ (e : WorkerEnd). e ≢ Fault OutOfMemory) es (Fault OutOfMemory) none one refl
 
 -- each worker has ended in one of its ways
-abbrev pub EachMay : Option Setup → Spec → List Ending → Type 0
-EachMay named s es = (p : ℕ) (e : Ending) → slice_get es p ≡ Some e → MayEnd named s p e
+abbrev pub EachMay : Option Setup → Spec → List WorkerEnd → Type 0
+EachMay named s es = (p : ℕ) (e : WorkerEnd) → slice_get es p ≡ Some e → MayEnd named s p e
 
 -- what is mapped to this
-mapped_from : {D : Type 0} (f : D → Ending) (o : Option D) (e : Ending) → option_map f o ≡ Some e → (d : D) × (o ≡ Some d) × (f d ≡ e)
-mapped_from f None e is = absurd (let none : Option Ending = None in let same : none ≡ Some e = is in cc)
+mapped_from : {D : Type 0} (f : D → WorkerEnd) (o : Option D) (e : WorkerEnd) → option_map f o ≡ Some e → (d : D) × (o ≡ Some d) × (f d ≡ e)
+mapped_from f None e is = absurd (let none : Option WorkerEnd = None in let same : none ≡ Some e = is in cc)
 mapped_from f (Some d) e is = (d, refl, (let same : Some (f d) ≡ Some e = is in cc))
 
 -- workers that were handed back, by the states of the members of a new arena
-pub each_may : {D : Type 0} (named : Option Setup) (s : Spec) (f : D → Ending) (g : D → Seat) (l : Layout) (n : ℕ) (ds looked : List D) → looked ≡ ds → All (λ d. MayEnd named s (g d).process (f d)) ds → map (λ d. place_of (g d)) ds ≡ map place_of (new_seats l n) → EachMay named s (map f looked)
+pub each_may : {D : Type 0} (named : Option Setup) (s : Spec) (f : D → WorkerEnd) (g : D → Seat) (l : Layout) (n : ℕ) (ds looked : List D) → looked ≡ ds → All (λ d. MayEnd named s (g d).process (f d)) ds → map (λ d. place_of (g d)) ds ≡ map place_of (new_seats l n) → EachMay named s (map f looked)
 each_may {D = D} named s f g l n ds looked is may places p e at =
     let P : D → Type 0 = λ d. MayEnd named s (g d).process (f d) in
     let place : D → ℕ × Layout = λ d. place_of (g d) in
@@ -72,7 +72,7 @@ each_may {D = D} named s f g l n ds looked is may places p e at =
     subst (MayEnd named s p) one.2 (subst (λ (k : ℕ). MayEnd named s k (f d)) (ap (λ (x : ℕ × Layout). x.0) stands) it)
 
 -- the workers of a lab that were handed back have ended in one of their ways
-pub lab_ended : {D : Type 0} (named : Option Setup) (s : Spec) (f : D → Ending) (g : D → Seat) (ds looked : List D) → named ≡ Some (setup_of s) → looked ≡ ds → All (λ d. MayEnd named s (g d).process (f d)) ds → map (λ d. place_of (g d)) ds ≡ map place_of (new_seats (setup_of s).layout s.procs)
+pub lab_ended : {D : Type 0} (named : Option Setup) (s : Spec) (f : D → WorkerEnd) (g : D → Seat) (ds looked : List D) → named ≡ Some (setup_of s) → looked ≡ ds → All (λ d. MayEnd named s (g d).process (f d)) ds → map (λ d. place_of (g d)) ds ≡ map place_of (new_seats (setup_of s).layout s.procs)
     → (length (map f looked) ≡ s.procs) × EachMay (Some (setup_of s)) s (map f looked)
 lab_ended named s f g ds looked is same may places =
     let l = (setup_of s).layout in
@@ -94,20 +94,20 @@ ended_by named m new to BadIndex goes wait crash told s = absurd (true≢false (
 ended_by named m new to BadWidth goes wait crash told s = absurd (true≢false (sym wait))
 
 -- the fault of worker p, if it has ended this way and not out of memory
-told_early : (s : Spec) (p : ℕ) (e : Ending) (fault : LabFault) → p < s.procs → MayEnd (Some (setup_of s)) s p e → (e ≡ Fault OutOfMemory → ⊥) → fault_by p e ≡ Some fault → MayEndLab s fault
+told_early : (s : Spec) (p : ℕ) (e : WorkerEnd) (fault : LabFault) → p < s.procs → MayEnd (Some (setup_of s)) s p e → (e ≡ Fault OutOfMemory → ⊥) → fault_by p e ≡ Some fault → MayEndLab s fault
 told_early s p AllSent fault below may unwanted told = absurd (let none : Option LabFault = None in let e : none ≡ Some fault = told in cc)
-told_early s p (Fault why) fault below (inl spent) unwanted told =
-    let e : Member p why ≡ fault = cc in
+told_early s p (Fault purpose) fault below (inl spent) unwanted told =
+    let e : Member p purpose ≡ fault = cc in
     subst (MayEndLab s) e (below, inl spent)
-told_early s p (Fault why) fault below (inr (inl ruined)) unwanted told =
-    let e : Member p why ≡ fault = cc in
+told_early s p (Fault purpose) fault below (inr (inl ruined)) unwanted told =
+    let e : Member p purpose ≡ fault = cc in
     subst (MayEndLab s) e (below, inr ruined)
-told_early s p (Fault why) fault below (inr (inr wants)) unwanted told = absurd (unwanted (ap Fault wants))
+told_early s p (Fault purpose) fault below (inr (inr wants)) unwanted told = absurd (unwanted (ap Fault wants))
 told_early s p (Refused reply) fault below may unwanted told =
     let e : Reply p reply ≡ fault = cc in
     subst (MayEndLab s) e (below, may)
 
-of_least : (es : List Ending) (s : Spec) (fault : LabFault) → length es ≡ s.procs → EachMay (Some (setup_of s)) s es → (WantedMemory es → ⊥) → IsOfLeast es fault → MayEndLab s fault
+of_least : (es : List WorkerEnd) (s : Spec) (fault : LabFault) → length es ≡ s.procs → EachMay (Some (setup_of s)) s es → (WantedMemory es → ⊥) → IsOfLeast es fault → MayEndLab s fault
 of_least es s fault count may none least =
     let within = slice_get_within es least.p least.ending least.at in
     let is : get_or es least.p least.ending ≡ least.ending = get_or_from_slice_get es least.p least.ending least.ending least.at in
@@ -115,10 +115,10 @@ of_least es s fault count may none least =
     (λ wants. none (subst (Contains es) (is ∙ wants) (Contains-get_or es least.p least.ending within))) least.told
 
 -- the faults that the workers of a lab may end it with
-pub may_end_lab : (es : List Ending) (s : Spec) (fault : LabFault) → length es ≡ s.procs → EachMay (Some (setup_of s)) s es → (WantedMemory es → fault ≡ WantsMemory) → fault ≢ BadSpec → (fault ≢ WantsMemory → IsOfLeast es fault) → MayEndLab s fault
+pub may_end_lab : (es : List WorkerEnd) (s : Spec) (fault : LabFault) → length es ≡ s.procs → EachMay (Some (setup_of s)) s es → (WantedMemory es → fault ≡ WantsMemory) → fault ≢ BadSpec → (fault ≢ WantsMemory → IsOfLeast es fault) → MayEndLab s fault
 may_end_lab es s BadSpec count may wanted sized least = absurd (sized refl)
 may_end_lab es s WantsMemory count may wanted sized least = tt
-may_end_lab es s (Member p why) count may wanted sized least = of_least es s (Member p why) count may (λ wants. let e : Member p why ≡ WantsMemory = wanted wants in cc) (least (λ e. cc))
+may_end_lab es s (Member p purpose) count may wanted sized least = of_least es s (Member p purpose) count may (λ wants. let e : Member p purpose ≡ WantsMemory = wanted wants in cc) (least (λ e. cc))
 may_end_lab es s (Reply p reply) count may wanted sized least = of_least es s (Reply p reply) count may (λ wants. let e : Reply p reply ≡ WantsMemory = wanted wants in cc) (least (λ e. cc))
 
 -- the reply to the message of a member that is worker q's
@@ -134,9 +134,9 @@ sent_more named width p k before here seq some below =
     ]
 
 -- where each worker has sent all
-pub all_sent : (named : Option Setup) (s : Spec) (es : List Ending) → length es ≡ s.procs → EachMay named s es → HaveAllSent es → (p : ℕ) → p < s.procs → WereSent named s.width p s.messages
+pub all_sent : (named : Option Setup) (s : Spec) (es : List WorkerEnd) → length es ≡ s.procs → EachMay named s es → HaveAllSent es → (p : ℕ) → p < s.procs → WereSent named s.width p s.messages
 all_sent named s es count may sent p below =
     let within : p < length es = subst (λ (k : ℕ). p < k) (sym count) below in
-    let is : get_or es p AllSent ≡ AllSent = All-get_or (λ (e : Ending). e ≡ AllSent) es p AllSent within sent in
+    let is : get_or es p AllSent ≡ AllSent = All-get_or (λ (e : WorkerEnd). e ≡ AllSent) es p AllSent within sent in
     let ends : MayEnd named s p (get_or es p AllSent) = may p (get_or es p AllSent) (slice_get-get_or es p AllSent within) in
     subst (MayEnd named s p) is ends

@@ -6,7 +6,7 @@ pub use Rattle.std.specs.Vec.Iter.{into_iter_items, into_iter_len}
 pub use Rattle.redomail.specs.declared.layout.Layout.{Layout}
 pub use Rattle.execution.specs.declared.lock_fault.LockFault.TheVariants.{Crashed, OutOfMemory, NotRecoverable, NotYet, AlreadyIn, NotOwner, NotInconsistent, BadIndex, BadWidth}
 pub use Rattle.execution.specs.declared.setup.Setup.{Setup}
-pub use Rattle.one_lock.specs.declared.lab.ending.Ending.TheVariants.{AllSent, Fault, Refused}
+pub use Rattle.one_lock.specs.declared.lab.ending.WorkerEnd.TheVariants.{AllSent, Fault, Refused}
 pub use Rattle.one_lock.specs.declared.lab.lab_fault.LabFault.{LabFault}
 pub use Rattle.one_lock.specs.declared.lab.lab_fault.LabFault.TheVariants.{BadSpec, Member}
 pub use Rattle.one_lock.specs.declared.lab.spec.Spec.{Spec}

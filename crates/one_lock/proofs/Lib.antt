@@ -1,5 +1,5 @@
 pub mod Common
-pub mod Stories
+pub mod Executions
 pub mod Steps
 pub mod Seats
 pub mod Answered

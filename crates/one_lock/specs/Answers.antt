@@ -22,7 +22,7 @@ use Rattle.one_lock.specs.declared.member_state.MemberState.{MemberState}
 use Rattle.one_lock.specs.declared.member_state.MemberState.TheVariants.{Mended}
 use Rattle.one_lock.specs.Member.{Seat, is_lost}
 use Rattle.execution.specs.declared.setup.Setup.{Setup}
-use Rattle.one_lock.specs.Story.{IsTold, AreSizes}
+use Rattle.one_lock.specs.Execution.{IsTold, AreSizes}
 
 -- the world after the crash of p, if there is one
 abbrev pub crash_by : Bool → ℕ → WorldState → WorldState

@@ -2,11 +2,11 @@
 use Rattle.std.specs.Prelude.{ℕ, Option, Some, None}
 use Rattle.one_lock.specs.declared.lab.lab_fault.LabFault.{LabFault}
 use Rattle.one_lock.specs.declared.lab.lab_fault.LabFault.TheVariants.{Member, Reply}
-use Rattle.one_lock.specs.declared.lab.ending.Ending.{Ending}
-use Rattle.one_lock.specs.declared.lab.ending.Ending.TheVariants.{AllSent, Fault, Refused}
+use Rattle.one_lock.specs.declared.lab.ending.WorkerEnd.{WorkerEnd}
+use Rattle.one_lock.specs.declared.lab.ending.WorkerEnd.TheVariants.{AllSent, Fault, Refused}
 
 -- the fault of worker p, by how it ended
-abbrev pub fault_by : ℕ → Ending → Option LabFault
+abbrev pub fault_by : ℕ → WorkerEnd → Option LabFault
 fault_by p AllSent = None
 fault_by p (Fault fault) = Some (Member p fault)
 fault_by p (Refused reply) = Some (Reply p reply)

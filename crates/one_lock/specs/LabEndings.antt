@@ -2,8 +2,8 @@
 use Rattle.std.specs.Prelude.{◌≡◌, ◌≢◌, ◌<◌, ◌≤◌, ◌⊎◌, ℕ, List, All, Contains, take, slice_get, Option, Some, None}
 use Rattle.one_lock.specs.declared.lab.lab_fault.LabFault.{LabFault}
 use Rattle.one_lock.specs.declared.lab.lab_fault.LabFault.TheVariants.{BadSpec, OutOfMemory as WantsMemory, Member, Reply}
-use Rattle.one_lock.specs.declared.lab.ending.Ending.{Ending}
-use Rattle.one_lock.specs.declared.lab.ending.Ending.TheVariants.{AllSent, Fault, Refused}
+use Rattle.one_lock.specs.declared.lab.ending.WorkerEnd.{WorkerEnd}
+use Rattle.one_lock.specs.declared.lab.ending.WorkerEnd.TheVariants.{AllSent, Fault, Refused}
 use Rattle.redomail.specs.declared.reply.Reply.{Reply as ReplyOf}
 use Rattle.redomail.specs.declared.reply.Reply.TheVariants.{Stored, Already}
 use Rattle.rmeworld.specs.declared.call.Call.TheVariants.{Lock, Append}
@@ -17,17 +17,17 @@ use Rattle.one_lock.specs.Endings.{fault_by}
 use Rattle.one_lock.specs.Lab.{setup_of, words_sent}
 
 -- each worker has sent all its messages
-abbrev pub HaveAllSent : List Ending → Type 0
+abbrev pub HaveAllSent : List WorkerEnd → Type 0
 HaveAllSent endings = All (λ ending. ending ≡ AllSent) endings
 
 -- a worker ended out of memory
-abbrev pub WantedMemory : List Ending → Type 0
+abbrev pub WantedMemory : List WorkerEnd → Type 0
 WantedMemory endings = Contains endings (Fault OutOfMemory)
 
 -- This is the fault of worker p, the one with the least number of those that ended early: those before it have sent all.
-pub record IsOfLeast (endings : List Ending) (fault : LabFault) : Type 0 where
+pub record IsOfLeast (endings : List WorkerEnd) (fault : LabFault) : Type 0 where
   pub p : ℕ
-  pub ending : Ending
+  pub ending : WorkerEnd
   pub at : slice_get endings p ≡ Some ending
   pub before : HaveAllSent (take p endings)
   pub told : fault_by p ending ≡ Some fault
@@ -63,14 +63,14 @@ WereSent named width p k = (seq : ℕ) → 1 ≤ seq → seq ≤ k → WasSent n
 
 -- How worker p may end: all its messages were sent; or a lock of it was answered NumbersSpent; or it was answered
 -- NotRecoverable or OutOfMemory; or one of its messages was given a reply after which it isn't shown.
-abbrev pub MayEnd : Option Setup → Spec → ℕ → Ending → Type 0
+abbrev pub MayEnd : Option Setup → Spec → ℕ → WorkerEnd → Type 0
 MayEnd named s p AllSent = WereSent named s.width p s.messages
-MayEnd named s p (Fault why) = ((why ≡ NumbersSpent) × WasSpent named p) ⊎ (why ≡ NotRecoverable) ⊎ (why ≡ OutOfMemory)
+MayEnd named s p (Fault purpose) = ((purpose ≡ NumbersSpent) × WasSpent named p) ⊎ (purpose ≡ NotRecoverable) ⊎ (purpose ≡ OutOfMemory)
 MayEnd named s p (Refused reply) = WasRefused named s.width p reply
 
 -- what may end a lab with these sizes early
 abbrev pub MayEndLab : Spec → LabFault → Type 0
 MayEndLab s BadSpec = ⊥
 MayEndLab s WantsMemory = Unit {0}
-MayEndLab s (Member p why) = (p < s.procs) × (((why ≡ NumbersSpent) × WasSpent (Some (setup_of s)) p) ⊎ (why ≡ NotRecoverable))
+MayEndLab s (Member p purpose) = (p < s.procs) × (((purpose ≡ NumbersSpent) × WasSpent (Some (setup_of s)) p) ⊎ (purpose ≡ NotRecoverable))
 MayEndLab s (Reply p reply) = (p < s.procs) × WasRefused (Some (setup_of s)) s.width p reply

@@ -1,6 +1,6 @@
 pub mod Lab
 pub mod Endings
-pub mod Story
+pub mod Execution
 pub mod Member
 pub mod Answers
 pub mod LabEndings

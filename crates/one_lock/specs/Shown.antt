@@ -8,7 +8,7 @@ use Rattle.redomail.specs.Shape.{entries}
 use Rattle.rmeworld.specs.declared.image.Image.{Image}
 use Rattle.rmeworld.specs.ImageRules.{IsLawfulImage}
 use Rattle.one_lock.specs.Member.{Seat, is_in}
-use Rattle.one_lock.specs.Story.{IsLeftBy}
+use Rattle.one_lock.specs.Execution.{IsLeftBy}
 
 -- which process the member belongs to, and the sizes of its arena
 abbrev pub place_of : Seat → ℕ × Layout

@@ -4,7 +4,7 @@ ghost use Rattle.std.specs.Prelude.{◌≡◌, ◌≤◌, IfOk, IfErr, OnOk, Non
 ghost use Rattle.rmecore.specs.Simulated.{cause};
 ghost use Rattle.rmeworld.specs.WorldState.{new_refusal};
 ghost use Rattle.one_lock.specs.Member.{new_seats, AreAll};
-ghost use Rattle.one_lock.specs.Story.{AreSizes};
+ghost use Rattle.one_lock.specs.Execution.{AreSizes};
 
 use crate::member::Member;
 use crate::shared::Shared;

@@ -11,10 +11,10 @@ use crate::member::Member;
 use crate::member_state::MemberState;
 use crate::sizes::Sizes;
 use crash_plans::CrashPlan;
+use execution::{Entry, LockFault};
 use redomail::Reply;
 use rmecore::{Body, Found};
 use rmeworld::{Answer, Call};
-use execution::{Entry, LockFault};
 use std::sync::Wait;
 use std::sync::ledger::Ledger;
 
@@ -195,7 +195,8 @@ impl<L: Ledger, S: Sizes> Member<L, S> {
         ensures goes { Goes self.old self.new }
         ensures stands { self.old.standing ≡ MemberState.Unmended → self.new.standing ≡ stands_mended result }
         ensures faults { self.old.standing ≡ MemberState.Unmended → IfErr result (λ e. of_consistent e ≡ true) }
-        ensures answered { self.old.standing ≡ MemberState.Unmended → Answered S.named mended_by self.old Call.Consistent None self.new result }
+        ensures answered { self.old.standing ≡ MemberState.Unmended
+            → Answered S.named mended_by self.old Call.Consistent None self.new result }
     {
         if self.standing != MemberState::Unmended {
             return Err(LockFault::NotInconsistent);
@@ -277,7 +278,8 @@ impl<L: Ledger, S: Sizes> Member<L, S> {
         ensures goes { Goes self.old self.new }
         ensures stands { is_in self.old.standing ≡ true → i < 4 → self.new.standing ≡ stands_still self.old.standing result }
         ensures faults { is_in self.old.standing ≡ true → i < 4 → IfErr result (λ e. of_steps e ≡ true) }
-        ensures answered { is_in self.old.standing ≡ true → i < 4 → Answered S.named (λ _. Ok tt) self.old (Call.Put i value) None self.new result }
+        ensures answered { is_in self.old.standing ≡ true → i < 4
+            → Answered S.named (λ _. Ok tt) self.old (Call.Put i value) None self.new result }
     {
         if !self.standing.is_in() {
             return Err(LockFault::NotOwner);
@@ -305,7 +307,8 @@ impl<L: Ledger, S: Sizes> Member<L, S> {
         ensures refused { IsErrOf result LockFault.AlreadyIn ↔ ((length value ≡ self.old.layout.width) × (is_in self.old.standing ≡ true)) }
         ensures unasked { is_in self.old.standing ≡ true → (self.new ≡ self.old) × (P.asked plan.new ≡ P.asked plan.old) }
         ensures untaken { length value ≢ self.old.layout.width → (self.new ≡ self.old) × (P.asked plan.new ≡ P.asked plan.old) }
-        ensures asked { is_in self.old.standing ≡ false → length value ≡ self.old.layout.width → AskedOnceMore self.old self.new (P.asked plan.old) (P.asked plan.new) }
+        ensures asked { is_in self.old.standing ≡ false → length value ≡ self.old.layout.width
+            → AskedOnceMore self.old self.new (P.asked plan.old) (P.asked plan.new) }
         ensures counted { is_in self.old.standing ≡ false → length value ≡ self.old.layout.width → Counts self.old self.new }
         ensures fallen { P.fallen plan.new ≡ falls_by result (P.fallen plan.old) }
         ensures goes { Goes self.old self.new }
@@ -330,7 +333,8 @@ impl<L: Ledger, S: Sizes> Member<L, S> {
         ensures refused { IsErrOf result LockFault.AlreadyIn ↔ ((length value ≡ self.old.layout.width) × (is_in self.old.standing ≡ true)) }
         ensures unasked { is_in self.old.standing ≡ true → (self.new ≡ self.old) × (P.asked plan.new ≡ P.asked plan.old) }
         ensures untaken { length value ≢ self.old.layout.width → (self.new ≡ self.old) × (P.asked plan.new ≡ P.asked plan.old) }
-        ensures asked { is_in self.old.standing ≡ false → length value ≡ self.old.layout.width → AskedOnceMore self.old self.new (P.asked plan.old) (P.asked plan.new) }
+        ensures asked { is_in self.old.standing ≡ false → length value ≡ self.old.layout.width
+            → AskedOnceMore self.old self.new (P.asked plan.old) (P.asked plan.new) }
         ensures counted { is_in self.old.standing ≡ false → length value ≡ self.old.layout.width → Counts self.old self.new }
         ensures fallen { P.fallen plan.new ≡ falls_by result (P.fallen plan.old) }
         ensures goes { Goes self.old self.new }
@@ -356,7 +360,8 @@ impl<L: Ledger, S: Sizes> Member<L, S> {
         ensures unasked { is_in self.old.standing ≡ true → (self.new ≡ self.old) × (P.asked plan.new ≡ P.asked plan.old) }
         ensures untaken { length value ≢ self.old.layout.width → (self.new ≡ self.old) × (P.asked plan.new ≡ P.asked plan.old) }
         ensures patient { IsErrOf result LockFault.NotYet → IsSome turns }
-        ensures asked { is_in self.old.standing ≡ false → length value ≡ self.old.layout.width → AskedOnceMore self.old self.new (P.asked plan.old) (P.asked plan.new) }
+        ensures asked { is_in self.old.standing ≡ false → length value ≡ self.old.layout.width
+            → AskedOnceMore self.old self.new (P.asked plan.old) (P.asked plan.new) }
         ensures counted { is_in self.old.standing ≡ false → length value ≡ self.old.layout.width → Counts self.old self.new }
         ensures fallen { P.fallen plan.new ≡ falls_by result (P.fallen plan.old) }
         ensures goes { Goes self.old self.new }

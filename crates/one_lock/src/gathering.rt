@@ -3,7 +3,7 @@
 ghost use Rattle.std.specs.Prelude.{◌≡◌, ◌≢◌, All, IfOk, IfErr, OnOk, IfSome, IsSome, vec_len};
 ghost use Rattle.rmeworld.specs.ImageRules.{IsLawfulImage};
 ghost use Rattle.one_lock.specs.Member.{AreAll, steps_taken};
-ghost use Rattle.one_lock.specs.Story.{IsLeftBy};
+ghost use Rattle.one_lock.specs.Execution.{IsLeftBy};
 
 use crate::gather_fault::GatherFault;
 use crate::member::Member;

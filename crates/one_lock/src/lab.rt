@@ -11,7 +11,7 @@ pub mod sending;
 mod showing;
 pub mod spec;
 
-pub use ending::Ending;
+pub use ending::WorkerEnd;
 pub use gate::Gate;
 pub use lab_fault::LabFault;
 pub use lab_result::LabResult;

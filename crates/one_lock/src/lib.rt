@@ -17,10 +17,10 @@ mod shared;
 pub mod sizes;
 
 pub use arena::Arena;
+pub use execution::Entry;
 pub use gather_fault::GatherFault;
 pub use gathering::gather;
 pub use lab::run_lab;
 pub use member::Member;
 pub use member_state::MemberState;
-pub use execution::Entry;
 pub use sizes::{AnySizes, Sizes};

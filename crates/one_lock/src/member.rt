@@ -9,11 +9,11 @@ use crate::member_state::MemberState;
 use crate::opening::Opening;
 use crate::shared::{Shared, Turn};
 use crate::sizes::{AnySizes, Sizes};
-use crossbeam_utils::Backoff;
 use crash_plans::CrashPlan;
+use crossbeam_utils::Backoff;
+use execution::LockFault;
 use redomail::Layout;
 use rmeworld::{Answer, Call};
-use execution::LockFault;
 use std::marker::Model;
 use std::sync::ledger::{Ledger, Share};
 use std::sync::{Arc, Mutex, Wait};
@@ -176,7 +176,9 @@ impl<L: Ledger, S: Sizes> Member<L, S> {
         ensures lost { OnErr result (self.new.standing ≡ MemberState.Lost) }
         ensures only { IfErr result (λ e. (e ≡ LockFault.Crashed) ⊎ (e ≡ LockFault.OutOfMemory)) }
         ensures patient { IsNone turns → IfOk result (λ answer. IsSome answer) }
-        ensures answered { IfOk result (λ answer. IsAnswered S.named self.old.process self.old.standing call turns self.old.steps self.new.steps answer) }
+        ensures answered { IfOk result
+            (λ answer.
+            IsAnswered S.named self.old.process self.old.standing call turns self.old.steps self.new.steps answer) }
     {
         self.counted = 0;
         self.pursue(rt, plan, call, turns)
@@ -203,7 +205,9 @@ impl<L: Ledger, S: Sizes> Member<L, S> {
         ensures lost { OnErr result (self.new.standing ≡ MemberState.Lost) }
         ensures only { IfErr result (λ e. (e ≡ LockFault.Crashed) ⊎ (e ≡ LockFault.OutOfMemory)) }
         ensures patient { IsNone turns → IfOk result (λ answer. IsSome answer) }
-        ensures answered { IfOk result (λ answer. IsAnswered S.named self.old.process self.old.standing call turns self.old.steps self.new.steps answer) }
+        ensures answered { IfOk result
+            (λ answer.
+            IsAnswered S.named self.old.process self.old.standing call turns self.old.steps self.new.steps answer) }
     {
         let mut left = turns;
         let mut opening = Opening {
@@ -240,7 +244,8 @@ impl<L: Ledger, S: Sizes> Member<L, S> {
         requires { (f : ℕ) → falls_by answer f ≡ f }
         ensures asked { P.asked plan.new ≡ one_more (P.asked plan.old) }
         ensures fallen { P.fallen plan.new ≡ falls_by result (P.fallen plan.old) }
-        ensures answer { ((result ≡ answer) × (self.new ≡ record self.old { standing = standing })) ⊎ ((result ≡ Err LockFault.Crashed) × (self.new ≡ record self.old { standing = MemberState.Lost })) }
+        ensures answer { ((result ≡ answer) × (self.new ≡ record self.old { standing = standing }))
+            ⊎ ((result ≡ Err LockFault.Crashed) × (self.new ≡ record self.old { standing = MemberState.Lost })) }
     {
         self.ask(plan)?;
         self.standing = standing;

@@ -6,7 +6,7 @@ ghost use Rattle.rmeworld.specs.Replayed.{advanced, stepped, started, crashed, s
 ghost use Rattle.rmeworld.specs.ImageRules.{IsLawfulImage};
 ghost use Rattle.rmeworld.specs.WorldState.{new_world};
 ghost use Rattle.one_lock.specs.Answers.{opened, Opens, Gives, Refuses, RefusesToOpen};
-ghost use Rattle.one_lock.specs.Story.{AreSizes};
+ghost use Rattle.one_lock.specs.Execution.{AreSizes};
 
 use crate::opening::Opening;
 use crate::sizes::Sizes;
@@ -24,7 +24,7 @@ pub struct Shared<L: Ledger, S: Sizes> {
 }
 
 impl<L: Ledger, S: Sizes> Model for Shared<L, S> {
-    ghost use Rattle.one_lock.specs.Story.{Held, IsTold, AreSizes};
+    ghost use Rattle.one_lock.specs.Execution.{Held, IsTold, AreSizes};
 
     ghost Value = { Held };
 
@@ -43,7 +43,7 @@ pub struct Turn {
 }
 
 impl<L: Ledger, S: Sizes> Shared<L, S> {
-    ghost use Rattle.one_lock.specs.Story.{IsLeftBy, IsTold};
+    ghost use Rattle.one_lock.specs.Execution.{IsLeftBy, IsTold};
 
     /// A new world, and a book that has counted nothing.
     pub fn new(world: World, book: Book<L>) -> Shared<L, S>
@@ -106,11 +106,13 @@ impl<L: Ledger, S: Sizes> Shared<L, S> {
         ensures accepted { OnOk result (advance_refusal self.old.world p ≡ None) }
         ensures world { OnOk result (self.new.world ≡ advanced self.old.world p) }
         ensures answer { IfOk result (λ turn. turn.answer ≡ (stepped self.old.world p).answer) }
-        ensures blocked { IfOk result (λ turn. IsTrue turn.blocked ↔ ((tally_at self.new.world.tallies p).blocked ≢ (tally_at self.old.world.tallies p).blocked)) }
+        ensures blocked { IfOk result (λ turn. IsTrue turn.blocked
+            ↔ ((tally_at self.new.world.tallies p).blocked ≢ (tally_at self.old.world.tallies p).blocked)) }
         ensures book { OnOk result (self.new.total ≡ self.old.total + 1) }
         ensures share { OnOk result (share.new.amount ≡ share.old.amount + 1) }
         ensures refused { IfErr result (λ e. (e ≡ Refusal.OutOfMemory) ⊎ (advance_refusal self.old.world p ≡ Some e)) }
-        ensures uncounted { OnErr result ((self.new.world ≡ self.old.world) × (self.new.total ≡ self.old.total) × (share.new.amount ≡ share.old.amount)) }
+        ensures uncounted { OnErr result ((self.new.world ≡ self.old.world) × (self.new.total ≡ self.old.total)
+            × (share.new.amount ≡ share.old.amount)) }
         ensures parts { share.new.parts ≡ share.old.parts }
     {
         let before = self.world.blocked(p)?;

@@ -6,7 +6,7 @@ use Rattle.redomail.specs.declared.deed.Deed.TheVariants as deed
 use Rattle.redomail.specs.declared.reply.Reply.TheVariants as reply
 use Rattle.redomail.specs.Replies.{Tells, Disarms}
 use Rattle.redomail.proofs.Leading.{no_deed, one_deed}
-use Rattle.redomail.proofs.Safe.{quiet, same_row, row_of}
+use Rattle.redomail.proofs.Safe.{silent, same_row, row_of}
 use Rattle.redomail.proofs.Scripts.{held-small}
 use Rattle.redomail.proofs.Words.{put-other, put-same, put-nothing, place_low, place_up, entry-alike, entry-from_row, row-from_entry}
 use Rattle.redomail.proofs.Modes.{Half, Whole, Shape-from_idle, Shape-from_half, Shape-from_whole}
@@ -71,7 +71,7 @@ module _ (l : Layout) (p : ℕ) (m : Message) (s0 : Mailbox) where
   last_of_whole r a w s is h tells =
       let low = place_low l l.cap in
       let process = h.armed.base.process in
-      quiet l p m s0 (last_at l p) r.seq (Put 2 (held (r.at + 1)) (Put 3 0 (Done a))) w s (omega arith) (omega arith) (Shape-from_whole l p w s r h, added_from_tells l p m s0 s a is tells)
+      silent l p m s0 (last_at l p) r.seq (Put 2 (held (r.at + 1)) (Put 3 0 (Done a))) w s (omega arith) (omega arith) (Shape-from_whole l p w s r h, added_from_tells l p m s0 s a is tells)
       (subst (λ x. Safe l p m s0 (Put 2 (held (r.at + 1)) (Put 3 0 (Done a))) x s) (sym (put-nothing w (last_at l p) r.seq (Whole-last l p w s r h)))
       (count_of_whole r a w s is h tells))
 
@@ -123,7 +123,7 @@ module _ (l : Layout) (p : ℕ) (m : Message) (s0 : Mailbox) where
       let process = h.armed.base.process in
       let v : Words = put w (last_at l p) r.seq in
       let en : entry l v r.at ≡ entry l w r.at = entry-alike l v w r.at (λ j x y. put-other w (last_at l p) r.seq j (λ e. omega arith)) in
-      quiet l p m s0 (last_at l p) r.seq (Put 2 (held (r.at + 1)) (Put 3 0 (Done a))) w s (omega arith) (omega arith) (Shape-from_half l p w s r h, inl same)
+      silent l p m s0 (last_at l p) r.seq (Put 2 (held (r.at + 1)) (Put 3 0 (Done a))) w s (omega arith) (omega arith) (Shape-from_half l p w s r h, inl same)
       (count_of_half r a v s is mine same (Half-put-last l p w s r whole h) (en ∙ whole) (put-same w (last_at l p) r.seq (last_at l p) refl))
 
   pub apply_half : (r : Record) (a : Reply) (w : Words) (s : Mailbox) → IsApplied a → message p r.seq r.value ≡ m → s.shown ≡ s0.shown → Half l p w s r

@@ -3,15 +3,15 @@ use Rattle.std.proofs.Common.{◌≡◌, ℕ, ◌+◌, ◌-◌, ◌*◌, ◌<◌
 use Rattle.redomail.proofs.Common.{cases_Bool, Layout, Reply, Task, left_at, value_width, buffer_width, words_read, steps_done, board_index, FitsStage, IsLayout, Done, puts, tail, store_steps}
 use Rattle.redomail.proofs.Common.{record_of, redo, decided}
 use Rattle.redomail.specs.declared.reply.Reply.TheVariants as reply
-use Rattle.redomail.specs.declared.stage.Stage.{Stage}
-use Rattle.redomail.specs.declared.stage.Stage.TheVariants as stage
+use Rattle.redomail.specs.declared.stage.JobStage.{JobStage}
+use Rattle.redomail.specs.declared.stage.JobStage.TheVariants as stage
 use Rattle.redomail.specs.declared.task.Task.TheVariants as task
 use Rattle.redomail.specs.Stages.{first_stage, stage_after, decided_stage, read_stage}
 use Rattle.redomail.proofs.Scripts.{store-on, store-end, store-redo, read-on, read-end}
 
 module _ (l : Layout) (lawful : IsLayout l) where
   -- a stage whose only data is a value of the layout's width
-  fits : (x : Stage) → value_width l x ≡ l.width → buffer_width x ≡ 8 → words_read x ≡ 0 → steps_done x ≡ 0 → board_index x ≡ 0 → FitsStage l x
+  fits : (x : JobStage) → value_width l x ≡ l.width → buffer_width x ≡ 8 → words_read x ≡ 0 → steps_done x ≡ 0 → board_index x ≡ 0 → FitsStage l x
   fits x value buffer read step board =
       let least = lawful.least in
       record { value = value; buffer = buffer; read = omega (arith, read, least); step = omega (arith, step); board = omega (arith, board) }
@@ -91,11 +91,11 @@ module _ (l : Layout) (lawful : IsLayout l) where
             rw e (ap (λ xs. puts xs (Done (reply.Mended true))) (store-redo l p (record_of at seq value) (3 + (read + 1)) (omega (arith, all))) ∙ read-end l.width read words word (redo l p at seq) (omega (arith, past, within)) (omega (arith, within, most, room)))
       ]
 
-  fits_if : (b : Bool) (x y : Stage) → FitsStage l x → FitsStage l y → FitsStage l (if b then x else y)
+  fits_if : (b : Bool) (x y : JobStage) → FitsStage l x → FitsStage l y → FitsStage l (if b then x else y)
   fits_if true x y h k = h
   fits_if false x y h k = k
 
-  pub fits_after : (x : Stage) (word : ℕ) → FitsStage l x → FitsStage l (stage_after l x word)
+  pub fits_after : (x : JobStage) (word : ℕ) → FitsStage l x → FitsStage l (stage_after l x word)
   fits_after (stage.AskClosed seq value) word h = fits (stage.AskCount seq value word) h.value refl refl refl refl
   fits_after (stage.AskCount seq value closed) word h = fits (stage.AskLast seq value closed word) h.value refl refl refl refl
   fits_after (stage.AskLast seq value closed count) word h = fits_decided seq value closed count word h.value
@@ -112,7 +112,7 @@ module _ (l : Layout) (lawful : IsLayout l) where
   fits_after stage.AskOpen word h = fits_if (word == 1) _ _ (fits_ended _) (fits stage.PutClosed refl refl refl refl refl)
   fits_after _ word h = fits_ended _
 
-  pub left_after : (p : ℕ) (x : Stage) (word : ℕ) → FitsStage l x → left_at l p (stage_after l x word) ≡ tail (left_at l p x) word
+  pub left_after : (p : ℕ) (x : JobStage) (word : ℕ) → FitsStage l x → left_at l p (stage_after l x word) ≡ tail (left_at l p x) word
   left_after p (stage.AskLast seq value closed count) word h = left_decided p seq value closed count word
   left_after p stage.AskUsable word h = elim (cases_Bool (word == 1)) [ inl e ↦ rw e refl | inr e ↦ rw e refl ]
   left_after p stage.AskArmed word h = elim (cases_Bool (word == 0)) [ inl e ↦ rw e refl | inr e ↦ rw e refl ]

@@ -14,8 +14,8 @@ module _ (l : Layout) (p : ℕ) (m : Message) (s0 : Mailbox) where
   seen _ w s h = h.0
 
   -- a put that is no deed
-  pub quiet : (i v : ℕ) (e : Script Reply) (w : Words) (s : Mailbox) → 3 < i → i < size l → Seen l p m s0 w s → Safe l p m s0 e (put w i v) s → Safe l p m s0 (Put i v e) w s
-  quiet i v e w s low high look h = (look, high, (s, no_deed l.cap s _ (deeds_of_put-none l p w i v low), h))
+  pub silent : (i v : ℕ) (e : Script Reply) (w : Words) (s : Mailbox) → 3 < i → i < size l → Seen l p m s0 w s → Safe l p m s0 e (put w i v) s → Safe l p m s0 (Put i v e) w s
+  silent i v e w s low high look h = (look, high, (s, no_deed l.cap s _ (deeds_of_put-none l p w i v low), h))
 
   -- puts of values that the words have already
   pub same_row : (i : ℕ) (vs : List ℕ) (ys : List (ℕ × ℕ)) (e : Script Reply) (w : Words) (s : Mailbox) → IsLayout l → 3 < i → i + length vs ≤ size l
@@ -28,7 +28,7 @@ module _ (l : Layout) (p : ℕ) (m : Message) (s0 : Mailbox) where
       let next : row w (i + 1) (length vs) ≡ vs = cc in
       let rest = same_row (i + 1) vs ys e w s layout (omega arith) (omega arith) next h in
       let P : ℕ → Type 0 = λ j. Safe l p m s0 (Put j v (puts (in_row (i + 1) vs ++ ys) e)) w s in
-      subst P (sym same) (quiet i v _ w s low (omega arith) (seen _ w s rest)
+      subst P (sym same) (silent i v _ w s low (omega arith) (seen _ w s rest)
       (subst (λ x. Safe l p m s0 (puts (in_row (i + 1) vs ++ ys) e) x s) (sym (put-nothing w i v here)) rest))
 
   -- several puts in a row that keep what is known
@@ -47,4 +47,4 @@ module _ (l : Layout) (p : ℕ) (m : Message) (s0 : Mailbox) where
       let here : v i ≡ x = alike i (omega arith) ∙ put-same w i x i refl in
       go v kv (rw (here, stands) refl) (λ j lt. alike j (omega arith) ∙ put-other w i x j (λ q. omega arith))) in
       let P : ℕ → Type 0 = λ j. Safe l p m s0 (Put j x (puts (in_row (i + 1) vs ++ ys) e)) w s in
-      subst P (sym same) (quiet i x _ w s (omega arith) (omega arith) (look w known) rest)
+      subst P (sym same) (silent i x _ w s (omega arith) (omega arith) (look w known) rest)

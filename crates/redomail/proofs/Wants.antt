@@ -3,8 +3,8 @@ use Rattle.std.proofs.Common.{◌≡◌, ℕ, zero, suc, ◌+◌, ◌-◌, ◌*�
 use Rattle.redomail.specs.declared.layout.Layout.{Layout}
 use Rattle.redomail.specs.declared.record.Record.{Record}
 use Rattle.redomail.specs.declared.reply.Reply.{Reply}
-use Rattle.redomail.specs.declared.stage.Stage.{Stage}
-use Rattle.redomail.specs.declared.stage.Stage.TheVariants as stage
+use Rattle.redomail.specs.declared.stage.JobStage.{JobStage}
+use Rattle.redomail.specs.declared.stage.JobStage.TheVariants as stage
 use Rattle.redomail.specs.Jobs.{left_at, FitsStage}
 use Rattle.redomail.specs.Script.{Script, Done, head, reply_in, puts, gets}
 use Rattle.redomail.specs.Tasks.{store_steps, redo}
@@ -22,7 +22,7 @@ gets_want : (i n : ℕ) (read : List ℕ) (next : List ℕ → Script Reply) →
 gets_want i zero read next h = absurd (omega arith)
 gets_want i (suc n) read next h = refl
 
-pub stage_wants : (l : Layout) (p : ℕ) (x : Stage) → FitsStage l x → ((a : Reply) → x ≡ stage.Ended a → ⊥) → reply_in (head (left_at l p x)) ≡ None
+pub stage_wants : (l : Layout) (p : ℕ) (x : JobStage) → FitsStage l x → ((a : Reply) → x ≡ stage.Ended a → ⊥) → reply_in (head (left_at l p x)) ≡ None
 stage_wants l p (stage.AskClosed seq value) fits more = refl
 stage_wants l p (stage.AskCount seq value closed) fits more = refl
 stage_wants l p (stage.AskLast seq value closed count) fits more = refl

@@ -2,8 +2,8 @@
 use Rattle.std.specs.Prelude.{ℕ}
 use Rattle.redomail.specs.declared.layout.Layout.{Layout}
 use Rattle.redomail.specs.declared.reply.Reply.{Reply}
-use Rattle.redomail.specs.declared.stage.Stage.{Stage}
-use Rattle.redomail.specs.declared.stage.Stage.TheVariants.{AskUsable}
+use Rattle.redomail.specs.declared.stage.JobStage.{JobStage}
+use Rattle.redomail.specs.declared.stage.JobStage.TheVariants.{AskUsable}
 use Rattle.redomail.specs.declared.task.Task.{Task}
 use Rattle.redomail.specs.Script.{Script}
 use Rattle.redomail.specs.Jobs.{left_at}
@@ -13,7 +13,7 @@ use Rattle.redomail.specs.Stages.{first_stage, stage_after}
 pub record Pending : Type 0 where
   pub layout : Layout
   pub sender : ℕ
-  pub stage : Stage
+  pub stage : JobStage
 
 -- the rest of its script
 abbrev pub left : Pending → Script Reply

@@ -2,14 +2,14 @@
 use Rattle.std.specs.Prelude.{ℕ, ◌+◌, ◌*◌, ◌==◌, true, false, nat_lt, nat_le, if◌then◌else◌, List, take, replicate, slice_set}
 use Rattle.redomail.specs.declared.layout.Layout.{Layout}
 use Rattle.redomail.specs.declared.reply.Reply.TheVariants as reply
-use Rattle.redomail.specs.declared.stage.Stage.{Stage}
-use Rattle.redomail.specs.declared.stage.Stage.TheVariants as stage
+use Rattle.redomail.specs.declared.stage.JobStage.{JobStage}
+use Rattle.redomail.specs.declared.stage.JobStage.TheVariants as stage
 use Rattle.redomail.specs.declared.task.Task.{Task}
 use Rattle.redomail.specs.declared.task.Task.TheVariants as task
 use Rattle.redomail.specs.Tasks.{record_of}
 
 -- the first stage of a task
-abbrev pub first_stage : Task → Stage
+abbrev pub first_stage : Task → JobStage
 first_stage (task.Append seq value) = stage.AskClosed seq value
 first_stage task.Close = stage.AskOpen
 first_stage task.Repair = stage.AskArmed
@@ -19,7 +19,7 @@ first_stage task.Ruin = stage.PutRuined
 first_stage task.Check = stage.AskRuined
 
 -- an append that has read its three words
-abbrev pub decided_stage : Layout → ℕ → List ℕ → ℕ → ℕ → ℕ → Stage
+abbrev pub decided_stage : Layout → ℕ → List ℕ → ℕ → ℕ → ℕ → JobStage
 decided_stage l seq value closed count last =
     if seq == 0 then stage.Ended reply.OutOfOrder
     else if nat_le seq last then stage.Ended reply.Already
@@ -29,13 +29,13 @@ decided_stage l seq value closed count last =
     else stage.Write (record_of count seq value) 0 reply.Stored
 
 -- a repair that has read these words of the record's value
-abbrev pub read_stage : Layout → ℕ → ℕ → List ℕ → ℕ → Stage
+abbrev pub read_stage : Layout → ℕ → ℕ → List ℕ → ℕ → JobStage
 read_stage l at seq words read =
     if nat_lt read l.width then stage.AskValue at seq words read
     else stage.Write (record_of at seq (take read words)) (3 + read) (reply.Mended true)
 
 -- the stage after a step with this word
-abbrev pub stage_after : Layout → Stage → ℕ → Stage
+abbrev pub stage_after : Layout → JobStage → ℕ → JobStage
 stage_after l (stage.AskClosed seq value) word = stage.AskCount seq value word
 stage_after l (stage.AskCount seq value closed) word = stage.AskLast seq value closed word
 stage_after l (stage.AskLast seq value closed count) word = decided_stage l seq value closed count word
@@ -55,6 +55,6 @@ stage_after l stage.AskRuined word = stage.Ended (reply.Ruined (word == 1))
 stage_after l (stage.Ended answer) word = stage.Ended answer
 
 -- a stage that stores no record
-abbrev pub StoresNothing : Stage → Type 0
+abbrev pub StoresNothing : JobStage → Type 0
 StoresNothing (stage.Write entry step answer) = ⊥
 StoresNothing _ = Unit {0}

@@ -11,7 +11,7 @@ ghost use Rattle.redomail.specs.Tasks.{script, consistent};
 use crate::layout::Layout;
 use crate::next::Next;
 use crate::reply::Reply;
-use crate::stage::Stage;
+use crate::stage::JobStage;
 use crate::task::Task;
 use rmecore::Refusal;
 use std::fmt;
@@ -23,7 +23,7 @@ use std::marker::Model;
 pub struct Job {
     layout: Layout,
     sender: u64,
-    stage: Stage,
+    stage: JobStage,
 }
 
 impl fmt::Debug for Job {
@@ -61,7 +61,7 @@ impl Job {
         ensures refused { IfErr result (λ refusal. refusal_of layout sender task ≡ Some refusal) }
     {
         check(&layout, sender, &task)?;
-        let stage = Stage::first(layout, sender, task);
+        let stage = JobStage::first(layout, sender, task);
         Ok(Job {
             layout,
             sender,
@@ -80,7 +80,7 @@ impl Job {
         Job {
             layout,
             sender,
-            stage: Stage::AskUsable,
+            stage: JobStage::AskUsable,
         }
     }
 
@@ -127,7 +127,7 @@ impl Job {
     }
 
     /// For this workspace alone: the job's stage, for a caller that encodes a process's state.
-    pub fn seam_stage(&self) -> Stage
+    pub fn seam_stage(&self) -> JobStage
         ensures { result ≡ self.now.stage }
     {
         self.stage
@@ -135,7 +135,7 @@ impl Job {
 
     /// For this workspace alone, the inverse of `seam_stage`: a job of this process at this stage. None: the sizes or the
     /// stage's values are outside the limits. It accepts a stage that no run reaches.
-    pub fn seam_at(layout: Layout, sender: u64, stage: Stage) -> Option<Job>
+    pub fn seam_at(layout: Layout, sender: u64, stage: JobStage) -> Option<Job>
         ensures at { IfSome result (λ job. job ≡ record { layout = layout; sender = sender; stage = stage }) }
         ensures some { IsSome result ↔ (IsLayout layout × (sender < layout.procs) × FitsStage layout stage) }
     {

@@ -17,7 +17,7 @@ use rmecore::Body;
 
 /// The stage of a job: its next step, and the values that the steps before it have read.
 #[derive(Clone, Copy)]
-pub enum Stage {
+pub enum JobStage {
     /// Append, with its number and value: reads closed.
     AskClosed(u64, Body),
     /// Append: reads count. The last field is closed.
@@ -46,22 +46,22 @@ pub enum Stage {
     Ended(Reply),
 }
 
-impl Stage {
+impl JobStage {
     /// The first stage of a task.
-    pub(crate) fn first(layout: Layout, sender: u64, task: Task) -> Stage
+    pub(crate) fn first(layout: Layout, sender: u64, task: Task) -> JobStage
         requires { refused layout sender task ≡ None }
         ensures left { left_at layout sender result ≡ script layout sender task }
         ensures exact { result ≡ first_stage task }
         ensures fits { FitsStage layout result }
     {
         match task {
-            Task::Append { seq, value } => Stage::AskClosed(seq, value),
-            Task::Close => Stage::AskOpen,
-            Task::Repair => Stage::AskArmed,
-            Task::BoardGet(i) => Stage::GetBoard(i),
-            Task::BoardPut(i, v) => Stage::PutBoard(i, v),
-            Task::Ruin => Stage::PutRuined,
-            Task::Check => Stage::AskRuined,
+            Task::Append { seq, value } => JobStage::AskClosed(seq, value),
+            Task::Close => JobStage::AskOpen,
+            Task::Repair => JobStage::AskArmed,
+            Task::BoardGet(i) => JobStage::GetBoard(i),
+            Task::BoardPut(i, v) => JobStage::PutBoard(i, v),
+            Task::Ruin => JobStage::PutRuined,
+            Task::Check => JobStage::AskRuined,
         }
     }
 
@@ -71,23 +71,23 @@ impl Stage {
         ensures { IsTrue result ↔ FitsStage layout self.now }
     {
         match *self {
-            Stage::AskClosed(_, value)
-            | Stage::AskCount(_, value, _)
-            | Stage::AskLast(_, value, _, _) => { value.width() == layout.width }
-            Stage::AskValue(_, _, words, read) => is_short(layout, words, read),
-            Stage::Write(record, step, _) => {
+            JobStage::AskClosed(_, value)
+            | JobStage::AskCount(_, value, _)
+            | JobStage::AskLast(_, value, _, _) => { value.width() == layout.width }
+            JobStage::AskValue(_, _, words, read) => is_short(layout, words, read),
+            JobStage::Write(record, step, _) => {
                 record.value.width() == layout.width && step < 8 + 2 * layout.width
             }
-            Stage::GetBoard(i) | Stage::PutBoard(i, _) => i < 4,
-            Stage::AskUsable
-            | Stage::AskArmed
-            | Stage::AskAt
-            | Stage::AskSeq(_)
-            | Stage::AskOpen
-            | Stage::PutClosed
-            | Stage::PutRuined
-            | Stage::AskRuined
-            | Stage::Ended(_) => true,
+            JobStage::GetBoard(i) | JobStage::PutBoard(i, _) => i < 4,
+            JobStage::AskUsable
+            | JobStage::AskArmed
+            | JobStage::AskAt
+            | JobStage::AskSeq(_)
+            | JobStage::AskOpen
+            | JobStage::PutClosed
+            | JobStage::PutRuined
+            | JobStage::AskRuined
+            | JobStage::Ended(_) => true,
         }
     }
 
@@ -99,23 +99,23 @@ impl Stage {
         ensures { result ≡ head (left_at layout sender self.now) }
     {
         match *self {
-            Stage::AskClosed(..) | Stage::AskOpen => Next::Get(CLOSED),
-            Stage::AskCount(..) => Next::Get(COUNT),
-            Stage::AskLast(..) => Next::Get(layout.last(sender)),
-            Stage::AskArmed => Next::Get(ARMED),
-            Stage::AskAt => Next::Get(RECORD),
-            Stage::AskSeq(_) => Next::Get(RECORD + 1),
-            Stage::AskValue(_, _, _, read) => Next::Get(RECORD + 2 + read),
-            Stage::Write(ref record, step, _) => {
+            JobStage::AskClosed(..) | JobStage::AskOpen => Next::Get(CLOSED),
+            JobStage::AskCount(..) => Next::Get(COUNT),
+            JobStage::AskLast(..) => Next::Get(layout.last(sender)),
+            JobStage::AskArmed => Next::Get(ARMED),
+            JobStage::AskAt => Next::Get(RECORD),
+            JobStage::AskSeq(_) => Next::Get(RECORD + 1),
+            JobStage::AskValue(_, _, _, read) => Next::Get(RECORD + 2 + read),
+            JobStage::Write(ref record, step, _) => {
                 let (i, v) = record.put(layout, sender, step);
                 Next::Put(i, v)
             }
-            Stage::PutClosed => Next::Put(CLOSED, 1),
-            Stage::GetBoard(i) => Next::Get(layout.board(i)),
-            Stage::PutBoard(i, v) => Next::Put(layout.board(i), v),
-            Stage::PutRuined => Next::Put(RUINED, 1),
-            Stage::AskUsable | Stage::AskRuined => Next::Get(RUINED),
-            Stage::Ended(reply) => Next::Done(reply),
+            JobStage::PutClosed => Next::Put(CLOSED, 1),
+            JobStage::GetBoard(i) => Next::Get(layout.board(i)),
+            JobStage::PutBoard(i, v) => Next::Put(layout.board(i), v),
+            JobStage::PutRuined => Next::Put(RUINED, 1),
+            JobStage::AskUsable | JobStage::AskRuined => Next::Get(RUINED),
+            JobStage::Ended(reply) => Next::Done(reply),
         }
     }
 
@@ -131,12 +131,12 @@ impl Stage {
         ensures fits { FitsStage layout self.new }
     {
         match self {
-            Stage::Write(_, step, reply) => {
+            JobStage::Write(_, step, reply) => {
                 if *step + 1 < 8 + 2 * layout.width {
                     *step += 1;
                 } else {
                     let reply = *reply;
-                    *self = Stage::Ended(reply);
+                    *self = JobStage::Ended(reply);
                 }
             }
             _ => self.ask_on(layout, sender, word),
@@ -161,7 +161,7 @@ impl Stage {
     // The stage after one that stores no record, with the word that was read.
     // Inline: its one caller is apart.
     #[inline(always)]
-    fn after(&self, layout: Layout, sender: u64, word: u64) -> Stage
+    fn after(&self, layout: Layout, sender: u64, word: u64) -> JobStage
         requires lawful { IsLayout layout }
         requires below { sender < layout.procs }
         requires fits { FitsStage layout self.now }
@@ -171,26 +171,26 @@ impl Stage {
         ensures fits { FitsStage layout result }
     {
         match *self {
-            Stage::AskClosed(seq, value) => Stage::AskCount(seq, value, word),
-            Stage::AskCount(seq, value, closed) => Stage::AskLast(seq, value, closed, word),
-            Stage::AskLast(seq, value, closed, count) => decided(
+            JobStage::AskClosed(seq, value) => JobStage::AskCount(seq, value, word),
+            JobStage::AskCount(seq, value, closed) => JobStage::AskLast(seq, value, closed, word),
+            JobStage::AskLast(seq, value, closed, count) => decided(
                 layout, seq, value, closed, count, word,
             ),
-            Stage::AskUsable if word == 1 => Stage::Ended(Reply::Ruined(true)),
-            Stage::AskUsable => Stage::AskArmed,
-            Stage::AskArmed if word == 0 => Stage::Ended(Reply::Mended(false)),
-            Stage::AskArmed => Stage::AskAt,
-            Stage::AskAt => Stage::AskSeq(word),
-            Stage::AskSeq(at) => Stage::AskValue(at, word, [0; 8], 0),
-            Stage::AskValue(at, seq, words, read) => read_on(layout, at, seq, words, read, word),
-            Stage::Write(..) => unreachable!(),
-            Stage::AskOpen if word == 1 => Stage::Ended(Reply::AlreadyClosed),
-            Stage::AskOpen => Stage::PutClosed,
-            Stage::PutClosed => Stage::Ended(Reply::ClosedNow),
-            Stage::GetBoard(_) => Stage::Ended(Reply::Word(word)),
-            Stage::PutBoard(..) | Stage::PutRuined => Stage::Ended(Reply::Done),
-            Stage::AskRuined => Stage::Ended(Reply::Ruined(word == 1)),
-            Stage::Ended(reply) => Stage::Ended(reply),
+            JobStage::AskUsable if word == 1 => JobStage::Ended(Reply::Ruined(true)),
+            JobStage::AskUsable => JobStage::AskArmed,
+            JobStage::AskArmed if word == 0 => JobStage::Ended(Reply::Mended(false)),
+            JobStage::AskArmed => JobStage::AskAt,
+            JobStage::AskAt => JobStage::AskSeq(word),
+            JobStage::AskSeq(at) => JobStage::AskValue(at, word, [0; 8], 0),
+            JobStage::AskValue(at, seq, words, read) => read_on(layout, at, seq, words, read, word),
+            JobStage::Write(..) => unreachable!(),
+            JobStage::AskOpen if word == 1 => JobStage::Ended(Reply::AlreadyClosed),
+            JobStage::AskOpen => JobStage::PutClosed,
+            JobStage::PutClosed => JobStage::Ended(Reply::ClosedNow),
+            JobStage::GetBoard(_) => JobStage::Ended(Reply::Word(word)),
+            JobStage::PutBoard(..) | JobStage::PutRuined => JobStage::Ended(Reply::Done),
+            JobStage::AskRuined => JobStage::Ended(Reply::Ruined(word == 1)),
+            JobStage::Ended(reply) => JobStage::Ended(reply),
         }
     }
 
@@ -201,7 +201,7 @@ impl Stage {
         ensures { (l : Layout) (p : ℕ) → FitsStage l self.now → result ≡ reply_in (head (left_at l p self.now)) }
     {
         match self {
-            Stage::Ended(reply) => Some(*reply),
+            JobStage::Ended(reply) => Some(*reply),
             _ => None,
         }
     }
@@ -218,11 +218,11 @@ fn is_short(layout: Layout, words: [u64; 8], read: u64) -> bool
 }
 
 // The stage of a repair after one more word of the record's value.
-fn read_on(layout: Layout, at: u64, seq: u64, words: [u64; 8], read: u64, word: u64) -> Stage
+fn read_on(layout: Layout, at: u64, seq: u64, words: [u64; 8], read: u64, word: u64) -> JobStage
     requires lawful { IsLayout layout }
     requires within { read < layout.width }
     requires room { length words ≡ 8 }
-    ensures left { (p : ℕ) → left_at layout p result ≡ tail (left_at layout p (Stage.AskValue at seq words read)) word }
+    ensures left { (p : ℕ) → left_at layout p result ≡ tail (left_at layout p (JobStage.AskValue at seq words read)) word }
     ensures exact { result ≡ read_stage layout at seq (slice_set words read word) (read + 1) }
     ensures fits { FitsStage layout result }
 {
@@ -230,16 +230,16 @@ fn read_on(layout: Layout, at: u64, seq: u64, words: [u64; 8], read: u64, word: 
     words[read as usize] = word;
     let read = read + 1;
     if read < layout.width {
-        return Stage::AskValue(at, seq, words, read);
+        return JobStage::AskValue(at, seq, words, read);
     }
     let Ok(value) = Body::new(&words[..read as usize]) else {
         unreachable!()
     };
-    Stage::Write(Record { at, seq, value }, 3 + read, Reply::Mended(true))
+    JobStage::Write(Record { at, seq, value }, 3 + read, Reply::Mended(true))
 }
 
 // What an append does after it has read its three words: the first condition that holds decides.
-fn decided(layout: Layout, seq: u64, value: Body, closed: u64, count: u64, last: u64) -> Stage
+fn decided(layout: Layout, seq: u64, value: Body, closed: u64, count: u64, last: u64) -> JobStage
     requires lawful { IsLayout layout }
     requires fits { length value ≡ layout.width }
     ensures left { (p : ℕ) → left_at layout p result ≡ decided_by layout p seq value closed count last }
@@ -247,17 +247,17 @@ fn decided(layout: Layout, seq: u64, value: Body, closed: u64, count: u64, last:
     ensures fits { FitsStage layout result }
 {
     if seq == 0 {
-        Stage::Ended(Reply::OutOfOrder)
+        JobStage::Ended(Reply::OutOfOrder)
     } else if seq <= last {
-        Stage::Ended(Reply::Already)
+        JobStage::Ended(Reply::Already)
     } else if seq - 1 > last {
-        Stage::Ended(Reply::OutOfOrder)
+        JobStage::Ended(Reply::OutOfOrder)
     } else if closed == 1 {
-        Stage::Ended(Reply::Closed)
+        JobStage::Ended(Reply::Closed)
     } else if count == layout.cap {
-        Stage::Ended(Reply::Full)
+        JobStage::Ended(Reply::Full)
     } else {
         let at = count;
-        Stage::Write(Record { at, seq, value }, 0, Reply::Stored)
+        JobStage::Write(Record { at, seq, value }, 0, Reply::Stored)
     }
 }

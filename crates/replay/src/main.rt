@@ -2,11 +2,10 @@
 //! the simulated side alone, so that a first proved report needs few libraries.
 #![tactic(auto)]
 
-use schedule::{FromReader, ToWriter};
+use schedule::{FromReader, ReplayFault, ToWriter, replay};
 use std::alloc::Global;
 use std::io::{self, BufReader, BufWriter};
 use std::process::ExitCode;
-use schedule::{ReplayFault, replay};
 
 /// Replays the schedule on standard input, and writes the report to standard output.
 fn report<R: Input + Print>(rt: &R, alloc: Global) -> Result<(), ReplayFault> {

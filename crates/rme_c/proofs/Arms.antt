@@ -1,17 +1,17 @@
 -- The steps of scripts, one by one.
 use Rattle.std.proofs.Common.{◌≡◌, ℕ, zero, suc, ◌+◌, ◌-◌, ◌*◌, ◌<◌, ◌≤◌, true, false, nat_lt, is_none, List, [], ◌∷◌, ◌++◌, length, take, replicate, slice_set, Some, None, refl, sym, ap, ◌∙◌, subst, arith, length-take, length-set, length-append}
-use Rattle.rme_c.proofs.Common.{lt-ltb, le-ltb, Inside, Layout, Reply, left_at, FitsStage, IsLayout, Pending, record_of, Mending, next_access, Told, Chore, Position, Lock, Within, RmeProcess, padded}
-use Rattle.rme_c.proofs.Common.{job_of, why_of, layout_of, stand_at, Fits, IsStep}
+use Rattle.rme_c.proofs.Common.{lt-ltb, le-ltb, Inside, Layout, Reply, left_at, FitsStage, IsLayout, Pending, record_of, Mending, next_access, Told, ScriptPosition, Position, Lock, Within, RmeProcess, padded}
+use Rattle.rme_c.proofs.Common.{job_of, purpose_of, layout_of, machine_state_at, Fits, IsStep}
 use Rattle.std.proofs.lemmas.List.{length-replicate}
 use Rattle.redomail.specs.declared.reply.Reply.TheVariants.{Stored, Mended}
-use Rattle.redomail.specs.declared.stage.Stage.TheVariants as stage
+use Rattle.redomail.specs.declared.stage.JobStage.TheVariants as stage
 use Rattle.redomail.specs.Stages.{stage_after}
 use Rattle.redomail.proofs.Feeding.{left_after}
 use Rattle.rmecore.specs.Place as Place
 use Rattle.rmeworld.specs.declared.answer.Answer.TheVariants.{Mail}
-use Rattle.rme_c.specs.declared.chore.Chore.TheVariants as chore
+use Rattle.rme_c.specs.declared.script_position.ScriptPosition.TheVariants as script_position
 use Rattle.rme_c.proofs.Jobs.{storing, reading, wants}
-use Rattle.rme_c.proofs.Chores.{goes, ends}
+use Rattle.rme_c.proofs.ScriptPositions.{goes, ends}
 
 -- the words of a record's value, after one more was read
 set_zeros : (read m : ℕ) (words : List ℕ) (v : ℕ) → read + suc m ≡ length words → slice_set (take read words ++ replicate (suc m) 0) read v ≡ take (read + 1) (slice_set words read v) ++ replicate m 0
@@ -47,18 +47,18 @@ module _ (p : RmeProcess) (eight : length p.value ≡ 8) where
   abbrev l : Layout
   l = layout_of p
 
-  abbrev job : Chore → Pending
+  abbrev job : ScriptPosition → Pending
   job c = job_of l p.index p.value c
 
   wide : IsLayout l → length (take l.width p.value) ≡ l.width
   wide lawful = let most = lawful.most in omega (arith, length-take l.width p.value, eight, most)
 
   -- a script has a step left
-  pub has_chore : (c : Chore) → Fits p (Within c) → is_none (next_access (stand_at p (Within c))) ≡ false
-  has_chore (chore.Value at seq read) h = wants p.limit p.index Place.Inside Mending _ (reading l p.index at seq read (padded read p.value) h.1.1.1)
-  has_chore (chore.Redo at seq step) h = let wide = wide h.1.1.0 in let within = h.1.1.1 in wants p.limit p.index Place.Inside Mending _ (storing l p.index _ step (Mended true) (omega (arith, wide, within)))
-  has_chore (chore.Store at seq step) h = let wide = wide h.1.1.0 in let within = h.1.1.1 in wants p.limit p.index Place.Inside (why_of l p.value (chore.Store at seq step)) _ (storing l p.index _ step Stored (omega (arith, wide, within)))
-  has_chore _ h = refl
+  pub has_script_position : (c : ScriptPosition) → Fits p (Within c) → is_none (next_access (machine_state_at p (Within c))) ≡ false
+  has_script_position (script_position.Value at seq read) h = wants p.limit p.index Place.Inside Mending _ (reading l p.index at seq read (padded read p.value) h.1.1.1)
+  has_script_position (script_position.Redo at seq step) h = let wide = wide h.1.1.0 in let within = h.1.1.1 in wants p.limit p.index Place.Inside Mending _ (storing l p.index _ step (Mended true) (omega (arith, wide, within)))
+  has_script_position (script_position.Store at seq step) h = let wide = wide h.1.1.0 in let within = h.1.1.1 in wants p.limit p.index Place.Inside (purpose_of l p.value (script_position.Store at seq step)) _ (storing l p.index _ step Stored (omega (arith, wide, within)))
+  has_script_position _ h = refl
 
   goes_on_storing : (at seq step v : ℕ) (reply : Reply) → step + 1 < 8 + 2 * p.width
       → stage_after l (stage.Write (record_of at seq (take l.width p.value)) step reply) v ≡ stage.Write (record_of at seq (take l.width p.value)) (step + 1) reply
@@ -68,54 +68,54 @@ module _ (p : RmeProcess) (eight : length p.value ≡ 8) where
       → stage_after l (stage.Write (record_of at seq (take l.width p.value)) step reply) v ≡ stage.Ended reply
   ends_storing at seq step v reply h = let no : nat_lt (step + 1) (8 + 2 * p.width) ≡ false = le-ltb _ _ h in rw no refl
 
-  pub redo_on : (at seq step v : ℕ) (r : Position × Told) → Fits p (Within (chore.Redo at seq step)) → step + 1 < 8 + 2 * p.width
-      → r ≡ (Within (chore.Redo at seq (step + 1)), record { answer = None; blocked = false }) → IsStep p (Within (chore.Redo at seq step)) v p r.0 r.1
+  pub redo_on : (at seq step v : ℕ) (r : Position × Told) → Fits p (Within (script_position.Redo at seq step)) → step + 1 < 8 + 2 * p.width
+      → r ≡ (Within (script_position.Redo at seq (step + 1)), record { answer = None; blocked = false }) → IsStep p (Within (script_position.Redo at seq step)) v p r.0 r.1
   redo_on at seq step v r fits more is =
       let lawful = fits.1.1.0 in
       let after = goes_on_storing at seq step v (Mended true) more in
       let wide = wide lawful in
-      goes p p (chore.Redo at seq step) Mending (job (chore.Redo at seq step)) (job (chore.Redo at seq (step + 1))) v refl
+      goes p p (script_position.Redo at seq step) Mending (job (script_position.Redo at seq step)) (job (script_position.Redo at seq (step + 1))) v refl
       (λ i. record { layout = l; sender = p.index; stage = after i })
       (storing l p.index _ step (Mended true) (omega (arith, wide, fits.1.1.1)))
       (sym (ap (left_at l p.index) after) ∙ left_after l lawful p.index _ v (fits_write l lawful at seq p.value step (Mended true) eight fits.1.1.1))
-      (chore.Redo at seq (step + 1)) r is refl refl
+      (script_position.Redo at seq (step + 1)) r is refl refl
       (storing l p.index _ (step + 1) (Mended true) (omega (arith, wide, more)))
       (fits.0, (fits.1.0, (lawful, more)))
 
-  pub store_on : (at seq step v : ℕ) (r : Position × Told) → Fits p (Within (chore.Store at seq step)) → step + 1 < 8 + 2 * p.width
-      → r ≡ (Within (chore.Store at seq (step + 1)), record { answer = None; blocked = false }) → IsStep p (Within (chore.Store at seq step)) v p r.0 r.1
+  pub store_on : (at seq step v : ℕ) (r : Position × Told) → Fits p (Within (script_position.Store at seq step)) → step + 1 < 8 + 2 * p.width
+      → r ≡ (Within (script_position.Store at seq (step + 1)), record { answer = None; blocked = false }) → IsStep p (Within (script_position.Store at seq step)) v p r.0 r.1
   store_on at seq step v r fits more is =
       let lawful = fits.1.1.0 in
       let after = goes_on_storing at seq step v Stored more in
       let wide = wide lawful in
-      goes p p (chore.Store at seq step) (why_of l p.value (chore.Store at seq step)) (job (chore.Store at seq step)) (job (chore.Store at seq (step + 1))) v refl
+      goes p p (script_position.Store at seq step) (purpose_of l p.value (script_position.Store at seq step)) (job (script_position.Store at seq step)) (job (script_position.Store at seq (step + 1))) v refl
       (λ i. record { layout = l; sender = p.index; stage = after i })
       (storing l p.index _ step Stored (omega (arith, wide, fits.1.1.1)))
       (sym (ap (left_at l p.index) after) ∙ left_after l lawful p.index _ v (fits_write l lawful at seq p.value step Stored eight fits.1.1.1))
-      (chore.Store at seq (step + 1)) r is refl refl
+      (script_position.Store at seq (step + 1)) r is refl refl
       (storing l p.index _ (step + 1) Stored (omega (arith, wide, more)))
       (fits.0, (fits.1.0, (lawful, more)))
 
-  pub redo_end : (q : RmeProcess) (at seq step v : ℕ) (r : Position × Told) → Fits p (Within (chore.Redo at seq step)) → 8 + 2 * p.width ≤ step + 1
-      → q ≡ record p { unmended = 0 } → r ≡ (Lock Inside, record { answer = Some (Mail (Mended true)); blocked = false }) → IsStep p (Within (chore.Redo at seq step)) v q r.0 r.1
+  pub redo_end : (q : RmeProcess) (at seq step v : ℕ) (r : Position × Told) → Fits p (Within (script_position.Redo at seq step)) → 8 + 2 * p.width ≤ step + 1
+      → q ≡ record p { unmended = 0 } → r ≡ (Lock Inside, record { answer = Some (Mail (Mended true)); blocked = false }) → IsStep p (Within (script_position.Redo at seq step)) v q r.0 r.1
   redo_end q at seq step v r fits past same is =
       let lawful = fits.1.1.0 in
       let after = ends_storing at seq step v (Mended true) past in
       let wide = wide lawful in
-      subst (λ (x : RmeProcess). IsStep p (Within (chore.Redo at seq step)) v x r.0 r.1) (sym same)
-      (ends p (record p { unmended = 0 }) (chore.Redo at seq step) Mending (job (chore.Redo at seq step)) (record { layout = l; sender = p.index; stage = stage.Ended (Mended true) }) v refl
+      subst (λ (x : RmeProcess). IsStep p (Within (script_position.Redo at seq step)) v x r.0 r.1) (sym same)
+      (ends p (record p { unmended = 0 }) (script_position.Redo at seq step) Mending (job (script_position.Redo at seq step)) (record { layout = l; sender = p.index; stage = stage.Ended (Mended true) }) v refl
       (λ i. record { layout = l; sender = p.index; stage = after i })
       (storing l p.index _ step (Mended true) (omega (arith, wide, fits.1.1.1)))
       (sym (ap (left_at l p.index) after) ∙ left_after l lawful p.index _ v (fits_write l lawful at seq p.value step (Mended true) eight fits.1.1.1))
       Inside (Mended true) r is refl refl refl refl refl (fits.0, fits.1.0))
 
-  pub store_end : (at seq step v : ℕ) (r : Position × Told) → Fits p (Within (chore.Store at seq step)) → 8 + 2 * p.width ≤ step + 1
-      → r ≡ (Lock Inside, record { answer = Some (Mail Stored); blocked = false }) → IsStep p (Within (chore.Store at seq step)) v p r.0 r.1
+  pub store_end : (at seq step v : ℕ) (r : Position × Told) → Fits p (Within (script_position.Store at seq step)) → 8 + 2 * p.width ≤ step + 1
+      → r ≡ (Lock Inside, record { answer = Some (Mail Stored); blocked = false }) → IsStep p (Within (script_position.Store at seq step)) v p r.0 r.1
   store_end at seq step v r fits past is =
       let lawful = fits.1.1.0 in
       let after = ends_storing at seq step v Stored past in
       let wide = wide lawful in
-      ends p p (chore.Store at seq step) (why_of l p.value (chore.Store at seq step)) (job (chore.Store at seq step)) (record { layout = l; sender = p.index; stage = stage.Ended Stored }) v refl
+      ends p p (script_position.Store at seq step) (purpose_of l p.value (script_position.Store at seq step)) (job (script_position.Store at seq step)) (record { layout = l; sender = p.index; stage = stage.Ended Stored }) v refl
       (λ i. record { layout = l; sender = p.index; stage = after i })
       (storing l p.index _ step Stored (omega (arith, wide, fits.1.1.1)))
       (sym (ap (left_at l p.index) after) ∙ left_after l lawful p.index _ v (fits_write l lawful at seq p.value step Stored eight fits.1.1.1))
@@ -124,8 +124,8 @@ module _ (p : RmeProcess) (eight : length p.value ≡ 8) where
   length_padded : (read : ℕ) → read < 8 → length (padded read p.value) ≡ 8
   length_padded read h = omega (arith, length-append (take read p.value) (replicate (8 - read) 0), length-take read p.value, length-replicate {A = ℕ} (8 - read) 0, eight)
 
-  pub value_on : (q : RmeProcess) (at seq read v : ℕ) (r : Position × Told) → Fits p (Within (chore.Value at seq read)) → read + 1 < p.width
-      → q ≡ record p { value = slice_set p.value read v } → r ≡ (Within (chore.Value at seq (read + 1)), record { answer = None; blocked = false }) → IsStep p (Within (chore.Value at seq read)) v q r.0 r.1
+  pub value_on : (q : RmeProcess) (at seq read v : ℕ) (r : Position × Told) → Fits p (Within (script_position.Value at seq read)) → read + 1 < p.width
+      → q ≡ record p { value = slice_set p.value read v } → r ≡ (Within (script_position.Value at seq (read + 1)), record { answer = None; blocked = false }) → IsStep p (Within (script_position.Value at seq read)) v q r.0 r.1
   value_on q at seq read v r fits more same is =
       let lawful = fits.1.1.0 in
       let most = lawful.most in
@@ -133,17 +133,17 @@ module _ (p : RmeProcess) (eight : length p.value ≡ 8) where
       let small : read < 8 = omega (arith, most, more) in
       let after : stage_after l (stage.AskValue at seq (padded read p.value) read) v ≡ stage.AskValue at seq (padded (read + 1) (slice_set p.value read v)) (read + 1) =
       rw yes (ap (λ ws. stage.AskValue at seq ws (read + 1)) (set_padded read p.value v small eight)) in
-      subst (λ (x : RmeProcess). IsStep p (Within (chore.Value at seq read)) v x r.0 r.1) (sym same)
-      (goes p (record p { value = slice_set p.value read v }) (chore.Value at seq read) Mending (job (chore.Value at seq read)) (record { layout = l; sender = p.index; stage = stage.AskValue at seq (padded (read + 1) (slice_set p.value read v)) (read + 1) }) v refl
+      subst (λ (x : RmeProcess). IsStep p (Within (script_position.Value at seq read)) v x r.0 r.1) (sym same)
+      (goes p (record p { value = slice_set p.value read v }) (script_position.Value at seq read) Mending (job (script_position.Value at seq read)) (record { layout = l; sender = p.index; stage = stage.AskValue at seq (padded (read + 1) (slice_set p.value read v)) (read + 1) }) v refl
       (λ i. record { layout = l; sender = p.index; stage = after i })
       (reading l p.index at seq read (padded read p.value) fits.1.1.1)
       (sym (ap (left_at l p.index) after) ∙ left_after l lawful p.index _ v (fits_value l lawful at seq read (padded read p.value) (length_padded read small) fits.1.1.1))
-      (chore.Value at seq (read + 1)) r is refl refl
+      (script_position.Value at seq (read + 1)) r is refl refl
       (reading l p.index at seq (read + 1) (padded (read + 1) (slice_set p.value read v)) more)
       (fits.0, (fits.1.0, (lawful, more))))
 
-  pub value_end : (q : RmeProcess) (at seq read v : ℕ) (r : Position × Told) → Fits p (Within (chore.Value at seq read)) → p.width ≤ read + 1
-      → q ≡ record p { value = slice_set p.value read v } → r ≡ (Within (chore.Redo at seq (3 + p.width)), record { answer = None; blocked = false }) → IsStep p (Within (chore.Value at seq read)) v q r.0 r.1
+  pub value_end : (q : RmeProcess) (at seq read v : ℕ) (r : Position × Told) → Fits p (Within (script_position.Value at seq read)) → p.width ≤ read + 1
+      → q ≡ record p { value = slice_set p.value read v } → r ≡ (Within (script_position.Redo at seq (3 + p.width)), record { answer = None; blocked = false }) → IsStep p (Within (script_position.Value at seq read)) v q r.0 r.1
   value_end q at seq read v r fits past same is =
       let lawful = fits.1.1.0 in
       let most = lawful.most in
@@ -158,11 +158,11 @@ module _ (p : RmeProcess) (eight : length p.value ≡ 8) where
       let after : stage_after l (stage.AskValue at seq (padded read p.value) read) v ≡ stage.Write (record_of at seq (take p.width set)) (3 + p.width) (Mended true) =
       rw no (λ i. stage.Write (record_of at seq (front i)) (3 + whole i) (Mended true)) in
       let wide : length (take p.width set) ≡ p.width = omega (arith, length-take p.width set, sets, most) in
-      subst (λ (x : RmeProcess). IsStep p (Within (chore.Value at seq read)) v x r.0 r.1) (sym same)
-      (goes p (record p { value = set }) (chore.Value at seq read) Mending (job (chore.Value at seq read)) (record { layout = l; sender = p.index; stage = stage.Write (record_of at seq (take p.width set)) (3 + p.width) (Mended true) }) v refl
+      subst (λ (x : RmeProcess). IsStep p (Within (script_position.Value at seq read)) v x r.0 r.1) (sym same)
+      (goes p (record p { value = set }) (script_position.Value at seq read) Mending (job (script_position.Value at seq read)) (record { layout = l; sender = p.index; stage = stage.Write (record_of at seq (take p.width set)) (3 + p.width) (Mended true) }) v refl
       (λ i. record { layout = l; sender = p.index; stage = after i })
       (reading l p.index at seq read (padded read p.value) below)
       (sym (ap (left_at l p.index) after) ∙ left_after l lawful p.index _ v (fits_value l lawful at seq read (padded read p.value) (length_padded read small) below))
-      (chore.Redo at seq (3 + p.width)) r is refl refl
+      (script_position.Redo at seq (3 + p.width)) r is refl refl
       (storing l p.index _ (3 + p.width) (Mended true) (omega (arith, wide)))
       (fits.0, (fits.1.0, (lawful, omega arith))))

@@ -19,21 +19,21 @@ pub use Rattle.redomail.specs.Script.{Done, tail, Script, Get, Put, puts, gets}
 pub use Rattle.redomail.specs.Tasks.{record_of, store_steps, redo}
 pub use Rattle.redomail.proofs.Scripts.{length-store_steps, step-record, step-commit, step-entry, step-last, step-count, step-disarm}
 pub use Rattle.rmeworld.specs.declared.answer.Answer.{Answer}
-pub use Rattle.rmeworld.specs.declared.errand.Errand.TheVariants.{Free, Doing}
-pub use Rattle.rmeworld.specs.declared.why.Why.{Why}
-pub use Rattle.rmeworld.specs.declared.why.Why.TheVariants.{Mending, Checking}
+pub use Rattle.rmeworld.specs.declared.script_state.ScriptState.TheVariants.{Free, Doing}
+pub use Rattle.rmeworld.specs.declared.purpose.Purpose.{Purpose}
+pub use Rattle.rmeworld.specs.declared.purpose.Purpose.TheVariants.{Mending, Checking}
 pub use Rattle.rmeworld.specs.Answered.{by_script, by_reply, by_lock, answer_by, blocked_by}
 pub use Rattle.rmeworld.specs.Entered.{is_entry, mended_done, checks_done}
-pub use Rattle.rmeworld.specs.Errands.{HasStep}
-pub use Rattle.rmeworld.specs.Spot.{end_place, end_mended, end_barred, mended_entered}
-pub use Rattle.rmeworld.specs.Stand.{next_access, Stand, stepped_by, job_left, standing, stepped, lock_moved, outcome, access_by, InWords}
-pub use Rattle.rmeworld.proofs.Chores.{lock_outcome, with}
+pub use Rattle.rmeworld.specs.ScriptStates.{HasStep}
+pub use Rattle.rmeworld.specs.ProcessState.{end_place, end_mended, end_barred, mended_entered}
+pub use Rattle.rmeworld.specs.MachineState.{next_access, MachineState, stepped_by, job_left, standing, stepped, lock_moved, outcome, access_by, InWords}
+pub use Rattle.rmeworld.proofs.ScriptPositions.{lock_outcome, with}
 pub use Rattle.rme_c.specs.declared.answers.Told.{Told}
-pub use Rattle.rme_c.specs.declared.chore.Chore.{Chore}
+pub use Rattle.rme_c.specs.declared.script_position.ScriptPosition.{ScriptPosition}
 pub use Rattle.rme_c.specs.declared.position.Position.{Position}
 pub use Rattle.rme_c.specs.declared.position.Position.TheVariants.{Lock, Within, Lost}
 pub use Rattle.rme_c.specs.declared.process.RmeProcess.{RmeProcess}
 pub use Rattle.rme_c.specs.Blocks.{own_in}
-pub use Rattle.rme_c.specs.Chores.{padded, job_of, why_of, errand_of}
-pub use Rattle.rme_c.specs.Positions.{layout_of, stand_at, Fits, stand_of, position_of, stage_of, chore_of, by_parts, is_placed, landing, lock_at, errand_at, FitsAt, standing_at}
+pub use Rattle.rme_c.specs.ScriptPositions.{padded, job_of, purpose_of, script_state_of}
+pub use Rattle.rme_c.specs.Positions.{layout_of, machine_state_at, Fits, machine_state_of, position_of, stage_of, script_position_of, by_parts, is_placed, landing, lock_at, script_state_at, FitsAt, standing_at}
 pub use Rattle.rme_c.specs.Steps.{IsStep, answered, is_blocked, IsLanding, IsFed}

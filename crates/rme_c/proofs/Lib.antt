@@ -1,7 +1,7 @@
 pub mod Common
 pub mod Jobs
 pub mod Locks
-pub mod Chores
+pub mod ScriptPositions
 pub mod Arms
 pub mod Numbers
 pub mod Feeds

@@ -2,7 +2,7 @@
 use Rattle.std.proofs.Common.{◌≡◌, ◌≢◌, ℕ, ◌+◌, ◌<◌, Bool, true, false, nat_lt, if◌then◌else◌, List, [], ◌∷◌, Option, Some, None, IfSome, is_none, refl, sym, ap, ◌∙◌, inl, inr, arith}
 use Rattle.rme_c.proofs.Common.{cases_Bool, cases_eq, Access, Stage}
 use Rattle.rme_c.proofs.Common.{Door as AtDoor, Wait as AtWait, place_of, first, access, word_of}
-use Rattle.rme_c.proofs.Common.{InLock, Place, above, above_skip, above_past, Layout, Check, begun, Free as IsFree, Doing as Does, Checking, is_entry, InWords, landing, lock_at, errand_at}
+use Rattle.rme_c.proofs.Common.{InLock, Place, above, above_skip, above_past, Layout, Check, begun, Free as IsFree, Doing as Does, Checking, is_entry, InWords, landing, lock_at, script_state_at}
 use Rattle.rmeworld.proofs.Projection.{entry_inside}
 use Rattle.rmecore.specs.Place.{Door, Wait}
 use Rattle.rmecore.specs.Refused.{is_idle}
@@ -13,10 +13,10 @@ pub lands : (n p : ℕ) (s t : Place) (to : Stage) (checks : Bool) → checks �
 lands n p s t to true e place = sym (entry_inside s t (sym e))
 lands n p s t to false e place = place
 
-pub has_errand : (l : Layout) (p : ℕ) (words : List ℕ) (s t : Place) (to : Stage) (checks : Bool) → checks ≡ is_entry s t
-    → errand_at l p words (landing checks to) ≡ (if is_entry s t then Does Checking (begun l p Check) else IsFree)
-has_errand l p words s t to true e = rw (← e) refl
-has_errand l p words s t to false e = rw (← e) refl
+pub has_script_state : (l : Layout) (p : ℕ) (words : List ℕ) (s t : Place) (to : Stage) (checks : Bool) → checks ≡ is_entry s t
+    → script_state_at l p words (landing checks to) ≡ (if is_entry s t then Does Checking (begun l p Check) else IsFree)
+has_script_state l p words s t to true e = rw (← e) refl
+has_script_state l p words s t to false e = rw (← e) refl
 
 in_words : (n : ℕ) (word : Word) → InLock n word → InWords n word
 in_words n (Data i) h = tt

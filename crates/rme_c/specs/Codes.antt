@@ -14,7 +14,7 @@ use Rattle.redomail.specs.Layout.{held}
 use Rattle.rmeworld.specs.declared.answer.Answer.{Answer}
 use Rattle.rmeworld.specs.declared.answer.Answer.TheVariants as answer
 use Rattle.rmeworld.specs.declared.outcome.Outcome.{Outcome}
-use Rattle.rmeworld.specs.Stand.{Stand, next_access, outcome, stepped}
+use Rattle.rmeworld.specs.MachineState.{MachineState, next_access, outcome, stepped}
 use Rattle.rme_c.specs.declared.process.RmeAccess.{RmeAccess}
 
 -- the index of a word in the block of n processes: three lock words for each, then the data words
@@ -94,7 +94,7 @@ told_by None o next = 7
 told_by (Some a) o next = told_as o.answer o.progress.blocked next
 
 -- the code that `rme_feed` answers
-abbrev pub told : Stand → ℕ → ℕ
+abbrev pub told : MachineState → ℕ → ℕ
 told s v = told_by (next_access s) (outcome s (next_access s) v) (next_access (stepped s v))
 
 -- what `next` is after a step: the next access, or the board word that was read

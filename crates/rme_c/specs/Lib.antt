@@ -1,5 +1,5 @@
 pub mod Blocks
-pub mod Chores
+pub mod ScriptPositions
 pub mod Codes
 pub mod Positions
 pub mod Starts

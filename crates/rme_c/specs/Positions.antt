@@ -7,16 +7,16 @@ use Rattle.rmecore.specs.declared.stage.Stage.TheVariants as stage
 use Rattle.rmecore.specs.Machine.{Standing, place_of}
 use Rattle.rmecore.specs.Place.{Place, Dead, Inside}
 use Rattle.redomail.specs.declared.layout.Layout.{Layout}
-use Rattle.rmeworld.specs.declared.errand.Errand.{Errand}
-use Rattle.rmeworld.specs.declared.errand.Errand.TheVariants as errand
-use Rattle.rmeworld.specs.Stand.{Stand}
-use Rattle.rme_c.specs.declared.chore.Chore.{Chore}
-use Rattle.rme_c.specs.declared.chore.Chore.TheVariants as chore
+use Rattle.rmeworld.specs.declared.script_state.ScriptState.{ScriptState}
+use Rattle.rmeworld.specs.declared.script_state.ScriptState.TheVariants as script_state
+use Rattle.rmeworld.specs.MachineState.{MachineState}
+use Rattle.rme_c.specs.declared.script_position.ScriptPosition.{ScriptPosition}
+use Rattle.rme_c.specs.declared.script_position.ScriptPosition.TheVariants as script_position
 use Rattle.rme_c.specs.declared.position.Position.{Position}
 use Rattle.rme_c.specs.declared.position.Position.TheVariants as position
 use Rattle.rme_c.specs.declared.process.RmePosition.{RmePosition}
 use Rattle.rme_c.specs.declared.process.RmeProcess.{RmeProcess}
-use Rattle.rme_c.specs.Chores.{FitsChore, errand_of}
+use Rattle.rme_c.specs.ScriptPositions.{FitsScriptPosition, script_state_of}
 
 -- the call of the lock's part with this number
 abbrev pub call_of : ℕ → CoreCall
@@ -46,47 +46,47 @@ abbrev pub is_layout : Layout → Bool
 is_layout l = nat_le l.procs 64 && (nat_le l.cap 65536 && (nat_le 1 l.width && nat_le l.width 8))
 
 -- a script state that needs no sizes
-abbrev pub short_chore : RmePosition → Option Chore
-short_chore q =
-    if q.at == 16 then Some chore.Checking
-    else if q.at == 17 then Some chore.Ruining
-    else if q.at == 18 then Some chore.Closing
-    else if q.at == 19 then Some chore.Close
+abbrev pub short_script_position : RmePosition → Option ScriptPosition
+short_script_position q =
+    if q.at == 16 then Some script_position.Checking
+    else if q.at == 17 then Some script_position.Ruining
+    else if q.at == 18 then Some script_position.Closing
+    else if q.at == 19 then Some script_position.Close
     else None
 
 -- a script state of a mending
-abbrev pub mending_chore : Layout → RmePosition → Option Chore
-mending_chore l q =
-    if q.at == 20 then Some chore.Asking
-    else if q.at == 21 then Some chore.Armed
-    else if q.at == 22 then Some chore.At
-    else if q.at == 23 then Some (chore.Seq q.first)
-    else if q.at == 24 then (if nat_lt q.third l.width then Some (chore.Value q.first q.second q.third) else None)
-    else if q.at == 25 then (if nat_lt q.third (8 + 2 * l.width) then Some (chore.Redo q.first q.second q.third) else None)
+abbrev pub mending_script_position : Layout → RmePosition → Option ScriptPosition
+mending_script_position l q =
+    if q.at == 20 then Some script_position.Asking
+    else if q.at == 21 then Some script_position.Armed
+    else if q.at == 22 then Some script_position.At
+    else if q.at == 23 then Some (script_position.Seq q.first)
+    else if q.at == 24 then (if nat_lt q.third l.width then Some (script_position.Value q.first q.second q.third) else None)
+    else if q.at == 25 then (if nat_lt q.third (8 + 2 * l.width) then Some (script_position.Redo q.first q.second q.third) else None)
     else None
 
 -- a script state of an append or of the board
-abbrev pub working_chore : Layout → RmePosition → Option Chore
-working_chore l q =
-    if q.at == 26 then Some (chore.Closed q.second)
-    else if q.at == 27 then Some (chore.Count q.second q.third)
-    else if q.at == 28 then Some (chore.Last q.second q.third q.first)
-    else if q.at == 29 then (if nat_lt q.third (8 + 2 * l.width) then Some (chore.Store q.first q.second q.third) else None)
-    else if q.at == 30 then (if nat_lt q.first 4 then Some (chore.Getting q.first) else None)
-    else if q.at == 31 then (if nat_lt q.first 4 then Some (chore.Putting q.first q.second) else None)
+abbrev pub working_script_position : Layout → RmePosition → Option ScriptPosition
+working_script_position l q =
+    if q.at == 26 then Some (script_position.Closed q.second)
+    else if q.at == 27 then Some (script_position.Count q.second q.third)
+    else if q.at == 28 then Some (script_position.Last q.second q.third q.first)
+    else if q.at == 29 then (if nat_lt q.third (8 + 2 * l.width) then Some (script_position.Store q.first q.second q.third) else None)
+    else if q.at == 30 then (if nat_lt q.first 4 then Some (script_position.Getting q.first) else None)
+    else if q.at == 31 then (if nat_lt q.first 4 then Some (script_position.Putting q.first q.second) else None)
     else None
 
 -- the first of the two that is there
-abbrev pub first_of : Option Chore → Option Chore → Option Chore
+abbrev pub first_of : Option ScriptPosition → Option ScriptPosition → Option ScriptPosition
 first_of None c = c
 first_of (Some c) _ = Some c
 
 -- the script state with these numbers
-abbrev pub chore_of : Layout → RmePosition → Option Chore
-chore_of l q = first_of (short_chore q) (if is_layout l then first_of (mending_chore l q) (working_chore l q) else None)
+abbrev pub script_position_of : Layout → RmePosition → Option ScriptPosition
+script_position_of l q = first_of (short_script_position q) (if is_layout l then first_of (mending_script_position l q) (working_script_position l q) else None)
 
 -- the position, from the stage or the script state
-abbrev pub by_parts : Option Stage → Option Chore → Position
+abbrev pub by_parts : Option Stage → Option ScriptPosition → Position
 by_parts (Some t) c = position.Lock t
 by_parts None (Some c) = position.Within c
 by_parts None None = position.Lost
@@ -105,22 +105,22 @@ stage_now p = if is_placed p then stage_of p.position else None
 
 -- the position of the process
 abbrev pub position_of : RmeProcess → Position
-position_of p = if is_placed p then by_parts (stage_of p.position) (chore_of (layout_of p) p.position) else position.Lost
+position_of p = if is_placed p then by_parts (stage_of p.position) (script_position_of (layout_of p) p.position) else position.Lost
 
 -- what a position needs of the sizes of the mailbox
 abbrev pub FitsAt : Layout → Position → Type 0
-FitsAt l (position.Within c) = FitsChore l c
+FitsAt l (position.Within c) = FitsScriptPosition l c
 FitsAt l _ = Unit {0}
 
 -- the process is one of its world's, and its sizes fit the position
 abbrev pub Fits : RmeProcess → Position → Type 0
 Fits p position.Lost = Unit {0}
 Fits p (position.Lock t) = (p.index < p.procs) × (p.procs ≤ 64)
-Fits p (position.Within c) = (p.index < p.procs) × ((p.procs ≤ 64) × FitsChore (layout_of p) c)
+Fits p (position.Within c) = (p.index < p.procs) × ((p.procs ≤ 64) × FitsScriptPosition (layout_of p) c)
 
 -- the position after a step of the lock's part: after an entry by a lock it is the ruin check
 abbrev pub landing : Bool → Stage → Position
-landing true t = position.Within chore.Checking
+landing true t = position.Within script_position.Checking
 landing false t = position.Lock t
 
 -- the state of the lock's machine at this stage
@@ -134,13 +134,13 @@ lock_at n p (position.Lock t) = place_of n p t
 lock_at n p (position.Within c) = Inside
 
 -- the script state at this position
-abbrev pub errand_at : Layout → ℕ → List ℕ → Position → Errand
-errand_at l p words (position.Within c) = errand_of l p words c
-errand_at l p words _ = errand.Free
+abbrev pub script_state_at : Layout → ℕ → List ℕ → Position → ScriptState
+script_state_at l p words (position.Within c) = script_state_of l p words c
+script_state_at l p words _ = script_state.Free
 
 -- the machine state of `rmeworld` with these numbers, at this position
-abbrev pub stand_at : RmeProcess → Position → Stand
-stand_at p x =
+abbrev pub machine_state_at : RmeProcess → Position → MachineState
+machine_state_at p x =
     record {
       layout = layout_of p;
       limit = p.limit;
@@ -148,9 +148,9 @@ stand_at p x =
       lock = lock_at p.procs p.index x;
       mended = p.unmended == 0;
       barred = not (p.barred == 0);
-      errand = errand_at (layout_of p) p.index p.value x;
+      script_state = script_state_at (layout_of p) p.index p.value x;
     }
 
 -- the machine state of `rmeworld` with these numbers
-abbrev pub stand_of : RmeProcess → Stand
-stand_of p = stand_at p (position_of p)
+abbrev pub machine_state_of : RmeProcess → MachineState
+machine_state_of p = machine_state_at p (position_of p)

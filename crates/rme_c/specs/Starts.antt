@@ -6,7 +6,7 @@ use Rattle.redomail.specs.declared.layout.Layout.{Layout}
 use Rattle.rmeworld.specs.declared.call.Call.{Call}
 use Rattle.rmeworld.specs.declared.call.Call.TheVariants.{Lock, Unlock, Consistent, Recover, Append, Close, Get, Put, Withdraw}
 use Rattle.rmeworld.specs.Refused.{first_cause, start_refusal}
-use Rattle.rmeworld.specs.Stand.{Stand, spot_of}
+use Rattle.rmeworld.specs.MachineState.{MachineState, process_state_of}
 use Rattle.rme_c.specs.declared.process.RmeCall.{RmeCall}
 
 -- the number is from `least` to `most`
@@ -40,9 +40,9 @@ call_by width c =
     else None
 
 -- why a call is refused: no call has its code, or the process may not start it
-abbrev pub call_cause : Stand → Option Call → Option Refusal
+abbrev pub call_cause : MachineState → Option Call → Option Refusal
 call_cause s None = Some BadIndex
-call_cause s (Some call) = start_refusal s.layout (spot_of s) call
+call_cause s (Some call) = start_refusal s.layout (process_state_of s) call
 
 -- the first cause, if there is one
 abbrev pub cause_behind : Option Refusal → Option Refusal → Option Refusal
@@ -50,5 +50,5 @@ cause_behind (Some r) _ = Some r
 cause_behind None cause = cause
 
 -- why a start is refused
-abbrev pub start_cause : Stand → RmeCall → Option Refusal
+abbrev pub start_cause : MachineState → RmeCall → Option Refusal
 start_cause s c = cause_behind (size_cause s.layout s.limit s.index) (call_cause s (call_by s.layout.width c))

@@ -3,14 +3,14 @@
 ghost use Rattle.std.specs.Prelude.{◌≡◌, ◌<◌, ◌≤◌, IfSome, None};
 ghost use Rattle.rmecore.specs.Place.{above};
 ghost use Rattle.rmecore.specs.Machine.{first as first_of, next_access as lock_access, word_of};
-ghost use Rattle.rmeworld.specs.Stand.{next_access, InWords};
-ghost use Rattle.rme_c.specs.Positions.{standing_at, stand_at, Fits};
+ghost use Rattle.rmeworld.specs.MachineState.{next_access, InWords};
+ghost use Rattle.rme_c.specs.Positions.{standing_at, machine_state_at, Fits};
 ghost use Rattle.rme_c.specs.declared.position.Position.TheVariants as Position;
 
-use crate::chore::Chore;
 use crate::position::Position;
 use crate::process::RmeProcess;
-use crate::steps::{check_next, chore_next};
+use crate::script_position::ScriptPosition;
+use crate::steps::{check_next, script_position_next};
 use rmecore::{Access, Kind, Stage, Word};
 
 /// The first other process from an index on.
@@ -66,7 +66,7 @@ fn access(p: &RmeProcess, stage: Stage) -> Option<Access>
 #[inline(always)]
 fn lock_next(p: &RmeProcess, stage: Stage) -> Option<Access>
     requires { Fits p.now (Position.Lock stage) }
-    ensures next { result ≡ next_access (stand_at p.now (Position.Lock stage)) }
+    ensures next { result ≡ next_access (machine_state_at p.now (Position.Lock stage)) }
     ensures word { IfSome result (λ a. InWords p.now.procs (word_of a)) }
 {
     access(p, stage)
@@ -77,14 +77,14 @@ fn lock_next(p: &RmeProcess, stage: Stage) -> Option<Access>
 #[inline(always)]
 pub fn next_at(p: &RmeProcess, position: Position) -> Option<Access>
     requires { Fits p.now position }
-    ensures next { result ≡ next_access (stand_at p.now position) }
+    ensures next { result ≡ next_access (machine_state_at p.now position) }
     ensures word { IfSome result (λ a. InWords p.now.procs (word_of a)) }
     ensures placed { IfSome result (λ _. p.now.procs ≤ 64) }
 {
     match position {
         Position::Lost => None,
         Position::Lock(stage) => lock_next(p, stage),
-        Position::Within(Chore::Checking) => Some(check_next(p)),
-        Position::Within(chore) => Some(chore_next(p, chore)),
+        Position::Within(ScriptPosition::Checking) => Some(check_next(p)),
+        Position::Within(script_position) => Some(script_position_next(p, script_position)),
     }
 }

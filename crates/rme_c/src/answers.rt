@@ -2,7 +2,7 @@
 
 ghost use Rattle.std.specs.Prelude.{◌≡◌, ◌<◌, ◌≤◌, IfSome, None};
 ghost use Rattle.rmecore.specs.Machine.{word_of};
-ghost use Rattle.rmeworld.specs.Stand.{InWords};
+ghost use Rattle.rmeworld.specs.MachineState.{InWords};
 ghost use Rattle.rme_c.specs.Codes.{place as place_at, wanted as wanted_by, found_code as code_of_found, reply_code as code_of_reply, answer_code as code_of_answer, answer_word as word_of_answer, refusal_code as code_of_refusal, told_as, goes_as, shown as shown_by};
 
 use crate::process::RmeAccess;

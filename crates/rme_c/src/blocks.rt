@@ -3,13 +3,13 @@
 ghost use Rattle.std.specs.Prelude.{◌≡◌, ◌+◌, ◌*◌, ◌<◌, ◌≤◌, ◌↔◌, IfSome, IsTrue, true, map, drop, length};
 ghost use Rattle.std.specs.List.{range_with_len};
 ghost use Rattle.redomail.specs.Layout.{size};
-ghost use Rattle.rmeworld.specs.Stand.{IsSize};
+ghost use Rattle.rmeworld.specs.MachineState.{IsSize};
 ghost use Rattle.rme_c.specs.Blocks.{is_block as is_block_of, own_in, image_of};
 
 use crate::starts::size_refusal;
 use redomail::Layout;
 use rmecore::Own;
-use rmeworld::{Cells, Image, Owns};
+use rmeworld::{DataWords, Image, Owns};
 use std::alloc::Global;
 
 /// The number of words of a world's block.
@@ -60,13 +60,13 @@ fn owns(alloc: Global, words: &[u64], procs: u64) -> Option<Owns>
 }
 
 /// The data words. None: out of memory.
-fn cells(alloc: Global, words: &[u64], from: u64) -> Option<Cells>
+fn cells(alloc: Global, words: &[u64], from: u64) -> Option<DataWords>
     requires { from ≤ length words.now }
     ensures { IfSome result (λ c. c ≡ drop from words.now) }
 {
     let mut all = Vec::new(alloc);
     all.extend_from_slice(&words[from as usize..]).ok()?;
-    Some(Cells::new(all))
+    Some(DataWords::new(all))
 }
 
 /// The image of the block. None: out of memory.

@@ -3,26 +3,26 @@
 ghost use Rattle.std.specs.Prelude.{◌≡◌, ◌≢◌, ◌+◌, ◌*◌, ◌<◌, ◌≤◌, ◌↔◌, IfSome, None, false, is_none, if◌then◌else◌, length};
 ghost use Rattle.redomail.specs.Layout.{held, size};
 ghost use Rattle.rmeworld.specs.ImageRules.{IsLawfulImage, IsFirstBroken};
-ghost use Rattle.rmeworld.specs.Stand.{resting, crashed, started, stepped, next_access, outcome};
+ghost use Rattle.rmeworld.specs.MachineState.{resting, crashed, started, stepped, next_access, outcome};
 ghost use Rattle.rme_c.specs.Blocks.{is_block as is_block_of, image_of};
 ghost use Rattle.rme_c.specs.Codes.{refusal_code as code_of_refusal, told as told_of, wanted as wanted_of, shown as shown_of};
-ghost use Rattle.rme_c.specs.Positions.{stand_at, stand_of, position_of, stage_now, Fits};
+ghost use Rattle.rme_c.specs.Positions.{machine_state_at, machine_state_of, position_of, stage_now, Fits};
 ghost use Rattle.rme_c.specs.Starts.{size_cause, call_by, start_cause};
 ghost use Rattle.rme_c.specs.Steps.{IsFed};
-ghost use Rattle.rme_c.specs.declared.chore.Chore.TheVariants as ChoreOf;
+ghost use Rattle.rme_c.specs.declared.script_position.ScriptPosition.TheVariants as ScriptPositionOf;
 ghost use Rattle.rme_c.specs.declared.position.Position.TheVariants as PositionOf;
 
 use crate::accesses::next_at;
 use crate::answers::{NOTHING, refusal_code, tell, wanted};
 use crate::blocks::{block_words, image, is_block};
-use crate::chore::Chore;
 use crate::lock_arms::{lock_feed, quick_feed, scan_feed};
 use crate::position::{
-    Position, is_checking, is_idle, lock_stage, position_now, scan_stage, stand,
+    Position, is_checking, is_idle, lock_stage, machine_state, position_now, scan_stage,
 };
 use crate::process::{RmeAccess, RmeCall, RmePosition, RmeProcess};
+use crate::script_position::ScriptPosition;
 use crate::starts::{quick_start, size_refusal, start};
-use crate::steps::{checked, chore_step};
+use crate::steps::{checked, script_position_step};
 use redomail::Layout;
 use rmecore::Stage;
 use rmeworld::first_rule;
@@ -52,7 +52,7 @@ pub extern "C" fn rme_init(
     index: u64,
 ) -> u64
     ensures status { result ≡ code_of_refusal (size_cause (record { procs = procs; cap = cap; width = width }) limit index) }
-    ensures made { result ≡ 0 → stand_of p.new ≡ resting (record { procs = procs; cap = cap; width = width }) limit index }
+    ensures made { result ≡ 0 → machine_state_of p.new ≡ resting (record { procs = procs; cap = cap; width = width }) limit index }
     ensures steps { result ≡ 0 → p.new.steps ≡ 0 }
     ensures refused { result ≢ 0 → p.new ≡ p.old }
 {
@@ -83,7 +83,7 @@ pub extern "C" fn rme_init(
 /// A crash: the private memory is lost.
 #[unsafe(no_mangle)]
 pub extern "C" fn rme_crash(p: &mut RmeProcess)
-    ensures crashed { stand_of p.new ≡ crashed (stand_of p.old) }
+    ensures crashed { machine_state_of p.new ≡ crashed (machine_state_of p.old) }
     // The count of own steps stays that of the last call.
     ensures steps { p.new.steps ≡ p.old.steps }
 {
@@ -101,9 +101,10 @@ pub extern "C" fn rme_crash(p: &mut RmeProcess)
 // Apart: keeps a common start small.
 #[inline(never)]
 fn any_start(p: &mut RmeProcess, call: &RmeCall, next: &mut RmeAccess) -> u64
-    ensures status { result ≡ code_of_refusal (start_cause (stand_of p.old) call.now) }
-    ensures started { result ≡ 0 → IfSome (call_by p.old.width call.now) (λ c. stand_of p.new ≡ started (stand_of p.old) c) }
-    ensures next { result ≡ 0 → next.new ≡ shown_of p.old.procs None (next_access (stand_of p.new)) }
+    ensures status { result ≡ code_of_refusal (start_cause (machine_state_of p.old) call.now) }
+    ensures started { result ≡ 0 → IfSome (call_by p.old.width call.now)
+        (λ c. machine_state_of p.new ≡ started (machine_state_of p.old) c) }
+    ensures next { result ≡ 0 → next.new ≡ shown_of p.old.procs None (next_access (machine_state_of p.new)) }
     ensures steps { result ≡ 0 → p.new.steps ≡ 0 }
     ensures refused { result ≢ 0 → (p.new ≡ p.old) × (next.new ≡ next.old) }
 {
@@ -114,9 +115,10 @@ fn any_start(p: &mut RmeProcess, call: &RmeCall, next: &mut RmeAccess) -> u64
 /// the call's code (13) or of the start, and changes nothing.
 #[unsafe(no_mangle)]
 pub extern "C" fn rme_start(p: &mut RmeProcess, call: &RmeCall, next: &mut RmeAccess) -> u64
-    ensures status { result ≡ code_of_refusal (start_cause (stand_of p.old) call.now) }
-    ensures started { result ≡ 0 → IfSome (call_by p.old.width call.now) (λ c. stand_of p.new ≡ started (stand_of p.old) c) }
-    ensures next { result ≡ 0 → next.new ≡ shown_of p.old.procs None (next_access (stand_of p.new)) }
+    ensures status { result ≡ code_of_refusal (start_cause (machine_state_of p.old) call.now) }
+    ensures started { result ≡ 0 → IfSome (call_by p.old.width call.now)
+        (λ c. machine_state_of p.new ≡ started (machine_state_of p.old) c) }
+    ensures next { result ≡ 0 → next.new ≡ shown_of p.old.procs None (next_access (machine_state_of p.new)) }
     ensures steps { result ≡ 0 → p.new.steps ≡ 0 }
     ensures refused { result ≢ 0 → (p.new ≡ p.old) × (next.new ≡ next.old) }
 {
@@ -129,16 +131,21 @@ pub extern "C" fn rme_start(p: &mut RmeProcess, call: &RmeCall, next: &mut RmeAc
 /// Takes a step of a script on the data words.
 // Inline: once in each script step.
 #[inline(always)]
-fn chore_feed(p: &mut RmeProcess, chore: Chore, value: u64, next: &mut RmeAccess) -> u64
-    requires here { position_of p.old ≡ PositionOf.Within chore }
-    requires fits { Fits p.old (PositionOf.Within chore) }
+fn script_position_feed(
+    p: &mut RmeProcess,
+    script_position: ScriptPosition,
+    value: u64,
+    next: &mut RmeAccess,
+) -> u64
+    requires here { position_of p.old ≡ PositionOf.Within script_position }
+    requires fits { Fits p.old (PositionOf.Within script_position) }
     requires eight { length p.old.value ≡ 8 }
     ensures { IsFed p.old value p.new next.old next.new result }
 {
     // For the proof alone: its value is read.
     let _whole = *p;
-    let (to, told) = chore_step(p, chore, value);
-    stand(p, to);
+    let (to, told) = script_position_step(p, script_position, value);
+    machine_state(p, to);
     p.steps = p.steps.saturating_add(1);
     tell(p.procs, told, next_at(p, to), next)
 }
@@ -147,8 +154,8 @@ fn chore_feed(p: &mut RmeProcess, chore: Chore, value: u64, next: &mut RmeAccess
 // Inline: once in each entry.
 #[inline(always)]
 fn check_feed(p: &mut RmeProcess, value: u64, steps: u64, next: &mut RmeAccess) -> u64
-    requires here { position_of p.old ≡ PositionOf.Within ChoreOf.Checking }
-    requires fits { Fits p.old (PositionOf.Within ChoreOf.Checking) }
+    requires here { position_of p.old ≡ PositionOf.Within ScriptPositionOf.Checking }
+    requires fits { Fits p.old (PositionOf.Within ScriptPositionOf.Checking) }
     requires eight { length p.old.value ≡ 8 }
     requires steps { steps ≡ p.old.steps + 1 }
     ensures { IsFed p.old value p.new next.old next.new result }
@@ -156,7 +163,7 @@ fn check_feed(p: &mut RmeProcess, value: u64, steps: u64, next: &mut RmeAccess) 
     // For the proof alone: its value is read.
     let _whole = *p;
     let (behind, told) = checked(p, value);
-    stand(p, behind);
+    machine_state(p, behind);
     p.steps = steps;
     tell(p.procs, told, next_at(p, behind), next)
 }
@@ -194,7 +201,7 @@ fn any_feed(p: &mut RmeProcess, value: u64, next: &mut RmeAccess) -> u64
             7
         }
         Position::Lock(stage) => whole_feed(p, stage, value, next),
-        Position::Within(chore) => chore_feed(p, chore, value, next),
+        Position::Within(script_position) => script_position_feed(p, script_position, value, next),
     }
 }
 
@@ -285,9 +292,9 @@ fn counted_feed(p: &mut RmeProcess, value: u64, steps: u64, next: &mut RmeAccess
 /// Names the next load or store in `next`, and answers 0. 7: no call is under way, and `next` stays as it was.
 #[unsafe(no_mangle)]
 pub extern "C" fn rme_next(p: &RmeProcess, next: &mut RmeAccess) -> u64
-    ensures status { result ≡ if is_none (next_access (stand_of p.now)) then 7 else 0 }
-    ensures access { IfSome (next_access (stand_of p.now)) (λ a. next.new ≡ wanted_of p.now.procs a) }
-    ensures idle { next_access (stand_of p.now) ≡ None → next.new ≡ next.old }
+    ensures status { result ≡ if is_none (next_access (machine_state_of p.now)) then 7 else 0 }
+    ensures access { IfSome (next_access (machine_state_of p.now)) (λ a. next.new ≡ wanted_of p.now.procs a) }
+    ensures idle { next_access (machine_state_of p.now) ≡ None → next.new ≡ next.old }
 {
     match next_at(p, position_now(p)) {
         Some(access) => {
@@ -304,12 +311,14 @@ pub extern "C" fn rme_next(p: &RmeProcess, next: &mut RmeAccess) -> u64
 /// word that was read.
 #[unsafe(no_mangle)]
 pub extern "C" fn rme_feed(p: &mut RmeProcess, value: u64, next: &mut RmeAccess) -> u64
-    ensures exact { stand_of p.new ≡ stepped (stand_of p.old) value }
-    ensures told { result ≡ told_of (stand_of p.old) value }
-    ensures next { result < 64 → next.new ≡ shown_of p.old.procs (outcome (stand_of p.old) (next_access (stand_of p.old)) value).answer (next_access (stand_of p.new)) }
+    ensures exact { machine_state_of p.new ≡ stepped (machine_state_of p.old) value }
+    ensures told { result ≡ told_of (machine_state_of p.old) value }
+    ensures next { result < 64 → next.new ≡ shown_of p.old.procs
+        (outcome (machine_state_of p.old) (next_access (machine_state_of p.old)) value).answer
+        (next_access (machine_state_of p.new)) }
     ensures kept { 64 ≤ result → next.new ≡ next.old }
     ensures few { result < 256 }
-    ensures steps { p.new.steps ≡ if is_none (next_access (stand_of p.old)) then p.old.steps else held (p.old.steps + 1) }
+    ensures steps { p.new.steps ≡ if is_none (next_access (machine_state_of p.old)) then p.old.steps else held (p.old.steps + 1) }
 {
     // For the proof alone: its value is read.
     let _whole = *p;
@@ -346,7 +355,8 @@ pub extern "C" fn rme_content_rule(
 ) -> u64
     ensures misfit { result ≡ 1 ↔ is_block_of (record { procs = procs; cap = cap; width = width }) limit words.now ≡ false }
     ensures lawful { result ≡ 0 → IsLawfulImage (image_of (record { procs = procs; cap = cap; width = width }) limit words.now) }
-    ensures broken { 2 ≤ result → result ≢ 16 → IsFirstBroken result (image_of (record { procs = procs; cap = cap; width = width }) limit words.now) }
+    ensures broken { 2 ≤ result → result ≢ 16 → IsFirstBroken result
+        (image_of (record { procs = procs; cap = cap; width = width }) limit words.now) }
 {
     let layout = Layout { procs, cap, width };
     if !is_block(layout, limit, words) {

@@ -6,12 +6,12 @@
 mod accesses;
 mod answers;
 mod blocks;
-mod chore;
 mod exports;
 mod lock_arms;
 mod lock_part;
 mod position;
 mod process;
 mod record;
+mod script_position;
 mod starts;
 mod steps;

@@ -6,8 +6,8 @@ ghost use Rattle.rmecore.specs.Place as PlaceOf;
 ghost use Rattle.rmecore.specs.Machine.{first as first_of, place_of, after_access, progress, next_access};
 ghost use Rattle.rmecore.specs.declared.stage.Stage.TheVariants as StageOf;
 ghost use Rattle.rmecore.specs.Refused.{is_idle};
-ghost use Rattle.rmeworld.specs.Stand.{next_access as next_access_of};
-ghost use Rattle.rme_c.specs.Positions.{standing_at, stand_at, position_of, Fits};
+ghost use Rattle.rmeworld.specs.MachineState.{next_access as next_access_of};
+ghost use Rattle.rme_c.specs.Positions.{standing_at, machine_state_at, position_of, Fits};
 ghost use Rattle.rme_c.specs.Steps.{IsLanding, IsFed};
 ghost use Rattle.rme_c.specs.declared.position.Position.TheVariants as Position;
 
@@ -113,9 +113,13 @@ fn after_door(
     requires below { p.old.index < p.old.procs }
     requires few { p.old.procs ≤ 64 }
     requires steps { steps ≡ p.old.steps + 1 }
-    ensures place { place_of p.old.procs p.old.index result.to ≡ after_access (standing_at p.old (StageOf.Door from greatest)) (next_access (standing_at p.old (StageOf.Door from greatest))) value }
-    ensures done { result.done ≡ (progress (standing_at p.old (StageOf.Door from greatest)) (next_access (standing_at p.old (StageOf.Door from greatest))) value).done }
-    ensures free { result.blocked ≡ (progress (standing_at p.old (StageOf.Door from greatest)) (next_access (standing_at p.old (StageOf.Door from greatest))) value).blocked }
+    ensures place { place_of p.old.procs p.old.index result.to
+        ≡ after_access (standing_at p.old (StageOf.Door from greatest))
+        (next_access (standing_at p.old (StageOf.Door from greatest))) value }
+    ensures done { result.done ≡ (progress (standing_at p.old (StageOf.Door from greatest))
+        (next_access (standing_at p.old (StageOf.Door from greatest))) value).done }
+    ensures free { result.blocked ≡ (progress (standing_at p.old (StageOf.Door from greatest))
+        (next_access (standing_at p.old (StageOf.Door from greatest))) value).blocked }
     ensures numbers { IsLanding p.old result p.new next.old next.new }
 {
     let own = p.index;
@@ -169,9 +173,13 @@ fn after_look(
     requires steps { steps ≡ p.old.steps + 1 }
     requires first { first_of (above p.old.procs p.old.index from) ≡ Some j }
     requires within { j < p.old.procs }
-    ensures place { place_of p.old.procs p.old.index result.to ≡ after_access (standing_at p.old (StageOf.Wait number from false)) (next_access (standing_at p.old (StageOf.Wait number from false))) value }
-    ensures done { result.done ≡ (progress (standing_at p.old (StageOf.Wait number from false)) (next_access (standing_at p.old (StageOf.Wait number from false))) value).done }
-    ensures blocked { result.blocked ≡ (progress (standing_at p.old (StageOf.Wait number from false)) (next_access (standing_at p.old (StageOf.Wait number from false))) value).blocked }
+    ensures place { place_of p.old.procs p.old.index result.to
+        ≡ after_access (standing_at p.old (StageOf.Wait number from false))
+        (next_access (standing_at p.old (StageOf.Wait number from false))) value }
+    ensures done { result.done ≡ (progress (standing_at p.old (StageOf.Wait number from false))
+        (next_access (standing_at p.old (StageOf.Wait number from false))) value).done }
+    ensures blocked { result.blocked ≡ (progress (standing_at p.old (StageOf.Wait number from false))
+        (next_access (standing_at p.old (StageOf.Wait number from false))) value).blocked }
     ensures numbers { IsLanding p.old result p.new next.old next.new }
 {
     let second = p.position.second;
@@ -208,9 +216,13 @@ fn after_weigh(
     requires steps { steps ≡ p.old.steps + 1 }
     requires first { first_of (above p.old.procs p.old.index from) ≡ Some j }
     requires within { j < p.old.procs }
-    ensures place { place_of p.old.procs p.old.index result.to ≡ after_access (standing_at p.old (StageOf.Wait number from true)) (next_access (standing_at p.old (StageOf.Wait number from true))) value }
-    ensures done { result.done ≡ (progress (standing_at p.old (StageOf.Wait number from true)) (next_access (standing_at p.old (StageOf.Wait number from true))) value).done }
-    ensures blocked { result.blocked ≡ (progress (standing_at p.old (StageOf.Wait number from true)) (next_access (standing_at p.old (StageOf.Wait number from true))) value).blocked }
+    ensures place { place_of p.old.procs p.old.index result.to
+        ≡ after_access (standing_at p.old (StageOf.Wait number from true))
+        (next_access (standing_at p.old (StageOf.Wait number from true))) value }
+    ensures done { result.done ≡ (progress (standing_at p.old (StageOf.Wait number from true))
+        (next_access (standing_at p.old (StageOf.Wait number from true))) value).done }
+    ensures blocked { result.blocked ≡ (progress (standing_at p.old (StageOf.Wait number from true))
+        (next_access (standing_at p.old (StageOf.Wait number from true))) value).blocked }
     ensures numbers { IsLanding p.old result p.new next.old next.new }
 {
     let second = p.position.second;
@@ -243,9 +255,13 @@ fn after_wait(
     requires below { p.old.index < p.old.procs }
     requires few { p.old.procs ≤ 64 }
     requires steps { steps ≡ p.old.steps + 1 }
-    ensures place { place_of p.old.procs p.old.index result.to ≡ after_access (standing_at p.old (StageOf.Wait number from looked)) (next_access (standing_at p.old (StageOf.Wait number from looked))) value }
-    ensures done { result.done ≡ (progress (standing_at p.old (StageOf.Wait number from looked)) (next_access (standing_at p.old (StageOf.Wait number from looked))) value).done }
-    ensures blocked { result.blocked ≡ (progress (standing_at p.old (StageOf.Wait number from looked)) (next_access (standing_at p.old (StageOf.Wait number from looked))) value).blocked }
+    ensures place { place_of p.old.procs p.old.index result.to
+        ≡ after_access (standing_at p.old (StageOf.Wait number from looked))
+        (next_access (standing_at p.old (StageOf.Wait number from looked))) value }
+    ensures done { result.done ≡ (progress (standing_at p.old (StageOf.Wait number from looked))
+        (next_access (standing_at p.old (StageOf.Wait number from looked))) value).done }
+    ensures blocked { result.blocked ≡ (progress (standing_at p.old (StageOf.Wait number from looked))
+        (next_access (standing_at p.old (StageOf.Wait number from looked))) value).blocked }
     ensures numbers { IsLanding p.old result p.new next.old next.new }
 {
     match first(p, from) {
@@ -259,13 +275,14 @@ fn after_wait(
 fn by_machine(p: &mut RmeProcess, stage: Stage, value: u64, next: &mut RmeAccess) -> Landing
     requires below { p.old.index < p.old.procs }
     requires few { p.old.procs ≤ 64 }
-    ensures place { place_of p.old.procs p.old.index result.to ≡ after_access (standing_at p.old stage) (next_access (standing_at p.old stage)) value }
+    ensures place { place_of p.old.procs p.old.index result.to
+        ≡ after_access (standing_at p.old stage) (next_access (standing_at p.old stage)) value }
     ensures done { result.done ≡ (progress (standing_at p.old stage) (next_access (standing_at p.old stage)) value).done }
     ensures blocked { result.blocked ≡ (progress (standing_at p.old stage) (next_access (standing_at p.old stage)) value).blocked }
     ensures numbers { IsLanding p.old result p.new next.old next.new }
 {
     let mut machine = LockProcess::new(p.procs, p.limit, p.index);
-    machine.seam_stand(stage);
+    machine.seam_machine_state(stage);
     let progress = machine.feed(value);
     lands(p, machine.stage(), progress.done, progress.blocked, next)
 }
@@ -283,9 +300,11 @@ fn scanned(
     requires below { p.old.index < p.old.procs }
     requires few { p.old.procs ≤ 64 }
     requires steps { steps ≡ p.old.steps + 1 }
-    ensures place { IfSome result (λ r. place_of p.old.procs p.old.index r.to ≡ after_access (standing_at p.old stage) (next_access (standing_at p.old stage)) value) }
+    ensures place { IfSome result (λ r. place_of p.old.procs p.old.index r.to
+        ≡ after_access (standing_at p.old stage) (next_access (standing_at p.old stage)) value) }
     ensures done { IfSome result (λ r. r.done ≡ (progress (standing_at p.old stage) (next_access (standing_at p.old stage)) value).done) }
-    ensures blocked { IfSome result (λ r. r.blocked ≡ (progress (standing_at p.old stage) (next_access (standing_at p.old stage)) value).blocked) }
+    ensures blocked { IfSome result (λ r. r.blocked ≡ (progress (standing_at p.old stage)
+        (next_access (standing_at p.old stage)) value).blocked) }
     ensures numbers { IfSome result (λ r. IsLanding p.old r p.new next.old next.new) }
     ensures busy { IfSome result (λ _. is_idle (place_of p.old.procs p.old.index stage) ≡ false) }
     ensures none { result ≡ None → (p.new ≡ p.old) × (next.new ≡ next.old) }
@@ -318,9 +337,11 @@ fn shortly(
     requires below { p.old.index < p.old.procs }
     requires few { p.old.procs ≤ 64 }
     requires steps { steps ≡ p.old.steps + 1 }
-    ensures place { IfSome result (λ r. place_of p.old.procs p.old.index r.to ≡ after_access (standing_at p.old stage) (next_access (standing_at p.old stage)) value) }
+    ensures place { IfSome result (λ r. place_of p.old.procs p.old.index r.to
+        ≡ after_access (standing_at p.old stage) (next_access (standing_at p.old stage)) value) }
     ensures done { IfSome result (λ r. r.done ≡ (progress (standing_at p.old stage) (next_access (standing_at p.old stage)) value).done) }
-    ensures blocked { IfSome result (λ r. r.blocked ≡ (progress (standing_at p.old stage) (next_access (standing_at p.old stage)) value).blocked) }
+    ensures blocked { IfSome result (λ r. r.blocked ≡ (progress (standing_at p.old stage)
+        (next_access (standing_at p.old stage)) value).blocked) }
     ensures numbers { IfSome result (λ r. IsLanding p.old r p.new next.old next.new) }
     ensures busy { IfSome result (λ _. is_idle (place_of p.old.procs p.old.index stage) ≡ false) }
     ensures none { result ≡ None → (p.new ≡ p.old) × (next.new ≡ next.old) }
@@ -447,7 +468,7 @@ pub fn quick_feed(
 pub fn lock_feed(p: &mut RmeProcess, stage: Stage, value: u64, next: &mut RmeAccess) -> u64
     requires here { position_of p.old ≡ Position.Lock stage }
     requires fits { Fits p.old (Position.Lock stage) }
-    requires busy { is_none (next_access_of (stand_at p.old (Position.Lock stage))) ≡ false }
+    requires busy { is_none (next_access_of (machine_state_at p.old (Position.Lock stage))) ≡ false }
     ensures { IsFed p.old value p.new next.old next.new result }
 {
     by_machine(p, stage, value, next).code

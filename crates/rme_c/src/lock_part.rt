@@ -5,17 +5,17 @@ ghost use Rattle.rmecore.specs.declared.core_done.CoreDone.TheVariants as DoneOf
 ghost use Rattle.rmecore.specs.declared.stage.Stage.TheVariants as StageOf;
 ghost use Rattle.rmeworld.specs.Entered.{mended_done, checks_done};
 ghost use Rattle.rmeworld.specs.Answered.{by_lock};
-ghost use Rattle.rmeworld.specs.Stand.{next_access as next_access_of};
+ghost use Rattle.rmeworld.specs.MachineState.{next_access as next_access_of};
 ghost use Rattle.rme_c.specs.Codes.{goes_as, shown as shown_by};
-ghost use Rattle.rme_c.specs.Positions.{landing, stage_of, stand_at, Fits};
+ghost use Rattle.rme_c.specs.Positions.{landing, stage_of, machine_state_at, Fits};
 ghost use Rattle.rme_c.specs.declared.position.Position.TheVariants as PositionOf;
 ghost use Rattle.rme_c.specs.Steps.{IsLanding};
 
 use crate::accesses::next_at;
 use crate::answers::{Told, tell};
-use crate::chore::Chore;
 use crate::position::{Position, numbers};
 use crate::process::{RmeAccess, RmePosition, RmeProcess};
+use crate::script_position::ScriptPosition;
 use crate::steps::check_next;
 use rmecore::{CoreDone, Found, Stage};
 use rmeworld::Answer;
@@ -83,7 +83,7 @@ fn behind(p: &RmeProcess, checks: bool, stage: Stage) -> Position
     // For the proof alone: its value is read.
     let _ = &p.index;
     if checks {
-        Position::Within(Chore::Checking)
+        Position::Within(ScriptPosition::Checking)
     } else {
         Position::Lock(stage)
     }
@@ -136,7 +136,7 @@ pub fn loads(
     requires few { p.old.procs ≤ 64 }
     requires steps { steps ≡ p.old.steps + 1 }
     requires stands { stage_of numbers ≡ Some to }
-    requires next { goes_as (next_access_of (stand_at p.old (PositionOf.Lock to))) ≡ 64 + place }
+    requires next { goes_as (next_access_of (machine_state_at p.old (PositionOf.Lock to))) ≡ 64 + place }
     requires word { place < 192 }
     ensures to { result.to ≡ to }
     ensures done { result.done ≡ None }
@@ -170,7 +170,8 @@ pub fn stays(
     requires few { p.old.procs ≤ 64 }
     requires steps { steps ≡ p.old.steps + 1 }
     requires stands { stage_of numbers ≡ Some to }
-    requires next { shown_by p.old.procs None (next_access_of (stand_at p.old (PositionOf.Lock to))) ≡ record { store = 0; place = place; value = 0 } }
+    requires next { shown_by p.old.procs None (next_access_of (machine_state_at p.old (PositionOf.Lock to)))
+        ≡ record { store = 0; place = place; value = 0 } }
     ensures to { result.to ≡ to }
     ensures done { result.done ≡ None }
     ensures blocked { result.blocked ≡ true }
@@ -207,8 +208,9 @@ pub fn stores(
     requires few { p.old.procs ≤ 64 }
     requires steps { steps ≡ p.old.steps + 1 }
     requires stands { stage_of numbers ≡ Some to }
-    requires goes { goes_as (next_access_of (stand_at p.old (PositionOf.Lock to))) ≡ 0 }
-    requires next { shown_by p.old.procs None (next_access_of (stand_at p.old (PositionOf.Lock to))) ≡ record { store = 1; place = place; value = value } }
+    requires goes { goes_as (next_access_of (machine_state_at p.old (PositionOf.Lock to))) ≡ 0 }
+    requires next { shown_by p.old.procs None (next_access_of (machine_state_at p.old (PositionOf.Lock to)))
+        ≡ record { store = 1; place = place; value = value } }
     ensures to { result.to ≡ to }
     ensures done { result.done ≡ None }
     ensures free { result.blocked ≡ false }
@@ -243,7 +245,7 @@ pub fn comes_in(p: &mut RmeProcess, steps: u64, next: &mut RmeAccess) -> Landing
 {
     let access = check_next(p);
     p.unmended = 0;
-    p.position = numbers(p.position, Position::Within(Chore::Checking));
+    p.position = numbers(p.position, Position::Within(ScriptPosition::Checking));
     p.steps = steps;
     let told = Told {
         answer: None,

@@ -34,7 +34,8 @@ pub fn put(
     requires lawful { IsLayout layout }
     requires below { sender < layout.procs }
     requires within { step < 8 + 2 * layout.width }
-    ensures { drop step (store_steps layout sender (record_of at seq (take layout.width words.now))) ≡ result ∷ drop (step + 1) (store_steps layout sender (record_of at seq (take layout.width words.now))) }
+    ensures { drop step (store_steps layout sender (record_of at seq (take layout.width words.now)))
+        ≡ result ∷ drop (step + 1) (store_steps layout sender (record_of at seq (take layout.width words.now))) }
 {
     let width = layout.width;
     let record_words = 2 + width;

@@ -3,16 +3,16 @@
 ghost use Rattle.std.specs.Prelude.{◌≡◌, ◌≤◌, ◌<◌, true, false, not, nat_lt, OnOk, OnErr, IfErr, IfSome, IsSome, IsTrue, Some, None, [], ◌∷◌, length, take};
 ghost use Rattle.redomail.specs.Layout.{IsLayout};
 ghost use Rattle.rmeworld.specs.Refused.{Needs, is_idle, is_inside, is_waiting, first_cause, start_refusal};
-ghost use Rattle.rmeworld.specs.Stand.{spot_of, started, next_access, IsSize};
+ghost use Rattle.rmeworld.specs.MachineState.{process_state_of, started, next_access, IsSize};
 ghost use Rattle.rme_c.specs.Codes.{shown as shown_of};
-ghost use Rattle.rme_c.specs.Positions.{stand_at, stand_of, layout_of, Fits};
+ghost use Rattle.rme_c.specs.Positions.{machine_state_at, machine_state_of, layout_of, Fits};
 ghost use Rattle.rme_c.specs.Starts.{size_cause, call_by, call_cause, start_cause};
 
 use crate::accesses::next_at;
 use crate::answers::shown;
-use crate::chore::Chore;
-use crate::position::{Position, layout, position_now, stand};
+use crate::position::{Position, layout, machine_state, position_now};
 use crate::process::{RmeAccess, RmeCall, RmeProcess};
+use crate::script_position::ScriptPosition;
 use redomail::Layout;
 use rmecore::simulated::{MOST_LIMIT, MOST_PROCS};
 use rmecore::{Body, CoreCall, Refusal, Stage};
@@ -69,7 +69,7 @@ pub fn call_of(width: u64, call: &RmeCall) -> Option<Call>
 
 /// What the refusals of a start need to know of a process.
 #[derive(Clone, Copy)]
-struct Seen {
+struct ObservedAnswer {
     idle: bool,
     inside: bool,
     waiting: bool,
@@ -77,10 +77,10 @@ struct Seen {
 
 // Inline: once in each C start.
 #[inline(always)]
-fn look_at(p: &RmeProcess, position: Position) -> Seen
-    ensures idle { result.idle ≡ is_idle (spot_of (stand_at p.now position)) }
-    ensures inside { result.inside ≡ is_inside (stand_at p.now position).lock }
-    ensures waiting { result.waiting ≡ is_waiting (stand_at p.now position).lock }
+fn look_at(p: &RmeProcess, position: Position) -> ObservedAnswer
+    ensures idle { result.idle ≡ is_idle (process_state_of (machine_state_at p.now position)) }
+    ensures inside { result.inside ≡ is_inside (machine_state_at p.now position).lock }
+    ensures waiting { result.waiting ≡ is_waiting (machine_state_at p.now position).lock }
 {
     // For the proof alone: its value is read.
     let _ = &p.index;
@@ -91,7 +91,7 @@ fn look_at(p: &RmeProcess, position: Position) -> Seen
         Position::Lock(_) => (false, false, false),
         Position::Within(_) => (false, true, false),
     };
-    Seen {
+    ObservedAnswer {
         idle,
         inside,
         waiting,
@@ -101,9 +101,10 @@ fn look_at(p: &RmeProcess, position: Position) -> Seen
 /// Refuses, unless the process is inside with no call under way.
 // Inline: once in each C start.
 #[inline(always)]
-fn holds(seen: Seen) -> Result<(), Refusal>
+fn holds(seen: ObservedAnswer) -> Result<(), Refusal>
     ensures accepted { OnOk result ((seen.idle ≡ true) × (seen.inside ≡ true)) }
-    ensures refused { IfErr result (λ e. (rest : Needs) → first_cause ((seen.idle, Refusal.CallUnderWay) ∷ (seen.inside, Refusal.NotOwner) ∷ rest) ≡ Some e) }
+    ensures refused { IfErr result (λ e. (rest : Needs) → first_cause
+        ((seen.idle, Refusal.CallUnderWay) ∷ (seen.inside, Refusal.NotOwner) ∷ rest) ≡ Some e) }
 {
     if !seen.idle {
         return Err(Refusal::CallUnderWay);
@@ -117,9 +118,10 @@ fn holds(seen: Seen) -> Result<(), Refusal>
 /// Refuses, unless the process is outside with no call under way.
 // Inline: once in each C start.
 #[inline(always)]
-fn may_come(seen: Seen) -> Result<(), Refusal>
+fn may_come(seen: ObservedAnswer) -> Result<(), Refusal>
     ensures accepted { OnOk result ((seen.idle ≡ true) × (seen.inside ≡ false)) }
-    ensures refused { IfErr result (λ e. first_cause ((seen.idle, Refusal.CallUnderWay) ∷ (not seen.inside, Refusal.AlreadyIn) ∷ []) ≡ Some e) }
+    ensures refused { IfErr result (λ e. first_cause ((seen.idle, Refusal.CallUnderWay)
+        ∷ (not seen.inside, Refusal.AlreadyIn) ∷ []) ≡ Some e) }
 {
     if !seen.idle {
         return Err(Refusal::CallUnderWay);
@@ -141,9 +143,11 @@ fn only(holds: bool, refusal: Refusal) -> Result<(), Refusal>
 }
 
 /// Refuses a call of the board that can't be started now.
-fn at_board(seen: Seen, i: u64) -> Result<(), Refusal>
-    ensures accepted { OnOk result (first_cause ((seen.idle, Refusal.CallUnderWay) ∷ (seen.inside, Refusal.NotOwner) ∷ (nat_lt i 4, Refusal.BadIndex) ∷ []) ≡ None) }
-    ensures refused { IfErr result (λ e. first_cause ((seen.idle, Refusal.CallUnderWay) ∷ (seen.inside, Refusal.NotOwner) ∷ (nat_lt i 4, Refusal.BadIndex) ∷ []) ≡ Some e) }
+fn at_board(seen: ObservedAnswer, i: u64) -> Result<(), Refusal>
+    ensures accepted { OnOk result (first_cause ((seen.idle, Refusal.CallUnderWay) ∷ (seen.inside, Refusal.NotOwner)
+        ∷ (nat_lt i 4, Refusal.BadIndex) ∷ []) ≡ None) }
+    ensures refused { IfErr result (λ e. first_cause ((seen.idle, Refusal.CallUnderWay) ∷ (seen.inside, Refusal.NotOwner)
+        ∷ (nat_lt i 4, Refusal.BadIndex) ∷ []) ≡ Some e) }
 {
     if !seen.idle {
         return Err(Refusal::CallUnderWay);
@@ -158,8 +162,9 @@ fn at_board(seen: Seen, i: u64) -> Result<(), Refusal>
 // Inline: once in each C start.
 #[inline(always)]
 fn check(p: &RmeProcess, position: Position, call: &Call) -> Result<(), Refusal>
-    ensures accepted { OnOk result (start_refusal (layout_of p.now) (spot_of (stand_at p.now position)) call.now ≡ None) }
-    ensures refused { IfErr result (λ e. start_refusal (layout_of p.now) (spot_of (stand_at p.now position)) call.now ≡ Some e) }
+    ensures accepted { OnOk result (start_refusal (layout_of p.now) (process_state_of (machine_state_at p.now position)) call.now ≡ None) }
+    ensures refused { IfErr result (λ e. start_refusal (layout_of p.now) (process_state_of (machine_state_at p.now position))
+        call.now ≡ Some e) }
 {
     let seen = look_at(p, position);
     let mended = p.unmended == 0;
@@ -199,10 +204,10 @@ fn words(value: Body) -> [u64; 8]
 // Inline: once in each C start.
 #[inline(always)]
 fn begin(p: &mut RmeProcess, position: Position, call: Call) -> Position
-    requires allowed { start_refusal (layout_of p.old) (spot_of (stand_at p.old position)) call ≡ None }
+    requires allowed { start_refusal (layout_of p.old) (process_state_of (machine_state_at p.old position)) call ≡ None }
     requires lawful { IsLayout (layout_of p.old) }
     requires below { p.old.index < p.old.procs }
-    ensures exact { stand_at p.new result ≡ started (stand_at p.old position) call }
+    ensures exact { machine_state_at p.new result ≡ started (machine_state_at p.old position) call }
     ensures fits { Fits p.new result }
     ensures same { p.new ≡ record p.old { barred = p.new.barred; value = p.new.value } }
 {
@@ -216,15 +221,15 @@ fn begin(p: &mut RmeProcess, position: Position, call: Call) -> Position
         }),
         Call::Withdraw => Position::Lock(Stage::Withdrawing),
         Call::Unlock if p.unmended == 0 => Position::Lock(Stage::Leaving),
-        Call::Unlock => Position::Within(Chore::Ruining),
-        Call::Consistent => Position::Within(Chore::Asking),
+        Call::Unlock => Position::Within(ScriptPosition::Ruining),
+        Call::Consistent => Position::Within(ScriptPosition::Asking),
         Call::Append { seq, value } => {
             p.value = words(value);
-            Position::Within(Chore::Closed { seq })
+            Position::Within(ScriptPosition::Closed { seq })
         }
-        Call::Close => Position::Within(Chore::Closing),
-        Call::Get(i) => Position::Within(Chore::Getting { i }),
-        Call::Put(i, v) => Position::Within(Chore::Putting { i, v }),
+        Call::Close => Position::Within(ScriptPosition::Closing),
+        Call::Get(i) => Position::Within(ScriptPosition::Getting { i }),
+        Call::Put(i, v) => Position::Within(ScriptPosition::Putting { i, v }),
     }
 }
 
@@ -234,17 +239,17 @@ fn begin(p: &mut RmeProcess, position: Position, call: Call) -> Position
 fn start_read(p: &mut RmeProcess, call: Call, next: &mut RmeAccess) -> Result<(), Refusal>
     requires sized { IsSize (layout_of p.old) }
     requires below { p.old.index < p.old.procs }
-    ensures accepted { OnOk result (call_cause (stand_of p.old) (Some call) ≡ None) }
-    ensures refused { IfErr result (λ e. call_cause (stand_of p.old) (Some call) ≡ Some e) }
-    ensures started { OnOk result (stand_of p.new ≡ started (stand_of p.old) call) }
+    ensures accepted { OnOk result (call_cause (machine_state_of p.old) (Some call) ≡ None) }
+    ensures refused { IfErr result (λ e. call_cause (machine_state_of p.old) (Some call) ≡ Some e) }
+    ensures started { OnOk result (machine_state_of p.new ≡ started (machine_state_of p.old) call) }
     ensures fresh { OnOk result (p.new.steps ≡ 0) }
-    ensures next { OnOk result (next.new ≡ shown_of p.old.procs None (next_access (stand_of p.new))) }
+    ensures next { OnOk result (next.new ≡ shown_of p.old.procs None (next_access (machine_state_of p.new))) }
     ensures err { OnErr result ((p.new ≡ p.old) × (next.new ≡ next.old)) }
 {
     let here = position_now(p);
     check(p, here, &call)?;
     let to = begin(p, here, call);
-    stand(p, to);
+    machine_state(p, to);
     p.steps = 0;
     *next = shown(p.procs, None, next_at(p, to));
     Ok(())
@@ -256,10 +261,11 @@ fn start_read(p: &mut RmeProcess, call: Call, next: &mut RmeAccess) -> Result<()
 fn start_any(p: &mut RmeProcess, call: &RmeCall, next: &mut RmeAccess) -> Option<Refusal>
     requires sized { IsSize (layout_of p.old) }
     requires below { p.old.index < p.old.procs }
-    ensures cause { result ≡ call_cause (stand_of p.old) (call_by p.old.width call.now) }
-    ensures started { result ≡ None → IfSome (call_by p.old.width call.now) (λ c. stand_of p.new ≡ started (stand_of p.old) c) }
+    ensures cause { result ≡ call_cause (machine_state_of p.old) (call_by p.old.width call.now) }
+    ensures started { result ≡ None → IfSome (call_by p.old.width call.now)
+        (λ c. machine_state_of p.new ≡ started (machine_state_of p.old) c) }
     ensures fresh { result ≡ None → p.new.steps ≡ 0 }
-    ensures next { result ≡ None → next.new ≡ shown_of p.old.procs None (next_access (stand_of p.new)) }
+    ensures next { result ≡ None → next.new ≡ shown_of p.old.procs None (next_access (machine_state_of p.new)) }
     ensures refused { IsSome result → (p.new ≡ p.old) × (next.new ≡ next.old) }
 {
     match call_of(p.width, call) {
@@ -287,10 +293,11 @@ pub fn quick_start(
     call: &RmeCall,
     next: &mut RmeAccess,
 ) -> Option<Option<Refusal>>
-    ensures cause { IfSome result (λ r. r ≡ start_cause (stand_of p.old) call.now) }
-    ensures started { result ≡ Some None → IfSome (call_by p.old.width call.now) (λ c. stand_of p.new ≡ started (stand_of p.old) c) }
+    ensures cause { IfSome result (λ r. r ≡ start_cause (machine_state_of p.old) call.now) }
+    ensures started { result ≡ Some None → IfSome (call_by p.old.width call.now)
+        (λ c. machine_state_of p.new ≡ started (machine_state_of p.old) c) }
     ensures fresh { result ≡ Some None → p.new.steps ≡ 0 }
-    ensures next { result ≡ Some None → next.new ≡ shown_of p.old.procs None (next_access (stand_of p.new)) }
+    ensures next { result ≡ Some None → next.new ≡ shown_of p.old.procs None (next_access (machine_state_of p.new)) }
     ensures refused { IfSome result (λ r. IsSome r → (p.new ≡ p.old) × (next.new ≡ next.old)) }
     ensures other { result ≡ None → (p.new ≡ p.old) × (next.new ≡ next.old) }
 {
@@ -307,10 +314,11 @@ pub fn quick_start(
 // Inline: once in each C start.
 #[inline(always)]
 pub fn start(p: &mut RmeProcess, call: &RmeCall, next: &mut RmeAccess) -> Option<Refusal>
-    ensures cause { result ≡ start_cause (stand_of p.old) call.now }
-    ensures started { result ≡ None → IfSome (call_by p.old.width call.now) (λ c. stand_of p.new ≡ started (stand_of p.old) c) }
+    ensures cause { result ≡ start_cause (machine_state_of p.old) call.now }
+    ensures started { result ≡ None → IfSome (call_by p.old.width call.now)
+        (λ c. machine_state_of p.new ≡ started (machine_state_of p.old) c) }
     ensures fresh { result ≡ None → p.new.steps ≡ 0 }
-    ensures next { result ≡ None → next.new ≡ shown_of p.old.procs None (next_access (stand_of p.new)) }
+    ensures next { result ≡ None → next.new ≡ shown_of p.old.procs None (next_access (machine_state_of p.new)) }
     ensures refused { IsSome result → (p.new ≡ p.old) × (next.new ≡ next.old) }
 {
     let refused = size_refusal(layout(p), p.limit, p.index);

@@ -7,17 +7,17 @@ ghost use Rattle.rmecore.specs.declared.kind.Kind.TheVariants as KindOf;
 ghost use Rattle.rmecore.specs.declared.stage.Stage.TheVariants as StageOf;
 ghost use Rattle.rmecore.specs.declared.word.Word.TheVariants as WordOf;
 ghost use Rattle.rmeworld.specs.declared.answer.Answer.TheVariants as AnswerOf;
-ghost use Rattle.rmeworld.specs.Stand.{next_access, InWords};
-ghost use Rattle.rme_c.specs.Positions.{stand_at, Fits};
+ghost use Rattle.rmeworld.specs.MachineState.{next_access, InWords};
+ghost use Rattle.rme_c.specs.Positions.{machine_state_at, Fits};
 ghost use Rattle.rme_c.specs.Steps.{IsStep};
 ghost use Rattle.rme_c.specs.declared.position.Position.TheVariants as Position;
-ghost use Rattle.rme_c.specs.declared.chore.Chore.TheVariants as Chore;
+ghost use Rattle.rme_c.specs.declared.script_position.ScriptPosition.TheVariants as ScriptPosition;
 
 use crate::answers::Told;
-use crate::chore::Chore;
 use crate::position::{Position, layout};
 use crate::process::RmeProcess;
 use crate::record::put;
+use crate::script_position::ScriptPosition;
 use redomail::Reply;
 use redomail::layout::{ARMED, CLOSED, COUNT, RECORD, RUINED};
 use rmecore::{Access, Kind, Stage, Word};
@@ -36,8 +36,8 @@ fn get(i: u64) -> Access
 // Inline: once in each entry.
 #[inline(always)]
 pub fn check_next(p: &RmeProcess) -> Access
-    requires { Fits p.now (Position.Within Chore.Checking) }
-    ensures next { next_access (stand_at p.now (Position.Within Chore.Checking)) ≡ Some result }
+    requires { Fits p.now (Position.Within ScriptPosition.Checking) }
+    ensures next { next_access (machine_state_at p.now (Position.Within ScriptPosition.Checking)) ≡ Some result }
     ensures word { InWords p.now.procs (word_of result) }
 {
     // For the proof alone: its value is read.
@@ -46,28 +46,32 @@ pub fn check_next(p: &RmeProcess) -> Access
 }
 
 /// The next access of a script.
-pub fn chore_next(p: &RmeProcess, chore: Chore) -> Access
-    requires { Fits p.now (Position.Within chore) }
-    ensures next { next_access (stand_at p.now (Position.Within chore)) ≡ Some result }
+pub fn script_position_next(p: &RmeProcess, script_position: ScriptPosition) -> Access
+    requires { Fits p.now (Position.Within script_position) }
+    ensures next { next_access (machine_state_at p.now (Position.Within script_position)) ≡ Some result }
     ensures word { InWords p.now.procs (word_of result) }
 {
-    match chore {
-        Chore::Asking | Chore::Checking => get(RUINED),
-        Chore::Ruining => Access::Store(Kind::Put, Word::Data(RUINED), 1),
-        Chore::Armed => get(ARMED),
-        Chore::At => get(RECORD),
-        Chore::Seq { .. } => get(RECORD + 1),
-        Chore::Value { read, .. } => get(RECORD + 2 + read),
-        Chore::Redo { at, seq, step } | Chore::Store { at, seq, step } => {
+    match script_position {
+        ScriptPosition::Asking | ScriptPosition::Checking => get(RUINED),
+        ScriptPosition::Ruining => Access::Store(Kind::Put, Word::Data(RUINED), 1),
+        ScriptPosition::Armed => get(ARMED),
+        ScriptPosition::At => get(RECORD),
+        ScriptPosition::Seq { .. } => get(RECORD + 1),
+        ScriptPosition::Value { read, .. } => get(RECORD + 2 + read),
+        ScriptPosition::Redo { at, seq, step } | ScriptPosition::Store { at, seq, step } => {
             let (i, v) = put(layout(p), p.index, at, seq, &p.value, step);
             Access::Store(Kind::Put, Word::Data(i), v)
         }
-        Chore::Closed { .. } | Chore::Closing => get(CLOSED),
-        Chore::Count { .. } => get(COUNT),
-        Chore::Last { .. } => get(layout(p).last(p.index)),
-        Chore::Close => Access::Store(Kind::Put, Word::Data(CLOSED), 1),
-        Chore::Getting { i } => get(layout(p).board(i)),
-        Chore::Putting { i, v } => Access::Store(Kind::Put, Word::Data(layout(p).board(i)), v),
+        ScriptPosition::Closed { .. } | ScriptPosition::Closing => get(CLOSED),
+        ScriptPosition::Count { .. } => get(COUNT),
+        ScriptPosition::Last { .. } => get(layout(p).last(p.index)),
+        ScriptPosition::Close => Access::Store(Kind::Put, Word::Data(CLOSED), 1),
+        ScriptPosition::Getting { i } => get(layout(p).board(i)),
+        ScriptPosition::Putting { i, v } => Access::Store(
+            Kind::Put,
+            Word::Data(layout(p).board(i)),
+            v,
+        ),
     }
 }
 
@@ -109,22 +113,22 @@ fn leaves() -> (Position, Told)
 /// The call goes on with this script state.
 // Inline: once in each script step.
 #[inline(always)]
-fn on(chore: Chore) -> (Position, Told)
-    ensures { result ≡ (Position.Within chore, record { answer = None; blocked = false }) }
+fn on(script_position: ScriptPosition) -> (Position, Told)
+    ensures { result ≡ (Position.Within script_position, record { answer = None; blocked = false }) }
 {
     let told = Told {
         answer: None,
         blocked: false,
     };
-    (Position::Within(chore), told)
+    (Position::Within(script_position), told)
 }
 
 /// After the ruin check that follows an entry.
 // Inline: once in each entry.
 #[inline(always)]
 pub fn checked(p: &mut RmeProcess, value: u64) -> (Position, Told)
-    requires { Fits p.old (Position.Within Chore.Checking) }
-    ensures step { IsStep p.old (Position.Within Chore.Checking) value p.new result.0 result.1 }
+    requires { Fits p.old (Position.Within ScriptPosition.Checking) }
+    ensures step { IsStep p.old (Position.Within ScriptPosition.Checking) value p.new result.0 result.1 }
     ensures same { p.new ≡ record p.old { barred = p.new.barred } }
 {
     if value == 1 {
@@ -140,8 +144,8 @@ pub fn checked(p: &mut RmeProcess, value: u64) -> (Position, Told)
 
 /// After the get of ruined with which `consistent` begins: unless the lock is ruined, the repair is next.
 fn asked(p: &mut RmeProcess, value: u64) -> (Position, Told)
-    requires { Fits p.old (Position.Within Chore.Asking) }
-    ensures step { IsStep p.old (Position.Within Chore.Asking) value p.new result.0 result.1 }
+    requires { Fits p.old (Position.Within ScriptPosition.Asking) }
+    ensures step { IsStep p.old (Position.Within ScriptPosition.Asking) value p.new result.0 result.1 }
     ensures same { p.new ≡ p.old }
 {
     // For the proof alone: its value is read.
@@ -149,39 +153,39 @@ fn asked(p: &mut RmeProcess, value: u64) -> (Position, Told)
     if value == 1 {
         ends(Stage::Inside, Answer::NotRecoverable)
     } else {
-        on(Chore::Armed)
+        on(ScriptPosition::Armed)
     }
 }
 
 /// After the get of armed.
 fn armed(p: &mut RmeProcess, value: u64) -> (Position, Told)
-    requires { Fits p.old (Position.Within Chore.Armed) }
-    ensures step { IsStep p.old (Position.Within Chore.Armed) value p.new result.0 result.1 }
+    requires { Fits p.old (Position.Within ScriptPosition.Armed) }
+    ensures step { IsStep p.old (Position.Within ScriptPosition.Armed) value p.new result.0 result.1 }
     ensures same { p.new ≡ record p.old { unmended = p.new.unmended } }
 {
     if value == 0 {
         p.unmended = 0;
         return replied(Reply::Mended(false));
     }
-    on(Chore::At)
+    on(ScriptPosition::At)
 }
 
 /// After the get of one more word of the record's value.
 fn read_on(p: &mut RmeProcess, at: u64, seq: u64, read: u64, value: u64) -> (Position, Told)
-    requires fits { Fits p.old (Position.Within (Chore.Value at seq read)) }
+    requires fits { Fits p.old (Position.Within (ScriptPosition.Value at seq read)) }
     requires eight { length p.old.value ≡ 8 }
-    ensures step { IsStep p.old (Position.Within (Chore.Value at seq read)) value p.new result.0 result.1 }
+    ensures step { IsStep p.old (Position.Within (ScriptPosition.Value at seq read)) value p.new result.0 result.1 }
     ensures same { p.new ≡ record p.old { value = p.new.value } }
 {
     p.value[read as usize] = value;
     if read + 1 < p.width {
-        return on(Chore::Value {
+        return on(ScriptPosition::Value {
             at,
             seq,
             read: read + 1,
         });
     }
-    on(Chore::Redo {
+    on(ScriptPosition::Redo {
         at,
         seq,
         step: 3 + p.width,
@@ -190,15 +194,15 @@ fn read_on(p: &mut RmeProcess, at: u64, seq: u64, read: u64, value: u64) -> (Pos
 
 /// After a put of a record that is stored again.
 fn redone(p: &mut RmeProcess, at: u64, seq: u64, step: u64, value: u64) -> (Position, Told)
-    requires fits { Fits p.old (Position.Within (Chore.Redo at seq step)) }
+    requires fits { Fits p.old (Position.Within (ScriptPosition.Redo at seq step)) }
     requires eight { length p.old.value ≡ 8 }
-    ensures step { IsStep p.old (Position.Within (Chore.Redo at seq step)) value p.new result.0 result.1 }
+    ensures step { IsStep p.old (Position.Within (ScriptPosition.Redo at seq step)) value p.new result.0 result.1 }
     ensures same { p.new ≡ record p.old { unmended = p.new.unmended } }
 {
     // For the proof alone: its value is read.
     let _ = value;
     if step + 1 < 8 + 2 * p.width {
-        return on(Chore::Redo {
+        return on(ScriptPosition::Redo {
             at,
             seq,
             step: step + 1,
@@ -210,8 +214,8 @@ fn redone(p: &mut RmeProcess, at: u64, seq: u64, step: u64, value: u64) -> (Posi
 
 /// What an append does once it has read the three words.
 fn decided(p: &mut RmeProcess, seq: u64, closed: u64, count: u64, last: u64) -> (Position, Told)
-    requires { Fits p.old (Position.Within (Chore.Last seq closed count)) }
-    ensures step { IsStep p.old (Position.Within (Chore.Last seq closed count)) last p.new result.0 result.1 }
+    requires { Fits p.old (Position.Within (ScriptPosition.Last seq closed count)) }
+    ensures step { IsStep p.old (Position.Within (ScriptPosition.Last seq closed count)) last p.new result.0 result.1 }
     ensures same { p.new ≡ p.old }
 {
     if seq == 0 {
@@ -225,7 +229,7 @@ fn decided(p: &mut RmeProcess, seq: u64, closed: u64, count: u64, last: u64) -> 
     } else if count == p.cap {
         replied(Reply::Full)
     } else {
-        on(Chore::Store {
+        on(ScriptPosition::Store {
             at: count,
             seq,
             step: 0,
@@ -235,16 +239,16 @@ fn decided(p: &mut RmeProcess, seq: u64, closed: u64, count: u64, last: u64) -> 
 
 /// After a put of a message that is stored.
 fn stored(p: &mut RmeProcess, at: u64, seq: u64, step: u64, value: u64) -> (Position, Told)
-    requires fits { Fits p.old (Position.Within (Chore.Store at seq step)) }
+    requires fits { Fits p.old (Position.Within (ScriptPosition.Store at seq step)) }
     requires eight { length p.old.value ≡ 8 }
-    ensures step { IsStep p.old (Position.Within (Chore.Store at seq step)) value p.new result.0 result.1 }
+    ensures step { IsStep p.old (Position.Within (ScriptPosition.Store at seq step)) value p.new result.0 result.1 }
     ensures same { p.new ≡ p.old }
 {
     // For the proof alone: its value is read.
     let _ = value;
     let behind = step + 1;
     if behind < 8 + 2 * p.width {
-        return on(Chore::Store {
+        return on(ScriptPosition::Store {
             at,
             seq,
             step: behind,
@@ -254,37 +258,41 @@ fn stored(p: &mut RmeProcess, at: u64, seq: u64, step: u64, value: u64) -> (Posi
 }
 
 /// Takes a step of a script.
-pub fn chore_step(p: &mut RmeProcess, chore: Chore, value: u64) -> (Position, Told)
-    requires fits { Fits p.old (Position.Within chore) }
+pub fn script_position_step(
+    p: &mut RmeProcess,
+    script_position: ScriptPosition,
+    value: u64,
+) -> (Position, Told)
+    requires fits { Fits p.old (Position.Within script_position) }
     requires eight { length p.old.value ≡ 8 }
-    ensures step { IsStep p.old (Position.Within chore) value p.new result.0 result.1 }
+    ensures step { IsStep p.old (Position.Within script_position) value p.new result.0 result.1 }
     ensures same { p.new ≡ record p.old { unmended = p.new.unmended; barred = p.new.barred; value = p.new.value } }
 {
-    match chore {
-        Chore::Asking => asked(p, value),
-        Chore::Checking => checked(p, value),
-        Chore::Ruining => leaves(),
-        Chore::Armed => armed(p, value),
-        Chore::At => on(Chore::Seq { at: value }),
-        Chore::Seq { at } => on(Chore::Value {
+    match script_position {
+        ScriptPosition::Asking => asked(p, value),
+        ScriptPosition::Checking => checked(p, value),
+        ScriptPosition::Ruining => leaves(),
+        ScriptPosition::Armed => armed(p, value),
+        ScriptPosition::At => on(ScriptPosition::Seq { at: value }),
+        ScriptPosition::Seq { at } => on(ScriptPosition::Value {
             at,
             seq: value,
             read: 0,
         }),
-        Chore::Value { at, seq, read } => read_on(p, at, seq, read, value),
-        Chore::Redo { at, seq, step } => redone(p, at, seq, step, value),
-        Chore::Closed { seq } => on(Chore::Count { seq, closed: value }),
-        Chore::Count { seq, closed } => on(Chore::Last {
+        ScriptPosition::Value { at, seq, read } => read_on(p, at, seq, read, value),
+        ScriptPosition::Redo { at, seq, step } => redone(p, at, seq, step, value),
+        ScriptPosition::Closed { seq } => on(ScriptPosition::Count { seq, closed: value }),
+        ScriptPosition::Count { seq, closed } => on(ScriptPosition::Last {
             seq,
             closed,
             count: value,
         }),
-        Chore::Last { seq, closed, count } => decided(p, seq, closed, count, value),
-        Chore::Store { at, seq, step } => stored(p, at, seq, step, value),
-        Chore::Closing if value == 1 => replied(Reply::AlreadyClosed),
-        Chore::Closing => on(Chore::Close),
-        Chore::Close => replied(Reply::ClosedNow),
-        Chore::Getting { .. } => replied(Reply::Word(value)),
-        Chore::Putting { .. } => replied(Reply::Done),
+        ScriptPosition::Last { seq, closed, count } => decided(p, seq, closed, count, value),
+        ScriptPosition::Store { at, seq, step } => stored(p, at, seq, step, value),
+        ScriptPosition::Closing if value == 1 => replied(Reply::AlreadyClosed),
+        ScriptPosition::Closing => on(ScriptPosition::Close),
+        ScriptPosition::Close => replied(Reply::ClosedNow),
+        ScriptPosition::Getting { .. } => replied(Reply::Word(value)),
+        ScriptPosition::Putting { .. } => replied(Reply::Done),
     }
 }

@@ -5,7 +5,7 @@ use thiserror::Error;
 
 /// Why the work wasn't done.
 #[derive(Clone, Copy, Debug, PartialEq, Eq, Error)]
-pub enum Fault {
+pub enum RunningJudgeFault {
     #[error("out of memory")]
     OutOfMemory,
     /// A call of a member had a fault.

@@ -7,7 +7,7 @@ mod order;
 mod tests;
 mod work;
 
-use crate::fault::Fault;
+use crate::fault::RunningJudgeFault;
 use crate::order::Order;
 use crate::work::done;
 use std::alloc::Global;
@@ -24,14 +24,14 @@ fn words_given<R: Env + Alloc<A = Global>>(rt: &R) -> io::Result<Vec<String>> {
     Ok(std::env::args(rt)?.collect(rt.alloc())?)
 }
 
-fn told<R: Eprint>(rt: &R, fault: Fault) -> ExitCode {
+fn told<R: Eprint>(rt: &R, fault: RunningJudgeFault) -> ExitCode {
     let _ = eprintln!(rt; "rmebench: {fault}");
     ExitCode::from(3)
 }
 
 fn main(rt: HostRuntime) -> ExitCode {
     let Ok(words) = words_given(&rt) else {
-        return told(&rt, Fault::OutOfMemory);
+        return told(&rt, RunningJudgeFault::OutOfMemory);
     };
     let Some(order) = Order::of_words(&words) else {
         let _ = eprintln!(rt; "{USAGE}");

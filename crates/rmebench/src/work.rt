@@ -3,7 +3,7 @@
 ghost use Rattle.std.specs.Prelude.{◌≡◌, ◌≤◌, IfOk};
 ghost use Rattle.rmebench.specs.Sizes.{IsFit};
 
-use crate::fault::Fault;
+use crate::fault::RunningJudgeFault;
 use crate::order::{MOST_MESSAGES, Order};
 use crash_plans::Never;
 use redomail::Reply;
@@ -18,7 +18,11 @@ use std::thread::Threads;
 const MOST: u64 = 1 << 62;
 
 /// Does the work, and answers how many entries or messages there were. A fault says why the work stopped early.
-pub fn done<R: Threads + Wait + Sync>(rt: &R, alloc: Global, order: Order) -> Result<u64, Fault>
+pub fn done<R: Threads + Wait + Sync>(
+    rt: &R,
+    alloc: Global,
+    order: Order,
+) -> Result<u64, RunningJudgeFault>
     requires { IsFit order }
 {
     match order {
@@ -38,17 +42,22 @@ pub fn done<R: Threads + Wait + Sync>(rt: &R, alloc: Global, order: Order) -> Re
             let mut members = members(rt, alloc, procs, width)?;
             match members.pop() {
                 Some(mut member) => send(rt, &mut member, width, rounds),
-                None => Err(Fault::OutOfMemory),
+                None => Err(RunningJudgeFault::OutOfMemory),
             }
         }
     }
 }
 
 /// A member for each process of a new arena.
-fn members<R>(rt: &R, alloc: Global, procs: u64, width: u64) -> Result<Vec<Member>, Fault> {
+fn members<R>(
+    rt: &R,
+    alloc: Global,
+    procs: u64,
+    width: u64,
+) -> Result<Vec<Member>, RunningJudgeFault> {
     match Arena::new(rt, alloc, procs, MOST, MOST_MESSAGES, width) {
         Ok(members) => Ok(members),
-        Err(_) => Err(Fault::OutOfMemory),
+        Err(_) => Err(RunningJudgeFault::OutOfMemory),
     }
 }
 
@@ -72,17 +81,17 @@ fn enter_all<R: Threads + Wait + Sync>(
     mut members: Vec<Member>,
     threads: u64,
     rounds: u64,
-) -> Result<u64, Fault> {
+) -> Result<u64, RunningJudgeFault> {
     members.truncate(threads as usize);
     let work = |member: Member| -> Result<u64, LockFault> { enter(rt, member, rounds) };
     let Ok(ended) = thread::map_vec(rt, members, &work) else {
-        return Err(Fault::OutOfMemory);
+        return Err(RunningJudgeFault::OutOfMemory);
     };
     let mut count = 0u64;
     for end in ended {
         match end {
             Ok(entries) => count = count.saturating_add(entries),
-            Err(fault) => return Err(Fault::Lock(fault)),
+            Err(fault) => return Err(RunningJudgeFault::Lock(fault)),
         }
     }
     Ok(count)
@@ -90,7 +99,12 @@ fn enter_all<R: Threads + Wait + Sync>(
 
 /// Appends `rounds` messages, numbered from 1, and counts those that were stored. `Refused`: a message wasn't stored.
 /// `Lock`: a call had this fault.
-pub fn send<R: Wait>(rt: &R, member: &mut Member, width: u64, rounds: u64) -> Result<u64, Fault>
+pub fn send<R: Wait>(
+    rt: &R,
+    member: &mut Member,
+    width: u64,
+    rounds: u64,
+) -> Result<u64, RunningJudgeFault>
     requires least { 1 ≤ width }
     requires most { width ≤ 8 }
     requires rounds { rounds ≤ 65536 }
@@ -104,8 +118,8 @@ pub fn send<R: Wait>(rt: &R, member: &mut Member, width: u64, rounds: u64) -> Re
     for seq in 1..rounds + 1 {
         match member.append(rt, seq, value, &mut plan) {
             Ok(Reply::Stored) => stored += 1,
-            Ok(_) => return Err(Fault::Refused),
-            Err(fault) => return Err(Fault::Lock(fault)),
+            Ok(_) => return Err(RunningJudgeFault::Refused),
+            Err(fault) => return Err(RunningJudgeFault::Lock(fault)),
         }
     }
     Ok(stored)

@@ -125,9 +125,9 @@ plain_counted (Wait k' unpassed looked) k q h = tt
 plain_counted _ k q h = tt
 
 -- p reaches a plain place with the same number
-pub quiet : {n : ℕ} {w : World} {a : Abstract} {p : ℕ} {x : Own} {s : Place} → Here n w a p x s → (x' : Own) (s' : Place) (phase : ℕ → Phase) → Plain s' → Fits x' s' → phase p ≡ phase_of x' s' → ((q : ℕ) → q ≢ p → phase q ≡ a.phase q)
+pub silent : {n : ℕ} {w : World} {a : Abstract} {p : ℕ} {x : Own} {s : Place} → Here n w a p x s → (x' : Own) (s' : Place) (phase : ℕ → Phase) → Plain s' → Fits x' s' → phase p ≡ phase_of x' s' → ((q : ℕ) → q ≢ p → phase q ≡ a.phase q)
     → x'.number ≡ x.number → (0 < x.number → x'.inside ≡ x.inside) → Here n w (record { phase = phase; ahead = a.ahead }) p x' s'
-quiet h x' s' phase plain fits mine rest number inside =
+silent h x' s' phase plain fits mine rest number inside =
     calm h x' s' phase fits mine rest
     (λ i below ne k. goes_on k x' s' number inside (λ e. absurd (plain_past s' i plain e)) (λ e. absurd (plain_look s' i plain e)))
     (λ q below ne k. stays_behind k x' s' (λ c. plain_counted s' _ q plain) (λ c. rw number c.less))

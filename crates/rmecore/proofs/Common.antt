@@ -25,7 +25,7 @@ pub use Rattle.rmecore.specs.OwnSteps.{most_steps, own_steps}
 pub use Rattle.rmecore.specs.Paid.{is_glance, Distinct, Pays, ReadsBegun}
 pub use Rattle.rmecore.specs.Place.{Place, Rest, Dead, Reread, Opening, Door, Shutting, Wait, Inside, Leaving, Withdrawing, Unmarking, has, above, only, next, Event, Starts, Crashes, Steps, without, others, is_before, restart, started, shut, unmarked, process, moved, span}
 pub use Rattle.rmecore.specs.Refused.{is_idle}
-pub use Rattle.rmecore.specs.Simulated.{Simulated, zeros, own_at, standing_at, place_at, world_of, HasSeat, IsSeated, Takes, fresh, tally_at, counted}
+pub use Rattle.rmecore.specs.Simulated.{Simulated, zeros, own_at, standing_at, place_at, world_of, HasConfiguration, IsConfigured, Takes, fresh, tally_at, counted}
 pub use Rattle.rmecore.specs.Sole.{all_done, IsIn, IsEnter, IsLeave, Sole}
 pub use Rattle.rmecore.specs.Tallied.{IsExact, HasTaken, IsTallied, AllTallied, IsRereading}
 pub use Rattle.rmecore.specs.World.{World, at_rest, is_store, read, write, May, after, Run, final, IsReached, Reads, stored, deeds, own_events, place_after, deed, and_then, step_deed}

@@ -2,7 +2,7 @@
 use Rattle.std.proofs.Common.{◌≡◌, ℕ, ◌<◌, ◌≤◌, ◌++◌, true, false, List, [], ◌∷◌, length, take, slice_index_or, slice_set, replicate, Option, Some, None, IsSome, IfSome, unwrap_or, refl, sym, ap, ◌∙◌, subst, inl, inr, get_or-set_same, get_or-set_other, length-set}
 use Rattle.rmecore.proofs.Common.{take-append_seam, cases_eq, cases_lt, get_or_default, get_or_past, get_or-replicate, length-replicate, Access, Store, Load, CoreCall, Own, Tally, Word, nobody}
 use Rattle.rmecore.proofs.Common.{IsLawful, access, kind_of, word_of, carried, Standing, next_access, owner, IsLeast, IsAllowed, StoresOwn, absent, after_access, performed, put, Place, Rest, Dead}
-use Rattle.rmecore.proofs.Common.{next, Event, Starts, Crashes, Steps, started, process, moved, Simulated, zeros, own_at, standing_at, place_at, world_of, HasSeat, IsSeated, Takes, fresh, World}
+use Rattle.rmecore.proofs.Common.{next, Event, Starts, Crashes, Steps, started, process, moved, Simulated, zeros, own_at, standing_at, place_at, world_of, HasConfiguration, IsConfigured, Takes, fresh, World}
 use Rattle.rmecore.proofs.Common.{at_rest, is_store, read, May, after, IsReached, Reads, stored}
 use Rattle.rmecore.proofs.Invariant.{put_same, put_other}
 use Rattle.rmecore.proofs.Accesses.{stores_own}
@@ -54,7 +54,7 @@ reads words (Store kind word y) v fits e load = cc
 -- a step of one process's machine, over the words and beside the other processes
 pub record Moves (n limit p : ℕ) (words words' : List Own) (processes : List Standing) (s s' : Standing) (a : Access) (v : ℕ) : Type 0 where
   pub here : standing_at processes p ≡ s
-  pub seat : HasSeat n limit p s
+  pub configuration : HasConfiguration n limit p s
   pub below : p < n
   pub each : length processes ≡ n
   pub next : next_access s ≡ Some a
@@ -67,9 +67,9 @@ module _ {n limit p : ℕ} {words words' : List Own} {processes : List Standing}
   steps_to : next n limit p s.place (kind_of a) (word_of a) v ≡ next s.procs s.limit s.index s.place (kind_of a) (word_of a) (carried a v)
   steps_to =
       let again : carried a v ≡ v = settled a v _ m.value in
-      let procs = m.seat.0 in
-      let limits = m.seat.1 in
-      let index = m.seat.2 in
+      let procs = m.configuration.0 in
+      let limits = m.configuration.1 in
+      let index = m.configuration.2 in
       cc
 
   fits : KindFits a
@@ -91,27 +91,27 @@ module _ {n limit p : ℕ} {words words' : List Own} {processes : List Standing}
         limit = refl;
       }
 
-pub seated_process :
-    {n limit p : ℕ} {words : List Own} {processes : List Standing} {tallies : List Tally} → IsSeated n limit words processes tallies → p < n → (s' : Standing) → HasSeat n limit p s'
-    → IsSeated n limit words (slice_set processes p s') tallies
-seated_process {n = n} {limit = limit} {p = p} {processes = processes} {tallies = tallies} seated below s' seat =
+pub configured_process :
+    {n limit p : ℕ} {words : List Own} {processes : List Standing} {tallies : List Tally} → IsConfigured n limit words processes tallies → p < n → (s' : Standing) → HasConfiguration n limit p s'
+    → IsConfigured n limit words (slice_set processes p s') tallies
+configured_process {n = n} {limit = limit} {p = p} {processes = processes} {tallies = tallies} configured below s' configuration =
     record {
-      words_each = seated.words_each;
-      processes_each = length-set processes p s' ∙ seated.processes_each;
-      tallies_each = seated.tallies_each;
-      seats = λ q h. elim (cases_eq q p) [
-        | inl e ↦ subst (λ r. HasSeat n limit r (standing_at (slice_set processes p s') r)) (sym e) (subst (HasSeat n limit p) (sym (get_or-set_same processes p s' _ (rw seated.processes_each below))) seat)
-        | inr ne ↦ subst (HasSeat n limit q) (sym (get_or-set_other processes p q s' _ ne)) (seated.seats q h)
+      words_each = configured.words_each;
+      processes_each = length-set processes p s' ∙ configured.processes_each;
+      tallies_each = configured.tallies_each;
+      configurations = λ q h. elim (cases_eq q p) [
+        | inl e ↦ subst (λ r. HasConfiguration n limit r (standing_at (slice_set processes p s') r)) (sym e) (subst (HasConfiguration n limit p) (sym (get_or-set_same processes p s' _ (rw configured.processes_each below))) configuration)
+        | inr ne ↦ subst (HasConfiguration n limit q) (sym (get_or-set_other processes p q s' _ ne)) (configured.configurations q h)
       ];
     }
 
-pub seated_more : {n limit : ℕ} {words : List Own} {processes : List Standing} {tallies : List Tally} → IsSeated n limit words processes tallies → (p : ℕ) (words' : List Own) (t : Tally) → length words' ≡ n → IsSeated n limit words' processes (slice_set tallies p t)
-seated_more {tallies = tallies} seated p words' t each = record { words_each = each; processes_each = seated.processes_each; tallies_each = length-set tallies p t ∙ seated.tallies_each; seats = seated.seats }
+pub configured_more : {n limit : ℕ} {words : List Own} {processes : List Standing} {tallies : List Tally} → IsConfigured n limit words processes tallies → (p : ℕ) (words' : List Own) (t : Tally) → length words' ≡ n → IsConfigured n limit words' processes (slice_set tallies p t)
+configured_more {tallies = tallies} configured p words' t each = record { words_each = each; processes_each = configured.processes_each; tallies_each = length-set tallies p t ∙ configured.tallies_each; configurations = configured.configurations }
 
-pub seated_set :
-    {n limit p : ℕ} {words : List Own} {processes : List Standing} {tallies : List Tally} → IsSeated n limit words processes tallies → p < n → (words' : List Own) (s' : Standing) (t : Tally)
-    → length words' ≡ n → HasSeat n limit p s' → IsSeated n limit words' (slice_set processes p s') (slice_set tallies p t)
-seated_set {p = p} seated below words' s' t each seat = seated_more (seated_process seated below s' seat) p words' t each
+pub configured_set :
+    {n limit p : ℕ} {words : List Own} {processes : List Standing} {tallies : List Tally} → IsConfigured n limit words processes tallies → p < n → (words' : List Own) (s' : Standing) (t : Tally)
+    → length words' ≡ n → HasConfiguration n limit p s' → IsConfigured n limit words' (slice_set processes p s') (slice_set tallies p t)
+configured_set {p = p} configured below words' s' t each configuration = configured_more (configured_process configured below s' configuration) p words' t each
 
 -- the value at an index
 pub at_here : {A : Type 0} (xs : List A) (p n : ℕ) (x d : A) → x ≡ slice_index_or xs p x → p < n → length xs ≡ n → slice_index_or xs p d ≡ x
@@ -120,16 +120,16 @@ at_here xs p n x d is below each = get_or_default xs p d x (rw each below) ∙ s
 pub found_here : (processes : List Standing) (p n : ℕ) (s : Standing) → s ≡ slice_index_or processes p s → p < n → length processes ≡ n → standing_at processes p ≡ s
 found_here processes p n s = at_here processes p n s _
 
-pub seat_here : {n limit : ℕ} {words : List Own} {processes : List Standing} {tallies : List Tally} → IsSeated n limit words processes tallies → (p : ℕ) (s : Standing) → s ≡ slice_index_or processes p s → p < n → HasSeat n limit p s
-seat_here {n = n} {limit = limit} {processes = processes} seated p s is below = subst (HasSeat n limit p) (found_here processes p n s is below seated.processes_each) (seated.seats p below)
+pub configuration_here : {n limit : ℕ} {words : List Own} {processes : List Standing} {tallies : List Tally} → IsConfigured n limit words processes tallies → (p : ℕ) (s : Standing) → s ≡ slice_index_or processes p s → p < n → HasConfiguration n limit p s
+configuration_here {n = n} {limit = limit} {processes = processes} configured p s is below = subst (HasConfiguration n limit p) (found_here processes p n s is below configured.processes_each) (configured.configurations p below)
 
 pub least_here :
-    (n limit p : ℕ) (processes : List Standing) (s : Standing) (a : Access) → HasSeat n limit p s → standing_at processes p ≡ s → IsLeast s a
+    (n limit p : ℕ) (processes : List Standing) (s : Standing) (a : Access) → HasConfiguration n limit p s → standing_at processes p ≡ s → IsLeast s a
     → (word : Word) (v : ℕ) → IsSome (next n limit p (place_at processes p) (kind_of a) word v) → owner (word_of a) ≤ owner word
-least_here n limit p processes s a seat here least word v some =
-    let procs = seat.0 in
-    let limits = seat.1 in
-    let index = seat.2 in
+least_here n limit p processes s a configuration here least word v some =
+    let procs = configuration.0 in
+    let limits = configuration.1 in
+    let index = configuration.2 in
     let place = ap (λ t. t.place) here in
     let same : next n limit p (place_at processes p) (kind_of a) word v ≡ next s.procs s.limit s.index s.place (kind_of a) word v = cc in
     least word v (subst (λ o. IsSome o) same some)
@@ -193,11 +193,11 @@ first_places n limit processes len h = λ i. λ p. each p i
           | inr past ↦ ap (λ t. t.place) (get_or_past processes p absent (rw len past))
         ]
 
-pub first_seated :
+pub first_configured :
     (n limit : ℕ) (words : List Own) (processes : List Standing) (tallies : List Tally) → words ≡ replicate n zeros → length processes ≡ n → tallies ≡ replicate n (fresh zeros)
-    → ((p : ℕ) → p < n → standing_at processes p ≡ record { procs = n; limit = limit; index = p; place = Rest }) → IsSeated n limit words processes tallies
-first_seated n limit words processes tallies e len f h =
-    record { words_each = rw e (length-replicate n _); processes_each = len; tallies_each = rw f (length-replicate n _); seats = λ p below. subst (HasSeat n limit p) (sym (h p below)) (refl, refl, refl) }
+    → ((p : ℕ) → p < n → standing_at processes p ≡ record { procs = n; limit = limit; index = p; place = Rest }) → IsConfigured n limit words processes tallies
+first_configured n limit words processes tallies e len f h =
+    record { words_each = rw e (length-replicate n _); processes_each = len; tallies_each = rw f (length-replicate n _); configurations = λ p below. subst (HasConfiguration n limit p) (sym (h p below)) (refl, refl, refl) }
 
 pub reached_lawful : {n limit : ℕ} {w : World} → IsReached n limit w → IsLawful n limit w.words
 reached_lawful {n = n} {limit = limit} reached =

@@ -103,7 +103,7 @@ pub counted_here : {n limit p : ℕ} {words words' : List Own} {processes : List
 counted_here {n = n} {p = p} {processes = processes} {s = s} {a = a} {v = v} m tallies each t is done told t' counts =
     let here : tally_at tallies p ≡ t = at_here tallies p n t _ is m.below each in
     let place : place_at processes p ≡ s.place = ap (λ (x : Standing). x.place) m.here in
-    let index : s.index ≡ p = m.seat.2 in
+    let index : s.index ≡ p = m.configuration.2 in
     let again : carried a v ≡ v = settled a v _ m.value in
     let one : done ≡ progress s (Some a) v = told ∙ ap (λ o. progress s o v) m.next in
     let blocked : done.blocked ≡ is_blocked s.index s.place (kind_of a) (carried a v) = ap (λ (x : Progress). x.blocked) one in

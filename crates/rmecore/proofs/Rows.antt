@@ -5,7 +5,7 @@ use Rattle.rmecore.proofs.Common.{AtDoor, Ready as Waiting, Within, DeadIn as De
 use Rattle.rmecore.proofs.Common.{Leaving, Withdrawing, Unmarking, has, without, others, is_before, restart, started, shut, unmarked, World, step_deed}
 use Rattle.rmecore.proofs.Allowing.{Allows, put_false, put_false_self, put_false_kept}
 use Rattle.rmecore.proofs.Invariant.{Fits, phase_of, Before, Counted, Stands, Pair, has-without, has-others, put_same, put_other, phase_any, phase_crashed, row_of, phase_out, phase_door, phase_waiting, phase_within, phase_dead, within_means, dead_means, waiting_means}
-use Rattle.rmecore.proofs.Changes.{Here, fewer, goes_on, knows_nothing, stays_behind, calm, Plain, quiet}
+use Rattle.rmecore.proofs.Changes.{Here, fewer, goes_on, knows_nothing, stays_behind, calm, Plain, silent}
 use Rattle.rmecore.specs.declared.outer.Outer.TheVariants.{Ready}
 
 abbrev pub Allowed : ℕ → Abstract → Option Outer → Type 0
@@ -121,7 +121,7 @@ module _ {n : ℕ} {w : World} {a : Abstract} {p : ℕ} (below : p < n) where
   shuts {x = x} {k = k} Lock v h is =
       (tt, waits (record x { choosing = v }) k h (is, h.fits.0, h.fits.1, h.fits.2) refl refl (h.phase ∙ phase_waiting _ _ _ _ (omega arith) h.fits.2))
   shuts {x = x} _ v h is =
-      (tt, quiet h (record x { choosing = v }) Rest a.phase tt (h.fits.2, inl is) (h.phase ∙ phase_waiting _ _ _ _ (omega arith) h.fits.2 ∙ sym (phase_waiting v _ _ _ (omega arith) h.fits.2)) (λ q ne. refl) refl (λ e. refl))
+      (tt, silent h (record x { choosing = v }) Rest a.phase tt (h.fits.2, inl is) (h.phase ∙ phase_waiting _ _ _ _ (omega arith) h.fits.2 ∙ sym (phase_waiting v _ _ _ (omega arith) h.fits.2)) (λ q ne. refl) refl (λ e. refl))
 
   pub looks : {x : Own} {k : ℕ} {unpassed : List ℕ} (j v : ℕ) → Here n w a p x (Wait k unpassed None) → (w.words j).choosing ≡ v → v ≡ 0 → Outcome n w a p x (Wait k unpassed (Some j)) None
   looks {x = x} {k = k} {unpassed = unpassed} j v h is zeroed = (
@@ -211,18 +211,18 @@ module _ {n : ℕ} {w : World} {a : Abstract} {p : ℕ} (below : p < n) where
 
   pub unmarks : {x : Own} (call : CoreCall) (v : ℕ) → Here n w a p x (Unmarking call) → v ≡ 0 → Outcome n w a p (record x { inside = v }) (unmarked call) None
   unmarks {x = x} Lock v h is =
-      (tt, quiet h (record x { inside = v }) Opening a.phase tt (h.fits.0, h.fits.1, is) (h.phase ∙ phase_out _ _ _ _ h.fits.0 h.fits.1 ∙ sym (phase_out _ _ v _ h.fits.0 h.fits.1)) (λ q ne. refl) refl (λ e. absurd (omega arith)))
+      (tt, silent h (record x { inside = v }) Opening a.phase tt (h.fits.0, h.fits.1, is) (h.phase ∙ phase_out _ _ _ _ h.fits.0 h.fits.1 ∙ sym (phase_out _ _ v _ h.fits.0 h.fits.1)) (λ q ne. refl) refl (λ e. absurd (omega arith)))
   unmarks {x = x} _ v h is =
-      (tt, quiet h (record x { inside = v }) Rest a.phase tt (is, inl h.fits.0) (h.phase ∙ phase_out _ _ _ _ h.fits.0 h.fits.1 ∙ sym (phase_out _ _ v _ h.fits.0 h.fits.1)) (λ q ne. refl) refl (λ e. absurd (omega arith)))
+      (tt, silent h (record x { inside = v }) Rest a.phase tt (is, inl h.fits.0) (h.phase ∙ phase_out _ _ _ _ h.fits.0 h.fits.1 ∙ sym (phase_out _ _ v _ h.fits.0 h.fits.1)) (λ q ne. refl) refl (λ e. absurd (omega arith)))
 
   -- p reaches a plain place with the same words and phase
   pub comes : {x : Own} {s : Place} (s' : Place) → Here n w a p x s → Plain s' → Fits x s' → phase_of x s ≡ phase_of x s' → Here n w a p x s'
-  comes {x = x} s' h plain fits same = quiet h x s' a.phase plain fits (h.phase ∙ same) (λ q ne. refl) refl (λ e. refl)
+  comes {x = x} s' h plain fits same = silent h x s' a.phase plain fits (h.phase ∙ same) (λ q ne. refl) refl (λ e. refl)
 
   reenters : {x : Own} {call : CoreCall} → (k i : ℕ) → Here n w a p x (Reread call (zero ∷ suc k ∷ [])) → x.inside ≡ suc i → Outcome n w a p x Inside (Some (Reenter p))
   reenters {x = x} k i h is = (
     (below, h.phase ∙ phase_dead _ _ _ (omega arith) (omega arith)),
-    quiet h x Inside (put a.phase p Within) tt (h.fits.1, omega arith, omega arith) (put_same a.phase p Within ∙ sym (phase_within _ _ _ (omega arith) (omega arith))) (put_other a.phase p Within) refl (λ e. refl),
+    silent h x Inside (put a.phase p Within) tt (h.fits.1, omega arith, omega arith) (put_same a.phase p Within ∙ sym (phase_within _ _ _ (omega arith) (omega arith))) (put_other a.phase p Within) refl (λ e. refl),
   )
 
   pub restarts : {x : Own} (call : CoreCall) (c k i : ℕ) → Here n w a p x (Reread call (c ∷ k ∷ [])) → x.inside ≡ i → Outcome n w a p x (restart n p call c k i) (step_deed p (Reread call (c ∷ k ∷ [])) Rereads i)
@@ -248,7 +248,7 @@ module _ {n : ℕ} {w : World} {a : Abstract} {p : ℕ} (below : p < n) where
   pub crashes : {x : Own} (s : Place) → Here n w a p x s → Outcome n w a p x Dead (Some (Crash p))
   crashes {x = x} s h = (
     below,
-    quiet h x Dead (put a.phase p (crashed (a.phase p))) tt (row_of x s h.fits) (put_same a.phase p _ ∙ ap crashed h.phase ∙ phase_crashed _ _ _ _) (put_other a.phase p _) refl (λ e. refl),
+    silent h x Dead (put a.phase p (crashed (a.phase p))) tt (row_of x s h.fits) (put_same a.phase p _ ∙ ap crashed h.phase ∙ phase_crashed _ _ _ _) (put_other a.phase p _) refl (λ e. refl),
   )
 
   pub starts : {x : Own} (s : Place) (call : CoreCall) → Here n w a p x s → IsSome (started s call) → Outcome n w a p x (unwrap_or (started s call) s) None

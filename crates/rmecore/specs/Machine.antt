@@ -137,12 +137,12 @@ is_blocked p (Wait k unpassed (Some j)) Weighs v = not ((v == 0) || is_before k 
 is_blocked _ _ _ _ = false
 
 -- no deed, no answer, not blocked
-abbrev pub quiet : Progress
-quiet = record { outer = None; done = None; blocked = false }
+abbrev pub silent : Progress
+silent = record { outer = None; done = None; blocked = false }
 
 -- the effects of a step: its deed, the answer, and whether it was blocked
 abbrev pub progress : Standing → Option Access → ℕ → Progress
-progress s None v = quiet
+progress s None v = silent
 progress s (Some a) v =
     record {
       outer = step_deed s.index s.place (kind_of a) (carried a v);

@@ -42,15 +42,15 @@ abbrev pub world_of : Simulated → World
 world_of s = record { words = own_at s.words; places = place_at s.processes }
 
 -- process p of n, with this limit
-abbrev pub HasSeat : ℕ → ℕ → ℕ → Standing → Type 0
-HasSeat n limit p s = (s.procs ≡ n) × (s.limit ≡ limit) × (s.index ≡ p)
+abbrev pub HasConfiguration : ℕ → ℕ → ℕ → Standing → Type 0
+HasConfiguration n limit p s = (s.procs ≡ n) × (s.limit ≡ limit) × (s.index ≡ p)
 
 -- the lists have one member for each process, in the order of their indices
-pub record IsSeated (n limit : ℕ) (words : List Own) (processes : List Standing) (tallies : List Tally) : Type 0 where
+pub record IsConfigured (n limit : ℕ) (words : List Own) (processes : List Standing) (tallies : List Tally) : Type 0 where
   pub words_each : length words ≡ n
   pub processes_each : length processes ≡ n
   pub tallies_each : length tallies ≡ n
-  pub seats : (p : ℕ) → p < n → HasSeat n limit p (standing_at processes p)
+  pub configurations : (p : ℕ) → p < n → HasConfiguration n limit p (standing_at processes p)
 
 -- the definition allows the event, and the new world is the one after it
 pub record Takes (old : Simulated) (event : Event) (new : Simulated) : Type 0 where

@@ -34,37 +34,49 @@ pub fn every_run_ends_lawful()
 
 /// The same two laws for runs that start from any lawful words with every process crashed.
 pub fn every_later_run_is_legal()
-    ensures legal { (n limit : ℕ) (words : ℕ → Own) (events : List Event) → IsLawful n limit words → Run n limit (all_dead words) events → Legal n (start_of words) (deeds n limit (all_dead words) events) }
-    ensures lawful { (n limit : ℕ) (words : ℕ → Own) (events : List Event) → IsLawful n limit words → Run n limit (all_dead words) events → IsLawful n limit (final n limit (all_dead words) events).words }
+    ensures legal { (n limit : ℕ) (words : ℕ → Own) (events : List Event) → IsLawful n limit words
+        → Run n limit (all_dead words) events → Legal n (start_of words) (deeds n limit (all_dead words) events) }
+    ensures lawful { (n limit : ℕ) (words : ℕ → Own) (events : List Event) → IsLawful n limit words
+        → Run n limit (all_dead words) events → IsLawful n limit (final n limit (all_dead words) events).words }
 {}
 
 /// A process's place is a function of its own events.
 pub fn places_are_own()
-    ensures { (n limit p : ℕ) (w : World) (events : List Event) → (final n limit w events).places p ≡ place_after n limit (w.places p) (own_events p events) }
+    ensures { (n limit p : ℕ) (w : World) (events : List Event)
+        → (final n limit w events).places p ≡ place_after n limit (w.places p) (own_events p events) }
 {}
 
 /// If the definition allows an event after a run, the longer list is a run too. Its deeds are those of the run, then the
 /// event's.
 pub fn runs_grow()
-    ensures run { (n limit : ℕ) (w : World) (events : List Event) (e : Event) → Run n limit w events → May n limit (final n limit w events) e → Run n limit w (events ++ e ∷ []) }
-    ensures deeds { (n limit : ℕ) (w : World) (events : List Event) (e : Event) → deeds n limit w (events ++ e ∷ []) ≡ deeds n limit w events ++ and_then (deed ((final n limit w events).places (process e)) e) [] }
-    ensures world { (n limit : ℕ) (w : World) (events : List Event) (e : Event) → final n limit w (events ++ e ∷ []) ≡ after n limit (final n limit w events) e }
+    ensures run { (n limit : ℕ) (w : World) (events : List Event) (e : Event) → Run n limit w events
+        → May n limit (final n limit w events) e → Run n limit w (events ++ e ∷ []) }
+    ensures deeds { (n limit : ℕ) (w : World) (events : List Event) (e : Event)
+        → deeds n limit w (events ++ e ∷ []) ≡ deeds n limit w events
+        ++ and_then (deed ((final n limit w events).places (process e)) e) [] }
+    ensures world { (n limit : ℕ) (w : World) (events : List Event) (e : Event)
+        → final n limit w (events ++ e ∷ []) ≡ after n limit (final n limit w events) e }
 {}
 
 /// Two runs written out, with their deeds.
 pub fn a_run()
     ensures runs { Run 2 10 at_rest two }
     ensures gives_up { Run 2 10 at_rest giving_up }
-    ensures given_up { deeds 2 10 at_rest giving_up ≡ Outer.Begin 0 ∷ Outer.Ready 0 ∷ Outer.Begin 1 ∷ Outer.Ready 1 ∷ Outer.Quit 0 ∷ Outer.Enter 1 ∷ [] }
-    ensures deeds { deeds 2 10 at_rest two ≡ Outer.Begin 0 ∷ Outer.Begin 1 ∷ Outer.Ready 1 ∷ Outer.Ready 0 ∷ Outer.Enter 0 ∷ Outer.Crash 0 ∷ Outer.Reenter 0 ∷ Outer.Leave 0 ∷ Outer.Enter 1 ∷ [] }
+    ensures given_up { deeds 2 10 at_rest giving_up ≡ Outer.Begin 0 ∷ Outer.Ready 0 ∷ Outer.Begin 1 ∷ Outer.Ready 1
+        ∷ Outer.Quit 0 ∷ Outer.Enter 1 ∷ [] }
+    ensures deeds { deeds 2 10 at_rest two ≡ Outer.Begin 0 ∷ Outer.Begin 1 ∷ Outer.Ready 1 ∷ Outer.Ready 0 ∷ Outer.Enter 0
+        ∷ Outer.Crash 0 ∷ Outer.Reenter 0 ∷ Outer.Leave 0 ∷ Outer.Enter 1 ∷ [] }
 {}
 
 /// The abstract lock refuses three faults: a second process inside, an entry before a process that crashed inside has
 /// entered again, and an entry out of order.
 pub fn refused()
-    ensures two_inside { Legal 2 nobody (Outer.Begin 0 ∷ Outer.Ready 0 ∷ Outer.Begin 1 ∷ Outer.Ready 1 ∷ Outer.Enter 0 ∷ Outer.Enter 1 ∷ []) → ⊥ }
-    ensures not_reentered { Legal 2 nobody (Outer.Begin 0 ∷ Outer.Ready 0 ∷ Outer.Begin 1 ∷ Outer.Ready 1 ∷ Outer.Enter 0 ∷ Outer.Crash 0 ∷ Outer.Enter 1 ∷ []) → ⊥ }
-    ensures overtaken_from_behind { Legal 2 nobody (Outer.Begin 0 ∷ Outer.Ready 0 ∷ Outer.Begin 1 ∷ Outer.Ready 1 ∷ Outer.Quit 1 ∷ Outer.Begin 1 ∷ Outer.Ready 1 ∷ Outer.Enter 1 ∷ []) → ⊥ }
+    ensures two_inside { Legal 2 nobody (Outer.Begin 0 ∷ Outer.Ready 0 ∷ Outer.Begin 1 ∷ Outer.Ready 1 ∷ Outer.Enter 0
+        ∷ Outer.Enter 1 ∷ []) → ⊥ }
+    ensures not_reentered { Legal 2 nobody (Outer.Begin 0 ∷ Outer.Ready 0 ∷ Outer.Begin 1 ∷ Outer.Ready 1 ∷ Outer.Enter 0
+        ∷ Outer.Crash 0 ∷ Outer.Enter 1 ∷ []) → ⊥ }
+    ensures overtaken_from_behind { Legal 2 nobody (Outer.Begin 0 ∷ Outer.Ready 0 ∷ Outer.Begin 1 ∷ Outer.Ready 1
+        ∷ Outer.Quit 1 ∷ Outer.Begin 1 ∷ Outer.Ready 1 ∷ Outer.Enter 1 ∷ []) → ⊥ }
     ensures overtaken { Legal 2 nobody (Outer.Begin 0 ∷ Outer.Ready 0 ∷ Outer.Begin 1 ∷ Outer.Ready 1 ∷ Outer.Enter 1 ∷ []) → ⊥ }
 {}
 
@@ -83,10 +95,17 @@ pub fn steps_of_a_call()
     ensures first { (n c k i : ℕ) (call : CoreCall) → Pays n c k i (Reread call []) 0 }
     ensures exit { (n c k i : ℕ) → Pays n c k i Leaving 0 }
     ensures withdraw { (n c k i : ℕ) → Pays n c k i Withdrawing 0 }
-    ensures each { (n limit p c k i : ℕ) (place : Place) (kind : Kind) (word : Word) (v steps : ℕ) → p < n → IsSome (next n limit p place kind word v) → is_glance kind ≡ false → ReadsBegun c k i place v → Pays n c k i place steps → Pays n c k i (unwrap_or (next n limit p place kind word v) place) (if is_blocked p place kind v then steps else steps + 1) }
-    ensures answered { (n limit p c k i : ℕ) (place : Place) (kind : Kind) (word : Word) (v steps : ℕ) → p < n → IsSome (next n limit p place kind word v) → is_glance kind ≡ false → ReadsBegun c k i place v → Pays n c k i place steps → IfSome (answer place kind v) (λ done. own_steps n c k i done ≡ Some (if is_blocked p place kind v then steps else steps + 1)) }
+    ensures each { (n limit p c k i : ℕ) (place : Place) (kind : Kind) (word : Word) (v steps : ℕ) → p < n
+        → IsSome (next n limit p place kind word v) → is_glance kind ≡ false → ReadsBegun c k i place v
+        → Pays n c k i place steps → Pays n c k i (unwrap_or (next n limit p place kind word v) place)
+        (if is_blocked p place kind v then steps else steps + 1) }
+    ensures answered { (n limit p c k i : ℕ) (place : Place) (kind : Kind) (word : Word) (v steps : ℕ) → p < n
+        → IsSome (next n limit p place kind word v) → is_glance kind ≡ false → ReadsBegun c k i place v
+        → Pays n c k i place steps → IfSome (answer place kind v)
+        (λ done. own_steps n c k i done ≡ Some (if is_blocked p place kind v then steps else steps + 1)) }
     ensures fresh_start { (n p k steps : ℕ) → p < n → Pays n 0 0 0 (Wait k (others n p) None) steps → steps ≡ n + 5 }
-    ensures most { (n c k i : ℕ) (place : Place) (steps : ℕ) → 0 < n → is_idle place ≡ false → Pays n c k i place steps → steps < most_steps n }
+    ensures most { (n c k i : ℕ) (place : Place) (steps : ℕ) → 0 < n → is_idle place ≡ false → Pays n c k i place steps
+        → steps < most_steps n }
 {}
 
 /// Mutual exclusion: after every list of legal deeds at most one process is in the section, alive or crashed. A deed changes
@@ -96,19 +115,27 @@ pub fn one_is_in()
     ensures each { (n : ℕ) (a : Abstract) (d : Outer) → AllHold (needs n a d) → Sole n a → Sole n (done a d) }
     ensures legal { (n : ℕ) (a : Abstract) (ds : List Outer) → Legal n a ds → Sole n a → Sole n (all_done a ds) }
     ensures others { (a : Abstract) (d : Outer) (q : ℕ) → q ≢ doer d → (done a d).phase q ≡ a.phase q }
-    ensures came { (n : ℕ) (a : Abstract) (d : Outer) (q : ℕ) → AllHold (needs n a d) → (IsEnter d → ⊥) → IsIn ((done a d).phase q) → IsIn (a.phase q) }
-    ensures stays { (n : ℕ) (a : Abstract) (d : Outer) (q : ℕ) → AllHold (needs n a d) → (IsLeave d → ⊥) → IsIn (a.phase q) → IsIn ((done a d).phase q) }
+    ensures came { (n : ℕ) (a : Abstract) (d : Outer) (q : ℕ) → AllHold (needs n a d) → (IsEnter d → ⊥)
+        → IsIn ((done a d).phase q) → IsIn (a.phase q) }
+    ensures stays { (n : ℕ) (a : Abstract) (d : Outer) (q : ℕ) → AllHold (needs n a d) → (IsLeave d → ⊥) → IsIn (a.phase q)
+        → IsIn ((done a d).phase q) }
 {}
 
 /// What a step changes in who is in the section: an entry, a re-entry, an exit, or nothing. No step of the core touches a
 /// data word.
 pub fn steps_are_turns()
-    ensures turn { (n limit p : ℕ) (s : Place) (kind : Kind) (word : Word) (v : ℕ) (t : Place) → next n limit p s kind word v ≡ Some t → Turn p s t (step_deed p s kind v) }
+    ensures turn { (n limit p : ℕ) (s : Place) (kind : Kind) (word : Word) (v : ℕ) (t : Place)
+        → next n limit p s kind word v ≡ Some t → Turn p s t (step_deed p s kind v) }
     ensures no_data { (n limit p : ℕ) (s : Place) (kind : Kind) (i v : ℕ) → IsSome (next n limit p s kind (Data i) v) → ⊥ }
 {}
 
 /// After every run, a process whose place is inside or at the start of its exit is in the section of the abstract lock too.
 pub fn who_stands_inside_is_in()
-    ensures from_rest { (n limit p : ℕ) (events : List Event) → p < n → Run n limit at_rest events → ((final n limit at_rest events).places p ≡ Inside) ⊎ ((final n limit at_rest events).places p ≡ Leaving) → (all_done nobody (deeds n limit at_rest events)).phase p ≡ Phase.Inside }
-    ensures later { (n limit p : ℕ) (words : ℕ → Own) (events : List Event) → p < n → IsLawful n limit words → Run n limit (all_dead words) events → ((final n limit (all_dead words) events).places p ≡ Inside) ⊎ ((final n limit (all_dead words) events).places p ≡ Leaving) → (all_done (start_of words) (deeds n limit (all_dead words) events)).phase p ≡ Phase.Inside }
+    ensures from_rest { (n limit p : ℕ) (events : List Event) → p < n → Run n limit at_rest events
+        → ((final n limit at_rest events).places p ≡ Inside) ⊎ ((final n limit at_rest events).places p ≡ Leaving)
+        → (all_done nobody (deeds n limit at_rest events)).phase p ≡ Phase.Inside }
+    ensures later { (n limit p : ℕ) (words : ℕ → Own) (events : List Event) → p < n → IsLawful n limit words
+        → Run n limit (all_dead words) events → ((final n limit (all_dead words) events).places p ≡ Inside)
+        ⊎ ((final n limit (all_dead words) events).places p ≡ Leaving)
+        → (all_done (start_of words) (deeds n limit (all_dead words) events)).phase p ≡ Phase.Inside }
 {}

@@ -9,7 +9,7 @@ use crate::core_call::CoreCall;
 use crate::core_done::CoreDone;
 use crate::kind::Kind;
 use crate::outer::Outer;
-use crate::progress::{BLOCKED, Progress, QUIET};
+use crate::progress::{BLOCKED, Progress, SILENT};
 use crate::refusal::Refusal;
 use crate::restart::{after_shut, after_unmark, restarted};
 use crate::scan::Scan;
@@ -169,10 +169,10 @@ impl LockProcess {
     {
         let own = self.index;
         match self.stage {
-            Stage::Rest | Stage::Dead | Stage::Inside => (self.stage, QUIET),
+            Stage::Rest | Stage::Dead | Stage::Inside => (self.stage, SILENT),
             Stage::ReadingChoosing { call } => {
                 let choosing = value;
-                (Stage::ReadingNumber { call, choosing }, QUIET)
+                (Stage::ReadingNumber { call, choosing }, SILENT)
             }
             Stage::ReadingNumber { call, choosing } => (
                 Stage::ReadingInside {
@@ -180,7 +180,7 @@ impl LockProcess {
                     choosing,
                     number: value,
                 },
-                QUIET,
+                SILENT,
             ),
             Stage::ReadingInside {
                 call,
@@ -203,7 +203,14 @@ impl LockProcess {
 
     /// The `drop` of an exit. The mark is still to be cleared.
     fn leave(&self) -> (Stage, Progress)
-        ensures { result ≡ (Stage.Unmarking CoreCall.Unlock, record { outer = Some (Outer.Leave self.now.index); done = None; blocked = false }) }
+        ensures { result ≡ (
+          Stage.Unmarking CoreCall.Unlock,
+          record {
+            outer = Some (Outer.Leave self.now.index);
+            done = None;
+            blocked = false;
+          },
+        ) }
     {
         let call = CoreCall::Unlock;
         (
@@ -220,7 +227,8 @@ impl LockProcess {
     }
 
     fn after_door(&self, next: u64, greatest: u64, value: u64) -> (Stage, Progress)
-        ensures place { place_of self.now.procs self.now.index result.0 ≡ after_access (at_door self.now next greatest) (next_access (at_door self.now next greatest)) value }
+        ensures place { place_of self.now.procs self.now.index result.0
+            ≡ after_access (at_door self.now next greatest) (next_access (at_door self.now next greatest)) value }
         ensures progress { result.1 ≡ progress (at_door self.now next greatest) (next_access (at_door self.now next greatest)) value }
     {
         match self.first(next) {
@@ -229,7 +237,7 @@ impl LockProcess {
                     next: j + 1,
                     greatest: greatest.max(value),
                 },
-                QUIET,
+                SILENT,
             ),
             None if greatest < self.limit => (
                 Stage::Shutting {
@@ -250,8 +258,10 @@ impl LockProcess {
     }
 
     fn after_wait(&self, number: u64, next: u64, looked: bool, value: u64) -> (Stage, Progress)
-        ensures place { place_of self.now.procs self.now.index result.0 ≡ after_access (at_wait self.now number next looked) (next_access (at_wait self.now number next looked)) value }
-        ensures progress { result.1 ≡ progress (at_wait self.now number next looked) (next_access (at_wait self.now number next looked)) value }
+        ensures place { place_of self.now.procs self.now.index result.0
+            ≡ after_access (at_wait self.now number next looked) (next_access (at_wait self.now number next looked)) value }
+        ensures progress { result.1 ≡ progress (at_wait self.now number next looked)
+            (next_access (at_wait self.now number next looked)) value }
     {
         match self.first(next) {
             Some(j) if looked && self.passes(number, value, j) => (
@@ -260,7 +270,7 @@ impl LockProcess {
                     next: j + 1,
                     looked: false,
                 },
-                QUIET,
+                SILENT,
             ),
             Some(_) if looked || value != 0 => (
                 Stage::Wait {
@@ -276,7 +286,7 @@ impl LockProcess {
                     next,
                     looked: true,
                 },
-                QUIET,
+                SILENT,
             ),
             None => (
                 Stage::Inside,
@@ -310,7 +320,8 @@ impl LockProcess {
     }
 
     fn after_scan(&self, scan: Scan, value: u64) -> (Stage, Progress)
-        ensures place { place_of self.now.procs self.now.index result.0 ≡ after_access (at_scan self.now scan) (next_access (at_scan self.now scan)) value }
+        ensures place { place_of self.now.procs self.now.index result.0
+            ≡ after_access (at_scan self.now scan) (next_access (at_scan self.now scan)) value }
         ensures progress { result.1 ≡ progress (at_scan self.now scan) (next_access (at_scan self.now scan)) value }
     {
         match scan {
@@ -339,7 +350,7 @@ impl LockProcess {
 
     /// Puts the machine at a stage. For this workspace alone: the running lock's fast path takes steps without the machine
     /// and then sets its stage. Any stage is accepted, also one that no step reaches.
-    pub fn seam_stand(&mut self, to: Stage)
+    pub fn seam_machine_state(&mut self, to: Stage)
         ensures { self.new ≡ record self.old { place = place_of self.old.procs self.old.index to } }
     {
         let here = &mut self.stage;

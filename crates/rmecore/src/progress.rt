@@ -14,7 +14,7 @@ pub struct Progress {
     pub blocked: bool,
 }
 
-pub(crate) const QUIET: Progress = Progress {
+pub(crate) const SILENT: Progress = Progress {
     outer: None,
     done: None,
     blocked: false,

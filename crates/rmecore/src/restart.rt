@@ -9,7 +9,7 @@ use crate::core_call::CoreCall;
 use crate::core_done::CoreDone;
 use crate::found::Found;
 use crate::outer::Outer;
-use crate::progress::{Progress, QUIET};
+use crate::progress::{Progress, SILENT};
 use crate::stage::Stage;
 
 /// What a call of process `own` does after its three rereads.
@@ -21,7 +21,11 @@ pub fn restarted(
     inside: u64,
 ) -> (Stage, Progress)
     ensures place { (n : ℕ) → place_of n own result.0 ≡ restart n own call choosing number inside }
-    ensures progress { result.1 ≡ record { outer = reentry own choosing number inside; done = reread_answer call choosing number inside; blocked = false } }
+    ensures progress { result.1 ≡ record {
+      outer = reentry own choosing number inside;
+      done = reread_answer call choosing number inside;
+      blocked = false;
+    } }
 {
     match call {
         CoreCall::Lock => relocked(own, choosing, number, inside),
@@ -34,20 +38,24 @@ pub fn restarted(
 /// The row for a lock: it goes on with what is left to do.
 fn relocked(own: u64, choosing: u64, number: u64, inside: u64) -> (Stage, Progress)
     ensures place { (n : ℕ) → place_of n own result.0 ≡ relocked n own choosing number inside }
-    ensures progress { result.1 ≡ record { outer = reentry own choosing number inside; done = again choosing number inside; blocked = false } }
+    ensures progress { result.1 ≡ record {
+      outer = reentry own choosing number inside;
+      done = again choosing number inside;
+      blocked = false;
+    } }
 {
     match (choosing, number, inside) {
-        (0, 0, 0) => (Stage::Opening, QUIET),
+        (0, 0, 0) => (Stage::Opening, SILENT),
         (0, 0, _) => {
             let call = CoreCall::Lock;
-            (Stage::Unmarking { call }, QUIET)
+            (Stage::Unmarking { call }, SILENT)
         }
-        (0, _, 0) => (Stage::waiting(number), QUIET),
+        (0, _, 0) => (Stage::waiting(number), SILENT),
         (0, _, _) => (Stage::Inside, reentered(own, CoreDone::InAgain)),
-        (_, 0, _) => (Stage::DOORWAY, QUIET),
+        (_, 0, _) => (Stage::DOORWAY, SILENT),
         (_, _, _) => {
             let call = CoreCall::Lock;
-            (Stage::Shutting { call, number }, QUIET)
+            (Stage::Shutting { call, number }, SILENT)
         }
     }
 }
@@ -55,13 +63,17 @@ fn relocked(own: u64, choosing: u64, number: u64, inside: u64) -> (Stage, Progre
 /// The row for a recovery: it never scans, and takes at most one step more.
 fn recovered(own: u64, choosing: u64, number: u64, inside: u64) -> (Stage, Progress)
     ensures place { (n : ℕ) → place_of n own result.0 ≡ recovered choosing number inside }
-    ensures progress { result.1 ≡ record { outer = reentry own choosing number inside; done = found choosing number inside; blocked = false } }
+    ensures progress { result.1 ≡ record {
+      outer = reentry own choosing number inside;
+      done = found choosing number inside;
+      blocked = false;
+    } }
 {
     match (choosing, number, inside) {
         (0, 0, 0) => (Stage::Rest, Progress::done(CoreDone::Found(Found::Idle))),
         (0, 0, _) => {
             let call = CoreCall::Recover;
-            (Stage::Unmarking { call }, QUIET)
+            (Stage::Unmarking { call }, SILENT)
         }
         (0, _, 0) => (Stage::Rest, Progress::done(CoreDone::Found(Found::Waiting))),
         (0, _, _) => (
@@ -71,7 +83,7 @@ fn recovered(own: u64, choosing: u64, number: u64, inside: u64) -> (Stage, Progr
         (_, 0, _) => (Stage::Rest, Progress::done(CoreDone::Found(Found::Doorway))),
         (_, _, _) => {
             let call = CoreCall::Recover;
-            (Stage::Shutting { call, number }, QUIET)
+            (Stage::Shutting { call, number }, SILENT)
         }
     }
 }
@@ -88,7 +100,7 @@ pub fn after_shut(call: CoreCall, number: u64) -> (Stage, Progress)
     ensures progress { result.1 ≡ record { outer = None; done = shut_answer call; blocked = false } }
 {
     match call {
-        CoreCall::Lock => (Stage::waiting(number), QUIET),
+        CoreCall::Lock => (Stage::waiting(number), SILENT),
         CoreCall::Recover | CoreCall::Unlock | CoreCall::Withdraw => {
             (Stage::Rest, Progress::done(CoreDone::Found(Found::Waiting)))
         }
@@ -101,7 +113,7 @@ pub fn after_unmark(call: CoreCall) -> (Stage, Progress)
     ensures progress { result.1 ≡ record { outer = None; done = unmark_answer call; blocked = false } }
 {
     match call {
-        CoreCall::Lock => (Stage::Opening, QUIET),
+        CoreCall::Lock => (Stage::Opening, SILENT),
         CoreCall::Unlock => (Stage::Rest, Progress::done(CoreDone::Out)),
         CoreCall::Recover | CoreCall::Withdraw => {
             (Stage::Rest, Progress::done(CoreDone::Found(Found::Left)))

@@ -56,19 +56,20 @@ impl fmt::Debug for Core {
 
 impl Model for Core {
     ghost use Rattle.rmecore.specs.World.{IsReached};
-    ghost use Rattle.rmecore.specs.Simulated.{Simulated, IsSeated, own_at, place_at};
+    ghost use Rattle.rmecore.specs.Simulated.{Simulated, IsConfigured, own_at, place_at};
     ghost use Rattle.rmecore.specs.Tallied.{AllTallied};
 
     ghost Value = { Simulated };
 
     ghost view = { λ c. record { procs = c.procs; limit = c.limit; words = c.words.items; processes = c.processes.items; tallies = c.tallies.items } };
 
-    ghost invariant = { λ c. record { seated : IsSeated c.procs c.limit c.words.items c.processes.items c.tallies.items; reached : IsReached c.procs c.limit (record { words = own_at c.words.items; places = place_at c.processes.items }); tallied : AllTallied c.procs (record { words = own_at c.words.items; places = place_at c.processes.items }) c.tallies.items } };
+    ghost invariant = { λ c. record { configured : IsConfigured c.procs c.limit c.words.items c.processes.items c.tallies.items; reached : IsReached c.procs c.limit (record { words = own_at c.words.items; places = place_at c.processes.items }); tallied : AllTallied c.procs (record { words = own_at c.words.items; places = place_at c.processes.items }) c.tallies.items } };
 }
 
 fn all_at_rest(alloc: Global, procs: u64, limit: u64) -> Result<Vec<LockProcess>, Refusal>
     ensures length { IfOk result (λ processes. vec_len processes ≡ procs) }
-    ensures each { IfOk result (λ processes. (p : ℕ) → p < procs → slice_index_or processes.items p absent ≡ record { procs = procs; limit = limit; index = p; place = Rest }) }
+    ensures each { IfOk result (λ processes. (p : ℕ) → p < procs
+        → slice_index_or processes.items p absent ≡ record { procs = procs; limit = limit; index = p; place = Rest }) }
     ensures memory { IfErr result (λ e. e ≡ Refusal.OutOfMemory) }
 {
     let mut processes = Vec::with_capacity(alloc, procs as usize)?;
@@ -193,8 +194,10 @@ impl Core {
         ensures reached { OnOk result (IsReached self.new.procs self.new.limit (world_of self.new)) }
         ensures outer { IfOk result (λ h. h.outer ≡ deed (place_at self.old.processes p) (event_of p h)) }
         ensures done { IfOk result (λ h. h.done ≡ answer (place_at self.old.processes p) h.kind h.value) }
-        ensures tally { IfOk result (λ h. self.new.tallies ≡ slice_set self.old.tallies p (counted (tally_at self.old.tallies p) (is_blocked p (place_at self.old.processes p) h.kind h.value))) }
-        ensures taken { IfOk result (λ h. IfSome h.done (λ done. IsExact (tally_at self.new.tallies p) → HasTaken self.old.procs (tally_at self.new.tallies p) done)) }
+        ensures tally { IfOk result (λ h. self.new.tallies ≡ slice_set self.old.tallies p
+            (counted (tally_at self.old.tallies p) (is_blocked p (place_at self.old.processes p) h.kind h.value))) }
+        ensures taken { IfOk result (λ h. IfSome h.done (λ done. IsExact (tally_at self.new.tallies p)
+            → HasTaken self.old.procs (tally_at self.new.tallies p) done)) }
         ensures err { OnErr result (self.new ≡ self.old) }
     {
         if p >= self.procs {
@@ -256,8 +259,11 @@ impl Core {
     /// first call it is 0. A withdraw is a call of its own.
     pub fn steps(&self, p: u64) -> Result<u64, Refusal>
         ensures ok { IfOk result (λ steps. (p < self.now.procs) × (steps ≡ (tally_at self.now.tallies p).steps)) }
-        ensures taking { IsExact (tally_at self.now.tallies p) → p < self.now.procs → IsTaking self.now.procs (tally_at self.now.tallies p) (place_at self.now.processes p) }
-        ensures most { IsExact (tally_at self.now.tallies p) → p < self.now.procs → is_idle (place_at self.now.processes p) ≡ false → (tally_at self.now.tallies p).steps < most_steps self.now.procs + (tally_at self.now.tallies p).blocked }
+        ensures taking { IsExact (tally_at self.now.tallies p) → p < self.now.procs
+            → IsTaking self.now.procs (tally_at self.now.tallies p) (place_at self.now.processes p) }
+        ensures most { IsExact (tally_at self.now.tallies p) → p < self.now.procs
+            → is_idle (place_at self.now.processes p) ≡ false
+            → (tally_at self.now.tallies p).steps < most_steps self.now.procs + (tally_at self.now.tallies p).blocked }
         ensures refused { IfErr result (λ e. (self.now.procs ≤ p) × (e ≡ Refusal.NoSuchProcess)) }
     {
         Ok(self.tally(p)?.steps)
@@ -274,7 +280,8 @@ impl Core {
     /// The lock words of a process at the start of its last call.
     pub fn began(&self, p: u64) -> Result<Own, Refusal>
         ensures ok { IfOk result (λ began. (p < self.now.procs) × (began ≡ (tally_at self.now.tallies p).began)) }
-        ensures rereading { p < self.now.procs → IsRereading (place_at self.now.processes p) → (tally_at self.now.tallies p).began ≡ own_at self.now.words p }
+        ensures rereading { p < self.now.procs → IsRereading (place_at self.now.processes p)
+            → (tally_at self.now.tallies p).began ≡ own_at self.now.words p }
         ensures refused { IfErr result (λ e. (self.now.procs ≤ p) × (e ≡ Refusal.NoSuchProcess)) }
     {
         Ok(self.tally(p)?.began)
@@ -282,9 +289,13 @@ impl Core {
 
     fn tally(&self, p: u64) -> Result<Tally, Refusal>
         ensures ok { IfOk result (λ tally. (p < self.now.procs) × (tally ≡ tally_at self.now.tallies p)) }
-        ensures taking { IsExact (tally_at self.now.tallies p) → p < self.now.procs → IsTaking self.now.procs (tally_at self.now.tallies p) (place_at self.now.processes p) }
-        ensures most { IsExact (tally_at self.now.tallies p) → p < self.now.procs → is_idle (place_at self.now.processes p) ≡ false → (tally_at self.now.tallies p).steps < most_steps self.now.procs + (tally_at self.now.tallies p).blocked }
-        ensures rereading { p < self.now.procs → IsRereading (place_at self.now.processes p) → (tally_at self.now.tallies p).began ≡ own_at self.now.words p }
+        ensures taking { IsExact (tally_at self.now.tallies p) → p < self.now.procs
+            → IsTaking self.now.procs (tally_at self.now.tallies p) (place_at self.now.processes p) }
+        ensures most { IsExact (tally_at self.now.tallies p) → p < self.now.procs
+            → is_idle (place_at self.now.processes p) ≡ false
+            → (tally_at self.now.tallies p).steps < most_steps self.now.procs + (tally_at self.now.tallies p).blocked }
+        ensures rereading { p < self.now.procs → IsRereading (place_at self.now.processes p)
+            → (tally_at self.now.tallies p).began ≡ own_at self.now.words p }
         ensures refused { IfErr result (λ e. (self.now.procs ≤ p) × (e ≡ Refusal.NoSuchProcess)) }
     {
         match self.tallies.get(p as usize) {

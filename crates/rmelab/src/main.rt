@@ -2,14 +2,13 @@
 #![tactic(auto)]
 
 pub use cli::arguments::order::Command;
+use cli::arguments::words::words_given;
 pub use cli::arguments::words::{WordsFault, read_words};
+use commands::Terminal;
 pub use commands::command::command;
-pub use commands::schedules::ending::Ending;
-
 use commands::disk::Disk;
 use commands::program::run_program;
-use cli::arguments::words::words_given;
-use commands::Terminal;
+pub use commands::schedules::ending::Ending;
 use std::io::IsTerminal;
 use std::process::ExitCode;
 

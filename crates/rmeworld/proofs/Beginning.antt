@@ -1,12 +1,12 @@
 -- The beginnings of worlds. What comes after them is legal.
 use Rattle.std.proofs.Common.{◌≡◌, ℕ, ◌+◌, ◌<◌, ◌≤◌, ◌^◌, Bool, true, false, ◌&&◌, nat_lt, nat_le, if◌then◌else◌, List, [], length, Option, Some, None, refl, sym, subst, inr, arith, ltb-true, leb-true}
-use Rattle.rmeworld.proofs.Common.{and_parts, Refusal, own_at, Deed, Layout, words_of, Start, Leads, state_of, State, Image, layout_of, IsLawfulImage, IsStartOf, crashed_scene, IsOrigin, IsSize}
-use Rattle.rmeworld.proofs.Common.{resting, Scene, at_first, WorldState, new_world, new_refusal, image_world}
+use Rattle.rmeworld.proofs.Common.{and_parts, Refusal, own_at, Deed, Layout, words_of, Start, Leads, state_of, State, Image, layout_of, IsLawfulImage, IsStartOf, crashed_global_state, IsOrigin, IsSize}
+use Rattle.rmeworld.proofs.Common.{resting, GlobalState, at_first, WorldState, new_world, new_refusal, image_world}
 use Rattle.rmeworld.proofs.Following.{Follows}
-use Rattle.rmeworld.proofs.FromImages.{image_world_is, image_scene, crashed-at, started_later}
+use Rattle.rmeworld.proofs.FromImages.{image_world_is, image_global_state, crashed-at, started_later}
 use Rattle.rmeworld.proofs.Ordered.{IsOrdered, ordered_rest, ordered_crashed}
 use Rattle.rmeworld.proofs.Reaching.{arrives, origin}
-use Rattle.rmeworld.proofs.Worlds.{world_new, new_scene, rest-at}
+use Rattle.rmeworld.proofs.Worlds.{world_new, new_global_state, rest-at}
 
 held_to : (b : Bool) (o : Option Refusal) (r : Refusal) → (if b then o else Some r) ≡ None → (b ≡ true) × (o ≡ None)
 held_to true o r h = (refl, h)
@@ -36,23 +36,23 @@ follows_new l limit may =
     record {
       world = world_new l limit size.0 size.1;
       ordered = λ p below. subst IsOrdered (sym (rest-at l limit 0 l.procs p below)) (ordered_rest l limit (0 + p));
-      comes = record { story = []; told = tt; last = sym (new_scene l limit); done = refl };
+      comes = record { execution = []; told = tt; last = sym (new_global_state l limit); done = refl };
     }
 
-pub follows_image : (i : Image) → IsLawfulImage i → Follows (crashed_scene (length i.lock) (own_at i.lock) (words_of i.cells)) (image_world i) []
+pub follows_image : (i : Image) → IsLawfulImage i → Follows (crashed_global_state (length i.lock) (own_at i.lock) (words_of i.cells)) (image_world i) []
 follows_image i lawful =
     record {
       world = image_world_is i lawful;
       ordered = λ p below. subst IsOrdered (sym (crashed-at (layout_of i) i.limit 0 (length i.lock) p below)) (ordered_crashed (resting (layout_of i) i.limit (0 + p)));
-      comes = record { story = []; told = tt; last = sym (image_scene i); done = refl };
+      comes = record { execution = []; told = tt; last = sym (image_global_state i); done = refl };
     }
 
 -- what came after a beginning is legal from the judge's state there
-pub follows_legal : (first : Scene) (state : State) (s : WorldState) (history : List Deed) → IsOrigin s.layout s.limit first state → Follows first s history → (t : State) × Leads state history t
+pub follows_legal : (first : GlobalState) (state : State) (s : WorldState) (history : List Deed) → IsOrigin s.layout s.limit first state → Follows first s history → (t : State) × Leads state history t
 follows_legal first state s history begins h =
     let layout = h.world.sized.layout in
-    let a = arrives s.layout s.limit first state h.comes.story layout (origin s.layout s.limit first state layout begins) h.comes.told in
+    let a = arrives s.layout s.limit first state h.comes.execution layout (origin s.layout s.limit first state layout begins) h.comes.told in
     (a.now, subst (λ ds. Leads state ds a.now) h.comes.done a.leads)
 
-pub image_origin : (i : Image) (s : Start) → IsLawfulImage i → IsStartOf i s → IsOrigin (layout_of i) i.limit (crashed_scene (length i.lock) (own_at i.lock) (words_of i.cells)) (state_of s)
+pub image_origin : (i : Image) (s : Start) → IsLawfulImage i → IsStartOf i s → IsOrigin (layout_of i) i.limit (crashed_global_state (length i.lock) (own_at i.lock) (words_of i.cells)) (state_of s)
 image_origin i s lawful start = inr (refl, started_later i s lawful start)

@@ -2,8 +2,8 @@
 use Rattle.std.proofs.Common.{◌≡◌, ℕ, zero, suc, ◌+◌, ◌*◌, ◌<◌, ◌≤◌, Bool, true, false, [], ◌∷◌, List, Option, Some, None, IsSome, refl, sym, ap, ◌∙◌, arith}
 use Rattle.rmeworld.proofs.Common.{CoreCall, In, InAgain, Own, reentry_steps, spent_steps, found_steps, Place, Wait, Rest, Reread, Shutting, Leaving, Withdrawing, Unmarking, is_idle, Layout, Reply}
 use Rattle.rmeworld.proofs.Common.{Script, Get as Asks, Put as Writes, Done, Answer, Clean, OwnerDied, NumbersSpent, NotRecoverable, Unlocked, Mail, Call, Lock, Unlock, Consistent, Recover, Append}
-use Rattle.rmeworld.proofs.Common.{Close, Withdraw, Why, Ruining, Mending, Working, Checking, HasStep, and_more, either, core_steps, task_steps, own_steps, most_steps, Costs, checked_steps}
-use Rattle.rmeworld.proofs.Common.{script_steps, PaysCore, Exits, PaysPart, PaysBy, PaysAt, Errand, Free, Doing, Spot, lock_part, part_call, why_call, call_by, call_at}
+use Rattle.rmeworld.proofs.Common.{Close, Withdraw, Purpose, Ruining, Mending, Working, Checking, HasStep, and_more, either, core_steps, task_steps, own_steps, most_steps, Costs, checked_steps}
+use Rattle.rmeworld.proofs.Common.{script_steps, PaysCore, Exits, PaysPart, PaysBy, PaysAt, ScriptState, Free, Doing, ProcessState, lock_part, part_call, purpose_call, call_by, call_at}
 use Rattle.rmecore.specs.declared.core_call.CoreCall.TheVariants as core
 use Rattle.rmecore.specs.declared.found.Found.{Found}
 use Rattle.rmecore.specs.declared.found.Found.TheVariants.{Left, Waiting}
@@ -111,7 +111,7 @@ module _ (l : Layout) (w : Own) (some : 0 < l.procs) where
   close_most : (a : Reply) (x : ℕ) → task_steps l task.Close a ≡ Some x → x ≤ 2
   close_most a x e = grind arith
 
-  script_most : (why : Why) (m : Bool) (a : Reply) (call : Call) (x : ℕ) → why_call why ≡ Some call → script_steps l w m why a ≡ Some x → x ≤ most_steps l call
+  script_most : (purpose : Purpose) (m : Bool) (a : Reply) (call : Call) (x : ℕ) → purpose_call purpose ≡ Some call → script_steps l w m purpose a ≡ Some x → x ≤ most_steps l call
   script_most Checking m a Lock x is e = let most = checked_most m x e in omega arith
   script_most (Working (task.Append seq value)) m a (Append seq' value') x is e = append_most seq value a x e
   script_most (Working task.Close) m a Close x is e = close_most a x e
@@ -122,22 +122,22 @@ module _ (l : Layout) (w : Own) (some : 0 < l.procs) where
   script_most (Working (task.BoardPut i v)) m reply.Done (Put j u) x is e = grind arith
   script_most _ m a _ x is e = grind arith
 
-  doing_fewer : (why : Why) (left : Script Reply) (m : Bool) (call : Call) (x : ℕ) → why_call why ≡ Some call → HasStep left → Costs (script_steps l w m why) left x → x < most_steps l call
-  doing_fewer why (Asks i rest) m call x is has h =
-      let most = costs_most (script_steps l w m why) (most_steps l call) (λ a y e. script_most why m a call y is e) (rest 0) (x + 1) (h 0) in
+  doing_fewer : (purpose : Purpose) (left : Script Reply) (m : Bool) (call : Call) (x : ℕ) → purpose_call purpose ≡ Some call → HasStep left → Costs (script_steps l w m purpose) left x → x < most_steps l call
+  doing_fewer purpose (Asks i rest) m call x is has h =
+      let most = costs_most (script_steps l w m purpose) (most_steps l call) (λ a y e. script_most purpose m a call y is e) (rest 0) (x + 1) (h 0) in
       omega arith
-  doing_fewer why (Writes i v rest) m call x is has h =
-      let most = costs_most (script_steps l w m why) (most_steps l call) (λ a y e. script_most why m a call y is e) rest (x + 1) h in
+  doing_fewer purpose (Writes i v rest) m call x is has h =
+      let most = costs_most (script_steps l w m purpose) (most_steps l call) (λ a y e. script_most purpose m a call y is e) rest (x + 1) h in
       omega arith
-  doing_fewer why (Done a) m call x is has h = absurd has
+  doing_fewer purpose (Done a) m call x is has h = absurd has
 
-  fewer_by : (s : Place) (m c : Bool) (e : Errand) (call : Call) (x : ℕ) → call_by s c e ≡ Some call → PaysBy l w s m c e x → x < most_steps l call
+  fewer_by : (s : Place) (m c : Bool) (e : ScriptState) (call : Call) (x : ℕ) → call_by s c e ≡ Some call → PaysBy l w s m c e x → x < most_steps l call
   fewer_by s m c Free call x is h = part_fewer (lock_part s) s m c call x refl is h
-  fewer_by s m c (Doing why left) call x is h = doing_fewer why left m call x is h.1 h.2
+  fewer_by s m c (Doing purpose left) call x is h = doing_fewer purpose left m call x is h.1 h.2
 
   -- a call under way has taken fewer
-  pub fewer_at : (spot : Spot) (call : Call) (x : ℕ) → call_at spot ≡ Some call → PaysAt l w spot x → x < most_steps l call
-  fewer_at spot call x is h = fewer_by spot.lock spot.mended spot.barred spot.errand call x is h
+  pub fewer_at : (process_state : ProcessState) (call : Call) (x : ℕ) → call_at process_state ≡ Some call → PaysAt l w process_state x → x < most_steps l call
+  fewer_at process_state call x is h = fewer_by process_state.lock process_state.mended process_state.barred process_state.script_state call x is h
 
   -- no number of the table is above the bound
   pub table_most : (m : Bool) (call : Call) (a : Answer) (x : ℕ) → own_steps l w m call a ≡ Some x → x ≤ most_steps l call

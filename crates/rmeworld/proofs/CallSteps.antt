@@ -2,10 +2,10 @@
 use Rattle.std.proofs.Common.{◌≡◌, ℕ, zero, suc, ◌+◌, ◌<◌, Bool, true, false, ◌&&◌, ◌==◌, nat_lt, if◌then◌else◌, length, Option, Some, None, IsSome, unwrap_or, refl, sym, ap, ◌∙◌, subst, arith, eqb-true}
 use Rattle.rmeworld.proofs.Common.{and_parts, CoreCall, CoreDone, In, InAgain, Spent, Out, Found as Finds, Withdrawn as IsWithdrawn, Kind, Gets, Puts, Own, Word, Data as DataAt, answer}
 use Rattle.rmeworld.proofs.Common.{is_blocked as is_blocked_place, reentry_steps, entry_steps, is_glance, ReadsBegun, Place, Wait, next, Rest, Leaving, Inside, Dead, Layout, Reply, Mended, Ruined}
-use Rattle.rmeworld.proofs.Common.{Task, Script, Get as Asks, Put as Writes, Done, script, Answer, Call, Lock, Unlock, Consistent, Recover, Append, Close, Withdraw, Why, Ruining, Mending, Working}
+use Rattle.rmeworld.proofs.Common.{Task, Script, Get as Asks, Put as Writes, Done, script, Answer, Call, Lock, Unlock, Consistent, Recover, Append, Close, Withdraw, Purpose, Ruining, Mending, Working}
 use Rattle.rmeworld.proofs.Common.{Checking, answer_at, answer_by, by_lock, by_script, blocked_by, next_or_same, checks_done, mended_done, HasStep, and_more, either, core_steps, task_steps, own_steps}
-use Rattle.rmeworld.proofs.Common.{Costs, checked_steps, script_steps, PaysCore, Exits, PaysPart, PaysBy, PaysAt, entry_of, Errand, Free, Doing, Spot, Begins, Moves, settled, errand_entered, at_lock}
-use Rattle.rmeworld.proofs.Common.{begun_from, moved_by, next_spot, only_spot, mended_entered, working, lock_part, part_call, why_call, call_by, call_at, task_call}
+use Rattle.rmeworld.proofs.Common.{Costs, checked_steps, script_steps, PaysCore, Exits, PaysPart, PaysBy, PaysAt, entry_of, ScriptState, Free, Doing, ProcessState, Begins, Moves, settled, script_state_entered, at_lock}
+use Rattle.rmeworld.proofs.Common.{begun_from, moved_by, next_process_state, only_process_state, mended_entered, working, lock_part, part_call, purpose_call, call_by, call_at, task_call}
 use Rattle.rmecore.specs.declared.core_call.CoreCall.TheVariants as core
 use Rattle.rmecore.proofs.Payments.{Comes, pays}
 use Rattle.redomail.specs.declared.task.Task.TheVariants as task
@@ -26,21 +26,21 @@ more_sum false steps k x h = omega arith
 abbrev pub Answers : Layout → Own → Bool → Option Call → Answer → ℕ → Type 0
 Answers l w m under a steps = (x : Call) × (under ≡ Some x) × (own_steps l w m x a ≡ Some steps)
 
-abbrev pub IsOver : Spot → Type 0
-IsOver spot = (lock_part spot.lock ≡ None) × (spot.errand ≡ Free)
+abbrev pub IsOver : ProcessState → Type 0
+IsOver process_state = (lock_part process_state.lock ≡ None) × (process_state.script_state ≡ Free)
 
 -- after a step the call goes on, or has its answer
-abbrev pub To : Layout → Own → Bool → Option Call → Option Answer → Spot → ℕ → Type 0
-To l w m under None spot steps = PaysAt l w spot steps × (call_at spot ≡ under) × (under ≡ Some Unlock → spot.mended ≡ m)
-To l w m under (Some a) spot steps = PaysAt l w spot steps × IsOver spot × Answers l w m under a steps
+abbrev pub To : Layout → Own → Bool → Option Call → Option Answer → ProcessState → ℕ → Type 0
+To l w m under None process_state steps = PaysAt l w process_state steps × (call_at process_state ≡ under) × (under ≡ Some Unlock → process_state.mended ≡ m)
+To l w m under (Some a) process_state steps = PaysAt l w process_state steps × IsOver process_state × Answers l w m under a steps
 
 -- the process state after a step of the lock's part with this answer of the core
-abbrev came : Layout → ℕ → Bool → Bool → Option CoreDone → Place → Spot
-came l p m c done t = record { lock = t; mended = mended_done m done; barred = c; errand = if checks_done done then Doing Checking (script l p task.Check) else Free }
+abbrev came : Layout → ℕ → Bool → Bool → Option CoreDone → Place → ProcessState
+came l p m c done t = record { lock = t; mended = mended_done m done; barred = c; script_state = if checks_done done then Doing Checking (script l p task.Check) else Free }
 
-pub guard_spot : (b : Bool) (t d : Spot) (P : Spot → Type 0) → IsSome (only_spot b t) → (b ≡ true → P t) → P (unwrap_or (only_spot b t) d)
-guard_spot true t d P some h = h refl
-guard_spot false t d P some h = absurd (cc)
+pub guard_process_state : (b : Bool) (t d : ProcessState) (P : ProcessState → Type 0) → IsSome (only_process_state b t) → (b ≡ true → P t) → P (unwrap_or (only_process_state b t) d)
+guard_process_state true t d P some h = h refl
+guard_process_state false t d P some h = absurd (cc)
 
 module _ (l : Layout) (p : ℕ) (w : Own) where
   -- a number that exists is one more than some number
@@ -106,9 +106,9 @@ module _ (l : Layout) (p : ℕ) (w : Own) where
   part_to _ (Some _) s t m c b steps some follows pays h = absurd (cc)
 
   -- a script with its next step, or with its reply
-  script_to : (why : Why) (left : Script Reply) (m : Bool) (steps : ℕ) → Costs (script_steps l w m why) left steps → To l w m (why_call why) (by_script why m left) (settled m false why left) steps
-  script_to why (Asks i rest) m steps h = ((refl, tt, h), refl, λ e. refl)
-  script_to why (Writes i v rest) m steps h = ((refl, tt, h), refl, λ e. refl)
+  script_to : (purpose : Purpose) (left : Script Reply) (m : Bool) (steps : ℕ) → Costs (script_steps l w m purpose) left steps → To l w m (purpose_call purpose) (by_script purpose m left) (settled m false purpose left) steps
+  script_to purpose (Asks i rest) m steps h = ((refl, tt, h), refl, λ e. refl)
+  script_to purpose (Writes i v rest) m steps h = ((refl, tt, h), refl, λ e. refl)
   script_to Checking (Done (Ruined true)) m steps h =
       let zero_more : steps ≡ steps + 0 = omega arith in
       (subst (λ o. Exits l w o Leaving steps) (sym h) (0, refl, zero_more), refl, λ e. refl)
@@ -125,54 +125,54 @@ module _ (l : Layout) (p : ℕ) (w : Own) where
   script_to (Working (task.BoardPut i v)) (Done a) m steps h = (tt, (refl, refl), (Put i v, refl, h))
   script_to (Working _) (Done a) m steps h = absurd (cc)
 
-  at_lock_to : (o : Option Place) (s : Place) (m c : Bool) (d : Spot) (done : Option CoreDone) (call : Option Call) (m' : Bool) (steps : ℕ) (a : Option Answer) → IsSome (at_lock l p s m c o)
+  at_lock_to : (o : Option Place) (s : Place) (m c : Bool) (d : ProcessState) (done : Option CoreDone) (call : Option Call) (m' : Bool) (steps : ℕ) (a : Option Answer) → IsSome (at_lock l p s m c o)
       → (IsSome o → On done s (unwrap_or o s)) → (IsSome o → To l w m' call a (came l p m c done (unwrap_or o s)) steps) → To l w m' call a (unwrap_or (at_lock l p s m c o) d) steps
   at_lock_to None s m c d done call m' steps a some on h = absurd (cc)
   at_lock_to (Some t) s m c d done call m' steps a some on h =
       let enters = (on refl).1 in
-      let is : came l p m c done t ≡ record { lock = t; mended = mended_entered m s t; barred = c; errand = errand_entered l p s t } =
-      λ i. record { lock = t; mended = enters.1 m i; barred = c; errand = if enters.0 i then Doing Checking (script l p task.Check) else Free } in
-      subst (λ spot. To l w m' call a spot steps) is (h refl)
+      let is : came l p m c done t ≡ record { lock = t; mended = mended_entered m s t; barred = c; script_state = script_state_entered l p s t } =
+      λ i. record { lock = t; mended = enters.1 m i; barred = c; script_state = if enters.0 i then Doing Checking (script l p task.Check) else Free } in
+      subst (λ process_state. To l w m' call a process_state steps) is (h refl)
 
-  settled_to : (why : Why) (left : Script Reply) (m c : Bool) (steps : ℕ) → c ≡ false → Costs (script_steps l w m why) left steps → To l w m (why_call why) (by_script why m left) (settled m c why left) steps
-  settled_to why left m c steps calm h = subst (λ x. To l w m (why_call why) (by_script why m left) (settled m x why left) steps) (sym calm) (script_to why left m steps h)
+  settled_to : (purpose : Purpose) (left : Script Reply) (m c : Bool) (steps : ℕ) → c ≡ false → Costs (script_steps l w m purpose) left steps → To l w m (purpose_call purpose) (by_script purpose m left) (settled m c purpose left) steps
+  settled_to purpose left m c steps calm h = subst (λ x. To l w m (purpose_call purpose) (by_script purpose m left) (settled m x purpose left) steps) (sym calm) (script_to purpose left m steps h)
 
   module _ (limit : ℕ) (below : p < l.procs) where
-    moved_to : (s : Place) (m c : Bool) (e : Errand) (d : Spot) (kind : Kind) (word : Word) (v steps : ℕ) → IsSome (moved_by l limit p s m c e kind word v) → is_glance kind ≡ false → (e ≡ Free → ReadsBegun w.choosing w.number w.inside s v) → PaysBy l w s m c e steps
+    moved_to : (s : Place) (m c : Bool) (e : ScriptState) (d : ProcessState) (kind : Kind) (word : Word) (v steps : ℕ) → IsSome (moved_by l limit p s m c e kind word v) → is_glance kind ≡ false → (e ≡ Free → ReadsBegun w.choosing w.number w.inside s v) → PaysBy l w s m c e steps
         → To l w m (call_by s c e) (answer_by s m c e kind v) (unwrap_or (moved_by l limit p s m c e kind word v) d) (more (blocked_by p s e kind v) steps)
     moved_to s m c Free d kind word v steps some moves reads h =
         let on : IsSome (next l.procs limit p s kind word v) → On (answer s kind v) s (unwrap_or (next l.procs limit p s kind word v) s) = λ may. goes_on l.procs p limit s kind word v may moves in
         at_lock_to (next l.procs limit p s kind word v) s m c d (answer s kind v) (part_call (lock_part s) c) m _ _ some on
         (λ may. part_to (lock_part s) (answer s kind v) s _ m c (is_blocked_place p s kind v) steps (on may).0 (on may).2
         (λ x now. pays l.procs p below limit w.choosing w.number w.inside s kind word v x may moves (reads refl) now) h)
-    moved_to s m c (Doing why (Asks j rest)) d Gets (DataAt i) v steps some moves reads h =
-        guard_spot (i == j) (settled m c why (rest v)) d (λ spot. To l w m (why_call why) (by_script why m (rest v)) spot (steps + 1)) some (λ e. settled_to why (rest v) m c (steps + 1) h.0 (h.2 v))
-    moved_to s m c (Doing why (Writes j x rest)) d Puts (DataAt i) v steps some moves reads h =
-        guard_spot ((i == j) && (v == x)) (settled m c why rest) d (λ spot. To l w m (why_call why) (by_script why m rest) spot (steps + 1)) some (λ e. settled_to why rest m c (steps + 1) h.0 h.2)
-    moved_to s m c (Doing why _) d _ _ v steps some moves reads h = absurd (cc)
+    moved_to s m c (Doing purpose (Asks j rest)) d Gets (DataAt i) v steps some moves reads h =
+        guard_process_state (i == j) (settled m c purpose (rest v)) d (λ process_state. To l w m (purpose_call purpose) (by_script purpose m (rest v)) process_state (steps + 1)) some (λ e. settled_to purpose (rest v) m c (steps + 1) h.0 (h.2 v))
+    moved_to s m c (Doing purpose (Writes j x rest)) d Puts (DataAt i) v steps some moves reads h =
+        guard_process_state ((i == j) && (v == x)) (settled m c purpose rest) d (λ process_state. To l w m (purpose_call purpose) (by_script purpose m rest) process_state (steps + 1)) some (λ e. settled_to purpose rest m c (steps + 1) h.0 h.2)
+    moved_to s m c (Doing purpose _) d _ _ v steps some moves reads h = absurd (cc)
 
     -- one step of a call, whatever it reads. In the lock's part a reread has the process's words
-    pub step_by : (spot : Spot) (kind : Kind) (word : Word) (v steps : ℕ) → IsSome (next_spot l limit spot (Moves p kind word v)) → is_glance kind ≡ false → (spot.errand ≡ Free → ReadsBegun w.choosing w.number w.inside spot.lock v) → PaysAt l w spot steps
-        → To l w spot.mended (call_at spot) (answer_at spot kind v) (next_or_same l limit spot (Moves p kind word v)) (more (blocked_by p spot.lock spot.errand kind v) steps)
-    step_by spot kind word v steps some moves reads h = moved_to spot.lock spot.mended spot.barred spot.errand spot kind word v steps some moves reads h
+    pub step_by : (process_state : ProcessState) (kind : Kind) (word : Word) (v steps : ℕ) → IsSome (next_process_state l limit process_state (Moves p kind word v)) → is_glance kind ≡ false → (process_state.script_state ≡ Free → ReadsBegun w.choosing w.number w.inside process_state.lock v) → PaysAt l w process_state steps
+        → To l w process_state.mended (call_at process_state) (answer_at process_state kind v) (next_or_same l limit process_state (Moves p kind word v)) (more (blocked_by p process_state.lock process_state.script_state kind v) steps)
+    step_by process_state kind word v steps some moves reads h = moved_to process_state.lock process_state.mended process_state.barred process_state.script_state process_state kind word v steps some moves reads h
 
     -- where no call is under way no step is allowed
-    pub over_rests : (spot : Spot) (kind : Kind) (word : Word) (v : ℕ) → IsOver spot → IsSome (next_spot l limit spot (Moves p kind word v)) → is_glance kind ≡ false → ⊥
-    over_rests spot kind word v over some moves =
-        none (next l.procs limit p spot.lock kind word v) (subst (λ e. IsSome (moved_by l limit p spot.lock spot.mended spot.barred e kind word v)) over.1 some)
-        (λ may. let part : IsSome (lock_part spot.lock) = (goes_on l.procs p limit spot.lock kind word v may moves).0 in let gone : IsSome {T = CoreCall} None = subst IsSome over.0 part in absurd (cc))
+    pub over_rests : (process_state : ProcessState) (kind : Kind) (word : Word) (v : ℕ) → IsOver process_state → IsSome (next_process_state l limit process_state (Moves p kind word v)) → is_glance kind ≡ false → ⊥
+    over_rests process_state kind word v over some moves =
+        none (next l.procs limit p process_state.lock kind word v) (subst (λ e. IsSome (moved_by l limit p process_state.lock process_state.mended process_state.barred e kind word v)) over.1 some)
+        (λ may. let part : IsSome (lock_part process_state.lock) = (goes_on l.procs p limit process_state.lock kind word v may moves).0 in let gone : IsSome {T = CoreCall} None = subst IsSome over.0 part in absurd (cc))
       where
-        none : (o : Option Place) → IsSome (at_lock l p spot.lock spot.mended spot.barred o) → (IsSome o → ⊥) → ⊥
+        none : (o : Option Place) → IsSome (at_lock l p process_state.lock process_state.mended process_state.barred o) → (IsSome o → ⊥) → ⊥
         none None some h = absurd (cc)
         none (Some t) some h = h refl
 
-  working_to : (s : Place) (b fits : Bool) (t : Task) (call : Call) (d : Spot) → task_call t ≡ Some call → IsSome (working l p s b fits t) → (fits ≡ true → Costs (task_steps l t) (script l p t) 0) → HasStep (script l p t)
+  working_to : (s : Place) (b fits : Bool) (t : Task) (call : Call) (d : ProcessState) → task_call t ≡ Some call → IsSome (working l p s b fits t) → (fits ≡ true → Costs (task_steps l t) (script l p t) 0) → HasStep (script l p t)
       → (Some call ≡ Some Unlock → ⊥) → To l w b (Some call) None (unwrap_or (working l p s b fits t) d) 0
   working_to Inside b fits t call d is some costs has not =
-      guard_spot fits (record { lock = Inside; mended = b; barred = false; errand = Doing (Working t) (script l p t) }) d (λ spot. To l w b (Some call) None spot 0) some (λ e. ((refl, has, costs e), is, λ e. refl))
+      guard_process_state fits (record { lock = Inside; mended = b; barred = false; script_state = Doing (Working t) (script l p t) }) d (λ process_state. To l w b (Some call) None process_state 0) some (λ e. ((refl, has, costs e), is, λ e. refl))
   working_to _ b fits t call d is some costs has not = absurd (cc)
 
-  begun_to : (s : Place) (m : Bool) (e : Errand) (call : Call) (d : Spot) → IsSome (begun_from l p s m e call) → To l w m (Some call) None (unwrap_or (begun_from l p s m e call) d) 0
+  begun_to : (s : Place) (m : Bool) (e : ScriptState) (call : Call) (d : ProcessState) → IsSome (begun_from l p s m e call) → To l w m (Some call) None (unwrap_or (begun_from l p s m e call) d) 0
   begun_to Rest m Free Lock d some = ((refl, refl), refl, λ e. refl)
   begun_to Dead m Free Lock d some = ((refl, refl), refl, λ e. refl)
   begun_to Rest m Free Recover d some = ((refl, refl), refl, λ e. refl)
@@ -186,10 +186,10 @@ module _ (l : Layout) (p : ℕ) (w : Own) where
   begun_to s m Free Close d some = working_to s m m task.Close Close d refl some (λ e. close_costs l p) tt (λ e. cc)
   begun_to s m Free (Get i) d some = working_to s m (nat_lt i 4) (task.BoardGet i) (Get i) d refl some (λ e. λ v. refl) tt (λ e. cc)
   begun_to s m Free (Put i v) d some = working_to s m (nat_lt i 4) (task.BoardPut i v) (Put i v) d refl some (λ e. refl) tt (λ e. cc)
-  begun_to s m (Doing why left) call d some = absurd (cc)
+  begun_to s m (Doing purpose left) call d some = absurd (cc)
   begun_to _ true Free _ d some = absurd (cc)
   begun_to _ false Free _ d some = absurd (cc)
 
   -- the start of a call
-  pub start_to : (limit : ℕ) (spot : Spot) (call : Call) → IsSome (next_spot l limit spot (Begins p call)) → To l w spot.mended (Some call) None (next_or_same l limit spot (Begins p call)) 0
-  start_to limit spot call some = begun_to spot.lock spot.mended spot.errand call spot some
+  pub start_to : (limit : ℕ) (process_state : ProcessState) (call : Call) → IsSome (next_process_state l limit process_state (Begins p call)) → To l w process_state.mended (Some call) None (next_or_same l limit process_state (Begins p call)) 0
+  start_to limit process_state call some = begun_to process_state.lock process_state.mended process_state.script_state call process_state some

@@ -46,7 +46,7 @@ pub use Rattle.redomail.specs.declared.message.Message.{Message}
 pub use Rattle.redomail.specs.declared.record.Record.{Record}
 pub use Rattle.redomail.specs.declared.reply.Reply.{Reply}
 pub use Rattle.redomail.specs.declared.reply.Reply.TheVariants.{Mended, Ruined, Stored, Already, OutOfOrder, Full, Closed}
-pub use Rattle.redomail.specs.declared.stage.Stage.TheVariants.{Write}
+pub use Rattle.redomail.specs.declared.stage.JobStage.TheVariants.{Write}
 pub use Rattle.redomail.specs.declared.task.Task.{Task}
 pub use Rattle.redomail.specs.Deeds.{deeds_of_put}
 pub use Rattle.redomail.specs.Laws.{NewWords}
@@ -74,30 +74,30 @@ pub use Rattle.rmeworld.specs.declared.answer.Answer.{Answer}
 pub use Rattle.rmeworld.specs.declared.answer.Answer.TheVariants.{Clean, OwnerDied, NumbersSpent, NotRecoverable, Unlocked, Mail}
 pub use Rattle.rmeworld.specs.declared.call.Call.{Call}
 pub use Rattle.rmeworld.specs.declared.call.Call.TheVariants.{Lock, Unlock, Consistent, Recover, Append, Close, Withdraw}
-pub use Rattle.rmeworld.specs.declared.errand.Errand.{Errand as Chore}
-pub use Rattle.rmeworld.specs.declared.errand.Errand.TheVariants.{Free as IsFree, Doing as Does}
+pub use Rattle.rmeworld.specs.declared.script_state.ScriptState.{ScriptState as Chore}
+pub use Rattle.rmeworld.specs.declared.script_state.ScriptState.TheVariants.{Free as IsFree, Doing as Does}
 pub use Rattle.rmeworld.specs.declared.image.Image.{Image}
 pub use Rattle.rmeworld.specs.declared.stepped.Stepped.{Stepped}
-pub use Rattle.rmeworld.specs.declared.why.Why.{Why}
-pub use Rattle.rmeworld.specs.declared.why.Why.TheVariants.{Ruining, Mending, Working, Checking}
-pub use Rattle.rmeworld.specs.Advancing.{Advances, IsLoad, GoesOn, unheard}
+pub use Rattle.rmeworld.specs.declared.purpose.Purpose.{Purpose}
+pub use Rattle.rmeworld.specs.declared.purpose.Purpose.TheVariants.{Ruining, Mending, Working, Checking}
+pub use Rattle.rmeworld.specs.Advancing.{Advances, IsLoad, GoesOn, unobserved}
 pub use Rattle.rmeworld.specs.Answered.{answer_at, answer_by, by_lock, done_by, by_script, blocked_by}
-pub use Rattle.rmeworld.specs.CallWalk.{next_or_same, Walks, blocked_in, and_answer, answers_in, last_spot, Tells, CallsTakeTheirSteps}
+pub use Rattle.rmeworld.specs.CallWalk.{next_or_same, Walks, blocked_in, and_answer, answers_in, last_process_state, Tells, CallsTakeTheirSteps}
 pub use Rattle.rmeworld.specs.Entered.{is_entry, checks_done, mended_done}
-pub use Rattle.rmeworld.specs.Errands.{errand_of, HasStep, Held}
+pub use Rattle.rmeworld.specs.ScriptStates.{script_state_of, HasStep, Held}
 pub use Rattle.rmeworld.specs.Holders.{puts_data, AllPutBy, NoEndOf, OnlyHoldersPut}
 pub use Rattle.rmeworld.specs.ImageRules.{layout_of, IsLawfulImage, IsRecorded, Keeps}
 pub use Rattle.rmeworld.specs.ImageStart.{IsStartOf, IsInAlone}
-pub use Rattle.rmeworld.specs.Law.{Sits, IsLater, ErrandTells, AppendTells, WhyTells, Sound, EveryStoryIsSound}
+pub use Rattle.rmeworld.specs.Law.{Sits, IsLater, ScriptStateTells, AppendTells, PurposeTells, Sound, EveryExecutionIsSound}
 pub use Rattle.rmeworld.specs.OwnSteps.{and_more, either, core_steps, task_steps, own_steps, most_steps, mending_steps}
 pub use Rattle.rmeworld.specs.Paid.{Costs, checked_steps, script_steps, PaysCore, Exits, PaysPart, PaysBy, PaysAt, entry_of}
-pub use Rattle.rmeworld.specs.Reached.{IsWorld, crashed_scene, IsOrigin, IsImageOf, EveryStoryLeavesAnImage, IsLegalHistory, IsReached}
+pub use Rattle.rmeworld.specs.Reached.{IsWorld, crashed_global_state, IsOrigin, IsImageOf, EveryExecutionLeavesAnImage, IsLegalHistory, IsReached}
 pub use Rattle.rmeworld.specs.Refused.{first_cause, start_refusal, is_idle_by}
-pub use Rattle.rmeworld.specs.Replayed.{value_of, happening, or_else, mail_by, words_by, cells_by, the_deed, stepped_if, quiet_step, advanced_if, started, advance_refusal, advanced, crash_refusal, crash_deed, list_of, advanced_by, image_of, words_set, prospect_of}
+pub use Rattle.rmeworld.specs.Replayed.{value_of, world_event, or_else, mail_by, words_by, cells_by, the_deed, stepped_if, silent_step, advanced_if, started, advance_refusal, advanced, crash_refusal, crash_deed, list_of, advanced_by, image_of, words_set, prospect_of}
 pub use Rattle.rmeworld.specs.Sent.{IsAsked, EveryDeedWasAsked, mail_after, ReplyTells, RepliesTell, StoredIsShown, IsSent, EveryMessageWasSent, EveryCloseWasAsked, EveryRuinWasAsked}
-pub use Rattle.rmeworld.specs.Spot.{outer_by, Errand, Free, Doing, Spot, dead, Happening, Begins, Falls, Moves, Glances, who, settled, errand_entered, at_lock, inside_only, begun_from, moved_by, next_spot, outer, only_spot, mended_entered, working, at_rest, end_place, end_mended}
-pub use Rattle.rmeworld.specs.Stand.{Stand, standing, outcome, IsLeast, IsSize, resting, IsAllowed, spot_of, lock_moved, job_left, stepped, stepped_by, access_by, next_access, after_at, spot_after, StoresOwn, started as stand_started, crashed, InWords, IsOwnWord}
+pub use Rattle.rmeworld.specs.ProcessState.{outer_by, ScriptState, Free, Doing, ProcessState, dead, WorldEvent, Begins, Falls, Moves, Glances, who, settled, script_state_entered, at_lock, inside_only, begun_from, moved_by, next_process_state, outer, only_process_state, mended_entered, working, at_rest, end_place, end_mended}
+pub use Rattle.rmeworld.specs.MachineState.{MachineState, standing, outcome, IsLeast, IsSize, resting, IsAllowed, process_state_of, lock_moved, job_left, stepped, stepped_by, access_by, next_access, after_at, process_state_after, StoresOwn, started as machine_state_started, crashed, InWords, IsOwnWord}
 pub use Rattle.rmeworld.specs.Tallied.{HasTaken, IsTallied, AllTallied}
-pub use Rattle.rmeworld.specs.UnderWay.{lock_part, part_call, why_call, call_by, call_at, task_call}
-pub use Rattle.rmeworld.specs.World.{reading, event_deeds, Scene, at_first, Reads, put_cell, cells_after, Story, onward, last_scene, outer_deeds, mail_deeds, deeds, Can, put_deeds, words_after, all_dead, own_happenings, reading_of}
-pub use Rattle.rmeworld.specs.WorldState.{WorldState, stand_at, spot_at, scene_of, Takes, happening_of, ChoosesLeast, new_world, new_refusal, image_world, absent, HasSeat, crashed_from, IsSeated, at_rest_from}
+pub use Rattle.rmeworld.specs.UnderWay.{lock_part, part_call, purpose_call, call_by, call_at, task_call}
+pub use Rattle.rmeworld.specs.World.{reading, event_deeds, GlobalState, at_first, Reads, put_cell, cells_after, Execution, onward, last_global_state, outer_deeds, mail_deeds, deeds, Can, put_deeds, words_after, all_dead, own_world_events, reading_of}
+pub use Rattle.rmeworld.specs.WorldState.{WorldState, machine_state_at, process_state_at, global_state_of, Takes, world_event_of, ChoosesLeast, new_world, new_refusal, image_world, absent, HasConfiguration, crashed_from, IsConfigured, at_rest_from}

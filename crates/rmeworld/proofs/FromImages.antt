@@ -2,14 +2,14 @@
 use Rattle.std.proofs.Common.{◌≡◌, ℕ, zero, suc, ◌+◌, ◌<◌, ◌≤◌, true, false, ◌==◌, nat_lt, if◌then◌else◌, List, [], ◌∷◌, length, map, refl, sym, ap, ◌∙◌, subst, inl, inr, ◌⊎◌, arith, eq-eqb, lt-ltb}
 use Rattle.rmeworld.proofs.Common.{cases_eq, cases_lt, get_or_past, length-map, Own, Abstract, dead_phase, phase_by, start_of, own_at, zeros, fresh, IsIn, Layout, Words, words_of, Shape, RecordRule}
 use Rattle.rmeworld.proofs.Common.{mailbox_of, shape_passes_on, Start, state_of, phase_in as phase_of_list, State, Image, layout_of, IsLawfulImage, IsStartOf, IsInAlone, Sits, IsLater, IsWorld}
-use Rattle.rmeworld.proofs.Common.{crashed_scene, dead, at_rest, Stand, resting, spot_of, crashed, stand_at, spot_at, scene_of, image_world, absent, HasSeat, crashed_from}
+use Rattle.rmeworld.proofs.Common.{crashed_global_state, dead, at_rest, MachineState, resting, process_state_of, crashed, machine_state_at, process_state_at, global_state_of, image_world, absent, HasConfiguration, crashed_from}
 use Rattle.redomail.proofs.Readings.{content_is_shape}
 use Rattle.rmeworld.specs.ImageRules.{IsIn as IsInImage}
 use Rattle.rmeworld.proofs.LawfulNow.{find_in}
 use Rattle.rmeworld.proofs.WorldSteps.{le-ltb}
 use Rattle.rmeworld.proofs.WorldTallies.{unstarted}
 use Rattle.rmeworld.proofs.ImageRules.{only_one, lawful_content}
-use Rattle.rmeworld.proofs.Stories.{in_numbers}
+use Rattle.rmeworld.proofs.Executions.{in_numbers}
 
 numbers_in : (c k i : ℕ) → 0 < k → 0 < i → IsIn (dead_phase c k i)
 numbers_in c zero i h x = absurd (omega arith)
@@ -93,12 +93,12 @@ length-crashed : (l : Layout) (limit p n : ℕ) → length (crashed_from l limit
 length-crashed l limit p zero = refl
 length-crashed l limit p (suc n) = ap suc (length-crashed l limit (p + 1) n)
 
-pub crashed-at : (l : Layout) (limit p n q : ℕ) → q < n → stand_at (crashed_from l limit p n) q ≡ crashed (resting l limit (p + q))
+pub crashed-at : (l : Layout) (limit p n q : ℕ) → q < n → machine_state_at (crashed_from l limit p n) q ≡ crashed (resting l limit (p + q))
 crashed-at l limit p zero q h = absurd (omega arith)
 crashed-at l limit p (suc n) zero h = let e : p ≡ p + 0 = omega arith in ap (λ x. crashed (resting l limit x)) e
 crashed-at l limit p (suc n) (suc q) h = let e : p + 1 + q ≡ p + suc q = omega arith in crashed-at l limit (p + 1) n q (omega arith) ∙ ap (λ x. crashed (resting l limit x)) e
 
-pub crashed_is : (l : Layout) (limit : ℕ) (xs : List Stand) (p n : ℕ) → length xs ≡ n → ((q : ℕ) → q < n → stand_at xs q ≡ crashed (resting l limit (p + q))) → xs ≡ crashed_from l limit p n
+pub crashed_is : (l : Layout) (limit : ℕ) (xs : List MachineState) (p n : ℕ) → length xs ≡ n → ((q : ℕ) → q < n → machine_state_at xs q ≡ crashed (resting l limit (p + q))) → xs ≡ crashed_from l limit p n
 crashed_is l limit [] p zero len each = refl
 crashed_is l limit [] p (suc n) len each = cc
 crashed_is l limit (x ∷ xs) p zero len each = absurd (omega arith)
@@ -108,14 +108,14 @@ crashed_is l limit (x ∷ xs) p (suc n) len each =
     let rest = crashed_is l limit xs (p + 1) n (omega (arith, len)) (λ q h. let e : p + suc q ≡ p + 1 + q = omega arith in each (suc q) (omega arith) ∙ ap (λ y. crashed (resting l limit y)) e) in
     λ i. here i ∷ rest i
 
-crashed_spots : (l : Layout) (limit : ℕ) → spot_at (crashed_from l limit 0 l.procs) ≡ (crashed_scene l.procs (λ p. zeros) (λ p. 0)).spots
-crashed_spots l limit = λ i. λ p. each p i
+crashed_process_states : (l : Layout) (limit : ℕ) → process_state_at (crashed_from l limit 0 l.procs) ≡ (crashed_global_state l.procs (λ p. zeros) (λ p. 0)).process_states
+crashed_process_states l limit = λ i. λ p. each p i
   where
-    each : (p : ℕ) → spot_at (crashed_from l limit 0 l.procs) p ≡ (if nat_lt p l.procs then dead else at_rest)
+    each : (p : ℕ) → process_state_at (crashed_from l limit 0 l.procs) p ≡ (if nat_lt p l.procs then dead else at_rest)
     each p =
         elim (cases_lt p l.procs) [
-          | inl h ↦ rw (lt-ltb p l.procs h) (ap spot_of (crashed-at l limit 0 l.procs p h))
-          | inr h ↦ let off : nat_lt p l.procs ≡ false = le-ltb p l.procs h in rw off (ap spot_of (get_or_past (crashed_from l limit 0 l.procs) p absent (rw length-crashed h)))
+          | inl h ↦ rw (lt-ltb p l.procs h) (ap process_state_of (crashed-at l limit 0 l.procs p h))
+          | inr h ↦ let off : nat_lt p l.procs ≡ false = le-ltb p l.procs h in rw off (ap process_state_of (get_or_past (crashed_from l limit 0 l.procs) p absent (rw length-crashed h)))
         ]
 
 -- some process beside which no other is in
@@ -137,8 +137,8 @@ one_mailbox i k p q hp hq = by (find_in (length i.lock) (start_of (own_at i.lock
     by (inl h) = let x = is_in i k h.0 h.1 h.2 in let e : p ≡ q = sym (hp h.0 x) ∙ hq h.0 x in ap (λ r. mailbox_of (layout_of i) r (words_of i.cells)) e
     by (inr h) = mail_same i k p q (λ r x. h r x.0 (phase_in i k r x))
 
-pub image_scene : (i : Image) → scene_of (image_world i) ≡ crashed_scene (length i.lock) (own_at i.lock) (words_of i.cells)
-image_scene i = λ j. record { words = own_at i.lock; cells = words_of i.cells; spots = crashed_spots (layout_of i) i.limit j }
+pub image_global_state : (i : Image) → global_state_of (image_world i) ≡ crashed_global_state (length i.lock) (own_at i.lock) (words_of i.cells)
+image_global_state i = λ j. record { words = own_at i.lock; cells = words_of i.cells; process_states = crashed_process_states (layout_of i) i.limit j }
 
 phases_of : (words : List Own) (p : ℕ) → phase_of_list (map phase_by words) p ≡ phase_by (own_at words p)
 phases_of [] p = refl
@@ -161,20 +161,20 @@ image_world_is i k =
       sized = record { layout = record { few = sized.few; small = sized.small; least = sized.least; most = sized.most }; procs = (let h = sized.someone in omega (arith, h)); cap = (let h = sized.room in omega (arith, h)) };
       limited = (sized.limited, sized.low);
       filled = k.filled (omega arith);
-      seated = record {
+      configured = record {
         words_each = refl;
         processes_each = length-crashed l i.limit 0 n;
         tallies_each = length-map i.lock fresh;
-        seats = λ p below. subst (HasSeat l i.limit p) (sym (crashed-at l i.limit 0 n p below)) (let e : 0 + p ≡ p = omega arith in (refl, refl, e));
+        configurations = λ p below. subst (HasConfiguration l i.limit p) (sym (crashed-at l i.limit 0 n p below)) (let e : 0 + p ≡ p = omega arith in (refl, refl, e));
       };
       reached = record {
-        first = crashed_scene n (own_at i.lock) (words_of i.cells);
+        first = crashed_global_state n (own_at i.lock) (words_of i.cells);
         state = state_at i a.0;
         origin = inr (refl, later_by i k (state_at i a.0) refl refl refl (λ p h. one_mailbox i k a.0 p a.1 h));
-        story = [];
+        execution = [];
         told = tt;
-        last = sym (image_scene i);
+        last = sym (image_global_state i);
         done = refl;
       };
-      tallied = λ p below. unstarted l (own_at i.lock p) (spot_at (crashed_from l i.limit 0 n) p) i.lock p (ap spot_of (crashed-at l i.limit 0 n p below));
+      tallied = λ p below. unstarted l (own_at i.lock p) (process_state_at (crashed_from l i.limit 0 n) p) i.lock p (ap process_state_of (crashed-at l i.limit 0 n p below));
     }

@@ -2,15 +2,15 @@
 use Rattle.std.proofs.Common.{◌≡◌, ℕ, ◌<◌, Bool, true, List, [], ◌∷◌, ◌++◌, Option, Some, None, IsSome, refl, sym, ap, ◌∙◌, subst, inl, inr}
 use Rattle.rmeworld.proofs.Common.{cases_eq, All-head, All-tail, Kind, Outer, Begin, Ready, Enter, Crash, Reenter, Leave, Quit, Within, Data as DataAt, Abstract, Legal, nobody, needs, done, put}
 use Rattle.rmeworld.proofs.Common.{AllHold, Place, next, IsIn, all_done, is_store, and_then, allows_from, put_same, put_other, after_deed as done_by, legal, in_after, not_data, Deed, Layout, Words}
-use Rattle.rmeworld.proofs.Common.{IsLayout, AreOwn, Mailbox, outers as lock_deeds, Leads, empty, judged_all-append, puts_data, AllPutBy, NoEndOf, OnlyHoldersPut, Errand, Free, Doing, Happening}
-use Rattle.rmeworld.proofs.Common.{Moves, who, moved_by, next_spot, outer, event_deeds, Scene, at_first, Story, onward, last_scene, outer_deeds, mail_deeds, deeds}
+use Rattle.rmeworld.proofs.Common.{IsLayout, AreOwn, Mailbox, outers as lock_deeds, Leads, empty, judged_all-append, puts_data, AllPutBy, NoEndOf, OnlyHoldersPut, ScriptState, Free, Doing, WorldEvent}
+use Rattle.rmeworld.proofs.Common.{Moves, who, moved_by, next_process_state, outer, event_deeds, GlobalState, at_first, Execution, onward, last_global_state, outer_deeds, mail_deeds, deeds}
 use Rattle.rmecore.specs.declared.phase.Phase.TheVariants.{Out as IsOut}
 use Rattle.redomail.specs.declared.deed.Deed.TheVariants as deed
 use Rattle.judge.specs.Plain.{IsEndOf}
 use Rattle.rmeworld.proofs.Projection.{outers, projected, core_of, some_of}
-use Rattle.rmeworld.proofs.Happenings.{judge_of, AllowsBy, Kept}
+use Rattle.rmeworld.proofs.WorldEvents.{judge_of, AllowsBy, Kept}
 use Rattle.rmeworld.proofs.Knowing.{Post, PostAt}
-use Rattle.rmeworld.proofs.Stories.{AllPosts, happens, head, posts}
+use Rattle.rmeworld.proofs.Executions.{AllPosts, happens, head, posts}
 use Rattle.rmeworld.proofs.Reaching.{mail_own, done-and_then, origin}
 use Rattle.rmeworld.proofs.WorldTallies.{at_lock_some}
 
@@ -29,11 +29,11 @@ one_lock_deed : (o : Option Outer) (ms : List Deed) (xs : List Outer) → lock_d
 one_lock_deed None ms xs none = ap (λ (ds : List Outer). ds ++ xs) none
 one_lock_deed (Some d) ms xs none = ap (λ (ds : List Outer). d ∷ (ds ++ xs)) none
 
-pub lock_deeds_are : (l : Layout) (limit : ℕ) (w : Scene) (es : List Happening) → lock_deeds (deeds l limit w es) ≡ outers l limit w es
+pub lock_deeds_are : (l : Layout) (limit : ℕ) (w : GlobalState) (es : List WorldEvent) → lock_deeds (deeds l limit w es) ≡ outers l limit w es
 lock_deeds_are l limit w [] = refl
 lock_deeds_are l limit w (e ∷ es) =
     lock_deeds-append (event_deeds l w e) (deeds l limit (onward l limit w e) es) ∙ ap (λ (xs : List Outer). lock_deeds (event_deeds l w e) ++ xs) (lock_deeds_are l limit (onward l limit w e) es)
-    ∙ one_lock_deed (outer (w.spots (who e)) e) (mail_deeds l w.cells e) (outers l limit (onward l limit w e) es) (own_none (who e) (mail_deeds l w.cells e) (mail_own l w.cells e))
+    ∙ one_lock_deed (outer (w.process_states (who e)) e) (mail_deeds l w.cells e) (outers l limit (onward l limit w e) es) (own_none (who e) (mail_deeds l w.cells e) (mail_own l w.cells e))
 
 -- after a deed other than p's Leave, p is still in
 abbrev Stays : ℕ → List Outer → Type 0
@@ -75,92 +75,92 @@ and_then-append None ds es = refl
 and_then-append (Some d) ds es = refl
 
 module _ (l : Layout) (limit : ℕ) where
-  outers-append : (w : Scene) (xs ys : List Happening) → outers l limit w (xs ++ ys) ≡ outers l limit w xs ++ outers l limit (last_scene l limit w xs) ys
+  outers-append : (w : GlobalState) (xs ys : List WorldEvent) → outers l limit w (xs ++ ys) ≡ outers l limit w xs ++ outers l limit (last_global_state l limit w xs) ys
   outers-append w [] ys = refl
-  outers-append w (x ∷ xs) ys = ap (and_then (outer (w.spots (who x)) x)) (outers-append (onward l limit w x) xs ys) ∙ and_then-append (outer (w.spots (who x)) x) (outers l limit (onward l limit w x) xs) (outers l limit (last_scene l limit (onward l limit w x) xs) ys)
+  outers-append w (x ∷ xs) ys = ap (and_then (outer (w.process_states (who x)) x)) (outers-append (onward l limit w x) xs ys) ∙ and_then-append (outer (w.process_states (who x)) x) (outers l limit (onward l limit w x) xs) (outers l limit (last_global_state l limit (onward l limit w x) xs) ys)
 
-  pub story_front : (w : Scene) (xs ys : List Happening) → Story l limit w (xs ++ ys) → Story l limit w xs
-  story_front w [] ys h = tt
-  story_front w (x ∷ xs) ys h = (h.0, story_front (onward l limit w x) xs ys h.1)
+  pub execution_front : (w : GlobalState) (xs ys : List WorldEvent) → Execution l limit w (xs ++ ys) → Execution l limit w xs
+  execution_front w [] ys h = tt
+  execution_front w (x ∷ xs) ys h = (h.0, execution_front (onward l limit w x) xs ys h.1)
 
-  pub story_back : (w : Scene) (xs ys : List Happening) → Story l limit w (xs ++ ys) → Story l limit (last_scene l limit w xs) ys
-  story_back w [] ys h = h
-  story_back w (x ∷ xs) ys h = story_back (onward l limit w x) xs ys h.1
+  pub execution_back : (w : GlobalState) (xs ys : List WorldEvent) → Execution l limit w (xs ++ ys) → Execution l limit (last_global_state l limit w xs) ys
+  execution_back w [] ys h = h
+  execution_back w (x ∷ xs) ys h = execution_back (onward l limit w x) xs ys h.1
 
   -- a process that stores into a data word is inside
-  putter : (cells : Words) (a : Abstract) (m : Mailbox) (p : ℕ) (lock : Place) (b c : Bool) (errand : Errand) (kind : Kind) (i v : ℕ) → IsSome (moved_by l limit p lock b c errand kind (DataAt i) v) → Post l p (a.phase p) cells m b errand lock → is_store kind ≡ true → a.phase p ≡ Within
+  putter : (cells : Words) (a : Abstract) (m : Mailbox) (p : ℕ) (lock : Place) (b c : Bool) (script_state : ScriptState) (kind : Kind) (i v : ℕ) → IsSome (moved_by l limit p lock b c script_state kind (DataAt i) v) → Post l p (a.phase p) cells m b script_state lock → is_store kind ≡ true → a.phase p ≡ Within
   putter cells a m p lock b c Free kind i v some post stores = absurd (not_data l.procs limit p lock kind i v (at_lock_some l p lock b c (next l.procs limit p lock kind (DataAt i) v) some))
-  putter cells a m p lock b c (Doing why left) kind i v some post stores = post.1
+  putter cells a m p lock b c (Doing purpose left) kind i v some post stores = post.1
 
-  pub putter_in : (w : Scene) (a : Abstract) (m : Mailbox) (e : Happening) → IsSome (next_spot l limit (w.spots (who e)) e) → PostAt l (who e) (a.phase (who e)) w.cells m (w.spots (who e)) → puts_data e ≡ true → a.phase (who e) ≡ Within
-  putter_in w a m (Moves p kind (DataAt i) v) some post puts = let x = w.spots p in putter w.cells a m p x.lock x.mended x.barred x.errand kind i v some post puts
+  pub putter_in : (w : GlobalState) (a : Abstract) (m : Mailbox) (e : WorldEvent) → IsSome (next_process_state l limit (w.process_states (who e)) e) → PostAt l (who e) (a.phase (who e)) w.cells m (w.process_states (who e)) → puts_data e ≡ true → a.phase (who e) ≡ Within
+  putter_in w a m (Moves p kind (DataAt i) v) some post puts = let x = w.process_states p in putter w.cells a m p x.lock x.mended x.barred x.script_state kind i v some post puts
   putter_in w a m _ some post puts = absurd (cc)
 
   module _ (layout : IsLayout l) where
     -- the invariant at a global state
-    pub record At (w : Scene) (a : Abstract) : Type 0 where
+    pub record At (w : GlobalState) (a : Abstract) : Type 0 where
       pub mail : Mailbox
       pub kept : Kept l a w.cells mail
-      pub posts : AllPosts l limit layout a w.cells mail w.spots
+      pub posts : AllPosts l limit layout a w.cells mail w.process_states
 
     -- after an event, with the state that its deeds lead to
-    pub one : (w : Scene) (a : Abstract) (e : Happening) (es : List Happening) (at : At w a) → Story l limit w (e ∷ es) → Legal l.procs a (outers l limit w (e ∷ es))
-        → (next : At (onward l limit w e) (done_by a (outer (w.spots (who e)) e))) × Leads (judge_of l a at.mail) (event_deeds l w e) (judge_of l (done_by a (outer (w.spots (who e)) e)) next.mail)
-    one w a e es at story legal =
-        let o = outer (w.spots (who e)) e in
-        let x = some_of l limit (next_spot l limit (w.spots (who e)) e) (w.spots (who e)) story.0.1 in
+    pub one : (w : GlobalState) (a : Abstract) (e : WorldEvent) (es : List WorldEvent) (at : At w a) → Execution l limit w (e ∷ es) → Legal l.procs a (outers l limit w (e ∷ es))
+        → (next : At (onward l limit w e) (done_by a (outer (w.process_states (who e)) e))) × Leads (judge_of l a at.mail) (event_deeds l w e) (judge_of l (done_by a (outer (w.process_states (who e)) e)) next.mail)
+    one w a e es at execution legal =
+        let o = outer (w.process_states (who e)) e in
+        let x = some_of l limit (next_process_state l limit (w.process_states (who e)) e) (w.process_states (who e)) execution.0.1 in
         let r = head l limit layout a o (outers l limit (onward l limit w e) es) legal in
-        let left = happens l limit layout w a at.mail e x.0 story.0.0 at.kept x.1 story.0.2 r.0 (at.posts (who e) story.0.0) in (
+        let left = happens l limit layout w a at.mail e x.0 execution.0.0 at.kept x.1 execution.0.2 r.0 (at.posts (who e) execution.0.0) in (
           record {
             mail = left.0.mail;
             kept = left.0.kept;
-            posts = subst (λ z. AllPosts l limit layout (done_by a o) (onward l limit w e).cells left.0.mail (put w.spots (who e) z)) (sym x.2) (posts l limit layout w a at.mail e x.0 left.0 at.posts);
+            posts = subst (λ z. AllPosts l limit layout (done_by a o) (onward l limit w e).cells left.0.mail (put w.process_states (who e) z)) (sym x.2) (posts l limit layout w a at.mail e x.0 left.0 at.posts);
           },
           left.0.leads,
         )
 
     -- and after an execution
-    pub comes_to : (w : Scene) (a : Abstract) (es : List Happening) (at : At w a) → Story l limit w es → Legal l.procs a (outers l limit w es)
-        → (there : At (last_scene l limit w es) (all_done a (outers l limit w es))) × Leads (judge_of l a at.mail) (deeds l limit w es) (judge_of l (all_done a (outers l limit w es)) there.mail)
-    comes_to w a [] at story legal = (at, refl)
-    comes_to w a (e ∷ es) at story legal =
-        let o = outer (w.spots (who e)) e in
+    pub comes_to : (w : GlobalState) (a : Abstract) (es : List WorldEvent) (at : At w a) → Execution l limit w es → Legal l.procs a (outers l limit w es)
+        → (there : At (last_global_state l limit w es) (all_done a (outers l limit w es))) × Leads (judge_of l a at.mail) (deeds l limit w es) (judge_of l (all_done a (outers l limit w es)) there.mail)
+    comes_to w a [] at execution legal = (at, refl)
+    comes_to w a (e ∷ es) at execution legal =
+        let o = outer (w.process_states (who e)) e in
         let r = head l limit layout a o (outers l limit (onward l limit w e) es) legal in
-        let now = one w a e es at story legal in
-        let rest = comes_to (onward l limit w e) (done_by a o) es now.0 story.1 r.1 in
-        let Comes : Abstract → Type 0 = λ b. (there : At (last_scene l limit w (e ∷ es)) b) × Leads (judge_of l a at.mail) (deeds l limit w (e ∷ es)) (judge_of l b there.mail) in
+        let now = one w a e es at execution legal in
+        let rest = comes_to (onward l limit w e) (done_by a o) es now.0 execution.1 r.1 in
+        let Comes : Abstract → Type 0 = λ b. (there : At (last_global_state l limit w (e ∷ es)) b) × Leads (judge_of l a at.mail) (deeds l limit w (e ∷ es)) (judge_of l b there.mail) in
         subst Comes (sym (done-and_then a o (outers l limit (onward l limit w e) es)))
         (rest.0, judged_all-append (judge_of l a at.mail) (judge_of l (done_by a o) now.0.mail) (event_deeds l w e) (deeds l limit (onward l limit w e) es) now.1 ∙ rest.1)
 
-    only_puts : (w : Scene) (a : Abstract) (es : List Happening) (p : ℕ) → p < l.procs → At w a → Story l limit w es → Legal l.procs a (outers l limit w es) → IsIn (a.phase p) → Stays p (outers l limit w es) → AllPutBy p es
-    only_puts w a [] p below at story legal i stays = tt
-    only_puts w a (e ∷ es) p below at story legal i stays =
-        let o = outer (w.spots (who e)) e in
+    only_puts : (w : GlobalState) (a : Abstract) (es : List WorldEvent) (p : ℕ) → p < l.procs → At w a → Execution l limit w es → Legal l.procs a (outers l limit w es) → IsIn (a.phase p) → Stays p (outers l limit w es) → AllPutBy p es
+    only_puts w a [] p below at execution legal i stays = tt
+    only_puts w a (e ∷ es) p below at execution legal i stays =
+        let o = outer (w.process_states (who e)) e in
         let r = head l limit layout a o (outers l limit (onward l limit w e) es) legal in
         let s = stays_by l.procs a o (outers l limit (onward l limit w e) es) p r.0 stays i in (
-          λ puts. sym (at.kept.sole p (who e) below story.0.0 i (subst IsIn (sym (putter_in w a at.mail e story.0.1 (at.posts (who e) story.0.0) puts)) tt)),
-          only_puts (onward l limit w e) (done_by a o) es p below (one w a e es at story legal).0 story.1 r.1 s.0 s.1,
+          λ puts. sym (at.kept.sole p (who e) below execution.0.0 i (subst IsIn (sym (putter_in w a at.mail e execution.0.1 (at.posts (who e) execution.0.0) puts)) tt)),
+          only_puts (onward l limit w e) (done_by a o) es p below (one w a e es at execution legal).0 execution.1 r.1 s.0 s.1,
         )
 
 -- after an execution from the first global state
-pub story_comes : (l : Layout) (limit : ℕ) (story : List Happening) (layout : IsLayout l) → Story l limit at_first story
-    → Legal l.procs nobody (outers l limit at_first story) × ((at : At l limit layout (last_scene l limit at_first story) (all_done nobody (outers l limit at_first story)))
-    × Leads (empty l.procs l.cap) (deeds l limit at_first story) (judge_of l (all_done nobody (outers l limit at_first story)) at.mail))
-story_comes l limit story layout told =
+pub execution_comes : (l : Layout) (limit : ℕ) (execution : List WorldEvent) (layout : IsLayout l) → Execution l limit at_first execution
+    → Legal l.procs nobody (outers l limit at_first execution) × ((at : At l limit layout (last_global_state l limit at_first execution) (all_done nobody (outers l limit at_first execution)))
+    × Leads (empty l.procs l.cap) (deeds l limit at_first execution) (judge_of l (all_done nobody (outers l limit at_first execution)) at.mail))
+execution_comes l limit execution layout told =
     let n = l.procs in
     let o = origin l limit at_first (empty n l.cap) layout (inl (refl, refl)) in
-    let r = projected l limit at_first story o.held told in
-    let all : Legal n nobody (outers l limit at_first story) = subst (Legal n nobody) r.same (legal n limit (core_of at_first) nobody r.events o.tied r.run) in
-    (all, comes_to l limit layout at_first nobody story (record { mail = (empty n l.cap).mail; kept = o.kept; posts = o.posts }) told all)
+    let r = projected l limit at_first execution o.held told in
+    let all : Legal n nobody (outers l limit at_first execution) = subst (Legal n nobody) r.same (legal n limit (core_of at_first) nobody r.events o.tied r.run) in
+    (all, comes_to l limit layout at_first nobody execution (record { mail = (empty n l.cap).mail; kept = o.kept; posts = o.posts }) told all)
 
 pub holders_put : OnlyHoldersPut
-holders_put l limit p before since earlier layout below story entered none =
+holders_put l limit p before since earlier layout below execution entered none =
     let n = l.procs in
-    let whole = story_comes l limit (before ++ since) layout story in
-    let all : Legal n nobody (outers l limit at_first before ++ outers l limit (last_scene l limit at_first before) since) =
+    let whole = execution_comes l limit (before ++ since) layout execution in
+    let all : Legal n nobody (outers l limit at_first before ++ outers l limit (last_global_state l limit at_first before) since) =
     subst (Legal n nobody) (outers-append l limit at_first before since) whole.0 in
-    let there = story_comes l limit before layout (story_front l limit at_first before since story) in
+    let there = execution_comes l limit before layout (execution_front l limit at_first before since execution) in
     let is : outers l limit at_first before ≡ lock_deeds earlier ++ Enter p ∷ [] = sym (lock_deeds_are l limit at_first before) ∙ ap lock_deeds entered ∙ lock_deeds-append earlier (deed.Outer (Enter p) ∷ []) in
     let within : IsIn ((all_done nobody (outers l limit at_first before)).phase p) = subst (λ (ds : List Outer). IsIn ((all_done nobody ds).phase p)) (sym is) (entered_in nobody (lock_deeds earlier) p) in
-    only_puts l limit layout (last_scene l limit at_first before) (all_done nobody (outers l limit at_first before)) since p below there.1.0 (story_back l limit at_first before since story) (legal_back n nobody (outers l limit at_first before) (outers l limit (last_scene l limit at_first before) since) all) within
-    (subst (Stays p) (lock_deeds_are l limit (last_scene l limit at_first before) since) (none_ends p (deeds l limit (last_scene l limit at_first before) since) none))
+    only_puts l limit layout (last_global_state l limit at_first before) (all_done nobody (outers l limit at_first before)) since p below there.1.0 (execution_back l limit at_first before since execution) (legal_back n nobody (outers l limit at_first before) (outers l limit (last_global_state l limit at_first before) since) all) within
+    (subst (Stays p) (lock_deeds_are l limit (last_global_state l limit at_first before) since) (none_ends p (deeds l limit (last_global_state l limit at_first before) since) none))

@@ -1,8 +1,8 @@
 -- In every run of a world, an act that is not refused is the definition's, and so is its report.
 use Rattle.std.proofs.Common.{◌≡◌, ℕ, false, List, [], ◌∷◌, ◌++◌, length, Option, Some, None, refl, sym, ap, subst, inl, inr}
-use Rattle.rmeworld.proofs.Common.{Access, Refusal, kind_of, is_glance, own_at, Layout, words_of, Start, Leads, IsLegal, state_of, State, Call, Image, answer_at, done_by, errand_of, layout_of}
-use Rattle.rmeworld.proofs.Common.{IsLawfulImage, IsStartOf, crashed_scene, IsOrigin, value_of, stepped_if, advanced_if, started, advance_refusal, advanced, crash_refusal, list_of, advanced_by}
-use Rattle.rmeworld.proofs.Common.{outer_by, Begins, Falls, outer, Stand, event_deeds, Scene, at_first, WorldState, stand_at, spot_at, scene_of, Takes, happening_of, ChoosesLeast, new_world}
+use Rattle.rmeworld.proofs.Common.{Access, Refusal, kind_of, is_glance, own_at, Layout, words_of, Start, Leads, IsLegal, state_of, State, Call, Image, answer_at, done_by, script_state_of, layout_of}
+use Rattle.rmeworld.proofs.Common.{IsLawfulImage, IsStartOf, crashed_global_state, IsOrigin, value_of, stepped_if, advanced_if, started, advance_refusal, advanced, crash_refusal, list_of, advanced_by}
+use Rattle.rmeworld.proofs.Common.{outer_by, Begins, Falls, outer, MachineState, event_deeds, GlobalState, at_first, WorldState, machine_state_at, process_state_at, global_state_of, Takes, world_event_of, ChoosesLeast, new_world}
 use Rattle.rmeworld.proofs.Common.{new_refusal, image_world}
 use Rattle.rmeworld.specs.Acts.{Act, Starts, Steps, Crashes, unless}
 use Rattle.rmeworld.specs.Replayed.{start_refusal, stepped, crashed, stepped_by}
@@ -13,7 +13,7 @@ use Rattle.rmeworld.proofs.WorldSteps.{step_takes, crash_takes}
 use Rattle.rmeworld.proofs.WorldTallies.{no_glance}
 
 -- the world is at the end of an execution from this global state, with these sizes, and its history is the execution's deeds
-record Goes (l : Layout) (limit : ℕ) (first : Scene) (s : WorldState) : Type 0 where
+record Goes (l : Layout) (limit : ℕ) (first : GlobalState) (s : WorldState) : Type 0 where
   pub layout : s.layout ≡ l
   pub limited : s.limit ≡ limit
   pub follows : Follows first s s.history
@@ -21,10 +21,10 @@ record Goes (l : Layout) (limit : ℕ) (first : Scene) (s : WorldState) : Type 0
 new_goes : (l : Layout) (limit : ℕ) → new_refusal l limit ≡ None → Goes l limit at_first (new_world l limit)
 new_goes l limit may = record { layout = refl; limited = refl; follows = follows_new l limit may }
 
-image_goes : (i : Image) → IsLawfulImage i → Goes (layout_of i) i.limit (crashed_scene (length i.lock) (own_at i.lock) (words_of i.cells)) (image_world i)
+image_goes : (i : Image) → IsLawfulImage i → Goes (layout_of i) i.limit (crashed_global_state (length i.lock) (own_at i.lock) (words_of i.cells)) (image_world i)
 image_goes i lawful = record { layout = refl; limited = refl; follows = follows_image i lawful }
 
-module _ (l : Layout) (limit : ℕ) (first : Scene) where
+module _ (l : Layout) (limit : ℕ) (first : GlobalState) where
   advanced_goes : (s : WorldState) (p : ℕ) → Goes l limit first s → advance_refusal s p ≡ None → Goes l limit first (advanced s p)
   advanced_goes s p h may =
       let is = step_is s p h.follows may in
@@ -69,7 +69,7 @@ legal_from_image i s acts lawful start =
 
 -- the world is at the end of some execution
 record Follow (s : WorldState) : Type 0 where
-  pub first : Scene
+  pub first : GlobalState
   pub follows : Follows first s s.history
 
 first_follows : (s : WorldState) (acts : List Act) → IsFirst s → Follow (run_of s acts)
@@ -85,49 +85,49 @@ pub a_start : (s : WorldState) (p : ℕ) (call : Call) → IsRun s → start_ref
 a_start s p call run may = (start_is s p call (run_follows s run).follows may).3
 
 pub a_crash : (s : WorldState) (p : ℕ) → IsRun s → crash_refusal s p ≡ None → Takes s (Falls p) (crashed s p)
-a_crash s p run may = crash_takes s p (run_follows s run).follows.world.seated (below_if p s.layout.procs None may).0
+a_crash s p run may = crash_takes s p (run_follows s run).follows.world.configured (below_if p s.layout.procs None may).0
 
 -- the next step
 stepping : (s : WorldState) (p : ℕ) → IsRun s → advance_refusal s p ≡ None → Stepping s p
 stepping s p run may = step_is s p (run_follows s run).follows may
 
-pub a_step : (s : WorldState) (p : ℕ) → IsRun s → advance_refusal s p ≡ None → Takes s (happening_of p (stepped s p).happened) (advanced s p)
+pub a_step : (s : WorldState) (p : ℕ) → IsRun s → advance_refusal s p ≡ None → Takes s (world_event_of p (stepped s p).happened) (advanced s p)
 a_step s p run may =
     let is = stepping s p run may in
-    subst (λ o. Takes s (happening_of p (stepped_if s p o).happened) (advanced_if s p o)) (sym is.step.next) (step_takes s p is.access is.step)
+    subst (λ o. Takes s (world_event_of p (stepped_if s p o).happened) (advanced_if s p o)) (sym is.step.next) (step_takes s p is.access is.step)
 
 pub no_look : (s : WorldState) (p : ℕ) → IsRun s → advance_refusal s p ≡ None → is_glance (stepped s p).happened.kind ≡ false
 no_look s p run may =
     let is = stepping s p run may in
-    let t : Stand = stand_at s.processes p in
-    subst (λ o. is_glance (stepped_if s p o).happened.kind ≡ false) (sym is.step.next) (no_glance t.limit t.index t.lock (errand_of t.errand) is.access is.step.next)
+    let t : MachineState = machine_state_at s.processes p in
+    subst (λ o. is_glance (stepped_if s p o).happened.kind ≡ false) (sym is.step.next) (no_glance t.limit t.index t.lock (script_state_of t.script_state) is.access is.step.next)
 
 pub the_least : (s : WorldState) (p : ℕ) → IsRun s → advance_refusal s p ≡ None → ChoosesLeast s p (stepped s p).happened
 the_least s p run may =
     let is = stepping s p run may in
-    let seat = is.step.seated.seats p is.step.below in
-    subst (λ o. ChoosesLeast s p (stepped_if s p o).happened) (sym is.step.next) (λ word v some. is.least word v (rw (seat.0, seat.1, seat.2) some))
+    let configuration = is.step.configured.configurations p is.step.below in
+    subst (λ o. ChoosesLeast s p (stepped_if s p o).happened) (sym is.step.next) (λ word v some. is.least word v (rw (configuration.0, configuration.1, configuration.2) some))
 
-pub its_outer : (s : WorldState) (p : ℕ) → IsRun s → advance_refusal s p ≡ None → (stepped s p).happened.outer ≡ outer (spot_at s.processes p) (happening_of p (stepped s p).happened)
+pub its_outer : (s : WorldState) (p : ℕ) → IsRun s → advance_refusal s p ≡ None → (stepped s p).happened.outer ≡ outer (process_state_at s.processes p) (world_event_of p (stepped s p).happened)
 its_outer s p run may =
     let is = stepping s p run may in
     let a : Access = is.access in
-    let t : Stand = stand_at s.processes p in
-    let seat = is.step.seated.seats p is.step.below in
-    subst (λ o. (stepped_if s p o).happened.outer ≡ outer (spot_at s.processes p) (happening_of p (stepped_if s p o).happened)) (sym is.step.next)
-    (ap (λ q. outer_by q t.lock (errand_of t.errand) (kind_of a) (value_of s a)) seat.2)
+    let t : MachineState = machine_state_at s.processes p in
+    let configuration = is.step.configured.configurations p is.step.below in
+    subst (λ o. (stepped_if s p o).happened.outer ≡ outer (process_state_at s.processes p) (world_event_of p (stepped_if s p o).happened)) (sym is.step.next)
+    (ap (λ q. outer_by q t.lock (script_state_of t.script_state) (kind_of a) (value_of s a)) configuration.2)
 
-pub its_done : (s : WorldState) (p : ℕ) → IsRun s → advance_refusal s p ≡ None → (stepped s p).happened.done ≡ done_by (spot_at s.processes p).lock (spot_at s.processes p).errand (stepped s p).happened.kind (stepped s p).happened.value
+pub its_done : (s : WorldState) (p : ℕ) → IsRun s → advance_refusal s p ≡ None → (stepped s p).happened.done ≡ done_by (process_state_at s.processes p).lock (process_state_at s.processes p).script_state (stepped s p).happened.kind (stepped s p).happened.value
 its_done s p run may =
     let is = stepping s p run may in
-    subst (λ o. (stepped_if s p o).happened.done ≡ done_by (spot_at s.processes p).lock (spot_at s.processes p).errand (stepped_if s p o).happened.kind (stepped_if s p o).happened.value) (sym is.step.next) refl
+    subst (λ o. (stepped_if s p o).happened.done ≡ done_by (process_state_at s.processes p).lock (process_state_at s.processes p).script_state (stepped_if s p o).happened.kind (stepped_if s p o).happened.value) (sym is.step.next) refl
 
-pub its_deed : (s : WorldState) (p : ℕ) → IsRun s → advance_refusal s p ≡ None → list_of (stepped s p).deed ≡ event_deeds s.layout (scene_of s) (happening_of p (stepped s p).happened)
+pub its_deed : (s : WorldState) (p : ℕ) → IsRun s → advance_refusal s p ≡ None → list_of (stepped s p).deed ≡ event_deeds s.layout (global_state_of s) (world_event_of p (stepped s p).happened)
 its_deed s p run may =
     let is = stepping s p run may in
-    subst (λ o. list_of (stepped_if s p o).deed ≡ event_deeds s.layout (scene_of s) (happening_of p (stepped_if s p o).happened)) (sym is.step.next) is.one
+    subst (λ o. list_of (stepped_if s p o).deed ≡ event_deeds s.layout (global_state_of s) (world_event_of p (stepped_if s p o).happened)) (sym is.step.next) is.one
 
-pub its_answer : (s : WorldState) (p : ℕ) → IsRun s → advance_refusal s p ≡ None → (stepped s p).answer ≡ answer_at (spot_at s.processes p) (stepped s p).happened.kind (stepped s p).happened.value
+pub its_answer : (s : WorldState) (p : ℕ) → IsRun s → advance_refusal s p ≡ None → (stepped s p).answer ≡ answer_at (process_state_at s.processes p) (stepped s p).happened.kind (stepped s p).happened.value
 its_answer s p run may =
     let is = stepping s p run may in
-    subst (λ o. (stepped_if s p o).answer ≡ answer_at (spot_at s.processes p) (stepped_if s p o).happened.kind (stepped_if s p o).happened.value) (sym is.step.next) refl
+    subst (λ o. (stepped_if s p o).answer ≡ answer_at (process_state_at s.processes p) (stepped_if s p o).happened.kind (stepped_if s p o).happened.value) (sym is.step.next) refl

@@ -2,8 +2,8 @@
 -- and mended: the words are clean. At its exit: they are clean or ruined.
 use Rattle.std.proofs.Common.{◌≡◌, ℕ, ◌<◌, Bool, true, false, ◌&&◌, ◌==◌, length, if◌then◌else◌, List, refl, sym, ap, ◌∙◌, subst, inl, inr, arith, eqb-true, true≢false}
 use Rattle.rmeworld.proofs.Common.{cases_Bool, and_parts, eqb-false, Phase, Within, Place, Leaving, Inside, Layout, Message, Reply, Mended, Ruined, Stored, Already, Task, Words, IsLayout, Mailbox}
-use Rattle.rmeworld.proofs.Common.{message, Safe, Script, Get, Put, Done, Shape, bit, recorded, script, consistent, Why, Ruining, Mending, Working, Checking, AppendTells, WhyTells, Errand, Free}
-use Rattle.rmeworld.proofs.Common.{Doing, Spot, settled, end_place, end_mended}
+use Rattle.rmeworld.proofs.Common.{message, Safe, Script, Get, Put, Done, Shape, bit, recorded, script, consistent, Purpose, Ruining, Mending, Working, Checking, AppendTells, PurposeTells, ScriptState, Free}
+use Rattle.rmeworld.proofs.Common.{Doing, ProcessState, settled, end_place, end_mended}
 use Rattle.redomail.specs.declared.task.Task.TheVariants as task
 use Rattle.redomail.specs.Runs.{answer, final, added_by, Allowed, MayBegin}
 use Rattle.redomail.specs.Endings.{FindsArmed, ruined_after, armed_after}
@@ -17,7 +17,7 @@ abbrev pub Clean : Words → Type 0
 Clean w = (w 0 ≡ 0) × (w 3 ≡ 0)
 
 -- the reply and the words at a script's end
-abbrev pub Ends : Why → Bool → Reply → Words → Type 0
+abbrev pub Ends : Purpose → Bool → Reply → Words → Type 0
 Ends Checking b (Ruined true) w = w 0 ≡ 1
 Ends Checking b (Ruined false) w = b ≡ true → Clean w
 Ends Checking b _ w = ⊥
@@ -27,28 +27,28 @@ Ends Mending b _ w = b ≡ true → Clean w
 Ends (Working t) b a w = b ≡ true → Clean w
 
 -- the message of an append is its own
-abbrev pub Mine : Why → ℕ → Message → Type 0
+abbrev pub Mine : Purpose → ℕ → Message → Type 0
 Mine (Working (task.Append seq value)) p m = message p seq value ≡ m
 Mine _ p m = Unit {0}
 
-pub record Work (l : Layout) (p : ℕ) (w : Words) (s : Mailbox) (b : Bool) (why : Why) (left : Script Reply) : Type 0 where
+pub record Work (l : Layout) (p : ℕ) (w : Words) (s : Mailbox) (b : Bool) (purpose : Purpose) (left : Script Reply) : Type 0 where
   pub m : Message
   pub old : Mailbox
   pub safe : Safe l p m old left w s
-  pub ends : Ends why b (answer left w) (final left w)
-  pub mine : Mine why p m
+  pub ends : Ends purpose b (answer left w) (final left w)
+  pub mine : Mine purpose p m
 
-abbrev pub Post : Layout → ℕ → Phase → Words → Mailbox → Bool → Errand → Place → Type 0
-Post l p ph w s b (Doing why left) lock = (lock ≡ Inside) × (ph ≡ Within) × Work l p w s b why left
+abbrev pub Post : Layout → ℕ → Phase → Words → Mailbox → Bool → ScriptState → Place → Type 0
+Post l p ph w s b (Doing purpose left) lock = (lock ≡ Inside) × (ph ≡ Within) × Work l p w s b purpose left
 Post l p ph w s b Free Inside = (ph ≡ Within) × (b ≡ true → Clean w)
 Post l p ph w s b Free Leaving = (ph ≡ Within) × (w 0 ≡ 0 → w 3 ≡ 0)
 Post l p ph w s b Free _ = Unit {0}
 
-abbrev pub PostAt : Layout → ℕ → Phase → Words → Mailbox → Spot → Type 0
-PostAt l p ph w s spot = Post l p ph w s spot.mended spot.errand spot.lock
+abbrev pub PostAt : Layout → ℕ → Phase → Words → Mailbox → ProcessState → Type 0
+PostAt l p ph w s process_state = Post l p ph w s process_state.mended process_state.script_state process_state.lock
 
 module _ (l : Layout) (p : ℕ) where
-  end_post : (ph : Phase) (w : Words) (s : Mailbox) (b : Bool) (why : Why) (a : Reply) → ph ≡ Within → Ends why b a w → Post l p ph w s (end_mended why b a) Free (end_place why a)
+  end_post : (ph : Phase) (w : Words) (s : Mailbox) (b : Bool) (purpose : Purpose) (a : Reply) → ph ≡ Within → Ends purpose b a w → Post l p ph w s (end_mended purpose b a) Free (end_place purpose a)
   end_post ph w s b Checking (Ruined true) h e = (h, λ z. absurd (omega arith))
   end_post ph w s b Checking (Ruined false) h e = (h, e)
   end_post ph w s b Checking _ h e = absurd (e)
@@ -58,14 +58,14 @@ module _ (l : Layout) (p : ℕ) where
   end_post ph w s b (Working t) a h e = (h, e)
 
   -- after a step of a script
-  pub settled_post : (ph : Phase) (w : Words) (s : Mailbox) (b c : Bool) (why : Why) (e : Script Reply) → ph ≡ Within → Work l p w s b why e → PostAt l p ph w s (settled b c why e)
-  settled_post ph w s b c why (Get i rest) h k = (refl, h, k)
-  settled_post ph w s b c why (Put i v rest) h k = (refl, h, k)
-  settled_post ph w s b c why (Done a) h k = end_post ph w s b why a h k.ends
+  pub settled_post : (ph : Phase) (w : Words) (s : Mailbox) (b c : Bool) (purpose : Purpose) (e : Script Reply) → ph ≡ Within → Work l p w s b purpose e → PostAt l p ph w s (settled b c purpose e)
+  settled_post ph w s b c purpose (Get i rest) h k = (refl, h, k)
+  settled_post ph w s b c purpose (Put i v rest) h k = (refl, h, k)
+  settled_post ph w s b c purpose (Done a) h k = end_post ph w s b purpose a h k.ends
 
   -- a process that isn't in knows nothing, and stays so
-  pub Post-out : (ph : Phase) (w w' : Words) (s s' : Mailbox) (b : Bool) (errand : Errand) (lock : Place) → (ph ≡ Within → ⊥) → Post l p ph w s b errand lock → Post l p ph w' s' b errand lock
-  Post-out ph w w' s s' b (Doing why left) lock out k = absurd (out k.1)
+  pub Post-out : (ph : Phase) (w w' : Words) (s s' : Mailbox) (b : Bool) (script_state : ScriptState) (lock : Place) → (ph ≡ Within → ⊥) → Post l p ph w s b script_state lock → Post l p ph w' s' b script_state lock
+  Post-out ph w w' s s' b (Doing purpose left) lock out k = absurd (out k.1)
   Post-out ph w w' s s' b Free Inside out k = absurd (out k.0)
   Post-out ph w w' s s' b Free Leaving out k = absurd (out k.0)
   Post-out ph w w' s s' b Free _ out k = tt
@@ -175,6 +175,6 @@ append_tells l p seq value m old (Done Stored) w s mine h = answered_is_shown l 
 append_tells l p seq value m old (Done Already) w s mine h = answered_is_shown l p seq value old s Already w (subst (λ x. Safe l p x old (Done Already) w s) (sym mine) h) (inr refl)
 append_tells l p seq value m old _ w s mine h = tt
 
-pub work_tells : (l : Layout) (p : ℕ) (w : Words) (s : Mailbox) (b : Bool) (why : Why) (e : Script Reply) → Work l p w s b why e → WhyTells p why e s.shown
+pub work_tells : (l : Layout) (p : ℕ) (w : Words) (s : Mailbox) (b : Bool) (purpose : Purpose) (e : Script Reply) → Work l p w s b purpose e → PurposeTells p purpose e s.shown
 work_tells l p w s b (Working (task.Append seq value)) e k = append_tells l p seq value k.m k.old e w s k.mine k.safe
 work_tells l p w s b _ e k = tt

@@ -1,10 +1,10 @@
 -- The image of a global state at the end of an execution is lawful.
 use Rattle.std.proofs.Common.{◌≡◌, ℕ, zero, suc, ◌<◌, ◌≤◌, ◌^◌, Bool, true, false, List, length, slice_index, refl, sym, ap, ◌∙◌, subst, inl, inr, ◌⊎◌, arith}
 use Rattle.rmeworld.proofs.Common.{cases_eq, Phase, Within as Inside, DeadIn, own_at, IsIn, Deed, Layout, Words, size, words_of, Shape, RecordRule, bit, State, Image, layout_of, IsLawfulImage}
-use Rattle.rmeworld.proofs.Common.{IsWorld, IsImageOf, EveryStoryLeavesAnImage, IsLegalHistory, image_of, Spot, IsSize, Scene, WorldState, scene_of}
+use Rattle.rmeworld.proofs.Common.{IsWorld, IsImageOf, EveryExecutionLeavesAnImage, IsLegalHistory, image_of, ProcessState, IsSize, GlobalState, WorldState, global_state_of}
 use Rattle.redomail.specs.Content.{HeadsHold}
 use Rattle.rmeworld.proofs.Reaching.{Arrived, arrives, origin, reached_arrives}
-use Rattle.rmeworld.proofs.Stories.{before_is}
+use Rattle.rmeworld.proofs.Executions.{before_is}
 
 -- a process is in, or it is not
 decides : (phase : Phase) → IsIn phase ⊎ (IsIn phase → ⊥)
@@ -36,10 +36,10 @@ bit_clear true e = cc
 bit_clear false e = refl
 
 -- a global state with the image's words
-abbrev image_scene : Image → (ℕ → Spot) → Scene
-image_scene i spots = record { words = own_at i.lock; cells = words_of i.cells; spots = spots }
+abbrev image_global_state : Image → (ℕ → ProcessState) → GlobalState
+image_global_state i process_states = record { words = own_at i.lock; cells = words_of i.cells; process_states = process_states }
 
-module _ (i : Image) (spots : ℕ → Spot) (history : List Deed) (state : State) (a : Arrived (layout_of i) i.limit state (image_scene i spots) history) where
+module _ (i : Image) (process_states : ℕ → ProcessState) (history : List Deed) (state : State) (a : Arrived (layout_of i) i.limit state (image_global_state i process_states) history) where
   abbrev l : Layout
   l = layout_of i
 
@@ -122,24 +122,24 @@ module _ (i : Image) (spots : ℕ → Spot) (history : List Deed) (state : State
         }
 
 -- An image of the global state at the end is lawful.
-pub image_ends : {l : Layout} {limit : ℕ} {w : Scene} {history : List Deed} (state : State) (i : Image) → IsSize l → (1 ≤ limit) × (limit ≤ 2 ^ 62) → IsImageOf l limit w i → Arrived l limit state w history → IsLawfulImage i
+pub image_ends : {l : Layout} {limit : ℕ} {w : GlobalState} {history : List Deed} (state : State) (i : Image) → IsSize l → (1 ≤ limit) × (limit ≤ 2 ^ 62) → IsImageOf l limit w i → Arrived l limit state w history → IsLawfulImage i
 image_ends {l = l} {limit = limit} {w = w} {history = history} state i sized limited is a =
-    let there : w ≡ image_scene i w.spots = λ j. record { words = sym is.words j; cells = sym is.cells j; spots = w.spots } in
-    let scene = subst (λ x. Arrived l limit state x history) there a in
-    let limits = subst (λ x. Arrived l x state (image_scene i w.spots) history) (sym is.limited) scene in
-    let arrived = subst (λ x. Arrived x i.limit state (image_scene i w.spots) history) (sym is.layout) limits in
-    lawful_now i w.spots history state arrived is.version (subst IsSize (sym is.layout) sized) (subst (λ x. (1 ≤ x) × (x ≤ 2 ^ 62)) (sym is.limited) limited)
+    let there : w ≡ image_global_state i w.process_states = λ j. record { words = sym is.words j; cells = sym is.cells j; process_states = w.process_states } in
+    let global_state = subst (λ x. Arrived l limit state x history) there a in
+    let limits = subst (λ x. Arrived l x state (image_global_state i w.process_states) history) (sym is.limited) global_state in
+    let arrived = subst (λ x. Arrived x i.limit state (image_global_state i w.process_states) history) (sym is.layout) limits in
+    lawful_now i w.process_states history state arrived is.version (subst IsSize (sym is.layout) sized) (subst (λ x. (1 ≤ x) × (x ≤ 2 ^ 62)) (sym is.limited) limited)
     (is.filled ∙ ap size (sym is.layout))
 
-pub every_story_leaves_an_image : EveryStoryLeavesAnImage
-every_story_leaves_an_image l limit w s story i sized limited start told is =
-    image_ends s i sized limited is (arrives l limit w s story sized.layout (origin l limit w s sized.layout start) told)
+pub every_execution_leaves_an_image : EveryExecutionLeavesAnImage
+every_execution_leaves_an_image l limit w s execution i sized limited start told is =
+    image_ends s i sized limited is (arrives l limit w s execution sized.layout (origin l limit w s sized.layout start) told)
 
 pub image_is_lawful : (s : WorldState) → IsWorld s → IsLawfulImage (image_of s)
 image_is_lawful s world =
-    let is : IsImageOf s.layout s.limit (scene_of s) (image_of s) = record {
+    let is : IsImageOf s.layout s.limit (global_state_of s) (image_of s) = record {
       version = refl;
-      layout = λ j. record { procs = world.seated.words_each j; cap = s.layout.cap; width = s.layout.width };
+      layout = λ j. record { procs = world.configured.words_each j; cap = s.layout.cap; width = s.layout.width };
       limited = refl;
       filled = world.filled;
       words = refl;

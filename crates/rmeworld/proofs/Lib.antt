@@ -4,10 +4,10 @@ pub mod Entries
 pub mod Chores
 pub mod Projection
 pub mod Knowing
-pub mod Happenings
-pub mod Stories
+pub mod WorldEvents
+pub mod Executions
 pub mod WorldSteps
-pub mod StoryGrows
+pub mod ExecutionGrows
 pub mod Worlds
 pub mod Taken
 pub mod Advancing

@@ -2,9 +2,9 @@
 use Rattle.std.proofs.Common.{◌≡◌, ℕ, ◌<◌, Bool, true, false, ◌&&◌, ◌==◌, nat_lt, length, List, [], ◌∷◌, Option, Some, None, IsSome, unwrap_or, refl, sym, ap, ◌∙◌, subst, inl, inr, ◌⊎◌, eqb-true}
 use Rattle.rmeworld.proofs.Common.{cases_Bool, CoreCall, Kind, Gets, Puts, Outer, Own, Word, Data as DataAt, put, Place, next, Leaving, Inside, Dead, Event, Starts, Crashes, Steps, process, moved}
 use Rattle.rmeworld.proofs.Common.{is_store, and_then, World, stored, Run, deed, final, not_data, Layout, Reply, Ruined, Script, Get as Asks, Put as Writes, Done, script, consistent, Call, Lock}
-use Rattle.rmeworld.proofs.Common.{Unlock, Consistent, Recover, Append, Close, Withdraw, Why, Ruining, Mending, Checking, is_entry, outer_by, Errand, Free, Doing, Spot, dead, Happening, Begins, Falls}
-use Rattle.rmeworld.proofs.Common.{Moves, Glances as Looks-at, who, settled, errand_entered, at_lock, inside_only, begun_from, moved_by, next_spot, outer, only_spot, mended_entered, end_place}
-use Rattle.rmeworld.proofs.Common.{reading, Scene, Reads as Scene-Reads, Story, onward, last_scene, words_after}
+use Rattle.rmeworld.proofs.Common.{Unlock, Consistent, Recover, Append, Close, Withdraw, Purpose, Ruining, Mending, Checking, is_entry, outer_by, ScriptState, Free, Doing, ProcessState, dead, WorldEvent, Begins, Falls}
+use Rattle.rmeworld.proofs.Common.{Moves, Glances as Looks-at, who, settled, script_state_entered, at_lock, inside_only, begun_from, moved_by, next_process_state, outer, only_process_state, mended_entered, end_place}
+use Rattle.rmeworld.proofs.Common.{reading, GlobalState, Reads as GlobalState-Reads, Execution, onward, last_global_state, words_after}
 use Rattle.rmecore.specs.Place.{started}
 use Rattle.rmecore.specs.World.{Reads, read, after, deeds}
 use Rattle.rmecore.specs.declared.core_call.CoreCall.TheVariants as core
@@ -12,99 +12,99 @@ use Rattle.redomail.specs.declared.task.Task.TheVariants as task
 use Rattle.rmeworld.specs.declared.call.Call.TheVariants.{Get, Put}
 
 -- a process with a job is inside
-abbrev pub Held : Errand → Place → Type 0
+abbrev pub Held : ScriptState → Place → Type 0
 Held Free lock = Unit {0}
-Held (Doing why left) lock = lock ≡ Inside
+Held (Doing purpose left) lock = lock ≡ Inside
 
-abbrev pub core_of : Scene → World
-core_of w = record { words = w.words; places = λ p. (w.spots p).lock }
+abbrev pub core_of : GlobalState → World
+core_of w = record { words = w.words; places = λ p. (w.process_states p).lock }
 
 -- the deeds of the lock
-abbrev pub outers : Layout → ℕ → Scene → List Happening → List Outer
+abbrev pub outers : Layout → ℕ → GlobalState → List WorldEvent → List Outer
 outers l limit w [] = []
-outers l limit w (e ∷ es) = and_then (outer (w.spots (who e)) e) (outers l limit (onward l limit w e) es)
+outers l limit w (e ∷ es) = and_then (outer (w.process_states (who e)) e) (outers l limit (onward l limit w e) es)
 
-abbrev AllHeld : Scene → Type 0
-AllHeld w = (p : ℕ) → Held (w.spots p).errand (w.spots p).lock
+abbrev AllHeld : GlobalState → Type 0
+AllHeld w = (p : ℕ) → Held (w.process_states p).script_state (w.process_states p).lock
 
 pub entry_inside : (s t : Place) → is_entry s t ≡ true → t ≡ Inside
 entry_inside s Inside e = refl
 entry_inside s _ e = absurd (cc)
 
-held_at : (l : Layout) (p : ℕ) (s t : Place) → Held (errand_entered l p s t) t
+held_at : (l : Layout) (p : ℕ) (s t : Place) → Held (script_state_entered l p s t) t
 held_at l p s t = elim (cases_Bool (is_entry s t)) [ inl e ↦ rw e (entry_inside s t e) | inr f ↦ rw f tt ]
 
 -- the process state after an event of the lock
-pub record AtLock (l : Layout) (p : ℕ) (s : Place) (b c : Bool) (o : Option Place) (s' : Spot) : Type 0 where
+pub record AtLock (l : Layout) (p : ℕ) (s : Place) (b c : Bool) (o : Option Place) (s' : ProcessState) : Type 0 where
   pub place : Place
   pub some : o ≡ Some place
-  pub spot : record { lock = place; mended = mended_entered b s place; barred = c; errand = errand_entered l p s place } ≡ s'
+  pub process_state : record { lock = place; mended = mended_entered b s place; barred = c; script_state = script_state_entered l p s place } ≡ s'
 
-pub at_lock_some : (l : Layout) (p : ℕ) (s : Place) (b c : Bool) (o : Option Place) (s' : Spot) → at_lock l p s b c o ≡ Some s' → AtLock l p s b c o s'
+pub at_lock_some : (l : Layout) (p : ℕ) (s : Place) (b c : Bool) (o : Option Place) (s' : ProcessState) → at_lock l p s b c o ≡ Some s' → AtLock l p s b c o s'
 at_lock_some l p s b c None s' e = absurd (cc)
-at_lock_some l p s b c (Some t) s' e = record { place = t; some = refl; spot = cc }
+at_lock_some l p s b c (Some t) s' e = record { place = t; some = refl; process_state = cc }
 
-pub only_some : (b : Bool) (t s' : Spot) → only_spot b t ≡ Some s' → (b ≡ true) × (t ≡ s')
+pub only_some : (b : Bool) (t s' : ProcessState) → only_process_state b t ≡ Some s' → (b ≡ true) × (t ≡ s')
 only_some true t s' e = (refl, cc)
 only_some false t s' e = absurd (cc)
 
-abbrev pub begun : Bool → Why → Script Reply → Spot
-begun b why left = record { lock = Inside; mended = b; barred = false; errand = Doing why left }
+abbrev pub begun : Bool → Purpose → Script Reply → ProcessState
+begun b purpose left = record { lock = Inside; mended = b; barred = false; script_state = Doing purpose left }
 
-pub inside_some : (lock : Place) (b fits : Bool) (why : Why) (left : Script Reply) (s' : Spot) → inside_only lock b fits why left ≡ Some s' → (lock ≡ Inside) × (fits ≡ true) × (begun b why left ≡ s')
-inside_some Inside b fits why left s' e = let r = only_some fits (begun b why left) s' e in (refl, r.0, r.1)
-inside_some _ b fits why left s' e = absurd (cc)
+pub inside_some : (lock : Place) (b fits : Bool) (purpose : Purpose) (left : Script Reply) (s' : ProcessState) → inside_only lock b fits purpose left ≡ Some s' → (lock ≡ Inside) × (fits ≡ true) × (begun b purpose left ≡ s')
+inside_some Inside b fits purpose left s' e = let r = only_some fits (begun b purpose left) s' e in (refl, r.0, r.1)
+inside_some _ b fits purpose left s' e = absurd (cc)
 
-end_places : (why : Why) (a : Reply) → (end_place why a ≡ Inside) ⊎ (end_place why a ≡ Leaving)
+end_places : (purpose : Purpose) (a : Reply) → (end_place purpose a ≡ Inside) ⊎ (end_place purpose a ≡ Leaving)
 end_places Checking (Ruined true) = inr refl
 end_places Ruining a = inr refl
 end_places _ _ = inl refl
 
-settled_place : (b c : Bool) (why : Why) (e : Script Reply) → Held (settled b c why e).errand (settled b c why e).lock × (((settled b c why e).lock ≡ Inside) ⊎ ((settled b c why e).lock ≡ Leaving))
-settled_place b c why (Asks i rest) = (refl, inl refl)
-settled_place b c why (Writes i v rest) = (refl, inl refl)
-settled_place b c why (Done a) = (tt, end_places why a)
+settled_place : (b c : Bool) (purpose : Purpose) (e : Script Reply) → Held (settled b c purpose e).script_state (settled b c purpose e).lock × (((settled b c purpose e).lock ≡ Inside) ⊎ ((settled b c purpose e).lock ≡ Leaving))
+settled_place b c purpose (Asks i rest) = (refl, inl refl)
+settled_place b c purpose (Writes i v rest) = (refl, inl refl)
+settled_place b c purpose (Done a) = (tt, end_places purpose a)
 
 -- p's event in the lock's run: none, or one event
 abbrev Tells : ℕ → ℕ → ℕ → (ℕ → Own) → Place → Place → (ℕ → Own) → Option Outer → Option Event → Type 0
 Tells n limit p words lock lock' words' d None = (lock' ≡ lock) × (words' ≡ words) × (d ≡ None)
 Tells n limit p words lock lock' words' d (Some x) = (process x ≡ p) × (moved n limit lock x ≡ Some lock') × (stored words x ≡ words') × Reads words x × (d ≡ deed lock x)
 
-module _ (l : Layout) (limit : ℕ) (w : Scene) (p : ℕ) where
-  abbrev Meets : Place → Spot → (ℕ → Own) → Option Outer → Type 0
-  Meets lock s' words' d = ((o : Option Event) × Tells l.procs limit p w.words lock s'.lock words' d o) × Held s'.errand s'.lock
+module _ (l : Layout) (limit : ℕ) (w : GlobalState) (p : ℕ) where
+  abbrev Meets : Place → ProcessState → (ℕ → Own) → Option Outer → Type 0
+  Meets lock s' words' d = ((o : Option Event) × Tells l.procs limit p w.words lock s'.lock words' d o) × Held s'.script_state s'.lock
 
-  by_lock : (lock : Place) (b c : Bool) (o : Option Place) (s' : Spot) (words' : ℕ → Own) (d : Option Outer) (x : Event) → at_lock l p lock b c o ≡ Some s' → process x ≡ p → moved l.procs limit lock x ≡ o → stored w.words x ≡ words' → (IsSome o → Reads w.words x)
+  by_lock : (lock : Place) (b c : Bool) (o : Option Place) (s' : ProcessState) (words' : ℕ → Own) (d : Option Outer) (x : Event) → at_lock l p lock b c o ≡ Some s' → process x ≡ p → moved l.procs limit lock x ≡ o → stored w.words x ≡ words' → (IsSome o → Reads w.words x)
       → d ≡ deed lock x → Meets lock s' words' d
   by_lock lock b c o s' words' d x e same is words reads deed_is =
       let r = at_lock_some l p lock b c o s' e in
-      let place_is : r.place ≡ s'.lock = ap (λ (s : Spot). s.lock) r.spot in
-      ((Some x, (same, is ∙ (r.some ∙ ap Some place_is), words, reads (rw r.some refl), deed_is)), subst (λ (s : Spot). Held s.errand s.lock) r.spot (held_at l p lock r.place))
+      let place_is : r.place ≡ s'.lock = ap (λ (s : ProcessState). s.lock) r.process_state in
+      ((Some x, (same, is ∙ (r.some ∙ ap Some place_is), words, reads (rw r.some refl), deed_is)), subst (λ (s : ProcessState). Held s.script_state s.lock) r.process_state (held_at l p lock r.place))
 
-  by_nothing : (lock : Place) (s0 s' : Spot) → lock ≡ Inside → s0.lock ≡ Inside → Held s0.errand s0.lock → s0 ≡ s' → Meets lock s' w.words None
+  by_nothing : (lock : Place) (s0 s' : ProcessState) → lock ≡ Inside → s0.lock ≡ Inside → Held s0.script_state s0.lock → s0 ≡ s' → Meets lock s' w.words None
   by_nothing lock s0 s' here there held e =
-      ((None, (sym (ap (λ (s : Spot). s.lock) e) ∙ (there ∙ sym here), refl, refl)), subst (λ (s : Spot). Held s.errand s.lock) e held)
+      ((None, (sym (ap (λ (s : ProcessState). s.lock) e) ∙ (there ∙ sym here), refl, refl)), subst (λ (s : ProcessState). Held s.script_state s.lock) e held)
 
-  by_errand : (lock : Place) (b c : Bool) (why : Why) (e : Script Reply) (s' : Spot) → lock ≡ Inside → settled b c why e ≡ s' → Meets lock s' w.words None
-  by_errand lock b c why e s' here is =
-      let r = settled_place b c why e in
-      let held = subst (λ (s : Spot). Held s.errand s.lock) is r.0 in
+  by_script_state : (lock : Place) (b c : Bool) (purpose : Purpose) (e : Script Reply) (s' : ProcessState) → lock ≡ Inside → settled b c purpose e ≡ s' → Meets lock s' w.words None
+  by_script_state lock b c purpose e s' here is =
+      let r = settled_place b c purpose e in
+      let held = subst (λ (s : ProcessState). Held s.script_state s.lock) is r.0 in
       elim r.1 [
-        | inl stays ↦ by_nothing lock (settled b c why e) s' here stays r.0 is
+        | inl stays ↦ by_nothing lock (settled b c purpose e) s' here stays r.0 is
         | inr leaves ↦
-            (let to : s'.lock ≡ Leaving = sym (ap (λ (s : Spot). s.lock) is) ∙ leaves in
+            (let to : s'.lock ≡ Leaving = sym (ap (λ (s : ProcessState). s.lock) is) ∙ leaves in
             ((Some (Starts p core.Unlock), (refl, rw (here, to) refl, refl, tt, refl)), held))
       ]
 
   -- a script that begins inside
-  by_script : (lock : Place) (b fits : Bool) (why : Why) (left : Script Reply) (s' : Spot) → inside_only lock b fits why left ≡ Some s' → Meets lock s' w.words None
-  by_script lock b fits why left s' e = let r = inside_some lock b fits why left s' e in by_nothing lock (begun b why left) s' r.0 refl refl r.2
+  by_script : (lock : Place) (b fits : Bool) (purpose : Purpose) (left : Script Reply) (s' : ProcessState) → inside_only lock b fits purpose left ≡ Some s' → Meets lock s' w.words None
+  by_script lock b fits purpose left s' e = let r = inside_some lock b fits purpose left s' e in by_nothing lock (begun b purpose left) s' r.0 refl refl r.2
 
   -- a start of the lock's part
-  by_start : (lock : Place) (b : Bool) (call : CoreCall) (s' : Spot) → at_lock l p lock b false (started lock call) ≡ Some s' → Meets lock s' w.words None
+  by_start : (lock : Place) (b : Bool) (call : CoreCall) (s' : ProcessState) → at_lock l p lock b false (started lock call) ≡ Some s' → Meets lock s' w.words None
   by_start lock b call s' e = by_lock lock b false (started lock call) s' w.words None (Starts p call) e refl refl refl (λ _. tt) refl
 
-  begins : (lock : Place) (b : Bool) (errand : Errand) (call : Call) (s' : Spot) → begun_from l p lock b errand call ≡ Some s' → Meets lock s' w.words None
+  begins : (lock : Place) (b : Bool) (script_state : ScriptState) (call : Call) (s' : ProcessState) → begun_from l p lock b script_state call ≡ Some s' → Meets lock s' w.words None
   begins lock b Free Lock s' e = by_start lock b core.Lock s' e
   begins lock b Free Recover s' e = by_start lock b core.Recover s' e
   begins lock b Free Withdraw s' e = by_start lock b core.Withdraw s' e
@@ -122,42 +122,42 @@ module _ (l : Layout) (limit : ℕ) (w : Scene) (p : ℕ) where
   shows s kind (DataAt i) v some e = absurd (not_data l.procs limit p s kind i v some)
   shows s kind _ v some e = e
 
-  moves : (lock : Place) (b c : Bool) (errand : Errand) (kind : Kind) (word : Word) (v : ℕ) (s' : Spot) → moved_by l limit p lock b c errand kind word v ≡ Some s' → Held errand lock
-      → (is_store kind ≡ false → reading w word ≡ v) → Meets lock s' (words_after w.words (Moves p kind word v)) (outer_by p lock errand kind v)
+  moves : (lock : Place) (b c : Bool) (script_state : ScriptState) (kind : Kind) (word : Word) (v : ℕ) (s' : ProcessState) → moved_by l limit p lock b c script_state kind word v ≡ Some s' → Held script_state lock
+      → (is_store kind ≡ false → reading w word ≡ v) → Meets lock s' (words_after w.words (Moves p kind word v)) (outer_by p lock script_state kind v)
   moves lock b c Free kind word v s' e held told =
       by_lock lock b c (next l.procs limit p lock kind word v) s' _ _ (Steps p kind word v) e refl refl refl (λ some. λ load. shows lock kind word v some (told load)) refl
-  moves lock b c (Doing why (Asks j rest)) Gets (DataAt i) v s' e held told = by_errand lock b c why (rest v) s' held (only_some _ _ s' e).1
-  moves lock b c (Doing why (Writes j x rest)) Puts (DataAt i) v s' e held told = by_errand lock b c why rest s' held (only_some _ _ s' e).1
+  moves lock b c (Doing purpose (Asks j rest)) Gets (DataAt i) v s' e held told = by_script_state lock b c purpose (rest v) s' held (only_some _ _ s' e).1
+  moves lock b c (Doing purpose (Writes j x rest)) Puts (DataAt i) v s' e held told = by_script_state lock b c purpose rest s' held (only_some _ _ s' e).1
   moves lock b c _ _ _ v s' e held told = absurd (cc)
 
 module _ (l : Layout) (limit : ℕ) where
   abbrev n : ℕ
   n = l.procs
 
-  tells : (w : Scene) (e : Happening) (s' : Spot) → next_spot l limit (w.spots (who e)) e ≡ Some s' → Held (w.spots (who e)).errand (w.spots (who e)).lock → Scene-Reads w e
-      → Meets l limit w (who e) (w.spots (who e)).lock s' (words_after w.words e) (outer (w.spots (who e)) e)
-  tells w (Begins p call) s' e held reads = let s = w.spots p in begins l limit w p s.lock s.mended s.errand call s' e
+  tells : (w : GlobalState) (e : WorldEvent) (s' : ProcessState) → next_process_state l limit (w.process_states (who e)) e ≡ Some s' → Held (w.process_states (who e)).script_state (w.process_states (who e)).lock → GlobalState-Reads w e
+      → Meets l limit w (who e) (w.process_states (who e)).lock s' (words_after w.words e) (outer (w.process_states (who e)) e)
+  tells w (Begins p call) s' e held reads = let s = w.process_states p in begins l limit w p s.lock s.mended s.script_state call s' e
   tells w (Falls p) s' e held reads =
       let is : dead ≡ s' = cc in
-      let place : Dead ≡ s'.lock = ap (λ (s : Spot). s.lock) is in
-      ((Some (Crashes p), (refl, ap Some place, refl, tt, refl)), subst (λ (s : Spot). Held s.errand s.lock) is tt)
-  tells w (Moves p kind word v) s' e held reads = let s = w.spots p in moves l limit w p s.lock s.mended s.barred s.errand kind word v s' e held reads
+      let place : Dead ≡ s'.lock = ap (λ (s : ProcessState). s.lock) is in
+      ((Some (Crashes p), (refl, ap Some place, refl, tt, refl)), subst (λ (s : ProcessState). Held s.script_state s.lock) is tt)
+  tells w (Moves p kind word v) s' e held reads = let s = w.process_states p in moves l limit w p s.lock s.mended s.barred s.script_state kind word v s' e held reads
   tells w (Looks-at p word v) s' e held reads =
-      let is : w.spots p ≡ s' = cc in
-      subst (λ (s : Spot). Meets l limit w p (w.spots p).lock s w.words None) is ((None, (refl, refl, refl)), held)
+      let is : w.process_states p ≡ s' = cc in
+      subst (λ (s : ProcessState). Meets l limit w p (w.process_states p).lock s w.words None) is ((None, (refl, refl, refl)), held)
 
-  pub some_of : (o : Option Spot) (d : Spot) → IsSome o → (s' : Spot) × (o ≡ Some s') × (unwrap_or o d ≡ s')
+  pub some_of : (o : Option ProcessState) (d : ProcessState) → IsSome o → (s' : ProcessState) × (o ≡ Some s') × (unwrap_or o d ≡ s')
   some_of None d some = absurd (cc)
   some_of (Some s) d some = (s, refl, refl)
 
-  locks_put : (spots : ℕ → Spot) (p : ℕ) (s : Spot) (q : ℕ) → (put spots p s q).lock ≡ put (λ r. (spots r).lock) p s.lock q
-  locks_put spots p s q = elim (cases_Bool (q == p)) [ inl e ↦ rw e | inr e ↦ rw e ]
+  locks_put : (process_states : ℕ → ProcessState) (p : ℕ) (s : ProcessState) (q : ℕ) → (put process_states p s q).lock ≡ put (λ r. (process_states r).lock) p s.lock q
+  locks_put process_states p s q = elim (cases_Bool (q == p)) [ inl e ↦ rw e | inr e ↦ rw e ]
 
   put_back : (f : ℕ → Place) (p : ℕ) (x : Place) → x ≡ f p → (q : ℕ) → put f p x q ≡ f q
   put_back f p x h q = elim (cases_Bool (q == p)) [ inl e ↦ rw e (h ∙ ap f (sym (eqb-true q p e))) | inr e ↦ rw e ]
 
-  held_put : (spots : ℕ → Spot) (p : ℕ) (s : Spot) → ((q : ℕ) → Held (spots q).errand (spots q).lock) → Held s.errand s.lock → (q : ℕ) → Held (put spots p s q).errand (put spots p s q).lock
-  held_put spots p s h here q = elim (cases_Bool (q == p)) [ inl e ↦ rw e here | inr e ↦ rw e (h q) ]
+  held_put : (process_states : ℕ → ProcessState) (p : ℕ) (s : ProcessState) → ((q : ℕ) → Held (process_states q).script_state (process_states q).lock) → Held s.script_state s.lock → (q : ℕ) → Held (put process_states p s q).script_state (put process_states p s q).lock
+  held_put process_states p s h here q = elim (cases_Bool (q == p)) [ inl e ↦ rw e here | inr e ↦ rw e (h q) ]
 
   -- a run of the lock from w, with these deeds
   pub record Projected (w : World) (ds : List Outer) (end : ℕ → Own) : Type 0 where
@@ -166,18 +166,18 @@ module _ (l : Layout) (limit : ℕ) where
     pub same : deeds n limit w events ≡ ds
     pub ends : (final n limit w events).words ≡ end
 
-  go : (w : Scene) (p : ℕ) (s' : Spot) (words' : ℕ → Own) (d : Option Outer) (o : Option Event) (ds : List Outer) (end : ℕ → Own) → p < n → Tells n limit p w.words (w.spots p).lock s'.lock words' d o
-      → Projected (record { words = words'; places = λ q. (put w.spots p s' q).lock }) ds end → Projected (core_of w) (and_then d ds) end
+  go : (w : GlobalState) (p : ℕ) (s' : ProcessState) (words' : ℕ → Own) (d : Option Outer) (o : Option Event) (ds : List Outer) (end : ℕ → Own) → p < n → Tells n limit p w.words (w.process_states p).lock s'.lock words' d o
+      → Projected (record { words = words'; places = λ q. (put w.process_states p s' q).lock }) ds end → Projected (core_of w) (and_then d ds) end
   go w p s' words' d None ds end below t rest =
-      let same : record { words = words'; places = λ q. (put w.spots p s' q).lock } ≡ core_of w =
-      λ i. record { words = t.1 i; places = λ q. (locks_put w.spots p s' q ∙ put_back (λ r. (w.spots r).lock) p s'.lock t.0 q) i } in
+      let same : record { words = words'; places = λ q. (put w.process_states p s' q).lock } ≡ core_of w =
+      λ i. record { words = t.1 i; places = λ q. (locks_put w.process_states p s' q ∙ put_back (λ r. (w.process_states r).lock) p s'.lock t.0 q) i } in
       rw t.2 (subst (λ u. Projected u ds end) same rest)
   go w p s' words' d (Some x) ds end below t rest =
-      let f : ℕ → Place = λ r. (w.spots r).lock in
+      let f : ℕ → Place = λ r. (w.process_states r).lock in
       let there : put f p s'.lock ≡ put f (process x) (unwrap_or (moved n limit (f (process x)) x) (f (process x))) =
       subst (λ r. put f p s'.lock ≡ put f r (unwrap_or (moved n limit (f r) x) (f r))) (sym t.0) (rw t.1 refl) in
-      let to : record { words = words'; places = λ q. (put w.spots p s' q).lock } ≡ after n limit (core_of w) x =
-      λ i. record { words = (sym t.2) i; places = λ q. (locks_put w.spots p s' q ∙ ap (λ g. g q) there) i } in
+      let to : record { words = words'; places = λ q. (put w.process_states p s' q).lock } ≡ after n limit (core_of w) x =
+      λ i. record { words = (sym t.2) i; places = λ q. (locks_put w.process_states p s' q ∙ ap (λ g. g q) there) i } in
       let on = subst (λ u. Projected u ds end) to rest in
       record {
         events = x ∷ on.events;
@@ -188,12 +188,12 @@ module _ (l : Layout) (limit : ℕ) where
         ends = on.ends;
       }
 
-  pub projected : (w : Scene) (es : List Happening) → AllHeld w → Story l limit w es → Projected (core_of w) (outers l limit w es) (last_scene l limit w es).words
-  projected w [] held story = record { events = []; run = tt; same = refl; ends = refl }
-  projected w (e ∷ es) held story =
-      let s = some_of (next_spot l limit (w.spots (who e)) e) (w.spots (who e)) story.0.1 in
-      let t = tells w e s.0 s.1 (held (who e)) story.0.2 in
-      let still : AllHeld (onward l limit w e) = subst (λ r. (q : ℕ) → Held (put w.spots (who e) r q).errand (put w.spots (who e) r q).lock) (sym s.2) (held_put w.spots (who e) s.0 held t.1) in
-      let rest = projected (onward l limit w e) es still story.1 in
-      go w (who e) s.0 (words_after w.words e) (outer (w.spots (who e)) e) t.0.0 _ (last_scene l limit (onward l limit w e) es).words story.0.0 t.0.1
-      (subst (λ r. Projected (record { words = words_after w.words e; places = λ q. (put w.spots (who e) r q).lock }) (outers l limit (onward l limit w e) es) (last_scene l limit (onward l limit w e) es).words) s.2 rest)
+  pub projected : (w : GlobalState) (es : List WorldEvent) → AllHeld w → Execution l limit w es → Projected (core_of w) (outers l limit w es) (last_global_state l limit w es).words
+  projected w [] held execution = record { events = []; run = tt; same = refl; ends = refl }
+  projected w (e ∷ es) held execution =
+      let s = some_of (next_process_state l limit (w.process_states (who e)) e) (w.process_states (who e)) execution.0.1 in
+      let t = tells w e s.0 s.1 (held (who e)) execution.0.2 in
+      let still : AllHeld (onward l limit w e) = subst (λ r. (q : ℕ) → Held (put w.process_states (who e) r q).script_state (put w.process_states (who e) r q).lock) (sym s.2) (held_put w.process_states (who e) s.0 held t.1) in
+      let rest = projected (onward l limit w e) es still execution.1 in
+      go w (who e) s.0 (words_after w.words e) (outer (w.process_states (who e)) e) t.0.0 _ (last_global_state l limit (onward l limit w e) es).words execution.0.0 t.0.1
+      (subst (λ r. Projected (record { words = words_after w.words e; places = λ q. (put w.process_states (who e) r q).lock }) (outers l limit (onward l limit w e) es) (last_global_state l limit (onward l limit w e) es).words) s.2 rest)

@@ -2,8 +2,8 @@
 use Rattle.std.proofs.Common.{◌≡◌, ℕ, zero, suc, ◌<◌, ◌≤◌, nat_lt, Bool, if◌then◌else◌, List, [], ◌∷◌, ◌++◌, Option, Some, None, refl, sym, ap, ◌∙◌, subst, inl, inr, arith, lt-ltb}
 use Rattle.rmeworld.proofs.Common.{cases_Bool, Outer, Own, Word, Data as DataAt, Abstract, Legal, IsLawful, IsRow, Dead, IsIn, all_done, is_store, and_then, final, Tied, Fits, Pair, phase_at}
 use Rattle.rmeworld.proofs.Common.{phase_of, after_deed as done_by, legal, Deed, OuterDeed, Commit, Show, Ruin, Layout, NewWords, Words, IsLayout, AreOwn, puts_are_own, all_after, Leads, empty, State}
-use Rattle.rmeworld.proofs.Common.{after, state_led, judged_all-append, Sits, IsLater, Sound, crashed_scene, IsOrigin, IsReached, Spot, dead, Happening, Moves, who, outer, at_rest, event_deeds, Scene}
-use Rattle.rmeworld.proofs.Common.{at_first, Story, onward, last_scene, outer_deeds, mail_deeds, deeds, put_deeds}
+use Rattle.rmeworld.proofs.Common.{after, state_led, judged_all-append, Sits, IsLater, Sound, crashed_global_state, IsOrigin, IsReached, ProcessState, dead, WorldEvent, Moves, who, outer, at_rest, event_deeds, GlobalState}
+use Rattle.rmeworld.proofs.Common.{at_first, Execution, onward, last_global_state, outer_deeds, mail_deeds, deeds, put_deeds}
 use Rattle.rmecore.specs.Lawful.{all_dead as core_dead}
 use Rattle.rmecore.proofs.Bounds.{Bounded, Within, final_lawful, image_bounded, rest_bounded, rest_rows}
 use Rattle.rmecore.proofs.Images.{at_image}
@@ -11,9 +11,9 @@ use Rattle.rmecore.proofs.Phases.{tied_after}
 use Rattle.rmecore.proofs.Runs.{at_first as core_first}
 use Rattle.redomail.specs.declared.deed.Deed.TheVariants.{Close}
 use Rattle.rmeworld.proofs.Projection.{Held, core_of, outers, projected}
-use Rattle.rmeworld.proofs.Happenings.{judge_of, Kept}
+use Rattle.rmeworld.proofs.WorldEvents.{judge_of, Kept}
 use Rattle.rmeworld.proofs.Knowing.{PostAt}
-use Rattle.rmeworld.proofs.Stories.{sound, first, later}
+use Rattle.rmeworld.proofs.Executions.{sound, first, later}
 
 -- the judge's lock after an execution's deeds
 
@@ -33,7 +33,7 @@ put_own : (l : Layout) (p : ℕ) (cells : Words) (word : Word) (v : ℕ) → Are
 put_own l p cells (DataAt i) v = puts_are_own l p cells i v
 put_own l p cells _ v = tt
 
-pub mail_own : (l : Layout) (cells : Words) (e : Happening) → AreOwn (who e) (mail_deeds l cells e)
+pub mail_own : (l : Layout) (cells : Words) (e : WorldEvent) → AreOwn (who e) (mail_deeds l cells e)
 mail_own l cells (Moves p kind word v) =
     elim (cases_Bool (is_store kind)) [ inl e ↦ rw e (put_own l p cells word v) | inr e ↦ rw e tt ]
 mail_own l cells _ = tt
@@ -46,10 +46,10 @@ pub done-and_then : (a : Abstract) (o : Option Outer) (ds : List Outer) → all_
 done-and_then a None ds = refl
 done-and_then a (Some d) ds = refl
 
-lock_led : (l : Layout) (limit : ℕ) (w : Scene) (es : List Happening) (s : State) → (all_after s (deeds l limit w es)).lock ≡ all_done s.lock (outers l limit w es)
+lock_led : (l : Layout) (limit : ℕ) (w : GlobalState) (es : List WorldEvent) (s : State) → (all_after s (deeds l limit w es)).lock ≡ all_done s.lock (outers l limit w es)
 lock_led l limit w [] s = refl
 lock_led l limit w (e ∷ es) s =
-    let o : Option Outer = outer (w.spots (who e)) e in
+    let o : Option Outer = outer (w.process_states (who e)) e in
     let ms : List Deed = mail_deeds l w.cells e in
     let s' : State = all_after s (event_deeds l w e) in
     let here : s'.lock ≡ done_by s.lock o = ap (λ (x : State). x.lock) (all_after-append s (outer_deeds o) ms) ∙ mails_keep (who e) (all_after s (outer_deeds o)) ms (mail_own l w.cells e) ∙ outer_led s o in
@@ -57,7 +57,7 @@ lock_led l limit w (e ∷ es) s =
     ∙ ap (λ a. all_done a (outers l limit (onward l limit w e) es)) here ∙ sym (done-and_then s.lock o (outers l limit (onward l limit w e) es))
 
 -- the end of a sound execution
-pub sound_ends : (l : Layout) (limit : ℕ) (w : Scene) (s : State) (es : List Happening) → Sound l limit w s es → (t : State) × Leads s (deeds l limit w es) t × Sits l (last_scene l limit w es).cells t
+pub sound_ends : (l : Layout) (limit : ℕ) (w : GlobalState) (s : State) (es : List WorldEvent) → Sound l limit w s es → (t : State) × Leads s (deeds l limit w es) t × Sits l (last_global_state l limit w es).cells t
 sound_ends l limit w s [] h = (s, refl, h)
 sound_ends l limit w s (e ∷ es) h =
     let g = h.1 in
@@ -71,13 +71,13 @@ in_numbers zero _ _ b h = absurd h
 in_numbers _ _ _ b h = absurd h
 
 -- what is known at the beginning of a history
-pub record Origin (l : Layout) (limit : ℕ) (w : Scene) (s : State) : Type 0 where
+pub record Origin (l : Layout) (limit : ℕ) (w : GlobalState) (s : State) : Type 0 where
   pub tied : Tied l.procs (core_of w) s.lock
   pub bounded : Bounded limit (core_of w)
   pub rows : (p : ℕ) → l.procs ≤ p → IsRow limit (w.words p)
-  pub held : (p : ℕ) → Held (w.spots p).errand (w.spots p).lock
+  pub held : (p : ℕ) → Held (w.process_states p).script_state (w.process_states p).lock
   pub kept : Kept l s.lock w.cells s.mail
-  pub posts : (p : ℕ) → p < l.procs → PostAt l p (s.lock.phase p) w.cells s.mail (w.spots p)
+  pub posts : (p : ℕ) → p < l.procs → PostAt l p (s.lock.phase p) w.cells s.mail (w.process_states p)
   pub state : s ≡ judge_of l s.lock s.mail
 
 blank_words : NewWords
@@ -106,13 +106,13 @@ new_origin l limit layout =
     }
 
 -- the process states of a global state in which each of n processes has crashed
-crashed_at : (P : Spot → Type 0) (n p : ℕ) → P dead → P at_rest → P (if nat_lt p n then dead else at_rest)
+crashed_at : (P : ProcessState → Type 0) (n p : ℕ) → P dead → P at_rest → P (if nat_lt p n then dead else at_rest)
 crashed_at P n p h k = elim (cases_Bool (nat_lt p n)) [ inl e ↦ rw e h | inr e ↦ rw e k ]
 
-crashed_below : (P : Spot → Type 0) (n p : ℕ) → p < n → P dead → P (if nat_lt p n then dead else at_rest)
+crashed_below : (P : ProcessState → Type 0) (n p : ℕ) → p < n → P dead → P (if nat_lt p n then dead else at_rest)
 crashed_below P n p below h = rw (lt-ltb p n below) h
 
-later_origin : (l : Layout) (limit : ℕ) (words : ℕ → Own) (cells : Words) (s : State) → IsLayout l → IsLater l limit words cells s → Origin l limit (crashed_scene l.procs words cells) s
+later_origin : (l : Layout) (limit : ℕ) (words : ℕ → Own) (cells : Words) (s : State) → IsLayout l → IsLater l limit words cells s → Origin l limit (crashed_global_state l.procs words cells) s
 later_origin l limit words cells s layout h =
     let n : ℕ = l.procs in
     let tied : Tied n (core_dead words) s.lock = subst (Tied n (core_dead words)) (sym h.lock) (at_image n limit words h.lawful) in
@@ -127,33 +127,33 @@ later_origin l limit words cells s layout h =
       };
       bounded = record { small = (image_bounded limit n words h.lawful).small; within = λ q. crashed_at (λ x. Within limit x.lock) n q tt tt };
       rows = λ p past. h.lawful.rows p;
-      held = λ p. crashed_at (λ x. Held x.errand x.lock) n p tt tt;
+      held = λ p. crashed_at (λ x. Held x.script_state x.lock) n p tt tt;
       kept = kept;
       posts = λ p below. crashed_below (λ x. PostAt l p (s.lock.phase p) cells s.mail x) n p below tt;
       state = λ i. record { procs = h.procs i; cap = h.cap i; lock = s.lock; mail = s.mail };
     }
 
-pub origin : (l : Layout) (limit : ℕ) (w : Scene) (s : State) → IsLayout l → IsOrigin l limit w s → Origin l limit w s
+pub origin : (l : Layout) (limit : ℕ) (w : GlobalState) (s : State) → IsLayout l → IsOrigin l limit w s → Origin l limit w s
 origin l limit w s layout (inl h) = subst (λ x. Origin l limit x s) (sym h.0) (subst (Origin l limit at_first) (sym h.1) (new_origin l limit layout))
 origin l limit w s layout (inr h) = subst (λ x. Origin l limit x s) (sym h.0) (later_origin l limit w.words w.cells s layout h.1)
 
 -- the invariant at the end of an execution
-pub record Arrived (l : Layout) (limit : ℕ) (s : State) (w : Scene) (history : List Deed) : Type 0 where
+pub record Arrived (l : Layout) (limit : ℕ) (s : State) (w : GlobalState) (history : List Deed) : Type 0 where
   pub now : State
   pub leads : Leads s history now
   pub sits : Sits l w.cells now
   pub lawful : IsLawful l.procs limit w.words
   pub who_is_in : (p : ℕ) → p < l.procs → IsIn (now.lock.phase p) → (0 < (w.words p).number) × (0 < (w.words p).inside)
 
-pub arrives : (l : Layout) (limit : ℕ) (w : Scene) (s : State) (story : List Happening) → IsLayout l → Origin l limit w s → Story l limit w story → Arrived l limit s (last_scene l limit w story) (deeds l limit w story)
-arrives l limit w s story layout o told =
+pub arrives : (l : Layout) (limit : ℕ) (w : GlobalState) (s : State) (execution : List WorldEvent) → IsLayout l → Origin l limit w s → Execution l limit w execution → Arrived l limit s (last_global_state l limit w execution) (deeds l limit w execution)
+arrives l limit w s execution layout o told =
     let n : ℕ = l.procs in
-    let r = projected l limit w story o.held told in
+    let r = projected l limit w execution o.held told in
     let allowed = subst (λ ds. Legal n s.lock ds) r.same (legal n limit (core_of w) s.lock r.events o.tied r.run) in
-    let all = sound l limit layout w s.lock s.mail story o.kept o.posts told allowed in
-    let back : Sound l limit w s story = subst (λ x. Sound l limit w x story) (sym o.state) all in
-    let ends = sound_ends l limit w s story back in
-    let lock : ends.0.lock ≡ all_done s.lock (outers l limit w story) = ap (λ (x : State). x.lock) (state_led s ends.0 (deeds l limit w story) ends.1) ∙ lock_led l limit w story s in
+    let all = sound l limit layout w s.lock s.mail execution o.kept o.posts told allowed in
+    let back : Sound l limit w s execution = subst (λ x. Sound l limit w x execution) (sym o.state) all in
+    let ends = sound_ends l limit w s execution back in
+    let lock : ends.0.lock ≡ all_done s.lock (outers l limit w execution) = ap (λ (x : State). x.lock) (state_led s ends.0 (deeds l limit w execution) ends.1) ∙ lock_led l limit w execution s in
     let tied = tied_after n limit (core_of w) s.lock r.events o.tied r.run in
     record {
       now = ends.0;
@@ -166,7 +166,7 @@ arrives l limit w s story layout o told =
           subst (λ (x : ℕ → Own). (0 < (x p).number) × (0 < (x p).inside)) r.ends numbers;
     }
 
-pub reached_arrives : {l : Layout} {limit : ℕ} {w : Scene} {history : List Deed} → IsLayout l → (r : IsReached l limit w history) → Arrived l limit r.state w history
+pub reached_arrives : {l : Layout} {limit : ℕ} {w : GlobalState} {history : List Deed} → IsLayout l → (r : IsReached l limit w history) → Arrived l limit r.state w history
 reached_arrives {l = l} {limit = limit} {history = history} layout r =
-    let a = arrives l limit r.first r.state r.story layout (origin l limit r.first r.state layout r.origin) r.told in
-    subst (λ w. Arrived l limit r.state w history) r.last (subst (Arrived l limit r.state (last_scene l limit r.first r.story)) r.done a)
+    let a = arrives l limit r.first r.state r.execution layout (origin l limit r.first r.state layout r.origin) r.told in
+    subst (λ w. Arrived l limit r.state w history) r.last (subst (Arrived l limit r.state (last_global_state l limit r.first r.execution)) r.done a)

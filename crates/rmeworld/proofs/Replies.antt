@@ -3,22 +3,22 @@ use Rattle.std.proofs.Common.{◌≡◌, ℕ, zero, suc, ◌+◌, ◌-◌, ◌<�
 use Rattle.rmeworld.proofs.Common.{and_parts, All-nil, Contains-append_right, All-push, All-contains, Contains-append_left, Contains-push, Kind, Gets, Puts, Word, Data as DataAt, Abstract, nobody}
 use Rattle.rmeworld.proofs.Common.{put, Place, all_done, is_store, Deed, Layout, Message, Reply, Stored, OutOfOrder, Full, Closed, Task, deeds_of_put, Words, IsLayout, place_at, MailLeads, Mailbox}
 use Rattle.rmeworld.proofs.Common.{message, IsAmong, Safe, Script, Get as Asks, Put as Writes, Done, tail, entry, entries, IsNumbered, count_of, all_after, empty, State, after, state_led, Mail}
-use Rattle.rmeworld.proofs.Common.{Working, answer_at, answer_by, by_script, mail_after, ReplyTells, RepliesTell, StoredIsShown, outer_by, Errand, Doing, Spot, Happening, Moves, settled, moved_by}
-use Rattle.rmeworld.proofs.Common.{next_spot, reading, event_deeds, Scene, at_first, Story, onward, last_scene, outer_deeds, mail_deeds, deeds}
+use Rattle.rmeworld.proofs.Common.{Working, answer_at, answer_by, by_script, mail_after, ReplyTells, RepliesTell, StoredIsShown, outer_by, ScriptState, Doing, ProcessState, WorldEvent, Moves, settled, moved_by}
+use Rattle.rmeworld.proofs.Common.{next_process_state, reading, event_deeds, GlobalState, at_first, Execution, onward, last_global_state, outer_deeds, mail_deeds, deeds}
 use Rattle.redomail.proofs.Changes.{count_of-push}
 use Rattle.redomail.specs.declared.deed.Deed.TheVariants as deed
 use Rattle.redomail.specs.declared.task.Task.TheVariants as task
-use Rattle.rmeworld.proofs.Happenings.{judge_of}
-use Rattle.rmeworld.proofs.Holders.{story_comes, story_front, story_back}
+use Rattle.rmeworld.proofs.WorldEvents.{judge_of}
+use Rattle.rmeworld.proofs.Holders.{execution_comes, execution_front, execution_back}
 use Rattle.rmeworld.proofs.Knowing.{Post}
 use Rattle.rmeworld.proofs.Projection.{outers, only_some, some_of}
 use Rattle.rmeworld.proofs.Reaching.{all_after-append}
-use Rattle.rmeworld.proofs.StoryGrows.{deeds_more}
+use Rattle.rmeworld.proofs.ExecutionGrows.{deeds_more}
 
-pub deeds-append : (l : Layout) (limit : ℕ) (w : Scene) (xs ys : List Happening) → deeds l limit w (xs ++ ys) ≡ deeds l limit w xs ++ deeds l limit (last_scene l limit w xs) ys
+pub deeds-append : (l : Layout) (limit : ℕ) (w : GlobalState) (xs ys : List WorldEvent) → deeds l limit w (xs ++ ys) ≡ deeds l limit w xs ++ deeds l limit (last_global_state l limit w xs) ys
 deeds-append l limit w [] ys = refl
 deeds-append l limit w (x ∷ xs) ys =
-    ap (λ (ds : List Deed). event_deeds l w x ++ ds) (deeds-append l limit (onward l limit w x) xs ys) ∙ sym (append_assoc (event_deeds l w x) (deeds l limit (onward l limit w x) xs) (deeds l limit (last_scene l limit (onward l limit w x) xs) ys))
+    ap (λ (ds : List Deed). event_deeds l w x ++ ds) (deeds-append l limit (onward l limit w x) xs ys) ∙ sym (append_assoc (event_deeds l w x) (deeds l limit (onward l limit w x) xs) (deeds l limit (last_global_state l limit (onward l limit w x) xs) ys))
 
 -- numbered entries have no number of p beyond their count
 numbers_within : (l : Layout) (w : Words) (p most k : ℕ) → IsNumbered l w k → count_of p (entries l w k) ≤ most → All (λ (m : Message). m.sender ≡ p → m.seq ≤ most) (entries l w k)
@@ -71,7 +71,7 @@ mail_led cap s (d ∷ ds) t h = mail_led cap (after s d) ds t h.1
 
 -- the end of an append with this reply: if every mailbox that is safe with it has T, the mailbox has T
 module _ (l : Layout) (limit p seq : ℕ) (value : List ℕ) (reply : Reply) (T : Mailbox → Type 0) (told : (m : Message) (old : Mailbox) (w : Words) (now : Mailbox) → message p seq value ≡ m → Safe l p m old (Done reply) w now → T now) where
-  last_step : (w : Scene) (a : Abstract) (m : Mailbox) (lock : Place) (b c : Bool) (left : Script Reply) (kind : Kind) (word : Word) (v : ℕ) (s' : Spot) → moved_by l limit p lock b c (Doing (Working (task.Append seq value)) left) kind word v ≡ Some s'
+  last_step : (w : GlobalState) (a : Abstract) (m : Mailbox) (lock : Place) (b c : Bool) (left : Script Reply) (kind : Kind) (word : Word) (v : ℕ) (s' : ProcessState) → moved_by l limit p lock b c (Doing (Working (task.Append seq value)) left) kind word v ≡ Some s'
       → (is_store kind ≡ false → reading w word ≡ v) → Post l p (a.phase p) w.cells m b (Doing (Working (task.Append seq value)) left) lock → tail left v ≡ Done reply
       → T (all_after (judge_of l a m) (mail_deeds l w.cells (Moves p kind word v))).mail
   last_step w a m lock b c (Asks j rest) Gets (DataAt i) v s' e reads post done =
@@ -92,36 +92,36 @@ module _ (l : Layout) (limit p seq : ℕ) (value : List ℕ) (reply : Reply) (T 
   last_step w a m lock b c _ _ _ v s' e reads post done = absurd (cc)
 
   -- and so in any process state with such a job
-  ends : (w : Scene) (a : Abstract) (m : Mailbox) (lock : Place) (b c : Bool) (errand : Errand) (left : Script Reply) (kind : Kind) (word : Word) (v : ℕ) (s' : Spot) → errand ≡ Doing (Working (task.Append seq value)) left
-      → moved_by l limit p lock b c errand kind word v ≡ Some s' → (is_store kind ≡ false → reading w word ≡ v) → Post l p (a.phase p) w.cells m b errand lock → answer_by lock b c errand kind v ≡ Some (Mail reply)
-      → T (all_after (judge_of l a m) (outer_deeds (outer_by p lock errand kind v) ++ mail_deeds l w.cells (Moves p kind word v))).mail
-  ends w a m lock b c errand left kind word v s' is e reads post answer =
-      let P : Errand → Type 0 = λ x. moved_by l limit p lock b c x kind word v ≡ Some s' → Post l p (a.phase p) w.cells m b x lock → answer_by lock b c x kind v ≡ Some (Mail reply)
+  ends : (w : GlobalState) (a : Abstract) (m : Mailbox) (lock : Place) (b c : Bool) (script_state : ScriptState) (left : Script Reply) (kind : Kind) (word : Word) (v : ℕ) (s' : ProcessState) → script_state ≡ Doing (Working (task.Append seq value)) left
+      → moved_by l limit p lock b c script_state kind word v ≡ Some s' → (is_store kind ≡ false → reading w word ≡ v) → Post l p (a.phase p) w.cells m b script_state lock → answer_by lock b c script_state kind v ≡ Some (Mail reply)
+      → T (all_after (judge_of l a m) (outer_deeds (outer_by p lock script_state kind v) ++ mail_deeds l w.cells (Moves p kind word v))).mail
+  ends w a m lock b c script_state left kind word v s' is e reads post answer =
+      let P : ScriptState → Type 0 = λ x. moved_by l limit p lock b c x kind word v ≡ Some s' → Post l p (a.phase p) w.cells m b x lock → answer_by lock b c x kind v ≡ Some (Mail reply)
       → T (all_after (judge_of l a m) (outer_deeds (outer_by p lock x kind v) ++ mail_deeds l w.cells (Moves p kind word v))).mail in
       let here : P (Doing (Working (task.Append seq value)) left) = λ e2 post2 answer2. last_step w a m lock b c left kind word v s' e2 reads post2 (answers (task.Append seq value) b (tail left v) reply answer2) in
       subst P (sym is) here e post answer
 
-  at_end : (front : List Happening) (kind : Kind) (word : Word) (v : ℕ) (back : List Happening) (left : Script Reply) → IsLayout l → Story l limit at_first (front ++ Moves p kind word v ∷ back)
-      → ((last_scene l limit at_first front).spots p).errand ≡ Doing (Working (task.Append seq value)) left → answer_at ((last_scene l limit at_first front).spots p) kind v ≡ Some (Mail reply) → T (mail_after l limit (front ++ Moves p kind word v ∷ []))
-  at_end front kind word v back left layout story append answer =
-      let e : Happening = Moves p kind word v in
+  at_end : (front : List WorldEvent) (kind : Kind) (word : Word) (v : ℕ) (back : List WorldEvent) (left : Script Reply) → IsLayout l → Execution l limit at_first (front ++ Moves p kind word v ∷ back)
+      → ((last_global_state l limit at_first front).process_states p).script_state ≡ Doing (Working (task.Append seq value)) left → answer_at ((last_global_state l limit at_first front).process_states p) kind v ≡ Some (Mail reply) → T (mail_after l limit (front ++ Moves p kind word v ∷ []))
+  at_end front kind word v back left layout execution append answer =
+      let e : WorldEvent = Moves p kind word v in
       let s : State = empty l.procs l.cap in
-      let w : Scene = last_scene l limit at_first front in
-      let x : Spot = w.spots p in
+      let w : GlobalState = last_global_state l limit at_first front in
+      let x : ProcessState = w.process_states p in
       let a : Abstract = all_done nobody (outers l limit at_first front) in
-      let there = (story_comes l limit front layout (story_front l limit at_first front (e ∷ back) story)).1 in
-      let can = (story_back l limit at_first front (e ∷ back) story).0 in
-      let next = some_of l limit (next_spot l limit x e) x can.1 in
+      let there = (execution_comes l limit front layout (execution_front l limit at_first front (e ∷ back) execution)).1 in
+      let can = (execution_back l limit at_first front (e ∷ back) execution).0 in
+      let next = some_of l limit (next_process_state l limit x e) x can.1 in
       let is : judge_of l a there.0.mail ≡ all_after s (deeds l limit at_first front) = state_led s (judge_of l a there.0.mail) (deeds l limit at_first front) there.1 in
       let more : (all_after (judge_of l a there.0.mail) (event_deeds l w e)).mail ≡ mail_after l limit (front ++ e ∷ []) =
       ap (λ (u : State). (all_after u (event_deeds l w e)).mail) is
       ∙ sym (ap (λ (u : State). u.mail) (all_after-append s (deeds l limit at_first front) (event_deeds l w e)))
       ∙ sym (ap (λ (ds : List Deed). (all_after s ds).mail) (deeds_more l limit at_first front e)) in
-      subst T more (ends w a there.0.mail x.lock x.mended x.barred x.errand left kind word v next.0 append next.1 can.2 (there.0.posts p can.0) answer)
+      subst T more (ends w a there.0.mail x.lock x.mended x.barred x.script_state left kind word v next.0 append next.1 can.2 (there.0.posts p can.0) answer)
 
 pub replies_tell : RepliesTell
-replies_tell l limit front p kind word v back seq reply layout story h =
-    at_end l limit p seq h.value reply (ReplyTells l p seq reply) (λ m old w now mine safe. reply_tells l p seq h.value m old reply w now mine safe) front kind word v back h.left layout story h.append h.answer
+replies_tell l limit front p kind word v back seq reply layout execution h =
+    at_end l limit p seq h.value reply (ReplyTells l p seq reply) (λ m old w now mine safe. reply_tells l p seq h.value m old reply w now mine safe) front kind word v back h.left layout execution h.append h.answer
 
 -- a message that is shown stays shown
 stays_shown : (s : State) (ds : List Deed) (m : Message) → Contains s.mail.shown m → Contains (all_after s ds).mail.shown m
@@ -132,19 +132,19 @@ stays_shown s (deed.Show q at n w ∷ ds) m h = stays_shown (after s (deed.Show 
 stays_shown s (deed.Close q ∷ ds) m h = stays_shown (after s (deed.Close q)) ds m h
 stays_shown s (deed.Ruin q ∷ ds) m h = stays_shown (after s (deed.Ruin q)) ds m h
 
-shown_on : (l : Layout) (limit : ℕ) (front back : List Happening) (m : Message) → Contains (mail_after l limit front).shown m → Contains (mail_after l limit (front ++ back)).shown m
+shown_on : (l : Layout) (limit : ℕ) (front back : List WorldEvent) (m : Message) → Contains (mail_after l limit front).shown m → Contains (mail_after l limit (front ++ back)).shown m
 shown_on l limit front back m h =
     let s : State = empty l.procs l.cap in
-    let rest : List Deed = deeds l limit (last_scene l limit at_first front) back in
+    let rest : List Deed = deeds l limit (last_global_state l limit at_first front) back in
     let is : mail_after l limit (front ++ back) ≡ (all_after (all_after s (deeds l limit at_first front)) rest).mail =
     ap (λ (ds : List Deed). (all_after s ds).mail) (deeds-append l limit at_first front back) ∙ ap (λ (u : State). u.mail) (all_after-append s (deeds l limit at_first front) rest) in
     subst (λ (x : Mailbox). Contains x.shown m) (sym is) (stays_shown (all_after s (deeds l limit at_first front)) rest m h)
 
 pub stored_is_shown : StoredIsShown
-stored_is_shown l limit front p kind word v back seq layout story h =
-    let e : Happening = Moves p kind word v in
+stored_is_shown l limit front p kind word v back seq layout execution h =
+    let e : WorldEvent = Moves p kind word v in
     let mine : Message = message p seq h.value in
     let last : (m : Message) (old : Mailbox) (w : Words) (now : Mailbox) → mine ≡ m → Safe l p m old (Done Stored) w now → Contains now.shown mine =
     λ m old w now is safe. subst (λ xs. Contains xs mine) (sym safe.1) (subst (λ x. Contains (old.shown ++ x ∷ []) mine) is (Contains-push old.shown mine)) in
-    let then : Contains (mail_after l limit (front ++ e ∷ [])).shown mine = at_end l limit p seq h.value Stored (λ now. Contains now.shown mine) last front kind word v back h.left layout story h.append h.answer in
+    let then : Contains (mail_after l limit (front ++ e ∷ [])).shown mine = at_end l limit p seq h.value Stored (λ now. Contains now.shown mine) last front kind word v back h.left layout execution h.append h.answer in
     subst (λ es. Contains (mail_after l limit es).shown mine) (append_assoc front (e ∷ []) back) (shown_on l limit (front ++ e ∷ []) back mine then)

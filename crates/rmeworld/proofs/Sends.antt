@@ -25,13 +25,13 @@ module _ (l : Layout) (p : ℕ) (D : Deed → Type 0) (shows : (at seq : ℕ) (v
       cond_both ((i == 0) && (v == 1)) _ _ (All D) (λ e. let both = and_parts (i == 0) (v == 1) e in All-cons D _ [] (ruins (eqb-true i 0 both.0)) (All-nil D)) (λ _. All-nil D)))))
 
   -- a put after the first four words is no deed
-  quiet : (i v : ℕ) (e : Script Reply) (w : Words) → 3 < i → Sends l p D e (put w i v) → Sends l p D (Put i v e) w
-  quiet i v e w high h = (subst (All D) (sym (deeds_of_put-none l p w i v high)) (All-nil D), h)
+  silent : (i v : ℕ) (e : Script Reply) (w : Words) → 3 < i → Sends l p D e (put w i v) → Sends l p D (Put i v e) w
+  silent i v e w high h = (subst (All D) (sym (deeds_of_put-none l p w i v high)) (All-nil D), h)
 
-  row_quiet : (i : ℕ) (vs : List ℕ) (ys : List (ℕ × ℕ)) (e : Script Reply) (w : Words) → 3 < i → ((v : Words) → Sends l p D (puts ys e) v) → Sends l p D (puts (in_row i vs ++ ys) e) w
-  row_quiet i [] ys e w high go = go w
-  row_quiet i (x ∷ vs) ys e w high go =
-      quiet (held i) x (puts (in_row (i + 1) vs ++ ys) e) w (omega arith) (row_quiet (i + 1) vs ys e (put w (held i) x) (omega arith) go)
+  row_silent : (i : ℕ) (vs : List ℕ) (ys : List (ℕ × ℕ)) (e : Script Reply) (w : Words) → 3 < i → ((v : Words) → Sends l p D (puts ys e) v) → Sends l p D (puts (in_row i vs ++ ys) e) w
+  row_silent i [] ys e w high go = go w
+  row_silent i (x ∷ vs) ys e w high go =
+      silent (held i) x (puts (in_row (i + 1) vs ++ ys) e) w (omega arith) (row_silent (i + 1) vs ys e (put w (held i) x) (omega arith) go)
 
   -- a row of puts, with the words after them
   row_known : (i : ℕ) (vs : List ℕ) (ys : List (ℕ × ℕ)) (e : Script Reply) (w : Words) → 3 < i → i + length vs ≤ 1000000
@@ -44,17 +44,17 @@ module _ (l : Layout) (p : ℕ) (D : Deed → Type 0) (shows : (at seq : ℕ) (v
       let here : v i ≡ x = alike i (omega arith) ∙ put-same w i x i refl in
       go v (rw (here, stands) refl) (λ j lt. alike j (omega arith) ∙ put-other w i x j (λ q. omega arith))) in
       let P : ℕ → Type 0 = λ j. Sends l p D (Put j x (puts (in_row (i + 1) vs ++ ys) e)) w in
-      subst P (sym same) (quiet i x (puts (in_row (i + 1) vs ++ ys) e) w high rest)
+      subst P (sym same) (silent i x (puts (in_row (i + 1) vs ++ ys) e) w high rest)
 
   -- the apply steps commit nothing
   apply_sends : (r : Record) (a : Reply) (w : Words) → Sends l p D (puts (apply_steps l p r) (Done a)) w
   apply_sends r a w =
       let low = place_low l r.at in
-      row_quiet (place_at l r.at) (p ∷ r.seq ∷ r.value) ((last_at l p, r.seq) ∷ (2, held (r.at + 1)) ∷ (3, 0) ∷ []) (Done a) w (omega arith)
+      row_silent (place_at l r.at) (p ∷ r.seq ∷ r.value) ((last_at l p, r.seq) ∷ (2, held (r.at + 1)) ∷ (3, 0) ∷ []) (Done a) w (omega arith)
       (λ v.
       let x : Words = put v (last_at l p) r.seq in
       let y : Words = put x 2 (held (r.at + 1)) in
-      quiet (last_at l p) r.seq (Put 2 (held (r.at + 1)) (Put 3 0 (Done a))) v (omega arith) (
+      silent (last_at l p) r.seq (Put 2 (held (r.at + 1)) (Put 3 0 (Done a))) v (omega arith) (
         put_has 2 (held (r.at + 1)) x (λ e. absurd (omega arith)) (λ e. absurd (omega arith)) (λ e. absurd (omega arith)),
         (put_has 3 0 y (λ _ e. absurd (omega arith)) (λ e. absurd (omega arith)) (λ e. absurd (omega arith)), tt),
       ))
@@ -88,7 +88,7 @@ module _ (l : Layout) (p : ℕ) (D : Deed → Type 0) (shows : (at seq : ℕ) (v
   ruin_sends w asked = (put_has 0 1 w (λ e. absurd (omega arith)) (λ e. absurd (omega arith)) (λ _. asked), tt)
 
   pub board_sends : (i v : ℕ) (w : Words) → Sends l p D (script l p (task.BoardPut i v)) w
-  board_sends i v w = quiet (board_at l i) v (Done reply.Done) w (omega arith) tt
+  board_sends i v w = silent (board_at l i) v (Done reply.Done) w (omega arith) tt
 
   gets_sends : (i n : ℕ) (read : List ℕ) (next : List ℕ → Script Reply) (w : Words) → ((xs : List ℕ) → Sends l p D (next xs) w) → Sends l p D (gets i n read next) w
   gets_sends i zero read next w go = go read

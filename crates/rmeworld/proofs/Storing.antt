@@ -4,14 +4,14 @@ use Rattle.redomail.specs.declared.layout.Layout.{Layout}
 use Rattle.redomail.specs.declared.record.Record.{Record}
 use Rattle.redomail.specs.declared.reply.Reply.{Reply}
 use Rattle.std.proofs.lemmas.Bool.{lt-ltb}
-use Rattle.redomail.specs.declared.stage.Stage.TheVariants.{Write}
+use Rattle.redomail.specs.declared.stage.JobStage.TheVariants.{Write}
 use Rattle.redomail.specs.Left.{Pending, left, fed}
 use Rattle.redomail.specs.Jobs.{left_at}
 use Rattle.redomail.specs.Stages.{stage_after}
 use Rattle.redomail.specs.Script.{Script, Get as Asks, Put as Writes, Done, head, reply_in, puts}
 use Rattle.redomail.specs.Tasks.{store_steps}
 use Rattle.redomail.proofs.Wants.{store_wants}
-use Rattle.rmeworld.specs.Errands.{HasStep}
+use Rattle.rmeworld.specs.ScriptStates.{HasStep}
 
 -- a script without a reply has a step left, and a script with a reply is done
 pub goes_on : (e : Script Reply) (r : Option Reply) → r ≡ reply_in (head e) → r ≡ None → HasStep e

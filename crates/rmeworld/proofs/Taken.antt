@@ -1,8 +1,8 @@
 -- A step that the code of a world takes is the definition's.
 use Rattle.std.proofs.Common.{◌≡◌, ℕ, ◌<◌, ◌++◌, slice_index_or, slice_set, Some, IfSome, sym, ap, ◌∙◌, subst}
-use Rattle.rmeworld.proofs.Common.{Access, Tally, kind_of, word_of, carried, counted, Stepped, Advances, errand_of, IsWorld, happening, words_by, cells_by, the_deed, stepped_if}
-use Rattle.rmeworld.proofs.Common.{advanced_if, advanced_by, prospect_of, Stand, outcome, IsLeast, IsAllowed, spot_of, stepped as stand_stepped, next_access, spot_after, StoresOwn, reading}
-use Rattle.rmeworld.proofs.Common.{event_deeds, WorldState, stand_at, scene_of}
+use Rattle.rmeworld.proofs.Common.{Access, Tally, kind_of, word_of, carried, counted, Stepped, Advances, script_state_of, IsWorld, world_event, words_by, cells_by, the_deed, stepped_if}
+use Rattle.rmeworld.proofs.Common.{advanced_if, advanced_by, prospect_of, MachineState, outcome, IsLeast, IsAllowed, process_state_of, stepped as machine_state_stepped, next_access, process_state_after, StoresOwn, reading}
+use Rattle.rmeworld.proofs.Common.{event_deeds, WorldState, machine_state_at, global_state_of}
 use Rattle.rmeworld.specs.declared.outcome.Outcome.{Outcome}
 use Rattle.rmeworld.specs.Replayed.{stepped_by}
 use Rattle.rmeworld.proofs.Ordered.{allowed, owns}
@@ -13,9 +13,9 @@ use Rattle.rmeworld.proofs.WorldTallies.{no_glance, answered_step}
 -- p's next access, and its word's value
 pub record IsNext (s : WorldState) (p : ℕ) (a : Access) (v : ℕ) : Type 0 where
   pub below : p < s.layout.procs
-  pub access : next_access (stand_at s.processes p) ≡ Some a
-  pub least : IsLeast (stand_at s.processes p) a
-  pub found : v ≡ reading (scene_of s) (word_of a)
+  pub access : next_access (machine_state_at s.processes p) ≡ Some a
+  pub least : IsLeast (machine_state_at s.processes p) a
+  pub found : v ≡ reading (global_state_of s) (word_of a)
 
 -- its report, from its effects for the process
 abbrev pub told_by : WorldState → ℕ → Access → ℕ → Outcome → Stepped
@@ -28,13 +28,13 @@ told_by s p a v o =
 
 -- The process was fed and its step counted, the word was stored, the deeds were noted, and this is the report.
 pub record Fed (s : WorldState) (p : ℕ) (a : Access) (v : ℕ) (o : Outcome) (told : Stepped) (new : WorldState) : Type 0 where
-  pub before : Stand
-  pub after : Stand
+  pub before : MachineState
+  pub after : MachineState
   pub tally : Tally
   pub here : before ≡ slice_index_or s.processes p before
   pub there : tally ≡ slice_index_or s.tallies p tally
-  pub exact : after ≡ stand_stepped before v
-  pub spot : spot_of after ≡ spot_after before (next_access before) v
+  pub exact : after ≡ machine_state_stepped before v
+  pub process_state : process_state_of after ≡ process_state_after before (next_access before) v
   pub what : o ≡ outcome before (next_access before) v
   pub layout : new.layout ≡ s.layout
   pub limit : new.limit ≡ s.limit
@@ -46,37 +46,37 @@ pub record Fed (s : WorldState) (p : ℕ) (a : Access) (v : ℕ) (o : Outcome) (
   pub tells : told ≡ told_by s p a v o
 
 module _ {s : WorldState} {p : ℕ} {a : Access} {v : ℕ} {o : Outcome} {told : Stepped} {new : WorldState} (world : IsWorld s) (next : IsNext s p a v) (fed : Fed s p a v o told new) where
-  abbrev stand : Stand
-  stand = stand_at s.processes p
+  abbrev machine_state : MachineState
+  machine_state = machine_state_at s.processes p
 
   abbrev value : ℕ
-  value = reading (scene_of s) (word_of a)
+  value = reading (global_state_of s) (word_of a)
 
-  here : stand ≡ fed.before
+  here : machine_state ≡ fed.before
   here = found s p fed.before world next.below fed.here
 
-  after : fed.after ≡ stand_stepped stand value
-  after = fed.exact ∙ (λ i. stand_stepped (sym here i) (next.found i))
+  after : fed.after ≡ machine_state_stepped machine_state value
+  after = fed.exact ∙ (λ i. machine_state_stepped (sym here i) (next.found i))
 
-  what : o ≡ outcome stand (Some a) value
-  what = fed.what ∙ (λ i. outcome (sym here i) (next_access (sym here i)) (next.found i)) ∙ ap (λ x. outcome stand x value) next.access
+  what : o ≡ outcome machine_state (Some a) value
+  what = fed.what ∙ (λ i. outcome (sym here i) (next_access (sym here i)) (next.found i)) ∙ ap (λ x. outcome machine_state x value) next.access
 
-  own : StoresOwn stand.index a
-  own = subst (λ x. IfSome x (StoresOwn stand.index)) next.access (owns stand)
+  own : StoresOwn machine_state.index a
+  own = subst (λ x. IfSome x (StoresOwn machine_state.index)) next.access (owns machine_state)
 
-  noted : prospect_of s p a o ≡ event_deeds s.layout (scene_of s) (happening s p a)
-  noted = ap (prospect_of s p a) what ∙ deeds_are s p a stand.index world.seated next.below own next.access
+  noted : prospect_of s p a o ≡ event_deeds s.layout (global_state_of s) (world_event s p a)
+  noted = ap (prospect_of s p a) what ∙ deeds_are s p a machine_state.index world.configured next.below own next.access
 
   step : IsStep s p a
   step =
       record {
         filled = world.filled;
-        seated = world.seated;
+        configured = world.configured;
         below = next.below;
         next = next.access;
-        allowed = subst (λ x. IfSome x (IsAllowed stand)) next.access (allowed stand);
+        allowed = subst (λ x. IfSome x (IsAllowed machine_state)) next.access (allowed machine_state);
         own = own;
-        goes = ap spot_of (sym after) ∙ fed.spot ∙ (λ i. spot_after (sym here i) (next_access (sym here i)) (next.found i));
+        goes = ap process_state_of (sym after) ∙ fed.process_state ∙ (λ i. process_state_after (sym here i) (next_access (sym here i)) (next.found i));
       }
 
   is : new ≡ advanced_by s p a
@@ -98,11 +98,11 @@ module _ {s : WorldState} {p : ℕ} {a : Access} {v : ℕ} {o : Outcome} {told :
 
   pub takes : Advances s p told new
   takes =
-      let seat = world.seated.seats p next.below in
+      let configuration = world.configured.configurations p next.below in
       subst (λ x. Advances s p x new) (sym tells) (subst (Advances s p (stepped_by s p a)) (sym is) (record {
         step = step_takes s p a step;
-        kind = no_glance stand.limit stand.index stand.lock (errand_of stand.errand) a next.access;
-        least = λ word x some. next.least word x (rw (seat.0, seat.1, seat.2) some);
+        kind = no_glance machine_state.limit machine_state.index machine_state.lock (script_state_of machine_state.script_state) a next.access;
+        least = λ word x some. next.least word x (rw (configuration.0, configuration.1, configuration.2) some);
         told = ap (stepped_if s p) (sym next.access);
         ok = ap (advanced_if s p) (sym next.access);
         taken = answered_step s p a step world.tallied;

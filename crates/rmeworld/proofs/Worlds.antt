@@ -2,32 +2,32 @@
 use Rattle.std.proofs.Common.{◌≡◌, ℕ, zero, suc, ◌+◌, ◌<◌, ◌≤◌, ◌^◌, ◌++◌, [], ◌∷◌, List, Option, Some, None, IfSome, nat_lt, length, replicate, slice_index_or, refl, sym, ap, ◌∙◌, subst, inl, inr, arith, length-set}
 use Rattle.rmeworld.proofs.Common.{cases_Bool, cases_lt, get_or_past, get_or_default, get_or-replicate, length-replicate, Access, Load, Store, Outer, Own, Tally, kind_of, word_of, carried, access}
 use Rattle.rmeworld.proofs.Common.{Place, Door, Wait, Reread, tally_at, own_at, zeros, fresh, step_deed, Deed, OuterDeed, Layout, Words, IsLayout, size, words_of, held, empty, Call}
-use Rattle.rmeworld.proofs.Common.{errand_of, IsWorld, IsReached, happening, or_else, mail_by, the_deed, started, list_of, advanced_by, prospect_of, outer_by, Errand, Free, Doing}
-use Rattle.rmeworld.proofs.Common.{Happening, Begins, Falls, Moves, next_spot, at_rest, Stand, outcome, IsSize, resting, spot_of, access_by, next_access, StoresOwn}
-use Rattle.rmeworld.proofs.Common.{stand_started, IsTallied, reading, event_deeds, at_first, onward, outer_deeds, mail_deeds, WorldState, stand_at, spot_at, scene_of, Takes, new_world, absent}
-use Rattle.rmeworld.proofs.Common.{HasSeat, IsSeated, at_rest_from}
+use Rattle.rmeworld.proofs.Common.{script_state_of, IsWorld, IsReached, world_event, or_else, mail_by, the_deed, started, list_of, advanced_by, prospect_of, outer_by, ScriptState, Free, Doing}
+use Rattle.rmeworld.proofs.Common.{WorldEvent, Begins, Falls, Moves, next_process_state, at_rest, MachineState, outcome, IsSize, resting, process_state_of, access_by, next_access, StoresOwn}
+use Rattle.rmeworld.proofs.Common.{machine_state_started, IsTallied, reading, event_deeds, at_first, onward, outer_deeds, mail_deeds, WorldState, machine_state_at, process_state_at, global_state_of, Takes, new_world, absent}
+use Rattle.rmeworld.proofs.Common.{HasConfiguration, IsConfigured, at_rest_from}
 use Rattle.rmeworld.specs.Replayed.{crashed}
-use Rattle.rmeworld.proofs.StoryGrows.{reached_more}
+use Rattle.rmeworld.proofs.ExecutionGrows.{reached_more}
 use Rattle.rmeworld.proofs.WorldTallies.{tallied_step, tallied_start, tallied_crash}
-use Rattle.rmeworld.proofs.WorldSteps.{IsStep, step_takes, seated_set, words_by_length, cells_by_length, keeps_stepped, keeps_started, start_takes, crash_takes}
+use Rattle.rmeworld.proofs.WorldSteps.{IsStep, step_takes, configured_set, words_by_length, cells_by_length, keeps_stepped, keeps_started, start_takes, crash_takes}
 use Rattle.redomail.proofs.Safe.{size_small}
 
-pub reached_by : (s : WorldState) (e : Happening) (new : WorldState) → Takes s e new → IsReached s.layout s.limit (scene_of s) s.history → IsReached s.layout s.limit (scene_of new) new.history
+pub reached_by : (s : WorldState) (e : WorldEvent) (new : WorldState) → Takes s e new → IsReached s.layout s.limit (global_state_of s) s.history → IsReached s.layout s.limit (global_state_of new) new.history
 reached_by s e new takes reached =
-    subst (λ w. IsReached s.layout s.limit w new.history) (sym takes.scene)
-    (subst (IsReached s.layout s.limit (onward s.layout s.limit (scene_of s) e)) (sym takes.history) (reached_more s.layout s.limit (scene_of s) s.history e reached takes.can))
+    subst (λ w. IsReached s.layout s.limit w new.history) (sym takes.global_state)
+    (subst (IsReached s.layout s.limit (onward s.layout s.limit (global_state_of s) e)) (sym takes.history) (reached_more s.layout s.limit (global_state_of s) s.history e reached takes.can))
 
 length-rest : (l : Layout) (limit p n : ℕ) → length (at_rest_from l limit p n) ≡ n
 length-rest l limit p zero = refl
 length-rest l limit p (suc n) = ap suc (length-rest l limit (p + 1) n)
 
-pub rest-at : (l : Layout) (limit p n q : ℕ) → q < n → stand_at (at_rest_from l limit p n) q ≡ resting l limit (p + q)
+pub rest-at : (l : Layout) (limit p n q : ℕ) → q < n → machine_state_at (at_rest_from l limit p n) q ≡ resting l limit (p + q)
 rest-at l limit p zero q h = absurd (omega arith)
 rest-at l limit p (suc n) zero h = let e : p ≡ p + 0 = omega arith in ap (resting l limit) e
 rest-at l limit p (suc n) (suc q) h = let e : p + 1 + q ≡ p + suc q = omega arith in rest-at l limit (p + 1) n q (omega arith) ∙ ap (resting l limit) e
 
 -- a list is determined by its length and its items
-pub rest_is : (l : Layout) (limit : ℕ) (xs : List Stand) (p n : ℕ) → length xs ≡ n → ((q : ℕ) → q < n → stand_at xs q ≡ resting l limit (p + q)) → xs ≡ at_rest_from l limit p n
+pub rest_is : (l : Layout) (limit : ℕ) (xs : List MachineState) (p n : ℕ) → length xs ≡ n → ((q : ℕ) → q < n → machine_state_at xs q ≡ resting l limit (p + q)) → xs ≡ at_rest_from l limit p n
 rest_is l limit [] p zero len each = refl
 rest_is l limit [] p (suc n) len each = cc
 rest_is l limit (x ∷ xs) p zero len each = absurd (omega arith)
@@ -49,22 +49,22 @@ zero_cells n = λ i. λ p. each p i
     each : (p : ℕ) → words_of (replicate n 0) p ≡ 0
     each p = elim (cases_lt p n) [ inl h ↦ get_or-replicate n p 0 0 h | inr h ↦ get_or_past (replicate n 0) p 0 (rw length-replicate h) ]
 
-rest_spots : (l : Layout) (limit : ℕ) → spot_at (at_rest_from l limit 0 l.procs) ≡ at_first.spots
-rest_spots l limit = λ i. λ p. each p i
+rest_process_states : (l : Layout) (limit : ℕ) → process_state_at (at_rest_from l limit 0 l.procs) ≡ at_first.process_states
+rest_process_states l limit = λ i. λ p. each p i
   where
-    each : (p : ℕ) → spot_at (at_rest_from l limit 0 l.procs) p ≡ at_rest
+    each : (p : ℕ) → process_state_at (at_rest_from l limit 0 l.procs) p ≡ at_rest
     each p =
         elim (cases_lt p l.procs) [
-          | inl h ↦ ap spot_of (rest-at l limit 0 l.procs p h)
-          | inr h ↦ ap spot_of (get_or_past (at_rest_from l limit 0 l.procs) p absent (rw length-rest h))
+          | inl h ↦ ap process_state_of (rest-at l limit 0 l.procs p h)
+          | inr h ↦ ap process_state_of (get_or_past (at_rest_from l limit 0 l.procs) p absent (rw length-rest h))
         ]
 
-pub new_scene : (l : Layout) (limit : ℕ) → scene_of (new_world l limit) ≡ at_first
-new_scene l limit =
+pub new_global_state : (l : Layout) (limit : ℕ) → global_state_of (new_world l limit) ≡ at_first
+new_global_state l limit =
     let words = zero_words l.procs in
     let cells = zero_cells (size l) in
-    let spots = rest_spots l limit in
-    λ i. record { words = words i; cells = cells i; spots = spots i }
+    let process_states = rest_process_states l limit in
+    λ i. record { words = words i; cells = cells i; process_states = process_states i }
 
 pub world_new : (l : Layout) (limit : ℕ) → IsSize l → (1 ≤ limit) × (limit ≤ 2 ^ 62) → IsWorld (new_world l limit)
 world_new l limit sized limited =
@@ -72,51 +72,51 @@ world_new l limit sized limited =
       sized = sized;
       limited = limited;
       filled = length-replicate (size l) 0;
-      seated = record {
+      configured = record {
         words_each = length-replicate l.procs zeros;
         processes_each = length-rest l limit 0 l.procs;
         tallies_each = length-replicate l.procs (fresh zeros);
-        seats = λ p below. subst (HasSeat l limit p) (sym (rest-at l limit 0 l.procs p below)) (let e : 0 + p ≡ p = omega arith in (refl, refl, e));
+        configurations = λ p below. subst (HasConfiguration l limit p) (sym (rest-at l limit 0 l.procs p below)) (let e : 0 + p ≡ p = omega arith in (refl, refl, e));
       };
       reached = record {
         first = at_first;
         state = empty l.procs l.cap;
         origin = inl (refl, refl);
-        story = [];
+        execution = [];
         told = tt;
-        last = sym (new_scene l limit);
+        last = sym (new_global_state l limit);
         done = refl;
       };
       tallied = λ p below.
-          let spot : spot_at (at_rest_from l limit 0 l.procs) p ≡ at_rest = ap spot_of (rest-at l limit 0 l.procs p below) in
+          let process_state : process_state_at (at_rest_from l limit 0 l.procs) p ≡ at_rest = ap process_state_of (rest-at l limit 0 l.procs p below) in
           let tally : tally_at (replicate l.procs (fresh zeros)) p ≡ fresh zeros = get_or-replicate l.procs p (fresh zeros) _ below in
-          subst (λ x. IsTallied l (own_at (replicate l.procs zeros) p) x (tally_at (replicate l.procs (fresh zeros)) p)) (sym spot)
+          subst (λ x. IsTallied l (own_at (replicate l.procs zeros) p) x (tally_at (replicate l.procs (fresh zeros)) p)) (sym process_state)
           (subst (IsTallied l (own_at (replicate l.procs zeros) p) at_rest) (sym tally) (record { began = λ h. absurd h; taking = λ exact. (0, tt, refl) }));
     }
 
 pub world_step : (s : WorldState) (p : ℕ) (a : Access) → IsWorld s → IsStep s p a → IsWorld (advanced_by s p a)
 world_step s p a world step =
-    let st : Stand = stand_at s.processes p in
-    let seat = step.seated.seats p step.below in
-    let keeps = keeps_stepped st st.errand _ in
+    let st : MachineState = machine_state_at s.processes p in
+    let configuration = step.configured.configurations p step.below in
+    let keeps = keeps_stepped st st.script_state _ in
     record {
       sized = world.sized;
       limited = world.limited;
       filled = cells_by_length s.cells a ∙ world.filled;
-      seated = seated_set step.seated step.below _ _ _ (words_by_length s.words a) (length-set s.tallies p _) (keeps.0 ∙ seat.0, keeps.1 ∙ seat.1, keeps.2 ∙ seat.2);
+      configured = configured_set step.configured step.below _ _ _ (words_by_length s.words a) (length-set s.tallies p _) (keeps.0 ∙ configuration.0, keeps.1 ∙ configuration.1, keeps.2 ∙ configuration.2);
       reached = reached_by s _ (advanced_by s p a) (step_takes s p a step) world.reached;
       tallied = tallied_step s p a step world.tallied;
     }
 
 -- the process at an index, and its counts
-pub found : (s : WorldState) (p : ℕ) (t : Stand) → IsWorld s → p < s.layout.procs → t ≡ slice_index_or s.processes p t → stand_at s.processes p ≡ t
-found s p t world below is = get_or_default s.processes p absent t (subst (λ n. p < n) (sym world.seated.processes_each) below) ∙ sym is
+pub found : (s : WorldState) (p : ℕ) (t : MachineState) → IsWorld s → p < s.layout.procs → t ≡ slice_index_or s.processes p t → machine_state_at s.processes p ≡ t
+found s p t world below is = get_or_default s.processes p absent t (subst (λ n. p < n) (sym world.configured.processes_each) below) ∙ sym is
 
 pub own_found : (s : WorldState) (p : ℕ) (x : Own) → IsWorld s → p < s.layout.procs → x ≡ slice_index_or s.words p x → own_at s.words p ≡ x
-own_found s p x world below is = get_or_default s.words p zeros x (subst (λ n. p < n) (sym world.seated.words_each) below) ∙ sym is
+own_found s p x world below is = get_or_default s.words p zeros x (subst (λ n. p < n) (sym world.configured.words_each) below) ∙ sym is
 
 pub tally_found : (s : WorldState) (p : ℕ) (t : Tally) → IsWorld s → p < s.layout.procs → t ≡ slice_index_or s.tallies p t → tally_at s.tallies p ≡ t
-tally_found s p t world below is = get_or_default s.tallies p _ t (subst (λ n. p < n) (sym world.seated.tallies_each) below) ∙ sym is
+tally_found s p t world below is = get_or_default s.tallies p _ t (subst (λ n. p < n) (sym world.configured.tallies_each) below) ∙ sym is
 
 mails : (l : Layout) (p q : ℕ) (cells : Words) (a : Access) (x : ℕ) → StoresOwn q a → mail_by l p cells a ≡ mail_deeds l cells (Moves p (kind_of a) (word_of a) (carried a x))
 mails l p q cells (Load kind word) x own = rw own refl
@@ -131,9 +131,9 @@ no_put limit p (Wait k (j ∷ js) None) l q cells = refl
 no_put limit p _ l q cells = assumption
 
 -- a step has at most one deed
-one_deed : (l : Layout) (limit p q : ℕ) (place : Place) (e : Errand) (a : Access) (cells : Words) (x : ℕ) → access_by limit p place e ≡ Some a
+one_deed : (l : Layout) (limit p q : ℕ) (place : Place) (e : ScriptState) (a : Access) (cells : Words) (x : ℕ) → access_by limit p place e ≡ Some a
     → or_else (outer_by q place e (kind_of a) x) (mail_by l q cells a) ≡ outer_deeds (outer_by q place e (kind_of a) x) ++ mail_by l q cells a
-one_deed l limit p q place (Doing why left) a cells x next = refl
+one_deed l limit p q place (Doing purpose left) a cells x next = refl
 one_deed l limit p q place Free a cells x next = by (step_deed q place (kind_of a) x)
   where
     by : (o : Option Outer) → or_else o (mail_by l q cells a) ≡ outer_deeds o ++ mail_by l q cells a
@@ -143,35 +143,35 @@ one_deed l limit p q place Free a cells x next = by (step_deed q place (kind_of 
         ap (λ ds. OuterDeed d ∷ ds) (sym none)
 
 -- the deeds of an access, from its effects for the process
-pub deeds_are : (s : WorldState) (p : ℕ) (a : Access) (q : ℕ) → IsSeated s.layout s.limit s.words s.processes s.tallies → p < s.layout.procs → StoresOwn q a → next_access (stand_at s.processes p) ≡ Some a
-    → prospect_of s p a (outcome (stand_at s.processes p) (Some a) (reading (scene_of s) (word_of a))) ≡ event_deeds s.layout (scene_of s) (happening s p a)
-deeds_are s p a q seated below own next =
-    let st : Stand = stand_at s.processes p in
-    let seat = seated.seats p below in
-    let x : ℕ = carried a (reading (scene_of s) (word_of a)) in
-    let mail = mails s.layout p q (words_of s.cells) a (reading (scene_of s) (word_of a)) own in
-    (λ i. or_else (outer_by (seat.2 i) st.lock (errand_of st.errand) (kind_of a) x) (mail_by s.layout p (words_of s.cells) a))
-    ∙ one_deed s.layout st.limit st.index p st.lock (errand_of st.errand) a (words_of s.cells) x next
-    ∙ ap (λ ds. outer_deeds (outer_by p st.lock (errand_of st.errand) (kind_of a) x) ++ ds) mail
+pub deeds_are : (s : WorldState) (p : ℕ) (a : Access) (q : ℕ) → IsConfigured s.layout s.limit s.words s.processes s.tallies → p < s.layout.procs → StoresOwn q a → next_access (machine_state_at s.processes p) ≡ Some a
+    → prospect_of s p a (outcome (machine_state_at s.processes p) (Some a) (reading (global_state_of s) (word_of a))) ≡ event_deeds s.layout (global_state_of s) (world_event s p a)
+deeds_are s p a q configured below own next =
+    let st : MachineState = machine_state_at s.processes p in
+    let configuration = configured.configurations p below in
+    let x : ℕ = carried a (reading (global_state_of s) (word_of a)) in
+    let mail = mails s.layout p q (words_of s.cells) a (reading (global_state_of s) (word_of a)) own in
+    (λ i. or_else (outer_by (configuration.2 i) st.lock (script_state_of st.script_state) (kind_of a) x) (mail_by s.layout p (words_of s.cells) a))
+    ∙ one_deed s.layout st.limit st.index p st.lock (script_state_of st.script_state) a (words_of s.cells) x next
+    ∙ ap (λ ds. outer_deeds (outer_by p st.lock (script_state_of st.script_state) (kind_of a) x) ++ ds) mail
 
 pub the_one : (d : Option Deed) → the_deed (list_of d) ≡ d
 the_one None = refl
 the_one (Some d) = refl
 
 pub world_start : (s : WorldState) (p : ℕ) (call : Call) → IsWorld s → p < s.layout.procs
-    → next_spot (stand_at s.processes p).layout (stand_at s.processes p).limit (spot_at s.processes p) (Begins (stand_at s.processes p).index call) ≡ Some (spot_of (stand_started (stand_at s.processes p) call))
+    → next_process_state (machine_state_at s.processes p).layout (machine_state_at s.processes p).limit (process_state_at s.processes p) (Begins (machine_state_at s.processes p).index call) ≡ Some (process_state_of (machine_state_started (machine_state_at s.processes p) call))
     → IsWorld (started s p call)
 world_start s p call world below to =
-    let st : Stand = stand_at s.processes p in
-    let seat = world.seated.seats p below in
+    let st : MachineState = machine_state_at s.processes p in
+    let configuration = world.configured.configurations p below in
     let keeps = keeps_started st st.mended call refl in
     record {
       sized = world.sized;
       limited = world.limited;
       filled = world.filled;
-      seated = seated_set world.seated below _ _ _ refl (length-set s.tallies p _) (keeps.0 ∙ seat.0, keeps.1 ∙ seat.1, keeps.2 ∙ seat.2);
-      reached = reached_by s (Begins p call) (started s p call) (start_takes s p call (stand_started st call) (started s p call).tallies world.seated below to) world.reached;
-      tallied = tallied_start s p call world.seated below (start_takes s p call (stand_started st call) (started s p call).tallies world.seated below to) world.tallied;
+      configured = configured_set world.configured below _ _ _ refl (length-set s.tallies p _) (keeps.0 ∙ configuration.0, keeps.1 ∙ configuration.1, keeps.2 ∙ configuration.2);
+      reached = reached_by s (Begins p call) (started s p call) (start_takes s p call (machine_state_started st call) (started s p call).tallies world.configured below to) world.reached;
+      tallied = tallied_start s p call world.configured below (start_takes s p call (machine_state_started st call) (started s p call).tallies world.configured below to) world.tallied;
     }
 
 pub world_crash : (s : WorldState) (p : ℕ) → IsWorld s → p < s.layout.procs → IsWorld (crashed s p)
@@ -180,9 +180,9 @@ world_crash s p world below =
       sized = world.sized;
       limited = world.limited;
       filled = world.filled;
-      seated = seated_set world.seated below _ _ _ refl refl (world.seated.seats p below);
-      reached = reached_by s (Falls p) (crashed s p) (crash_takes s p world.seated below) world.reached;
-      tallied = tallied_crash s p below (crash_takes s p world.seated below) world.tallied;
+      configured = configured_set world.configured below _ _ _ refl refl (world.configured.configurations p below);
+      reached = reached_by s (Falls p) (crashed s p) (crash_takes s p world.configured below) world.reached;
+      tallied = tallied_crash s p below (crash_takes s p world.configured below) world.tallied;
     }
 
 pub size_held : (l : Layout) → IsLayout l → held (size l) ≡ size l

@@ -8,67 +8,67 @@ use Rattle.rmeworld.specs.declared.call.Call.{Call}
 use Rattle.rmeworld.specs.Answered.{answer_at, blocked_by}
 use Rattle.rmeworld.specs.OwnSteps.{own_steps, most_steps}
 use Rattle.rmeworld.specs.Paid.{PaysAt}
-use Rattle.rmeworld.specs.Spot.{Spot, Happening, Begins, Moves, next_spot}
+use Rattle.rmeworld.specs.ProcessState.{ProcessState, WorldEvent, Begins, Moves, next_process_state}
 use Rattle.rmeworld.specs.UnderWay.{call_at}
 
 -- the process state after an event. An event that is not allowed changes nothing
-abbrev pub next_or_same : Layout → ℕ → Spot → Happening → Spot
-next_or_same l limit spot e = unwrap_or (next_spot l limit spot e) spot
+abbrev pub next_or_same : Layout → ℕ → ProcessState → WorldEvent → ProcessState
+next_or_same l limit process_state e = unwrap_or (next_process_state l limit process_state e) process_state
 
 -- a step of p that is no glance. A reread has the process's words at the call's start. Other loads may read anything
-abbrev pub IsOwnStep : ℕ → Own → Spot → Happening → Type 0
-IsOwnStep p began spot (Moves q kind word v) = (q ≡ p) × (is_glance kind ≡ false) × ReadsBegun began.choosing began.number began.inside spot.lock v
-IsOwnStep p began spot _ = ⊥
+abbrev pub IsOwnStep : ℕ → Own → ProcessState → WorldEvent → Type 0
+IsOwnStep p began process_state (Moves q kind word v) = (q ≡ p) × (is_glance kind ≡ false) × ReadsBegun began.choosing began.number began.inside process_state.lock v
+IsOwnStep p began process_state _ = ⊥
 
 -- such steps one after another, each allowed by the process state before it
-abbrev pub Walks : Layout → ℕ → ℕ → Own → Spot → List Happening → Type 0
-Walks l limit p began spot [] = Unit {0}
-Walks l limit p began spot (e ∷ es) = IsOwnStep p began spot e × IsSome (next_spot l limit spot e) × Walks l limit p began (next_or_same l limit spot e) es
+abbrev pub Walks : Layout → ℕ → ℕ → Own → ProcessState → List WorldEvent → Type 0
+Walks l limit p began process_state [] = Unit {0}
+Walks l limit p began process_state (e ∷ es) = IsOwnStep p began process_state e × IsSome (next_process_state l limit process_state e) × Walks l limit p began (next_or_same l limit process_state e) es
 
 -- whether an event is a blocked step
-abbrev pub is_blocked : Spot → Happening → Bool
-is_blocked spot (Moves p kind word v) = blocked_by p spot.lock spot.errand kind v
-is_blocked spot _ = false
+abbrev pub is_blocked : ProcessState → WorldEvent → Bool
+is_blocked process_state (Moves p kind word v) = blocked_by p process_state.lock process_state.script_state kind v
+is_blocked process_state _ = false
 
 -- the number of blocked steps among them
-abbrev pub blocked_in : Layout → ℕ → Spot → List Happening → ℕ
-blocked_in l limit spot [] = 0
-blocked_in l limit spot (e ∷ es) = (if is_blocked spot e then 1 else 0) + blocked_in l limit (next_or_same l limit spot e) es
+abbrev pub blocked_in : Layout → ℕ → ProcessState → List WorldEvent → ℕ
+blocked_in l limit process_state [] = 0
+blocked_in l limit process_state (e ∷ es) = (if is_blocked process_state e then 1 else 0) + blocked_in l limit (next_or_same l limit process_state e) es
 
 abbrev pub and_answer : Option Answer → List Answer → List Answer
 and_answer None answers = answers
 and_answer (Some a) answers = a ∷ answers
 
 -- the answer of an event
-abbrev pub answer_to : Spot → Happening → Option Answer
-answer_to spot (Moves p kind word v) = answer_at spot kind v
-answer_to spot _ = None
+abbrev pub answer_to : ProcessState → WorldEvent → Option Answer
+answer_to process_state (Moves p kind word v) = answer_at process_state kind v
+answer_to process_state _ = None
 
 -- their answers
-abbrev pub answers_in : Layout → ℕ → Spot → List Happening → List Answer
-answers_in l limit spot [] = []
-answers_in l limit spot (e ∷ es) = and_answer (answer_to spot e) (answers_in l limit (next_or_same l limit spot e) es)
+abbrev pub answers_in : Layout → ℕ → ProcessState → List WorldEvent → List Answer
+answers_in l limit process_state [] = []
+answers_in l limit process_state (e ∷ es) = and_answer (answer_to process_state e) (answers_in l limit (next_or_same l limit process_state e) es)
 
 -- the process state after the events
-abbrev pub last_spot : Layout → ℕ → Spot → List Happening → Spot
-last_spot l limit spot [] = spot
-last_spot l limit spot (e ∷ es) = last_spot l limit (next_or_same l limit spot e) es
+abbrev pub last_process_state : Layout → ℕ → ProcessState → List WorldEvent → ProcessState
+last_process_state l limit process_state [] = process_state
+last_process_state l limit process_state (e ∷ es) = last_process_state l limit (next_or_same l limit process_state e) es
 
 -- after these steps with these answers, the call is under way with fewer steps than its bound, or it has one answer and
 -- exactly the table's steps. Blocked steps are not counted
-abbrev pub Tells : Layout → Own → Bool → Call → List Answer → Spot → ℕ → ℕ → Type 0
-Tells l began mended call [] spot steps blocked =
-    (call_at spot ≡ Some call) × ((x : ℕ) × PaysAt l began spot x × (steps ≡ x + blocked) × (x < most_steps l call))
-Tells l began mended call (a ∷ []) spot steps blocked =
-    (call_at spot ≡ None) × ((x : ℕ) × (own_steps l began mended call a ≡ Some x) × (steps ≡ x + blocked))
-Tells l began mended call (a ∷ b ∷ more) spot steps blocked = ⊥
+abbrev pub Tells : Layout → Own → Bool → Call → List Answer → ProcessState → ℕ → ℕ → Type 0
+Tells l began mended call [] process_state steps blocked =
+    (call_at process_state ≡ Some call) × ((x : ℕ) × PaysAt l began process_state x × (steps ≡ x + blocked) × (x < most_steps l call))
+Tells l began mended call (a ∷ []) process_state steps blocked =
+    (call_at process_state ≡ None) × ((x : ℕ) × (own_steps l began mended call a ≡ Some x) × (steps ≡ x + blocked))
+Tells l began mended call (a ∷ b ∷ more) process_state steps blocked = ⊥
 
 -- the law: a process starts a call that is allowed, and then takes steps
 abbrev pub CallsTakeTheirSteps : Type 0
 CallsTakeTheirSteps =
-    (l : Layout) (limit p : ℕ) (began : Own) (spot : Spot) (call : Call) (es : List Happening) → p < l.procs → IsSome (next_spot l limit spot (Begins p call))
-    → let first = next_or_same l limit spot (Begins p call) in
-    Walks l limit p began first es → Tells l began spot.mended call (answers_in l limit first es) (last_spot l limit first es) (length es) (blocked_in l limit first es)
+    (l : Layout) (limit p : ℕ) (began : Own) (process_state : ProcessState) (call : Call) (es : List WorldEvent) → p < l.procs → IsSome (next_process_state l limit process_state (Begins p call))
+    → let first = next_or_same l limit process_state (Begins p call) in
+    Walks l limit p began first es → Tells l began process_state.mended call (answers_in l limit first es) (last_process_state l limit first es) (length es) (blocked_in l limit first es)
 
 -- no number of the table is above the bound of its call
 abbrev pub NoCallTakesMore : Type 0

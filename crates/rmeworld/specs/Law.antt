@@ -14,10 +14,10 @@ use Rattle.rmecore.specs.Lawful.{IsLawful, start_of}
 use Rattle.rmecore.specs.declared.own.Own.{Own}
 use Rattle.judge.specs.Table.{State, empty}
 use Rattle.judge.specs.Legal.{Leads, IsLegal}
-use Rattle.rmeworld.specs.declared.why.Why.{Why}
-use Rattle.rmeworld.specs.declared.why.Why.TheVariants.{Working}
-use Rattle.rmeworld.specs.Spot.{Errand, Free, Doing, Happening, Moves}
-use Rattle.rmeworld.specs.World.{Scene, at_first, all_dead, onward, last_scene, Story, event_deeds, deeds}
+use Rattle.rmeworld.specs.declared.purpose.Purpose.{Purpose}
+use Rattle.rmeworld.specs.declared.purpose.Purpose.TheVariants.{Working}
+use Rattle.rmeworld.specs.ProcessState.{ScriptState, Free, Doing, WorldEvent, Moves}
+use Rattle.rmeworld.specs.World.{GlobalState, at_first, all_dead, onward, last_global_state, Execution, event_deeds, deeds}
 
 -- The data words have the shape for the process inside. If no process is inside, they have it for every process.
 abbrev pub HasShape : Layout → Words → State → Type 0
@@ -35,42 +35,42 @@ AppendTells p seq (Done Stored) shown = IsAmong p seq shown
 AppendTells p seq (Done Already) shown = IsAmong p seq shown
 AppendTells p seq _ shown = Unit {0}
 
-abbrev pub WhyTells : ℕ → Why → Script Reply → List Message → Type 0
-WhyTells p (Working (task.Append seq value)) left shown = AppendTells p seq left shown
-WhyTells p _ left shown = Unit {0}
+abbrev pub PurposeTells : ℕ → Purpose → Script Reply → List Message → Type 0
+PurposeTells p (Working (task.Append seq value)) left shown = AppendTells p seq left shown
+PurposeTells p _ left shown = Unit {0}
 
-abbrev pub ErrandTells : ℕ → Errand → ℕ → List Message → Type 0
-ErrandTells p (Doing why left) v shown = WhyTells p why (tail left v) shown
-ErrandTells p Free v shown = Unit {0}
+abbrev pub ScriptStateTells : ℕ → ScriptState → ℕ → List Message → Type 0
+ScriptStateTells p (Doing purpose left) v shown = PurposeTells p purpose (tail left v) shown
+ScriptStateTells p Free v shown = Unit {0}
 
 -- the same, for an event that is the last step of an append
-abbrev pub Tells : Scene → Happening → List Message → Type 0
-Tells w (Moves p kind word v) shown = ErrandTells p (w.spots p).errand v shown
+abbrev pub Tells : GlobalState → WorldEvent → List Message → Type 0
+Tells w (Moves p kind word v) shown = ScriptStateTells p (w.process_states p).script_state v shown
 Tells w _ shown = Unit {0}
 
 -- An execution from a global state with this judge's state. At every point the data words agree with the lock, and each
 -- event's deeds are legal.
-abbrev pub Sound : Layout → ℕ → Scene → State → List Happening → Type 0
+abbrev pub Sound : Layout → ℕ → GlobalState → State → List WorldEvent → Type 0
 Sound l limit w s [] = Sits l w.cells s
 Sound l limit w s (e ∷ es) =
     Sits l w.cells s × ((t : State) × Leads s (event_deeds l w e) t × Tells w e t.mail.shown × Sound l limit (onward l limit w e) t es)
 
 -- every execution from the first global state is sound, and all its deeds are legal
-abbrev pub EveryStoryIsSound : Type 0
-EveryStoryIsSound =
-    (l : Layout) (limit : ℕ) (story : List Happening) → IsLayout l → Story l limit at_first story
-    → Sound l limit at_first (empty l.procs l.cap) story
+abbrev pub EveryExecutionIsSound : Type 0
+EveryExecutionIsSound =
+    (l : Layout) (limit : ℕ) (execution : List WorldEvent) → IsLayout l → Execution l limit at_first execution
+    → Sound l limit at_first (empty l.procs l.cap) execution
 
-abbrev pub EveryStoryIsLegal : Type 0
-EveryStoryIsLegal =
-    (l : Layout) (limit : ℕ) (story : List Happening) → IsLayout l → Story l limit at_first story
-    → IsLegal l.procs l.cap (deeds l limit at_first story)
+abbrev pub EveryExecutionIsLegal : Type 0
+EveryExecutionIsLegal =
+    (l : Layout) (limit : ℕ) (execution : List WorldEvent) → IsLayout l → Execution l limit at_first execution
+    → IsLegal l.procs l.cap (deeds l limit at_first execution)
 
 -- and the lock words stay lawful
-abbrev pub EveryStoryEndsLawful : Type 0
-EveryStoryEndsLawful =
-    (l : Layout) (limit : ℕ) (story : List Happening) → Story l limit at_first story
-    → IsLawful l.procs limit (last_scene l limit at_first story).words
+abbrev pub EveryExecutionEndsLawful : Type 0
+EveryExecutionEndsLawful =
+    (l : Layout) (limit : ℕ) (execution : List WorldEvent) → Execution l limit at_first execution
+    → IsLawful l.procs limit (last_global_state l limit at_first execution).words
 
 -- Words that are possible after a crash of every process, with the judge's state that they describe.
 pub record IsLater (l : Layout) (limit : ℕ) (words : ℕ → Own) (cells : Words) (s : State) : Type 0 where
@@ -81,8 +81,8 @@ pub record IsLater (l : Layout) (limit : ℕ) (words : ℕ → Own) (cells : Wor
   pub sits : Sits l cells s
 
 -- the same from such words: they stay lawful, and the list of all deeds is legal from there
-abbrev pub EveryLaterStoryIsSound : Type 0
-EveryLaterStoryIsSound =
-    (l : Layout) (limit : ℕ) (words : ℕ → Own) (cells : Words) (s : State) (story : List Happening) → IsLayout l → IsLater l limit words cells s
-    → Story l limit (all_dead words cells) story → Sound l limit (all_dead words cells) s story
-    × IsLawful l.procs limit (last_scene l limit (all_dead words cells) story).words × ((t : State) × Leads s (deeds l limit (all_dead words cells) story) t)
+abbrev pub EveryLaterExecutionIsSound : Type 0
+EveryLaterExecutionIsSound =
+    (l : Layout) (limit : ℕ) (words : ℕ → Own) (cells : Words) (s : State) (execution : List WorldEvent) → IsLayout l → IsLater l limit words cells s
+    → Execution l limit (all_dead words cells) execution → Sound l limit (all_dead words cells) s execution
+    × IsLawful l.procs limit (last_global_state l limit (all_dead words cells) execution).words × ((t : State) × Leads s (deeds l limit (all_dead words cells) execution) t)

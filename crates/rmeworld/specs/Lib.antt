@@ -1,13 +1,13 @@
 pub mod Behaviours
 pub mod ImageRules
 pub mod ImageStart
-pub mod Whys
+pub mod Purposes
 pub mod Entered
-pub mod Spot
+pub mod ProcessState
 pub mod Answered
 pub mod Refused
-pub mod Errands
-pub mod Stand
+pub mod ScriptStates
+pub mod MachineState
 pub mod Seams
 pub mod World
 pub mod Law

@@ -11,12 +11,12 @@ use Rattle.rmecore.specs.declared.own.Own.{Own}
 use Rattle.redomail.specs.Script.{Script, Get as Asks, Put as Writes, Done}
 use Rattle.redomail.specs.declared.layout.Layout.{Layout}
 use Rattle.redomail.specs.declared.reply.Reply.{Reply}
-use Rattle.rmeworld.specs.Errands.{HasStep}
+use Rattle.rmeworld.specs.ScriptStates.{HasStep}
 use Rattle.rmeworld.specs.OwnSteps.{and_more, core_steps, mending_steps, task_steps}
-use Rattle.rmeworld.specs.Spot.{Errand, Free, Doing, Spot}
+use Rattle.rmeworld.specs.ProcessState.{ScriptState, Free, Doing, ProcessState}
 use Rattle.rmeworld.specs.UnderWay.{lock_part}
-use Rattle.rmeworld.specs.declared.why.Why.{Why}
-use Rattle.rmeworld.specs.declared.why.Why.TheVariants.{Checking, Ruining, Mending, Working}
+use Rattle.rmeworld.specs.declared.purpose.Purpose.{Purpose}
+use Rattle.rmeworld.specs.declared.purpose.Purpose.TheVariants.{Checking, Ruining, Mending, Working}
 
 -- a script that has taken this number of steps ends with exactly the number for its reply, whatever it reads
 abbrev pub Costs : (Reply → Option ℕ) → Script Reply → ℕ → Type 0
@@ -33,7 +33,7 @@ abbrev pub checked_steps : Layout → Own → Bool → Option ℕ
 checked_steps l began mended = and_more 1 (core_steps l began (entry_of mended))
 
 -- the steps of a call up to the end of its script, by the reply
-abbrev pub script_steps : Layout → Own → Bool → Why → Reply → Option ℕ
+abbrev pub script_steps : Layout → Own → Bool → Purpose → Reply → Option ℕ
 script_steps l began mended Checking reply = checked_steps l began mended
 script_steps l began mended Ruining reply = if mended then None else Some 1
 script_steps l began mended Mending reply = mending_steps l reply
@@ -58,10 +58,10 @@ PaysPart l began None s mended barred steps = Unit {0}
 PaysPart l began (Some core_call.Unlock) s mended barred steps = Exits l began (before_exit l began mended barred) s steps
 PaysPart l began (Some _) s mended barred steps = (barred ≡ false) × PaysCore l began s steps
 
-abbrev pub PaysBy : Layout → Own → Place → Bool → Bool → Errand → ℕ → Type 0
+abbrev pub PaysBy : Layout → Own → Place → Bool → Bool → ScriptState → ℕ → Type 0
 PaysBy l began s mended barred Free steps = PaysPart l began (lock_part s) s mended barred steps
-PaysBy l began s mended barred (Doing why left) steps = (barred ≡ false) × HasStep left × Costs (script_steps l began mended why) left steps
+PaysBy l began s mended barred (Doing purpose left) steps = (barred ≡ false) × HasStep left × Costs (script_steps l began mended purpose) left steps
 
 -- the call under way in this process state, begun with these words, has taken this number of steps
-abbrev pub PaysAt : Layout → Own → Spot → ℕ → Type 0
-PaysAt l began spot steps = PaysBy l began spot.lock spot.mended spot.barred spot.errand steps
+abbrev pub PaysAt : Layout → Own → ProcessState → ℕ → Type 0
+PaysAt l began process_state steps = PaysBy l began process_state.lock process_state.mended process_state.barred process_state.script_state steps

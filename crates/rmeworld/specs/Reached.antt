@@ -9,25 +9,25 @@ use Rattle.judge.specs.Legal.{Leads}
 use Rattle.judge.specs.Table.{State, empty}
 use Rattle.rmeworld.specs.ImageRules.{layout_of, IsLawfulImage}
 use Rattle.rmeworld.specs.Law.{IsLater}
-use Rattle.rmeworld.specs.Spot.{Happening, at_rest, dead}
-use Rattle.rmeworld.specs.Stand.{IsSize}
+use Rattle.rmeworld.specs.ProcessState.{WorldEvent, at_rest, dead}
+use Rattle.rmeworld.specs.MachineState.{IsSize}
 use Rattle.rmeworld.specs.Tallied.{AllTallied}
-use Rattle.rmeworld.specs.World.{Scene, at_first, Story, last_scene, deeds}
-use Rattle.rmeworld.specs.WorldState.{WorldState, IsSeated, scene_of}
+use Rattle.rmeworld.specs.World.{GlobalState, at_first, Execution, last_global_state, deeds}
+use Rattle.rmeworld.specs.WorldState.{WorldState, IsConfigured, global_state_of}
 use Rattle.rmeworld.specs.declared.image.Image.{Image}
 
 -- these words, with each of the n processes crashed
-abbrev pub crashed_scene : ℕ → (ℕ → Own) → Words → Scene
-crashed_scene n words cells = record { words = words; cells = cells; spots = λ p. if nat_lt p n then dead else at_rest }
+abbrev pub crashed_global_state : ℕ → (ℕ → Own) → Words → GlobalState
+crashed_global_state n words cells = record { words = words; cells = cells; process_states = λ p. if nat_lt p n then dead else at_rest }
 
 -- a global state at the beginning of an execution, with the judge's state there: that of a new world, or one whose processes
 -- have all crashed, with words that are possible after that
-abbrev pub IsOrigin : Layout → ℕ → Scene → State → Type 0
+abbrev pub IsOrigin : Layout → ℕ → GlobalState → State → Type 0
 IsOrigin l limit w s =
-    ((w ≡ at_first) × (s ≡ empty l.procs l.cap)) ⊎ ((w ≡ crashed_scene l.procs w.words w.cells) × IsLater l limit w.words w.cells s)
+    ((w ≡ at_first) × (s ≡ empty l.procs l.cap)) ⊎ ((w ≡ crashed_global_state l.procs w.words w.cells) × IsLater l limit w.words w.cells s)
 
 -- The image has the words of this global state, and its sizes.
-pub record IsImageOf (l : Layout) (limit : ℕ) (w : Scene) (i : Image) : Type 0 where
+pub record IsImageOf (l : Layout) (limit : ℕ) (w : GlobalState) (i : Image) : Type 0 where
   pub version : i.version ≡ 2
   pub layout : layout_of i ≡ l
   pub limited : i.limit ≡ limit
@@ -36,33 +36,33 @@ pub record IsImageOf (l : Layout) (limit : ℕ) (w : Scene) (i : Image) : Type 0
   pub cells : words_of i.cells ≡ w.cells
 
 -- After every execution, the words of all processes and the data words keep the nine rules of images.
-abbrev pub EveryStoryLeavesAnImage : Type 0
-EveryStoryLeavesAnImage =
-    (l : Layout) (limit : ℕ) (w : Scene) (s : State) (story : List Happening) (i : Image) → IsSize l → (1 ≤ limit) × (limit ≤ 2 ^ 62)
-    → IsOrigin l limit w s → Story l limit w story → IsImageOf l limit (last_scene l limit w story) i → IsLawfulImage i
+abbrev pub EveryExecutionLeavesAnImage : Type 0
+EveryExecutionLeavesAnImage =
+    (l : Layout) (limit : ℕ) (w : GlobalState) (s : State) (execution : List WorldEvent) (i : Image) → IsSize l → (1 ≤ limit) × (limit ≤ 2 ^ 62)
+    → IsOrigin l limit w s → Execution l limit w execution → IsImageOf l limit (last_global_state l limit w execution) i → IsLawfulImage i
 
 -- The global state is the last of some execution, and the history is the execution's deeds.
-pub record IsReached (l : Layout) (limit : ℕ) (w : Scene) (history : List Deed) : Type 0 where
-  pub first : Scene
+pub record IsReached (l : Layout) (limit : ℕ) (w : GlobalState) (history : List Deed) : Type 0 where
+  pub first : GlobalState
   pub state : State
   pub origin : IsOrigin l limit first state
-  pub story : List Happening
-  pub told : Story l limit first story
-  pub last : last_scene l limit first story ≡ w
-  pub done : deeds l limit first story ≡ history
+  pub execution : List WorldEvent
+  pub told : Execution l limit first execution
+  pub last : last_global_state l limit first execution ≡ w
+  pub done : deeds l limit first execution ≡ history
 
 -- The invariant of a world.
 pub record IsWorld (s : WorldState) : Type 0 where
   pub sized : IsSize s.layout
   pub limited : (1 ≤ s.limit) × (s.limit ≤ 2 ^ 62)
   pub filled : length s.cells ≡ size s.layout
-  pub seated : IsSeated s.layout s.limit s.words s.processes s.tallies
-  pub reached : IsReached s.layout s.limit (scene_of s) s.history
-  pub tallied : AllTallied s.layout (scene_of s) s.tallies
+  pub configured : IsConfigured s.layout s.limit s.words s.processes s.tallies
+  pub reached : IsReached s.layout s.limit (global_state_of s) s.history
+  pub tallied : AllTallied s.layout (global_state_of s) s.tallies
 
 -- The judge table allows the history, from the state of the world's beginning.
 pub record IsLegalHistory (s : WorldState) : Type 0 where
-  pub first : Scene
+  pub first : GlobalState
   pub state : State
   pub origin : IsOrigin s.layout s.limit first state
   pub now : State

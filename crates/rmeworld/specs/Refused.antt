@@ -7,15 +7,15 @@ use Rattle.rmecore.specs.declared.refusal.Refusal.TheVariants.{CallUnderWay, Not
 use Rattle.redomail.specs.declared.layout.Layout.{Layout}
 use Rattle.rmeworld.specs.declared.call.Call.{Call}
 use Rattle.rmeworld.specs.declared.call.Call.TheVariants.{Lock, Unlock, Consistent, Recover, Append, Close, Get, Put, Withdraw}
-use Rattle.rmeworld.specs.Spot.{Errand, Free, Doing, Spot}
+use Rattle.rmeworld.specs.ProcessState.{ScriptState, Free, Doing, ProcessState}
 
 -- no call is under way
-abbrev pub is_idle_by : Place → Errand → Bool
+abbrev pub is_idle_by : Place → ScriptState → Bool
 is_idle_by s Free = is_idle_place s
-is_idle_by s (Doing why left) = false
+is_idle_by s (Doing purpose left) = false
 
-abbrev pub is_idle : Spot → Bool
-is_idle spot = is_idle_by spot.lock spot.errand
+abbrev pub is_idle : ProcessState → Bool
+is_idle process_state = is_idle_by process_state.lock process_state.script_state
 
 abbrev pub is_inside : Place → Bool
 is_inside Inside = true
@@ -30,17 +30,17 @@ abbrev pub Needs : Type 0
 Needs = List (Bool × Refusal)
 
 -- the needs of a call at its start, in order, each with its refusal
-abbrev pub needs : Layout → Spot → Call → Needs
-needs l spot Lock = (is_idle spot, CallUnderWay) ∷ (not (is_inside spot.lock), AlreadyIn) ∷ []
-needs l spot Recover = (is_idle spot, CallUnderWay) ∷ (not (is_inside spot.lock), AlreadyIn) ∷ []
-needs l spot Unlock = (is_idle spot, CallUnderWay) ∷ (is_inside spot.lock, NotOwner) ∷ []
-needs l spot Consistent = (is_idle spot, CallUnderWay) ∷ (is_inside spot.lock, NotOwner) ∷ (not spot.mended, NotInconsistent) ∷ []
-needs l spot (Append seq value) =
-    (is_idle spot, CallUnderWay) ∷ (is_inside spot.lock, NotOwner) ∷ (spot.mended, Unmended) ∷ (length value == l.width, BadWidth) ∷ []
-needs l spot Close = (is_idle spot, CallUnderWay) ∷ (is_inside spot.lock, NotOwner) ∷ (spot.mended, Unmended) ∷ []
-needs l spot (Get i) = (is_idle spot, CallUnderWay) ∷ (is_inside spot.lock, NotOwner) ∷ (nat_lt i 4, BadIndex) ∷ []
-needs l spot (Put i v) = (is_idle spot, CallUnderWay) ∷ (is_inside spot.lock, NotOwner) ∷ (nat_lt i 4, BadIndex) ∷ []
-needs l spot Withdraw = (is_waiting spot.lock, NotWaiting) ∷ []
+abbrev pub needs : Layout → ProcessState → Call → Needs
+needs l process_state Lock = (is_idle process_state, CallUnderWay) ∷ (not (is_inside process_state.lock), AlreadyIn) ∷ []
+needs l process_state Recover = (is_idle process_state, CallUnderWay) ∷ (not (is_inside process_state.lock), AlreadyIn) ∷ []
+needs l process_state Unlock = (is_idle process_state, CallUnderWay) ∷ (is_inside process_state.lock, NotOwner) ∷ []
+needs l process_state Consistent = (is_idle process_state, CallUnderWay) ∷ (is_inside process_state.lock, NotOwner) ∷ (not process_state.mended, NotInconsistent) ∷ []
+needs l process_state (Append seq value) =
+    (is_idle process_state, CallUnderWay) ∷ (is_inside process_state.lock, NotOwner) ∷ (process_state.mended, Unmended) ∷ (length value == l.width, BadWidth) ∷ []
+needs l process_state Close = (is_idle process_state, CallUnderWay) ∷ (is_inside process_state.lock, NotOwner) ∷ (process_state.mended, Unmended) ∷ []
+needs l process_state (Get i) = (is_idle process_state, CallUnderWay) ∷ (is_inside process_state.lock, NotOwner) ∷ (nat_lt i 4, BadIndex) ∷ []
+needs l process_state (Put i v) = (is_idle process_state, CallUnderWay) ∷ (is_inside process_state.lock, NotOwner) ∷ (nat_lt i 4, BadIndex) ∷ []
+needs l process_state Withdraw = (is_waiting process_state.lock, NotWaiting) ∷ []
 
 -- the refusal of the first need that fails
 abbrev pub first_cause : Needs → Option Refusal
@@ -48,5 +48,5 @@ first_cause [] = None
 first_cause (need ∷ rest) = if need.0 then first_cause rest else Some need.1
 
 -- why a process in this state may not start the call
-abbrev pub start_refusal : Layout → Spot → Call → Option Refusal
-start_refusal l spot call = first_cause (needs l spot call)
+abbrev pub start_refusal : Layout → ProcessState → Call → Option Refusal
+start_refusal l process_state call = first_cause (needs l process_state call)

@@ -21,35 +21,35 @@ use Rattle.rmeworld.specs.declared.call.Call.{Call}
 use Rattle.rmeworld.specs.declared.image.Image.{Image}
 use Rattle.rmeworld.specs.declared.outcome.Outcome.{Outcome}
 use Rattle.rmeworld.specs.declared.stepped.Stepped.{Stepped}
-use Rattle.rmeworld.specs.Refused.{is_idle, start_refusal as spot_refusal}
-use Rattle.rmeworld.specs.Spot.{Happening, Moves}
-use Rattle.rmeworld.specs.Stand.{Stand, next_access, outcome, stepped as stand_stepped, started as stand_started, crashed as stand_crashed}
+use Rattle.rmeworld.specs.Refused.{is_idle, start_refusal as process_state_refusal}
+use Rattle.rmeworld.specs.ProcessState.{WorldEvent, Moves}
+use Rattle.rmeworld.specs.MachineState.{MachineState, next_access, outcome, stepped as machine_state_stepped, started as machine_state_started, crashed as machine_state_crashed}
 use Rattle.rmeworld.specs.World.{reading, put_deeds, event_deeds}
-use Rattle.rmeworld.specs.WorldState.{WorldState, stand_at, spot_at, scene_of}
+use Rattle.rmeworld.specs.WorldState.{WorldState, machine_state_at, process_state_at, global_state_of}
 
 -- the refusal of a start
 abbrev pub start_refusal : WorldState → ℕ → Call → Option Refusal
-start_refusal s p call = if nat_lt p s.layout.procs then spot_refusal s.layout (spot_at s.processes p) call else Some NoSuchProcess
+start_refusal s p call = if nat_lt p s.layout.procs then process_state_refusal s.layout (process_state_at s.processes p) call else Some NoSuchProcess
 
 -- the call is under way, with counts of 0
 abbrev pub started : WorldState → ℕ → Call → WorldState
 started s p call =
     record s {
-      processes = slice_set s.processes p (stand_started (stand_at s.processes p) call);
+      processes = slice_set s.processes p (machine_state_started (machine_state_at s.processes p) call);
       tallies = slice_set s.tallies p (fresh (own_at s.words p));
     }
 
 -- the refusal of a step
 abbrev pub advance_refusal : WorldState → ℕ → Option Refusal
-advance_refusal s p = if nat_lt p s.layout.procs then (if is_idle (spot_at s.processes p) then Some NothingToDo else None) else Some NoSuchProcess
+advance_refusal s p = if nat_lt p s.layout.procs then (if is_idle (process_state_at s.processes p) then Some NothingToDo else None) else Some NoSuchProcess
 
 -- the value that an access reads or writes
 abbrev pub value_of : WorldState → Access → ℕ
-value_of s a = carried a (reading (scene_of s) (word_of a))
+value_of s a = carried a (reading (global_state_of s) (word_of a))
 
 -- the world event of an access
-abbrev pub happening : WorldState → ℕ → Access → Happening
-happening s p a = Moves p (kind_of a) (word_of a) (value_of s a)
+abbrev pub world_event : WorldState → ℕ → Access → WorldEvent
+world_event s p a = Moves p (kind_of a) (word_of a) (value_of s a)
 
 -- the lock words and the data words after a store
 abbrev pub words_set : List Own → Word → ℕ → List Own
@@ -96,29 +96,29 @@ abbrev pub prospect_of : WorldState → ℕ → Access → Outcome → List Deed
 prospect_of s p a o = or_else o.progress.outer (mail_by s.layout p (words_of s.cells) a)
 
 -- the deeds of a process's access, with the value that it finds
-abbrev pub deeds_ahead : Stand → Words → Access → ℕ → List Deed
+abbrev pub deeds_ahead : MachineState → Words → Access → ℕ → List Deed
 deeds_ahead s cells a v = or_else (outcome s (Some a) v).progress.outer (mail_by s.layout s.index cells a)
 
 -- the report of this access
 abbrev pub stepped_by : WorldState → ℕ → Access → Stepped
 stepped_by s p a =
-    let o = outcome (stand_at s.processes p) (Some a) (reading (scene_of s) (word_of a)) in
+    let o = outcome (machine_state_at s.processes p) (Some a) (reading (global_state_of s) (word_of a)) in
     record {
       happened = record { kind = kind_of a; word = word_of a; value = value_of s a; outer = o.progress.outer; done = o.progress.done };
-      deed = the_deed (event_deeds s.layout (scene_of s) (happening s p a));
+      deed = the_deed (event_deeds s.layout (global_state_of s) (world_event s p a));
       answer = o.answer;
     }
 
 -- the world after this access
 abbrev pub advanced_by : WorldState → ℕ → Access → WorldState
 advanced_by s p a =
-    let v = reading (scene_of s) (word_of a) in
+    let v = reading (global_state_of s) (word_of a) in
     record s {
       words = words_by s.words a;
       cells = cells_by s.cells a;
-      processes = slice_set s.processes p (stand_stepped (stand_at s.processes p) v);
-      tallies = slice_set s.tallies p (counted (tally_at s.tallies p) (outcome (stand_at s.processes p) (Some a) v).progress.blocked);
-      history = s.history ++ event_deeds s.layout (scene_of s) (happening s p a);
+      processes = slice_set s.processes p (machine_state_stepped (machine_state_at s.processes p) v);
+      tallies = slice_set s.tallies p (counted (tally_at s.tallies p) (outcome (machine_state_at s.processes p) (Some a) v).progress.blocked);
+      history = s.history ++ event_deeds s.layout (global_state_of s) (world_event s p a);
     }
 
 -- the default report, where there is no step
@@ -126,8 +126,8 @@ abbrev pub no_step : Stepped
 no_step = record { happened = record { kind = Glance; word = DataAt 0; value = 0; outer = None; done = None }; deed = None; answer = None }
 
 -- the report of a silent load
-abbrev pub quiet_step : Access → ℕ → Stepped
-quiet_step a v = record { happened = record { kind = kind_of a; word = word_of a; value = v; outer = None; done = None }; deed = None; answer = None }
+abbrev pub silent_step : Access → ℕ → Stepped
+silent_step a v = record { happened = record { kind = kind_of a; word = word_of a; value = v; outer = None; done = None }; deed = None; answer = None }
 
 abbrev pub stepped_if : WorldState → ℕ → Option Access → Stepped
 stepped_if s p None = no_step
@@ -139,10 +139,10 @@ advanced_if s p (Some a) = advanced_by s p a
 
 -- the report of p's next step, and the world after it
 abbrev pub stepped : WorldState → ℕ → Stepped
-stepped s p = stepped_if s p (next_access (stand_at s.processes p))
+stepped s p = stepped_if s p (next_access (machine_state_at s.processes p))
 
 abbrev pub advanced : WorldState → ℕ → WorldState
-advanced s p = advanced_if s p (next_access (stand_at s.processes p))
+advanced s p = advanced_if s p (next_access (machine_state_at s.processes p))
 
 -- the refusal of a crash
 abbrev pub crash_refusal : WorldState → ℕ → Option Refusal
@@ -155,7 +155,7 @@ crash_deed p = OuterDeed (Crash p)
 -- the world after a crash
 abbrev pub crashed : WorldState → ℕ → WorldState
 crashed s p =
-    record s { processes = slice_set s.processes p (stand_crashed (stand_at s.processes p)); history = s.history ++ crash_deed p ∷ [] }
+    record s { processes = slice_set s.processes p (machine_state_crashed (machine_state_at s.processes p)); history = s.history ++ crash_deed p ∷ [] }
 
 -- the current words, with the sizes
 abbrev pub image_of : WorldState → Image

@@ -7,26 +7,26 @@ use Rattle.rmecore.specs.declared.tally.Tally.{Tally}
 use Rattle.redomail.specs.declared.layout.Layout.{Layout}
 use Rattle.rmeworld.specs.OwnSteps.{own_steps}
 use Rattle.rmeworld.specs.Paid.{PaysAt}
-use Rattle.rmeworld.specs.Spot.{Spot}
+use Rattle.rmeworld.specs.ProcessState.{ProcessState}
 use Rattle.rmeworld.specs.UnderWay.{call_at}
-use Rattle.rmeworld.specs.World.{Scene}
+use Rattle.rmeworld.specs.World.{GlobalState}
 use Rattle.rmeworld.specs.declared.answer.Answer.{Answer}
 use Rattle.rmeworld.specs.declared.call.Call.{Call}
 
 -- a call that ended with this answer, by a step from this process state, took exactly the table's steps and the blocked ones
-abbrev pub HasTaken : Layout → Spot → Tally → Answer → Type 0
-HasTaken l spot t a =
-    (call : Call) × (call_at spot ≡ Some call) × ((x : ℕ) × (own_steps l t.began spot.mended call a ≡ Some x) × (t.steps ≡ x + t.blocked))
+abbrev pub HasTaken : Layout → ProcessState → Tally → Answer → Type 0
+HasTaken l process_state t a =
+    (call : Call) × (call_at process_state ≡ Some call) × ((x : ℕ) × (own_steps l t.began process_state.mended call a ≡ Some x) × (t.steps ≡ x + t.blocked))
 
 -- a call under way in this process state has taken exactly the steps before it and the blocked ones
-abbrev pub IsTaking : Layout → Spot → Tally → Type 0
-IsTaking l spot t = (x : ℕ) × PaysAt l t.began spot x × (t.steps ≡ x + t.blocked)
+abbrev pub IsTaking : Layout → ProcessState → Tally → Type 0
+IsTaking l process_state t = (x : ℕ) × PaysAt l t.began process_state x × (t.steps ≡ x + t.blocked)
 
 -- the invariant of a process's counts, with these words in this process state
-pub record IsTallied (l : Layout) (own : Own) (spot : Spot) (t : Tally) : Type 0 where
-  pub began : IsRereading spot.lock → t.began ≡ own
-  pub taking : IsExact t → IsTaking l spot t
+pub record IsTallied (l : Layout) (own : Own) (process_state : ProcessState) (t : Tally) : Type 0 where
+  pub began : IsRereading process_state.lock → t.began ≡ own
+  pub taking : IsExact t → IsTaking l process_state t
 
 -- the invariant of the counts of all processes
-abbrev pub AllTallied : Layout → Scene → List Tally → Type 0
-AllTallied l w tallies = (p : ℕ) → p < l.procs → IsTallied l (w.words p) (w.spots p) (tally_at tallies p)
+abbrev pub AllTallied : Layout → GlobalState → List Tally → Type 0
+AllTallied l w tallies = (p : ℕ) → p < l.procs → IsTallied l (w.words p) (w.process_states p) (tally_at tallies p)

@@ -7,9 +7,9 @@ use Rattle.redomail.specs.declared.task.Task.{Task}
 use Rattle.redomail.specs.declared.task.Task.TheVariants as task
 use Rattle.rmeworld.specs.declared.call.Call.{Call}
 use Rattle.rmeworld.specs.declared.call.Call.TheVariants.{Lock, Unlock, Consistent, Recover, Append, Close, Get, Put, Withdraw}
-use Rattle.rmeworld.specs.declared.why.Why.{Why}
-use Rattle.rmeworld.specs.declared.why.Why.TheVariants.{Checking, Ruining, Mending, Working}
-use Rattle.rmeworld.specs.Spot.{Errand, Free, Doing, Spot}
+use Rattle.rmeworld.specs.declared.purpose.Purpose.{Purpose}
+use Rattle.rmeworld.specs.declared.purpose.Purpose.TheVariants.{Checking, Ruining, Mending, Working}
+use Rattle.rmeworld.specs.ProcessState.{ScriptState, Free, Doing, ProcessState}
 
 -- the call of the lock's part at a place. Unlock is the exit
 abbrev pub lock_part : Place → Option CoreCall
@@ -44,16 +44,16 @@ task_call (task.BoardGet i) = Some (Get i)
 task_call (task.BoardPut i v) = Some (Put i v)
 task_call _ = None
 
-abbrev pub why_call : Why → Option Call
-why_call Checking = Some Lock
-why_call Ruining = Some Unlock
-why_call Mending = Some Consistent
-why_call (Working t) = task_call t
+abbrev pub purpose_call : Purpose → Option Call
+purpose_call Checking = Some Lock
+purpose_call Ruining = Some Unlock
+purpose_call Mending = Some Consistent
+purpose_call (Working t) = task_call t
 
-abbrev pub call_by : Place → Bool → Errand → Option Call
+abbrev pub call_by : Place → Bool → ScriptState → Option Call
 call_by s barred Free = part_call (lock_part s) barred
-call_by s barred (Doing why left) = why_call why
+call_by s barred (Doing purpose left) = purpose_call purpose
 
 -- no call is under way at rest, after a crash, or inside without a job
-abbrev pub call_at : Spot → Option Call
-call_at spot = call_by spot.lock spot.barred spot.errand
+abbrev pub call_at : ProcessState → Option Call
+call_at process_state = call_by process_state.lock process_state.barred process_state.script_state

@@ -11,11 +11,11 @@ use Rattle.rmecore.specs.declared.word.Word.{Word}
 use Rattle.redomail.specs.declared.deed.Deed.{Deed}
 use Rattle.redomail.specs.declared.layout.Layout.{Layout}
 use Rattle.redomail.specs.Layout.{words_of, size}
-use Rattle.rmeworld.specs.Spot.{Spot, Happening, Moves, next_spot}
-use Rattle.rmeworld.specs.Stand.{Stand, spot_of, resting, crashed}
+use Rattle.rmeworld.specs.ProcessState.{ProcessState, WorldEvent, Moves, next_process_state}
+use Rattle.rmeworld.specs.MachineState.{MachineState, process_state_of, resting, crashed}
 use Rattle.rmeworld.specs.declared.image.Image.{Image}
 use Rattle.rmeworld.specs.ImageRules.{layout_of}
-use Rattle.rmeworld.specs.World.{Scene, Can, onward, event_deeds}
+use Rattle.rmeworld.specs.World.{GlobalState, Can, onward, event_deeds}
 
 -- a world: its sizes, its words, the machines and counts of its processes, and its history
 pub record WorldState : Type 0 where
@@ -23,56 +23,56 @@ pub record WorldState : Type 0 where
   pub limit : ℕ
   pub words : List Own
   pub cells : List ℕ
-  pub processes : List Stand
+  pub processes : List MachineState
   pub tallies : List Tally
   pub history : List Deed
 
 -- the default for an index that is no process
-abbrev pub absent : Stand
+abbrev pub absent : MachineState
 absent = resting (record { procs = 0; cap = 0; width = 0 }) 0 0
 
 -- the process at an index, and its state
-abbrev pub stand_at : List Stand → ℕ → Stand
-stand_at processes p = slice_index_or processes p absent
+abbrev pub machine_state_at : List MachineState → ℕ → MachineState
+machine_state_at processes p = slice_index_or processes p absent
 
-abbrev pub spot_at : List Stand → ℕ → Spot
-spot_at processes p = spot_of (stand_at processes p)
+abbrev pub process_state_at : List MachineState → ℕ → ProcessState
+process_state_at processes p = process_state_of (machine_state_at processes p)
 
 -- the global state of a world
-abbrev pub scene_of : WorldState → Scene
-scene_of s = record { words = own_at s.words; cells = words_of s.cells; spots = spot_at s.processes }
+abbrev pub global_state_of : WorldState → GlobalState
+global_state_of s = record { words = own_at s.words; cells = words_of s.cells; process_states = process_state_at s.processes }
 
 -- process p of a world of these sizes, with this limit
-abbrev pub HasSeat : Layout → ℕ → ℕ → Stand → Type 0
-HasSeat l limit p s = (s.layout ≡ l) × (s.limit ≡ limit) × (s.index ≡ p)
+abbrev pub HasConfiguration : Layout → ℕ → ℕ → MachineState → Type 0
+HasConfiguration l limit p s = (s.layout ≡ l) × (s.limit ≡ limit) × (s.index ≡ p)
 
 -- the lists have one member for each process, in the order of their indices
-pub record IsSeated (l : Layout) (limit : ℕ) (words : List Own) (processes : List Stand) (tallies : List Tally) : Type 0 where
+pub record IsConfigured (l : Layout) (limit : ℕ) (words : List Own) (processes : List MachineState) (tallies : List Tally) : Type 0 where
   pub words_each : length words ≡ l.procs
   pub processes_each : length processes ≡ l.procs
   pub tallies_each : length tallies ≡ l.procs
-  pub seats : (p : ℕ) → p < l.procs → HasSeat l limit p (stand_at processes p)
+  pub configurations : (p : ℕ) → p < l.procs → HasConfiguration l limit p (machine_state_at processes p)
 
 -- The definition allows the event. The new global state is the one after it, and the history grows by the event's deeds
 -- alone.
-pub record Takes (old : WorldState) (e : Happening) (new : WorldState) : Type 0 where
-  pub can : Can old.layout old.limit (scene_of old) e
-  pub scene : scene_of new ≡ onward old.layout old.limit (scene_of old) e
-  pub history : new.history ≡ old.history ++ event_deeds old.layout (scene_of old) e
+pub record Takes (old : WorldState) (e : WorldEvent) (new : WorldState) : Type 0 where
+  pub can : Can old.layout old.limit (global_state_of old) e
+  pub global_state : global_state_of new ≡ onward old.layout old.limit (global_state_of old) e
+  pub history : new.history ≡ old.history ++ event_deeds old.layout (global_state_of old) e
   pub layout : new.layout ≡ old.layout
   pub limit : new.limit ≡ old.limit
 
 -- the event of a step's report
-abbrev pub happening_of : ℕ → Happened → Happening
-happening_of p h = Moves p h.kind h.word h.value
+abbrev pub world_event_of : ℕ → Happened → WorldEvent
+world_event_of p h = Moves p h.kind h.word h.value
 
 -- where "Step" leaves a choice of words, the one of the least process is taken
 abbrev pub ChoosesLeast : WorldState → ℕ → Happened → Type 0
 ChoosesLeast old p h =
-    (word : Word) (v : ℕ) → IsSome (next_spot old.layout old.limit (spot_at old.processes p) (Moves p h.kind word v)) → owner h.word ≤ owner word
+    (word : Word) (v : ℕ) → IsSome (next_process_state old.layout old.limit (process_state_at old.processes p) (Moves p h.kind word v)) → owner h.word ≤ owner word
 
 -- n processes at rest, from p on
-abbrev pub at_rest_from : Layout → ℕ → ℕ → ℕ → List Stand
+abbrev pub at_rest_from : Layout → ℕ → ℕ → ℕ → List MachineState
 at_rest_from l limit p zero = []
 at_rest_from l limit p (suc n) = resting l limit p ∷ at_rest_from l limit (p + 1) n
 
@@ -101,7 +101,7 @@ new_refusal l limit =
     else Some BadProcs
 
 -- n crashed processes, from p on
-abbrev pub crashed_from : Layout → ℕ → ℕ → ℕ → List Stand
+abbrev pub crashed_from : Layout → ℕ → ℕ → ℕ → List MachineState
 crashed_from l limit p zero = []
 crashed_from l limit p (suc n) = crashed (resting l limit p) ∷ crashed_from l limit (p + 1) n
 

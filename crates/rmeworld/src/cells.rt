@@ -7,17 +7,17 @@ use std::marker::Model;
 
 /// The data words of a world, by rising index. In contracts they are a list.
 #[derive(Drop)]
-pub struct Cells {
+pub struct DataWords {
     words: Vec<u64>,
 }
 
-impl fmt::Debug for Cells {
+impl fmt::Debug for DataWords {
     fn fmt<W: fmt::Write>(&self, f: &mut fmt::Formatter<W>) -> fmt::Result {
         f.write_str("Cells")
     }
 }
 
-impl Model for Cells {
+impl Model for DataWords {
     ghost use Rattle.std.specs.Prelude.{ℕ, List};
 
     ghost Value = { List ℕ };
@@ -25,12 +25,12 @@ impl Model for Cells {
     ghost view = { λ c. c.words.items };
 }
 
-impl Cells {
+impl DataWords {
     /// Takes over these words. It does not allocate.
-    pub fn new(words: Vec<u64>) -> Cells
+    pub fn new(words: Vec<u64>) -> DataWords
         ensures { result ≡ words.items }
     {
-        Cells { words }
+        DataWords { words }
     }
 
     /// The words, for reading.

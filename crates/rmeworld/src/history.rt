@@ -3,7 +3,7 @@
 ghost use Rattle.std.specs.Prelude.{◌≡◌, ◌<◌, ◌⊎◌, ◌++◌, is_some, true, IfErr, OnOk, OnErr, Some, vec_len, vec_capacity, length, []};
 ghost use Rattle.redomail.specs.Layout.{words_of, size};
 ghost use Rattle.rmeworld.specs.Replayed.{list_of, deeds_ahead};
-ghost use Rattle.rmeworld.specs.Stand.{next_access};
+ghost use Rattle.rmeworld.specs.MachineState.{next_access};
 
 use crate::memory::deed_of;
 use crate::process::Process;
@@ -23,7 +23,8 @@ fn make_more_room(
     requires next { next_access process.now ≡ Some access }
     requires filled { length cells.now ≡ size process.now.layout }
     ensures same { history.new.items ≡ history.old.items }
-    ensures room { OnOk result (vec_len history.new < vec_capacity history.new) ⊎ (deeds_ahead process.now (words_of cells.now) access found ≡ []) }
+    ensures room { OnOk result (vec_len history.new < vec_capacity history.new)
+        ⊎ (deeds_ahead process.now (words_of cells.now) access found ≡ []) }
     ensures some { OnErr result ((deeds_ahead process.now (words_of cells.now) access found ≡ []) → ⊥) }
     ensures memory { IfErr result (λ e. e ≡ Refusal.OutOfMemory) }
 {
@@ -46,7 +47,8 @@ pub fn make_room(
     requires next { next_access process.now ≡ Some access }
     requires filled { length cells.now ≡ size process.now.layout }
     ensures same { history.new.items ≡ history.old.items }
-    ensures room { OnOk result (vec_len history.new < vec_capacity history.new) ⊎ (deeds_ahead process.now (words_of cells.now) access found ≡ []) }
+    ensures room { OnOk result (vec_len history.new < vec_capacity history.new)
+        ⊎ (deeds_ahead process.now (words_of cells.now) access found ≡ []) }
     ensures some { OnErr result ((deeds_ahead process.now (words_of cells.now) access found ≡ []) → ⊥) }
     ensures memory { IfErr result (λ e. e ≡ Refusal.OutOfMemory) }
 {

@@ -8,7 +8,7 @@ pub mod rules;
 pub mod widening;
 pub mod writing;
 
-use crate::cells::Cells;
+use crate::cells::DataWords;
 use crate::owns::Owns;
 use std::fmt;
 
@@ -18,7 +18,7 @@ pub struct Image {
     /// The mailbox's capacity in messages.
     pub cap: u64,
     /// The data words.
-    pub cells: Cells,
+    pub cells: DataWords,
     /// The greatest number that a process may take.
     pub limit: u64,
     /// The lock words, by rising process.

@@ -15,14 +15,14 @@ ghost use Rattle.rmeworld.specs.ImageRules.{layout_of, IsLawfulImage};
 ghost use Rattle.rmeworld.specs.ImageStart.{IsStartOf};
 ghost use Rattle.rmeworld.specs.CallWalk.{CallsTakeTheirSteps, NoCallTakesMore};
 ghost use Rattle.rmeworld.specs.Holders.{OnlyHoldersPut};
-ghost use Rattle.rmeworld.specs.Law.{IsLater, EveryStoryIsSound, EveryStoryIsLegal, EveryLaterStoryIsSound, EveryStoryEndsLawful};
-ghost use Rattle.rmeworld.specs.Reached.{crashed_scene, EveryStoryLeavesAnImage};
+ghost use Rattle.rmeworld.specs.Law.{IsLater, EveryExecutionIsSound, EveryExecutionIsLegal, EveryLaterExecutionIsSound, EveryExecutionEndsLawful};
+ghost use Rattle.rmeworld.specs.Reached.{crashed_global_state, EveryExecutionLeavesAnImage};
 ghost use Rattle.rmeworld.specs.Replayed.{start_refusal, started, advance_refusal, stepped, advanced, crash_refusal, crash_deed, crashed, list_of};
 ghost use Rattle.rmeworld.specs.Sent.{EveryDeedWasAsked, EveryMessageWasSent, EveryCloseWasAsked, EveryRuinWasAsked, RepliesTell, StoredIsShown};
-ghost use Rattle.rmeworld.specs.Spot.{Happening, Begins, Falls, outer};
-ghost use Rattle.rmeworld.specs.World.{Scene, at_first, Can, onward, Story, last_scene, event_deeds, deeds, own_happenings, spot_after};
+ghost use Rattle.rmeworld.specs.ProcessState.{WorldEvent, Begins, Falls, outer};
+ghost use Rattle.rmeworld.specs.World.{GlobalState, at_first, Can, onward, Execution, last_global_state, event_deeds, deeds, own_world_events, process_state_after};
 ghost use Rattle.rmeworld.specs.WorldRuns.{run_of, IsRun};
-ghost use Rattle.rmeworld.specs.WorldState.{WorldState, spot_at, scene_of, Takes, happening_of, ChoosesLeast, new_world, new_refusal, image_world};
+ghost use Rattle.rmeworld.specs.WorldState.{WorldState, process_state_at, global_state_of, Takes, world_event_of, ChoosesLeast, new_world, new_refusal, image_world};
 
 use crate::image::Image;
 use judge::Start;
@@ -32,12 +32,12 @@ use redomail::Layout;
 /// their shape. If an append is answered Stored or Already, its number is among the messages shown. The lock words stay
 /// lawful. The same holds from any lawful words with every process crashed (`later`). After every execution from either
 /// beginning, the words make a lawful image (`image`).
-pub fn every_story_is_sound()
-    ensures sound { EveryStoryIsSound }
-    ensures legal { EveryStoryIsLegal }
-    ensures lawful { EveryStoryEndsLawful }
-    ensures later { EveryLaterStoryIsSound }
-    ensures image { EveryStoryLeavesAnImage }
+pub fn every_execution_is_sound()
+    ensures sound { EveryExecutionIsSound }
+    ensures legal { EveryExecutionIsLegal }
+    ensures lawful { EveryExecutionEndsLawful }
+    ensures later { EveryLaterExecutionIsSound }
+    ensures image { EveryExecutionLeavesAnImage }
 {
     redomail::laws::new_words();
     rmecore::laws::every_run_is_legal();
@@ -46,25 +46,34 @@ pub fn every_story_is_sound()
 }
 
 /// A process's state follows from its own events.
-pub fn spots_are_own()
-    ensures { (l : Layout) (limit p : ℕ) (w : Scene) (story : List Happening) → (last_scene l limit w story).spots p ≡ spot_after l limit (w.spots p) (own_happenings p story) }
+pub fn process_states_are_own()
+    ensures { (l : Layout) (limit p : ℕ) (w : GlobalState) (execution : List WorldEvent)
+        → (last_global_state l limit w execution).process_states p
+        ≡ process_state_after l limit (w.process_states p) (own_world_events p execution) }
 {}
 
 /// If an event is allowed after an execution, the longer list is an execution. Its deeds are those of the execution, then
 /// the event's. An event is allowed wherever its process's state allows it and, if it reads a word, the word has that value.
 /// Nothing else is needed for a load, a store, a start, a crash or a glance.
-pub fn stories_grow()
-    ensures story { (l : Layout) (limit : ℕ) (w : Scene) (story : List Happening) (e : Happening) → Story l limit w story → Can l limit (last_scene l limit w story) e → Story l limit w (story ++ e ∷ []) }
-    ensures deeds { (l : Layout) (limit : ℕ) (w : Scene) (story : List Happening) (e : Happening) → deeds l limit w (story ++ e ∷ []) ≡ deeds l limit w story ++ event_deeds l (last_scene l limit w story) e }
-    ensures scene { (l : Layout) (limit : ℕ) (w : Scene) (story : List Happening) (e : Happening) → last_scene l limit w (story ++ e ∷ []) ≡ onward l limit (last_scene l limit w story) e }
+pub fn executions_grow()
+    ensures execution { (l : Layout) (limit : ℕ) (w : GlobalState) (execution : List WorldEvent) (e : WorldEvent)
+        → Execution l limit w execution → Can l limit (last_global_state l limit w execution) e
+        → Execution l limit w (execution ++ e ∷ []) }
+    ensures deeds { (l : Layout) (limit : ℕ) (w : GlobalState) (execution : List WorldEvent) (e : WorldEvent)
+        → deeds l limit w (execution ++ e ∷ []) ≡ deeds l limit w execution
+        ++ event_deeds l (last_global_state l limit w execution) e }
+    ensures global_state { (l : Layout) (limit : ℕ) (w : GlobalState) (execution : List WorldEvent) (e : WorldEvent)
+        → last_global_state l limit w (execution ++ e ∷ []) ≡ onward l limit (last_global_state l limit w execution) e }
 {}
 
 /// The global state of a new world is the first one. The global state of an image's world has every process crashed. A judge
 /// of the latter starts from the state that the image's words describe.
 pub fn worlds_begin()
-    ensures new { (l : Layout) (limit : ℕ) → scene_of (new_world l limit) ≡ at_first }
-    ensures image { (i : Image) → scene_of (image_world i) ≡ crashed_scene (length i.lock) (own_at i.lock) (words_of i.cells) }
-    ensures judged { (i : Image) (s : Start) → IsLawfulImage i → IsStartOf i s → IsLater (layout_of i) i.limit (own_at i.lock) (words_of i.cells) (state_of s) }
+    ensures new { (l : Layout) (limit : ℕ) → global_state_of (new_world l limit) ≡ at_first }
+    ensures image { (i : Image) → global_state_of (image_world i)
+        ≡ crashed_global_state (length i.lock) (own_at i.lock) (words_of i.cells) }
+    ensures judged { (i : Image) (s : Start) → IsLawfulImage i → IsStartOf i s
+        → IsLater (layout_of i) i.limit (own_at i.lock) (words_of i.cells) (state_of s) }
 {}
 
 /// A world follows the definition in every run, with or without memory failures. From a new world or a lawful image, each
@@ -72,23 +81,33 @@ pub fn worlds_begin()
 /// definition leaves a choice, the step is that of the least process. The report of a step is the definition's: the event
 /// with the lock's deed and the core's answer, the one deed of the history, and the call's answer.
 pub fn worlds_keep_to_the_definition()
-    ensures starts { (s : WorldState) (p : ℕ) (call : CallOf) → IsRun s → start_refusal s p call ≡ None → Takes s (Begins p call) (started s p call) }
-    ensures steps { (s : WorldState) (p : ℕ) → IsRun s → advance_refusal s p ≡ None → Takes s (happening_of p (stepped s p).happened) (advanced s p) }
+    ensures starts { (s : WorldState) (p : ℕ) (call : CallOf) → IsRun s → start_refusal s p call ≡ None
+        → Takes s (Begins p call) (started s p call) }
+    ensures steps { (s : WorldState) (p : ℕ) → IsRun s → advance_refusal s p ≡ None
+        → Takes s (world_event_of p (stepped s p).happened) (advanced s p) }
     ensures kind { (s : WorldState) (p : ℕ) → IsRun s → advance_refusal s p ≡ None → is_glance (stepped s p).happened.kind ≡ false }
     ensures least { (s : WorldState) (p : ℕ) → IsRun s → advance_refusal s p ≡ None → ChoosesLeast s p (stepped s p).happened }
-    ensures outer { (s : WorldState) (p : ℕ) → IsRun s → advance_refusal s p ≡ None → (stepped s p).happened.outer ≡ outer (spot_at s.processes p) (happening_of p (stepped s p).happened) }
-    ensures done { (s : WorldState) (p : ℕ) → IsRun s → advance_refusal s p ≡ None → (stepped s p).happened.done ≡ done_by (spot_at s.processes p).lock (spot_at s.processes p).errand (stepped s p).happened.kind (stepped s p).happened.value }
-    ensures deed { (s : WorldState) (p : ℕ) → IsRun s → advance_refusal s p ≡ None → list_of (stepped s p).deed ≡ event_deeds s.layout (scene_of s) (happening_of p (stepped s p).happened) }
-    ensures answers { (s : WorldState) (p : ℕ) → IsRun s → advance_refusal s p ≡ None → (stepped s p).answer ≡ answer_at (spot_at s.processes p) (stepped s p).happened.kind (stepped s p).happened.value }
+    ensures outer { (s : WorldState) (p : ℕ) → IsRun s → advance_refusal s p ≡ None
+        → (stepped s p).happened.outer ≡ outer (process_state_at s.processes p) (world_event_of p (stepped s p).happened) }
+    ensures done { (s : WorldState) (p : ℕ) → IsRun s → advance_refusal s p ≡ None
+        → (stepped s p).happened.done ≡ done_by (process_state_at s.processes p).lock
+        (process_state_at s.processes p).script_state (stepped s p).happened.kind (stepped s p).happened.value }
+    ensures deed { (s : WorldState) (p : ℕ) → IsRun s → advance_refusal s p ≡ None
+        → list_of (stepped s p).deed ≡ event_deeds s.layout (global_state_of s) (world_event_of p (stepped s p).happened) }
+    ensures answers { (s : WorldState) (p : ℕ) → IsRun s → advance_refusal s p ≡ None
+        → (stepped s p).answer ≡ answer_at (process_state_at s.processes p) (stepped s p).happened.kind
+        (stepped s p).happened.value }
     ensures crashes { (s : WorldState) (p : ℕ) → IsRun s → crash_refusal s p ≡ None → Takes s (Falls p) (crashed s p) }
-    ensures told { (s : WorldState) (p : ℕ) → crash_deed p ∷ [] ≡ event_deeds s.layout (scene_of s) (Falls p) }
+    ensures told { (s : WorldState) (p : ℕ) → crash_deed p ∷ [] ≡ event_deeds s.layout (global_state_of s) (Falls p) }
 {}
 
 /// A world's history is legal from the world's beginning: for a new world from no deed, for a lawful image from its start.
 /// Memory failures don't matter, since a refused act adds nothing.
 pub fn histories_are_legal()
-    ensures new { (l : Layout) (limit : ℕ) (acts : List Act) → new_refusal l limit ≡ None → IsLegal l.procs l.cap (run_of (new_world l limit) acts).history }
-    ensures later { (i : Image) (s : Start) (acts : List Act) → IsLawfulImage i → IsStartOf i s → (t : State) × Leads (state_of s) (run_of (image_world i) acts).history t }
+    ensures new { (l : Layout) (limit : ℕ) (acts : List Act) → new_refusal l limit ≡ None
+        → IsLegal l.procs l.cap (run_of (new_world l limit) acts).history }
+    ensures later { (i : Image) (s : Start) (acts : List Act) → IsLawfulImage i → IsStartOf i s
+        → (t : State) × Leads (state_of s) (run_of (image_world i) acts).history t }
 {}
 
 /// In an execution from all words 0: after an Enter of a process, and until its next Leave or Quit, every put of a data word

@@ -4,7 +4,6 @@
 pub mod answer;
 pub mod call;
 pub mod cells;
-pub mod errand;
 mod history;
 pub mod image;
 pub mod laws;
@@ -15,14 +14,15 @@ pub mod outcome;
 pub mod owns;
 pub mod private_memory;
 pub mod process;
+pub mod purpose;
+pub mod script_state;
 pub mod size;
 pub mod stepped;
-pub mod why;
 pub mod world;
 
 pub use answer::Answer;
 pub use call::Call;
-pub use cells::Cells;
+pub use cells::DataWords;
 pub use image::Image;
 pub use image::beginning::start_of;
 pub use image::reading::read_image;

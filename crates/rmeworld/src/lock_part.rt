@@ -4,7 +4,7 @@ ghost use Rattle.std.specs.Prelude.{◌≡◌, Bool, false, Some, None, IfSome, 
 ghost use Rattle.rmecore.specs.Place.{Inside, Leaving, started as lock_started};
 ghost use Rattle.rmecore.specs.Refused.{start_refusal as lock_refusal};
 ghost use Rattle.rmecore.specs.Machine.{place_of, after_access, at_scan, progress, next_access as lock_access, IsAllowed as IsLockAllowed};
-ghost use Rattle.rmeworld.specs.Spot.{mended_entered};
+ghost use Rattle.rmeworld.specs.ProcessState.{mended_entered};
 ghost use Rattle.rmeworld.specs.Entered.{is_entry, mended_done, checks_done};
 
 use rmecore::{CoreCall, CoreDone, Found, LockProcess, Progress, Scan, Stage};
@@ -50,10 +50,11 @@ pub(crate) fn lock_scan(
 /// blocked. None: the step is not silent, and nothing changed.
 // Inline: one call a silent step.
 #[inline(always)]
-pub(crate) fn lock_quietly(lock: &mut LockProcess, value: u64) -> Option<bool>
+pub(crate) fn lock_silently(lock: &mut LockProcess, value: u64) -> Option<bool>
     ensures lock { IsSome result → lock.new ≡ record lock.old { place = after_access lock.old (lock_access lock.old) value } }
     ensures allowed { IfSome (lock_access lock.old) (IsLockAllowed lock.old) }
-    ensures progress { IfSome result (λ blocked. progress lock.old (lock_access lock.old) value ≡ record { outer = None; done = None; blocked = blocked }) }
+    ensures progress { IfSome result (λ blocked. progress lock.old (lock_access lock.old) value
+        ≡ record { outer = None; done = None; blocked = blocked }) }
     ensures mended { IsSome result → (mended : Bool) → mended_entered mended lock.old.place lock.new.place ≡ mended }
     ensures checks { IsSome result → is_entry lock.old.place lock.new.place ≡ false }
     ensures same { result ≡ None → lock.new ≡ lock.old }
@@ -61,11 +62,11 @@ pub(crate) fn lock_quietly(lock: &mut LockProcess, value: u64) -> Option<bool>
     match lock.stage() {
         Stage::ReadingChoosing { call } => {
             let choosing = value;
-            lock.seam_stand(Stage::ReadingNumber { call, choosing });
+            lock.seam_machine_state(Stage::ReadingNumber { call, choosing });
             Some(false)
         }
         Stage::ReadingNumber { call, choosing } => {
-            lock.seam_stand(Stage::ReadingInside {
+            lock.seam_machine_state(Stage::ReadingInside {
                 call,
                 choosing,
                 number: value,
@@ -77,21 +78,22 @@ pub(crate) fn lock_quietly(lock: &mut LockProcess, value: u64) -> Option<bool>
             choosing: 0,
             number,
         } if value == 0 && number != 0 => {
-            lock.seam_stand(Stage::waiting(number));
+            lock.seam_machine_state(Stage::waiting(number));
             Some(false)
         }
         stage => lock_back(lock, stage, value),
     }
 }
 
-/// As `lock_quietly`, for any stage: it takes the step, and undoes it if it was not silent.
+/// As `lock_silently`, for any stage: it takes the step, and undoes it if it was not silent.
 // Apart: these steps are rarer.
 #[inline(never)]
 fn lock_back(lock: &mut LockProcess, stage: Stage, value: u64) -> Option<bool>
     requires { lock.old.place ≡ place_of lock.old.procs lock.old.index stage }
     ensures lock { IsSome result → lock.new ≡ record lock.old { place = after_access lock.old (lock_access lock.old) value } }
     ensures allowed { IfSome (lock_access lock.old) (IsLockAllowed lock.old) }
-    ensures progress { IfSome result (λ blocked. progress lock.old (lock_access lock.old) value ≡ record { outer = None; done = None; blocked = blocked }) }
+    ensures progress { IfSome result (λ blocked. progress lock.old (lock_access lock.old) value
+        ≡ record { outer = None; done = None; blocked = blocked }) }
     ensures mended { IsSome result → (mended : Bool) → mended_entered mended lock.old.place lock.new.place ≡ mended }
     ensures checks { IsSome result → is_entry lock.old.place lock.new.place ≡ false }
     ensures same { result ≡ None → lock.new ≡ lock.old }
@@ -104,7 +106,7 @@ fn lock_back(lock: &mut LockProcess, stage: Stage, value: u64) -> Option<bool>
             blocked,
         } => Some(blocked),
         _ => {
-            lock.seam_stand(stage);
+            lock.seam_machine_state(stage);
             None
         }
     }

@@ -28,16 +28,17 @@ pub trait Machine {
     fn advance(&mut self, p: u64) -> Result<Stepped, Refusal>
         ensures accepted { OnOk result (behaviour.advance_refusal self.old p ≡ None) }
         ensures refused { IfErr result (λ e. (e ≡ OutOfMemory) ⊎ (behaviour.advance_refusal self.old p ≡ Some e)) }
-        ensures memory { IsErrOf result OutOfMemory → (behaviour.advance_refusal self.old p ≡ None) × (is_some (behaviour.stepped self.old p).deed ≡ true) }
+        ensures memory { IsErrOf result OutOfMemory → (behaviour.advance_refusal self.old p ≡ None)
+            × (is_some (behaviour.stepped self.old p).deed ≡ true) }
         ensures told { IfOk result (λ s. s ≡ behaviour.stepped self.old p) }
         ensures ok { OnOk result (self.new ≡ behaviour.advanced self.old p) }
         ensures err { OnErr result (self.new ≡ self.old) };
 
     /// Takes the next step of process `p` if it can see cheaply that the step is silent: no deed, and not its call's last
     /// step. True: the step was taken. False: nothing changed, and `advance` has to take it.
-    fn step_quietly(&mut self, p: u64) -> bool
+    fn step_silently(&mut self, p: u64) -> bool
         ensures accepted { IsTrue result → behaviour.advance_refusal self.old p ≡ None }
-        ensures quiet { IsTrue result → ((behaviour.stepped self.old p).deed ≡ None) × ((behaviour.stepped self.old p).answer ≡ None) }
+        ensures silent { IsTrue result → ((behaviour.stepped self.old p).deed ≡ None) × ((behaviour.stepped self.old p).answer ≡ None) }
         ensures ok { IsTrue result → self.new ≡ behaviour.advanced self.old p }
         ensures same { result ≡ false → self.new ≡ self.old }
     {

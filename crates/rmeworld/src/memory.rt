@@ -6,7 +6,7 @@ ghost use Rattle.rmecore.specs.Simulated.{own_at};
 ghost use Rattle.redomail.specs.Deeds.{deeds_of_put};
 ghost use Rattle.redomail.specs.declared.layout.Layout.{Layout as LayoutOf};
 ghost use Rattle.redomail.specs.Layout.{IsLayout, Words, words_of, size};
-ghost use Rattle.rmeworld.specs.Stand.{InWords};
+ghost use Rattle.rmeworld.specs.MachineState.{InWords};
 ghost use Rattle.rmeworld.specs.World.{reading_of};
 ghost use Rattle.rmeworld.specs.Replayed.{words_by, cells_by, mail_by, or_else, list_of};
 
@@ -103,7 +103,7 @@ fn put_deed(layout: Layout, p: u64, cells: &[u64], i: u64, value: u64) -> Option
 /// Whether the access certainly has no deed of the mailbox: it is not a put, or it is a put after the first four data words.
 // Inline: one call a silent step.
 #[inline(always)]
-pub fn puts_quietly(access: Access) -> bool
+pub fn puts_silently(access: Access) -> bool
     ensures { IsTrue result → (l : LayoutOf) → (p : ℕ) → (cells : Words) → mail_by l p cells access ≡ [] }
 {
     match access {

@@ -1,17 +1,17 @@
 //! The effects of a process's step, with its call's answer.
 
 ghost use Rattle.std.specs.Prelude.{◌≡◌, Some, None};
-ghost use Rattle.rmecore.specs.Machine.{quiet};
+ghost use Rattle.rmecore.specs.Machine.{silent};
 ghost use Rattle.redomail.specs.Left.{left};
 ghost use Rattle.rmeworld.specs.Answered.{by_lock, by_reply, by_script};
 
 use crate::answer::Answer;
-use crate::why::Why;
+use crate::purpose::Purpose;
 use redomail::{Job, Next, Reply};
 use rmecore::{CoreDone, Progress};
 
 /// No deed, no answer of the core, not blocked.
-const QUIET: Progress = Progress {
+const SILENT: Progress = Progress {
     outer: None,
     done: None,
     blocked: false,
@@ -26,10 +26,10 @@ pub struct Outcome {
 
 /// The effects of a job's step, from the answer of its call.
 pub(crate) fn job_step(answer: Option<Answer>) -> Outcome
-    ensures { result ≡ record { progress = quiet; answer = answer } }
+    ensures { result ≡ record { progress = silent; answer = answer } }
 {
     Outcome {
-        progress: QUIET,
+        progress: SILENT,
         answer,
     }
 }
@@ -59,24 +59,24 @@ fn core_answer(barred: bool, done: Option<CoreDone>) -> Option<Answer>
 }
 
 /// The effects of a step of a script, after which this job is left.
-pub(crate) fn job_outcome(why: Why, mended: bool, job: &Job) -> Outcome
-    ensures { result ≡ record { progress = quiet; answer = by_script why mended (left job.now) } }
+pub(crate) fn job_outcome(purpose: Purpose, mended: bool, job: &Job) -> Outcome
+    ensures { result ≡ record { progress = silent; answer = by_script purpose mended (left job.now) } }
 {
     job_step(match job.next() {
-        Next::Done(reply) => reply_answer(why, mended, reply),
+        Next::Done(reply) => reply_answer(purpose, mended, reply),
         Next::Get(_) | Next::Put(..) => None,
     })
 }
 
 /// The call's answer when a script ends with this reply, if the call ends with it.
-pub(crate) fn reply_answer(why: Why, mended: bool, reply: Reply) -> Option<Answer>
-    ensures { result ≡ by_reply why mended reply }
+pub(crate) fn reply_answer(purpose: Purpose, mended: bool, reply: Reply) -> Option<Answer>
+    ensures { result ≡ by_reply purpose mended reply }
 {
-    match (why, reply) {
-        (Why::Checking, Reply::Ruined(true)) | (Why::Ruining, _) => None,
-        (Why::Checking, _) if mended => Some(Answer::Clean),
-        (Why::Checking, _) => Some(Answer::OwnerDied),
-        (Why::Mending, Reply::Ruined(_)) => Some(Answer::NotRecoverable),
-        (Why::Mending | Why::Working(_), _) => Some(Answer::Mail(reply)),
+    match (purpose, reply) {
+        (Purpose::Checking, Reply::Ruined(true)) | (Purpose::Ruining, _) => None,
+        (Purpose::Checking, _) if mended => Some(Answer::Clean),
+        (Purpose::Checking, _) => Some(Answer::OwnerDied),
+        (Purpose::Mending, Reply::Ruined(_)) => Some(Answer::NotRecoverable),
+        (Purpose::Mending | Purpose::Working(_), _) => Some(Answer::Mail(reply)),
     }
 }

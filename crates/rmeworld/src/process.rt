@@ -6,19 +6,19 @@ ghost use Rattle.std.specs.Prelude.{◌≡◌, ◌==◌, true, false, not, if◌
 ghost use Rattle.rmecore.specs.Place.{Inside};
 ghost use Rattle.rmecore.specs.Machine.{at_scan, progress, next_access as lock_access};
 ghost use Rattle.redomail.specs.Refusals.{refused};
-ghost use Rattle.rmeworld.specs.Whys.{task_of};
-ghost use Rattle.rmeworld.specs.Errands.{Held};
+ghost use Rattle.rmeworld.specs.Purposes.{task_of};
+ghost use Rattle.rmeworld.specs.ScriptStates.{Held};
 ghost use Rattle.rmeworld.specs.Refused.{first_cause, Needs, is_inside, is_waiting};
 
 mod in_place;
-mod quiet;
+mod silent;
 
 use crate::call::Call;
-use crate::errand::{Errand, check_next, job};
 use crate::lock_part::{begin_lock, leave, lock_scan, lock_step};
 use crate::outcome::{Outcome, job_outcome, job_step, lock_outcome};
 use crate::private_memory::PrivateMemory;
-use crate::why::Why;
+use crate::purpose::Purpose;
+use crate::script_state::{ScriptState, check_next, job};
 use redomail::{Job, Layout, Next, Reply, Task};
 use rmecore::{Access, CoreCall, Kind, LockProcess, Progress, Refusal, Scan, Stage, Word};
 use std::fmt;
@@ -32,7 +32,7 @@ pub struct Process {
     index: u64,
     mended: bool,
     barred: bool,
-    errand: Errand,
+    script_state: ScriptState,
 }
 
 impl fmt::Debug for Process {
@@ -43,24 +43,24 @@ impl fmt::Debug for Process {
 
 impl Model for Process {
     ghost use Rattle.std.specs.Prelude.{◌≡◌, ◌<◌};
-    ghost use Rattle.rmeworld.specs.Stand.{Stand, IsSize};
-    ghost use Rattle.rmeworld.specs.Errands.{Held};
+    ghost use Rattle.rmeworld.specs.MachineState.{MachineState, IsSize};
+    ghost use Rattle.rmeworld.specs.ScriptStates.{Held};
 
-    ghost Value = { Stand };
+    ghost Value = { MachineState };
 
-    ghost view = { λ s. record { layout = s.layout; limit = s.lock.limit; index = s.index; lock = s.lock.place; mended = s.mended; barred = s.barred; errand = s.errand } };
+    ghost view = { λ s. record { layout = s.layout; limit = s.lock.limit; index = s.index; lock = s.lock.place; mended = s.mended; barred = s.barred; script_state = s.script_state } };
 
-    ghost invariant = { λ s. record { size : IsSize s.layout; procs : s.lock.procs ≡ s.layout.procs; index : s.lock.index ≡ s.index; below : s.index < s.layout.procs; held : Held s.errand s.lock.place } };
+    ghost invariant = { λ s. record { size : IsSize s.layout; procs : s.lock.procs ≡ s.layout.procs; index : s.lock.index ≡ s.index; below : s.index < s.layout.procs; held : Held s.script_state s.lock.place } };
 }
 
 impl Process {
     ghost use Rattle.rmecore.specs.Named.{own_number, own_call};
     ghost use Rattle.std.specs.Prelude.{◌<◌};
     ghost use Rattle.rmecore.specs.Machine.{word_of, place_of};
-    ghost use Rattle.rmeworld.specs.Spot.{next_spot, Begins};
+    ghost use Rattle.rmeworld.specs.ProcessState.{next_process_state, Begins};
     ghost use Rattle.rmeworld.specs.Refused.{start_refusal, is_idle};
     ghost use Rattle.rmeworld.specs.Seams.{with_memory};
-    ghost use Rattle.rmeworld.specs.Stand.{IsSize, Stand, standing, spot_of, resting, crashed, stepped, started, works, ended_by, next_access, spot_after, outcome, IsAllowed, IsLeast, InWords, StoresOwn};
+    ghost use Rattle.rmeworld.specs.MachineState.{IsSize, MachineState, standing, process_state_of, resting, crashed, stepped, started, works, ended_by, next_access, process_state_after, outcome, IsAllowed, IsLeast, InWords, StoresOwn};
 
     /// A process at rest, of a world of these sizes. `limit` is the greatest number that it may take.
     pub fn new(layout: Layout, limit: u64, index: u64) -> Process
@@ -74,7 +74,7 @@ impl Process {
             index,
             mended: true,
             barred: false,
-            errand: Errand::Free,
+            script_state: ScriptState::Free,
         }
     }
 
@@ -85,9 +85,9 @@ impl Process {
         self.lock.crash();
         self.mended = true;
         self.barred = false;
-        match &self.errand {
-            Errand::Free => {}
-            Errand::Doing(..) => self.errand = Errand::Free,
+        match &self.script_state {
+            ScriptState::Free => {}
+            ScriptState::Doing(..) => self.script_state = ScriptState::Free,
         }
     }
 
@@ -100,11 +100,11 @@ impl Process {
         ensures least { IfSome result (IsLeast self.now) }
         ensures within { IfSome result (λ a. InWords self.now.layout.procs (word_of a)) }
         ensures own { IfSome result (StoresOwn self.now.index) }
-        ensures idle { is_none result ≡ is_idle (spot_of self.now) }
+        ensures idle { is_none result ≡ is_idle (process_state_of self.now) }
     {
-        match &self.errand {
-            Errand::Free => self.lock.next(),
-            Errand::Doing(_, job) => match job.next() {
+        match &self.script_state {
+            ScriptState::Free => self.lock.next(),
+            ScriptState::Doing(_, job) => match job.next() {
                 Next::Get(i) => Some(Access::Load(Kind::Get, Word::Data(i))),
                 Next::Put(i, v) => Some(Access::Store(Kind::Put, Word::Data(i), v)),
                 Next::Done(_) => None,
@@ -116,12 +116,12 @@ impl Process {
     pub fn outlook(&self, value: u64) -> Outcome
         ensures { result ≡ outcome self.now (next_access self.now) value }
     {
-        match self.errand {
-            Errand::Free => lock_outcome(self.barred, self.lock.outlook(value)),
-            Errand::Doing(why, job) => {
+        match self.script_state {
+            ScriptState::Free => lock_outcome(self.barred, self.lock.outlook(value)),
+            ScriptState::Doing(purpose, job) => {
                 let mut job = job;
                 job.feed(value);
-                job_outcome(why, self.mended, &job)
+                job_outcome(purpose, self.mended, &job)
             }
         }
     }
@@ -132,16 +132,16 @@ impl Process {
     #[inline(never)]
     pub fn feed(&mut self, value: u64) -> Outcome
         ensures exact { self.new ≡ stepped self.old value }
-        ensures spot { spot_of self.new ≡ spot_after self.old (next_access self.old) value }
+        ensures process_state { process_state_of self.new ≡ process_state_after self.old (next_access self.old) value }
         ensures allowed { IfSome (next_access self.old) (IsAllowed self.old) }
         ensures outcome { result ≡ outcome self.old (next_access self.old) value }
     {
-        match &mut self.errand {
-            Errand::Free => {
+        match &mut self.script_state {
+            ScriptState::Free => {
                 let barred = self.barred;
                 lock_outcome(barred, self.move_on(value))
             }
-            Errand::Doing(..) => job_step(self.job_on(value)),
+            ScriptState::Doing(..) => job_step(self.job_on(value)),
         }
     }
 
@@ -149,15 +149,15 @@ impl Process {
     // Inline: one call a step.
     #[inline(always)]
     fn move_on(&mut self, value: u64) -> Progress
-        requires { self.old.errand ≡ Errand.Free }
+        requires { self.old.script_state ≡ ScriptState.Free }
         ensures exact { self.new ≡ stepped self.old value }
-        ensures spot { spot_of self.new ≡ spot_after self.old (next_access self.old) value }
+        ensures process_state { process_state_of self.new ≡ process_state_after self.old (next_access self.old) value }
         ensures allowed { IfSome (next_access self.old) (IsAllowed self.old) }
         ensures progress { result ≡ progress (standing self.old) (lock_access (standing self.old)) value }
     {
         let (progress, mended, checks) = lock_step(&mut self.lock, self.mended, value);
         self.mended = mended;
-        check_next(&mut self.errand, self.layout, self.index, checks);
+        check_next(&mut self.script_state, self.layout, self.index, checks);
         progress
     }
 
@@ -165,7 +165,7 @@ impl Process {
     // Inline: one call a step.
     #[inline(always)]
     pub fn scan(&self) -> Option<(Scan, Access)>
-        ensures free { IfSome result (λ r. self.now.errand ≡ Errand.Free) }
+        ensures free { IfSome result (λ r. self.now.script_state ≡ ScriptState.Free) }
         ensures at { IfSome result (λ r. at_scan (standing self.now) r.0 ≡ standing self.now) }
         ensures next { IfSome result (λ r. next_access self.now ≡ Some r.1) }
         ensures allowed { IfSome result (λ r. IsAllowed self.now r.1) }
@@ -173,9 +173,9 @@ impl Process {
         ensures within { IfSome result (λ r. InWords self.now.layout.procs (word_of r.1)) }
         ensures own { IfSome result (λ r. StoresOwn self.now.index r.1) }
     {
-        match &self.errand {
-            Errand::Free => self.lock.scan(),
-            Errand::Doing(..) => None,
+        match &self.script_state {
+            ScriptState::Free => self.lock.scan(),
+            ScriptState::Doing(..) => None,
         }
     }
 
@@ -183,10 +183,10 @@ impl Process {
     // Inline: one call a scan's step.
     #[inline(always)]
     pub fn scan_on(&mut self, scan: Scan, value: u64) -> Outcome
-        requires free { self.old.errand ≡ Errand.Free }
+        requires free { self.old.script_state ≡ ScriptState.Free }
         requires at { at_scan (standing self.old) scan ≡ standing self.old }
         ensures exact { self.new ≡ stepped self.old value }
-        ensures spot { spot_of self.new ≡ spot_after self.old (next_access self.old) value }
+        ensures process_state { process_state_of self.new ≡ process_state_after self.old (next_access self.old) value }
         ensures allowed { IfSome (next_access self.old) (IsAllowed self.old) }
         ensures outcome { result ≡ outcome self.old (next_access self.old) value }
     {
@@ -198,16 +198,16 @@ impl Process {
     // Inline: one call a scan's step.
     #[inline(always)]
     fn move_by(&mut self, scan: Scan, value: u64) -> Progress
-        requires free { self.old.errand ≡ Errand.Free }
+        requires free { self.old.script_state ≡ ScriptState.Free }
         requires at { at_scan (standing self.old) scan ≡ standing self.old }
         ensures exact { self.new ≡ stepped self.old value }
-        ensures spot { spot_of self.new ≡ spot_after self.old (next_access self.old) value }
+        ensures process_state { process_state_of self.new ≡ process_state_after self.old (next_access self.old) value }
         ensures allowed { IfSome (next_access self.old) (IsAllowed self.old) }
         ensures progress { result ≡ progress (standing self.old) (lock_access (standing self.old)) value }
     {
         let (progress, mended, checks) = lock_scan(&mut self.lock, scan, self.mended, value);
         self.mended = mended;
-        check_next(&mut self.errand, self.layout, self.index, checks);
+        check_next(&mut self.script_state, self.layout, self.index, checks);
         progress
     }
 
@@ -215,32 +215,32 @@ impl Process {
     // Inline: one call a lock.
     #[inline(always)]
     pub fn stage(&self) -> Option<Stage>
-        ensures free { IfSome result (λ t. self.now.errand ≡ Errand.Free) }
+        ensures free { IfSome result (λ t. self.now.script_state ≡ ScriptState.Free) }
         ensures place { IfSome result (λ t. place_of self.now.layout.procs self.now.index t ≡ self.now.lock) }
     {
-        match self.errand {
-            Errand::Free => Some(self.lock.stage()),
-            Errand::Doing(..) => None,
+        match self.script_state {
+            ScriptState::Free => Some(self.lock.stage()),
+            ScriptState::Doing(..) => None,
         }
     }
 
     /// Puts the lock's part at a stage. For this workspace alone: the running lock's fast path takes steps without the
     /// machine and then sets its stage. Any stage is accepted, also one that no step reaches.
-    pub fn seam_stand(&mut self, to: Stage)
-        requires { self.old.errand ≡ Errand.Free }
+    pub fn seam_machine_state(&mut self, to: Stage)
+        requires { self.old.script_state ≡ ScriptState.Free }
         ensures { self.new ≡ record self.old { lock = place_of self.old.layout.procs self.old.index to } }
     {
-        self.lock.seam_stand(to);
+        self.lock.seam_machine_state(to);
     }
 
-    /// As `seam_stand`, for steps that led inside with nothing to mend.
-    pub fn seam_stand_clean(&mut self)
-        requires { self.old.errand ≡ Errand.Free }
+    /// As `seam_machine_state`, for steps that led inside with nothing to mend.
+    pub fn seam_machine_state_clean(&mut self)
+        requires { self.old.script_state ≡ ScriptState.Free }
         ensures { self.new ≡ record self.old { lock = Inside; mended = true } }
     {
         let mended = &mut self.mended;
         *mended = true;
-        self.lock.seam_stand(Stage::Inside);
+        self.lock.seam_machine_state(Stage::Inside);
     }
 
     /// For this workspace alone, to encode a process's state: the private memory.
@@ -251,7 +251,7 @@ impl Process {
             stage: self.lock.stage(),
             mended: self.mended,
             barred: self.barred,
-            errand: self.errand,
+            script_state: self.script_state,
         }
     }
 
@@ -261,30 +261,32 @@ impl Process {
     pub fn seam_set(&mut self, memory: &PrivateMemory) -> bool
         ensures set { IsTrue result → self.new ≡ with_memory self.old memory.now }
         ensures same { result ≡ false → self.new ≡ self.old }
-        ensures held { IsTrue result ↔ Held memory.now.errand (place_of self.old.layout.procs self.old.index memory.now.stage) }
+        ensures held { IsTrue result ↔ Held memory.now.script_state (place_of self.old.layout.procs self.old.index memory.now.stage) }
     {
         if !memory.is_held() {
             return false;
         }
-        self.lock.seam_stand(memory.stage);
+        self.lock.seam_machine_state(memory.stage);
         self.mended = memory.mended;
         self.barred = memory.barred;
-        self.errand = memory.errand;
+        self.script_state = memory.script_state;
         true
     }
 
     /// Starts a lock if the process is at rest or has crashed. False: it is not, and nothing changed. `start` gives the
     /// refusal then.
     pub fn start_lock(&mut self) -> bool
-        ensures accepted { result ≡ true → start_refusal self.old.layout (spot_of self.old) Call.Lock ≡ None }
+        ensures accepted { result ≡ true → start_refusal self.old.layout (process_state_of self.old) Call.Lock ≡ None }
         ensures exact { result ≡ true → self.new ≡ started self.old Call.Lock }
-        ensures spot { result ≡ true → next_spot self.old.layout self.old.limit (spot_of self.old) (Begins self.old.index Call.Lock) ≡ Some (spot_of self.new) }
+        ensures process_state { result ≡ true → next_process_state self.old.layout self.old.limit (process_state_of self.old)
+            (Begins self.old.index Call.Lock) ≡ Some (process_state_of self.new) }
         ensures not { result ≡ false → self.new ≡ self.old }
     {
-        match (&self.errand, self.lock.stage()) {
-            (Errand::Free, Stage::Rest | Stage::Dead) => {
+        match (&self.script_state, self.lock.stage()) {
+            (ScriptState::Free, Stage::Rest | Stage::Dead) => {
                 let call = CoreCall::Lock;
-                self.lock.seam_stand(Stage::ReadingChoosing { call });
+                self.lock
+                    .seam_machine_state(Stage::ReadingChoosing { call });
                 self.barred = false;
                 true
             }
@@ -294,27 +296,28 @@ impl Process {
 
     /// Whether the process is inside with nothing to mend and no call under way. An unlock is two stores then.
     pub fn is_clean(&self) -> bool
-        ensures { result ≡ true → (self.now.errand ≡ Errand.Free) × (self.now.lock ≡ Inside) × (self.now.mended ≡ true) × (self.now.barred ≡ false) }
+        ensures { result ≡ true → (self.now.script_state ≡ ScriptState.Free) × (self.now.lock ≡ Inside)
+            × (self.now.mended ≡ true) × (self.now.barred ≡ false) }
     {
-        match (&self.errand, self.lock.stage()) {
-            (Errand::Free, Stage::Inside) => self.mended && !self.barred,
+        match (&self.script_state, self.lock.stage()) {
+            (ScriptState::Free, Stage::Inside) => self.mended && !self.barred,
             _ => false,
         }
     }
 
     /// Ends a script: the process stays inside or starts its exit.
-    fn end(&mut self, why: Why, reply: Reply)
+    fn end(&mut self, purpose: Purpose, reply: Reply)
         requires { self.old.lock ≡ Inside }
-        ensures { self.new ≡ ended_by self.old why reply }
+        ensures { self.new ≡ ended_by self.old purpose reply }
     {
-        self.errand = Errand::Free;
-        match (why, reply) {
-            (Why::Checking, Reply::Ruined(true)) => {
+        self.script_state = ScriptState::Free;
+        match (purpose, reply) {
+            (Purpose::Checking, Reply::Ruined(true)) => {
                 leave(&mut self.lock);
                 self.barred = true;
             }
-            (Why::Ruining, _) => leave(&mut self.lock),
-            (Why::Mending, Reply::Mended(_)) => self.mended = true,
+            (Purpose::Ruining, _) => leave(&mut self.lock),
+            (Purpose::Mending, Reply::Mended(_)) => self.mended = true,
             _ => {}
         }
     }
@@ -356,16 +359,18 @@ impl Process {
     /// `NotInconsistent` (`consistent` with nothing to mend), `Unmended` (append and close before `consistent`), `BadWidth`
     /// (append), `BadIndex` (get and put), `NotWaiting` (withdraw).
     pub fn start(&mut self, call: Call) -> Result<(), Refusal>
-        ensures accepted { OnOk result (start_refusal self.old.layout (spot_of self.old) call ≡ None) }
-        ensures refused { IfErr result (λ e. start_refusal self.old.layout (spot_of self.old) call ≡ Some e) }
+        ensures accepted { OnOk result (start_refusal self.old.layout (process_state_of self.old) call ≡ None) }
+        ensures refused { IfErr result (λ e. start_refusal self.old.layout (process_state_of self.old) call ≡ Some e) }
         ensures memory { IsErrOf result Refusal.OutOfMemory → ⊥ }
         ensures exact { OnOk result (self.new ≡ started self.old call) }
-        ensures spot { OnOk result (next_spot self.old.layout self.old.limit (spot_of self.old) (Begins self.old.index call) ≡ Some (spot_of self.new)) }
-        ensures not_allowed { OnErr result (next_spot self.old.layout self.old.limit (spot_of self.old) (Begins self.old.index call) ≡ None) }
+        ensures process_state { OnOk result (next_process_state self.old.layout self.old.limit (process_state_of self.old)
+            (Begins self.old.index call) ≡ Some (process_state_of self.new)) }
+        ensures not_allowed { OnErr result (next_process_state self.old.layout self.old.limit (process_state_of self.old)
+            (Begins self.old.index call) ≡ None) }
         ensures err { OnErr result (self.new ≡ self.old) }
     {
         // For the proof alone: its value is read.
-        let _ = &self.errand;
+        let _ = &self.script_state;
         self.check(&call)?;
         self.begin(call);
         Ok(())
@@ -373,8 +378,8 @@ impl Process {
 
     /// The refusal of this call now, if it would be refused.
     fn check(&self, call: &Call) -> Result<(), Refusal>
-        ensures accepted { OnOk result (start_refusal self.now.layout (spot_of self.now) call.now ≡ None) }
-        ensures refused { IfErr result (λ e. start_refusal self.now.layout (spot_of self.now) call.now ≡ Some e) }
+        ensures accepted { OnOk result (start_refusal self.now.layout (process_state_of self.now) call.now ≡ None) }
+        ensures refused { IfErr result (λ e. start_refusal self.now.layout (process_state_of self.now) call.now ≡ Some e) }
     {
         match *call {
             Call::Withdraw => self.may_withdraw(),
@@ -402,29 +407,32 @@ impl Process {
 
     /// Refuses unless the process is inside with no call under way.
     fn holds(&self) -> Result<(), Refusal>
-        ensures accepted { OnOk result ((is_idle (spot_of self.now) ≡ true) × (is_inside self.now.lock ≡ true)) }
-        ensures refused { IfErr result (λ e. (rest : Needs) → first_cause ((is_idle (spot_of self.now), Refusal.CallUnderWay) ∷ (is_inside self.now.lock, Refusal.NotOwner) ∷ rest) ≡ Some e) }
+        ensures accepted { OnOk result ((is_idle (process_state_of self.now) ≡ true) × (is_inside self.now.lock ≡ true)) }
+        ensures refused { IfErr result (λ e. (rest : Needs) → first_cause
+            ((is_idle (process_state_of self.now), Refusal.CallUnderWay) ∷ (is_inside self.now.lock, Refusal.NotOwner)
+            ∷ rest) ≡ Some e) }
     {
-        match self.errand {
-            Errand::Free => match self.lock.refusal(CoreCall::Unlock) {
+        match self.script_state {
+            ScriptState::Free => match self.lock.refusal(CoreCall::Unlock) {
                 Some(refusal) => Err(refusal),
                 None => Ok(()),
             },
-            Errand::Doing(..) => Err(Refusal::CallUnderWay),
+            ScriptState::Doing(..) => Err(Refusal::CallUnderWay),
         }
     }
 
     /// Refuses unless the process is not inside and has no call under way.
     fn may_come(&self) -> Result<(), Refusal>
-        ensures accepted { OnOk result ((is_idle (spot_of self.now) ≡ true) × (is_inside self.now.lock ≡ false)) }
-        ensures refused { IfErr result (λ e. first_cause ((is_idle (spot_of self.now), Refusal.CallUnderWay) ∷ (not (is_inside self.now.lock), Refusal.AlreadyIn) ∷ []) ≡ Some e) }
+        ensures accepted { OnOk result ((is_idle (process_state_of self.now) ≡ true) × (is_inside self.now.lock ≡ false)) }
+        ensures refused { IfErr result (λ e. first_cause ((is_idle (process_state_of self.now), Refusal.CallUnderWay)
+            ∷ (not (is_inside self.now.lock), Refusal.AlreadyIn) ∷ []) ≡ Some e) }
     {
-        match self.errand {
-            Errand::Free => match self.lock.refusal(CoreCall::Lock) {
+        match self.script_state {
+            ScriptState::Free => match self.lock.refusal(CoreCall::Lock) {
                 Some(refusal) => Err(refusal),
                 None => Ok(()),
             },
-            Errand::Doing(..) => Err(Refusal::CallUnderWay),
+            ScriptState::Doing(..) => Err(Refusal::CallUnderWay),
         }
     }
 
@@ -441,7 +449,7 @@ impl Process {
 
     /// Begins a call that is not refused.
     fn begin(&mut self, call: Call)
-        requires { start_refusal self.old.layout (spot_of self.old) call ≡ None }
+        requires { start_refusal self.old.layout (process_state_of self.old) call ≡ None }
         ensures { self.new ≡ started self.old call }
     {
         self.barred = false;
@@ -450,26 +458,29 @@ impl Process {
             Call::Recover => begin_lock(&mut self.lock, CoreCall::Recover),
             Call::Withdraw => begin_lock(&mut self.lock, CoreCall::Withdraw),
             Call::Unlock if self.mended => begin_lock(&mut self.lock, CoreCall::Unlock),
-            Call::Unlock => self.take_up(Why::Ruining),
+            Call::Unlock => self.take_up(Purpose::Ruining),
             Call::Consistent => {
                 let job = Job::seam_mending(self.layout, self.index);
-                self.errand = Errand::Doing(Why::Mending, job);
+                self.script_state = ScriptState::Doing(Purpose::Mending, job);
             }
-            Call::Append { seq, value } => self.take_up(Why::Working(Task::Append { seq, value })),
-            Call::Close => self.take_up(Why::Working(Task::Close)),
-            Call::Get(i) => self.take_up(Why::Working(Task::BoardGet(i))),
-            Call::Put(i, v) => self.take_up(Why::Working(Task::BoardPut(i, v))),
+            Call::Append { seq, value } => self.take_up(Purpose::Working(Task::Append {
+                seq,
+                value,
+            })),
+            Call::Close => self.take_up(Purpose::Working(Task::Close)),
+            Call::Get(i) => self.take_up(Purpose::Working(Task::BoardGet(i))),
+            Call::Put(i, v) => self.take_up(Purpose::Working(Task::BoardPut(i, v))),
         }
     }
 
     /// Begins the script of a purpose.
-    fn take_up(&mut self, why: Why)
+    fn take_up(&mut self, purpose: Purpose)
         requires inside { self.old.lock ≡ Inside }
-        requires fits { refused self.old.layout self.old.index (task_of why) ≡ None }
-        ensures { self.new ≡ works self.old why }
+        requires fits { refused self.old.layout self.old.index (task_of purpose) ≡ None }
+        ensures { self.new ≡ works self.old purpose }
     {
-        let task = why.task();
-        self.errand = Errand::Doing(why, job(self.layout, self.index, task));
+        let task = purpose.task();
+        self.script_state = ScriptState::Doing(purpose, job(self.layout, self.index, task));
     }
 }
 

@@ -1,7 +1,7 @@
 //! The sizes that a world may have.
 
 ghost use Rattle.std.specs.Prelude.{◌≡◌, ◌<◌, ◌≤◌, ◌^◌, None};
-ghost use Rattle.rmeworld.specs.Stand.{IsSize};
+ghost use Rattle.rmeworld.specs.MachineState.{IsSize};
 ghost use Rattle.rmeworld.specs.WorldState.{new_refusal};
 
 use crate::image::rules::{MOST_CAP, MOST_WIDTH};

@@ -28,7 +28,17 @@ impl Prospect {
 
     /// The report of the step after it is taken.
     pub(crate) fn told(&self, outcome: Outcome, deed: Option<Deed>) -> Stepped
-        ensures { result ≡ record { happened = record { kind = kind_of self.now.access; word = word_of self.now.access; value = carried self.now.access self.now.found; outer = outcome.progress.outer; done = outcome.progress.done }; deed = deed; answer = outcome.answer } }
+        ensures { result ≡ record {
+          happened = record {
+            kind = kind_of self.now.access;
+            word = word_of self.now.access;
+            value = carried self.now.access self.now.found;
+            outer = outcome.progress.outer;
+            done = outcome.progress.done;
+          };
+          deed = deed;
+          answer = outcome.answer;
+        } }
     {
         Stepped {
             happened: Happened {

@@ -4,15 +4,15 @@ ghost use Rattle.std.specs.Prelude.{◌≡◌, ◌<◌, ◌≤◌, ◌⊎◌, �
 ghost use Rattle.rmecore.specs.Machine.{word_of};
 ghost use Rattle.rmecore.specs.Simulated.{cause, fresh};
 ghost use Rattle.redomail.specs.Layout.{words_of};
-ghost use Rattle.rmeworld.specs.Spot.{Begins, Falls};
-ghost use Rattle.rmeworld.specs.Stand.{IsSize, IsLeast, InWords, next_access, outcome, resting, crashed};
+ghost use Rattle.rmeworld.specs.ProcessState.{Begins, Falls};
+ghost use Rattle.rmeworld.specs.MachineState.{IsSize, IsLeast, InWords, next_access, outcome, resting, crashed};
 ghost use Rattle.rmeworld.specs.World.{reading};
-ghost use Rattle.rmeworld.specs.WorldState.{absent, stand_at, spot_at, scene_of, Takes, happening_of, ChoosesLeast, new_world, new_refusal, image_world};
+ghost use Rattle.rmeworld.specs.WorldState.{absent, machine_state_at, process_state_at, global_state_of, Takes, world_event_of, ChoosesLeast, new_world, new_refusal, image_world};
 
-mod quiet;
+mod silent;
 
 use crate::call::Call;
-use crate::cells::Cells;
+use crate::cells::DataWords;
 use crate::history::{make_room, note};
 use crate::image::Image;
 use crate::image::rules::{first_rule, layout};
@@ -71,7 +71,8 @@ impl Model for World {
 
 fn all_at_rest(alloc: Global, layout: Layout, limit: u64) -> Result<Vec<Process>, Refusal>
     requires { IsSize layout }
-    ensures each { IfOk result (λ processes. (p : ℕ) → p < layout.procs → slice_index_or processes.items p absent ≡ resting layout limit p) }
+    ensures each { IfOk result (λ processes. (p : ℕ) → p < layout.procs
+        → slice_index_or processes.items p absent ≡ resting layout limit p) }
     ensures length { IfOk result (λ processes. vec_len processes ≡ layout.procs) }
     ensures memory { IfErr result (λ e. e ≡ Refusal.OutOfMemory) }
 {
@@ -84,7 +85,8 @@ fn all_at_rest(alloc: Global, layout: Layout, limit: u64) -> Result<Vec<Process>
 
 fn all_crashed(alloc: Global, layout: Layout, limit: u64) -> Result<Vec<Process>, Refusal>
     requires { IsSize layout }
-    ensures each { IfOk result (λ processes. (p : ℕ) → p < layout.procs → slice_index_or processes.items p absent ≡ crashed (resting layout limit p)) }
+    ensures each { IfOk result (λ processes. (p : ℕ) → p < layout.procs
+        → slice_index_or processes.items p absent ≡ crashed (resting layout limit p)) }
     ensures length { IfOk result (λ processes. vec_len processes ≡ layout.procs) }
     ensures memory { IfErr result (λ e. e ≡ Refusal.OutOfMemory) }
 {
@@ -124,7 +126,7 @@ impl World {
     ghost use Rattle.rmeworld.specs.Reached.{IsReached, IsLegalHistory};
     ghost use Rattle.rmeworld.specs.ImageRules.{IsLawfulImage};
     ghost use Rattle.rmeworld.specs.ImageStart.{IsUnstarted};
-    ghost use Rattle.rmeworld.specs.Replayed.{start_refusal, started, advance_refusal, stepped, quiet_step, advanced, crash_refusal, crash_deed, crashed as world_crashed, image_of};
+    ghost use Rattle.rmeworld.specs.Replayed.{start_refusal, started, advance_refusal, stepped, silent_step, advanced, crash_refusal, crash_deed, crashed as world_crashed, image_of};
     ghost use Rattle.rmeworld.specs.Advancing.{Advances, GoesOn};
 
     /// A new world: all words 0, all processes at rest. `limit` is the greatest number that a process may take, `cap` the
@@ -205,10 +207,10 @@ impl World {
         ensures refused { IfErr result (λ e. advance_refusal self.now p ≡ Some e) }
         ensures named { IsErrOf result Refusal.OutOfMemory → ⊥ }
         ensures below { OnOk result (p < self.now.layout.procs) }
-        ensures access { IfOk result (λ step. next_access (stand_at self.now.processes p) ≡ Some step.access) }
-        ensures least { IfOk result (λ step. IsLeast (stand_at self.now.processes p) step.access) }
+        ensures access { IfOk result (λ step. next_access (machine_state_at self.now.processes p) ≡ Some step.access) }
+        ensures least { IfOk result (λ step. IsLeast (machine_state_at self.now.processes p) step.access) }
         ensures within { IfOk result (λ step. InWords self.now.layout.procs (word_of step.access)) }
-        ensures found { IfOk result (λ step. step.found ≡ reading (scene_of self.now) (word_of step.access)) }
+        ensures found { IfOk result (λ step. step.found ≡ reading (global_state_of self.now) (word_of step.access)) }
     {
         if p >= self.layout.procs {
             return Err(Refusal::NoSuchProcess);
@@ -227,13 +229,15 @@ impl World {
     pub fn advance(&mut self, p: u64) -> Result<Stepped, Refusal>
         ensures accepted { OnOk result (advance_refusal self.old p ≡ None) }
         ensures refused { IfErr result (λ e. (e ≡ Refusal.OutOfMemory) ⊎ (advance_refusal self.old p ≡ Some e)) }
-        ensures memory { IsErrOf result Refusal.OutOfMemory → (advance_refusal self.old p ≡ None) × (is_some (stepped self.old p).deed ≡ true) }
-        ensures step { IfOk result (λ s. Takes self.old (happening_of p s.happened) self.new) }
+        ensures memory { IsErrOf result Refusal.OutOfMemory → (advance_refusal self.old p ≡ None)
+            × (is_some (stepped self.old p).deed ≡ true) }
+        ensures step { IfOk result (λ s. Takes self.old (world_event_of p s.happened) self.new) }
         ensures kind { IfOk result (λ s. is_glance s.happened.kind ≡ false) }
         ensures least { IfOk result (λ s. ChoosesLeast self.old p s.happened) }
         ensures told { IfOk result (λ s. s ≡ stepped self.old p) }
         ensures ok { OnOk result (self.new ≡ advanced self.old p) }
-        ensures taken { IfOk result (λ s. IfSome s.answer (λ a. IsExact (tally_at self.new.tallies p) → HasTaken self.old.layout (spot_at self.old.processes p) (tally_at self.new.tallies p) a)) }
+        ensures taken { IfOk result (λ s. IfSome s.answer (λ a. IsExact (tally_at self.new.tallies p)
+            → HasTaken self.old.layout (process_state_at self.old.processes p) (tally_at self.new.tallies p) a)) }
         ensures err { OnErr result (self.new ≡ self.old) }
     {
         let step = self.prospect(p)?;
@@ -260,9 +264,9 @@ impl World {
     /// False: nothing changed, and `advance` has to take it.
     // Inline: one call a step.
     #[inline(always)]
-    pub fn step_quietly(&mut self, p: u64) -> bool
+    pub fn step_silently(&mut self, p: u64) -> bool
         ensures accepted { IsTrue result → advance_refusal self.old p ≡ None }
-        ensures quiet { IsTrue result → ((stepped self.old p).deed ≡ None) × ((stepped self.old p).answer ≡ None) }
+        ensures silent { IsTrue result → ((stepped self.old p).deed ≡ None) × ((stepped self.old p).answer ≡ None) }
         ensures ok { IsTrue result → self.new ≡ advanced self.old p }
         ensures same { result ≡ false → self.new ≡ self.old }
     {
@@ -271,14 +275,14 @@ impl World {
                 self.scan_on(p, scan, access);
                 true
             }
-            None => self.step_unheard(p),
+            None => self.step_unobserved(p),
         }
     }
 
     /// The scan in progress of process `p`, if it has one, and its next load.
     fn scan(&self, p: u64) -> Option<(Scan, Access)>
         ensures below { IfSome result (λ r. p < self.now.layout.procs) }
-        ensures goes_on { IfSome result (λ r. GoesOn (stand_at self.now.processes p) r.0 r.1) }
+        ensures goes_on { IfSome result (λ r. GoesOn (machine_state_at self.now.processes p) r.0 r.1) }
     {
         if p >= self.layout.procs {
             return None;
@@ -295,9 +299,9 @@ impl World {
     #[inline(always)]
     fn scan_on(&mut self, p: u64, scan: Scan, access: Access) -> u64
         requires below { p < self.old.layout.procs }
-        requires goes_on { GoesOn (stand_at self.old.processes p) scan access }
+        requires goes_on { GoesOn (machine_state_at self.old.processes p) scan access }
         ensures advances { Advances self.old p (stepped self.old p) self.new }
-        ensures quiet { stepped self.old p ≡ quiet_step access result }
+        ensures silent { stepped self.old p ≡ silent_step access result }
     {
         let found = load(&self.words, &self.cells, access.word());
         let scanned = self.processes[p as usize].scan_on(scan, found);
@@ -349,7 +353,7 @@ impl World {
     pub fn history(&self) -> &[Deed]
         ensures history { result.now ≡ self.now.history }
         ensures legal { IsLegalHistory self.now }
-        ensures reached { IsReached self.now.layout self.now.limit (scene_of self.now) self.now.history }
+        ensures reached { IsReached self.now.layout self.now.limit (global_state_of self.now) self.now.history }
     {
         &self.history
     }
@@ -361,7 +365,7 @@ impl World {
         ensures err { IfErr result (λ e. e ≡ Refusal.OutOfMemory) }
     {
         let alloc = *self.cells.allocator();
-        let cells = Cells::new(Vec::from_slice(alloc, &self.cells)?);
+        let cells = DataWords::new(Vec::from_slice(alloc, &self.cells)?);
         let lock = Owns::new(Vec::from_slice(alloc, &self.words)?);
         Ok(Image {
             cap: self.layout.cap,
@@ -377,8 +381,12 @@ impl World {
     /// first call it is 0. A withdraw is a call of its own.
     pub fn steps(&self, p: u64) -> Result<u64, Refusal>
         ensures ok { IfOk result (λ steps. (p < self.now.layout.procs) × (steps ≡ (tally_at self.now.tallies p).steps)) }
-        ensures taking { IsExact (tally_at self.now.tallies p) → p < self.now.layout.procs → IsTaking self.now.layout (spot_at self.now.processes p) (tally_at self.now.tallies p) }
-        ensures most { IsExact (tally_at self.now.tallies p) → p < self.now.layout.procs → IfSome (call_at (spot_at self.now.processes p)) (λ call. (tally_at self.now.tallies p).steps < most_steps self.now.layout call + (tally_at self.now.tallies p).blocked) }
+        ensures taking { IsExact (tally_at self.now.tallies p) → p < self.now.layout.procs
+            → IsTaking self.now.layout (process_state_at self.now.processes p) (tally_at self.now.tallies p) }
+        ensures most { IsExact (tally_at self.now.tallies p) → p < self.now.layout.procs
+            → IfSome (call_at (process_state_at self.now.processes p))
+            (λ call.
+            (tally_at self.now.tallies p).steps < most_steps self.now.layout call + (tally_at self.now.tallies p).blocked) }
         ensures refused { IfErr result (λ e. (self.now.layout.procs ≤ p) × (e ≡ Refusal.NoSuchProcess)) }
     {
         Ok(self.tally(p)?.steps)
@@ -395,7 +403,8 @@ impl World {
     /// The lock words of a process at the start of its last call.
     pub fn began(&self, p: u64) -> Result<Own, Refusal>
         ensures ok { IfOk result (λ began. (p < self.now.layout.procs) × (began ≡ (tally_at self.now.tallies p).began)) }
-        ensures rereading { p < self.now.layout.procs → IsRereading (spot_at self.now.processes p).lock → (tally_at self.now.tallies p).began ≡ own_at self.now.words p }
+        ensures rereading { p < self.now.layout.procs → IsRereading (process_state_at self.now.processes p).lock
+            → (tally_at self.now.tallies p).began ≡ own_at self.now.words p }
         ensures refused { IfErr result (λ e. (self.now.layout.procs ≤ p) × (e ≡ Refusal.NoSuchProcess)) }
     {
         Ok(self.tally(p)?.began)
@@ -403,9 +412,14 @@ impl World {
 
     fn tally(&self, p: u64) -> Result<Tally, Refusal>
         ensures ok { IfOk result (λ tally. (p < self.now.layout.procs) × (tally ≡ tally_at self.now.tallies p)) }
-        ensures taking { IsExact (tally_at self.now.tallies p) → p < self.now.layout.procs → IsTaking self.now.layout (spot_at self.now.processes p) (tally_at self.now.tallies p) }
-        ensures most { IsExact (tally_at self.now.tallies p) → p < self.now.layout.procs → IfSome (call_at (spot_at self.now.processes p)) (λ call. (tally_at self.now.tallies p).steps < most_steps self.now.layout call + (tally_at self.now.tallies p).blocked) }
-        ensures rereading { p < self.now.layout.procs → IsRereading (spot_at self.now.processes p).lock → (tally_at self.now.tallies p).began ≡ own_at self.now.words p }
+        ensures taking { IsExact (tally_at self.now.tallies p) → p < self.now.layout.procs
+            → IsTaking self.now.layout (process_state_at self.now.processes p) (tally_at self.now.tallies p) }
+        ensures most { IsExact (tally_at self.now.tallies p) → p < self.now.layout.procs
+            → IfSome (call_at (process_state_at self.now.processes p))
+            (λ call.
+            (tally_at self.now.tallies p).steps < most_steps self.now.layout call + (tally_at self.now.tallies p).blocked) }
+        ensures rereading { p < self.now.layout.procs → IsRereading (process_state_at self.now.processes p).lock
+            → (tally_at self.now.tallies p).began ≡ own_at self.now.words p }
         ensures refused { IfErr result (λ e. (self.now.layout.procs ≤ p) × (e ≡ Refusal.NoSuchProcess)) }
     {
         match self.tallies.get(p as usize) {
@@ -432,8 +446,8 @@ impl Machine for World {
 
     // Inline: passes the call on.
     #[inline(always)]
-    fn step_quietly(&mut self, p: u64) -> bool {
-        World::step_quietly(self, p)
+    fn step_silently(&mut self, p: u64) -> bool {
+        World::step_silently(self, p)
     }
 
     fn crash(&mut self, p: u64) -> Result<Deed, Refusal> {

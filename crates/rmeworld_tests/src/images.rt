@@ -1,12 +1,11 @@
 //! Texts of images: worked ones, broken ones, and other spellings.
 
 use super::phrase::{Phrase, cut};
-use rmeworld::{read_image, start_of, widen, write_image};
 use judge::{Judge, Start};
 use redomail::{Layout, Message};
 use rmecore::{Own, Phase, Refusal};
 use rmeworld::image::rules::{find_in, layout, word};
-use rmeworld::{Cells, Image, Owns, first_rule};
+use rmeworld::{DataWords, Image, Owns, first_rule, read_image, start_of, widen, write_image};
 use std::alloc::Global;
 
 /// One process inside, and an empty mailbox.
@@ -260,7 +259,7 @@ fn by_hand(alloc: Global, version: u64, width: u64) -> Result<Image, Refusal> {
     let lock = vec![in alloc; inside; 1]?;
     Ok(Image {
         cap: 1,
-        cells: Cells::new(cells),
+        cells: DataWords::new(cells),
         limit: 10,
         lock: Owns::new(lock),
         version,

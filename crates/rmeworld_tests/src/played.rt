@@ -6,10 +6,9 @@
 //! data word, and `image` the text of the image.
 
 use super::phrase::{Phrase, answer_of, cut, place};
-use rmeworld::write_image;
 use redomail::Deed;
 use rmecore::{Own, Refusal};
-use rmeworld::{Answer, World};
+use rmeworld::{Answer, World, write_image};
 use std::alloc::Global;
 
 /// Takes steps. True: the last one and no other has the wanted answer.

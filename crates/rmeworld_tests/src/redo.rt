@@ -7,7 +7,7 @@ use std::alloc::{AllocError, Global};
 
 /// One process that appends its message 1 to a mailbox with a capacity of one, and the expected numbers.
 #[derive(Clone, Copy)]
-struct Row<'a> {
+struct RedoRow<'a> {
     value: Body,
     // the append's call that arms the record, and the number of its calls
     commit: u64,
@@ -19,7 +19,7 @@ struct Row<'a> {
     message: &'a str,
 }
 
-impl Row<'_> {
+impl RedoRow<'_> {
     fn task(&self) -> Task {
         Task::Append {
             seq: 1,
@@ -113,7 +113,7 @@ fn appends_and_repairs_cut_off(rt: HostRuntime) {
     let (Ok(one), Ok(three)) = (Body::new(&[77]), Body::new(&[7, 8, 9])) else {
         panic!(rt; "no body")
     };
-    let row = Row {
+    let row = RedoRow {
         value: one,
         commit: 7,
         stored: 13,
@@ -122,7 +122,7 @@ fn appends_and_repairs_cut_off(rt: HostRuntime) {
         message: "message 0 1 77",
     };
     assert_eq!(rt; row.first_unmended(rt.alloc()), None);
-    let row = Row {
+    let row = RedoRow {
         value: three,
         commit: 9,
         stored: 17,

@@ -3,8 +3,8 @@
 
 use super::phrase::answer_of;
 use super::played::{first_wrong, line, step};
-use rmeworld::image::laws::written_is_read;
 use rmecore::{Own, Refusal};
+use rmeworld::image::laws::written_is_read;
 use rmeworld::{Image, World, first_rule};
 use std::alloc::Global;
 

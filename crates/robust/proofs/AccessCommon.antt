@@ -15,20 +15,20 @@ pub use Rattle.redomail.specs.Tasks.{script, decided, store_steps, record_of}
 pub use Rattle.redomail.proofs.Scripts.{held-small, length-store_steps, step-record, step-entry, step-disarm, step-commit, step-last, step-count}
 pub use Rattle.redomail.proofs.Words.{place_low, place_up, place_small}
 pub use Rattle.rmeworld.specs.declared.answer.Answer.TheVariants.{Mail, Unlocked, Clean}
-pub use Rattle.rmeworld.specs.declared.why.Why.TheVariants.{Checking, Working}
+pub use Rattle.rmeworld.specs.declared.purpose.Purpose.TheVariants.{Checking, Working}
 pub use Rattle.rmeworld.specs.Answered.{answer_at, by_lock, by_script, blocked_by}
 pub use Rattle.rmeworld.specs.Refused.{is_idle, is_waiting}
-pub use Rattle.rmeworld.specs.Spot.{Doing, Spot, next_spot, mended_entered}
-pub use Rattle.rmeworld.specs.Stand.{Stand, access_by, stepped, standing, IsAllowed, lock_moved}
+pub use Rattle.rmeworld.specs.ProcessState.{Doing, ProcessState, next_process_state, mended_entered}
+pub use Rattle.rmeworld.specs.MachineState.{MachineState, access_by, stepped, standing, IsAllowed, lock_moved}
 pub use Rattle.execution.specs.declared.entry.TakenStep.{TakenStep}
 pub use Rattle.execution.specs.declared.setup.Setup.{Setup}
-pub use Rattle.execution.specs.Pass.{IsPass, spot_now, Pass, moved_spot, next_entry, Adds, Advances, glanced}
+pub use Rattle.execution.specs.SeatView.{IsSeatView, process_state_now, SeatView, moved_process_state, next_entry, Adds, Advances, glanced}
 pub use Rattle.execution.specs.Running.{Seated, IsRunBy, TakesStep, next_of, outcome_of, many_more}
-pub use Rattle.execution.specs.Runs.{taken, spelled, IsRun, gone, spot_of, InTable}
+pub use Rattle.execution.specs.Runs.{taken, spelled, IsRun, gone, process_state_of, InTable}
 pub use Rattle.execution.specs.Under.{Begun, under_place}
-pub use Rattle.execution.proofs.Leads.{spot_moves, load_as, looks_of, stays_pass, alone_after, pass_as}
+pub use Rattle.execution.proofs.Leads.{process_state_moves, load_as, looks_of, stays_seat_view, alone_after, seat_view_as}
 pub use Rattle.execution.proofs.Running.{next_same, may_advance, run_by_step, size_is}
-pub use Rattle.execution.proofs.Taken.{more, goes_on, ran_answered, length_snoc, takes_sizes, takes_spot, none_of}
+pub use Rattle.execution.proofs.Taken.{more, goes_on, ran_answered, length_snoc, takes_sizes, takes_process_state, none_of}
 pub use Rattle.robust.specs.FastAppend.{at_append, append_begun, HasLeft, steps_of, stored_so_far}
-pub use Rattle.robust.specs.FastPath.{free_spot, IsSame, Unanswered, EndsIn, Enters, checked_spot, IsClear, Way, waits_at, checking_spot}
-pub use Rattle.robust.specs.Owed.{has_crashed, step_of, OwesNothing}
+pub use Rattle.robust.specs.FastPath.{free_process_state, IsSame, Unanswered, EndsIn, Enters, checked_process_state, IsClear, Way, waits_at, checking_process_state}
+pub use Rattle.robust.specs.PendingEvents.{has_crashed, step_of, AwaitsNothing}

@@ -1,8 +1,8 @@
 -- The messages of the mailbox list at the end of a lab: exactly what its workers sent.
 use Rattle.std.proofs.Common.{◌≡◌, ℕ, ◌<◌, ◌≤◌, ◌==◌, Bool, true, false, List, [], ◌∷◌, ◌++◌, length, slice_index, Option, Some, None, All, refl, sym, ap, ◌∙◌, subst, inl, inr, arith, eq-eqb}
 use Rattle.robust.proofs.Common.{cases_eq, All-nil, All-cons, All-head, All-tail, All-append, All-weaker, All-contains, Layout, Message, IsContent, Words, IsLayout, words_of, IsAmong, entries}
-use Rattle.robust.proofs.Common.{count_of, IsNumbered, RecordRule, Call, Append, Image, layout_of, EveryMessageWasSent, IsSent, Happening, Begins, Falls, TakenStep, Setup, Gathers, IsGlance, IsTold}
-use Rattle.robust.proofs.Common.{has_member, image_at, deeds_of, shown_by, cells_of, RunsShow, Seated, before, taken, happenings, spelled, own, IsRun, end_of, length-counted, cells_counted, by_kind}
+use Rattle.robust.proofs.Common.{count_of, IsNumbered, RecordRule, Call, Append, Image, layout_of, EveryMessageWasSent, IsSent, WorldEvent, Begins, Falls, TakenStep, Setup, Gathers, IsGlance, IsTold}
+use Rattle.robust.proofs.Common.{has_member, image_at, deeds_of, shown_by, cells_of, RunsShow, Seated, before, taken, world_events, spelled, own, IsRun, end_of, length-counted, cells_counted, by_kind}
 use Rattle.robust.proofs.Common.{shown_on, all_both, member_at, Keeps, Holds, all_hold, Spec, AreAllSent, words_sent, messages_sent, messages_by, AreShownByRun, OfStart, IsSending, AreSending}
 use Rattle.robust.proofs.Common.{HasSent, sizes_of}
 use Rattle.judge.specs.Table.{State, empty}
@@ -12,12 +12,12 @@ use Rattle.robust.proofs.Appended.{own_taken, own_passed, among_more}
 use Rattle.robust.proofs.Numbered.{many, few, sent_by, senders, counted_all}
 
 -- what holds of each call that a process starts
-pub OfBegins : (Call → Type 0) → ℕ → Happening → Type 0
+pub OfBegins : (Call → Type 0) → ℕ → WorldEvent → Type 0
 OfBegins P p (Begins q call) = q ≡ p → P call
 OfBegins P p _ = Unit {0}
 
 module _ (P : Call → Type 0) (p : ℕ) where
-  abbrev Q : Happening → Type 0
+  abbrev Q : WorldEvent → Type 0
   Q = OfBegins P p
 
   begins_before : (c : Bool) (o : Option Call) (q : ℕ) → (q ≡ p → OfStart P o) → All Q (before c o q)
@@ -31,7 +31,7 @@ module _ (P : Call → Type 0) (p : ℕ) where
   unfolding OfBegins
   begins_taken e = by_kind (λ k h. OfBegins P p h) e.by e.step.word e.value tt (λ k. tt) e.step.kind
 
-  begins_entry : (e : TakenStep) → (e.by ≡ p → OfStart P e.step.start) → All Q (happenings e)
+  begins_entry : (e : TakenStep) → (e.by ≡ p → OfStart P e.step.start) → All Q (world_events e)
   begins_entry e h = All-append Q (before e.step.crashed e.step.start e.by) (taken e.by e.step.kind e.step.word e.value ∷ []) (begins_before e.step.crashed e.step.start e.by h) (All-cons Q (taken e.by e.step.kind e.step.word e.value) [] (begins_taken e) (All-nil Q))
 
   abbrev F : TakenStep → Type 0
@@ -49,7 +49,7 @@ module _ (P : Call → Type 0) (p : ℕ) where
 
   pub begins_all : (es : List TakenStep) → All F (own p es) → All Q (spelled es)
   begins_all [] h = All-nil Q
-  begins_all (e ∷ es) h = All-append Q (happenings e) (spelled es) (begins_entry e (own_first e es h)) (begins_all es (own_rest e es h))
+  begins_all (e ∷ es) h = All-append Q (world_events e) (spelled es) (begins_entry e (own_first e es h)) (begins_all es (own_rest e es h))
 
 pub begins_it : (P : Call → Type 0) (p : ℕ) (call : Call) → OfBegins P p (Begins p call) → P call
 unfolding OfBegins
@@ -124,25 +124,25 @@ sending_more width k p es glances are h =
 -- in the one run, if each member has sent its own
 module _ (z : Setup) (width k : ℕ) (first : Seated) (others : List Seated) (run : List TakenStep) (told : IsTold first others (length others) run) where
   abbrev Has : Seated → Type 0
-  Has x = AreSending width k x.pass.by (own x.pass.by run) × IsAmong x.pass.by k (shown_by z run)
+  Has x = AreSending width k x.seat_view.by (own x.seat_view.by run) × IsAmong x.seat_view.by k (shown_by z run)
 
-  abbrev Known : Seated → Type 0
-  Known x = (x.pass.setup ≡ z) × HasSent width k x
+  abbrev SeatKnowledge : Seated → Type 0
+  SeatKnowledge x = (x.seat_view.setup ≡ z) × HasSent width k x
 
-  still_shown : (x : Seated) → Known x → Starts x.pass.seen run → IsAmong x.pass.by k (shown_by z run)
+  still_shown : (x : Seated) → SeatKnowledge x → Starts x.seat_view.seen run → IsAmong x.seat_view.by k (shown_by z run)
   still_shown x h starts =
-      let here : IsAmong x.pass.by k (shown_by z x.pass.seen) = subst (λ (s : Setup). IsAmong x.pass.by k (shown_by s x.pass.seen)) h.0 h.1.1 in
-      let more = shown_on z x.pass.seen starts.0 in
-      subst (λ (es : List TakenStep). IsAmong x.pass.by k (shown_by z es)) (sym starts.1) (subst (IsAmong x.pass.by k) (sym more.1) (among_more x.pass.by k (shown_by z x.pass.seen) more.0 here))
+      let here : IsAmong x.seat_view.by k (shown_by z x.seat_view.seen) = subst (λ (s : Setup). IsAmong x.seat_view.by k (shown_by s x.seat_view.seen)) h.0 h.1.1 in
+      let more = shown_on z x.seat_view.seen starts.0 in
+      subst (λ (es : List TakenStep). IsAmong x.seat_view.by k (shown_by z es)) (sym starts.1) (subst (IsAmong x.seat_view.by k) (sym more.1) (among_more x.seat_view.by k (shown_by z x.seat_view.seen) more.0 here))
 
-  all_have : All Known (first ∷ others) → All Has (first ∷ others)
+  all_have : All SeatKnowledge (first ∷ others) → All Has (first ∷ others)
   all_have h =
       let Q = AreSending width k in
-      let held = all_hold Q (sending_more width k) first others (length others) run told (All-weaker Known (Keeps Q (sending_more width k) first others (length others) run told) (λ x known. known.1.0) (first ∷ others) h) in
+      let held = all_hold Q (sending_more width k) first others (length others) run told (All-weaker SeatKnowledge (Keeps Q (sending_more width k) first others (length others) run told) (λ x known. known.1.0) (first ∷ others) h) in
       let Here = Holds Q (sending_more width k) first others (length others) run told in
-      All-weaker (λ (x : Seated). Here x × Known x) Has (λ x both. (both.0.0, still_shown x both.1 both.0.1)) (first ∷ others) (all_both Here Known (first ∷ others) held h)
+      All-weaker (λ (x : Seated). Here x × SeatKnowledge x) Has (λ x both. (both.0.0, still_shown x both.1 both.0.1)) (first ∷ others) (all_both Here SeatKnowledge (first ∷ others) held h)
 
-  pub each_has : All Known (first ∷ others) → (p : ℕ) → has_member p (first ∷ others) ≡ true → AreSending width k p (own p run) × IsAmong p k (shown_by z run)
+  pub each_has : All SeatKnowledge (first ∷ others) → (p : ℕ) → has_member p (first ∷ others) ≡ true → AreSending width k p (own p run) × IsAmong p k (shown_by z run)
   each_has h p there =
       let m = member_at Has p (first ∷ others) there (all_have h) in
       subst (λ (q : ℕ). AreSending width k q (own q run) × IsAmong q k (shown_by z run)) m.1 m.2
@@ -154,12 +154,12 @@ record HasRun (s : Spec) (image : Image) : Type 0 where
   each : (p : ℕ) → p < s.procs → AreSending s.width s.messages p (own p run) × IsAmong p s.messages (shown_by (sizes_of s) run)
   shown : shown_by (sizes_of s) run ≡ entries (sizes_of s).layout (words_of image.cells) (slice_index image.cells 2)
 
-has_run : (s : Spec) (xs : List Seated) (image : Image) → IsLayout (sizes_of s).layout → All (λ (x : Seated). x.pass.setup ≡ sizes_of s) xs → All (HasSent s.width s.messages) xs → Gathers xs image → RunsShow → HasRun s image
+has_run : (s : Spec) (xs : List Seated) (image : Image) → IsLayout (sizes_of s).layout → All (λ (x : Seated). x.seat_view.setup ≡ sizes_of s) xs → All (HasSent s.width s.messages) xs → Gathers xs image → RunsShow → HasRun s image
 has_run s xs image layout setups sent g shows =
     let z = sizes_of s in
-    let Known : Seated → Type 0 = λ x. (x.pass.setup ≡ z) × HasSent s.width s.messages x in
-    let known : All Known (g.first ∷ g.others) = subst (All Known) g.are (all_both (λ (x : Seated). x.pass.setup ≡ z) (HasSent s.width s.messages) xs setups sent) in
-    let same : g.first.pass.setup ≡ z = (All-head Known g.first g.others known).0 in
+    let SeatKnowledge : Seated → Type 0 = λ x. (x.seat_view.setup ≡ z) × HasSent s.width s.messages x in
+    let known : All SeatKnowledge (g.first ∷ g.others) = subst (All SeatKnowledge) g.are (all_both (λ (x : Seated). x.seat_view.setup ≡ z) (HasSent s.width s.messages) xs setups sent) in
+    let same : g.first.seat_view.setup ≡ z = (All-head SeatKnowledge g.first g.others known).0 in
     let legal : IsRun z g.run = subst (λ (u : Setup). IsRun u g.run) same g.legal in
     let words : words_of image.cells ≡ cells_of z g.run =
     ap (λ (i : Image). words_of i.cells) (g.words ∙ ap (λ (u : Setup). image_at u (end_of u g.run)) same) ∙ cells_counted z g.run legal in
@@ -172,22 +172,22 @@ has_run s xs image layout setups sent g shows =
     }
 
 -- the lab's messages
-pub lab_sent : (s : Spec) (xs : List Seated) (image : Image) (messages : List Message) → IsLayout (sizes_of s).layout → All (λ (x : Seated). x.pass.setup ≡ sizes_of s) xs → All (HasSent s.width s.messages) xs → Gathers xs image → EveryMessageWasSent → RunsShow
+pub lab_sent : (s : Spec) (xs : List Seated) (image : Image) (messages : List Message) → IsLayout (sizes_of s).layout → All (λ (x : Seated). x.seat_view.setup ≡ sizes_of s) xs → All (HasSent s.width s.messages) xs → Gathers xs image → EveryMessageWasSent → RunsShow
     → messages ≡ entries (sizes_of s).layout (words_of image.cells) (slice_index image.cells 2) → IsNumbered (sizes_of s).layout (words_of image.cells) (slice_index image.cells 2) → AreAllSent s messages
 lab_sent s xs image messages layout setups sent g was shows are numbered =
     let r = has_run s xs image layout setups sent g shows in
     subst (AreAllSent s) (sym are) (are_all_sent s r.run (words_of image.cells) (slice_index image.cells 2) layout r.legal numbered was r.shown (λ p below. (r.each p below).0) (λ p below. (r.each p below).1))
 
 -- and the run that shows them
-pub lab_shown : (s : Spec) (xs : List Seated) (image : Image) (messages : List Message) → IsLayout (sizes_of s).layout → All (λ (x : Seated). x.pass.setup ≡ sizes_of s) xs → All (HasSent s.width s.messages) xs → Gathers xs image → RunsShow
+pub lab_shown : (s : Spec) (xs : List Seated) (image : Image) (messages : List Message) → IsLayout (sizes_of s).layout → All (λ (x : Seated). x.seat_view.setup ≡ sizes_of s) xs → All (HasSent s.width s.messages) xs → Gathers xs image → RunsShow
     → messages ≡ entries (sizes_of s).layout (words_of image.cells) (slice_index image.cells 2) → AreShownByRun s messages
 lab_shown s xs image messages layout setups sent g shows are =
     let r = has_run s xs image layout setups sent g shows in
     record { run = r.run; works = record { legal = r.legal; sending = λ p below. (r.each p below).0 }; shown = are ∙ sym r.shown }
 
-pub gathered_layout : (s : Setup) (xs : List Seated) (image : Image) → All (λ (x : Seated). x.pass.setup ≡ s) xs → Gathers xs image → layout_of image ≡ s.layout
+pub gathered_layout : (s : Setup) (xs : List Seated) (image : Image) → All (λ (x : Seated). x.seat_view.setup ≡ s) xs → Gathers xs image → layout_of image ≡ s.layout
 gathered_layout s xs image setups g =
-    let same : g.first.pass.setup ≡ s = All-head (λ (x : Seated). x.pass.setup ≡ s) g.first g.others (subst (All (λ (x : Seated). x.pass.setup ≡ s)) g.are setups) in
-    let u = g.first.pass.setup in
+    let same : g.first.seat_view.setup ≡ s = All-head (λ (x : Seated). x.seat_view.setup ≡ s) g.first g.others (subst (All (λ (x : Seated). x.seat_view.setup ≡ s)) g.are setups) in
+    let u = g.first.seat_view.setup in
     let w = end_of u g.run in
     ap layout_of g.words ∙ (λ i. record { procs = length-counted w.words u.layout.procs i; cap = u.layout.cap; width = u.layout.width }) ∙ ap (λ (v : Setup). v.layout) same

@@ -2,18 +2,18 @@
 -- is shown; what another reply says of the mailbox held at that point.
 use Rattle.std.proofs.Common.{◌≡◌, ℕ, ◌==◌, Bool, true, false, if◌then◌else◌, List, [], ◌∷◌, ◌++◌, Option, Some, None, Result, Ok, Err, IfOk, OnOk, All, refl, sym, ap, ◌∙◌, subst, inl, inr, append_assoc, eqb-true, ◌⊎◌}
 use Rattle.robust.proofs.Common.{All-nil, All-cons, All-head, All-tail, Place, Message, Reply, Stored, Already, Mended, Task, IsLayout, IsAmong, message, Answer, Mail, Unlocked, Call, Append, Lock}
-use Rattle.robust.proofs.Common.{Unlock, Consistent, answer_at, is_idle_by, mail_after, ReplyTells, RepliesTell, Happening, Errand, Free, Doing, Spot, Moves, at_rest, Scene, at_first, last_scene}
-use Rattle.robust.proofs.Common.{Story, TakenStep, Entry as Entering, LockFault, Setup, spot_before, AreMoves, ServedAll, refusal_now, ready, answer_of, shown_by, judged_by, spot_at, EndsAppend}
-use Rattle.robust.proofs.Common.{EveryRunIsSound, IsPass, spot_now, Seated, began, before, spelled, own, IsRun, gone, spot_of, ToldIn, Appends, WholeEnds, calls_inside, answers_inside, gone-append}
-use Rattle.robust.proofs.Common.{own-append, spelled-append, scene-append, shown_on, OfStart}
-use Rattle.execution.proofs.Headline.{scene_at, spot_is, spelled_to}
-use Rattle.execution.proofs.Running.{spot_begun, taken_moves}
+use Rattle.robust.proofs.Common.{Unlock, Consistent, answer_at, is_idle_by, mail_after, ReplyTells, RepliesTell, WorldEvent, ScriptState, Free, Doing, ProcessState, Moves, at_rest, GlobalState, at_first, last_global_state}
+use Rattle.robust.proofs.Common.{Execution, TakenStep, Entry as Entering, LockFault, Setup, process_state_before, AreMoves, ServedAll, refusal_now, ready, answer_of, shown_by, judged_by, process_state_at, EndsAppend}
+use Rattle.robust.proofs.Common.{EveryRunIsSound, IsSeatView, process_state_now, Seated, began, before, spelled, own, IsRun, gone, process_state_of, ToldIn, Appends, WholeEnds, calls_inside, answers_inside, gone-append}
+use Rattle.robust.proofs.Common.{own-append, spelled-append, global_state-append, shown_on, OfStart}
+use Rattle.execution.proofs.Headline.{global_state_at, process_state_is, spelled_to}
+use Rattle.execution.proofs.Running.{process_state_begun, taken_moves}
 use Rattle.rmecore.specs.Paid.{is_glance}
 use Rattle.rmecore.specs.declared.refusal.Refusal.{Refusal}
 use Rattle.redomail.specs.declared.task.Task.TheVariants as task
 use Rattle.execution.specs.declared.entry_kind.Entry.TheVariants as entering
 use Rattle.robust.proofs.Working.{kept_ready}
-use Rattle.robust.proofs.Errands.{none_in, Only, Brings, each_start, only_begun, Answering, find, IsTasks, task_mails}
+use Rattle.robust.proofs.ScriptStates.{none_in, Only, Brings, each_start, only_begun, Answering, find, IsTasks, task_mails}
 
 -- an entry of a process, with the entries before it and after it
 pub record Own (p : ℕ) (es front : List TakenStep) (e : TakenStep) : Type 0 where
@@ -69,58 +69,58 @@ pub record Ended (z y : Seated) (seq : ℕ) (r : Reply) : Type 0 where
   pub earlier : List TakenStep
   pub entry : TakenStep
   pub later : List TakenStep
-  pub seen : y.pass.seen ≡ ((z.pass.seen ++ earlier) ++ entry ∷ []) ++ later
-  pub by : entry.by ≡ z.pass.by
-  pub ends : EndsAppend z.pass.setup (z.pass.seen ++ earlier) entry seq r
-  pub setup : y.pass.setup ≡ z.pass.setup
-  pub run : IsRun z.pass.setup y.pass.seen
+  pub seen : y.seat_view.seen ≡ ((z.seat_view.seen ++ earlier) ++ entry ∷ []) ++ later
+  pub by : entry.by ≡ z.seat_view.by
+  pub ends : EndsAppend z.seat_view.setup (z.seat_view.seen ++ earlier) entry seq r
+  pub setup : y.seat_view.setup ≡ z.seat_view.setup
+  pub run : IsRun z.seat_view.setup y.seat_view.seen
 
 -- calls in a row, of which only the append with this number does a task, and one of whose answers is its reply
 module _ (z y : Seated) (c d : Call) (order : List Call) (answers told rest : List Answer) (blocked seq : ℕ) (value : List ℕ) (r : Reply) where
   abbrev t : Task
   t = task.Append seq value
 
-  pub append_ended : (mine : List TakenStep) → ServedAll z (c ∷ d ∷ order) answers blocked y mine → z.pass.start ≡ Some c → Only t (spot_now z.pass).errand → All (Brings t) (c ∷ d ∷ order) → answers ≡ told ++ Mail r ∷ rest → IsTasks r → Ended z y seq r
+  pub append_ended : (mine : List TakenStep) → ServedAll z (c ∷ d ∷ order) answers blocked y mine → z.seat_view.start ≡ Some c → Only t (process_state_now z.seat_view).script_state → All (Brings t) (c ∷ d ∷ order) → answers ≡ told ++ Mail r ∷ rest → IsTasks r → Ended z y seq r
   append_ended [] served start only brings is its = absurd (let k : [] ≡ c ∷ d ∷ order = served.started in cc)
   append_ended (e ∷ es) served start only brings is its =
-      let s = z.pass.setup in
-      let p = z.pass.by in
-      let here = spot_of s p z.pass.seen in
+      let s = z.seat_view.setup in
+      let p = z.seat_view.by in
+      let here = process_state_of s p z.seat_view.seen in
       let calls = served.calls in
-      let started : e.step.start ≡ z.pass.start = served.first ∙ sym start in
+      let started : e.step.start ≡ z.seat_view.start = served.first ∙ sym start in
       let by = (own_split p calls.since [] e es calls.mine_are).by in
-      let at : spot_before s here e ≡ spot_now z.pass = ap (λ (u : Bool × Option Call × ℕ). gone s here (before u.0 u.1 u.2)) (λ i. (served.crash.0 i, started i, by i)) in
+      let at : process_state_before s here e ≡ process_state_now z.seat_view = ap (λ (u : Bool × Option Call × ℕ). gone s here (before u.0 u.1 u.2)) (λ i. (served.crash.0 i, started i, by i)) in
       let fine = each_start (Brings t) (e ∷ es) (subst (All (Brings t)) (sym served.started) brings) in
-      let found : Answering t s here (e ∷ es) (Mail r) = find t s here e es (Mail r) told rest (All-tail (λ (f : TakenStep). OfStart (Brings t) f.step.start) e es fine) (subst (λ (u : Spot). Only t u.errand) (sym at) only) (served.answered ∙ is) in
+      let found : Answering t s here (e ∷ es) (Mail r) = find t s here e es (Mail r) told rest (All-tail (λ (f : TakenStep). OfStart (Brings t) f.step.start) e es fine) (subst (λ (u : ProcessState). Only t u.script_state) (sym at) only) (served.answered ∙ is) in
       let f = found.entry in
       let o : Own p calls.since found.front f = own_split p calls.since found.front f found.back (calls.mine_are ∙ found.is) in
-      let front : List TakenStep = z.pass.seen ++ o.earlier in
-      let mine : own p front ≡ own p z.pass.seen ++ found.front = own-append p z.pass.seen o.earlier ∙ ap (λ (l : List TakenStep). own p z.pass.seen ++ l) o.own_are in
-      let there : spot_of s f.by front ≡ gone s here (spelled found.front) =
-      ap (λ (q : ℕ). spot_of s q front) o.by ∙ ap (λ (l : List TakenStep). gone s at_rest (spelled l)) mine ∙ ap (gone s at_rest) (spelled-append (own p z.pass.seen) found.front) ∙ gone-append s at_rest (spelled (own p z.pass.seen)) (spelled found.front) in
-      let spot : spot_at s front f ≡ spot_before s (gone s here (spelled found.front)) f = ap (λ (u : Spot). spot_before s u f) there in
+      let front : List TakenStep = z.seat_view.seen ++ o.earlier in
+      let mine : own p front ≡ own p z.seat_view.seen ++ found.front = own-append p z.seat_view.seen o.earlier ∙ ap (λ (l : List TakenStep). own p z.seat_view.seen ++ l) o.own_are in
+      let there : process_state_of s f.by front ≡ gone s here (spelled found.front) =
+      ap (λ (q : ℕ). process_state_of s q front) o.by ∙ ap (λ (l : List TakenStep). gone s at_rest (spelled l)) mine ∙ ap (gone s at_rest) (spelled-append (own p z.seat_view.seen) found.front) ∙ gone-append s at_rest (spelled (own p z.seat_view.seen)) (spelled found.front) in
+      let process_state : process_state_at s front f ≡ process_state_before s (gone s here (spelled found.front)) f = ap (λ (u : ProcessState). process_state_before s u f) there in
       let work = task_mails t _ _ _ _ f.step.kind f.value r found.only its found.answer in
       let move = all_at (λ (g : TakenStep). is_glance g.step.kind ≡ false) found.front f found.back (subst AreMoves found.is served.moves) in
-      let whole : y.pass.seen ≡ (front ++ f ∷ []) ++ o.later =
-      calls.seen ∙ ap (λ (l : List TakenStep). z.pass.seen ++ l) o.is ∙ sym (append_assoc z.pass.seen o.earlier (f ∷ o.later)) ∙ sym (append_assoc front (f ∷ []) o.later) in
+      let whole : y.seat_view.seen ≡ (front ++ f ∷ []) ++ o.later =
+      calls.seen ∙ ap (λ (l : List TakenStep). z.seat_view.seen ++ l) o.is ∙ sym (append_assoc z.seat_view.seen o.earlier (f ∷ o.later)) ∙ sym (append_assoc front (f ∷ []) o.later) in
       record {
         earlier = o.earlier;
         entry = f;
         later = o.later;
         seen = whole;
         by = o.by;
-        ends = record { value = value; left = work.0; step = move; append = ap (λ (u : Spot). u.errand) spot ∙ work.1; answer = ap (λ (u : Spot). answer_at u f.step.kind f.value) spot ∙ found.answer };
+        ends = record { value = value; left = work.0; step = move; append = ap (λ (u : ProcessState). u.script_state) process_state ∙ work.1; answer = ap (λ (u : ProcessState). answer_at u f.step.kind f.value) process_state ∙ found.answer };
         setup = calls.setup;
-        run = subst (λ (u : Setup). IsRun u y.pass.seen) calls.setup calls.run;
+        run = subst (λ (u : Setup). IsRun u y.seat_view.seen) calls.setup calls.run;
       }
 
 -- a message whose append was answered Stored or Already is shown from then on
-stored_shown : (z y : Seated) (seq : ℕ) (r : Reply) → Ended z y seq r → IsLayout z.pass.setup.layout → EveryRunIsSound → (r ≡ Stored) ⊎ (r ≡ Already) → IsAmong z.pass.by seq (shown_by y.pass.setup y.pass.seen)
+stored_shown : (z y : Seated) (seq : ℕ) (r : Reply) → Ended z y seq r → IsLayout z.seat_view.setup.layout → EveryRunIsSound → (r ≡ Stored) ⊎ (r ≡ Already) → IsAmong z.seat_view.by seq (shown_by y.seat_view.setup y.seat_view.seen)
 stored_shown z y seq r h layout every stored =
-    let s = z.pass.setup in
-    let front = z.pass.seen ++ h.earlier in
+    let s = z.seat_view.setup in
+    let front = z.seat_view.seen ++ h.earlier in
     let f = h.entry in
-    let told : IsAmong f.by seq (shown_by s (front ++ f ∷ [])) = (every s y.pass.seen layout h.run).answered front f h.later seq r h.seen h.ends stored in
+    let told : IsAmong f.by seq (shown_by s (front ++ f ∷ [])) = (every s y.seat_view.seen layout h.run).answered front f h.later seq r h.seen h.ends stored in
     let grown = shown_on s (front ++ f ∷ []) h.later in
     let among : IsAmong f.by seq (shown_by s ((front ++ f ∷ []) ++ h.later)) = subst (IsAmong f.by seq) (sym grown.1) (among_more f.by seq (shown_by s (front ++ f ∷ [])) grown.0 told) in
     subst (λ (u : ℕ × Setup × List TakenStep). IsAmong u.0 seq (shown_by u.1 u.2)) (λ i. (h.by i, sym h.setup i, sym h.seen i)) among
@@ -131,19 +131,19 @@ reply_told s es front e back seq r layout run tell split ends =
     let l = s.layout in
     let hs = spelled front ++ before e.step.crashed e.step.start e.by in
     let h = Moves e.by e.step.kind e.step.word e.value in
-    let to : spelled (front ++ e ∷ []) ≡ hs ++ h ∷ [] = spelled_to s front e ∙ ap (λ (x : Happening). hs ++ x ∷ []) (taken_moves e.by e.step.kind e.step.word e.value ends.step) in
-    let whole : spelled es ≡ hs ++ h ∷ spelled back = ap spelled split ∙ spelled-append (front ++ e ∷ []) back ∙ ap (λ (xs : List Happening). xs ++ spelled back) to ∙ append_assoc hs (h ∷ []) (spelled back) in
-    let here : last_scene l s.limit at_first hs ≡ scene_at s front e = scene-append l s.limit at_first (spelled front) (before e.step.crashed e.step.start e.by) in
-    let spot : (last_scene l s.limit at_first hs).spots e.by ≡ spot_at s front e = ap (λ (w : Scene). w.spots e.by) here ∙ spot_is s front e in
-    let told = tell l s.limit hs e.by e.step.kind e.step.word e.value (spelled back) seq r layout (subst (Story l s.limit at_first) whole run)
-    (record { value = ends.value; left = ends.left; append = ap (λ (u : Spot). u.errand) spot ∙ ends.append; answer = ap (λ (u : Spot). answer_at u e.step.kind e.value) spot ∙ ends.answer }) in
-    subst (λ (xs : List Happening). ReplyTells l e.by seq r (mail_after l s.limit xs)) (sym to) told
+    let to : spelled (front ++ e ∷ []) ≡ hs ++ h ∷ [] = spelled_to s front e ∙ ap (λ (x : WorldEvent). hs ++ x ∷ []) (taken_moves e.by e.step.kind e.step.word e.value ends.step) in
+    let whole : spelled es ≡ hs ++ h ∷ spelled back = ap spelled split ∙ spelled-append (front ++ e ∷ []) back ∙ ap (λ (xs : List WorldEvent). xs ++ spelled back) to ∙ append_assoc hs (h ∷ []) (spelled back) in
+    let here : last_global_state l s.limit at_first hs ≡ global_state_at s front e = global_state-append l s.limit at_first (spelled front) (before e.step.crashed e.step.start e.by) in
+    let process_state : (last_global_state l s.limit at_first hs).process_states e.by ≡ process_state_at s front e = ap (λ (w : GlobalState). w.process_states e.by) here ∙ process_state_is s front e in
+    let told = tell l s.limit hs e.by e.step.kind e.step.word e.value (spelled back) seq r layout (subst (Execution l s.limit at_first) whole run)
+    (record { value = ends.value; left = ends.left; append = ap (λ (u : ProcessState). u.script_state) process_state ∙ ends.append; answer = ap (λ (u : ProcessState). answer_at u e.step.kind e.value) process_state ∙ ends.answer }) in
+    subst (λ (xs : List WorldEvent). ReplyTells l e.by seq r (mail_after l s.limit xs)) (sym to) told
 
-ended_told : (z y : Seated) (seq : ℕ) (r : Reply) → Ended z y seq r → IsLayout z.pass.setup.layout → RepliesTell → ToldIn z seq r y
+ended_told : (z y : Seated) (seq : ℕ) (r : Reply) → Ended z y seq r → IsLayout z.seat_view.setup.layout → RepliesTell → ToldIn z seq r y
 ended_told z y seq r h layout tell =
-    let s = z.pass.setup in
-    let all : (z.pass.seen ++ h.earlier) ++ h.entry ∷ [] ≡ z.pass.seen ++ (h.earlier ++ h.entry ∷ []) = append_assoc z.pass.seen h.earlier (h.entry ∷ []) in
-    let told : ReplyTells s.layout h.entry.by seq r (judged_by s ((z.pass.seen ++ h.earlier) ++ h.entry ∷ [])).mail = reply_told s y.pass.seen (z.pass.seen ++ h.earlier) h.entry h.later seq r layout h.run tell h.seen h.ends in
+    let s = z.seat_view.setup in
+    let all : (z.seat_view.seen ++ h.earlier) ++ h.entry ∷ [] ≡ z.seat_view.seen ++ (h.earlier ++ h.entry ∷ []) = append_assoc z.seat_view.seen h.earlier (h.entry ∷ []) in
+    let told : ReplyTells s.layout h.entry.by seq r (judged_by s ((z.seat_view.seen ++ h.earlier) ++ h.entry ∷ [])).mail = reply_told s y.seat_view.seen (z.seat_view.seen ++ h.earlier) h.entry h.later seq r layout h.run tell h.seen h.ends in
     record {
       since = h.earlier ++ h.entry ∷ [];
       later = h.later;
@@ -152,15 +152,15 @@ ended_told z y seq r h layout tell =
     }
 
 -- a call that starts from outside the section has no task under way
-idle_only : (t : Task) (s : Place) (e : Errand) (o : Option Refusal) (why : Refusal) → (if is_idle_by s e then o else Some why) ≡ None → Only t e
-idle_only t s Free o why h = tt
-idle_only t s (Doing w left) o why h = absurd (cc)
+idle_only : (t : Task) (s : Place) (e : ScriptState) (o : Option Refusal) (purpose : Refusal) → (if is_idle_by s e then o else Some purpose) ≡ None → Only t e
+idle_only t s Free o purpose h = tt
+idle_only t s (Doing w left) o purpose h = absurd (cc)
 
-outset_only : (t : Task) (x : Seated) → x.pass.start ≡ None → refusal_now x Lock ≡ None → Only t (spot_now (began x Lock).pass).errand
+outset_only : (t : Task) (x : Seated) → x.seat_view.start ≡ None → refusal_now x Lock ≡ None → Only t (process_state_now (began x Lock).seat_view).script_state
 outset_only t x none may =
-    let spot = spot_now x.pass in
-    let idle = idle_only t spot.lock spot.errand _ _ may in
-    subst (λ (u : Spot). Only t u.errand) (sym (spot_begun x.pass Lock none)) (only_begun t x.pass.setup.layout x.pass.by spot.lock spot.mended spot.errand Lock spot tt idle)
+    let process_state = process_state_now x.seat_view in
+    let idle = idle_only t process_state.lock process_state.script_state _ _ may in
+    subst (λ (u : ProcessState). Only t u.script_state) (sym (process_state_begun x.seat_view Lock none)) (only_begun t x.seat_view.setup.layout x.seat_view.by process_state.lock process_state.mended process_state.script_state Lock process_state tt idle)
 
 brings_all : (entry : Entering) (seq : ℕ) (value : List ℕ) → All (Brings (task.Append seq value)) (Lock ∷ calls_inside entry (Append seq value))
 brings_all entering.Clean seq value =
@@ -170,12 +170,12 @@ brings_all entering.OwnerDied seq value =
     let P = Brings (task.Append seq value) in
     All-cons P Lock (Consistent ∷ Append seq value ∷ Unlock ∷ []) tt (All-cons P Consistent (Append seq value ∷ Unlock ∷ []) tt (All-cons P (Append seq value) (Unlock ∷ []) refl (All-cons P Unlock [] tt (All-nil P))))
 
-module _ (x y : Seated) (turns seq : ℕ) (value : List ℕ) (r : Reply) (a b c d : ℕ) (none : x.pass.start ≡ None) (may : refusal_now (ready x) Lock ≡ None) (its : IsTasks r) where
+module _ (x y : Seated) (turns seq : ℕ) (value : List ℕ) (r : Reply) (a b c d : ℕ) (none : x.seat_view.start ≡ None) (may : refusal_now (ready x) Lock ≡ None) (its : IsTasks r) where
   abbrev z : Seated
   z = began (ready x) Lock
 
-  outset : Only (task.Append seq value) (spot_now z.pass).errand
-  outset = outset_only (task.Append seq value) (ready x) (kept_ready (λ (u : Seated). u.pass.start) x (sym none) ∙ none) may
+  outset : Only (task.Append seq value) (process_state_now z.seat_view).script_state
+  outset = outset_only (task.Append seq value) (ready x) (kept_ready (λ (u : Seated). u.seat_view.start) x (sym none) ∙ none) may
 
   inside_ended : (entry : Entering) (mended : Bool) (order : List Call) (answers : List Answer) (blocked : ℕ) (mine : List TakenStep) → order ≡ Lock ∷ calls_inside entry (Append seq value) → answers ≡ answer_of entry ∷ answers_inside entry mended r
       → ServedAll z order answers blocked y mine → Ended z y seq r
@@ -188,8 +188,8 @@ module _ (x y : Seated) (turns seq : ℕ) (value : List ℕ) (r : Reply) (a b c 
   pub ended_append : WholeEnds z turns (Append seq value) (Ok r) y a b c d → Ended z y seq r
   ended_append h = inside_ended h.3.1 h.3.2 h.0 h.1 h.2 h.4.0 h.3.3 h.3.4 h.4.1
 
-begun_layout : (x : Seated) → IsPass x.pass → IsLayout (began (ready x) Lock).pass.setup.layout
-begun_layout x pass = subst (λ (s : Setup). IsLayout s.layout) (sym (kept_ready (λ (u : Seated). u.pass.setup) x refl)) pass.size.layout
+begun_layout : (x : Seated) → IsSeatView x.seat_view → IsLayout (began (ready x) Lock).seat_view.setup.layout
+begun_layout x seat_view = subst (λ (s : Setup). IsLayout s.layout) (sym (kept_ready (λ (u : Seated). u.seat_view.setup) x refl)) seat_view.size.layout
 
 stored_its : (r : Reply) → (r ≡ Stored) ⊎ (r ≡ Already) → IsTasks r
 stored_its r (inl e) = subst IsTasks (sym e) tt
@@ -200,19 +200,19 @@ appends_its seq (Mended repaired) h = h
 appends_its seq _ h = tt
 
 -- an append, however often it was blocked
-pub append_shown : (x y : Seated) (seq : ℕ) (value : List ℕ) (result : Result Reply LockFault) (a b c d : ℕ) → x.pass.start ≡ None → IsPass x.pass → EveryRunIsSound → OnOk result (refusal_now (ready x) Lock ≡ None)
-    → IfOk result (λ (r : Reply). (turns : ℕ) × WholeEnds (began (ready x) Lock) turns (Append seq value) (Ok r) y a b c d) → IfOk result (λ (r : Reply). (r ≡ Stored) ⊎ (r ≡ Already) → IsAmong x.pass.by seq (shown_by y.pass.setup y.pass.seen))
-append_shown x y seq value (Ok r) a b c d none pass every may h = λ stored.
+pub append_shown : (x y : Seated) (seq : ℕ) (value : List ℕ) (result : Result Reply LockFault) (a b c d : ℕ) → x.seat_view.start ≡ None → IsSeatView x.seat_view → EveryRunIsSound → OnOk result (refusal_now (ready x) Lock ≡ None)
+    → IfOk result (λ (r : Reply). (turns : ℕ) × WholeEnds (began (ready x) Lock) turns (Append seq value) (Ok r) y a b c d) → IfOk result (λ (r : Reply). (r ≡ Stored) ⊎ (r ≡ Already) → IsAmong x.seat_view.by seq (shown_by y.seat_view.setup y.seat_view.seen))
+append_shown x y seq value (Ok r) a b c d none seat_view every may h = λ stored.
     let ended = ended_append x y h.0 seq value r a b c d none may (stored_its r stored) h.1 in
-    let among = stored_shown (began (ready x) Lock) y seq r ended (begun_layout x pass) every stored in
-    subst (λ (p : ℕ). IsAmong p seq (shown_by y.pass.setup y.pass.seen)) (kept_ready (λ (u : Seated). u.pass.by) x refl) among
-append_shown x y seq value (Err e) a b c d none pass every may h = tt
+    let among = stored_shown (began (ready x) Lock) y seq r ended (begun_layout x seat_view) every stored in
+    subst (λ (p : ℕ). IsAmong p seq (shown_by y.seat_view.setup y.seat_view.seen)) (kept_ready (λ (u : Seated). u.seat_view.by) x refl) among
+append_shown x y seq value (Err e) a b c d none seat_view every may h = tt
 
 told_began : (x y : Seated) (seq : ℕ) (r : Reply) → ToldIn (began (ready x) Lock) seq r y → ToldIn x seq r y
 told_began x y seq r h =
-    let setup = kept_ready (λ (u : Seated). u.pass.setup) x refl in
-    let by = kept_ready (λ (u : Seated). u.pass.by) x refl in
-    let seen = kept_ready (λ (u : Seated). u.pass.seen) x refl in
+    let setup = kept_ready (λ (u : Seated). u.seat_view.setup) x refl in
+    let by = kept_ready (λ (u : Seated). u.seat_view.by) x refl in
+    let seen = kept_ready (λ (u : Seated). u.seat_view.seen) x refl in
     record {
       since = h.since;
       later = h.later;
@@ -220,8 +220,8 @@ told_began x y seq r h =
       tells = subst (λ (u : Setup × ℕ × List TakenStep). ReplyTells u.0.layout u.1 seq r (judged_by u.0 (u.2 ++ h.since)).mail) (λ i. (setup i, by i, seen i)) h.tells;
     }
 
-pub append_tells : (x y : Seated) (seq : ℕ) (value : List ℕ) (result : Result Reply LockFault) (a b c d : ℕ) → x.pass.start ≡ None → IsPass x.pass → RepliesTell → OnOk result (refusal_now (ready x) Lock ≡ None) → IfOk result (Appends seq)
+pub append_tells : (x y : Seated) (seq : ℕ) (value : List ℕ) (result : Result Reply LockFault) (a b c d : ℕ) → x.seat_view.start ≡ None → IsSeatView x.seat_view → RepliesTell → OnOk result (refusal_now (ready x) Lock ≡ None) → IfOk result (Appends seq)
     → IfOk result (λ (r : Reply). (turns : ℕ) × WholeEnds (began (ready x) Lock) turns (Append seq value) (Ok r) y a b c d) → IfOk result (λ (r : Reply). ToldIn x seq r y)
-append_tells x y seq value (Ok r) a b c d none pass tell may its h =
-    told_began x y seq r (ended_told (began (ready x) Lock) y seq r (ended_append x y h.0 seq value r a b c d none may (appends_its seq r its) h.1) (begun_layout x pass) tell)
-append_tells x y seq value (Err e) a b c d none pass tell may its h = tt
+append_tells x y seq value (Ok r) a b c d none seat_view tell may its h =
+    told_began x y seq r (ended_told (began (ready x) Lock) y seq r (ended_append x y h.0 seq value r a b c d none may (appends_its seq r its) h.1) (begun_layout x seat_view) tell)
+append_tells x y seq value (Err e) a b c d none seat_view tell may its h = tt

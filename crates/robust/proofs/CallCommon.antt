@@ -11,14 +11,14 @@ pub use Rattle.rmeworld.specs.declared.answer.Answer.{Answer}
 pub use Rattle.rmeworld.specs.declared.answer.Answer.TheVariants.{Mail, Unlocked, Clean, NumbersSpent, OwnerDied, NotRecoverable}
 pub use Rattle.rmeworld.specs.declared.call.Call.{Call}
 pub use Rattle.rmeworld.specs.declared.call.Call.TheVariants.{Append, Lock, Unlock, Consistent, Withdraw}
-pub use Rattle.rmeworld.specs.Spot.{Begins, Free, Spot, next_spot}
-pub use Rattle.rmeworld.specs.Stand.{Stand, stepped, IsAllowed}
+pub use Rattle.rmeworld.specs.ProcessState.{Begins, Free, ProcessState, next_process_state}
+pub use Rattle.rmeworld.specs.MachineState.{MachineState, stepped, IsAllowed}
 pub use Rattle.execution.specs.declared.entry.TakenStep.{TakenStep}
 pub use Rattle.execution.specs.declared.setup.Setup.{Setup}
-pub use Rattle.execution.specs.Calls.{Going, Turning, Ran, Calm, Served, Still}
+pub use Rattle.execution.specs.Calls.{Going, Turning, Ran, NeverCrashes, Served, Still}
 pub use Rattle.execution.specs.Faults.{refusal_now, ready, AnsweredIn}
 pub use Rattle.execution.specs.Lasting.{Lasts}
-pub use Rattle.execution.specs.Pass.{IsPass, spot_now, Pass, moved_spot, Looks}
+pub use Rattle.execution.specs.SeatView.{IsSeatView, process_state_now, SeatView, moved_process_state, Looks}
 pub use Rattle.execution.specs.Reading.{cells_of, row_words, entry_words, Glances}
 pub use Rattle.execution.specs.Running.{Seated, began, IsRunBy, TakesStep, many_more, behind, next_of}
 pub use Rattle.execution.specs.Under.{IsUnder, Begun, Fits, Leaves}
@@ -32,4 +32,4 @@ pub use Rattle.execution.proofs.Taken.{more, goes_on, ran_answered, ran_blocked,
 pub use Rattle.execution.proofs.Turned.{many_append, many_fell, turned, turned_served, turned_cut, turning_first, turned_out}
 pub use Rattle.execution.proofs.WholeCalls.{ok_some, whole_fails, cut_fails, whole_asked, whole_cut, whole_replied, goes_idle, err_some, cut_from, ran_from, whole_of, cut_of, cut_more, lock_is, cut_first, cut_then, two_done, front_one, front_all, unlocked_is, one_then, front_cons, mends_is}
 pub use Rattle.robust.specs.FastAppend.{append_begun}
-pub use Rattle.robust.specs.FastPath.{free_spot, IsSame, Unanswered, EndsIn}
+pub use Rattle.robust.specs.FastPath.{free_process_state, IsSame, Unanswered, EndsIn}

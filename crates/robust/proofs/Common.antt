@@ -27,8 +27,8 @@ pub use Rattle.rmeworld.specs.ImageRules.{layout_of, IsLawfulImage}
 pub use Rattle.rmeworld.specs.OwnSteps.{most_steps}
 pub use Rattle.rmeworld.specs.Refused.{is_idle, is_idle_by}
 pub use Rattle.rmeworld.specs.Sent.{EveryMessageWasSent, IsSent, mail_after, ReplyTells, RepliesTell, EveryCloseWasAsked, EveryRuinWasAsked, IsLeftUnmended}
-pub use Rattle.rmeworld.specs.Spot.{Happening, Begins, Falls, Errand, Free, Doing, Spot, Moves, at_rest, at_lock, settled, only_spot, moved_by, inside_only, begun_from, next_spot, who}
-pub use Rattle.rmeworld.specs.World.{Scene, at_first, last_scene, Story, onward, reading}
+pub use Rattle.rmeworld.specs.ProcessState.{WorldEvent, Begins, Falls, ScriptState, Free, Doing, ProcessState, Moves, at_rest, at_lock, settled, only_process_state, moved_by, inside_only, begun_from, next_process_state, who}
+pub use Rattle.rmeworld.specs.World.{GlobalState, at_first, last_global_state, Execution, onward, reading}
 pub use Rattle.rmeworld.proofs.ImageRules.{lawful_content}
 pub use Rattle.execution.specs.declared.entry.TakenStep.{TakenStep}
 pub use Rattle.execution.specs.declared.entry_kind.Entry.{Entry}
@@ -36,16 +36,16 @@ pub use Rattle.execution.specs.declared.lock_fault.LockFault.{LockFault}
 pub use Rattle.execution.specs.declared.lock_fault.LockFault.TheVariants.{Crashed, NotYet, AlreadyIn}
 pub use Rattle.execution.specs.declared.setup.Setup.{Setup}
 pub use Rattle.execution.specs.Board.{last_put, value_or, LastIsOwn}
-pub use Rattle.execution.specs.Calls.{spot_before, AreMoves, ServedAll, answers_from, and_call, starts, Served}
+pub use Rattle.execution.specs.Calls.{process_state_before, AreMoves, ServedAll, answers_from, and_call, starts, Served}
 pub use Rattle.execution.specs.Faults.{refusal_now, ready, answer_of, CutBy}
 pub use Rattle.execution.specs.Gathering.{Gathers, IsGlance, IsTold, has_member, image_at, OneArena, procs_of, IsMissing, Absorbs, Knows, Stays}
-pub use Rattle.execution.specs.Headline.{deeds_of, shown_by, judged_by, spot_at, EndsAppend, EveryRunIsSound}
-pub use Rattle.execution.specs.Pass.{IsPass, spot_now, Pass, Calls, own_of, rest_known, alone}
+pub use Rattle.execution.specs.Headline.{deeds_of, shown_by, judged_by, process_state_at, EndsAppend, EveryRunIsSound}
+pub use Rattle.execution.specs.SeatView.{IsSeatView, process_state_now, SeatView, Calls, own_of, rest_known, alone}
 pub use Rattle.execution.specs.Reading.{cells_of, RunsShow, LoadsTell}
 pub use Rattle.execution.specs.Ruins.{AreInOrder, NobodyRuins, HasReadRuin, last_call, last_of, settles, MayStart}
 pub use Rattle.execution.specs.Rule.{count_from, stepper}
 pub use Rattle.execution.specs.Running.{Seated, fell, began}
-pub use Rattle.execution.specs.Runs.{before, taken, happenings, spelled, own, IsRun, end_of, gone, spot_of, crash_first, Goes, has, word_count}
+pub use Rattle.execution.specs.Runs.{before, taken, world_events, spelled, own, IsRun, end_of, gone, process_state_of, crash_first, Goes, has, word_count}
 pub use Rattle.execution.specs.Telling.{ToldIn}
 pub use Rattle.execution.specs.Under.{Appends, Replies, Mends}
 pub use Rattle.execution.specs.Whole.{WholeEnds, calls_inside, answers_inside, AppendFails, Comes, IsFront, IsWithin, WholeFails}
@@ -54,10 +54,10 @@ pub use Rattle.execution.proofs.Gathered.{all_left, all_right, knows_some, absor
 pub use Rattle.execution.proofs.LawfulEnd.{length-counted, cells_counted, lawful_end}
 pub use Rattle.execution.proofs.Leads.{gone-append, has_one}
 pub use Rattle.execution.proofs.Opens.{size_small, mapped_more}
-pub use Rattle.execution.proofs.Runs.{by_kind, own-append, spelled-append, scene-append, legal_front, spot_in_run}
+pub use Rattle.execution.proofs.Runs.{by_kind, own-append, spelled-append, global_state-append, legal_front, process_state_in_run}
 pub use Rattle.execution.proofs.Shown.{shown_on}
 pub use Rattle.execution.proofs.Together.{all_both, member_at, Keeps, Holds, all_hold, each_holds}
-pub use Rattle.one_lock.specs.declared.lab.ending.Ending.TheVariants.{AllSent, Fault, Refused}
+pub use Rattle.one_lock.specs.declared.lab.ending.WorkerEnd.TheVariants.{AllSent, Fault, Refused}
 pub use Rattle.one_lock.specs.declared.lab.lab_fault.LabFault.TheVariants.{Member}
 pub use Rattle.one_lock.specs.declared.lab.spec.Spec.{Spec}
 pub use Rattle.one_lock.specs.Endings.{fault_by}

@@ -1,7 +1,7 @@
 -- What ended a lab early, from the one run of its members.
 use Rattle.std.proofs.Common.{◌≡◌, ℕ, ◌*◌, ◌<◌, ◌≤◌, true, List, [], ◌∷◌, ◌++◌, length, slice_index, map, Some, None, All, refl, sym, ap, ◌∙◌, subst, inl, inr, arith, append_assoc, append-nil, length-append}
 use Rattle.robust.proofs.Common.{cases_lt, All-nil, All-cons, All-head, All-tail, All-contains, Layout, Message, Reply, Words, IsLayout, words_of, IsAmong, entries, count_of, IsNumbered, Close, Image}
-use Rattle.robust.proofs.Common.{layout_of, IsLawfulImage, EveryMessageWasSent, ReplyTells, EveryCloseWasAsked, Happening, Begins, who, at_first, lawful_content, TakenStep, Setup, Gathers, IsGlance}
+use Rattle.robust.proofs.Common.{layout_of, IsLawfulImage, EveryMessageWasSent, ReplyTells, EveryCloseWasAsked, WorldEvent, Begins, who, at_first, lawful_content, TakenStep, Setup, Gathers, IsGlance}
 use Rattle.robust.proofs.Common.{has_member, image_at, shown_by, judged_by, cells_of, RunsShow, LoadsTell, AreInOrder, NobodyRuins, Seated, spelled, own, IsRun, end_of, all_left, cells_counted}
 use Rattle.robust.proofs.Common.{own-append, legal_front, shown_on, Keeps, Holds, all_hold, each_holds, AllSent, Fault, Refused, Member, Spec, fault_by, Done, IsFirstFault, EndsSo, EndsLab, WasSpent}
 use Rattle.robust.proofs.Common.{IsLabRun, OfStart, IsSending, AreSending, sizes_of, HasWorked}
@@ -9,12 +9,12 @@ use Rattle.redomail.proofs.Changes.{length-entries}
 use Rattle.execution.proofs.Ordered.{order_more}
 use Rattle.one_lock.specs.declared.lab.lab_fault.LabFault.{LabFault}
 use Rattle.one_lock.specs.declared.lab.lab_fault.LabFault.TheVariants.{Reply as Replied}
-use Rattle.one_lock.specs.declared.lab.ending.Ending.{Ending}
+use Rattle.one_lock.specs.declared.lab.ending.WorkerEnd.{WorkerEnd}
 use Rattle.execution.specs.Rule.{Begins as Starts}
 use Rattle.robust.proofs.AllSent.{OfBegins, begins_all, begins_it, content_numbered, shown_entries, gathered_layout, at_most, sending_more}
 use Rattle.robust.proofs.Appended.{all_at}
 use Rattle.robust.proofs.Numbered.{senders, has_all, fewer_all}
-use Rattle.robust.proofs.Unruined.{story_within, none_read}
+use Rattle.robust.proofs.Unruined.{execution_within, none_read}
 
 -- one of those that are mapped
 all_mapped : {A B : Type 0} (f : A → B) (P : B → Type 0) (xs : List A) (x : A) (ys : List A) → All P (map f (xs ++ x ∷ ys)) → P (f x)
@@ -44,7 +44,7 @@ module _ (s : Spec) (run front rest : List TakenStep) (is : run ≡ front ++ res
       let p = asked.0 in
       let P = IsSending s.width s.messages p in
       let F : TakenStep → Type 0 = λ e. OfStart P e.step.start in
-      let below : p < s.procs = All-contains (λ (h : Happening). who h < s.procs) (spelled front) (Begins p Close) (story_within z.layout z.limit at_first (spelled front) front_run) asked.1 in
+      let below : p < s.procs = All-contains (λ (h : WorldEvent). who h < s.procs) (spelled front) (Begins p Close) (execution_within z.layout z.limit at_first (spelled front) front_run) asked.1 in
       let mine : All F (own p front) = all_left F (own p front) (own p rest) (subst (All F) (ap (own p) is ∙ own-append p front rest) (sending p below)) in
       begins_it P p Close (All-contains (OfBegins P p) (spelled front) (Begins p Close) (begins_all P p front mine) asked.1)
 
@@ -73,7 +73,7 @@ module _ (s : Spec) (run front rest : List TakenStep) (is : run ≡ front ++ res
 abbrev pub member_of : Done → Seated
 member_of d = d.member
 
-pub lab_ends : (s : Spec) (ended : List Done) (image : Image) (cause : LabFault) → IsLayout (sizes_of s).layout → All (λ (x : Seated). x.pass.setup ≡ sizes_of s) (map member_of ended) → All (HasWorked s) ended → IsFirstFault ended cause → Gathers (map member_of ended) image
+pub lab_ends : (s : Spec) (ended : List Done) (image : Image) (cause : LabFault) → IsLayout (sizes_of s).layout → All (λ (x : Seated). x.seat_view.setup ≡ sizes_of s) (map member_of ended) → All (HasWorked s) ended → IsFirstFault ended cause → Gathers (map member_of ended) image
     → IsLawfulImage image → EveryMessageWasSent → EveryCloseWasAsked → RunsShow → LoadsTell → NobodyRuins → EndsLab s cause
 lab_ends s ended image cause layout setups worked f g lawful was closes shows loads nobody = by f.done.ending has.1 f.cause_is
   where
@@ -92,14 +92,14 @@ lab_ends s ended image cause layout setups worked f g lawful was closes shows lo
     has : HasWorked s f.done
     has = all_at (HasWorked s) f.front f.done f.back (subst (All (HasWorked s)) f.are worked)
 
-    setup : x.pass.setup ≡ z
-    setup = all_mapped member_of (λ (y : Seated). y.pass.setup ≡ z) f.front f.done f.back (subst (λ (ds : List Done). All (λ (y : Seated). y.pass.setup ≡ z) (map member_of ds)) f.are setups)
+    setup : x.seat_view.setup ≡ z
+    setup = all_mapped member_of (λ (y : Seated). y.seat_view.setup ≡ z) f.front f.done f.back (subst (λ (ds : List Done). All (λ (y : Seated). y.seat_view.setup ≡ z) (map member_of ds)) f.are setups)
 
-    below : x.pass.by < s.procs
-    below = subst (λ (u : Setup). x.pass.by < u.layout.procs) setup f.below
+    below : x.seat_view.by < s.procs
+    below = subst (λ (u : Setup). x.seat_view.by < u.layout.procs) setup f.below
 
-    same : g.first.pass.setup ≡ z
-    same = All-head (λ (y : Seated). y.pass.setup ≡ z) g.first g.others (subst (All (λ (y : Seated). y.pass.setup ≡ z)) g.are setups)
+    same : g.first.seat_view.setup ≡ z
+    same = All-head (λ (y : Seated). y.seat_view.setup ≡ z) g.first g.others (subst (All (λ (y : Seated). y.seat_view.setup ≡ z)) g.are setups)
 
     legal : IsRun z g.run
     legal = subst (λ (u : Setup). IsRun u g.run) same g.legal
@@ -107,7 +107,7 @@ lab_ends s ended image cause layout setups worked f g lawful was closes shows lo
     keeps : All (Keeps Q more g.first g.others (length g.others) g.run g.told) (g.first ∷ g.others)
     keeps = subst (All (Keeps Q more g.first g.others (length g.others) g.run g.told)) g.are (to_mapped member_of (Keeps Q more g.first g.others (length g.others) g.run g.told) (HasWorked s) ended (λ d h. h.0) worked)
 
-    starts : Starts x.pass.seen g.run
+    starts : Starts x.seat_view.seen g.run
     starts =
         let H = Holds Q more g.first g.others (length g.others) g.run g.told in
         let all : All H (map member_of ended) = subst (All H) (sym g.are) (all_hold Q more g.first g.others (length g.others) g.run g.told keeps) in
@@ -163,22 +163,22 @@ lab_ends s ended image cause layout setups worked f g lawful was closes shows lo
     same_fault : (one other : LabFault) → Some one ≡ Some other → one ≡ other
     same_fault one other is = cc
 
-    by : (e : Ending) → EndsSo s x e → fault_by x.pass.by e ≡ Some cause → EndsLab s cause
+    by : (e : WorkerEnd) → EndsSo s x e → fault_by x.seat_view.by e ≡ Some cause → EndsLab s cause
     by AllSent h is = absurd (cc)
-    by (Fault why) (inl spent) is =
-        subst (EndsLab s) (same_fault (Member x.pass.by why) cause is) (below, spent.0, (x.pass.seen, of_front x.pass.seen starts.0 starts.1, subst (λ (u : Setup). WasSpent u (own x.pass.by x.pass.seen)) setup spent.1))
-    by (Fault why) (inr ruin) is = absurd (none_read z x.pass.seen starts.0 x.pass.by layout (subst (IsRun z) starts.1 legal) (λ p low. subst (λ (es : List TakenStep). AreInOrder None (own p es)) starts.1 (ordered p low)) loads nobody ruin.1)
+    by (Fault purpose) (inl spent) is =
+        subst (EndsLab s) (same_fault (Member x.seat_view.by purpose) cause is) (below, spent.0, (x.seat_view.seen, of_front x.seat_view.seen starts.0 starts.1, subst (λ (u : Setup). WasSpent u (own x.seat_view.by x.seat_view.seen)) setup spent.1))
+    by (Fault purpose) (inr ruin) is = absurd (none_read z x.seat_view.seen starts.0 x.seat_view.by layout (subst (IsRun z) starts.1 legal) (λ p low. subst (λ (es : List TakenStep). AreInOrder None (own p es)) starts.1 (ordered p low)) loads nobody ruin.1)
     by (Refused reply) h is =
         let at = h.1.3 in
         let seq = h.1.0 in
         let rest = at.later ++ starts.0 in
         let split : g.run ≡ at.front ++ rest = starts.1 ∙ ap (λ (es : List TakenStep). es ++ starts.0) at.seen ∙ append_assoc at.front at.later starts.0 in
-        let tells : ReplyTells z.layout x.pass.by seq reply (judged_by z at.front).mail = subst (λ (u : Setup). ReplyTells u.layout x.pass.by seq reply (judged_by u at.front).mail) setup at.tells in
+        let tells : ReplyTells z.layout x.seat_view.by seq reply (judged_by z at.front).mail = subst (λ (u : Setup). ReplyTells u.layout x.seat_view.by seq reply (judged_by u at.front).mail) setup at.tells in
         elim h.0 [
           | inl full ↦
-              (let told = subst (λ (r : Reply). ReplyTells z.layout x.pass.by seq r (judged_by z at.front).mail) full tells in
-              subst (EndsLab s) (same_fault (Replied x.pass.by reply) cause is) (below, full, little_room s g.run at.front rest split layout legal sending w n numbered was shown room x.pass.by seq below h.1.1 h.1.2 told.0 told.1, (at.front, of_front at.front rest split, (seq, h.1.1, h.1.2, tells))))
+              (let told = subst (λ (r : Reply). ReplyTells z.layout x.seat_view.by seq r (judged_by z at.front).mail) full tells in
+              subst (EndsLab s) (same_fault (Replied x.seat_view.by reply) cause is) (below, full, little_room s g.run at.front rest split layout legal sending w n numbered was shown room x.seat_view.by seq below h.1.1 h.1.2 told.0 told.1, (at.front, of_front at.front rest split, (seq, h.1.1, h.1.2, tells))))
           | inr closed ↦
-              (let told = subst (λ (r : Reply). ReplyTells z.layout x.pass.by seq r (judged_by z at.front).mail) closed tells in
+              (let told = subst (λ (r : Reply). ReplyTells z.layout x.seat_view.by seq r (judged_by z at.front).mail) closed tells in
               absurd (never_closed s g.run at.front rest split layout legal sending closes told.0))
         ]

@@ -8,7 +8,7 @@ pub mod FastAppend
 pub mod CallCommon
 pub mod FastCalls
 pub mod Common
-pub mod Errands
+pub mod ScriptStates
 pub mod Appended
 pub mod Sending
 pub mod Failing

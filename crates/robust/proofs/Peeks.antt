@@ -1,14 +1,14 @@
 -- One more step of a scan.
 use Rattle.std.proofs.Common.{◌≡◌, ◌≢◌, ℕ, ◌+◌, ◌<◌, max, List, Some, refl, sym, ap, ◌∙◌, arith}
-use Rattle.robust.proofs.AccessCommon.{Load, Peek as Peeks, Number as NumberOf, access, Door, above, first_here, above_first, above_skip, Spot, standing, spot_now, Pass, Advances, free_spot, Way}
+use Rattle.robust.proofs.AccessCommon.{Load, Peek as Peeks, Number as NumberOf, access, Door, above, first_here, above_first, above_skip, ProcessState, standing, process_state_now, SeatView, Advances, free_process_state, Way}
 use Rattle.rmecore.proofs.MachineSteps.{door_goes}
-use Rattle.robust.proofs.FreeSteps.{stand_of, moves, way_then, way_to}
+use Rattle.robust.proofs.FreeSteps.{machine_state_of, moves, way_then, way_to}
 
 peek_next : (limit n p j m : ℕ) → j < n → j ≢ p → access limit p (Door (above n p j) m) ≡ Some (Load Peeks (NumberOf j))
 peek_next limit n p j m lt ne = ap (λ (js : List ℕ). access limit p (Door js m)) (above_first n p j j (first_here n p j lt ne))
 
 -- the numbers from j on are unread, and this is the greatest one read
-module _ (x y : Pass) (j m k : ℕ) (w : Way x k y (Door (above x.setup.layout.procs x.by j) m)) where
+module _ (x y : SeatView) (j m k : ℕ) (w : Way x k y (Door (above x.setup.layout.procs x.by j) m)) where
   -- the same others, by the view there
   others_there : (i : ℕ) → above x.setup.layout.procs x.by i ≡ above y.setup.layout.procs y.by i
   others_there i = λ n. above (sym w.same.0 n).layout.procs (sym w.same.1 n) i
@@ -20,12 +20,12 @@ module _ (x y : Pass) (j m k : ℕ) (w : Way x k y (Door (above x.setup.layout.p
     other : j ≢ y.by
     other = λ e. ne (e ∙ w.same.1)
 
-    pub peeked : (z : Pass) (v : ℕ) → Advances y Peeks (NumberOf j) v z → Way x (k + 1) z (Door (above x.setup.layout.procs x.by (j + 1)) (max m v))
+    pub peeked : (z : SeatView) (v : ℕ) → Advances y Peeks (NumberOf j) v z → Way x (k + 1) z (Door (above x.setup.layout.procs x.by (j + 1)) (max m v))
     peeked z v adv =
         let n = y.setup.layout.procs in
-        let b = (spot_now y).mended in
-        let at : spot_now y ≡ free_spot (Door (above n y.by j) m) b = w.at ∙ (λ i. free_spot (Door (others_there j i) m) (sym (ap (λ (q : Spot). q.mended) w.at) i)) in
-        let to = door_goes (standing (stand_of y (Door (above n y.by j) m) b)) j m j v (first_here n y.by j below other) in
+        let b = (process_state_now y).mended in
+        let at : process_state_now y ≡ free_process_state (Door (above n y.by j) m) b = w.at ∙ (λ i. free_process_state (Door (others_there j i) m) (sym (ap (λ (q : ProcessState). q.mended) w.at) i)) in
+        let to = door_goes (standing (machine_state_of y (Door (above n y.by j) m) b)) j m j v (first_here n y.by j below other) in
         let step = moves y z (Door (above n y.by j) m) (Door (above n y.by (j + 1)) (max m v)) (Load Peeks (NumberOf j)) v at (peek_next y.setup.limit n y.by j m below other) adv to refl refl refl refl in
         way_to x z (k + 1) (k + 1) (Door (above n y.by (j + 1)) (max m v)) (Door (above x.setup.layout.procs x.by (j + 1)) (max m v)) refl (ap (λ (js : List ℕ). Door js (max m v)) (sym (others_there (j + 1)))) (way_then w step)
 

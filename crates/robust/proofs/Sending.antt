@@ -3,7 +3,7 @@ use Rattle.std.proofs.Common.{◌≡◌, ◌⊎◌, ℕ, List, [], ◌∷◌, �
 use Rattle.robust.proofs.Common.{All-nil, All-cons, All-append, Reply, Answer, Call, Append, Lock, Unlock, Consistent, TakenStep, Entry as Entering, LockFault, starts, ready, CutBy, Calls, own_of}
 use Rattle.robust.proofs.Common.{Seated, began, own, WholeEnds, calls_inside, AppendFails, Comes, IsFront, IsWithin, all_left, own-append, OfStart, IsSending, AreSending, SendsOnly}
 use Rattle.execution.specs.declared.entry_kind.Entry.TheVariants as entering
-use Rattle.robust.proofs.Errands.{each_start}
+use Rattle.robust.proofs.ScriptStates.{each_start}
 use Rattle.robust.proofs.Working.{kept_ready}
 
 -- the calls of a whole mailbox call
@@ -41,27 +41,27 @@ module _ (P : Call → Type 0) (task : Call) (lock : P Lock) (unlock : P Unlock)
   all_cut mine (inr h) = all_within (starts mine) h
 
 module _ (width k : ℕ) where
-  sends_calls : (x y : Seated) (mine : List TakenStep) → Calls x.pass mine y.pass → AreSending width k x.pass.by mine → SendsOnly width k x → SendsOnly width k y
+  sends_calls : (x y : Seated) (mine : List TakenStep) → Calls x.seat_view mine y.seat_view → AreSending width k x.seat_view.by mine → SendsOnly width k x → SendsOnly width k y
   sends_calls x y mine c new old =
-      let own_are : own_of y.pass ≡ own_of x.pass ++ mine =
-      ap (λ (p : ℕ). own p y.pass.seen) c.by ∙ ap (own x.pass.by) c.seen ∙ own-append x.pass.by x.pass.seen c.since ∙ ap (λ (l : List TakenStep). own_of x.pass ++ l) c.mine_are in
-      subst (λ (u : ℕ × List TakenStep). AreSending width k u.0 u.1) (λ i. (sym c.by i, sym own_are i)) (All-append (λ (e : TakenStep). OfStart (IsSending width k x.pass.by) e.step.start) (own_of x.pass) mine old new)
+      let own_are : own_of y.seat_view ≡ own_of x.seat_view ++ mine =
+      ap (λ (p : ℕ). own p y.seat_view.seen) c.by ∙ ap (own x.seat_view.by) c.seen ∙ own-append x.seat_view.by x.seat_view.seen c.since ∙ ap (λ (l : List TakenStep). own_of x.seat_view ++ l) c.mine_are in
+      subst (λ (u : ℕ × List TakenStep). AreSending width k u.0 u.1) (λ i. (sym c.by i, sym own_are i)) (All-append (λ (e : TakenStep). OfStart (IsSending width k x.seat_view.by) e.step.start) (own_of x.seat_view) mine old new)
 
-  module _ (x y : Seated) (seq : ℕ) (value : List ℕ) (a b c d : ℕ) (fits : IsSending width k x.pass.by (Append seq value)) (old : SendsOnly width k x) where
+  module _ (x y : Seated) (seq : ℕ) (value : List ℕ) (a b c d : ℕ) (fits : IsSending width k x.seat_view.by (Append seq value)) (old : SendsOnly width k x) where
     abbrev z : Seated
     z = began (ready x) Lock
 
-    same : (own_of z.pass ≡ own_of x.pass) × (z.pass.by ≡ x.pass.by)
-    same = (kept_ready (λ (u : Seated). own_of u.pass) x refl, kept_ready (λ (u : Seated). u.pass.by) x refl)
+    same : (own_of z.seat_view ≡ own_of x.seat_view) × (z.seat_view.by ≡ x.seat_view.by)
+    same = (kept_ready (λ (u : Seated). own_of u.seat_view) x refl, kept_ready (λ (u : Seated). u.seat_view.by) x refl)
 
     outset : SendsOnly width k z
     outset = subst (λ (u : ℕ × List TakenStep). AreSending width k u.0 u.1) (λ i. (sym same.1 i, sym same.0 i)) old
 
-    sends : IsSending width k z.pass.by (Append seq value)
+    sends : IsSending width k z.seat_view.by (Append seq value)
     sends = subst (λ (p : ℕ). IsSending width k p (Append seq value)) (sym same.1) fits
 
     abbrev P : Call → Type 0
-    P = IsSending width k z.pass.by
+    P = IsSending width k z.seat_view.by
 
     sends_whole : (turns : ℕ) (r : Result Reply LockFault) → WholeEnds z turns (Append seq value) r y a b c d → SendsOnly width k y
     sends_whole turns r h =

@@ -8,42 +8,42 @@ use Rattle.execution.proofs.Turned.{answers-append}
 use Rattle.execution.specs.declared.lock_fault.LockFault.TheVariants.{NumbersSpent, NotRecoverable}
 
 -- a call with this answer
-served_spent : (x y : Seated) (order : List Call) (answers : List Answer) (blocked : ℕ) (mine : List TakenStep) → ServedAll (began (ready x) Lock) order answers blocked y mine → answers ≡ SpentAnswer ∷ [] → WasSpent y.pass.setup (own_of y.pass)
-served_spent x y order answers blocked mine served is = subst (WasSpent s) (sym own_y) (answers_from s at_rest (own_of x.pass), [], answers-append s at_rest (own_of x.pass) mine ∙ ap (λ (l : List Answer). answers_from s at_rest (own_of x.pass) ++ l) here)
+served_spent : (x y : Seated) (order : List Call) (answers : List Answer) (blocked : ℕ) (mine : List TakenStep) → ServedAll (began (ready x) Lock) order answers blocked y mine → answers ≡ SpentAnswer ∷ [] → WasSpent y.seat_view.setup (own_of y.seat_view)
+served_spent x y order answers blocked mine served is = subst (WasSpent s) (sym own_y) (answers_from s at_rest (own_of x.seat_view), [], answers-append s at_rest (own_of x.seat_view) mine ∙ ap (λ (l : List Answer). answers_from s at_rest (own_of x.seat_view) ++ l) here)
   where
     s : Setup
-    s = y.pass.setup
+    s = y.seat_view.setup
 
-    own_y : own_of y.pass ≡ own_of x.pass ++ mine
+    own_y : own_of y.seat_view ≡ own_of x.seat_view ++ mine
     own_y = own_now x y mine served.calls
 
-    was : own_of (began (ready x) Lock).pass ≡ own_of x.pass
-    was = kept_ready (λ (u : Seated). own_of u.pass) x refl
+    was : own_of (began (ready x) Lock).seat_view ≡ own_of x.seat_view
+    was = kept_ready (λ (u : Seated). own_of u.seat_view) x refl
 
-    here : answers_from y.pass.setup (gone y.pass.setup at_rest (spelled (own_of x.pass))) mine ≡ SpentAnswer ∷ []
+    here : answers_from y.seat_view.setup (gone y.seat_view.setup at_rest (spelled (own_of x.seat_view))) mine ≡ SpentAnswer ∷ []
     here = subst (λ (t : Setup × List TakenStep). answers_from t.0 (gone t.0 at_rest (spelled t.1)) mine ≡ SpentAnswer ∷ []) (λ i. (sym served.calls.setup i, was i)) (served.answered ∙ is)
 
 module _ (x y : Seated) (seq : ℕ) (value : List ℕ) (a b c d : ℕ) where
-  whole_spent : (turns : ℕ) (e : LockFault) → e ≡ NumbersSpent → WholeEnds (began (ready x) Lock) turns (Append seq value) (Err e) y a b c d → WasSpent y.pass.setup (own_of y.pass)
+  whole_spent : (turns : ℕ) (e : LockFault) → e ≡ NumbersSpent → WholeEnds (began (ready x) Lock) turns (Append seq value) (Err e) y a b c d → WasSpent y.seat_view.setup (own_of y.seat_view)
   whole_spent turns e is h = by h.3
     where
-      by : Comes turns (Append seq value) (Err e) h.0 h.1 h.2 → WasSpent y.pass.setup (own_of y.pass)
+      by : Comes turns (Append seq value) (Err e) h.0 h.1 h.2 → WasSpent y.seat_view.setup (own_of y.seat_view)
       by (inl k) = absurd (let late : NotYet ≡ NumbersSpent = sym k.0 ∙ is in cc)
       by (inr (few, inl k)) = served_spent x y h.0 h.1 h.2 h.4.0 h.4.1 k.2
       by (inr (few, inr (inl k))) = absurd (let ruined : NotRecoverable ≡ NumbersSpent = sym k.0 ∙ is in cc)
       by (inr (few, inr (inr k))) = absurd (let ruined : NotRecoverable ≡ NumbersSpent = sym k.0 ∙ is in cc)
 
-  fails_spent : (turns : ℕ) (e : LockFault) → e ≡ NumbersSpent → AppendFails x turns seq value y a b c d e → WasSpent y.pass.setup (own_of y.pass)
+  fails_spent : (turns : ℕ) (e : LockFault) → e ≡ NumbersSpent → AppendFails x turns seq value y a b c d e → WasSpent y.seat_view.setup (own_of y.seat_view)
   fails_spent turns e is (inl h) = absurd (let k = h.0 in cc)
   fails_spent turns e is (inr (wide, inl h)) = absurd (let k = h.0 in cc)
   fails_spent turns e is (inr (wide, inr (may, inl h))) = absurd (let k = h.0 in cc)
   fails_spent turns e is (inr (wide, inr (may, inr h))) = whole_spent turns e is h
 
-  pub append_spent : (r : Result Reply LockFault) (e : LockFault) → r ≡ Err e → e ≡ NumbersSpent → IfErr r (λ e. (turns : ℕ) × AppendFails x turns seq value y a b c d e) → WasSpent y.pass.setup (own_of y.pass)
+  pub append_spent : (r : Result Reply LockFault) (e : LockFault) → r ≡ Err e → e ≡ NumbersSpent → IfErr r (λ e. (turns : ℕ) × AppendFails x turns seq value y a b c d e) → WasSpent y.seat_view.setup (own_of y.seat_view)
   append_spent (Ok reply) e is spent h = absurd (cc)
   append_spent (Err f) e is spent h = fails_spent h.0 f (let same : f ≡ e = cc in same ∙ spent) h.1
 
-pub faulted : (why : LockFault) (z : Setup) (es : List TakenStep) → (why ≡ NumbersSpent) ⊎ (why ≡ NotRecoverable) → (why ≡ NumbersSpent → WasSpent z es) → (why ≡ NotRecoverable → HasReadRuin es)
-    → ((why ≡ NumbersSpent) × WasSpent z es) ⊎ ((why ≡ NotRecoverable) × HasReadRuin es)
-faulted why z es (inl spent) told read = inl (spent, told spent)
-faulted why z es (inr ruined) told read = inr (ruined, read ruined)
+pub faulted : (purpose : LockFault) (z : Setup) (es : List TakenStep) → (purpose ≡ NumbersSpent) ⊎ (purpose ≡ NotRecoverable) → (purpose ≡ NumbersSpent → WasSpent z es) → (purpose ≡ NotRecoverable → HasReadRuin es)
+    → ((purpose ≡ NumbersSpent) × WasSpent z es) ⊎ ((purpose ≡ NotRecoverable) × HasReadRuin es)
+faulted purpose z es (inl spent) told read = inl (spent, told spent)
+faulted purpose z es (inr ruined) told read = inr (ruined, read ruined)

@@ -1,17 +1,17 @@
 -- In a run whose processes all start their calls as workers do, nobody ruins the lock.
 use Rattle.std.proofs.Common.{◌≡◌, ℕ, zero, suc, ◌<◌, ◌==◌, Bool, true, false, ◌⊎◌, List, [], ◌∷◌, ◌++◌, length, Option, Some, None, IsSome, All, refl, sym, ap, ◌∙◌, subst, inl, inr, arith, append_assoc, append-nil, length-append, eq-eqb}
-use Rattle.robust.proofs.Common.{cases_eq, All-nil, All-cons, Kind, Word, Layout, IsLayout, Call, Unlock, EveryRuinWasAsked, IsLeftUnmended, Happening, Begins, Falls, Spot, at_rest, next_spot, who}
-use Rattle.robust.proofs.Common.{Scene, at_first, last_scene, Story, onward, reading, TakenStep, Setup, cells_of, LoadsTell, AreInOrder, NobodyRuins, HasReadRuin, last_call, last_of, settles}
-use Rattle.robust.proofs.Common.{MayStart, before, taken, happenings, spelled, own, IsRun, end_of, spot_of, crash_first, Goes, by_kind, own-append, spelled-append, legal_front, spot_in_run}
+use Rattle.robust.proofs.Common.{cases_eq, All-nil, All-cons, Kind, Word, Layout, IsLayout, Call, Unlock, EveryRuinWasAsked, IsLeftUnmended, WorldEvent, Begins, Falls, ProcessState, at_rest, next_process_state, who}
+use Rattle.robust.proofs.Common.{GlobalState, at_first, last_global_state, Execution, onward, reading, TakenStep, Setup, cells_of, LoadsTell, AreInOrder, NobodyRuins, HasReadRuin, last_call, last_of, settles}
+use Rattle.robust.proofs.Common.{MayStart, before, taken, world_events, spelled, own, IsRun, end_of, process_state_of, crash_first, Goes, by_kind, own-append, spelled-append, legal_front, process_state_in_run}
 use Rattle.execution.proofs.OneStep.{run_goes, goes_back}
-use Rattle.robust.proofs.Errands.{none_in}
+use Rattle.robust.proofs.ScriptStates.{none_in}
 use Rattle.robust.proofs.Appended.{Own, own_split, own_taken, all_at}
 use Rattle.execution.proofs.Ruins.{walk, unlocks_mended}
 
 -- the events of an execution are those of its processes
-pub story_within : (l : Layout) (limit : ℕ) (w : Scene) (hs : List Happening) → Story l limit w hs → All (λ (h : Happening). who h < l.procs) hs
-story_within l limit w [] story = All-nil _
-story_within l limit w (h ∷ hs) story = All-cons (λ (x : Happening). who x < l.procs) h hs story.0.0 (story_within l limit (onward l limit w h) hs story.1)
+pub execution_within : (l : Layout) (limit : ℕ) (w : GlobalState) (hs : List WorldEvent) → Execution l limit w hs → All (λ (h : WorldEvent). who h < l.procs) hs
+execution_within l limit w [] execution = All-nil _
+execution_within l limit w (h ∷ hs) execution = All-cons (λ (x : WorldEvent). who x < l.procs) h hs execution.0.0 (execution_within l limit (onward l limit w h) hs execution.1)
 
 -- the place of one list's element in two lists
 cut_at : {A : Type 0} (xs ys front : List A) (h : A) (back : List A) → xs ++ ys ≡ front ++ h ∷ back → ((mid : List A) × (xs ≡ front ++ h ∷ mid)) ⊎ ((mid : List A) × (front ≡ xs ++ mid) × (ys ≡ mid ++ h ∷ back))
@@ -26,7 +26,7 @@ cut_at (x ∷ xs) ys (f ∷ fs) h back e =
     ]
 
 -- the entry that begins this call
-pub record Beginning (p : ℕ) (call : Call) (es : List TakenStep) (front : List Happening) : Type 0 where
+pub record Beginning (p : ℕ) (call : Call) (es : List TakenStep) (front : List WorldEvent) : Type 0 where
   pub earlier : List TakenStep
   pub entry : TakenStep
   pub later : List TakenStep
@@ -35,7 +35,7 @@ pub record Beginning (p : ℕ) (call : Call) (es : List TakenStep) (front : List
   pub starts : entry.step.start ≡ Some call
   pub front_is : front ≡ spelled earlier ++ crash_first entry.step.crashed entry.by
 
-in_before : (c : Bool) (o : Option Call) (q p : ℕ) (call : Call) (front mid : List Happening) → before c o q ≡ front ++ Begins p call ∷ mid → (q ≡ p) × (o ≡ Some call) × (front ≡ crash_first c q)
+in_before : (c : Bool) (o : Option Call) (q p : ℕ) (call : Call) (front mid : List WorldEvent) → before c o q ≡ front ++ Begins p call ∷ mid → (q ≡ p) × (o ≡ Some call) × (front ≡ crash_first c q)
 in_before false None q p call front mid e = absurd (none_in (Begins p call) front mid e)
 in_before false (Some c) q p call [] mid e = let same : Begins q c ≡ Begins p call = cc in let a : q ≡ p = cc in let b : c ≡ call = cc in (a, ap Some b, refl)
 in_before false (Some c) q p call (f ∷ fs) mid e = absurd (none_in (Begins p call) fs mid (let k : Begins q c ∷ [] ≡ f ∷ (fs ++ Begins p call ∷ mid) = e in cc))
@@ -49,28 +49,28 @@ in_before true (Some c) q p call (f ∷ []) mid e =
     let first : f ≡ Falls q = cc in (a, ap Some b, ap (λ x. x ∷ []) first)
 in_before true (Some c) q p call (f ∷ g ∷ fs) mid e = absurd (none_in (Begins p call) fs mid (let k : Falls q ∷ Begins q c ∷ [] ≡ f ∷ g ∷ (fs ++ Begins p call ∷ mid) = e in cc))
 
-not_taken : (p q : ℕ) (call : Call) (kind : Kind) (word : Word) (v : ℕ) (mid back : List Happening) → taken q kind word v ∷ [] ≡ mid ++ Begins p call ∷ back → ⊥
+not_taken : (p q : ℕ) (call : Call) (kind : Kind) (word : Word) (v : ℕ) (mid back : List WorldEvent) → taken q kind word v ∷ [] ≡ mid ++ Begins p call ∷ back → ⊥
 not_taken p q call kind word v [] back e =
     by_kind (λ k h. h ∷ [] ≡ Begins p call ∷ back → ⊥) q word v (λ k. absurd (cc)) (λ kd k. absurd (cc)) kind e
 not_taken p q call kind word v (m ∷ ms) back e = absurd (none_in (Begins p call) ms back (let k : taken q kind word v ∷ [] ≡ m ∷ (ms ++ Begins p call ∷ back) = e in cc))
 
-begun_at : (p : ℕ) (call : Call) (es : List TakenStep) (front back : List Happening) → spelled es ≡ front ++ Begins p call ∷ back → Beginning p call es front
+begun_at : (p : ℕ) (call : Call) (es : List TakenStep) (front back : List WorldEvent) → spelled es ≡ front ++ Begins p call ∷ back → Beginning p call es front
 begun_at p call [] front back e = absurd (none_in (Begins p call) front back e)
-begun_at p call (x ∷ es) front back e = by (cut_at (happenings x) (spelled es) front (Begins p call) back e) (λ mid rest. begun_at p call es mid back rest)
+begun_at p call (x ∷ es) front back e = by (cut_at (world_events x) (spelled es) front (Begins p call) back e) (λ mid rest. begun_at p call es mid back rest)
   where
-    hs : List Happening
+    hs : List WorldEvent
     hs = before x.step.crashed x.step.start x.by
 
-    t : Happening
+    t : WorldEvent
     t = taken x.by x.step.kind x.step.word x.value
 
-    here : (mid : List Happening) → happenings x ≡ front ++ Begins p call ∷ mid → Beginning p call (x ∷ es) front
+    here : (mid : List WorldEvent) → world_events x ≡ front ++ Begins p call ∷ mid → Beginning p call (x ∷ es) front
     here mid k = elim (cut_at hs (t ∷ []) front (Begins p call) mid k) [
       | inl first ↦ (let b = in_before x.step.crashed x.step.start x.by p call front first.0 first.1 in record { earlier = []; entry = x; later = es; is = refl; by = b.0; starts = b.1; front_is = b.2 })
       | inr last ↦ absurd (not_taken p x.by call x.step.kind x.step.word x.value last.0 mid last.2)
     ]
 
-    by : ((mid : List Happening) × (happenings x ≡ front ++ Begins p call ∷ mid)) ⊎ ((mid : List Happening) × (front ≡ happenings x ++ mid) × (spelled es ≡ mid ++ Begins p call ∷ back)) → ((mid : List Happening) → spelled es ≡ mid ++ Begins p call ∷ back → Beginning p call es mid)
+    by : ((mid : List WorldEvent) × (world_events x ≡ front ++ Begins p call ∷ mid)) ⊎ ((mid : List WorldEvent) × (front ≡ world_events x ++ mid) × (spelled es ≡ mid ++ Begins p call ∷ back)) → ((mid : List WorldEvent) → spelled es ≡ mid ++ Begins p call ∷ back → Beginning p call es mid)
         → Beginning p call (x ∷ es) front
     by (inl first) on = here first.0 first.1
     by (inr later) on =
@@ -82,7 +82,7 @@ begun_at p call (x ∷ es) front back e = by (cut_at (happenings x) (spelled es)
           is = ap (λ (l : List TakenStep). x ∷ l) b.is;
           by = b.by;
           starts = b.starts;
-          front_is = later.1 ∙ ap (λ (l : List Happening). happenings x ++ l) b.front_is ∙ sym (append_assoc (happenings x) (spelled b.earlier) (crash_first b.entry.step.crashed b.entry.by));
+          front_is = later.1 ∙ ap (λ (l : List WorldEvent). world_events x ++ l) b.front_is ∙ sym (append_assoc (world_events x) (spelled b.earlier) (crash_first b.entry.step.crashed b.entry.by));
         }
 
 order_front : (last : Option Call) (xs ys : List TakenStep) → AreInOrder last (xs ++ ys) → AreInOrder last xs
@@ -105,14 +105,14 @@ module _ (s : Setup) (layout : IsLayout s.layout) (asked : EveryRuinWasAsked) (l
   left es p run ordered u before_it =
       elim (walk s None at_rest (own p b.earlier) (refl, λ e. absurd (cc)) (order_front None (own p b.earlier) (b.entry ∷ own p b.later) mine) (run_goes s b.earlier p earlier_run)) [
         | inl ruin ↦ ruined ruin
-        | inr stands ↦ unlocks_mended s (last_of None (own p b.earlier)) (spot_of s p b.earlier) p stands may.1 begins unmended
+        | inr stands ↦ unlocks_mended s (last_of None (own p b.earlier)) (process_state_of s p b.earlier) p stands may.1 begins unmended
       ]
     where
       b : Beginning p Unlock es u.front
       b = begun_at p Unlock es u.front u.back u.split
 
       below : p < s.layout.procs
-      below = all_at (λ (h : Happening). who h < s.layout.procs) u.front (Begins p Unlock) u.back (subst (All (λ (h : Happening). who h < s.layout.procs)) u.split (story_within s.layout s.limit at_first (spelled es) run))
+      below = all_at (λ (h : WorldEvent). who h < s.layout.procs) u.front (Begins p Unlock) u.back (subst (All (λ (h : WorldEvent). who h < s.layout.procs)) u.split (execution_within s.layout s.limit at_first (spelled es) run))
 
       same : (b.entry.by == p) ≡ true
       same = eq-eqb b.entry.by p b.by
@@ -129,23 +129,23 @@ module _ (s : Setup) (layout : IsLayout s.layout) (asked : EveryRuinWasAsked) (l
       earlier_run : IsRun s b.earlier
       earlier_run = legal_front s b.earlier (b.entry ∷ b.later) (subst (IsRun s) b.is run)
 
-      goes : Goes s (spot_of s p b.earlier) (happenings b.entry ++ spelled (own p b.later))
+      goes : Goes s (process_state_of s p b.earlier) (world_events b.entry ++ spelled (own p b.later))
       goes =
           let all = run_goes s es p run in
-          let parts : spelled (own p es) ≡ spelled (own p b.earlier) ++ (happenings b.entry ++ spelled (own p b.later)) = ap spelled owns ∙ spelled-append (own p b.earlier) (b.entry ∷ own p b.later) in
-          goes_back s at_rest (spelled (own p b.earlier)) (happenings b.entry ++ spelled (own p b.later)) (subst (Goes s at_rest) parts all)
+          let parts : spelled (own p es) ≡ spelled (own p b.earlier) ++ (world_events b.entry ++ spelled (own p b.later)) = ap spelled owns ∙ spelled-append (own p b.earlier) (b.entry ∷ own p b.later) in
+          goes_back s at_rest (spelled (own p b.earlier)) (world_events b.entry ++ spelled (own p b.later)) (subst (Goes s at_rest) parts all)
 
-      begins : IsSome (next_spot s.layout s.limit (spot_of s p b.earlier) (Begins p Unlock))
+      begins : IsSome (next_process_state s.layout s.limit (process_state_of s p b.earlier) (Begins p Unlock))
       begins =
           let x = b.entry in
           let t = taken x.by x.step.kind x.step.word x.value in
-          let G : Bool × Option Call × ℕ → Type 0 = λ (w : Bool × Option Call × ℕ). Goes s (spot_of s p b.earlier) ((before w.0 w.1 w.2 ++ t ∷ []) ++ spelled (own p b.later)) in
+          let G : Bool × Option Call × ℕ → Type 0 = λ (w : Bool × Option Call × ℕ). Goes s (process_state_of s p b.earlier) ((before w.0 w.1 w.2 ++ t ∷ []) ++ spelled (own p b.later)) in
           let at : G (false, Some Unlock, p) = subst G (λ i. (may.0 i, b.starts i, b.by i)) goes in at.0
 
-      unmended : (spot_of s p b.earlier).mended ≡ false
+      unmended : (process_state_of s p b.earlier).mended ≡ false
       unmended =
           let front : u.front ≡ spelled b.earlier = b.front_is ∙ ap (λ (c : Bool). spelled b.earlier ++ crash_first c b.entry.by) may.0 ∙ append-nil (spelled b.earlier) in
-          sym (ap (λ (q : Spot). q.mended) (ap (λ (hs : List Happening). (last_scene s.layout s.limit at_first hs).spots p) front ∙ spot_in_run s b.earlier p)) ∙ u.unmended
+          sym (ap (λ (q : ProcessState). q.mended) (ap (λ (hs : List WorldEvent). (last_global_state s.layout s.limit at_first hs).process_states p) front ∙ process_state_in_run s b.earlier p)) ∙ u.unmended
 
       ruined : HasReadRuin (own p b.earlier) → ⊥
       ruined r =

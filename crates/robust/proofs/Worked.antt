@@ -22,11 +22,11 @@ module _ (P : Seat → Type 0) where
 
 has_seat : (p : ℕ) (xs : List Seated) → has_member p xs ≡ has p (map (λ (z : Seat). z.2) (seats_of xs))
 has_seat p [] = refl
-has_seat p (x ∷ xs) = ap (λ (b : Bool). (x.pass.by == p) || b) (has_seat p xs)
+has_seat p (x ∷ xs) = ap (λ (b : Bool). (x.seat_view.by == p) || b) (has_seat p xs)
 
-procs_are : (s : Setup) (xs : List Seated) → All (λ (x : Seated). x.pass.setup ≡ s) xs → (xs ≡ [] → ⊥) → procs_of xs ≡ s.layout.procs
+procs_are : (s : Setup) (xs : List Seated) → All (λ (x : Seated). x.seat_view.setup ≡ s) xs → (xs ≡ [] → ⊥) → procs_of xs ≡ s.layout.procs
 procs_are s [] all some = absurd (some refl)
-procs_are s (x ∷ xs) all some = ap (λ (u : Setup). u.layout.procs) (All-head (λ (x : Seated). x.pass.setup ≡ s) x xs all)
+procs_are s (x ∷ xs) all some = ap (λ (u : Setup). u.layout.procs) (All-head (λ (x : Seated). x.seat_view.setup ≡ s) x xs all)
 
 -- all members of a new arena
 module _ (t : TableId) (s : Setup) where
@@ -44,11 +44,11 @@ module _ (t : TableId) (s : Setup) where
   length_fresh = length-counted (fresh_member t s) s.layout.procs
 
   module _ (xs : List Seated) (e : seats_of xs ≡ seats_of (fresh_members t s)) where
-    pub all_setups : All (λ (x : Seated). x.pass.setup ≡ s) xs
-    all_setups = same_seats (λ (z : Seat). z.1 ≡ s) xs (fresh_members t s) e (all_fresh (λ (x : Seated). x.pass.setup ≡ s) (λ p. refl))
+    pub all_setups : All (λ (x : Seated). x.seat_view.setup ≡ s) xs
+    all_setups = same_seats (λ (z : Seat). z.1 ≡ s) xs (fresh_members t s) e (all_fresh (λ (x : Seated). x.seat_view.setup ≡ s) (λ p. refl))
 
     pub one_arena : OneArena xs
-    one_arena = (t, same_seats (λ (z : Seat). z.0 ≡ t) xs (fresh_members t s) e (all_fresh (λ (x : Seated). x.pass.table ≡ t) (λ p. refl)))
+    one_arena = (t, same_seats (λ (z : Seat). z.0 ≡ t) xs (fresh_members t s) e (all_fresh (λ (x : Seated). x.seat_view.table ≡ t) (λ p. refl)))
 
     some_there : 0 < s.layout.procs → xs ≡ [] → ⊥
     some_there some none =

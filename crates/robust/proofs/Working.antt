@@ -1,6 +1,6 @@
 -- A worker's calls keep its seat.
 use Rattle.std.proofs.Common.{◌≡◌, ℕ, ◌+◌, ◌<◌, Bool, true, false, if◌then◌else◌, List, Result, Ok, Err, IfOk, IfErr, refl, sym, ap, ◌∙◌, subst, inl, inr, arith}
-use Rattle.robust.proofs.Common.{TableId, Reply, Call, Append, Lock, is_idle, TakenStep, LockFault, Setup, ready, spot_now, Calls, Seated, fell, began, WholeEnds, AppendFails, WholeFails, words_sent}
+use Rattle.robust.proofs.Common.{TableId, Reply, Call, Append, Lock, is_idle, TakenStep, LockFault, Setup, ready, process_state_now, Calls, Seated, fell, began, WholeEnds, AppendFails, WholeFails, words_sent}
 use Rattle.robust.proofs.Common.{IsSending, seat_of}
 
 either : {A : Type 0} (f : Seated → A) (b : Bool) (x : Seated) → f (fell x) ≡ f x → f (if b then x else fell x) ≡ f x
@@ -9,12 +9,12 @@ either f false x same = same
 
 -- what a crash keeps is kept by `ready`
 pub kept_ready : {A : Type 0} (f : Seated → A) (x : Seated) → f (fell x) ≡ f x → f (ready x) ≡ f x
-kept_ready f x same = either f (is_idle (spot_now x.pass)) x same
+kept_ready f x same = either f (is_idle (process_state_now x.seat_view)) x same
 
 begun_seat : (x : Seated) → seat_of (began (ready x) Lock) ≡ seat_of x
 begun_seat x = kept_ready seat_of x refl
 
-calls_seat : (x y : Seated) (mine : List TakenStep) → Calls x.pass mine y.pass → seat_of y ≡ seat_of x
+calls_seat : (x y : Seated) (mine : List TakenStep) → Calls x.seat_view mine y.seat_view → seat_of y ≡ seat_of x
 calls_seat x y mine c = λ i. (c.table i, c.setup i, c.by i)
 
 whole_seat : (x : Seated) (turns : ℕ) (task : Call) (r : Result Reply LockFault) (y : Seated) (a b c d : ℕ) → WholeEnds (began (ready x) Lock) turns task r y a b c d → seat_of y ≡ seat_of x
@@ -45,9 +45,9 @@ mail_seat x y task a b c d (Ok reply) h k = whole_seat x h.0 task (Ok reply) y a
 mail_seat x y task a b c d (Err e) h k = fails_seat x k.0 task y a b c d e k.1
 
 -- the same seat sends the same
-pub fits_seat : (width k : ℕ) (x y : Seated) (seq : ℕ) (value : List ℕ) → seat_of x ≡ seat_of y → IsSending width k y.pass.by (Append seq value) → IsSending width k x.pass.by (Append seq value)
+pub fits_seat : (width k : ℕ) (x y : Seated) (seq : ℕ) (value : List ℕ) → seat_of x ≡ seat_of y → IsSending width k y.seat_view.by (Append seq value) → IsSending width k x.seat_view.by (Append seq value)
 fits_seat width k x y seq value same fits = subst (λ (p : ℕ). IsSending width k p (Append seq value)) (ap (λ (s : TableId × Setup × ℕ). s.2) (sym same)) fits
 
-pub sends_value : (x y : Seated) (p seq width k : ℕ) (value : List ℕ) → seat_of x ≡ seat_of y → p ≡ y.pass.by → seq < k + 1 → value ≡ words_sent p seq width → IsSending width k x.pass.by (Append seq value)
+pub sends_value : (x y : Seated) (p seq width k : ℕ) (value : List ℕ) → seat_of x ≡ seat_of y → p ≡ y.seat_view.by → seq < k + 1 → value ≡ words_sent p seq width → IsSending width k x.seat_view.by (Append seq value)
 sends_value x y p seq width k value same is few words =
     subst (λ (q : ℕ). IsSending width k q (Append seq value)) (is ∙ ap (λ (s : TableId × Setup × ℕ). s.2) (sym same)) (omega (arith, few), words)

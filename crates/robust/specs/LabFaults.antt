@@ -5,7 +5,7 @@ use Rattle.redomail.specs.declared.reply.Reply.TheVariants.{Full, Closed}
 use Rattle.rmeworld.specs.Sent.{ReplyTells}
 use Rattle.rmeworld.specs.declared.answer.Answer.{Answer}
 use Rattle.rmeworld.specs.declared.answer.Answer.TheVariants.{NumbersSpent as SpentAnswer}
-use Rattle.rmeworld.specs.Spot.{at_rest}
+use Rattle.rmeworld.specs.ProcessState.{at_rest}
 use Rattle.execution.specs.declared.entry.TakenStep.{TakenStep}
 use Rattle.execution.specs.declared.setup.Setup.{Setup}
 use Rattle.execution.specs.declared.lock_fault.LockFault.TheVariants as fault
@@ -13,13 +13,13 @@ use Rattle.one_lock.specs.declared.lab.lab_fault.LabFault.{LabFault}
 use Rattle.one_lock.specs.declared.lab.lab_fault.LabFault.TheVariants.{BadSpec, OutOfMemory, Member, Reply as Replied}
 use Rattle.one_lock.specs.declared.lab.spec.Spec.{Spec}
 use Rattle.robust.specs.declared.lab.worker.Done.{Done}
-use Rattle.one_lock.specs.declared.lab.ending.Ending.{Ending}
-use Rattle.one_lock.specs.declared.lab.ending.Ending.TheVariants.{AllSent, Fault, Refused}
+use Rattle.one_lock.specs.declared.lab.ending.WorkerEnd.{WorkerEnd}
+use Rattle.one_lock.specs.declared.lab.ending.WorkerEnd.TheVariants.{AllSent, Fault, Refused}
 use Rattle.one_lock.specs.Endings.{fault_by}
 use Rattle.one_lock.specs.Lab.{setup_of}
 use Rattle.execution.specs.Calls.{answers_from}
 use Rattle.execution.specs.Headline.{judged_by}
-use Rattle.execution.specs.Pass.{own_of}
+use Rattle.execution.specs.SeatView.{own_of}
 use Rattle.execution.specs.Ruins.{HasReadRuin}
 use Rattle.execution.specs.Running.{Seated}
 use Rattle.execution.specs.Runs.{own}
@@ -33,15 +33,15 @@ pub record IsFirstFault (ended : List Done) (cause : LabFault) : Type 0 where
   pub back : List Done
   pub are : ended ≡ front ++ done ∷ back
   pub sent : All (λ (d : Done). d.ending ≡ AllSent) front
-  pub below : done.member.pass.by < done.member.pass.setup.layout.procs
-  pub cause_is : fault_by done.member.pass.by done.ending ≡ Some cause
+  pub below : done.member.seat_view.by < done.member.seat_view.setup.layout.procs
+  pub cause_is : fault_by done.member.seat_view.by done.ending ≡ Some cause
 
 -- at one point of the run that the member has seen, what the reply of an append with this number says of the mailbox held
 pub record RefusedAt (x : Seated) (seq : ℕ) (reply : Reply) : Type 0 where
   pub front : List TakenStep
   pub later : List TakenStep
-  pub seen : x.pass.seen ≡ front ++ later
-  pub tells : ReplyTells x.pass.setup.layout x.pass.by seq reply (judged_by x.pass.setup front).mail
+  pub seen : x.seat_view.seen ≡ front ++ later
+  pub tells : ReplyTells x.seat_view.setup.layout x.seat_view.by seq reply (judged_by x.seat_view.setup front).mail
 
 -- one of these entries of a process was answered NumbersSpent: it read the limit in its doorway
 abbrev pub WasSpent : Setup → List TakenStep → Type 0
@@ -49,9 +49,9 @@ WasSpent z es = (front : List Answer) × (back : List Answer) × (answers_from z
 
 -- How a worker ends: its last message is shown; or it was answered NumbersSpent, or has read that the lock is ruined; or one
 -- of its messages was answered Full or Closed.
-abbrev pub EndsSo : Spec → Seated → Ending → Type 0
+abbrev pub EndsSo : Spec → Seated → WorkerEnd → Type 0
 EndsSo s x AllSent = HasShown s.messages x
-EndsSo s x (Fault why) = ((why ≡ fault.NumbersSpent) × WasSpent x.pass.setup (own_of x.pass)) ⊎ ((why ≡ fault.NotRecoverable) × HasReadRuin (own_of x.pass))
+EndsSo s x (Fault purpose) = ((purpose ≡ fault.NumbersSpent) × WasSpent x.seat_view.setup (own_of x.seat_view)) ⊎ ((purpose ≡ fault.NotRecoverable) × HasReadRuin (own_of x.seat_view))
 EndsSo s x (Refused reply) = ((reply ≡ Full) ⊎ (reply ≡ Closed)) × ((seq : ℕ) × (1 ≤ seq) × (seq ≤ s.messages) × RefusedAt x seq reply)
 
 -- What may end a lab early: out of memory; a worker that was answered NumbersSpent in a run of such workers; or a mailbox
@@ -59,7 +59,7 @@ EndsSo s x (Refused reply) = ((reply ≡ Full) ⊎ (reply ≡ Closed)) × ((seq 
 abbrev pub EndsLab : Spec → LabFault → Type 0
 EndsLab s BadSpec = ⊥
 EndsLab s OutOfMemory = Unit {0}
-EndsLab s (Member p why) = (p < s.procs) × (why ≡ fault.NumbersSpent) × ((es : List TakenStep) × IsLabRun s es × WasSpent (setup_of s) (own p es))
+EndsLab s (Member p purpose) = (p < s.procs) × (purpose ≡ fault.NumbersSpent) × ((es : List TakenStep) × IsLabRun s es × WasSpent (setup_of s) (own p es))
 EndsLab s (Replied p reply) =
     (p < s.procs) × (reply ≡ Full) × (s.cap < s.procs * s.messages)
     × ((es : List TakenStep) × IsLabRun s es × ((seq : ℕ) × (1 ≤ seq) × (seq ≤ s.messages) × ReplyTells (setup_of s).layout p seq reply (judged_by (setup_of s) es).mail))

@@ -1,11 +1,11 @@
-pub mod Owed
+pub mod PendingEvents
 pub mod FastPath
 pub mod FastAppend
 pub mod Working
 pub mod FastCalls
 pub use Rattle.execution.specs.Runs
 pub use Rattle.execution.specs.Rule
-pub use Rattle.execution.specs.Pass
+pub use Rattle.execution.specs.SeatView
 pub use Rattle.execution.specs.Lasting
 pub use Rattle.execution.specs.Running
 pub use Rattle.execution.specs.Calls

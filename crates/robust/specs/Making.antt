@@ -3,12 +3,12 @@ use Rattle.std.specs.Prelude.{ℕ, List, map}
 use Rattle.atomic_table.specs.Seated.{TableId}
 use Rattle.execution.specs.declared.setup.Setup.{Setup}
 use Rattle.execution.specs.Rule.{count_from}
-use Rattle.execution.specs.Pass.{fresh}
+use Rattle.execution.specs.SeatView.{fresh}
 use Rattle.execution.specs.Running.{Seated}
 
 -- a member before any step
 abbrev pub fresh_member : TableId → Setup → ℕ → Seated
-fresh_member t s p = record { pass = fresh t s p; steps = 0 }
+fresh_member t s p = record { seat_view = fresh t s p; steps = 0 }
 
 -- a member for each process
 abbrev pub fresh_members : TableId → Setup → List Seated

@@ -8,7 +8,7 @@ use Rattle.execution.specs.declared.setup.Setup.{Setup}
 use Rattle.execution.specs.Faults.{refusal_now, ready}
 use Rattle.execution.specs.Headline.{shown_by}
 use Rattle.one_lock.specs.Lab.{words_sent}
-use Rattle.execution.specs.Pass.{own_of}
+use Rattle.execution.specs.SeatView.{own_of}
 use Rattle.execution.specs.Running.{Seated}
 
 -- P holds of the call that a step starts, if it starts one
@@ -30,11 +30,11 @@ AreSending width k p es = All (λ (e : TakenStep). OfStart (IsSending width k p)
 
 -- the member has started no other calls than those of its own worker
 abbrev pub SendsOnly : ℕ → ℕ → Seated → Type 0
-SendsOnly width k x = AreSending width k x.pass.by (own_of x.pass)
+SendsOnly width k x = AreSending width k x.seat_view.by (own_of x.seat_view)
 
 -- its message with this number is shown
 abbrev pub HasShown : ℕ → Seated → Type 0
-HasShown seq x = IsAmong x.pass.by seq (shown_by x.pass.setup x.pass.seen)
+HasShown seq x = IsAmong x.seat_view.by seq (shown_by x.seat_view.setup x.seat_view.seen)
 
 -- the member has appended only its worker's first k messages, and the last of them is shown
 abbrev pub HasSent : ℕ → ℕ → Seated → Type 0
@@ -42,4 +42,4 @@ HasSent width k x = SendsOnly width k x × HasShown k x
 
 -- the member, of an arena of this setup, has taken no step, and may lock
 abbrev pub IsNew : Setup → Seated → Type 0
-IsNew z x = (x.pass.setup ≡ z) × (own_of x.pass ≡ []) × (refusal_now (ready x) Lock ≡ None)
+IsNew z x = (x.seat_view.setup ≡ z) × (own_of x.seat_view ≡ []) × (refusal_now (ready x) Lock ≡ None)

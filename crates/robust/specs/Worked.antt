@@ -6,7 +6,7 @@ use Rattle.one_lock.specs.declared.lab.spec.Spec.{Spec}
 use Rattle.robust.specs.declared.lab.worker.Done.{Done}
 use Rattle.robust.specs.declared.lab.worker.HandsBack.{HandsBack}
 use Rattle.robust.specs.LabFaults.{EndsSo}
-use Rattle.execution.specs.Pass.{own_of}
+use Rattle.execution.specs.SeatView.{own_of}
 use Rattle.execution.specs.Ruins.{AreInOrder}
 use Rattle.robust.specs.Sending.{SendsOnly}
 use Rattle.robust.specs.Working.{seat_of}
@@ -26,4 +26,4 @@ sizes_of s = record { layout = record { procs = s.procs; cap = s.cap; width = s.
 -- A worker that has ended has appended only messages of its own, has ended in one of a worker's ways, and has started its
 -- calls in order.
 abbrev pub HasWorked : Spec → Done → Type 0
-HasWorked s done = SendsOnly s.width s.messages done.member × EndsSo s done.member done.ending × AreInOrder None (own_of done.member.pass)
+HasWorked s done = SendsOnly s.width s.messages done.member × EndsSo s done.member done.ending × AreInOrder None (own_of done.member.seat_view)

@@ -6,7 +6,7 @@ use Rattle.execution.specs.Running.{Seated}
 
 -- which seat it is: its table, the sizes, and the process
 abbrev pub seat_of : Seated → TableId × Setup × ℕ
-seat_of x = (x.pass.table, x.pass.setup, x.pass.by)
+seat_of x = (x.seat_view.table, x.seat_view.setup, x.seat_view.by)
 
 -- the seats of these members
 abbrev pub seats_of : List Seated → List (TableId × Setup × ℕ)

@@ -4,6 +4,6 @@
 pub mod fast_append;
 pub mod fast_path;
 mod in_line;
-pub mod owed;
+pub mod pending_events;
+pub mod port;
 pub mod table;
-pub mod walker;

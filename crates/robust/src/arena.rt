@@ -1,22 +1,21 @@
 //! How a running lock is made.
 ghost use Rattle.std.specs.Prelude.{◌≡◌, ℕ, ◌<◌, ◌≤◌, ◌^◌, ◌⊎◌, Some, None, IfOk, IfErr, OnOk};
 ghost use Rattle.redomail.specs.Layout.{size};
-ghost use Rattle.rmeworld.specs.Stand.{IsSize};
+ghost use Rattle.rmeworld.specs.MachineState.{IsSize};
 ghost use Rattle.atomic_table.specs.Seated.{TableId};
 ghost use Rattle.execution.specs.Runs.{word_count};
 ghost use Rattle.rmeworld.specs.WorldState.{new_refusal};
 ghost use Rattle.robust.specs.Making.{fresh_members};
 
+use crate::access::port::{Port, data_words};
+use crate::access::table::Board;
 use crate::member::Member;
+use execution::Setup;
 use redomail::Layout;
 use rmecore::Refusal;
 use rmeworld::size::size_refusal;
-use execution::Setup;
 use std::alloc::{AllocError, Global};
 use std::sync::Arc;
-use crate::access::walker::Walker;
-use crate::access::table::Board;
-use crate::access::walker::data_words;
 
 /// Makes the members of a running lock and its mailbox.
 pub struct Arena;
@@ -36,9 +35,12 @@ impl Arena {
         cap: u64,
         width: u64,
     ) -> Result<Vec<Member>, Refusal>
-        ensures made { IfOk result (λ v. (t : TableId) × (v.items ≡ fresh_members t (record { layout = record { procs = procs; cap = cap; width = width }; limit = limit }))) }
+        ensures made { IfOk result (λ v. (t : TableId) × (v.items
+            ≡ fresh_members t (record { layout = record { procs = procs; cap = cap; width = width }; limit = limit }))) }
         ensures accepted { OnOk result (new_refusal (record { procs = procs; cap = cap; width = width }) limit ≡ None) }
-        ensures refused { IfErr result (λ e. (new_refusal (record { procs = procs; cap = cap; width = width }) limit ≡ Some e) ⊎ ((e ≡ Refusal.OutOfMemory) × (new_refusal (record { procs = procs; cap = cap; width = width }) limit ≡ None))) }
+        ensures refused { IfErr result (λ e. (new_refusal (record { procs = procs; cap = cap; width = width }) limit
+            ≡ Some e) ⊎ ((e ≡ Refusal.OutOfMemory) × (new_refusal (record { procs = procs; cap = cap; width = width }) limit
+            ≡ None))) }
     {
         let layout = Layout { procs, cap, width };
         if let Some(refusal) = size_refusal(layout, limit) {
@@ -64,8 +66,8 @@ fn made(alloc: Global, setup: Setup) -> Result<Vec<Member>, AllocError>
     let procs = setup.layout.procs;
     let mut members = Vec::with_capacity(alloc, procs as usize)?;
     for p in 0..procs {
-        let walker = Walker::first(&board, &mut seat, setup, p)?;
-        members.push(Member::new(walker))?;
+        let port = Port::first(&board, &mut seat, setup, p)?;
+        members.push(Member::new(port))?;
     }
     Ok(members)
 }

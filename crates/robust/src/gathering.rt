@@ -3,23 +3,23 @@ ghost use Rattle.std.specs.Prelude.{◌≡◌, ℕ, ◌<◌, ◌≤◌, ◌∷�
 ghost use Rattle.std.specs.Arc.{arc_value};
 ghost use Rattle.redomail.specs.Layout.{size};
 ghost use Rattle.rmeworld.specs.ImageRules.{IsLawfulImage};
-ghost use Rattle.rmeworld.specs.Stand.{IsSize};
+ghost use Rattle.rmeworld.specs.MachineState.{IsSize};
 ghost use Rattle.one_lock.specs.declared.gather_fault.GatherFault.TheVariants.{NotAll, OutOfMemory};
 ghost use Rattle.execution.specs.Runs.{InTable, IsRun, end_of, has as answers_for, word_count};
 ghost use Rattle.execution.specs.Rule.{count_from, Did, IsIn, stepper};
-ghost use Rattle.execution.specs.Pass.{alone, glanced};
+ghost use Rattle.execution.specs.SeatView.{alone, glanced};
 ghost use Rattle.execution.specs.Gathering.{OneArena, has_member, IsMissing, Gathers, Knows, Absorbs, AnswersAll, Looked, Stays};
 
-use crate::member::Member;
-use one_lock::GatherFault;
-use rmecore::{Own, Word};
-use rmeworld::{Cells, Image, Owns};
-use execution::Setup;
-use std::alloc::Global;
-use std::sync::Arc;
+use crate::access::port::{Port, data_words, index};
 use crate::access::table;
 use crate::access::table::{Board, RunSeat};
-use crate::access::walker::{Walker, data_words, index};
+use crate::member::Member;
+use execution::Setup;
+use one_lock::GatherFault;
+use rmecore::{Own, Word};
+use rmeworld::{DataWords, Image, Owns};
+use std::alloc::Global;
+use std::sync::Arc;
 
 /// The words of an arena as an image, once all its members are back: the words at the end of the one run of which each
 /// member's view is a prefix. The caller gives members of one arena, in any order.
@@ -88,8 +88,9 @@ fn look(table: &Board, seat: &mut RunSeat, setup: &Setup, word: Word) -> u64
 
 /// Joins the other seat into this one, which then answers for the other's process too. It takes a glance first: the glance
 /// shows that all views joined so far are prefixes of one run.
-fn absorb(table: &Board, seat: &mut RunSeat, setup: &Setup, other: Walker)
-    requires table { (seat.old.table_id ≡ table.now.shared.table_id) × (seat.old.table_id.words ≡ word_count setup.now) × (other.table ≡ seat.old.table_id) }
+fn absorb(table: &Board, seat: &mut RunSeat, setup: &Setup, other: Port)
+    requires table { (seat.old.table_id ≡ table.now.shared.table_id) × (seat.old.table_id.words ≡ word_count setup.now)
+        × (other.table ≡ seat.old.table_id) }
     requires setup { seat.old.me.0.view.setup ≡ setup.now }
     requires size { IsSize setup.now.layout }
     requires some { answers_for (stepper seat.old.me.0.view) seat.old.me.0.view.answers ≡ true }
@@ -104,13 +105,13 @@ fn absorb(table: &Board, seat: &mut RunSeat, setup: &Setup, other: Walker)
 /// Joins the seats of all others into the first member's seat.
 fn join_all(mut others: Vec<Member>, first: Member, setup: &Setup) -> (Arc<Board, Global>, RunSeat)
     requires arena { OneArena (first ∷ others.items) }
-    requires setup { setup.now ≡ first.pass.setup }
+    requires setup { setup.now ≡ first.seat_view.setup }
     ensures table { (result.1.table_id ≡ (arc_value result.0).shared.table_id) × (result.1.table_id.words ≡ word_count setup.now) }
     ensures knows { Knows first others.items (length others.items) result.1.me.0 }
 {
-    let (board, mut seat) = first.into_walker().into_parts();
+    let (board, mut seat) = first.into_port().into_parts();
     while let Some(other) = others.pop() {
-        absorb(&board, &mut seat, setup, other.into_walker());
+        absorb(&board, &mut seat, setup, other.into_port());
     }
     (board, seat)
 }
@@ -177,9 +178,9 @@ fn read_cells(table: &Board, seat: &mut RunSeat, setup: &Setup, cells: &mut Vec<
 
 fn read_all(others: Vec<Member>, first: Member, mut lock: Vec<Own>, mut cells: Vec<u64>) -> Image
     requires arena { OneArena (first ∷ others.items) }
-    requires all { (p : ℕ) → p < first.pass.setup.layout.procs → has_member p (first ∷ others.items) ≡ true }
-    requires lock { (lock.items ≡ []) × (first.pass.setup.layout.procs ≤ vec_capacity lock) }
-    requires cells { (cells.items ≡ []) × (size first.pass.setup.layout ≤ vec_capacity cells) }
+    requires all { (p : ℕ) → p < first.seat_view.setup.layout.procs → has_member p (first ∷ others.items) ≡ true }
+    requires lock { (lock.items ≡ []) × (first.seat_view.setup.layout.procs ≤ vec_capacity lock) }
+    requires cells { (cells.items ≡ []) × (size first.seat_view.setup.layout ≤ vec_capacity cells) }
     ensures gathers { Gathers (first ∷ others.items) result }
     ensures lawful { IsLawfulImage result }
 {
@@ -190,7 +191,7 @@ fn read_all(others: Vec<Member>, first: Member, mut lock: Vec<Own>, mut cells: V
     read_cells(&board, &mut seat, &setup, &mut cells);
     Image {
         cap: setup.layout.cap,
-        cells: Cells::new(cells),
+        cells: DataWords::new(cells),
         limit: setup.limit,
         lock: Owns::new(lock),
         version: 2,

@@ -14,7 +14,7 @@ ghost use Rattle.execution.specs.WholeSteps.{StoredAppendSteps};
 pub fn every_run_is_sound()
     ensures { EveryRunIsSound }
 {
-    rmeworld::laws::every_story_is_sound();
+    rmeworld::laws::every_execution_is_sound();
     judge::laws::legal_histories_are_plain();
 }
 

@@ -11,9 +11,9 @@ pub mod mailing;
 pub mod member;
 
 pub use arena::Arena;
+pub use execution::{Entry, LockFault, Setup};
 pub use gathering::gather;
 pub use lab::{Gate, LabFault, LabResult, Spec, run_lab};
 pub use member::Member;
 pub use one_lock;
 pub use one_lock::GatherFault;
-pub use execution::{Entry, LockFault, Setup};

@@ -14,10 +14,10 @@ ghost use Rattle.execution.specs.Whole.{WholeEnds, WholeFails, AppendFails};
 use crate::laws;
 use crate::member::Member;
 use crash_plans::CrashPlan;
+use execution::LockFault;
 use redomail::Reply;
 use rmecore::Body;
 use rmeworld::Call;
-use execution::LockFault;
 use std::sync::Wait;
 
 impl Member {
@@ -39,25 +39,29 @@ impl Member {
         plan: &mut C,
         turns: u64,
     ) -> Result<Reply, LockFault>
-        ensures wide { OnOk result (length value ≡ self.old.pass.setup.layout.width) }
+        ensures wide { OnOk result (length value ≡ self.old.seat_view.setup.layout.width) }
         ensures accepted { OnOk result (refusal_now (ready self.old) Call.Lock ≡ None) }
-        ensures replied { IfOk result (λ reply. WholeEnds (began (ready self.old) Call.Lock) turns (Call.Append seq value) (Ok reply) self.new (C.asked plan.old) (C.asked plan.new) (C.fallen plan.old) (C.fallen plan.new)) }
-        ensures fails { IfErr result (AppendFails self.old turns seq value self.new (C.asked plan.old) (C.asked plan.new) (C.fallen plan.old) (C.fallen plan.new)) }
-        ensures few { OnOk result (self.new.steps ≤ most_whole self.old.pass.setup.layout (Call.Append seq value) + turns) }
-        ensures few_out { IfErr result (λ e. e ≢ LockFault.AlreadyIn → e ≢ LockFault.BadWidth → self.new.steps ≤ most_whole self.old.pass.setup.layout (Call.Append seq value) + turns) }
+        ensures replied { IfOk result (λ reply. WholeEnds (began (ready self.old) Call.Lock) turns (Call.Append seq value)
+            (Ok reply) self.new (C.asked plan.old) (C.asked plan.new) (C.fallen plan.old) (C.fallen plan.new)) }
+        ensures fails { IfErr result (AppendFails self.old turns seq value self.new (C.asked plan.old) (C.asked plan.new)
+            (C.fallen plan.old) (C.fallen plan.new)) }
+        ensures few { OnOk result (self.new.steps ≤ most_whole self.old.seat_view.setup.layout (Call.Append seq value) + turns) }
+        ensures few_out { IfErr result (λ e. e ≢ LockFault.AlreadyIn → e ≢ LockFault.BadWidth
+            → self.new.steps ≤ most_whole self.old.seat_view.setup.layout (Call.Append seq value) + turns) }
         ensures kind { IfOk result (Appends seq) }
         ensures tells { IfOk result (λ reply. ToldIn self.old seq reply self.new) }
-        ensures shown { IfOk result (λ reply. (reply ≡ Reply.Stored) ⊎ (reply ≡ Reply.Already) → IsAmong self.old.pass.by seq (shown_by self.new.pass.setup self.new.pass.seen)) }
+        ensures shown { IfOk result (λ reply. (reply ≡ Reply.Stored) ⊎ (reply ≡ Reply.Already)
+            → IsAmong self.old.seat_view.by seq (shown_by self.new.seat_view.setup self.new.seat_view.seen)) }
         ensures out { result ≢ Err LockFault.AlreadyIn → result ≢ Err LockFault.BadWidth → refusal_now (ready self.new) Call.Lock ≡ None }
         ensures waits { result ≡ Err LockFault.NotYet → refusal_now self.new Call.Withdraw ≡ None }
         ensures seat { seat_of self.new ≡ seat_of self.old }
     {
         laws::every_run_is_sound();
         rmeworld::laws::messages_were_sent();
-        if value.width() != self.runner.setup().layout.width {
+        if value.width() != self.call_driver.setup().layout.width {
             return Err(LockFault::BadWidth);
         }
-        self.runner
+        self.call_driver
             .mail_within(plan, &Call::Append { seq, value }, turns)
     }
 
@@ -76,15 +80,18 @@ impl Member {
         turns: u64,
     ) -> Result<Reply, LockFault>
         ensures accepted { OnOk result (refusal_now (ready self.old) Call.Lock ≡ None) }
-        ensures replied { IfOk result (λ reply. WholeEnds (began (ready self.old) Call.Lock) turns Call.Close (Ok reply) self.new (C.asked plan.old) (C.asked plan.new) (C.fallen plan.old) (C.fallen plan.new)) }
-        ensures fails { IfErr result (WholeFails self.old turns Call.Close self.new (C.asked plan.old) (C.asked plan.new) (C.fallen plan.old) (C.fallen plan.new)) }
-        ensures few { OnOk result (self.new.steps ≤ most_whole self.old.pass.setup.layout Call.Close + turns) }
-        ensures few_out { IfErr result (λ e. e ≢ LockFault.AlreadyIn → self.new.steps ≤ most_whole self.old.pass.setup.layout Call.Close + turns) }
+        ensures replied { IfOk result (λ reply. WholeEnds (began (ready self.old) Call.Lock) turns Call.Close (Ok reply)
+            self.new (C.asked plan.old) (C.asked plan.new) (C.fallen plan.old) (C.fallen plan.new)) }
+        ensures fails { IfErr result (WholeFails self.old turns Call.Close self.new (C.asked plan.old) (C.asked plan.new)
+            (C.fallen plan.old) (C.fallen plan.new)) }
+        ensures few { OnOk result (self.new.steps ≤ most_whole self.old.seat_view.setup.layout Call.Close + turns) }
+        ensures few_out { IfErr result (λ e. e ≢ LockFault.AlreadyIn
+            → self.new.steps ≤ most_whole self.old.seat_view.setup.layout Call.Close + turns) }
         ensures out { result ≢ Err LockFault.AlreadyIn → refusal_now (ready self.new) Call.Lock ≡ None }
         ensures waits { result ≡ Err LockFault.NotYet → refusal_now self.new Call.Withdraw ≡ None }
         ensures seat { seat_of self.new ≡ seat_of self.old }
     {
-        self.runner.mail_within(plan, &Call::Close, turns)
+        self.call_driver.mail_within(plan, &Call::Close, turns)
     }
 
     /// Stores a message with this sequence number, from 1, and waits as long as it has to (docs/theory/mailbox.md, Append). Its
@@ -98,23 +105,28 @@ impl Member {
         value: Body,
         plan: &mut C,
     ) -> Result<Reply, LockFault>
-        ensures wide { OnOk result (length value ≡ self.old.pass.setup.layout.width) }
+        ensures wide { OnOk result (length value ≡ self.old.seat_view.setup.layout.width) }
         ensures accepted { OnOk result (refusal_now (ready self.old) Call.Lock ≡ None) }
-        ensures replied { IfOk result (λ reply. (turns : ℕ) × WholeEnds (began (ready self.old) Call.Lock) turns (Call.Append seq value) (Ok reply) self.new (C.asked plan.old) (C.asked plan.new) (C.fallen plan.old) (C.fallen plan.new)) }
-        ensures fails { IfErr result (λ e. (turns : ℕ) × AppendFails self.old turns seq value self.new (C.asked plan.old) (C.asked plan.new) (C.fallen plan.old) (C.fallen plan.new) e) }
+        ensures replied { IfOk result (λ reply. (turns : ℕ) × WholeEnds (began (ready self.old) Call.Lock) turns
+            (Call.Append seq value) (Ok reply) self.new (C.asked plan.old) (C.asked plan.new) (C.fallen plan.old)
+            (C.fallen plan.new)) }
+        ensures fails { IfErr result (λ e. (turns : ℕ) × AppendFails self.old turns seq value self.new (C.asked plan.old)
+            (C.asked plan.new) (C.fallen plan.old) (C.fallen plan.new) e) }
         ensures patient { IfErr result (λ e. e ≢ LockFault.NotYet) }
         ensures kind { IfOk result (Appends seq) }
         ensures tells { IfOk result (λ reply. ToldIn self.old seq reply self.new) }
-        ensures shown { IfOk result (λ reply. (reply ≡ Reply.Stored) ⊎ (reply ≡ Reply.Already) → IsAmong self.old.pass.by seq (shown_by self.new.pass.setup self.new.pass.seen)) }
+        ensures shown { IfOk result (λ reply. (reply ≡ Reply.Stored) ⊎ (reply ≡ Reply.Already)
+            → IsAmong self.old.seat_view.by seq (shown_by self.new.seat_view.setup self.new.seat_view.seen)) }
         ensures out { result ≢ Err LockFault.AlreadyIn → result ≢ Err LockFault.BadWidth → refusal_now (ready self.new) Call.Lock ≡ None }
         ensures seat { seat_of self.new ≡ seat_of self.old }
     {
         laws::every_run_is_sound();
         rmeworld::laws::messages_were_sent();
-        if value.width() != self.runner.setup().layout.width {
+        if value.width() != self.call_driver.setup().layout.width {
             return Err(LockFault::BadWidth);
         }
-        self.runner.mail(rt, plan, &Call::Append { seq, value })
+        self.call_driver
+            .mail(rt, plan, &Call::Append { seq, value })
     }
 
     /// Closes the mailbox, and waits as long as it has to (docs/theory/mailbox.md, Close).
@@ -122,12 +134,14 @@ impl Member {
     /// `AlreadyIn`, `Crashed`, `NumbersSpent` and `NotRecoverable` as at `close_within`; never `NotYet`.
     pub fn close<R: Wait, C: CrashPlan>(&mut self, rt: &R, plan: &mut C) -> Result<Reply, LockFault>
         ensures accepted { OnOk result (refusal_now (ready self.old) Call.Lock ≡ None) }
-        ensures replied { IfOk result (λ reply. (turns : ℕ) × WholeEnds (began (ready self.old) Call.Lock) turns Call.Close (Ok reply) self.new (C.asked plan.old) (C.asked plan.new) (C.fallen plan.old) (C.fallen plan.new)) }
-        ensures fails { IfErr result (λ e. (turns : ℕ) × WholeFails self.old turns Call.Close self.new (C.asked plan.old) (C.asked plan.new) (C.fallen plan.old) (C.fallen plan.new) e) }
+        ensures replied { IfOk result (λ reply. (turns : ℕ) × WholeEnds (began (ready self.old) Call.Lock) turns Call.Close
+            (Ok reply) self.new (C.asked plan.old) (C.asked plan.new) (C.fallen plan.old) (C.fallen plan.new)) }
+        ensures fails { IfErr result (λ e. (turns : ℕ) × WholeFails self.old turns Call.Close self.new (C.asked plan.old)
+            (C.asked plan.new) (C.fallen plan.old) (C.fallen plan.new) e) }
         ensures patient { IfErr result (λ e. e ≢ LockFault.NotYet) }
         ensures out { result ≢ Err LockFault.AlreadyIn → refusal_now (ready self.new) Call.Lock ≡ None }
         ensures seat { seat_of self.new ≡ seat_of self.old }
     {
-        self.runner.mail(rt, plan, &Call::Close)
+        self.call_driver.mail(rt, plan, &Call::Close)
     }
 }

@@ -3,9 +3,9 @@ ghost use Rattle.std.specs.Prelude.{◌≡◌, ◌≢◌, ℕ, ◌+◌, ◌*◌,
 ghost use Rattle.redomail.specs.declared.reply.Reply.{Reply as ReplyOf};
 ghost use Rattle.execution.specs.declared.entry.TakenStep.{TakenStep};
 ghost use Rattle.rmeworld.specs.OwnSteps.{most_steps};
-ghost use Rattle.execution.specs.Pass.{fresh, spot_now, IsPass};
+ghost use Rattle.execution.specs.SeatView.{fresh, process_state_now, IsSeatView};
 ghost use Rattle.execution.specs.Running.{Seated, began};
-ghost use Rattle.execution.specs.Calls.{Served, Calm};
+ghost use Rattle.execution.specs.Calls.{Served, NeverCrashes};
 ghost use Rattle.execution.specs.Under.{Fits};
 ghost use Rattle.execution.specs.Reading.{ReadsFrom, ReadsCount};
 ghost use Rattle.execution.specs.Headline.{IsSoundRun};
@@ -14,17 +14,17 @@ ghost use Rattle.robust.specs.Working.{seat_of};
 ghost use Rattle.execution.specs.Board.{last_put, value_or, LastIsOwn};
 ghost use Rattle.execution.specs.Faults.{refusal_now, ready, Fails, FailsOut, AnsweredIn, LockEnds, LockFails, answer_of};
 
+use crate::access::port::Port;
+use crate::call::call_driver::CallDriver;
 use crate::laws;
 use crash_plans::CrashPlan;
+use execution::{Entry, LockFault, Setup};
 use redomail::{Message, Reply};
 use rmecore::Found;
 use rmeworld::{Answer, Call};
-use execution::{Entry, LockFault, Setup};
 use std::alloc::{AllocError, Global};
 use std::marker::Model;
 use std::sync::Wait;
-use crate::call::runner::Runner;
-use crate::access::walker::Walker;
 
 /// A process of the running lock. It owns a seat at the table and may move to a thread. Contracts see it as its view, a
 /// prefix of the one run, with the own steps of its last call.
@@ -35,7 +35,7 @@ use crate::access::walker::Walker;
 /// that crashed is sent again with the same number: it answers `Already` if the message was stored.
 #[derive(Drop)]
 pub struct Member {
-    pub(crate) runner: Runner,
+    pub(crate) call_driver: CallDriver,
 }
 
 impl Model for Member {
@@ -44,46 +44,46 @@ impl Model for Member {
 
     ghost Value = { Seated };
 
-    ghost view = { λ m. m.runner };
+    ghost view = { λ m. m.call_driver };
 
-    ghost invariant = { λ m. m.runner.pass.start ≡ None };
+    ghost invariant = { λ m. m.call_driver.seat_view.start ≡ None };
 }
 
 impl Member {
     /// A member at rest, with this port.
-    pub(crate) fn new(walker: Walker) -> Member
-        requires { walker ≡ fresh walker.table walker.setup walker.by }
-        ensures { result ≡ record { pass = walker; steps = 0 } }
+    pub(crate) fn new(port: Port) -> Member
+        requires { port ≡ fresh port.table port.setup port.by }
+        ensures { result ≡ record { seat_view = port; steps = 0 } }
     {
         Member {
-            runner: Runner::new(walker),
+            call_driver: CallDriver::new(port),
         }
     }
 
     /// Gives its port back.
-    pub(crate) fn into_walker(self) -> Walker
-        ensures { result ≡ self.pass }
+    pub(crate) fn into_port(self) -> Port
+        ensures { result ≡ self.seat_view }
     {
-        self.runner.into_walker()
+        self.call_driver.into_port()
     }
 
     /// The sizes of its arena.
     pub(crate) fn setup(&self) -> Setup
-        ensures is { result ≡ self.now.pass.setup }
-        ensures pass { IsPass self.now.pass }
+        ensures is { result ≡ self.now.seat_view.setup }
+        ensures seat_view { IsSeatView self.now.seat_view }
     {
-        self.runner.setup()
+        self.call_driver.setup()
     }
 
     /// Which process it is, from 0. The run of which its view is a prefix is sound: no two are inside, one that crashed
     /// inside is the next to enter, first come, first served, and each sender's messages are there once, in order.
     pub fn number(&self) -> u64
-        ensures is { result ≡ self.now.pass.by }
-        ensures pass { IsPass self.now.pass }
-        ensures sound { IsSoundRun self.now.pass.setup self.now.pass.seen }
+        ensures is { result ≡ self.now.seat_view.by }
+        ensures seat_view { IsSeatView self.now.seat_view }
+        ensures sound { IsSoundRun self.now.seat_view.setup self.now.seat_view.seen }
     {
         laws::every_run_is_sound();
-        self.runner.by()
+        self.call_driver.by()
     }
 
     /// The own steps of the last call that was started, at most the greatest u64; 0 before any call (docs/theory/model.md, Own
@@ -91,7 +91,7 @@ impl Member {
     pub fn steps(&self) -> u64
         ensures { result ≡ self.now.steps }
     {
-        self.runner.steps()
+        self.call_driver.steps()
     }
 
     /// The messages shown, from `place` on. It reads from anywhere, also while a lock still waits or after a crash. The
@@ -105,7 +105,7 @@ impl Member {
         ensures no_room { OnErr result (ReadsCount self.old place self.new) }
         ensures seat { seat_of self.new ≡ seat_of self.old }
     {
-        self.runner.read_from(alloc, place)
+        self.call_driver.read_from(alloc, place)
     }
 
     /// Leaves the section (POSIX: `pthread_mutex_unlock`; docs/theory/model.md, Unlock). A holder that entered again after a crash
@@ -115,17 +115,20 @@ impl Member {
     /// left or not; a `recover` answers which (`Inside`, `Left` or `Idle`), and a lock goes on from either.
     pub fn unlock<C: CrashPlan>(&mut self, plan: &mut C) -> Result<(), LockFault>
         ensures accepted { OnOk result (refusal_now self.old Call.Unlock ≡ None) }
-        ensures served { OnOk result ((mine : List TakenStep) × Served (began self.old Call.Unlock) Call.Unlock (Answer.Unlocked ∷ []) 0 self.new mine × Calm (length mine + 1) (C.asked plan.old) (C.asked plan.new) (C.fallen plan.old) (C.fallen plan.new)) }
-        ensures fails { IfErr result (Fails self.old Call.Unlock self.new (C.asked plan.old) (C.asked plan.new) (C.fallen plan.old) (C.fallen plan.new)) }
+        ensures served { OnOk result ((mine : List TakenStep)
+            × Served (began self.old Call.Unlock) Call.Unlock (Answer.Unlocked ∷ []) 0 self.new mine
+            × NeverCrashes (length mine + 1) (C.asked plan.old) (C.asked plan.new) (C.fallen plan.old) (C.fallen plan.new)) }
+        ensures fails { IfErr result (Fails self.old Call.Unlock self.new (C.asked plan.old) (C.asked plan.new)
+            (C.fallen plan.old) (C.fallen plan.new)) }
         ensures seat { seat_of self.new ≡ seat_of self.old }
-        ensures table { OnOk result (table_steps self.old.pass Call.Unlock Answer.Unlocked ≡ Some self.new.steps) }
-        ensures few { refusal_now self.old Call.Unlock ≡ None → self.new.steps ≤ most_steps self.old.pass.setup.layout Call.Unlock }
+        ensures table { OnOk result (table_steps self.old.seat_view Call.Unlock Answer.Unlocked ≡ Some self.new.steps) }
+        ensures few { refusal_now self.old Call.Unlock ≡ None → self.new.steps ≤ most_steps self.old.seat_view.setup.layout Call.Unlock }
     {
-        if self.runner.is_clean() && plan.is_calm() {
-            self.runner.fast_unlock(plan);
+        if self.call_driver.is_clean() && plan.is_never_crashes() {
+            self.call_driver.fast_unlock(plan);
             return Ok(());
         }
-        match self.runner.call(plan, &Call::Unlock)? {
+        match self.call_driver.call(plan, &Call::Unlock)? {
             Answer::Unlocked => Ok(()),
             _ => unreachable!(),
         }
@@ -138,13 +141,17 @@ impl Member {
     /// `Crashed`: the place may still be held; a lock waits on with it, and a `recover` answers which (`Waiting` or `Idle`).
     pub fn withdraw<C: CrashPlan>(&mut self, plan: &mut C) -> Result<(), LockFault>
         ensures accepted { OnOk result (refusal_now self.old Call.Withdraw ≡ None) }
-        ensures served { OnOk result ((mine : List TakenStep) × Served (began self.old Call.Withdraw) Call.Withdraw (Answer.Withdrawn ∷ []) 0 self.new mine × Calm (length mine + 1) (C.asked plan.old) (C.asked plan.new) (C.fallen plan.old) (C.fallen plan.new)) }
-        ensures fails { IfErr result (Fails self.old Call.Withdraw self.new (C.asked plan.old) (C.asked plan.new) (C.fallen plan.old) (C.fallen plan.new)) }
+        ensures served { OnOk result ((mine : List TakenStep)
+            × Served (began self.old Call.Withdraw) Call.Withdraw (Answer.Withdrawn ∷ []) 0 self.new mine
+            × NeverCrashes (length mine + 1) (C.asked plan.old) (C.asked plan.new) (C.fallen plan.old) (C.fallen plan.new)) }
+        ensures fails { IfErr result (Fails self.old Call.Withdraw self.new (C.asked plan.old) (C.asked plan.new)
+            (C.fallen plan.old) (C.fallen plan.new)) }
         ensures seat { seat_of self.new ≡ seat_of self.old }
-        ensures table { OnOk result (table_steps self.old.pass Call.Withdraw Answer.Withdrawn ≡ Some self.new.steps) }
-        ensures few { refusal_now self.old Call.Withdraw ≡ None → self.new.steps ≤ most_steps self.old.pass.setup.layout Call.Withdraw }
+        ensures table { OnOk result (table_steps self.old.seat_view Call.Withdraw Answer.Withdrawn ≡ Some self.new.steps) }
+        ensures few { refusal_now self.old Call.Withdraw ≡ None
+            → self.new.steps ≤ most_steps self.old.seat_view.setup.layout Call.Withdraw }
     {
-        match self.runner.call(plan, &Call::Withdraw)? {
+        match self.call_driver.call(plan, &Call::Withdraw)? {
             Answer::Withdrawn => Ok(()),
             _ => unreachable!(),
         }
@@ -158,17 +165,20 @@ impl Member {
     /// one from 0 to 3. `Crashed`: lock again, which answers `OwnerDied`, or `NotRecoverable` where the lock is ruined.
     pub fn get<C: CrashPlan>(&mut self, i: u64, plan: &mut C) -> Result<u64, LockFault>
         ensures accepted { OnOk result (refusal_now self.old (Call.Get i) ≡ None) }
-        ensures served { IfOk result (λ v. (mine : List TakenStep) × Served (began self.old (Call.Get i)) (Call.Get i) (Answer.Mail (Reply.Word v) ∷ []) 0 self.new mine × Calm (length mine + 1) (C.asked plan.old) (C.asked plan.new) (C.fallen plan.old) (C.fallen plan.new)) }
-        ensures last { IfOk result (λ v. v ≡ value_or (last_put self.old.pass.setup i self.new.pass.seen) 0) }
-        ensures own { OnOk result (LastIsOwn self.old.pass.setup self.old.pass.by i self.new.pass.seen) }
-        ensures fails { IfErr result (Fails self.old (Call.Get i) self.new (C.asked plan.old) (C.asked plan.new) (C.fallen plan.old) (C.fallen plan.new)) }
+        ensures served { IfOk result (λ v. (mine : List TakenStep)
+            × Served (began self.old (Call.Get i)) (Call.Get i) (Answer.Mail (Reply.Word v) ∷ []) 0 self.new mine
+            × NeverCrashes (length mine + 1) (C.asked plan.old) (C.asked plan.new) (C.fallen plan.old) (C.fallen plan.new)) }
+        ensures last { IfOk result (λ v. v ≡ value_or (last_put self.old.seat_view.setup i self.new.seat_view.seen) 0) }
+        ensures own { OnOk result (LastIsOwn self.old.seat_view.setup self.old.seat_view.by i self.new.seat_view.seen) }
+        ensures fails { IfErr result (Fails self.old (Call.Get i) self.new (C.asked plan.old) (C.asked plan.new)
+            (C.fallen plan.old) (C.fallen plan.new)) }
         ensures seat { seat_of self.new ≡ seat_of self.old }
-        ensures table { IfOk result (λ v. table_steps self.old.pass (Call.Get i) (Answer.Mail (Reply.Word v)) ≡ Some self.new.steps) }
-        ensures few { refusal_now self.old (Call.Get i) ≡ None → self.new.steps ≤ most_steps self.old.pass.setup.layout (Call.Get i) }
+        ensures table { IfOk result (λ v. table_steps self.old.seat_view (Call.Get i) (Answer.Mail (Reply.Word v)) ≡ Some self.new.steps) }
+        ensures few { refusal_now self.old (Call.Get i) ≡ None → self.new.steps ≤ most_steps self.old.seat_view.setup.layout (Call.Get i) }
     {
         // For the proof alone: its value is read.
-        let _by = self.runner.by();
-        match self.runner.call(plan, &Call::Get(i))? {
+        let _by = self.call_driver.by();
+        match self.call_driver.call(plan, &Call::Get(i))? {
             Answer::Mail(Reply::Word(value)) => Ok(value),
             _ => unreachable!(),
         }
@@ -181,14 +191,20 @@ impl Member {
     /// again; or it answers `NotRecoverable`, where the lock is ruined.
     pub fn put<C: CrashPlan>(&mut self, i: u64, value: u64, plan: &mut C) -> Result<(), LockFault>
         ensures accepted { OnOk result (refusal_now self.old (Call.Put i value) ≡ None) }
-        ensures served { OnOk result ((reply : ReplyOf) × (mine : List TakenStep) × Served (began self.old (Call.Put i value)) (Call.Put i value) (Answer.Mail reply ∷ []) 0 self.new mine × Calm (length mine + 1) (C.asked plan.old) (C.asked plan.new) (C.fallen plan.old) (C.fallen plan.new)) }
-        ensures last { OnOk result ((e : TakenStep) × (last_put self.old.pass.setup i self.new.pass.seen ≡ Some e) × (e.by ≡ self.old.pass.by) × (e.value ≡ value)) }
-        ensures fails { IfErr result (Fails self.old (Call.Put i value) self.new (C.asked plan.old) (C.asked plan.new) (C.fallen plan.old) (C.fallen plan.new)) }
+        ensures served { OnOk result ((reply : ReplyOf) × (mine : List TakenStep)
+            × Served (began self.old (Call.Put i value)) (Call.Put i value) (Answer.Mail reply ∷ []) 0 self.new mine
+            × NeverCrashes (length mine + 1) (C.asked plan.old) (C.asked plan.new) (C.fallen plan.old) (C.fallen plan.new)) }
+        ensures last { OnOk result ((e : TakenStep) × (last_put self.old.seat_view.setup i self.new.seat_view.seen ≡ Some e)
+            × (e.by ≡ self.old.seat_view.by) × (e.value ≡ value)) }
+        ensures fails { IfErr result (Fails self.old (Call.Put i value) self.new (C.asked plan.old) (C.asked plan.new)
+            (C.fallen plan.old) (C.fallen plan.new)) }
         ensures seat { seat_of self.new ≡ seat_of self.old }
-        ensures table { OnOk result ((reply : ReplyOf) × (table_steps self.old.pass (Call.Put i value) (Answer.Mail reply) ≡ Some self.new.steps)) }
-        ensures few { refusal_now self.old (Call.Put i value) ≡ None → self.new.steps ≤ most_steps self.old.pass.setup.layout (Call.Put i value) }
+        ensures table { OnOk result ((reply : ReplyOf) × (table_steps self.old.seat_view (Call.Put i value)
+            (Answer.Mail reply) ≡ Some self.new.steps)) }
+        ensures few { refusal_now self.old (Call.Put i value) ≡ None
+            → self.new.steps ≤ most_steps self.old.seat_view.setup.layout (Call.Put i value) }
     {
-        match self.runner.call(plan, &Call::Put(i, value))? {
+        match self.call_driver.call(plan, &Call::Put(i, value))? {
             Answer::Mail(_) => Ok(()),
             _ => unreachable!(),
         }
@@ -203,14 +219,24 @@ impl Member {
     /// `NotRecoverable`. `NotRecoverable`: the lock is ruined, and the process is still inside: unlock.
     pub fn consistent<C: CrashPlan>(&mut self, plan: &mut C) -> Result<bool, LockFault>
         ensures accepted { OnOk result (refusal_now self.old Call.Consistent ≡ None) }
-        ensures served { IfOk result (λ mended. (mine : List TakenStep) × Served (began self.old Call.Consistent) Call.Consistent (Answer.Mail (Reply.Mended mended) ∷ []) 0 self.new mine × Calm (length mine + 1) (C.asked plan.old) (C.asked plan.new) (C.fallen plan.old) (C.fallen plan.new)) }
-        ensures fails { IfErr result (λ e. Fails self.old Call.Consistent self.new (C.asked plan.old) (C.asked plan.new) (C.fallen plan.old) (C.fallen plan.new) e ⊎ (e ≡ LockFault.NotRecoverable) × ((mine : List TakenStep) × Served (began self.old Call.Consistent) Call.Consistent (Answer.NotRecoverable ∷ []) 0 self.new mine × Calm (length mine + 1) (C.asked plan.old) (C.asked plan.new) (C.fallen plan.old) (C.fallen plan.new))) }
+        ensures served { IfOk result (λ mended. (mine : List TakenStep)
+            × Served (began self.old Call.Consistent) Call.Consistent (Answer.Mail (Reply.Mended mended) ∷ [])
+            0 self.new mine × NeverCrashes (length mine + 1) (C.asked plan.old) (C.asked plan.new) (C.fallen plan.old)
+            (C.fallen plan.new)) }
+        ensures fails { IfErr result (λ e. Fails self.old Call.Consistent self.new (C.asked plan.old) (C.asked plan.new)
+            (C.fallen plan.old) (C.fallen plan.new) e ⊎ (e ≡ LockFault.NotRecoverable)
+            × ((mine : List TakenStep) × Served (began self.old Call.Consistent) Call.Consistent (Answer.NotRecoverable ∷ [])
+            0 self.new mine × NeverCrashes (length mine + 1) (C.asked plan.old) (C.asked plan.new) (C.fallen plan.old)
+            (C.fallen plan.new))) }
         ensures seat { seat_of self.new ≡ seat_of self.old }
-        ensures table { IfOk result (λ mended. table_steps self.old.pass Call.Consistent (Answer.Mail (Reply.Mended mended)) ≡ Some self.new.steps) }
-        ensures table_ruined { IfErr result (λ e. e ≡ LockFault.NotRecoverable → table_steps self.old.pass Call.Consistent Answer.NotRecoverable ≡ Some self.new.steps) }
-        ensures few { refusal_now self.old Call.Consistent ≡ None → self.new.steps ≤ most_steps self.old.pass.setup.layout Call.Consistent }
+        ensures table { IfOk result (λ mended. table_steps self.old.seat_view Call.Consistent
+            (Answer.Mail (Reply.Mended mended)) ≡ Some self.new.steps) }
+        ensures table_ruined { IfErr result (λ e. e ≡ LockFault.NotRecoverable
+            → table_steps self.old.seat_view Call.Consistent Answer.NotRecoverable ≡ Some self.new.steps) }
+        ensures few { refusal_now self.old Call.Consistent ≡ None
+            → self.new.steps ≤ most_steps self.old.seat_view.setup.layout Call.Consistent }
     {
-        match self.runner.call(plan, &Call::Consistent)? {
+        match self.call_driver.call(plan, &Call::Consistent)? {
             Answer::Mail(Reply::Mended(mended)) => Ok(mended),
             Answer::NotRecoverable => Err(LockFault::NotRecoverable),
             _ => unreachable!(),
@@ -224,14 +250,19 @@ impl Member {
     /// `AlreadyIn`: the process is in the section; there is nothing to find out. `Crashed`: recover or lock again.
     pub fn recover<C: CrashPlan>(&mut self, plan: &mut C) -> Result<Found, LockFault>
         ensures accepted { OnOk result (refusal_now (ready self.old) Call.Recover ≡ None) }
-        ensures served { IfOk result (λ found. AnsweredIn (began (ready self.old) Call.Recover) Call.Recover (Answer.Found found ∷ []) 0 self.new (C.asked plan.old) (C.asked plan.new) (C.fallen plan.old) (C.fallen plan.new)) }
-        ensures fails { IfErr result (FailsOut self.old Call.Recover self.new (C.asked plan.old) (C.asked plan.new) (C.fallen plan.old) (C.fallen plan.new)) }
+        ensures served { IfOk result (λ found. AnsweredIn (began (ready self.old) Call.Recover) Call.Recover
+            (Answer.Found found ∷ []) 0 self.new (C.asked plan.old) (C.asked plan.new) (C.fallen plan.old)
+            (C.fallen plan.new)) }
+        ensures fails { IfErr result (FailsOut self.old Call.Recover self.new (C.asked plan.old) (C.asked plan.new)
+            (C.fallen plan.old) (C.fallen plan.new)) }
         ensures seat { seat_of self.new ≡ seat_of self.old }
-        ensures table { IfOk result (λ found. table_steps (ready self.old).pass Call.Recover (Answer.Found found) ≡ Some self.new.steps) }
-        ensures few { IfErr result (λ e. e ≢ LockFault.AlreadyIn → self.new.steps ≤ most_steps self.old.pass.setup.layout Call.Recover) }
+        ensures table { IfOk result (λ found. table_steps (ready self.old).seat_view Call.Recover (Answer.Found found)
+            ≡ Some self.new.steps) }
+        ensures few { IfErr result (λ e. e ≢ LockFault.AlreadyIn
+            → self.new.steps ≤ most_steps self.old.seat_view.setup.layout Call.Recover) }
     {
-        self.runner.set_out(&Call::Recover)?;
-        match self.runner.serve(plan, &Call::Recover)? {
+        self.call_driver.set_out(&Call::Recover)?;
+        match self.call_driver.serve(plan, &Call::Recover)? {
             Answer::Found(found) => Ok(found),
             _ => unreachable!(),
         }
@@ -251,17 +282,20 @@ impl Member {
         turns: u64,
     ) -> Result<Entry, LockFault>
         ensures accepted { OnOk result (refusal_now (ready self.old) Call.Lock ≡ None) }
-        ensures entered { IfOk result (λ entry. LockEnds (began (ready self.old) Call.Lock) turns (Some (answer_of entry)) self.new (C.asked plan.old) (C.asked plan.new) (C.fallen plan.old) (C.fallen plan.new)) }
-        ensures fails { IfErr result (LockFails self.old turns self.new (C.asked plan.old) (C.asked plan.new) (C.fallen plan.old) (C.fallen plan.new)) }
+        ensures entered { IfOk result (λ entry. LockEnds (began (ready self.old) Call.Lock) turns (Some (answer_of entry))
+            self.new (C.asked plan.old) (C.asked plan.new) (C.fallen plan.old) (C.fallen plan.new)) }
+        ensures fails { IfErr result (LockFails self.old turns self.new (C.asked plan.old) (C.asked plan.new)
+            (C.fallen plan.old) (C.fallen plan.new)) }
         ensures waits { result ≡ Err LockFault.NotYet → refusal_now self.new Call.Withdraw ≡ None }
         ensures seat { seat_of self.new ≡ seat_of self.old }
         ensures counts { IfOk result (λ entry. LockCounts (began (ready self.old) Call.Lock) (Some (answer_of entry)) self.new) }
         ensures counts_out { IfErr result (LockCountsOut (began (ready self.old) Call.Lock) self.new) }
-        ensures few { OnOk result (self.new.steps ≤ 3 * self.old.pass.setup.layout.procs + 8 + turns) }
-        ensures few_out { IfErr result (λ e. e ≢ LockFault.AlreadyIn → self.new.steps ≤ 3 * self.old.pass.setup.layout.procs + 8 + turns) }
+        ensures few { OnOk result (self.new.steps ≤ 3 * self.old.seat_view.setup.layout.procs + 8 + turns) }
+        ensures few_out { IfErr result (λ e. e ≢ LockFault.AlreadyIn
+            → self.new.steps ≤ 3 * self.old.seat_view.setup.layout.procs + 8 + turns) }
     {
-        self.runner.set_out_lock()?;
-        match self.runner.wait_turns(plan, turns)? {
+        self.call_driver.set_out_lock()?;
+        match self.call_driver.wait_turns(plan, turns)? {
             Some(answer) => entered(answer),
             None => Err(LockFault::NotYet),
         }
@@ -273,15 +307,18 @@ impl Member {
     /// `AlreadyIn`, `Crashed`, `NumbersSpent` and `NotRecoverable` as at `lock_within`; never `NotYet`.
     pub fn lock<R: Wait, C: CrashPlan>(&mut self, rt: &R, plan: &mut C) -> Result<Entry, LockFault>
         ensures accepted { OnOk result (refusal_now (ready self.old) Call.Lock ≡ None) }
-        ensures entered { IfOk result (λ entry. (turns : ℕ) × LockEnds (began (ready self.old) Call.Lock) turns (Some (answer_of entry)) self.new (C.asked plan.old) (C.asked plan.new) (C.fallen plan.old) (C.fallen plan.new)) }
-        ensures fails { IfErr result (λ e. (turns : ℕ) × LockFails self.old turns self.new (C.asked plan.old) (C.asked plan.new) (C.fallen plan.old) (C.fallen plan.new) e) }
+        ensures entered { IfOk result (λ entry. (turns : ℕ) × LockEnds (began (ready self.old) Call.Lock) turns
+            (Some (answer_of entry)) self.new (C.asked plan.old) (C.asked plan.new) (C.fallen plan.old)
+            (C.fallen plan.new)) }
+        ensures fails { IfErr result (λ e. (turns : ℕ) × LockFails self.old turns self.new (C.asked plan.old)
+            (C.asked plan.new) (C.fallen plan.old) (C.fallen plan.new) e) }
         ensures patient { IfErr result (λ e. e ≢ LockFault.NotYet) }
         ensures seat { seat_of self.new ≡ seat_of self.old }
         ensures counts { IfOk result (λ entry. LockCounts (began (ready self.old) Call.Lock) (Some (answer_of entry)) self.new) }
         ensures counts_out { IfErr result (LockCountsOut (began (ready self.old) Call.Lock) self.new) }
     {
-        self.runner.set_out_lock()?;
-        entered(self.runner.wait(rt, plan)?)
+        self.call_driver.set_out_lock()?;
+        entered(self.call_driver.wait(rt, plan)?)
     }
 }
 
@@ -289,7 +326,8 @@ impl Member {
 fn entered(answer: Answer) -> Result<Entry, LockFault>
     requires { Fits Call.Lock answer }
     ensures inside { IfOk result (λ entry. answer ≡ answer_of entry) }
-    ensures out { IfErr result (λ e. ((e ≡ LockFault.NumbersSpent) × (answer ≡ Answer.NumbersSpent)) ⊎ ((e ≡ LockFault.NotRecoverable) × (answer ≡ Answer.NotRecoverable))) }
+    ensures out { IfErr result (λ e. ((e ≡ LockFault.NumbersSpent) × (answer ≡ Answer.NumbersSpent))
+        ⊎ ((e ≡ LockFault.NotRecoverable) × (answer ≡ Answer.NotRecoverable))) }
 {
     match answer {
         Answer::Clean => Ok(Entry::Clean),

@@ -16,6 +16,6 @@ mod labs;
 #[cfg(test)]
 mod members;
 #[cfg(test)]
-mod scarce;
+mod scarce_memory;
 #[cfg(test)]
 mod sweeps;

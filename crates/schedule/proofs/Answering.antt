@@ -1,8 +1,8 @@
 -- The answer of a trace that was judged to its end.
 use Rattle.std.proofs.Common.{◌≡◌, ℕ, ◌+◌, ◌<◌, List, [], ◌∷◌, ◌++◌, length, Option, Some, None, Result, Ok, Err, Bool, true, refl, sym, ap, subst, ◌∙◌}
-use Rattle.schedule.proofs.ReplaysCommon.{Refusal, Deed, Kept, empty, LineFault, Hearing, ReplayFault, Text, Read, OutOfMemory, Stage, TraceHead, Verdict, deed_at, opened, parts_of, text_at, trace_head_at}
+use Rattle.schedule.proofs.ReplaysCommon.{Refusal, Deed, Kept, empty, LineFault, RunningVerdict, ReplayFault, Text, Read, OutOfMemory, Stage, TraceHead, Verdict, deed_at, opened, parts_of, text_at, trace_head_at}
 use Rattle.schedule.proofs.ReplaysCommon.{Stands, trace_answer, answer_of, judged_of, judge_refusal, numbered, JudgesTrace}
-use Rattle.schedule.specs.declared.replays.stage.Stage.TheVariants as stages
+use Rattle.schedule.specs.declared.replays.stage.TraceStage.TheVariants as stages
 use Rattle.schedule.specs.Numbers.{number_of}
 use Rattle.schedule.proofs.Closing.{ruled_on}
 use Rattle.schedule.proofs.Staging.{none_last, none_empty, fine_last, faulty_last}
@@ -13,10 +13,10 @@ item h = deed_at h.width
 pub ended_first : (lines : List (List ℕ)) → Stands stages.First lines → trace_answer (lines ++ [] ∷ []) ≡ Err (Text 1 1)
 ended_first lines none = rw none (ap answer_of (none_empty trace_head_at item))
 
-pub ended_judging : (lines : List (List ℕ)) (head : TraceHead) (judge : Kept) (hearing : Hearing) → Stands (stages.Judging head judge hearing) lines
-    → trace_answer (lines ++ [] ∷ []) ≡ Ok hearing.verdict
-ended_judging lines head judge hearing h =
-    let ruled = ruled_on h.3.0 judge opened hearing h.0 (empty head.procs head.cap) refl h.3.2 h.3.1 in
+pub ended_judging : (lines : List (List ℕ)) (head : TraceHead) (judge : Kept) (running_verdict : RunningVerdict) → Stands (stages.Judging head judge running_verdict) lines
+    → trace_answer (lines ++ [] ∷ []) ≡ Ok running_verdict.verdict
+ended_judging lines head judge running_verdict h =
+    let ruled = ruled_on h.3.0 judge opened running_verdict h.0 (empty head.procs head.cap) refl h.3.2 h.3.1 in
     ap answer_of h.1 ∙ ap (λ (o : Option Refusal). judged_of (numbered o) head.procs head.cap h.0) h.2 ∙ ap (λ v. Ok v) (sym ruled)
 
 pub cut_faulty : (lines : List (List ℕ)) (rest : List ℕ) (k : ℕ) (f : LineFault) → 0 < length rest → Stands (stages.Faulty k f) lines
@@ -28,7 +28,7 @@ pub cut_fine : (stage : Stage) (lines : List (List ℕ)) (rest : List ℕ) → 0
     → trace_answer (lines ++ rest ∷ []) ≡ Err (Text (length lines + 1) 5)
 cut_fine stages.First lines rest some sound none = rw none (ap answer_of (none_last trace_head_at item rest some))
 cut_fine (stages.Refused head number) lines rest some sound h = ap answer_of (fine_last trace_head_at item lines rest head h.0 some h.1)
-cut_fine (stages.Judging head judge hearing) lines rest some sound h = ap answer_of (fine_last trace_head_at item lines rest head h.0 some h.1)
+cut_fine (stages.Judging head judge running_verdict) lines rest some sound h = ap answer_of (fine_last trace_head_at item lines rest head h.0 some h.1)
 cut_fine (stages.Faulty k f) lines rest some sound h = absurd (sound k f refl)
 
 -- ---- the whole source

@@ -1,6 +1,6 @@
 -- The end of a report, and the whole report.
 use Rattle.std.proofs.Common.{◌≡◌, ℕ, ◌+◌, ◌-◌, ◌^◌, min, List, [], ◌++◌, Option, Some, None, Err, refl, sym, ap, subst, ◌∙◌, append_assoc, ◌⊎◌, inl, inr, append-nil}
-use Rattle.schedule.proofs.ReplaysCommon.{Refusal, Deed, Kept, Keeps, State, Image, Hearing, ReplayFault, Text, Read, OutOfMemory, Refused, Write, Verdict, opened, bench, with_more, heard_with, Hears, Tape}
+use Rattle.schedule.proofs.ReplaysCommon.{Refusal, Deed, Kept, Keeps, State, Image, RunningVerdict, ReplayFault, Text, Read, OutOfMemory, Refused, Write, Verdict, opened, running_judge, with_more, heard_with, Hears, Tape}
 use Rattle.schedule.proofs.ReplaysCommon.{Writes, BreaksOff, Ends, IsRefused, told_text, owns_text, words_of_verdict, verdict_line, IsEnd, Part, deeds_of, verdict_on}
 use Rattle.schedule.specs.Tapes.{Begins}
 use Rattle.schedule.specs.Replays.{IsAll, Reported, CutShort, Closes}
@@ -108,9 +108,9 @@ never_refused before now image verdict (Refused line number) h is = h
 never_refused before now image verdict _ h is = is
 
 -- the verdict on all deeds that were judged
-pub ruled_on : (judge now : Kept) (first hearing : Hearing) (deeds : List Deed) (start : State) → first ≡ opened → Hears (bench judge first) deeds (bench now hearing) → Keeps judge start
-    → hearing.verdict ≡ verdict_on start deeds
-ruled_on judge now first hearing deeds start fresh hears keeps =
+pub ruled_on : (judge now : Kept) (first running_verdict : RunningVerdict) (deeds : List Deed) (start : State) → first ≡ opened → Hears (running_judge judge first) deeds (running_judge now running_verdict) → Keeps judge start
+    → running_verdict.verdict ≡ verdict_on start deeds
+ruled_on judge now first running_verdict deeds start fresh hears keeps =
     let h = hears start (λ fine. keeps) in
     let ruled : with_more first.verdict first.number start (deeds ++ []) ≡ verdict_on start (deeds ++ []) = rw fresh refl in
-    sym (no_more hearing.verdict hearing.number (heard_with first.verdict start deeds)) ∙ sym (h.1 []) ∙ ruled ∙ ap (verdict_on start) (append-nil deeds)
+    sym (no_more running_verdict.verdict running_verdict.number (heard_with first.verdict start deeds)) ∙ sym (h.1 []) ∙ ruled ∙ ap (verdict_on start) (append-nil deeds)

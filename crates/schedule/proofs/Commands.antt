@@ -3,14 +3,14 @@ use Rattle.std.proofs.Common.{◌≡◌, ℕ, Bool, true, false, cond, eqb, List
 use Rattle.schedule.proofs.LinesCommon.{cases_eq, decimal, word_of, words_of_line, IsLine, commands_by_name, places, line_with, line_at, Shape, Number, any, many, has_fixed, numbers_at, is_nil, item_after}
 use Rattle.schedule.specs.declared.lines.line.Line.TheVariants.{Start, Step, Crash}
 use Rattle.schedule.specs.declared.lines.line.Line.{Line}
-use Rattle.schedule.specs.declared.lines.command.Command.{Command}
-use Rattle.schedule.specs.declared.lines.command.Command.TheVariants as commands
+use Rattle.schedule.specs.declared.lines.command.Keyword.{Keyword}
+use Rattle.schedule.specs.declared.lines.command.Keyword.TheVariants as commands
 use Rattle.rmeworld.specs.declared.call.Call.TheVariants as calls
 use Rattle.schedule.proofs.Joins.{ArePlain, decimal_above, decimals_plain, IsCodec}
 use Rattle.schedule.proofs.Forms.{Says, item_takes, one, two, three, reads}
 use Rattle.schedule.proofs.Places.{Fits, AreNarrow, number_again, numbers_again, many_narrow, many_fixed, many_from, many_fit}
 
-abbrev LineSays : ℕ → Command → List Shape → List ℕ → Type 0
+abbrev LineSays : ℕ → Keyword → List Shape → List ℕ → Type 0
 LineSays width c shapes ns = Says Line words_of_line (IsLine width) (word_of c) (line_with c ns) shapes ns
 
 append_says : (width : ℕ) (ns : List ℕ) → Fits (any ∷ any ∷ many width) ns → LineSays width commands.Append (any ∷ any ∷ many width) ns
@@ -43,7 +43,7 @@ steps_fixed : (b : Bool) (ws : List (List ℕ)) → has_fixed (step_places b) ws
 steps_fixed true ws = refl
 steps_fixed false ws = refl
 
-says : (width : ℕ) (c : Command) (ws : List (List ℕ)) (ns : List ℕ) → Fits (places width c ws) ns → LineSays width c (places width c ws) ns
+says : (width : ℕ) (c : Keyword) (ws : List (List ℕ)) (ns : List ℕ) → Fits (places width c ws) ns → LineSays width c (places width c ws) ns
 says width commands.Append ws ns h = append_says width ns h
 says width commands.Put ws ns h = three (LineSays width commands.Put (any ∷ any ∷ any ∷ [])) (λ p i v small below under. record { said = refl; fits = (small, (below, under)) }) ns h
 says width commands.Get ws ns h = two (LineSays width commands.Get (any ∷ any ∷ [])) (λ p i small below. record { said = refl; fits = (small, below) }) ns h
@@ -51,14 +51,14 @@ says width commands.Step ws ns h = steps_say width (is_nil (drop 1 ws)) ns h
 says width commands.Crash ws ns h = one (LineSays width commands.Crash (any ∷ [])) (λ p small. record { said = refl; fits = small }) ns h
 says width c ws ns h = one (LineSays width c (any ∷ [])) (λ p small. record { said = refl; fits = (small, tt) }) ns h
 
-narrow : (width : ℕ) (c : Command) (ws : List (List ℕ)) → AreNarrow (places width c ws)
+narrow : (width : ℕ) (c : Keyword) (ws : List (List ℕ)) → AreNarrow (places width c ws)
 narrow width commands.Append ws = (lit< tt, (lit< tt, many_narrow width))
 narrow width commands.Put ws = (lit< tt, (lit< tt, (lit< tt, tt)))
 narrow width commands.Get ws = (lit< tt, (lit< tt, tt))
 narrow width commands.Step ws = steps_narrow (is_nil (drop 1 ws))
 narrow width _ ws = (lit< tt, tt)
 
-fixed : (width : ℕ) (c : Command) (ws : List (List ℕ)) → has_fixed (places width c ws) ws ≡ true
+fixed : (width : ℕ) (c : Keyword) (ws : List (List ℕ)) → has_fixed (places width c ws) ws ≡ true
 fixed width commands.Append ws = many_fixed width (drop 1 (drop 1 ws))
 fixed width commands.Step ws = steps_fixed (is_nil (drop 1 ws)) ws
 fixed width _ ws = refl

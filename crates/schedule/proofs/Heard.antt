@@ -1,6 +1,6 @@
 -- Deeds that are judged one after another.
 use Rattle.std.proofs.Common.{◌≡◌, ℕ, List, [], ◌∷◌, ◌++◌, Result, Ok, Err, refl, sym, ap, subst, ◌∙◌, append_assoc, append-nil}
-use Rattle.schedule.proofs.ReplaysCommon.{Fault, one_more, Deed, Kept, Keeps, State, judged, after, Hearing, Verdict, Fine, Against, opened, bench, with_more, heard_with, Hears, Bench, if_allowed, heard}
+use Rattle.schedule.proofs.ReplaysCommon.{Fault, one_more, Deed, Kept, Keeps, State, judged, after, RunningVerdict, Verdict, Fine, Against, opened, running_judge, with_more, heard_with, Hears, RunningJudge, if_allowed, heard}
 use Rattle.schedule.proofs.ReplaysCommon.{ruled, verdict_from}
 
 pub no_more : (v : Verdict) (k : ℕ) (s : State) → with_more v k s [] ≡ v
@@ -11,8 +11,8 @@ none_heard : (v : Verdict) (s : State) → heard_with v s [] ≡ s
 none_heard Fine s = refl
 none_heard (Against at fault) s = refl
 
-pub hears_none : (b : Bench) → Hears b [] b
-hears_none b s sits = rw (none_heard b.hearing.verdict s) (λ keeps. keeps, λ more. refl)
+pub hears_none : (b : RunningJudge) → Hears b [] b
+hears_none b s sits = rw (none_heard b.running_verdict.verdict s) (λ keeps. keeps, λ more. refl)
 
 heard_on : (k : ℕ) (s : State) (ds es : List Deed) → heard s (ds ++ es) ≡ heard_with (verdict_from k s ds) (heard s ds) es
 heard_on k s [] es = refl
@@ -32,40 +32,40 @@ was_fine : (v : Verdict) (k : ℕ) (s : State) (ds : List Deed) → with_more v 
 was_fine Fine k s ds fine = refl
 was_fine (Against at fault) k s ds fine = cc
 
-pub hears_both : (a b c : Bench) (ds es : List Deed) → Hears a ds b → Hears b es c → Hears a (ds ++ es) c
+pub hears_both : (a b c : RunningJudge) (ds es : List Deed) → Hears a ds b → Hears b es c → Hears a (ds ++ es) c
 hears_both a b c ds es first second s sits =
-    let v = a.hearing.verdict in
-    let k = a.hearing.number in
+    let v = a.running_verdict.verdict in
+    let k = a.running_verdict.number in
     let mid = heard_with v s ds in
     let one = first s sits in
-    let ruled : with_more v k s ds ≡ b.hearing.verdict =
-    ap (with_more v k s) (sym (append-nil ds)) ∙ one.1 [] ∙ no_more b.hearing.verdict b.hearing.number mid in
+    let ruled : with_more v k s ds ≡ b.running_verdict.verdict =
+    ap (with_more v k s) (sym (append-nil ds)) ∙ one.1 [] ∙ no_more b.running_verdict.verdict b.running_verdict.number mid in
     let two = second mid (λ fine. one.0 (sits (was_fine v k s ds (ruled ∙ fine)))) in
-    let end : heard_with v s (ds ++ es) ≡ heard_with b.hearing.verdict mid es =
+    let end : heard_with v s (ds ++ es) ≡ heard_with b.running_verdict.verdict mid es =
     heard_both v k s ds es ∙ ap (λ (w : Verdict). heard_with w mid es) ruled in
     rw end (λ keeps. two.0 (one.0 keeps), λ more. ap (with_more v k s) (append_assoc ds es more) ∙ one.1 (es ++ more) ∙ two.1 more)
 
 -- a judge that was asked allows the deed
-pub hears_allowed : (judge now : Kept) (a b : Hearing) (d : Deed) → a.verdict ≡ Fine → b.verdict ≡ Fine → b.number ≡ one_more a.number
+pub hears_allowed : (judge now : Kept) (a b : RunningVerdict) (d : Deed) → a.verdict ≡ Fine → b.verdict ≡ Fine → b.number ≡ one_more a.number
     → ((s : State) → Keeps judge s → (judged s d ≡ Ok (after s d)) × Keeps now (after s d))
-    → Hears (bench judge a) (d ∷ []) (bench now b)
+    → Hears (running_judge judge a) (d ∷ []) (running_judge now b)
 hears_allowed judge now a b d before fine number fed s sits =
     let f = fed s (sits before) in
     rw (before, fine, number) (rw f.0 (λ keeps. f.1, λ more. refl))
 
 -- or refuses it, and is as it was
-pub hears_refused : (judge now : Kept) (a b : Hearing) (d : Deed) (fault : Fault) → a.verdict ≡ Fine → b.verdict ≡ Against a.number fault → now ≡ judge
+pub hears_refused : (judge now : Kept) (a b : RunningVerdict) (d : Deed) (fault : Fault) → a.verdict ≡ Fine → b.verdict ≡ Against a.number fault → now ≡ judge
     → ((s : State) → Keeps judge s → judged s d ≡ Err fault)
-    → Hears (bench judge a) (d ∷ []) (bench now b)
+    → Hears (running_judge judge a) (d ∷ []) (running_judge now b)
 hears_refused judge now a b d fault before against same fed s sits =
     rw (before, against, same) (rw (fed s (sits before)) (λ keeps. keeps, λ more. refl))
 
 -- after one that was refused, deeds change nothing
-pub hears_on : (judge : Kept) (a : Hearing) (at : ℕ) (fault : Fault) (ds : List Deed) → a.verdict ≡ Against at fault
-    → Hears (bench judge a) ds (bench judge a)
+pub hears_on : (judge : Kept) (a : RunningVerdict) (at : ℕ) (fault : Fault) (ds : List Deed) → a.verdict ≡ Against at fault
+    → Hears (running_judge judge a) ds (running_judge judge a)
 hears_on judge a at fault ds is s sits = rw is (λ keeps. keeps, λ more. refl)
 
 -- the judge of all deeds of a run is in the state of the judge table
-pub stands_heard : (judge now : Kept) (first hearing : Hearing) (deeds : List Deed) (start : State) → first ≡ opened → Hears (bench judge first) deeds (bench now hearing) → Keeps judge start
+pub stands_heard : (judge now : Kept) (first running_verdict : RunningVerdict) (deeds : List Deed) (start : State) → first ≡ opened → Hears (running_judge judge first) deeds (running_judge now running_verdict) → Keeps judge start
     → Keeps now (heard start deeds)
-stands_heard judge now first hearing deeds start fresh hears keeps = subst (λ (h : Hearing). Keeps now (heard_with h.verdict start deeds)) fresh ((hears start (λ fine. keeps)).0 keeps)
+stands_heard judge now first running_verdict deeds start fresh hears keeps = subst (λ (h : RunningVerdict). Keeps now (heard_with h.verdict start deeds)) fresh ((hears start (λ fine. keeps)).0 keeps)

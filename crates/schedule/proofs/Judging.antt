@@ -40,8 +40,8 @@ pub is_refused : (procs cap : ℕ) (refusal : Refusal) (number : ℕ)
     → (refusal ≡ BadProcs) ⊎ (refusal ≡ BadCap) ⊎ (refusal ≡ OutOfMemory) → number_of refusal ≡ Some number → numbered (judge_refusal procs cap) ≡ Some number
 is_refused procs cap refusal number by_procs by_cap (inl is) n = rw (few_false procs (by_procs is)) (ap number_of (sym is) ∙ n)
 is_refused procs cap refusal number by_procs by_cap (inr (inl is)) n =
-    let why = by_cap is in
-    rw (few_from procs why.0 why.1, small_false cap why.2) (ap number_of (sym is) ∙ n)
+    let purpose = by_cap is in
+    rw (few_from procs purpose.0 purpose.1, small_false cap purpose.2) (ap number_of (sym is) ∙ n)
 is_refused procs cap refusal number by_procs by_cap (inr (inr is)) n = absurd (let no : number_of OutOfMemory ≡ Some number = ap number_of (sym is) ∙ n in cc)
 
 -- a judge that was given no deed is in its start state

@@ -1,13 +1,13 @@
 -- Parts of a run that are played one after another.
 use Rattle.std.proofs.Common.{◌≡◌, ℕ, suc, true, false, is_some, if◌then◌else◌, ◌+◌, List, [], ◌∷◌, ◌++◌, length, Option, Some, None, Result, Ok, Err, OnOk, IfErr, refl, sym, ap, ◌∙◌, subst, append_assoc, ◌⊎◌, inl, inr, arith, append-nil, length-append, codes}
-use Rattle.schedule.proofs.ReplaysCommon.{join_with_byte, Refusal, number_of, Deed, Answer, Call, Stepped, Line, Start, Step, Crash, words_of_deed, Hears, Bench, Tape, Writes, BreaksOff, Ends, IsRefused}
-use Rattle.schedule.proofs.ReplaysCommon.{halted, halt_of, Halts, Tells, Stops, IsRefusal, Plays, fault_at, told_text, told_line, Part, deeds_of, Told, Did, told_of, Behaviour, unless, followed, Answered, did}
+use Rattle.schedule.proofs.ReplaysCommon.{join_with_byte, Refusal, number_of, Deed, Answer, Call, Stepped, Line, Start, Step, Crash, words_of_deed, Hears, RunningJudge, Tape, Writes, BreaksOff, Ends, IsRefused}
+use Rattle.schedule.proofs.ReplaysCommon.{halted, replay_stop_of, ReplayStops, Tells, Stops, IsRefusal, Plays, fault_at, told_text, told_line, Part, deeds_of, Told, Did, told_of, Behaviour, unless, followed, Answered, did}
 use Rattle.schedule.proofs.ReplaysCommon.{answered, steps, line_on, run_on, line_of}
 use Rattle.std.specs.Fmt.{decimal}
 use Rattle.std.proofs.lemmas.List.Concat.{flat_map-append}
 use Rattle.rmecore.specs.declared.refusal.Refusal.TheVariants as refusals
-use Rattle.schedule.specs.declared.replays.halt.Halt.{Halt}
-use Rattle.schedule.specs.declared.replays.halt.Halt.TheVariants.{Refused, Write, OutOfMemory}
+use Rattle.schedule.specs.declared.replays.replay_stop.ReplayStop.{ReplayStop}
+use Rattle.schedule.specs.declared.replays.replay_stop.ReplayStop.TheVariants.{Refused, Write, OutOfMemory}
 use Rattle.schedule.specs.Answers.{words_of_answer}
 use Rattle.schedule.proofs.Heard.{hears_none, hears_both}
 use Rattle.schedule.specs.Tapes.{Begins}
@@ -20,11 +20,11 @@ pub deeds_told : (p : ℕ) (deed : Option Deed) (answer : Option Answer) → dee
 deeds_told p None answer = answer_is_no_deed p answer
 deeds_told p (Some deed) answer = ap (λ (ds : List Deed). deed ∷ ds) (answer_is_no_deed p answer)
 
-pub tells : {A : Type 0} (before now : Tape) (bench heard : Bench) (told : List Told) (r : Result A Halt)
-    → OnOk r (Writes before now (told_text told)) → IfErr r (λ halt. Halts before now (told_text told) None halt)
-    → Hears bench (deeds_of told) heard → Tells before now bench heard told r
-tells before now bench heard told (Ok x) written halted hears = (written, hears)
-tells before now bench heard told (Err halt) written halted hears = halted
+pub tells : {A : Type 0} (before now : Tape) (running_judge heard : RunningJudge) (told : List Told) (r : Result A ReplayStop)
+    → OnOk r (Writes before now (told_text told)) → IfErr r (λ replay_stop. ReplayStops before now (told_text told) None replay_stop)
+    → Hears running_judge (deeds_of told) heard → Tells before now running_judge heard told r
+tells before now running_judge heard told (Ok x) written halted hears = (written, hears)
+tells before now running_judge heard told (Err replay_stop) written halted hears = halted
 
 -- ---- one part after another
 
@@ -37,14 +37,14 @@ deeds_append (Did deed ∷ a) b = ap (λ (ds : List Deed). deed ∷ ds) (deeds_a
 deeds_append (Answered p answer ∷ a) b = deeds_append a b
 
 -- what was reported so far is written and judged
-pub record Played (before now : Tape) (bench heard : Bench) (told : List Told) : Type 0 where
+pub record Played (before now : Tape) (running_judge heard : RunningJudge) (told : List Told) : Type 0 where
   pub writes : Writes before now (told_text told)
-  pub hears : Hears bench (deeds_of told) heard
+  pub hears : Hears running_judge (deeds_of told) heard
 
-pub played_none : (t : Tape) (b : Bench) → Played t t b b []
+pub played_none : (t : Tape) (b : RunningJudge) → Played t t b b []
 played_none t b = record { writes = record { taken = sym (append-nil t.taken); fine = refl }; hears = hears_none b }
 
-pub played_more : (t u v : Tape) (a b c : Bench) (told more : List Told) → Played t u a b told → Writes u v (told_text more) → Hears b (deeds_of more) c → Played t v a c (told ++ more)
+pub played_more : (t u v : Tape) (a b c : RunningJudge) (told more : List Told) → Played t u a b told → Writes u v (told_text more) → Hears b (deeds_of more) c → Played t v a c (told ++ more)
 played_more t u v a b c told more so_far writes hears =
     record {
       writes = record {
@@ -120,26 +120,26 @@ deed_some p None answer is = absurd cc
 deed_some p (Some deed) answer is = told_some (Did deed) (answered p answer)
 
 -- a part stops after what was reported, within what is reported next
-pub halts_further : (t u v : Tape) (a b : Bench) (told next after all : List Told) (refused : Option Refusal) (halt : Halt) → Played t u a b told → all ≡ told ++ (next ++ after)
-    → Halts u v (told_text next) None halt → Halts t v (told_text all) refused halt
-halts_further t u v a b told next after all refused (Refused number) so_far e h = absurd (let no : None ≡ Some h.1.0 = h.1.1 in cc)
-halts_further t u v a b told next after all refused Write so_far e h =
+pub replay_stops_further : (t u v : Tape) (a b : RunningJudge) (told next after all : List Told) (refused : Option Refusal) (replay_stop : ReplayStop) → Played t u a b told → all ≡ told ++ (next ++ after)
+    → ReplayStops u v (told_text next) None replay_stop → ReplayStops t v (told_text all) refused replay_stop
+replay_stops_further t u v a b told next after all refused (Refused number) so_far e h = absurd (let no : None ≡ Some h.1.0 = h.1.1 in cc)
+replay_stops_further t u v a b told next after all refused Write so_far e h =
     let text : told_text all ≡ told_text told ++ (told_text next ++ told_text after) = ap told_text e ∙ told_append told (next ++ after) ∙ ap (λ (xs : List ℕ). told_text told ++ xs) (told_append next after) in
     (rw text (begins_further t.taken u.taken v.taken (told_text told) (told_text next ++ told_text after) so_far.writes.taken (begins_wider u.taken v.taken (told_text next) (told_text after) h.0)), rw (← so_far.writes.fine) h.1)
-halts_further t u v a b told next after all refused OutOfMemory so_far e h =
+replay_stops_further t u v a b told next after all refused OutOfMemory so_far e h =
     let text : told_text all ≡ told_text told ++ (told_text next ++ told_text after) = ap told_text e ∙ told_append told (next ++ after) ∙ ap (λ (xs : List ℕ). told_text told ++ xs) (told_append next after) in
     (rw text (breaks_further t.taken u.taken v.taken (told_text told) (told_text next ++ told_text after) so_far.writes.taken (breaks_wider u.taken v.taken (told_text next) (told_text after) h.0)), rw (← so_far.writes.fine) h.1)
 
 -- what is not refused does not stop by a refusal
-pub never_stops : {S : Type 0} (t u : Tape) (text : List ℕ) (halt : Halt) (a b : Bench) (told : List Told) (left s : S) → Halts t u text None halt → IsRefusal halt → Stops a b told left s
+pub never_stops : {S : Type 0} (t u : Tape) (text : List ℕ) (replay_stop : ReplayStop) (a b : RunningJudge) (told : List Told) (left s : S) → ReplayStops t u text None replay_stop → IsRefusal replay_stop → Stops a b told left s
 never_stops t u text (Refused number) a b told left s h is = absurd (let no : None ≡ Some h.1.0 = h.1.1 in cc)
 never_stops t u text Write a b told left s h is = absurd is
 never_stops t u text OutOfMemory a b told left s h is = absurd is
 
 -- out of memory at the next step, which reports its deed
-pub halts_here : (t u : Tape) (a b : Bench) (told after all : List Told) (p : ℕ) (step : Stepped) (refused : Option Refusal) → Played t u a b told
-    → all ≡ told ++ (told_of p step.deed step.answer ++ after) → is_some step.deed ≡ true → Halts t u (told_text all) refused OutOfMemory
-halts_here t u a b told after all p step refused so_far e deed =
+pub replay_stops_here : (t u : Tape) (a b : RunningJudge) (told after all : List Told) (p : ℕ) (step : Stepped) (refused : Option Refusal) → Played t u a b told
+    → all ≡ told ++ (told_of p step.deed step.answer ++ after) → is_some step.deed ≡ true → ReplayStops t u (told_text all) refused OutOfMemory
+replay_stops_here t u a b told after all p step refused so_far e deed =
     let next : List Told = told_of p step.deed step.answer in
     let text : told_text all ≡ told_text told ++ told_text (next ++ after) = ap told_text e ∙ told_append told (next ++ after) in
     let some : told_text (next ++ after) ≡ [] → ⊥ = λ none. deed_some p step.deed step.answer deed (append_none (told_text next) (told_text after) (sym (told_append next after) ∙ none)) in
@@ -204,30 +204,30 @@ module _ {S : Type 0} (b : Behaviour S) (p : ℕ) where
   steps_none s = refl
 
 -- a refusal other than out of memory
-pub is_refused : (e : Refusal) (number : ℕ) (o : Option Refusal) → (e ≡ refusals.OutOfMemory) ⊎ (o ≡ Some e) → halt_of e ≡ Refused number → o ≡ Some e
-is_refused e number o (inl is) h = absurd (let no : halt_of refusals.OutOfMemory ≡ Refused number = ap halt_of (sym is) ∙ h in cc)
+pub is_refused : (e : Refusal) (number : ℕ) (o : Option Refusal) → (e ≡ refusals.OutOfMemory) ⊎ (o ≡ Some e) → replay_stop_of e ≡ Refused number → o ≡ Some e
+is_refused e number o (inl is) h = absurd (let no : replay_stop_of refusals.OutOfMemory ≡ Refused number = ap replay_stop_of (sym is) ∙ h in cc)
 is_refused e number o (inr is) h = is
 
 -- all of a part was reported
-pub plays_all : {S : Type 0} (before now : Tape) (bench heard : Bench) (total : List Told × S) (told : List Told) (refused : Option Refusal) (s : S)
-    → Played before now bench heard told → total ≡ (told, s) → refused ≡ None
-    → Writes before now (told_text total.0) × Hears bench (deeds_of total.0) heard × (refused ≡ None) × (s ≡ total.1)
-plays_all before now bench heard total told refused s played e accepted = rw e (played.writes, played.hears, accepted, refl)
+pub plays_all : {S : Type 0} (before now : Tape) (running_judge heard : RunningJudge) (total : List Told × S) (told : List Told) (refused : Option Refusal) (s : S)
+    → Played before now running_judge heard told → total ≡ (told, s) → refused ≡ None
+    → Writes before now (told_text total.0) × Hears running_judge (deeds_of total.0) heard × (refused ≡ None) × (s ≡ total.1)
+plays_all before now running_judge heard total told refused s played e accepted = rw e (played.writes, played.hears, accepted, refl)
 
 -- one part was played, and then the rest of it
-pub plays_then : {S A : Type 0} (t u v : Tape) (a b c : Bench) (told : List Told) (total rest : List Told × S) (refused : Option Refusal) (s : S) (r : Result A Halt)
+pub plays_then : {S A : Type 0} (t u v : Tape) (a b c : RunningJudge) (told : List Told) (total rest : List Told × S) (refused : Option Refusal) (s : S) (r : Result A ReplayStop)
     → Played t u a b told → total ≡ (told ++ rest.0, rest.1) → refused ≡ None → Plays u v b c rest.0 rest.1 None s r → Plays t v a c total.0 total.1 refused s r
 plays_then t u v a b c told total rest refused s (Ok x) so_far e accepted h =
     let all = played_more t u v a b c told rest.0 so_far h.0 h.1 in
     rw e (all.writes, all.hears, accepted, h.3)
-plays_then t u v a b c told total rest refused s (Err halt) so_far e accepted h =
-    (halts_further t u v a b told rest.0 [] total.0 refused halt so_far (told_is _ _ e ∙ ap (λ (xs : List Told). told ++ xs) (sym (append-nil rest.0))) h.0, never_stops u v (told_text rest.0) halt a c total.0 total.1 s h.0)
+plays_then t u v a b c told total rest refused s (Err replay_stop) so_far e accepted h =
+    (replay_stops_further t u v a b told rest.0 [] total.0 refused replay_stop so_far (told_is _ _ e ∙ ap (λ (xs : List Told). told ++ xs) (sym (append-nil rest.0))) h.0, never_stops u v (told_text rest.0) replay_stop a c total.0 total.1 s h.0)
 
 -- what is reported is all of a part
-pub plays_told : {S A : Type 0} (t u : Tape) (a b : Bench) (told all : List Told) (left : S) (refused : Option Refusal) (s : S) (r : Result A Halt)
+pub plays_told : {S A : Type 0} (t u : Tape) (a b : RunningJudge) (told all : List Told) (left : S) (refused : Option Refusal) (s : S) (r : Result A ReplayStop)
     → Tells t u a b told r → all ≡ told → s ≡ left → refused ≡ None → Plays t u a b all left refused s r
 plays_told t u a b told all left refused s (Ok x) h e is accepted = rw e (h.0, h.1, accepted, is)
-plays_told t u a b told all left refused s (Err halt) h e is accepted = (rw (e, accepted) h, never_stops t u (told_text told) halt a b all left s h)
+plays_told t u a b told all left refused s (Err replay_stop) h e is accepted = (rw (e, accepted) h, never_stops t u (told_text told) replay_stop a b all left s h)
 
 -- a refusal without a number is out of memory
 pub unnumbered : (e : Refusal) → number_of e ≡ None → e ≡ refusals.OutOfMemory
@@ -235,24 +235,24 @@ unnumbered refusals.OutOfMemory is = refl
 unnumbered _ is = absurd cc
 
 -- a refusal before anything is reported, or out of memory for what would be reported
-numbered_halts : (t : Tape) (text : List ℕ) (o : Option Refusal) (e : Refusal) (n : Option ℕ) → number_of e ≡ n → (e ≡ refusals.OutOfMemory) ⊎ (o ≡ Some e) → (e ≡ refusals.OutOfMemory → text ≡ [] → ⊥)
-    → (o ≡ Some e → text ≡ []) → Halts t t text o (halted n)
-numbered_halts t text o e None is why memory silent = (breaks_nothing t.taken text (memory (unnumbered e is)), refl)
-numbered_halts t text o e (Some number) is (inl none) memory silent = absurd (let no : number_of refusals.OutOfMemory ≡ Some number = ap number_of (sym none) ∙ is in cc)
-numbered_halts t text o e (Some number) is (inr refused) memory silent =
+numbered_replay_stops : (t : Tape) (text : List ℕ) (o : Option Refusal) (e : Refusal) (n : Option ℕ) → number_of e ≡ n → (e ≡ refusals.OutOfMemory) ⊎ (o ≡ Some e) → (e ≡ refusals.OutOfMemory → text ≡ [] → ⊥)
+    → (o ≡ Some e → text ≡ []) → ReplayStops t t text o (halted n)
+numbered_replay_stops t text o e None is purpose memory silent = (breaks_nothing t.taken text (memory (unnumbered e is)), refl)
+numbered_replay_stops t text o e (Some number) is (inl none) memory silent = absurd (let no : number_of refusals.OutOfMemory ≡ Some number = ap number_of (sym none) ∙ is in cc)
+numbered_replay_stops t text o e (Some number) is (inr refused) memory silent =
     (record { taken = rw (silent refused) (sym (append-nil t.taken)); fine = refl }, (e, refused, is))
 
-numbered_stops : {S : Type 0} (a : Bench) (told : List Told) (left s : S) (o : Option Refusal) (e : Refusal) (n : Option ℕ) → number_of e ≡ n → (e ≡ refusals.OutOfMemory) ⊎ (o ≡ Some e) → (o ≡ Some e → (told ≡ []) × (s ≡ left))
+numbered_stops : {S : Type 0} (a : RunningJudge) (told : List Told) (left s : S) (o : Option Refusal) (e : Refusal) (n : Option ℕ) → number_of e ≡ n → (e ≡ refusals.OutOfMemory) ⊎ (o ≡ Some e) → (o ≡ Some e → (told ≡ []) × (s ≡ left))
     → IsRefusal (halted n) → Stops a a told left s
-numbered_stops a told left s o e None is why silent stopped = absurd stopped
+numbered_stops a told left s o e None is purpose silent stopped = absurd stopped
 numbered_stops a told left s o e (Some number) is (inl memory) silent stopped = absurd (let no : number_of refusals.OutOfMemory ≡ Some number = ap number_of (sym memory) ∙ is in cc)
 numbered_stops a told left s o e (Some number) is (inr refused) silent stopped =
     let still = silent refused in record { hears = rw still.0 (hears_none a); stands = still.1 }
 
-pub refusal_halts : {S : Type 0} (t : Tape) (a : Bench) (told : List Told) (left s : S) (o : Option Refusal) (e : Refusal) → (e ≡ refusals.OutOfMemory) ⊎ (o ≡ Some e)
-    → (e ≡ refusals.OutOfMemory → told_text told ≡ [] → ⊥) → (o ≡ Some e → (told ≡ []) × (s ≡ left)) → Halts t t (told_text told) o (halt_of e) × (IsRefusal (halt_of e) → Stops a a told left s)
-refusal_halts t a told left s o e why memory silent =
-    (numbered_halts t (told_text told) o e (number_of e) refl why memory (λ refused. ap told_text (silent refused).0), numbered_stops a told left s o e (number_of e) refl why silent)
+pub refusal_replay_stops : {S : Type 0} (t : Tape) (a : RunningJudge) (told : List Told) (left s : S) (o : Option Refusal) (e : Refusal) → (e ≡ refusals.OutOfMemory) ⊎ (o ≡ Some e)
+    → (e ≡ refusals.OutOfMemory → told_text told ≡ [] → ⊥) → (o ≡ Some e → (told ≡ []) × (s ≡ left)) → ReplayStops t t (told_text told) o (replay_stop_of e) × (IsRefusal (replay_stop_of e) → Stops a a told left s)
+refusal_replay_stops t a told left s o e purpose memory silent =
+    (numbered_replay_stops t (told_text told) o e (number_of e) refl purpose memory (λ refused. ap told_text (silent refused).0), numbered_stops a told left s o e (number_of e) refl purpose silent)
 
 -- ---- one line after another
 
@@ -267,12 +267,12 @@ unless_refused : {S : Type 0} (o : Option Refusal) (s : S) (told : List Told) (l
 unless_refused None s told left = refl
 unless_refused (Some e) s told left = refl
 
-pub unless_halts : {S : Type 0} (t : Tape) (a : Bench) (o : Option Refusal) (s : S) (told : List Told) (left now : S) (e : Refusal) → (e ≡ refusals.OutOfMemory) ⊎ (o ≡ Some e)
+pub unless_replay_stops : {S : Type 0} (t : Tape) (a : RunningJudge) (o : Option Refusal) (s : S) (told : List Told) (left now : S) (e : Refusal) → (e ≡ refusals.OutOfMemory) ⊎ (o ≡ Some e)
     → (e ≡ refusals.OutOfMemory → (o ≡ None) × (told_text told ≡ [] → ⊥)) → now ≡ s
-    → Halts t t (told_text (unless o s told left).told) (unless o s told left).refused (halt_of e) × (IsRefusal (halt_of e) → Stops a a (unless o s told left).told (unless o s told left).left now)
-unless_halts t a o s told left now e why memory same =
+    → ReplayStops t t (told_text (unless o s told left).told) (unless o s told left).refused (replay_stop_of e) × (IsRefusal (replay_stop_of e) → Stops a a (unless o s told left).told (unless o s told left).left now)
+unless_replay_stops t a o s told left now e purpose memory same =
     rw (unless_refused o s told left) (
-    refusal_halts t a (unless o s told left).told (unless o s told left).left now o e why (λ is. rw (memory is).0 (memory is).1) (λ refused. rw refused (refl, same)))
+    refusal_replay_stops t a (unless o s told left).told (unless o s told left).left now o e purpose (λ is. rw (memory is).0 (memory is).1) (λ refused. rw refused (refl, same)))
 
 module _ {S : Type 0} (b : Behaviour S) where
   -- where lines are still to be played after what was reported
@@ -290,19 +290,19 @@ module _ {S : Type 0} (b : Behaviour S) where
       let after : Part S (ℕ × Refusal) = run_on b (k + 1) part.left rest in
       rw left (still ∙ rw e (rw accepted (ap (λ (xs : List Told). record { told = xs; left = after.left; refused = after.refused }) (sym (append_assoc told part.told after.told)))))
 
-  pub runs_end : (t u : Tape) (a c : Bench) (run : Part S (ℕ × Refusal)) (told : List Told) (k : ℕ) (s : S) (lines : List Line) → Played t u a c told → RunsOn run told k s lines → lines ≡ []
+  pub runs_end : (t u : Tape) (a c : RunningJudge) (run : Part S (ℕ × Refusal)) (told : List Told) (k : ℕ) (s : S) (lines : List Line) → Played t u a c told → RunsOn run told k s lines → lines ≡ []
       → Writes t u (told_text run.told) × Hears a (deeds_of run.told) c × (run.refused ≡ None) × (s ≡ run.left)
   unfolding run_on
   runs_end t u a c run told k s lines played still none =
       let is : run ≡ record { told = told; left = s; refused = None } = still ∙ rw none (ap (λ (xs : List Told). record { told = xs; left = s; refused = None }) (append-nil told)) in
       rw is (played.writes, played.hears, refl, refl)
 
-  pub runs_halt : (t u v : Tape) (a c d : Bench) (run : Part S (ℕ × Refusal)) (told : List Told) (k : ℕ) (s now : S) (line : Line) (lines rest : List Line) (halt : Halt)
+  pub runs_replay_stop : (t u v : Tape) (a c d : RunningJudge) (run : Part S (ℕ × Refusal)) (told : List Told) (k : ℕ) (s now : S) (line : Line) (lines rest : List Line) (replay_stop : ReplayStop)
       → Played t u a c told → RunsOn run told k s lines → lines ≡ line ∷ rest
-      → Halts u v (told_text (line_on b s line).told) (line_on b s line).refused halt × (IsRefusal halt → Stops c d (line_on b s line).told (line_on b s line).left now)
-      → Ends t v run (fault_at k halt) × (IsRefused (fault_at k halt) → Stops a d run.told run.left now)
+      → ReplayStops u v (told_text (line_on b s line).told) (line_on b s line).refused replay_stop × (IsRefusal replay_stop → Stops c d (line_on b s line).told (line_on b s line).left now)
+      → Ends t v run (fault_at k replay_stop) × (IsRefused (fault_at k replay_stop) → Stops a d run.told run.left now)
   unfolding run_on
-  runs_halt t u v a c d run told k s now line lines rest (Refused number) played still e h =
+  runs_replay_stop t u v a c d run told k s now line lines rest (Refused number) played still e h =
       let part : Part S Refusal = line_on b s line in
       let r = h.0.1 in
       let stops = h.1 tt in
@@ -313,16 +313,16 @@ module _ {S : Type 0} (b : Behaviour S) where
       ∙ ap (λ (xs : List ℕ). t.taken ++ xs) (sym (told_append told part.told)) in
       let hears : Hears a (deeds_of (told ++ part.told)) d = rw (deeds_append told part.told) (hears_both a c d (deeds_of told) (deeds_of part.told) played.hears stops.hears) in
       rw is ((record { taken = taken; fine = w.fine ∙ played.writes.fine }, (r.0, refl, r.2)), λ refused. record { hears = hears; stands = stops.stands })
-  runs_halt t u v a c d run told k s now line lines rest Write played still e h =
+  runs_replay_stop t u v a c d run told k s now line lines rest Write played still e h =
       let part : Part S Refusal = line_on b s line in
       let after = followed_told k part part.refused (run_on b (k + 1) part.left rest) in
       let whole : run.told ≡ told ++ (part.told ++ after.0) = ap (λ x. x.told) still ∙ rw e (ap (λ (xs : List Told). told ++ xs) after.1) in
-      (halts_further t u v a c told part.told after.0 run.told None Write played whole h.0, λ no. absurd no)
-  runs_halt t u v a c d run told k s now line lines rest OutOfMemory played still e h =
+      (replay_stops_further t u v a c told part.told after.0 run.told None Write played whole h.0, λ no. absurd no)
+  runs_replay_stop t u v a c d run told k s now line lines rest OutOfMemory played still e h =
       let part : Part S Refusal = line_on b s line in
       let after = followed_told k part part.refused (run_on b (k + 1) part.left rest) in
       let whole : run.told ≡ told ++ (part.told ++ after.0) = ap (λ x. x.told) still ∙ rw e (ap (λ (xs : List Told). told ++ xs) after.1) in
-      (halts_further t u v a c told part.told after.0 run.told None OutOfMemory played whole h.0, λ no. absurd no)
+      (replay_stops_further t u v a c told part.told after.0 run.told None OutOfMemory played whole h.0, λ no. absurd no)
 
   -- ---- one line
 

@@ -23,23 +23,23 @@ pub use Rattle.rmeworld.specs.declared.answer.Answer.{Answer}
 pub use Rattle.rmeworld.specs.declared.call.Call.{Call}
 pub use Rattle.rmeworld.specs.declared.image.Image.{Image}
 pub use Rattle.rmeworld.specs.declared.stepped.Stepped.{Stepped}
-pub use Rattle.rmeworld.specs.WorldState.{new_refusal, WorldState, stand_at, spot_at, scene_of, Takes, new_world, image_world}
-pub use Rattle.schedule.specs.declared.replays.hearing.Hearing.{Hearing}
+pub use Rattle.rmeworld.specs.WorldState.{new_refusal, WorldState, machine_state_at, process_state_at, global_state_of, Takes, new_world, image_world}
+pub use Rattle.schedule.specs.declared.replays.running_verdict.RunningVerdict.{RunningVerdict}
 pub use Rattle.schedule.specs.declared.lines.line.Line.{Line}
 pub use Rattle.schedule.specs.declared.replays.replay_fault.ReplayFault.{ReplayFault}
 pub use Rattle.schedule.specs.declared.replays.replay_fault.ReplayFault.TheVariants.{Text, Read, OutOfMemory, Refused, Write}
-pub use Rattle.schedule.specs.declared.replays.stage.Stage.{Stage}
+pub use Rattle.schedule.specs.declared.replays.stage.TraceStage.{TraceStage}
 pub use Rattle.schedule.specs.declared.texts.trace.TraceHead.{TraceHead}
 pub use Rattle.schedule.specs.declared.replays.verdict.Verdict.{Verdict}
 pub use Rattle.schedule.specs.declared.replays.verdict.Verdict.TheVariants.{Fine, Against}
-pub use Rattle.schedule.specs.Hearings.{opened, bench, with_more, heard_with, Hears, Bench, if_allowed, heard}
+pub use Rattle.schedule.specs.RunningVerdicts.{opened, running_judge, with_more, heard_with, Hears, RunningJudge, if_allowed, heard}
 pub use Rattle.schedule.specs.Tapes.{Tape, Writes, BreaksOff}
-pub use Rattle.schedule.specs.Plays.{Ends, IsRefused, halted, halt_of, Halts, Tells, Stops, IsRefusal, Plays, fault_at, IsOver}
+pub use Rattle.schedule.specs.Plays.{Ends, IsRefused, halted, replay_stop_of, ReplayStops, Tells, Stops, IsRefusal, Plays, fault_at, IsOver}
 pub use Rattle.schedule.specs.Reports.{told_text, owns_text, words_of_verdict, verdict_line, IsEnd, told_line, messages_text}
 pub use Rattle.schedule.specs.Runs.{Part, deeds_of, Told, Did, told_of, unless, followed, Answered, did, answered}
 pub use Rattle.rmeworld.specs.Behaviours.{Behaviour}
 unfoldable pub use Rattle.schedule.specs.Runs.{steps, line_on, run_on}
-pub use Rattle.schedule.specs.Trials.{Stands, trace_answer, answer_of, judged_of, judge_refusal, numbered, JudgesTrace, Fed, Trial}
+pub use Rattle.schedule.specs.TraceJudges.{Stands, trace_answer, answer_of, judged_of, judge_refusal, numbered, JudgesTrace, Fed, TraceJudgeState}
 pub use Rattle.schedule.specs.Verdicts.{verdict_on, ruled, verdict_from}
 pub use Rattle.schedule.specs.Wholes.{Silent, header_fault, layout_of, OfSchedule, OfText}
 pub use Rattle.rmeworld.specs.Replayed.{world_behaviour}

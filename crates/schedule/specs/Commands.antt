@@ -3,8 +3,8 @@ use Rattle.std.specs.Prelude.{◌≡◌, ℕ, Bool, true, ◌<◌, ◌≤◌, �
 use Rattle.std.specs.List.{AllByRecursion}
 use Rattle.std.specs.Fmt.{decimal}
 use Rattle.schedule.specs.declared.lines.fault.LineFault.{LineFault}
-use Rattle.schedule.specs.declared.lines.command.Command.{Command}
-use Rattle.schedule.specs.declared.lines.command.Command.TheVariants as commands
+use Rattle.schedule.specs.declared.lines.command.Keyword.{Keyword}
+use Rattle.schedule.specs.declared.lines.command.Keyword.TheVariants as commands
 use Rattle.rmeworld.specs.declared.call.Call.{Call}
 use Rattle.rmeworld.specs.declared.call.Call.TheVariants as calls
 use Rattle.schedule.specs.declared.lines.line.Line.{Line}
@@ -57,7 +57,7 @@ fits width line = true
 -- ---- reading: the command, then its numbers
 
 -- the name of a command
-abbrev pub word_of : Command → List ℕ
+abbrev pub word_of : Keyword → List ℕ
 word_of commands.Lock = codes "lock"
 word_of commands.Unlock = codes "unlock"
 word_of commands.Consistent = codes "consistent"
@@ -71,11 +71,11 @@ word_of commands.Step = codes "step"
 word_of commands.Crash = codes "crash"
 
 -- a command with its name
-abbrev pub entry : Command → List ℕ × Command
+abbrev pub entry : Keyword → List ℕ × Keyword
 entry command = (word_of command, command)
 
 -- all commands by their names
-abbrev pub commands_by_name : List (List ℕ × Command)
+abbrev pub commands_by_name : List (List ℕ × Keyword)
 commands_by_name =
     entry commands.Lock
     ∷ entry commands.Unlock
@@ -91,7 +91,7 @@ commands_by_name =
     ∷ []
 
 -- the places after a command; a step has a second one only where a second word follows
-abbrev pub places : ℕ → Command → List (List ℕ) → List Shape
+abbrev pub places : ℕ → Keyword → List (List ℕ) → List Shape
 places width commands.Append ws = any ∷ any ∷ many width
 places width commands.Put ws = any ∷ any ∷ any ∷ []
 places width commands.Get ws = any ∷ any ∷ []
@@ -99,7 +99,7 @@ places width commands.Step ws = if is_nil (drop 1 ws) then any ∷ [] else any �
 places width command ws = any ∷ []
 
 -- the line that a command makes of these numbers; a step with one number is one step
-abbrev pub line_with : Command → List ℕ → Line
+abbrev pub line_with : Keyword → List ℕ → Line
 line_with commands.Lock ns = Start (slice_index ns 0) calls.Lock
 line_with commands.Unlock ns = Start (slice_index ns 0) calls.Unlock
 line_with commands.Consistent ns = Start (slice_index ns 0) calls.Consistent

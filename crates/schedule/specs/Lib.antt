@@ -12,9 +12,9 @@ pub mod Fronts
 pub mod Verdicts
 pub mod Runs
 pub mod Reports
-pub mod Hearings
+pub mod RunningVerdicts
 pub mod Plays
 pub mod Replays
-pub mod Trials
+pub mod TraceJudges
 pub mod Wholes
-pub mod Stories
+pub mod Executions

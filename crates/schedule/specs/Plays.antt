@@ -4,51 +4,51 @@ use Rattle.rmecore.specs.declared.refusal.Refusal.{Refusal}
 use Rattle.rmecore.specs.Refused.{number_of}
 use Rattle.schedule.specs.declared.replays.replay_fault.ReplayFault.{ReplayFault}
 use Rattle.schedule.specs.declared.replays.replay_fault.ReplayFault.TheVariants as faults
-use Rattle.schedule.specs.declared.replays.halt.Halt.{Halt}
-use Rattle.schedule.specs.declared.replays.halt.Halt.TheVariants.{Refused, Write, OutOfMemory}
+use Rattle.schedule.specs.declared.replays.replay_stop.ReplayStop.{ReplayStop}
+use Rattle.schedule.specs.declared.replays.replay_stop.ReplayStop.TheVariants.{Refused, Write, OutOfMemory}
 use Rattle.schedule.specs.Tapes.{Tape, Writes, Begins, BreaksOff}
 use Rattle.schedule.specs.Runs.{Told, Part, deeds_of}
 use Rattle.schedule.specs.Reports.{told_text}
-use Rattle.schedule.specs.Hearings.{Bench, Hears}
+use Rattle.schedule.specs.RunningVerdicts.{RunningJudge, Hears}
 
 -- why a part stops before its end. Out of memory leaves some of its text unwritten, so it never replaces a refusal
-abbrev pub Halts : Tape → Tape → List ℕ → Option Refusal → Halt → Type 0
-Halts before now text refused (Refused number) = Writes before now text × ((refusal : Refusal) × (refused ≡ Some refusal) × (number_of refusal ≡ Some number))
-Halts before now text refused Write = Begins before.taken now.taken text × (now.failures ≡ min (before.failures + 1) (2 ^ 64 - 1))
-Halts before now text refused OutOfMemory = BreaksOff before.taken now.taken text × (now.failures ≡ before.failures)
+abbrev pub ReplayStops : Tape → Tape → List ℕ → Option Refusal → ReplayStop → Type 0
+ReplayStops before now text refused (Refused number) = Writes before now text × ((refusal : Refusal) × (refused ≡ Some refusal) × (number_of refusal ≡ Some number))
+ReplayStops before now text refused Write = Begins before.taken now.taken text × (now.failures ≡ min (before.failures + 1) (2 ^ 64 - 1))
+ReplayStops before now text refused OutOfMemory = BreaksOff before.taken now.taken text × (now.failures ≡ before.failures)
 
 -- the refusal OutOfMemory has no number
-abbrev pub halted : Option ℕ → Halt
+abbrev pub halted : Option ℕ → ReplayStop
 halted None = OutOfMemory
 halted (Some number) = Refused number
 
 -- the stop that a refusal by the machine makes
-abbrev pub halt_of : Refusal → Halt
-halt_of refusal = halted (number_of refusal)
+abbrev pub replay_stop_of : Refusal → ReplayStop
+replay_stop_of refusal = halted (number_of refusal)
 
 -- what is reported is written, and its deeds are given to the judge
-abbrev pub Tells : {A : Type 0} → Tape → Tape → Bench → Bench → List Told → Result A Halt → Type 0
-Tells before now bench heard told (Ok x) = Writes before now (told_text told) × Hears bench (deeds_of told) heard
-Tells before now bench heard told (Err halt) = Halts before now (told_text told) None halt
+abbrev pub Tells : {A : Type 0} → Tape → Tape → RunningJudge → RunningJudge → List Told → Result A ReplayStop → Type 0
+Tells before now running_judge heard told (Ok x) = Writes before now (told_text told) × Hears running_judge (deeds_of told) heard
+Tells before now running_judge heard told (Err replay_stop) = ReplayStops before now (told_text told) None replay_stop
 
 -- the deeds that were reported are judged, and the machine is in the state that is left
-pub record Stops {S : Type 0} (bench heard : Bench) (told : List Told) (left s : S) : Type 0 where
-  pub hears : Hears bench (deeds_of told) heard
+pub record Stops {S : Type 0} (running_judge heard : RunningJudge) (told : List Told) (left s : S) : Type 0 where
+  pub hears : Hears running_judge (deeds_of told) heard
   pub stands : s ≡ left
 
 -- the machine refuses the line
-abbrev pub IsRefusal : Halt → Type 0
+abbrev pub IsRefusal : ReplayStop → Type 0
 IsRefusal (Refused number) = Unit {0}
-IsRefusal halt = ⊥
+IsRefusal replay_stop = ⊥
 
 -- a part of a run is played: what it reports is written and judged, and the machine is in the state that is left
-abbrev pub Plays : {S A : Type 0} → Tape → Tape → Bench → Bench → List Told → S → Option Refusal → S → Result A Halt → Type 0
-Plays before now bench heard told left refused s (Ok x) =
-    Writes before now (told_text told) × Hears bench (deeds_of told) heard × (refused ≡ None) × (s ≡ left)
-Plays before now bench heard told left refused s (Err halt) = Halts before now (told_text told) refused halt × (IsRefusal halt → Stops bench heard told left s)
+abbrev pub Plays : {S A : Type 0} → Tape → Tape → RunningJudge → RunningJudge → List Told → S → Option Refusal → S → Result A ReplayStop → Type 0
+Plays before now running_judge heard told left refused s (Ok x) =
+    Writes before now (told_text told) × Hears running_judge (deeds_of told) heard × (refused ≡ None) × (s ≡ left)
+Plays before now running_judge heard told left refused s (Err replay_stop) = ReplayStops before now (told_text told) refused replay_stop × (IsRefusal replay_stop → Stops running_judge heard told left s)
 
 -- the answer of a replay that stops at this line
-abbrev pub fault_at : ℕ → Halt → ReplayFault
+abbrev pub fault_at : ℕ → ReplayStop → ReplayFault
 fault_at line (Refused number) = faults.Refused line number
 fault_at line Write = faults.Write
 fault_at line OutOfMemory = faults.OutOfMemory
@@ -67,10 +67,10 @@ IsRefused (faults.Refused line number) = Unit {0}
 IsRefused fault = ⊥
 
 -- the lines of a run are played
-abbrev pub Runs : {S A : Type 0} → Tape → Tape → Bench → Bench → Part S (ℕ × Refusal) → S → Result A ReplayFault → Type 0
-Runs before now bench heard run s (Ok x) =
-    Writes before now (told_text run.told) × Hears bench (deeds_of run.told) heard × (run.refused ≡ None) × (s ≡ run.left)
-Runs before now bench heard run s (Err fault) = Ends before now run fault × (IsRefused fault → Stops bench heard run.told run.left s)
+abbrev pub Runs : {S A : Type 0} → Tape → Tape → RunningJudge → RunningJudge → Part S (ℕ × Refusal) → S → Result A ReplayFault → Type 0
+Runs before now running_judge heard run s (Ok x) =
+    Writes before now (told_text run.told) × Hears running_judge (deeds_of run.told) heard × (run.refused ≡ None) × (s ≡ run.left)
+Runs before now running_judge heard run s (Err fault) = Ends before now run fault × (IsRefused fault → Stops running_judge heard run.told run.left s)
 
 -- the run is over: with a verdict, or at the line that is refused
 abbrev pub IsOver : {A : Type 0} → Result A ReplayFault → Type 0

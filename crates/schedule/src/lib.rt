@@ -13,7 +13,7 @@ pub use replays::last_words::put_verdict;
 pub use replays::replay_fault::ReplayFault;
 pub use replays::replay_text::replay;
 pub use replays::replaying::replay_on;
-pub use replays::trial::judge_trace;
+pub use replays::trace_judge::judge_trace;
 pub use replays::verdict::Verdict;
 pub use texts::device::{Failed, Page, Sink, Source, Text};
 pub use texts::fault::{OutOfMemory, TextFault};

@@ -1,16 +1,16 @@
 //! Replays a schedule on a machine before a judge, and reports it. Judges a trace while it is read.
 
-mod clerk;
-mod halt;
-pub mod hearing;
 pub mod last_words;
 pub mod laws;
 pub mod pieces;
 mod play;
 mod play_in_place;
 pub mod replay_fault;
+mod replay_stop;
 pub mod replay_text;
 pub mod replaying;
+mod reporter;
+pub mod running_verdict;
 pub mod stage;
-pub mod trial;
+pub mod trace_judge;
 pub mod verdict;

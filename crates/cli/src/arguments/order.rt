@@ -2,13 +2,13 @@
 
 ghost use Rattle.std.specs.Prelude.{◌≡◌, option_copied};
 
+use crate::explain::dictionary_entry::DictionaryEntry;
 use crashlab::Variant;
 use diagram::Style;
-use crate::explain::topic::Topic;
 
 /// `replay`: runs a schedule and prints its report.
 #[derive(Debug, Drop, PartialEq, Eq)]
-pub struct ReplayOrder {
+pub struct ReplayArgs {
     /// Print one JSON object of the report's lines.
     pub json: bool,
     /// Print a line for each step.
@@ -24,7 +24,7 @@ pub struct ReplayOrder {
 
 /// `run`: senders send through the running lock, each on a thread of its own, and crash at random.
 #[derive(Clone, Copy, Debug, PartialEq, Eq)]
-pub struct RunOrder {
+pub struct RunArgs {
     /// The number of senders.
     pub procs: u64,
     /// The number of messages that each sender sends.
@@ -39,7 +39,7 @@ pub struct RunOrder {
 
 /// `hunt`: draws schedules until one goes wrong.
 #[derive(Clone, Copy, Debug, PartialEq, Eq)]
-pub struct HuntOrder {
+pub struct HuntArgs {
     pub variant: Variant,
     pub seed: u64,
     pub rounds: u64,
@@ -64,7 +64,7 @@ pub struct Alphabet {
 
 /// `explore`: tries all schedules up to a bound, the shorter before the longer.
 #[derive(Clone, Copy, Debug, PartialEq, Eq)]
-pub struct ExploreOrder {
+pub struct ExploreArgs {
     pub variant: Variant,
     pub procs: u64,
     pub calls: Alphabet,
@@ -81,7 +81,7 @@ pub struct ExploreOrder {
 
 /// `draw`: runs a schedule and draws its run.
 #[derive(Debug, Drop, PartialEq, Eq)]
-pub struct DrawOrder {
+pub struct DrawArgs {
     pub style: Style,
     pub variant: Variant,
     /// The file of the image that the world starts from.
@@ -92,7 +92,7 @@ pub struct DrawOrder {
 
 /// `shrink`: shrinks a schedule that goes wrong on a variant.
 #[derive(Debug, Drop, PartialEq, Eq)]
-pub struct ShrinkOrder {
+pub struct ShrinkArgs {
     pub variant: Variant,
     /// The schedule's file; without one, standard input.
     pub file: Option<String>,
@@ -101,16 +101,16 @@ pub struct ShrinkOrder {
 /// A command with its arguments.
 #[derive(Debug, Drop, PartialEq, Eq)]
 pub enum Command {
-    Replay(ReplayOrder),
-    Run(RunOrder),
-    Hunt(HuntOrder),
-    Explore(ExploreOrder),
+    Replay(ReplayArgs),
+    Run(RunArgs),
+    Hunt(HuntArgs),
+    Explore(ExploreArgs),
     /// Prints the verdict of a trace in a file, or on standard input.
     Judge(Option<String>),
-    Draw(DrawOrder),
-    Shrink(ShrinkOrder),
+    Draw(DrawArgs),
+    Shrink(ShrinkArgs),
     /// Prints what this topic means; without one, the names of all topics.
-    Explain(Option<Topic>),
+    Explain(Option<DictionaryEntry>),
 }
 
 impl Command {

@@ -1,19 +1,19 @@
 //! Reads the words of the command line.
 
 ghost use Rattle.std.specs.Prelude.{◌≡◌, ◌↔◌, IfOk, IsOk, OnErr, IsErrOf};
-ghost use Rattle.cli.specs.declared.explain.topic.Topic.{Topic as AnyTopic};
+ghost use Rattle.cli.specs.declared.explain.dictionary_entry.DictionaryEntry.{DictionaryEntry as AnyDictionaryEntry};
 ghost use Rattle.cli.specs.Names.{name_of};
 ghost use Rattle.cli.specs.Sizes.{IsSized, HuntFits, RunFits};
 
 use crate::arguments::order::{
-    Alphabet, Command, DrawOrder, ExploreOrder, HuntOrder, ReplayOrder, RunOrder, ShrinkOrder,
+    Alphabet, Command, DrawArgs, ExploreArgs, HuntArgs, ReplayArgs, RunArgs, ShrinkArgs,
 };
 use crate::arguments::parser::parser;
+use crate::explain::dictionary_entry::{DictionaryEntry, dictionary_entry_named};
 use clap::error::ErrorKind;
 use clap::{ArgMatches, Error};
 use crashlab::Variant;
 use diagram::Style;
-use crate::explain::topic::{Topic, topic_named};
 use std::alloc::{AllocError, Global};
 use std::io;
 use std::rt::Env;
@@ -103,8 +103,8 @@ fn variant_beside_image(matches: &ArgMatches<'_>) -> Result<Variant, WordsFault>
     Ok(variant)
 }
 
-fn replay_words(alloc: Global, matches: &ArgMatches<'_>) -> Result<ReplayOrder, WordsFault> {
-    Ok(ReplayOrder {
+fn replay_words(alloc: Global, matches: &ArgMatches<'_>) -> Result<ReplayArgs, WordsFault> {
+    Ok(ReplayArgs {
         json: matches.get_flag("json"),
         each: matches.get_flag("each"),
         variant: variant_beside_image(matches)?,
@@ -122,8 +122,8 @@ fn style_of(matches: &ArgMatches<'_>) -> Style {
     }
 }
 
-fn draw_words(alloc: Global, matches: &ArgMatches<'_>) -> Result<DrawOrder, WordsFault> {
-    Ok(DrawOrder {
+fn draw_words(alloc: Global, matches: &ArgMatches<'_>) -> Result<DrawArgs, WordsFault> {
+    Ok(DrawArgs {
         style: style_of(matches),
         variant: variant_beside_image(matches)?,
         image: text_of(alloc, matches, "image")?,
@@ -132,7 +132,7 @@ fn draw_words(alloc: Global, matches: &ArgMatches<'_>) -> Result<DrawOrder, Word
 }
 
 /// The arguments of a hunt, if its numbers are in their ranges.
-fn hunt_of(order: HuntOrder) -> Result<HuntOrder, WordsFault>
+fn hunt_of(order: HuntArgs) -> Result<HuntArgs, WordsFault>
     ensures fits { IsOk result ↔ HuntFits order }
     ensures same { IfOk result (λ sized. sized ≡ order) }
     ensures size { OnErr result (IsErrOf result WordsFault.BadSize) }
@@ -145,10 +145,10 @@ fn hunt_of(order: HuntOrder) -> Result<HuntOrder, WordsFault>
     }
 }
 
-fn hunt_words(matches: &ArgMatches<'_>) -> Result<HuntOrder, WordsFault>
+fn hunt_words(matches: &ArgMatches<'_>) -> Result<HuntArgs, WordsFault>
     ensures { IfOk result HuntFits }
 {
-    hunt_of(HuntOrder {
+    hunt_of(HuntArgs {
         variant: variant_of(matches, "")?,
         seed: number_of(matches, "seed"),
         rounds: number_of(matches, "rounds"),
@@ -157,8 +157,8 @@ fn hunt_words(matches: &ArgMatches<'_>) -> Result<HuntOrder, WordsFault>
     })
 }
 
-fn shrink_words(alloc: Global, matches: &ArgMatches<'_>) -> Result<ShrinkOrder, WordsFault> {
-    Ok(ShrinkOrder {
+fn shrink_words(alloc: Global, matches: &ArgMatches<'_>) -> Result<ShrinkArgs, WordsFault> {
+    Ok(ShrinkArgs {
         variant: variant_of(matches, "")?,
         file: text_of(alloc, matches, "FILE")?,
     })
@@ -195,8 +195,8 @@ fn number_or(matches: &ArgMatches<'_>, name: &str, without: u64) -> u64 {
     matches.get_one::<u64>(name).unwrap_or(without)
 }
 
-fn explore_words(matches: &ArgMatches<'_>) -> Result<ExploreOrder, WordsFault> {
-    Ok(ExploreOrder {
+fn explore_words(matches: &ArgMatches<'_>) -> Result<ExploreArgs, WordsFault> {
+    Ok(ExploreArgs {
         variant: variant_of(matches, "")?,
         procs: number_of(matches, "procs"),
         calls: alphabet_of(matches.get_str("calls").unwrap_or("lock,unlock"))?,
@@ -210,7 +210,7 @@ fn explore_words(matches: &ArgMatches<'_>) -> Result<ExploreOrder, WordsFault> {
 }
 
 /// The arguments of a run, if its numbers are in their ranges.
-fn run_of(order: RunOrder) -> Result<RunOrder, WordsFault>
+fn run_of(order: RunArgs) -> Result<RunArgs, WordsFault>
     ensures fits { IsOk result ↔ RunFits order }
     ensures same { IfOk result (λ sized. sized ≡ order) }
     ensures size { OnErr result (IsErrOf result WordsFault.BadSize) }
@@ -226,10 +226,10 @@ fn run_of(order: RunOrder) -> Result<RunOrder, WordsFault>
     }
 }
 
-fn run_words(matches: &ArgMatches<'_>) -> Result<RunOrder, WordsFault>
+fn run_words(matches: &ArgMatches<'_>) -> Result<RunArgs, WordsFault>
     ensures { IfOk result RunFits }
 {
-    run_of(RunOrder {
+    run_of(RunArgs {
         procs: number_of(matches, "procs"),
         messages: number_of(matches, "messages"),
         crash: number_of(matches, "crash"),
@@ -246,12 +246,12 @@ fn unnamed(alloc: Global, name: &str) -> Result<String, AllocError> {
 }
 
 /// The topic with this name.
-fn topic_of(alloc: Global, name: &str) -> Result<Topic, WordsFault>
-    ensures named { IfOk result (λ topic. name_of topic ≡ name.now) }
-    ensures found { (topic : AnyTopic) → name_of topic ≡ name.now → IsOk result }
+fn dictionary_entry_of(alloc: Global, name: &str) -> Result<DictionaryEntry, WordsFault>
+    ensures named { IfOk result (λ dictionary_entry. name_of dictionary_entry ≡ name.now) }
+    ensures found { (dictionary_entry : AnyDictionaryEntry) → name_of dictionary_entry ≡ name.now → IsOk result }
 {
-    match topic_named(name) {
-        Some(topic) => Ok(topic),
+    match dictionary_entry_named(name) {
+        Some(dictionary_entry) => Ok(dictionary_entry),
         None => Err(WordsFault::Refused {
             text: unnamed(alloc, name)?,
         }),
@@ -259,11 +259,14 @@ fn topic_of(alloc: Global, name: &str) -> Result<Topic, WordsFault>
 }
 
 /// The topic that the words name, joined by spaces; none without words.
-fn explain_words(alloc: Global, matches: &ArgMatches<'_>) -> Result<Option<Topic>, WordsFault> {
+fn explain_words(
+    alloc: Global,
+    matches: &ArgMatches<'_>,
+) -> Result<Option<DictionaryEntry>, WordsFault> {
     match matches.get_strs("WORDS") {
         Some(words) => {
             let name = words.join(alloc, " ")?;
-            Ok(Some(topic_of(alloc, &name)?))
+            Ok(Some(dictionary_entry_of(alloc, &name)?))
         }
         None => Ok(None),
     }

@@ -1,7 +1,7 @@
 //! The meanings of the answers of calls.
 
 ghost use Rattle.std.specs.Prelude.{◌≡◌};
-ghost use Rattle.cli.specs.declared.explain.topic.Topic.TheVariants.{Answer as OfAnswer};
+ghost use Rattle.cli.specs.declared.explain.dictionary_entry.DictionaryEntry.TheVariants.{Answer as OfAnswer};
 ghost use Rattle.cli.specs.Names.{name_of, name_of_found, name_of_reply};
 
 use crate::explain::meaning::Meaning;

@@ -1,7 +1,7 @@
 //! The meanings of the refusals of calls.
 
 ghost use Rattle.std.specs.Prelude.{◌≡◌};
-ghost use Rattle.cli.specs.declared.explain.topic.Topic.TheVariants.{Refused as OfRefused};
+ghost use Rattle.cli.specs.declared.explain.dictionary_entry.DictionaryEntry.TheVariants.{Refused as OfRefused};
 ghost use Rattle.cli.specs.Names.{name_of};
 
 use crate::explain::meaning::Meaning;

@@ -1,7 +1,7 @@
 //! The meanings of the kinds of steps.
 
 ghost use Rattle.std.specs.Prelude.{◌≡◌};
-ghost use Rattle.cli.specs.declared.explain.topic.Topic.TheVariants.{Step as OfStep};
+ghost use Rattle.cli.specs.declared.explain.dictionary_entry.DictionaryEntry.TheVariants.{Step as OfStep};
 ghost use Rattle.cli.specs.Names.{name_of};
 
 use crate::explain::meaning::Meaning;

@@ -2,11 +2,11 @@
 
 ghost use Rattle.std.specs.Prelude.{◌≡◌, ◌+◌, ◌-◌, ◌^◌, min, OnOk, OnErr};
 ghost use Rattle.schedule.specs.Tapes.{Writes};
-ghost use Rattle.cli.specs.Told.{list_of, meaning_text, TellsTopic};
-ghost use Rattle.cli.specs.declared.explain.topic.TheConstants.{TOPICS as all_topics};
+ghost use Rattle.cli.specs.Told.{list_of, meaning_text, TellsDictionaryEntry};
+ghost use Rattle.cli.specs.declared.explain.dictionary_entry.TheConstants.{ENTRIES as all_dictionary_entries};
 
+use crate::explain::dictionary_entry::{DictionaryEntry, ENTRIES};
 use crate::explain::meaning::{Meaning, meaning_of};
-use crate::explain::topic::{TOPICS, Topic};
 use schedule::texts::device::write_all;
 use schedule::{Failed, Sink};
 
@@ -24,21 +24,24 @@ fn tell<W: Sink>(meaning: &Meaning, w: &mut W) -> Result<(), Failed>
 }
 
 /// Writes the meaning of a topic. `Failed`: the sink has failed.
-pub fn tell_topic<W: Sink>(topic: Topic, w: &mut W) -> Result<(), Failed>
-    ensures told { OnOk result (TellsTopic topic (W.tape w.old) (W.tape w.new)) }
+pub fn tell_dictionary_entry<W: Sink>(
+    dictionary_entry: DictionaryEntry,
+    w: &mut W,
+) -> Result<(), Failed>
+    ensures told { OnOk result (TellsDictionaryEntry dictionary_entry (W.tape w.old) (W.tape w.new)) }
     ensures failed { OnErr result ((W.tape w.new).failures ≡ min ((W.tape w.old).failures + 1) (2 ^ 64 - 1)) }
 {
-    let meaning = meaning_of(topic);
+    let meaning = meaning_of(dictionary_entry);
     tell(&meaning, w)
 }
 
 /// Writes the name of each of these topics, one on a line.
-fn tell_names<W: Sink>(topics: &[Topic], w: &mut W) -> Result<(), Failed>
-    ensures told { OnOk result (Writes (W.tape w.old) (W.tape w.new) (list_of topics.now)) }
+fn tell_names<W: Sink>(dictionary_entries: &[DictionaryEntry], w: &mut W) -> Result<(), Failed>
+    ensures told { OnOk result (Writes (W.tape w.old) (W.tape w.new) (list_of dictionary_entries.now)) }
     ensures failed { OnErr result ((W.tape w.new).failures ≡ min ((W.tape w.old).failures + 1) (2 ^ 64 - 1)) }
 {
-    for topic in topics {
-        write_all(w, meaning_of(*topic).name.as_bytes())?;
+    for dictionary_entry in dictionary_entries {
+        write_all(w, meaning_of(*dictionary_entry).name.as_bytes())?;
         write_all(w, b"\n")?;
     }
     Ok(())
@@ -46,8 +49,8 @@ fn tell_names<W: Sink>(topics: &[Topic], w: &mut W) -> Result<(), Failed>
 
 /// Writes the names of all topics, one on a line. `Failed`: the sink has failed.
 pub fn tell_all_names<W: Sink>(w: &mut W) -> Result<(), Failed>
-    ensures told { OnOk result (Writes (W.tape w.old) (W.tape w.new) (list_of all_topics)) }
+    ensures told { OnOk result (Writes (W.tape w.old) (W.tape w.new) (list_of all_dictionary_entries)) }
     ensures failed { OnErr result ((W.tape w.new).failures ≡ min ((W.tape w.old).failures + 1) (2 ^ 64 - 1)) }
 {
-    tell_names(&TOPICS, w)
+    tell_names(&ENTRIES, w)
 }

@@ -1,13 +1,13 @@
 //! The meanings of the faults of texts, the rules of images and the faults of judges.
 
 ghost use Rattle.std.specs.Prelude.{◌≡◌};
-ghost use Rattle.cli.specs.declared.explain.topic.Topic.TheVariants.{Fault as OfFault, Rule as OfRule, Against as OfAgainst};
+ghost use Rattle.cli.specs.declared.explain.dictionary_entry.DictionaryEntry.TheVariants.{Fault as OfFault, Rule as OfRule, Against as OfAgainst};
 ghost use Rattle.cli.specs.Names.{name_of};
 
 use crate::explain::meaning::Meaning;
 use crate::explain::rule::Rule;
-use schedule::LineFault;
 use rmecore::Fault;
+use schedule::LineFault;
 
 const NO_HEADER: &str =
     "The first line is no header, or there is no line at all. A schedule begins with `rme 1 procs N limit L cap C` and a \

@@ -1,7 +1,7 @@
 //! The command `draw`.
 
 ghost use Rattle.std.specs.Prelude.{◌≡◌, IfOk, IfSome, option_copied, false};
-ghost use Rattle.diagram.specs.Drawings.{sheet_of, spelled};
+ghost use Rattle.diagram.specs.Drawings.{diagram_layout_of, spelled};
 ghost use Rattle.judge.specs.Stands.{Keeps};
 ghost use Rattle.judge.specs.Starts.{IsStart, state_of};
 ghost use Rattle.judge.specs.Table.{State};
@@ -17,22 +17,22 @@ ghost use Rattle.schedule.specs.Runs.{deeds_of, run_on};
 ghost use Rattle.schedule.specs.Verdicts.{verdict_on};
 
 use crate::schedules::ending::{Ending, status_after_verdict};
-use crate::schedules::fault::Fault;
+use crate::schedules::fault::CommandFault;
 use crate::schedules::setting::{
     fitting, image_read, image_world, new_judge, new_world, schedule_read, start_at, started_judge,
     variant_world,
 };
+use cli::arguments::order::DrawArgs;
 use crashlab::Variant;
-use diagram::{Drawing, End, Phase, Style, draw, write_drawing};
+use diagram::{Drawing, End, LifelinePhase, Style, draw, write_drawing};
 use judge::{Judge, Start};
-use cli::arguments::order::DrawOrder;
 use rmeworld::{Image, Machine};
+use schedule::replays::laws::worlds_are_never_found_out;
 use schedule::{Schedule, Sink, Source};
 use std::alloc::Global;
-use schedule::replays::laws::worlds_are_never_found_out;
 
 /// How the command ends after the whole drawing.
-fn ending_of(end: End) -> Result<Ending, Fault>
+fn ending_of(end: End) -> Result<Ending, CommandFault>
     ensures { result ≡ ending_for end }
 {
     match end {
@@ -40,7 +40,7 @@ fn ending_of(end: End) -> Result<Ending, Fault>
             status: status_after_verdict(verdict),
             save: None,
         }),
-        End::Refused { line, number, .. } => Err(Fault::Refused { line, number }),
+        End::Refused { line, number, .. } => Err(CommandFault::Refused { line, number }),
     }
 }
 
@@ -50,8 +50,10 @@ fn write_drawn<W: Sink>(
     drawing: &Drawing,
     style: Style,
     w: &mut W,
-) -> Result<Ending, Fault>
-    ensures written { IsWritten (W.tape w.old) (W.tape w.new) (spelled (sheet_of style drawing.now.head drawing.now.rows.items drawing.now.end) drawing.now.first drawing.now.rows.items drawing.now.end) drawing.now.end result }
+) -> Result<Ending, CommandFault>
+    ensures written { IsWritten (W.tape w.old) (W.tape w.new)
+        (spelled (diagram_layout_of style drawing.now.head drawing.now.rows.items drawing.now.end)
+        drawing.now.first drawing.now.rows.items drawing.now.end) drawing.now.end result }
     ensures ended { IfOk result (IsEnded false (W.tape w.old).failures (W.tape w.new).failures) }
 {
     write_drawing(alloc, drawing, style, w)?;
@@ -64,12 +66,16 @@ fn draw_machine<M: Machine, W: Sink>(
     machine: &mut M,
     judge: &mut Judge,
     schedule: &Schedule,
-    first: Phase,
+    first: LifelinePhase,
     style: Style,
     w: &mut W,
-) -> Result<Ending, Fault>
-    ensures draws { (start : State) → Keeps judge.old start → Tells (Drawn style) M.behaviour M.behaviour.image_of start machine.old first schedule.now (W.tape w.old) (W.tape w.new) result }
-    ensures status { (start : State) → Keeps judge.old start → IfOk result (λ ending. ending.status ≡ status_after (verdict_on start (deeds_of (run_on M.behaviour 2 machine.old schedule.now.lines).told))) }
+) -> Result<Ending, CommandFault>
+    ensures draws { (start : State) → Keeps judge.old start
+        → Tells (Drawn style) M.behaviour M.behaviour.image_of start machine.old first schedule.now (W.tape w.old)
+        (W.tape w.new) result }
+    ensures status { (start : State) → Keeps judge.old start
+        → IfOk result (λ ending. ending.status ≡ status_after
+        (verdict_on start (deeds_of (run_on M.behaviour 2 machine.old schedule.now.lines).told))) }
     ensures ended { IfOk result (IsEnded false (W.tape w.old).failures (W.tape w.new).failures) }
 {
     let drawing = draw(alloc, machine, judge, schedule, first)?;
@@ -82,7 +88,7 @@ fn draw_new<W: Sink>(
     schedule: &Schedule,
     style: Style,
     w: &mut W,
-) -> Result<Ending, Fault>
+) -> Result<Ending, CommandFault>
     ensures draws { TellsNew (Drawn style) schedule.now (W.tape w.old) (W.tape w.new) result }
     ensures fine { IfOk result (λ ending. ending.status ≡ 0) }
     ensures ended { IfOk result (IsEnded false (W.tape w.old).failures (W.tape w.new).failures) }
@@ -95,7 +101,7 @@ fn draw_new<W: Sink>(
         &mut world,
         &mut judge,
         schedule,
-        Phase::Rest,
+        LifelinePhase::Rest,
         style,
         w,
     )
@@ -108,7 +114,7 @@ fn draw_variant<W: Sink>(
     schedule: &Schedule,
     style: Style,
     w: &mut W,
-) -> Result<Ending, Fault>
+) -> Result<Ending, CommandFault>
     ensures draws { TellsVariant variant (Drawn style) schedule.now (W.tape w.old) (W.tape w.new) result }
     ensures ended { IfOk result (IsEnded false (W.tape w.old).failures (W.tape w.new).failures) }
 {
@@ -119,7 +125,7 @@ fn draw_variant<W: Sink>(
         &mut world,
         &mut judge,
         schedule,
-        Phase::Rest,
+        LifelinePhase::Rest,
         style,
         w,
     )
@@ -133,11 +139,12 @@ fn draw_started<W: Sink>(
     schedule: &Schedule,
     style: Style,
     w: &mut W,
-) -> Result<Ending, Fault>
+) -> Result<Ending, CommandFault>
     requires lawful { IsLawfulImage image.now }
     requires begins { IsStartOf image.now start.now }
     requires judged { IsStart start.now }
-    ensures draws { Tells (Drawn style) world_behaviour image_of (state_of start.now) (world_of_image image.now) Phase.Dead schedule.now (W.tape w.old) (W.tape w.new) result }
+    ensures draws { Tells (Drawn style) world_behaviour image_of (state_of start.now) (world_of_image image.now)
+        LifelinePhase.Dead schedule.now (W.tape w.old) (W.tape w.new) result }
     ensures fine { IfOk result (λ ending. ending.status ≡ 0) }
     ensures ended { IfOk result (IsEnded false (W.tape w.old).failures (W.tape w.new).failures) }
 {
@@ -149,7 +156,7 @@ fn draw_started<W: Sink>(
         &mut world,
         &mut judge,
         schedule,
-        Phase::Dead,
+        LifelinePhase::Dead,
         style,
         w,
     )
@@ -162,7 +169,7 @@ fn draw_image<W: Sink>(
     schedule: &Schedule,
     style: Style,
     w: &mut W,
-) -> Result<Ending, Fault>
+) -> Result<Ending, CommandFault>
     requires { IsLawfulImage image }
     ensures draws { TellsImage image (Drawn style) schedule.now (W.tape w.old) (W.tape w.new) result }
     ensures fine { IfOk result (λ ending. ending.status ≡ 0) }
@@ -176,11 +183,11 @@ fn draw_image<W: Sink>(
 /// The run of the schedule on the machine that is asked for.
 fn draw_schedule<W: Sink>(
     alloc: Global,
-    order: &DrawOrder,
+    order: &DrawArgs,
     image: Option<Image>,
     schedule: &Schedule,
     w: &mut W,
-) -> Result<Ending, Fault>
+) -> Result<Ending, CommandFault>
     requires { IfSome image IsLawfulImage }
     ensures draws { TellsSchedule order.now.variant image (Drawn order.now.style) schedule.now (W.tape w.old) (W.tape w.new) result }
     ensures fine { order.now.variant ≡ Variant.Right → IfOk result (λ ending. ending.status ≡ 0) }
@@ -197,11 +204,11 @@ fn draw_schedule<W: Sink>(
 /// read, which line the world refuses, or that a device or memory has failed.
 pub fn draw_order<R: Source, W: Sink>(
     alloc: Global,
-    order: &DrawOrder,
+    order: &DrawArgs,
     image: Option<&[u8]>,
     r: &mut R,
     w: &mut W,
-) -> Result<Ending, Fault>
+) -> Result<Ending, CommandFault>
     ensures ends { DrawEnds order.now (option_copied image.entry) (R.reading r.old) (R.reading r.new) (W.tape w.old) (W.tape w.new) result }
     ensures reads { TellsReads (R.reading r.old) (R.reading r.new) result }
     ensures ended { IfOk result (IsEnded false (W.tape w.old).failures (W.tape w.new).failures) }

@@ -1,17 +1,16 @@
 //! Why a command has no verdict.
 
 ghost use Rattle.std.specs.Prelude.{◌≡◌, ◌≤◌};
-ghost use Rattle.commands.specs.declared.schedules.fault.Fault.TheVariants.{OutOfMemory};
+ghost use Rattle.commands.specs.declared.schedules.fault.CommandFault.TheVariants.{OutOfMemory};
 ghost use Rattle.commands.specs.Statuses.{fault_of_replay, fault_of_text};
 
-use schedule::{OutOfMemory as NoMemory, TextFault};
+use schedule::{OutOfMemory as NoMemory, ReplayFault, TextFault};
 use std::alloc::{AllocError, AllocFailed};
-use schedule::ReplayFault;
 use thiserror::Error;
 
 /// Why a command has no verdict. Its text is the one line on standard error, after the program's name.
 #[derive(Clone, Copy, Debug, PartialEq, Eq, Error)]
-pub enum Fault {
+pub enum CommandFault {
     /// This line of the text can't be read; lines count from 1. The number is that of the line's fault.
     #[error("line {line}: fault {number}")]
     Text { line: u64, number: u64 },
@@ -43,7 +42,7 @@ pub enum Fault {
     TooManyStates,
 }
 
-impl Fault {
+impl CommandFault {
     ghost use Rattle.commands.specs.Statuses.{status_of};
 
     /// The exit status: 2 for a fault of the input; 3 for a fault of a device, of memory or of a member, and for too many
@@ -53,68 +52,68 @@ impl Fault {
         ensures least { 2 ≤ result }
     {
         match self {
-            Fault::Text { .. }
-            | Fault::Refused { .. }
-            | Fault::Image { .. }
-            | Fault::BadVariant
-            | Fault::BadSize => 2,
-            Fault::Read
-            | Fault::Write
-            | Fault::OutOfMemory
-            | Fault::Member { .. }
-            | Fault::TooManyStates => 3,
+            CommandFault::Text { .. }
+            | CommandFault::Refused { .. }
+            | CommandFault::Image { .. }
+            | CommandFault::BadVariant
+            | CommandFault::BadSize => 2,
+            CommandFault::Read
+            | CommandFault::Write
+            | CommandFault::OutOfMemory
+            | CommandFault::Member { .. }
+            | CommandFault::TooManyStates => 3,
         }
     }
 }
 
-impl From<AllocError> for Fault {
+impl From<AllocError> for CommandFault {
     ghost from_gives = { λ _ e. e ≡ OutOfMemory };
 
-    fn from(_e: AllocError) -> Fault {
-        Fault::OutOfMemory
+    fn from(_e: AllocError) -> CommandFault {
+        CommandFault::OutOfMemory
     }
 }
 
-impl<T: Drop> From<AllocFailed<T>> for Fault {
+impl<T: Drop> From<AllocFailed<T>> for CommandFault {
     ghost from_gives = { λ _ e. e ≡ OutOfMemory };
 
-    fn from(_e: AllocFailed<T>) -> Fault {
-        Fault::OutOfMemory
+    fn from(_e: AllocFailed<T>) -> CommandFault {
+        CommandFault::OutOfMemory
     }
 }
 
-impl From<TextFault> for Fault {
+impl From<TextFault> for CommandFault {
     ghost from_gives = { λ fault e. e ≡ fault_of_text fault };
 
-    fn from(fault: TextFault) -> Fault {
+    fn from(fault: TextFault) -> CommandFault {
         match fault {
-            TextFault::At { line, fault } => Fault::Text {
+            TextFault::At { line, fault } => CommandFault::Text {
                 line,
                 number: fault.number(),
             },
-            TextFault::OutOfMemory => Fault::OutOfMemory,
+            TextFault::OutOfMemory => CommandFault::OutOfMemory,
         }
     }
 }
 
-impl From<ReplayFault> for Fault {
+impl From<ReplayFault> for CommandFault {
     ghost from_gives = { λ fault e. e ≡ fault_of_replay fault };
 
-    fn from(fault: ReplayFault) -> Fault {
+    fn from(fault: ReplayFault) -> CommandFault {
         match fault {
-            ReplayFault::Text { line, number } => Fault::Text { line, number },
-            ReplayFault::Refused { line, number } => Fault::Refused { line, number },
-            ReplayFault::Read => Fault::Read,
-            ReplayFault::Write => Fault::Write,
-            ReplayFault::OutOfMemory => Fault::OutOfMemory,
+            ReplayFault::Text { line, number } => CommandFault::Text { line, number },
+            ReplayFault::Refused { line, number } => CommandFault::Refused { line, number },
+            ReplayFault::Read => CommandFault::Read,
+            ReplayFault::Write => CommandFault::Write,
+            ReplayFault::OutOfMemory => CommandFault::OutOfMemory,
         }
     }
 }
 
-impl From<NoMemory> for Fault {
+impl From<NoMemory> for CommandFault {
     ghost from_gives = { λ _ e. e ≡ OutOfMemory };
 
-    fn from(_fault: NoMemory) -> Fault {
-        Fault::OutOfMemory
+    fn from(_fault: NoMemory) -> CommandFault {
+        CommandFault::OutOfMemory
     }
 }

@@ -5,7 +5,7 @@ ghost use Rattle.std.specs.Fmt.{decimal};
 ghost use Rattle.commands.specs.Lines.{fault_line, IsTold};
 ghost use Rattle.commands.specs.Statuses.{status_of};
 
-use crate::schedules::fault::Fault;
+use crate::schedules::fault::CommandFault;
 use arrayvec::ArrayString;
 use itoa::Buffer;
 use schedule::Sink;
@@ -54,26 +54,26 @@ fn line_of_text(text: &str) -> ArrayString<128>
 }
 
 /// The one line of a fault.
-pub fn line_of(fault: Fault) -> ArrayString<128>
+pub fn line_of(fault: CommandFault) -> ArrayString<128>
     ensures { result.bytes ≡ fault_line fault }
 {
     match fault {
-        Fault::Text { line, number } => line_of_place(line, ": fault ", number),
-        Fault::Refused { line, number } => line_of_place(line, ": refused ", number),
-        Fault::Image { rule } => line_around("rmelab: image: rule ", rule, "\n"),
-        Fault::Member { p } => line_around("rmelab: member ", p, " failed\n"),
-        Fault::BadVariant => line_of_text("rmelab: bad variant\n"),
-        Fault::BadSize => line_of_text("rmelab: bad size\n"),
-        Fault::Read => line_of_text("rmelab: read failed\n"),
-        Fault::Write => line_of_text("rmelab: write failed\n"),
-        Fault::OutOfMemory => line_of_text("rmelab: out of memory\n"),
-        Fault::TooManyStates => line_of_text("rmelab: too many states\n"),
+        CommandFault::Text { line, number } => line_of_place(line, ": fault ", number),
+        CommandFault::Refused { line, number } => line_of_place(line, ": refused ", number),
+        CommandFault::Image { rule } => line_around("rmelab: image: rule ", rule, "\n"),
+        CommandFault::Member { p } => line_around("rmelab: member ", p, " failed\n"),
+        CommandFault::BadVariant => line_of_text("rmelab: bad variant\n"),
+        CommandFault::BadSize => line_of_text("rmelab: bad size\n"),
+        CommandFault::Read => line_of_text("rmelab: read failed\n"),
+        CommandFault::Write => line_of_text("rmelab: write failed\n"),
+        CommandFault::OutOfMemory => line_of_text("rmelab: out of memory\n"),
+        CommandFault::TooManyStates => line_of_text("rmelab: too many states\n"),
     }
 }
 
 /// Writes the one line of a fault to `e`, and answers its exit status. It needs no memory. A failed write is ignored: the
 /// exit status still says that there was a fault.
-pub fn told<E: Sink>(fault: Fault, e: &mut E) -> u8
+pub fn told<E: Sink>(fault: CommandFault, e: &mut E) -> u8
     ensures status { result ≡ status_of fault }
     ensures least { 2 ≤ result }
     ensures line { IsTold (E.tape e.old) (E.tape e.new) (fault_line fault) }

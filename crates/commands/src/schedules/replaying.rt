@@ -16,31 +16,29 @@ ghost use Rattle.commands.specs.Statuses.{answer_told, fault_on_page};
 ghost use Rattle.commands.specs.Tellings.{AnswersRun, Replayed, Tells, TellsImage, TellsNew, TellsSchedule, TellsVariant};
 
 use crate::schedules::ending::{Ending, status_after_verdict};
-use crate::schedules::fault::Fault;
+use crate::schedules::fault::CommandFault;
 use crate::schedules::json::json_report;
 use crate::schedules::setting::{
     fitting, image_read, image_world, new_judge, new_world, schedule_read, start_at, started_judge,
     variant_world,
 };
+use cli::arguments::order::ReplayArgs;
 use crashlab::Variant;
-use diagram::{Phase, follow};
-use rmeworld::write_image;
+use diagram::{LifelinePhase, follow};
 use judge::{Judge, Start};
-use cli::arguments::order::ReplayOrder;
-use rmeworld::{Image, Machine};
-use schedule::texts::device::write_all;
-use schedule::{Page, Schedule, Sink, Source};
-use std::alloc::Global;
+use rmeworld::{Image, Machine, write_image};
 use schedule::replays::laws::worlds_are_never_found_out;
-use schedule::{ReplayFault, Verdict, replay, replay_on};
+use schedule::texts::device::write_all;
+use schedule::{Page, ReplayFault, Schedule, Sink, Source, Verdict, replay, replay_on};
+use std::alloc::Global;
 
 /// The fault of a replay to a page in memory: the page refuses a write only when it is out of memory.
-fn on_page(fault: ReplayFault) -> Fault
+fn on_page(fault: ReplayFault) -> CommandFault
     ensures { result ≡ fault_on_page fault }
 {
     match fault {
-        ReplayFault::Write => Fault::OutOfMemory,
-        other => Fault::from(other),
+        ReplayFault::Write => CommandFault::OutOfMemory,
+        other => CommandFault::from(other),
     }
 }
 
@@ -50,12 +48,16 @@ fn report<M: Machine, W: Sink>(
     machine: &mut M,
     judge: &mut Judge,
     schedule: &Schedule,
-    first: Phase,
+    first: LifelinePhase,
     each: bool,
     w: &mut W,
 ) -> Result<Verdict, ReplayFault>
-    ensures played { (start : State) → Keeps judge.old start → IfOk result (IsPlayed start (run_on M.behaviour 2 machine.old schedule.now.lines) machine.new (W.tape w.old).failures (W.tape w.new).failures) }
-    ensures told { (start : State) → Keeps judge.old start → AnswersRun each M.behaviour M.behaviour.image_of start machine.old first schedule.now (W.tape w.old) (W.tape w.new) result }
+    ensures played { (start : State) → Keeps judge.old start
+        → IfOk result (IsPlayed start (run_on M.behaviour 2 machine.old schedule.now.lines) machine.new
+        (W.tape w.old).failures (W.tape w.new).failures) }
+    ensures told { (start : State) → Keeps judge.old start
+        → AnswersRun each M.behaviour M.behaviour.image_of start machine.old first schedule.now (W.tape w.old) (W.tape w.new)
+        result }
 {
     if each {
         return follow(alloc, machine, judge, schedule, first, w);
@@ -69,18 +71,20 @@ fn play_object<M: Machine, W: Sink>(
     machine: &mut M,
     judge: &mut Judge,
     schedule: &Schedule,
-    first: Phase,
+    first: LifelinePhase,
     each: bool,
     w: &mut W,
-) -> Result<Verdict, Fault>
-    ensures { (start : State) → Keeps judge.old start → IfOk result (IsPlayed start (run_on M.behaviour 2 machine.old schedule.now.lines) machine.new (W.tape w.old).failures (W.tape w.new).failures) }
+) -> Result<Verdict, CommandFault>
+    ensures { (start : State) → Keeps judge.old start
+        → IfOk result (IsPlayed start (run_on M.behaviour 2 machine.old schedule.now.lines) machine.new
+        (W.tape w.old).failures (W.tape w.new).failures) }
 {
     let mut page = Page::new(alloc);
     let verdict = report(alloc, machine, judge, schedule, first, each, &mut page).map_err(on_page)?;
     let object = json_report(alloc, page.as_slice())?;
     match write_all(w, &object) {
         Ok(()) => Ok(verdict),
-        Err(_) => Err(Fault::Write),
+        Err(_) => Err(CommandFault::Write),
     }
 }
 
@@ -90,37 +94,46 @@ fn play<M: Machine, W: Sink>(
     machine: &mut M,
     judge: &mut Judge,
     schedule: &Schedule,
-    first: Phase,
-    order: &ReplayOrder,
+    first: LifelinePhase,
+    order: &ReplayArgs,
     w: &mut W,
-) -> Result<Verdict, Fault>
-    ensures played { (start : State) → Keeps judge.old start → IfOk result (IsPlayed start (run_on M.behaviour 2 machine.old schedule.now.lines) machine.new (W.tape w.old).failures (W.tape w.new).failures) }
-    ensures told { order.now.json ≡ false → (start : State) → Keeps judge.old start → (answer : Result Verdict ReplayFault) × AnswersRun order.now.each M.behaviour M.behaviour.image_of start machine.old first schedule.now (W.tape w.old) (W.tape w.new) answer × (result ≡ answer_told answer) }
+) -> Result<Verdict, CommandFault>
+    ensures played { (start : State) → Keeps judge.old start
+        → IfOk result (IsPlayed start (run_on M.behaviour 2 machine.old schedule.now.lines) machine.new
+        (W.tape w.old).failures (W.tape w.new).failures) }
+    ensures told { order.now.json ≡ false → (start : State) → Keeps judge.old start
+        → (answer : Result Verdict ReplayFault)
+        × AnswersRun order.now.each M.behaviour M.behaviour.image_of start machine.old first schedule.now (W.tape w.old)
+        (W.tape w.new) answer × (result ≡ answer_told answer) }
 {
     if order.json {
         return play_object(alloc, machine, judge, schedule, first, order.each, w);
     }
     match report(alloc, machine, judge, schedule, first, order.each, w) {
         Ok(verdict) => Ok(verdict),
-        Err(fault) => Err(Fault::from(fault)),
+        Err(fault) => Err(CommandFault::from(fault)),
     }
 }
 
 /// The text of the last image, if it is to be saved.
-fn saved<M: Machine>(alloc: Global, machine: &M, save: bool) -> Result<Option<Vec<u8>>, Fault>
+fn saved<M: Machine>(
+    alloc: Global,
+    machine: &M,
+    save: bool,
+) -> Result<Option<Vec<u8>>, CommandFault>
     ensures asked { IfOk result (λ text. is_some text ≡ save) }
-    ensures memory { IfErr result (λ fault. fault ≡ Fault.OutOfMemory) }
+    ensures memory { IfErr result (λ fault. fault ≡ CommandFault.OutOfMemory) }
     ensures last { IfOk result (λ text. IfSome text (λ image. image.items ≡ image_line (M.behaviour.image_of machine.now))) }
 {
     if !save {
         return Ok(None);
     }
     let Ok(image) = machine.image() else {
-        return Err(Fault::OutOfMemory);
+        return Err(CommandFault::OutOfMemory);
     };
     match write_image(alloc, &image) {
         Ok(text) => Ok(Some(text)),
-        Err(_) => Err(Fault::OutOfMemory),
+        Err(_) => Err(CommandFault::OutOfMemory),
     }
 }
 
@@ -130,12 +143,16 @@ fn replay_machine<M: Machine, W: Sink>(
     machine: &mut M,
     judge: &mut Judge,
     schedule: &Schedule,
-    first: Phase,
-    order: &ReplayOrder,
+    first: LifelinePhase,
+    order: &ReplayArgs,
     w: &mut W,
-) -> Result<Ending, Fault>
-    ensures replayed { (start : State) → Keeps judge.old start → IfOk result (IsReplayed start (run_on M.behaviour 2 machine.old schedule.now.lines) M.behaviour.image_of (is_some order.now.save) (W.tape w.old).failures (W.tape w.new).failures) }
-    ensures told { order.now.json ≡ false → (start : State) → Keeps judge.old start → Tells (Replayed order.now.each) M.behaviour M.behaviour.image_of start machine.old first schedule.now (W.tape w.old) (W.tape w.new) result }
+) -> Result<Ending, CommandFault>
+    ensures replayed { (start : State) → Keeps judge.old start
+        → IfOk result (IsReplayed start (run_on M.behaviour 2 machine.old schedule.now.lines) M.behaviour.image_of
+        (is_some order.now.save) (W.tape w.old).failures (W.tape w.new).failures) }
+    ensures told { order.now.json ≡ false → (start : State) → Keeps judge.old start
+        → Tells (Replayed order.now.each) M.behaviour M.behaviour.image_of start machine.old first schedule.now
+        (W.tape w.old) (W.tape w.new) result }
 {
     let verdict = play(alloc, machine, judge, schedule, first, order, w)?;
     let save = saved(alloc, machine, order.save.is_some())?;
@@ -149,9 +166,9 @@ fn replay_machine<M: Machine, W: Sink>(
 fn replay_new<W: Sink>(
     alloc: Global,
     schedule: &Schedule,
-    order: &ReplayOrder,
+    order: &ReplayArgs,
     w: &mut W,
-) -> Result<Ending, Fault>
+) -> Result<Ending, CommandFault>
     ensures fine { IfOk result (λ ending. ending.status ≡ 0) }
     ensures last { IfOk result (λ ending. IfSome ending.save (λ image. IsLast schedule.now image.items)) }
     ensures told { order.now.json ≡ false → TellsNew (Replayed order.now.each) schedule.now (W.tape w.old) (W.tape w.new) result }
@@ -165,7 +182,7 @@ fn replay_new<W: Sink>(
         &mut world,
         &mut judge,
         schedule,
-        Phase::Rest,
+        LifelinePhase::Rest,
         order,
         w,
     )
@@ -176,9 +193,9 @@ fn replay_image<W: Sink>(
     alloc: Global,
     image: Image,
     schedule: &Schedule,
-    order: &ReplayOrder,
+    order: &ReplayArgs,
     w: &mut W,
-) -> Result<Ending, Fault>
+) -> Result<Ending, CommandFault>
     requires { IsLawfulImage image }
     ensures fine { IfOk result (λ ending. ending.status ≡ 0) }
     ensures told { order.now.json ≡ false → TellsImage image (Replayed order.now.each) schedule.now (W.tape w.old) (W.tape w.new) result }
@@ -195,14 +212,15 @@ fn replay_started<W: Sink>(
     image: &Image,
     start: &Start,
     schedule: &Schedule,
-    order: &ReplayOrder,
+    order: &ReplayArgs,
     w: &mut W,
-) -> Result<Ending, Fault>
+) -> Result<Ending, CommandFault>
     requires lawful { IsLawfulImage image.now }
     requires begins { IsStartOf image.now start.now }
     requires judged { IsStart start.now }
     ensures fine { IfOk result (λ ending. ending.status ≡ 0) }
-    ensures told { order.now.json ≡ false → Tells (Replayed order.now.each) world_behaviour image_of (state_of start.now) (world_of_image image.now) Phase.Dead schedule.now (W.tape w.old) (W.tape w.new) result }
+    ensures told { order.now.json ≡ false → Tells (Replayed order.now.each) world_behaviour image_of (state_of start.now)
+        (world_of_image image.now) LifelinePhase.Dead schedule.now (W.tape w.old) (W.tape w.new) result }
     ensures ended { IfOk result (IsEnded (is_some order.now.save) (W.tape w.old).failures (W.tape w.new).failures) }
 {
     worlds_are_never_found_out();
@@ -213,7 +231,7 @@ fn replay_started<W: Sink>(
         &mut world,
         &mut judge,
         schedule,
-        Phase::Dead,
+        LifelinePhase::Dead,
         order,
         w,
     )
@@ -223,10 +241,11 @@ fn replay_started<W: Sink>(
 fn replay_variant<W: Sink>(
     alloc: Global,
     schedule: &Schedule,
-    order: &ReplayOrder,
+    order: &ReplayArgs,
     w: &mut W,
-) -> Result<Ending, Fault>
-    ensures told { order.now.json ≡ false → TellsVariant order.now.variant (Replayed order.now.each) schedule.now (W.tape w.old) (W.tape w.new) result }
+) -> Result<Ending, CommandFault>
+    ensures told { order.now.json ≡ false → TellsVariant order.now.variant (Replayed order.now.each) schedule.now
+        (W.tape w.old) (W.tape w.new) result }
     ensures ended { IfOk result (IsEnded (is_some order.now.save) (W.tape w.old).failures (W.tape w.new).failures) }
 {
     let mut world = variant_world(alloc, order.variant, schedule)?;
@@ -236,7 +255,7 @@ fn replay_variant<W: Sink>(
         &mut world,
         &mut judge,
         schedule,
-        Phase::Rest,
+        LifelinePhase::Rest,
         order,
         w,
     )
@@ -245,15 +264,17 @@ fn replay_variant<W: Sink>(
 /// Plays the schedule on the machine that is asked for.
 fn replay_schedule<W: Sink>(
     alloc: Global,
-    order: &ReplayOrder,
+    order: &ReplayArgs,
     image: Option<Image>,
     schedule: &Schedule,
     w: &mut W,
-) -> Result<Ending, Fault>
+) -> Result<Ending, CommandFault>
     requires { IfSome image IsLawfulImage }
     ensures fine { order.now.variant ≡ Variant.Right → IfOk result (λ ending. ending.status ≡ 0) }
-    ensures last { order.now.variant ≡ Variant.Right → is_some image ≡ false → IfOk result (λ ending. IfSome ending.save (λ image. IsLast schedule.now image.items)) }
-    ensures told { order.now.json ≡ false → TellsSchedule order.now.variant image (Replayed order.now.each) schedule.now (W.tape w.old) (W.tape w.new) result }
+    ensures last { order.now.variant ≡ Variant.Right → is_some image ≡ false
+        → IfOk result (λ ending. IfSome ending.save (λ image. IsLast schedule.now image.items)) }
+    ensures told { order.now.json ≡ false → TellsSchedule order.now.variant image (Replayed order.now.each) schedule.now
+        (W.tape w.old) (W.tape w.new) result }
     ensures ended { IfOk result (IsEnded (is_some order.now.save) (W.tape w.old).failures (W.tape w.new).failures) }
 {
     match (image, order.variant) {
@@ -265,7 +286,11 @@ fn replay_schedule<W: Sink>(
 
 /// Replays on a new world of the right lock, straight from the reader to the writer.
 #[tactic(auto, using(crate::proofs::Replays::replayed_whole))]
-fn replay_plain<R: Source, W: Sink>(alloc: Global, r: &mut R, w: &mut W) -> Result<Ending, Fault>
+fn replay_plain<R: Source, W: Sink>(
+    alloc: Global,
+    r: &mut R,
+    w: &mut W,
+) -> Result<Ending, CommandFault>
     ensures tells { TellsReplay (R.reading r.old) (R.reading r.new) (W.tape w.old) (W.tape w.new) result }
     ensures reads { TellsReads (R.reading r.old) (R.reading r.new) result }
     ensures fine { IfOk result (λ ending. (ending.status ≡ 0) × (ending.save ≡ None)) }
@@ -282,12 +307,13 @@ fn replay_plain<R: Source, W: Sink>(alloc: Global, r: &mut R, w: &mut W) -> Resu
 /// can't be read, which line the world refuses, or that a device or memory has failed.
 pub fn replay_order<R: Source, W: Sink>(
     alloc: Global,
-    order: &ReplayOrder,
+    order: &ReplayArgs,
     image: Option<&[u8]>,
     r: &mut R,
     w: &mut W,
-) -> Result<Ending, Fault>
-    ensures ends { ReplayEnds order.now (option_copied image.entry) (R.reading r.old) (R.reading r.new) (W.tape w.old) (W.tape w.new) result }
+) -> Result<Ending, CommandFault>
+    ensures ends { ReplayEnds order.now (option_copied image.entry) (R.reading r.old) (R.reading r.new) (W.tape w.old)
+        (W.tape w.new) result }
     ensures ended { IfOk result (IsEnded (is_some order.now.save) (W.tape w.old).failures (W.tape w.new).failures) }
 {
     let plain = order.variant == Variant::Right

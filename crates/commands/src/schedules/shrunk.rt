@@ -9,38 +9,40 @@ ghost use Rattle.commands.specs.Shrinks.{ShrinkEnds, ShrinksSchedule};
 ghost use Rattle.commands.specs.Statuses.{status_of};
 
 use crate::schedules::ending::Ending;
-use crate::schedules::fault::Fault;
+use crate::schedules::fault::CommandFault;
 use crate::schedules::setting::schedule_read;
-use crashlab::Variant;
-use cli::arguments::order::ShrinkOrder;
+use cli::arguments::order::ShrinkArgs;
+use crashlab::{Variant, shrink};
 use schedule::texts::device::write_all;
-use schedule::{Schedule, Sink, Source, write_schedule};
-use crashlab::shrink;
+use schedule::{Schedule, Sink, Source, Verdict, put_verdict, write_schedule};
 use std::alloc::Global;
-use schedule::{Verdict, put_verdict};
 
 /// Writes the text of a schedule. `Write`: the writer has failed.
-pub fn write_lines<W: Sink>(alloc: Global, schedule: &Schedule, w: &mut W) -> Result<(), Fault>
+pub fn write_lines<W: Sink>(
+    alloc: Global,
+    schedule: &Schedule,
+    w: &mut W,
+) -> Result<(), CommandFault>
     ensures written { OnOk result (Writes (W.tape w.old) (W.tape w.new) (spelling schedule.now)) }
     ensures failed { IfErr result (λ fault. status_of fault ≡ 3) }
     ensures unwritten { IfErr result (FailsToWrite (W.tape w.old) (W.tape w.new)) }
 {
     let text = write_schedule(alloc, schedule)?;
     if write_all(w, &text).is_err() {
-        return Err(Fault::Write);
+        return Err(CommandFault::Write);
     }
     Ok(())
 }
 
 /// Writes the line of a fine verdict.
-fn write_fine<W: Sink>(alloc: Global, w: &mut W) -> Result<(), Fault>
+fn write_fine<W: Sink>(alloc: Global, w: &mut W) -> Result<(), CommandFault>
     ensures written { OnOk result (Writes (W.tape w.old) (W.tape w.new) (verdict_line Verdict.Fine)) }
     ensures failed { IfErr result (λ fault. status_of fault ≡ 3) }
 {
     let mut line = Vec::new(alloc);
     put_verdict(&mut line, Verdict::Fine)?;
     if write_all(w, &line).is_err() {
-        return Err(Fault::Write);
+        return Err(CommandFault::Write);
     }
     Ok(())
 }
@@ -51,7 +53,7 @@ fn shrink_schedule<W: Sink>(
     variant: Variant,
     schedule: &Schedule,
     w: &mut W,
-) -> Result<Ending, Fault>
+) -> Result<Ending, CommandFault>
     ensures shrinks { ShrinksSchedule variant schedule.now (W.tape w.old) (W.tape w.new) result }
     ensures ended { IfOk result (IsEnded false (W.tape w.old).failures (W.tape w.new).failures) }
 {
@@ -77,10 +79,10 @@ fn shrink_schedule<W: Sink>(
 /// can't be read, which line the world refuses, or that a device or memory has failed.
 pub fn shrink_order<R: Source, W: Sink>(
     alloc: Global,
-    order: &ShrinkOrder,
+    order: &ShrinkArgs,
     r: &mut R,
     w: &mut W,
-) -> Result<Ending, Fault>
+) -> Result<Ending, CommandFault>
     ensures ends { ShrinkEnds order.now (R.reading r.old) (R.reading r.new) (W.tape w.old) (W.tape w.new) result }
     ensures reads { TellsReads (R.reading r.old) (R.reading r.new) result }
     ensures ended { IfOk result (IsEnded false (W.tape w.old).failures (W.tape w.new).failures) }

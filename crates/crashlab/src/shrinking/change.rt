@@ -4,7 +4,7 @@ use schedule::{Count, Line};
 
 /// Which lines go, and which take their place. A range of lines ends before `to`.
 #[derive(Clone, Copy, Debug)]
-pub enum Change {
+pub enum Removal {
     /// These lines go.
     LeaveOut {
         from: usize,
@@ -58,16 +58,16 @@ fn lower(line: &Line, by: u64) -> Line {
     }
 }
 
-impl Change {
+impl Removal {
     /// The line in the place of line number `index`. None where that line goes.
     pub fn made(&self, index: usize, line: &Line) -> Option<Line> {
         match *self {
-            Change::LeaveOut { from, to } if from <= index && index < to => None,
-            Change::Silence { process, from, to }
+            Removal::LeaveOut { from, to } if from <= index && index < to => None,
+            Removal::Silence { process, from, to }
                 if from <= index && index < to && process_of(line) == process => None,
-            Change::Lower { at, by } if index == at => Some(lower(line, by)),
-            Change::Gather { at, line, .. } if index == at => Some(line),
-            Change::Gather { first, second, .. } if index == first || index == second => None,
+            Removal::Lower { at, by } if index == at => Some(lower(line, by)),
+            Removal::Gather { at, line, .. } if index == at => Some(line),
+            Removal::Gather { first, second, .. } if index == first || index == second => None,
             _ => Some(*line),
         }
     }

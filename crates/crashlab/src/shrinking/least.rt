@@ -6,8 +6,7 @@ ghost use Rattle.crashlab.specs.Shrunk.{GoesWrong, IsLeast, IsLess, IsLowered, I
 
 use crate::shrinking::played::{Wanted, goes_wrong};
 use crate::shrinking::replaced::with_replaced;
-use schedule::{Count, Line};
-use schedule::{OutOfMemory, Schedule};
+use schedule::{Count, Line, OutOfMemory, Schedule};
 
 /// The schedule with line `at` replaced by these, if it still goes wrong.
 fn tried(
@@ -18,7 +17,9 @@ fn tried(
 ) -> Result<Option<Schedule>, OutOfMemory>
     requires within { at < length schedule.now.lines }
     requires shorter { IsShorter schedule.now (replaced at new.now schedule.now) }
-    ensures { IfOk result (λ found. MatchOption found (Loses wanted.now.variant wanted.now.number (replaced at new.now schedule.now)) (IsLess wanted.now.variant wanted.now.number schedule.now)) }
+    ensures { IfOk result (λ found. MatchOption found
+        (Loses wanted.now.variant wanted.now.number (replaced at new.now schedule.now))
+        (IsLess wanted.now.variant wanted.now.number schedule.now)) }
 {
     let changed = with_replaced(wanted.alloc, schedule, at, new)?;
     if goes_wrong(wanted, &changed)? {
@@ -41,7 +42,8 @@ fn lowered(lines: &[Line], at: usize) -> Option<Line>
 /// The schedule without this line, or else with its count lowered by one, if it still goes wrong.
 fn less_at(wanted: &Wanted, schedule: &Schedule, at: usize) -> Result<Option<Schedule>, OutOfMemory>
     requires { at < length schedule.now.lines }
-    ensures { IfOk result (λ found. MatchOption found (IsNeeded wanted.now.variant wanted.now.number schedule.now at) (IsLess wanted.now.variant wanted.now.number schedule.now)) }
+    ensures { IfOk result (λ found. MatchOption found (IsNeeded wanted.now.variant wanted.now.number schedule.now at)
+        (IsLess wanted.now.variant wanted.now.number schedule.now)) }
 {
     if let Some(found) = tried(wanted, schedule, at, &[])? {
         return Ok(Some(found));
@@ -54,7 +56,8 @@ fn less_at(wanted: &Wanted, schedule: &Schedule, at: usize) -> Result<Option<Sch
 
 /// A schedule that is smaller by one such change and still goes wrong. None where there is no such schedule.
 fn smaller(wanted: &Wanted, schedule: &Schedule) -> Result<Option<Schedule>, OutOfMemory>
-    ensures { IfOk result (λ found. MatchOption found (IsLeast wanted.now.variant wanted.now.number schedule.now) (IsLess wanted.now.variant wanted.now.number schedule.now)) }
+    ensures { IfOk result (λ found. MatchOption found (IsLeast wanted.now.variant wanted.now.number schedule.now)
+        (IsLess wanted.now.variant wanted.now.number schedule.now)) }
 {
     for at in 0..schedule.lines().len() {
         if let Some(found) = less_at(wanted, schedule, at)? {

@@ -9,10 +9,9 @@ use crate::variant::Variant;
 use crate::variant_world::VariantWorld;
 use judge::Judge;
 use rmecore::Refusal;
-use schedule::{OutOfMemory, Page, Schedule};
-use std::alloc::Global;
 use schedule::replays::verdict::fault_number;
-use schedule::{ReplayFault, Verdict, replay_on};
+use schedule::{OutOfMemory, Page, ReplayFault, Schedule, Verdict, replay_on};
+use std::alloc::Global;
 
 /// The verdict that a smaller schedule has to keep: on this variant, against this number.
 #[derive(Clone, Copy)]

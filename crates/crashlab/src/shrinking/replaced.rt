@@ -3,8 +3,7 @@
 ghost use Rattle.std.specs.Prelude.{◌≡◌, ◌<◌, ◌++◌, [], IfOk, OnOk, length};
 ghost use Rattle.crashlab.specs.Shrunk.{with_lines, replaced};
 
-use schedule::Line;
-use schedule::{OutOfMemory, Schedule};
+use schedule::{Line, OutOfMemory, Schedule};
 use std::alloc::Global;
 
 /// Adds lines.

@@ -3,8 +3,7 @@
 ghost use Rattle.std.specs.Prelude.{◌≡◌, IfSome, IsTrue};
 ghost use Rattle.crashlab.specs.Shrunk.{steps_asked as steps_in, IsNoLonger};
 
-use schedule::Line;
-use schedule::Schedule;
+use schedule::{Line, Schedule};
 
 /// The number of steps that the lines ask for. None where it takes more than 64 bits.
 fn steps_asked(lines: &[Line]) -> Option<u64>

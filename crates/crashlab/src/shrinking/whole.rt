@@ -2,18 +2,17 @@
 
 ghost use Rattle.std.specs.Prelude.{IfOk, MatchResult, Some};
 ghost use Rattle.crashlab.specs.Hunts.{IsFound};
-ghost use Rattle.crashlab.specs.Shrunk.{GoesWrong, IsNoLonger, IsShrunk, IsWhy, Shrinks};
+ghost use Rattle.crashlab.specs.Shrunk.{GoesWrong, IsNoLonger, IsShrunk, IsReason, Shrinks};
 
-use crate::shrinking::far::shorten;
+use crate::shrinking::large_steps::shorten;
 use crate::shrinking::least::least;
 use crate::shrinking::played::{Wanted, goes_wrong, played};
 use crate::shrinking::replaced::copied;
 use crate::shrinking::size::is_no_longer;
 use crate::variant::Variant;
-use schedule::{OutOfMemory, Schedule};
-use std::alloc::Global;
 use schedule::replays::verdict::fault_number;
-use schedule::{ReplayFault, Verdict};
+use schedule::{OutOfMemory, ReplayFault, Schedule, Verdict};
+use std::alloc::Global;
 
 /// The schedule with large changes made, if it still goes wrong and is no longer; else a copy of the schedule.
 fn shortened(wanted: &Wanted, schedule: &Schedule) -> Result<Schedule, OutOfMemory>
@@ -44,7 +43,7 @@ pub fn shrink(
     variant: Variant,
     schedule: &Schedule,
 ) -> Result<Option<Schedule>, ReplayFault>
-    ensures { MatchResult result (Shrinks variant schedule.now) (IsWhy variant schedule.now) }
+    ensures { MatchResult result (Shrinks variant schedule.now) (IsReason variant schedule.now) }
 {
     let fault = match played(alloc, variant, schedule)? {
         Verdict::Fine => return Ok(None),

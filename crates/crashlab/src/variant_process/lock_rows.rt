@@ -4,22 +4,22 @@ ghost use Rattle.std.specs.Prelude.{◌≡◌, ◌<◌, ◌+◌, ◌==◌, ◌||
 ghost use Rattle.rmecore.specs.Place.{is_before};
 ghost use Rattle.rmecore.specs.Machine.{place_of};
 ghost use Rattle.crashlab.specs.Variants.{lock_or_recover as lock_or_recover_of};
-ghost use Rattle.rmeworld.specs.declared.errand.Errand.TheVariants.{Free};
-ghost use Rattle.rmeworld.specs.Stand.{next_access, stepped};
+ghost use Rattle.rmeworld.specs.declared.script_state.ScriptState.TheVariants.{Free};
+ghost use Rattle.rmeworld.specs.MachineState.{next_access, stepped};
 ghost use Rattle.crashlab.specs.VariantStands.{changed_row as row_of, weighing_row as weighing_row_of, tied_row as tied_row_of, taken_row as taken_row_of, inside_row as inside_row_of, outside_at};
 
-use crate::detour::Detour;
+use crate::deviation::Deviation;
 use crate::variant::Variant;
 use crate::variant_process::{SILENT, VariantProcess};
 use rmecore::{Access, CoreCall, Kind, Stage, Word};
-use rmeworld::errand::Errand;
+use rmeworld::script_state::ScriptState;
 use rmeworld::{Outcome, PrivateMemory, Process};
 
 /// The script state of a process.
-pub(super) fn errand_of(process: &Process) -> Errand
-    ensures { result ≡ process.now.errand }
+pub(super) fn script_state_of(process: &Process) -> ScriptState
+    ensures { result ≡ process.now.script_state }
 {
-    process.seam_memory().errand
+    process.seam_memory().script_state
 }
 
 /// The place of the lock's part of a process.
@@ -30,14 +30,14 @@ fn stage_of(process: &Process) -> Stage
 }
 
 /// Sets a process to a place outside the section, with no script and nothing to mend.
-fn stand_outside(process: &mut Process, to: Stage)
+fn machine_state_outside(process: &mut Process, to: Stage)
     ensures { process.new ≡ outside_at process.old (place_of process.old.layout.procs process.old.index to) }
 {
     let _ = process.seam_set(&PrivateMemory {
         stage: to,
         mended: true,
         barred: false,
-        errand: Errand::Free,
+        script_state: ScriptState::Free,
     });
 }
 
@@ -47,7 +47,7 @@ fn feed_outside(process: &mut Process, value: u64)
 {
     process.feed(value);
     let stage = stage_of(process);
-    stand_outside(process, stage);
+    machine_state_outside(process, stage);
 }
 
 /// Whether a waiter passes process j, whose number is `value`.
@@ -71,9 +71,10 @@ fn past(procs: u64, number: u64, j: u64) -> Stage
 }
 
 /// `NoLook`: in place of a look the waiter weighs, and passes or stays.
-fn weighing_row(process: &Process, value: u64) -> Option<(Stage, Detour)>
-    requires { process.now.errand ≡ Free }
-    ensures some { IfSome result (λ r. weighing_row_of process.now.index process.now.lock (next_access process.now) value ≡ Some (place_of process.now.layout.procs process.now.index r.0, r.1)) }
+fn weighing_row(process: &Process, value: u64) -> Option<(Stage, Deviation)>
+    requires { process.now.script_state ≡ Free }
+    ensures some { IfSome result (λ r. weighing_row_of process.now.index process.now.lock (next_access process.now) value
+        ≡ Some (place_of process.now.layout.procs process.now.index r.0, r.1)) }
     ensures none { result ≡ None → weighing_row_of process.now.index process.now.lock (next_access process.now) value ≡ None }
 {
     let stage = stage_of(process);
@@ -84,16 +85,17 @@ fn weighing_row(process: &Process, value: u64) -> Option<(Stage, Detour)>
         return None;
     };
     if !passes(number, process.index(), value, j) {
-        return Some((stage, Detour::Straight));
+        return Some((stage, Deviation::Straight));
     }
     let past = past(process.layout().procs, number, j);
-    Some((past, Detour::Straight))
+    Some((past, Deviation::Straight))
 }
 
 /// `NoTies`: a weigh that finds an equal number passes.
-fn tied_row(process: &Process, value: u64) -> Option<(Stage, Detour)>
-    requires { process.now.errand ≡ Free }
-    ensures some { IfSome result (λ r. tied_row_of process.now.lock (next_access process.now) value ≡ Some (place_of process.now.layout.procs process.now.index r.0, r.1)) }
+fn tied_row(process: &Process, value: u64) -> Option<(Stage, Deviation)>
+    requires { process.now.script_state ≡ Free }
+    ensures some { IfSome result (λ r. tied_row_of process.now.lock (next_access process.now) value
+        ≡ Some (place_of process.now.layout.procs process.now.index r.0, r.1)) }
     ensures none { result ≡ None → tied_row_of process.now.lock (next_access process.now) value ≡ None }
 {
     let Stage::Wait { number, .. } = stage_of(process) else {
@@ -106,11 +108,11 @@ fn tied_row(process: &Process, value: u64) -> Option<(Stage, Detour)>
         return None;
     }
     let past = past(process.layout().procs, number, j);
-    Some((past, Detour::Straight))
+    Some((past, Deviation::Straight))
 }
 
 /// `Renumber`: a lock whose third reread finds a number taken in the doorway scans again.
-fn taken_row(stage: Stage) -> Option<(Stage, Detour)>
+fn taken_row(stage: Stage) -> Option<(Stage, Deviation)>
     ensures some { IfSome result (λ r. (n p : ℕ) → taken_row_of n p (place_of n p stage) ≡ Some (place_of n p r.0, r.1)) }
     ensures none { result ≡ None → (n p : ℕ) → taken_row_of n p (place_of n p stage) ≡ None }
 {
@@ -123,14 +125,14 @@ fn taken_row(stage: Stage) -> Option<(Stage, Detour)>
             if choosing == 0 || number == 0 {
                 return None;
             }
-            Some((Stage::DOORWAY, Detour::Over(number)))
+            Some((Stage::DOORWAY, Deviation::Over(number)))
         }
         _ => None,
     }
 }
 
 /// `ExitOnCrash`: a process that the third reread finds inside drops its number, and goes on as if it was found leaving.
-fn inside_row(stage: Stage, value: u64) -> Option<(Stage, Detour)>
+fn inside_row(stage: Stage, value: u64) -> Option<(Stage, Deviation)>
     ensures some { IfSome result (λ r. (n p : ℕ) → inside_row_of (place_of n p stage) value ≡ Some (place_of n p r.0, r.1)) }
     ensures none { result ≡ None → (n p : ℕ) → inside_row_of (place_of n p stage) value ≡ None }
 {
@@ -144,7 +146,7 @@ fn inside_row(stage: Stage, value: u64) -> Option<(Stage, Detour)>
                 return None;
             }
             let call = lock_or_recover(call);
-            Some((Stage::Unmarking { call }, Detour::Dropping))
+            Some((Stage::Unmarking { call }, Deviation::Dropping))
         }
         _ => None,
     }
@@ -161,24 +163,24 @@ fn lock_or_recover(call: CoreCall) -> CoreCall
 }
 
 impl VariantProcess {
-    ghost use Rattle.crashlab.specs.VariantStands.{unless_changed, plain_outcome, led, by_row, over_way, part_beside, part_outcome, silent};
+    ghost use Rattle.crashlab.specs.VariantStands.{unless_changed, plain_outcome, led, by_row, over_way, part_beside, part_outcome, silent_outcome};
 
     /// Takes a step of a variant that changes rows of the lock.
     pub(super) fn feed_by_rows(&mut self, value: u64) -> Outcome
-        ensures exact { self.new ≡ part_beside self.old.stand.errand self.old.detour self.old value }
-        ensures outcome { result ≡ part_outcome self.old.stand.errand self.old.detour self.old value }
+        ensures exact { self.new ≡ part_beside self.old.machine_state.script_state self.old.deviation self.old value }
+        ensures outcome { result ≡ part_outcome self.old.machine_state.script_state self.old.deviation self.old value }
     {
-        match (errand_of(&self.process), self.detour) {
-            (Errand::Doing(..), _) => self.process.feed(value),
-            (Errand::Free, Detour::Straight) => self.go_by_row(value),
-            (Errand::Free, Detour::Over(number)) => {
+        match (script_state_of(&self.process), self.deviation) {
+            (ScriptState::Doing(..), _) => self.process.feed(value),
+            (ScriptState::Free, Deviation::Straight) => self.go_by_row(value),
+            (ScriptState::Free, Deviation::Over(number)) => {
                 self.scan_again(number, value);
                 SILENT
             }
-            (Errand::Free, Detour::Dropping) => {
+            (ScriptState::Free, Deviation::Dropping) => {
                 let stage = stage_of(&self.process);
-                stand_outside(&mut self.process, stage);
-                self.detour = Detour::Straight;
+                machine_state_outside(&mut self.process, stage);
+                self.deviation = Deviation::Straight;
                 SILENT
             }
         }
@@ -186,13 +188,14 @@ impl VariantProcess {
 
     /// Takes a step of a process without a variant state: by a row that the variant changes, or by the lock's.
     fn go_by_row(&mut self, value: u64) -> Outcome
-        requires { self.old.stand.errand ≡ Free }
-        ensures exact { self.new ≡ by_row self.old (row_of self.old.variant self.old.stand value) value }
-        ensures outcome { result ≡ unless_changed (row_of self.old.variant self.old.stand value) (plain_outcome self.old.stand value) }
+        requires { self.old.machine_state.script_state ≡ Free }
+        ensures exact { self.new ≡ by_row self.old (row_of self.old.variant self.old.machine_state value) value }
+        ensures outcome { result ≡ unless_changed (row_of self.old.variant self.old.machine_state value)
+            (plain_outcome self.old.machine_state value) }
     {
         match self.row(value) {
-            Some((to, detour)) => {
-                self.go(to, detour);
+            Some((to, deviation)) => {
+                self.go(to, deviation);
                 SILENT
             }
             None => self.process.feed(value),
@@ -200,10 +203,11 @@ impl VariantProcess {
     }
 
     /// Where the next step leads, if it is by a row that the variant changes.
-    fn row(&self, value: u64) -> Option<(Stage, Detour)>
-        requires { self.now.stand.errand ≡ Free }
-        ensures some { IfSome result (λ r. row_of self.now.variant self.now.stand value ≡ Some (place_of self.now.stand.layout.procs self.now.stand.index r.0, r.1)) }
-        ensures none { result ≡ None → row_of self.now.variant self.now.stand value ≡ None }
+    fn row(&self, value: u64) -> Option<(Stage, Deviation)>
+        requires { self.now.machine_state.script_state ≡ Free }
+        ensures some { IfSome result (λ r. row_of self.now.variant self.now.machine_state value
+            ≡ Some (place_of self.now.machine_state.layout.procs self.now.machine_state.index r.0, r.1)) }
+        ensures none { result ≡ None → row_of self.now.variant self.now.machine_state value ≡ None }
     {
         match self.variant {
             Variant::NoLook => weighing_row(&self.process, value),
@@ -215,42 +219,42 @@ impl VariantProcess {
     }
 
     /// Goes where such a row leads.
-    fn go(&mut self, to: Stage, detour: Detour)
-        requires { self.old.stand.errand ≡ Free }
-        ensures { self.new ≡ led self.old (place_of self.old.stand.layout.procs self.old.stand.index to) detour }
+    fn go(&mut self, to: Stage, deviation: Deviation)
+        requires { self.old.machine_state.script_state ≡ Free }
+        ensures { self.new ≡ led self.old (place_of self.old.machine_state.layout.procs self.old.machine_state.index to) deviation }
     {
-        match detour {
-            Detour::Straight => self.process.seam_stand(to),
-            Detour::Dropping => {
-                stand_outside(&mut self.process, to);
-                self.detour = Detour::Dropping;
+        match deviation {
+            Deviation::Straight => self.process.seam_machine_state(to),
+            Deviation::Dropping => {
+                machine_state_outside(&mut self.process, to);
+                self.deviation = Deviation::Dropping;
             }
-            Detour::Over(number) => {
-                stand_outside(&mut self.process, to);
-                self.detour = Detour::Over(number);
+            Deviation::Over(number) => {
+                machine_state_outside(&mut self.process, to);
+                self.deviation = Deviation::Over(number);
             }
         }
     }
 
     /// Takes a step of a process that scans again and keeps its number. Where no number is left it waits with that one.
     fn scan_again(&mut self, number: u64, value: u64)
-        ensures { self.new ≡ over_way self.old number (next_access self.old.stand) value }
+        ensures { self.new ≡ over_way self.old number (next_access self.old.machine_state) value }
     {
         let Some(access) = self.process.next() else {
             return;
         };
         match access.kind() {
             Kind::Shut => {
-                stand_outside(&mut self.process, Stage::waiting(number));
-                self.detour = Detour::Straight;
+                machine_state_outside(&mut self.process, Stage::waiting(number));
+                self.deviation = Deviation::Straight;
             }
             Kind::Take => {
                 feed_outside(&mut self.process, value);
-                self.detour = Detour::Straight;
+                self.deviation = Deviation::Straight;
             }
             _ => {
                 feed_outside(&mut self.process, value);
-                self.detour = Detour::Over(number);
+                self.deviation = Deviation::Over(number);
             }
         }
     }

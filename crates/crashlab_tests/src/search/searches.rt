@@ -1,7 +1,7 @@
 //! Searches of the jugs.
 
 use crate::search::jugs::{Jugs, Pour};
-use explorer::{Found, SearchFault, Unwatched, Watch, search};
+use explorer::{SearchFault, SearchOutcome, Unwatched, Watch, search};
 use std::alloc::Global;
 use std::test::Fail;
 
@@ -11,7 +11,7 @@ fn pour_until(
     wanted: u64,
     most_moves: u64,
     most_states: u64,
-) -> Result<Found<Pour>, SearchFault> {
+) -> Result<SearchOutcome<Pour>, SearchFault> {
     let start = Jugs {
         small: 0,
         big: 0,
@@ -30,22 +30,40 @@ fn four_litres_take_six_moves(rt: HostRuntime) -> Result<(), Fail> {
         Pour::FillBig,
         Pour::BigToSmall,
     ]?;
-    assert_eq!(rt; pour_until(rt.alloc(), 4, 6, 16), Ok(Found::Path(path)));
+    assert_eq!(rt;
+        pour_until(rt.alloc(), 4, 6, 16),
+        Ok(SearchOutcome::Path(path))
+    );
     Ok(())
 }
 
 #[test]
 fn five_moves_are_too_few_for_four_litres(rt: HostRuntime) -> Result<(), Fail> {
-    assert_eq!(rt; pour_until(rt.alloc(), 4, 5, 16), Ok(Found::NoneWithin));
-    assert_eq!(rt; pour_until(rt.alloc(), 4, 0, 16), Ok(Found::NoneWithin));
+    assert_eq!(rt;
+        pour_until(rt.alloc(), 4, 5, 16),
+        Ok(SearchOutcome::NoneWithin)
+    );
+    assert_eq!(rt;
+        pour_until(rt.alloc(), 4, 0, 16),
+        Ok(SearchOutcome::NoneWithin)
+    );
     Ok(())
 }
 
 #[test]
 fn seven_litres_are_nowhere_among_sixteen_states(rt: HostRuntime) -> Result<(), Fail> {
-    assert_eq!(rt; pour_until(rt.alloc(), 7, 100, 16), Ok(Found::Nowhere(16)));
-    assert_eq!(rt; pour_until(rt.alloc(), 7, 8, 16), Ok(Found::Nowhere(16)));
-    assert_eq!(rt; pour_until(rt.alloc(), 7, 7, 16), Ok(Found::NoneWithin));
+    assert_eq!(rt;
+        pour_until(rt.alloc(), 7, 100, 16),
+        Ok(SearchOutcome::Nowhere(16))
+    );
+    assert_eq!(rt;
+        pour_until(rt.alloc(), 7, 8, 16),
+        Ok(SearchOutcome::Nowhere(16))
+    );
+    assert_eq!(rt;
+        pour_until(rt.alloc(), 7, 7, 16),
+        Ok(SearchOutcome::NoneWithin)
+    );
     assert_eq!(rt;
         pour_until(rt.alloc(), 7, 100, 15),
         Err(SearchFault::TooManyStates)
@@ -88,7 +106,7 @@ fn each_state_is_told_once(rt: HostRuntime) -> Result<(), Fail> {
         wanted: 7,
     };
     let found = search(rt.alloc(), start, 100, 16, &mut told);
-    assert_eq!(rt; found, Ok(Found::Nowhere(16)));
+    assert_eq!(rt; found, Ok(SearchOutcome::Nowhere(16)));
     assert_eq!(rt; told.times, 16);
     assert_eq!(rt; told.moves, 58);
     assert_eq!(rt; told.first, (0, 1));

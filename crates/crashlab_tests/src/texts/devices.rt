@@ -2,11 +2,10 @@
 
 use crate::texts::everything::{REPORT as EVERYTHING_REPORT, SCHEDULE as EVERYTHING};
 use crate::texts::kit::check;
-use schedule::{FromReader, Page, Text, ToWriter};
+use schedule::{FromReader, Page, ReplayFault, Text, ToWriter, Verdict, judge_trace, replay};
 use std::io;
 use std::io::{ErrorKind, Read, Write};
 use std::test::Fail;
-use schedule::{ReplayFault, Verdict, judge_trace, replay};
 
 pub const TORN: &[u8] = b"rme 1 procs 1 limit 10 cap 2
 lock 0

@@ -2,9 +2,8 @@
 
 use crashlab::{Variant, VariantWorld};
 use judge::Judge;
-use schedule::{Page, Text, read_schedule};
+use schedule::{Page, ReplayFault, Text, put_verdict, read_schedule, replay, replay_on};
 use std::test::Fail;
-use schedule::{ReplayFault, put_verdict, replay, replay_on};
 
 /// Fails the test unless this holds.
 pub fn check(holds: bool, what: &'static str) -> Result<(), Fail> {

@@ -1,12 +1,10 @@
 //! Minimized schedules.
 
 use crate::texts::kit::check;
-use crashlab::Variant;
 use crashlab::hunting::hunt;
-use schedule::{Schedule, read_schedule, write_schedule};
-use crashlab::{shrink, shrink_found};
+use crashlab::{Variant, shrink, shrink_found};
+use schedule::{ReplayFault, Schedule, read_schedule, write_schedule};
 use std::test::Fail;
-use schedule::ReplayFault;
 
 /// Process 0 has read the numbers and not taken its own, while process 1 enters; then 0 enters too.
 const TWO_INSIDE: &[u8] =

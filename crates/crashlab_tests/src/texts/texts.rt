@@ -1,11 +1,10 @@
-use schedule::LineFault;
-use schedule::lines::answer::{put_answer, put_deed};
 use redomail::Reply;
 use rmecore::Found;
 use rmeworld::Answer;
+use schedule::lines::answer::{put_answer, put_deed};
 use schedule::texts::device::{Page, write_all};
 use schedule::texts::trace::read_trace;
-use schedule::{TextFault, read_schedule, write_schedule};
+use schedule::{LineFault, TextFault, read_schedule, write_schedule};
 use std::test::Fail;
 
 /// The line and the number of a text's fault.

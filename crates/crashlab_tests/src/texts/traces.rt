@@ -4,10 +4,9 @@ use crate::texts::kit::check;
 use judge::Judge;
 use redomail::Deed;
 use rmecore::{Body, Fault, Outer};
-use schedule::Text;
 use schedule::texts::trace::{TraceHead, read_trace};
+use schedule::{ReplayFault, Text, Verdict, judge_trace};
 use std::test::Fail;
-use schedule::{ReplayFault, Verdict, judge_trace};
 
 const OVERTAKEN: &[u8] = b"trace 1 procs 2 cap 1
 begin 0

@@ -2,11 +2,10 @@
 
 use crashlab::{Variant, VariantWorld};
 use judge::Judge;
-use schedule::Line;
 use redomail::Deed;
 use rmecore::{Fault, Own, Refusal};
 use rmeworld::Machine;
-use schedule::{Schedule, read_schedule};
+use schedule::{Line, Schedule, read_schedule};
 use std::alloc::Global;
 
 /// Process 0 restarts with its number taken and its doorway not shut.

@@ -13,9 +13,9 @@ use crate::lab::sending::{is_crash, is_sent, value_sent};
 use crate::lab::{Ending, Gate, LabFault, Spec};
 use crate::member::Member;
 use crate::sizes::Sizes;
+use execution::LockFault;
 use redomail::Reply;
 use rmecore::Body;
-use execution::LockFault;
 use std::alloc::{AllocError, Global};
 use std::snapshot::Snapshot;
 use std::sync::Wait;
@@ -90,7 +90,7 @@ fn send<L: Ledger, S: Sizes, G: Gate, R: Wait>(
     ensures ready { is_in member.new.standing ≡ false }
     ensures told { OnOk result ((asking : G) × G.heard asking seq gate.new) }
     ensures answered { IfOk result (λ reply. IsReply S.named member.old.process (Append seq value) reply) }
-    ensures ends { IfErr result (λ why. (s : SpecOf) → MayEnd S.named s member.new.process (Ending.Fault why)) }
+    ensures ends { IfErr result (λ purpose. (s : SpecOf) → MayEnd S.named s member.new.process (Ending.Fault purpose)) }
 {
     for _ in rt.forever() {
         match member.append(rt, seq, value, gate) {
@@ -133,8 +133,10 @@ pub fn work_all<
         thread::scope_env(),
         rt,
         |scope| -> Result<Vec<Done<L, S>>, AllocError>
-            requires { IsSend G.row × IsSync R.row × (vec_len gates ≡ vec_len members) × (spec.messages ≤ 4096) × (1 ≤ spec.width) × (spec.width ≤ 8) × All (CanSend spec.width) members.items }
-            ensures { IfOk result (λ all. (map (λ d. place_of d.member) all.items ≡ map place_of members.items) × All (λ d. MayEnd S.named spec d.member.process d.ending) all.items) }
+            requires { IsSend G.row × IsSync R.row × (vec_len gates ≡ vec_len members) × (spec.messages ≤ 4096)
+                × (1 ≤ spec.width) × (spec.width ≤ 8) × All (CanSend spec.width) members.items }
+            ensures { IfOk result (λ all. (map (λ d. place_of d.member) all.items ≡ map place_of members.items)
+                × All (λ d. MayEnd S.named spec d.member.process d.ending) all.items) }
         {
             let threads = start_all(scope, rt, alloc, spec, members, gates)?;
             join_all(rt, alloc, threads)
@@ -173,7 +175,8 @@ fn start_all<
         };
         let promise = HandsBack(Snapshot::of(&member), spec);
         let job = move || -> Done<L, S>
-            requires { IsSend G.row × IsSync R.row × (spec.messages ≤ 4096) × (1 ≤ spec.width) × (spec.width ≤ 8) × CanSend spec.width member }
+            requires { IsSend G.row × IsSync R.row × (spec.messages ≤ 4096) × (1 ≤ spec.width) × (spec.width ≤ 8)
+                × CanSend spec.width member }
         { work(rt, member, gate, spec) };
         let Ok(thread) = scope.spawn_with(promise, job) else {
             return Err(AllocError);
@@ -190,7 +193,8 @@ fn join_all<L: Ledger, S: Sizes, R: Threads>(
     threads: Vec<PromisedHandle<Done<L, S>, HandsBack<L, S>>>,
 ) -> Result<Vec<Done<L, S>>, AllocError>
     ensures places { IfOk result (λ all. map (λ d. place_of d.member) all.items ≡ map (λ h. place_of h.promise.0.value) threads.items) }
-    ensures ends { (spec : SpecOf) → All (λ h. h.promise.1 ≡ spec) threads.items → IfOk result (λ all. All (λ d. MayEnd S.named spec d.member.process d.ending) all.items) }
+    ensures ends { (spec : SpecOf) → All (λ h. h.promise.1 ≡ spec) threads.items
+        → IfOk result (λ all. All (λ d. MayEnd S.named spec d.member.process d.ending) all.items) }
 {
     let mut all = Vec::new(alloc);
     for thread in threads {

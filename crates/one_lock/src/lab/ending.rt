@@ -1,11 +1,11 @@
 //! How a worker of a lab ended.
 
-use redomail::Reply;
 use execution::LockFault;
+use redomail::Reply;
 
 /// How a worker ended.
 #[derive(Clone, Copy, Debug, PartialEq, Eq)]
-pub enum Ending {
+pub enum WorkerEnd {
     /// Each of its messages was answered Stored or Already.
     AllSent,
     /// A call ended with a fault.

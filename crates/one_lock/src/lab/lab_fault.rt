@@ -1,7 +1,7 @@
 //! Why a lab has no result.
 
-use redomail::Reply;
 use execution::LockFault;
+use redomail::Reply;
 use thiserror::Error;
 
 /// Why a lab has no result. `BadSpec` and `OutOfMemory` come first, then the fault of the worker with the least number of

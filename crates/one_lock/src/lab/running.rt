@@ -5,13 +5,13 @@ ghost use Rattle.one_lock.specs.LabEndings.{MayEndLab, WereSent};
 ghost use Rattle.one_lock.specs.Lab.{IsBadSpec, setup_of};
 ghost use Rattle.one_lock.specs.Shown.{AreShown};
 
+use crate::arena::Arena;
+use crate::gather_fault::GatherFault;
+use crate::gathering::gather;
 use crate::lab::crew::{first_fault, members_of, work_all};
 use crate::lab::showing::shown;
 use crate::lab::{Gate, LabFault, LabResult, Spec};
-use crate::arena::Arena;
-use crate::gather_fault::GatherFault;
 use crate::sizes::Sizes;
-use crate::gathering::gather;
 use redomail::Layout;
 use std::alloc::Global;
 use std::marker::Brand;

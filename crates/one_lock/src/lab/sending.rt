@@ -3,9 +3,9 @@
 ghost use Rattle.std.specs.Prelude.{◌≡◌, ◌<◌, ◌≤◌, ◌⊎◌, ◌↔◌, IsTrue, length};
 ghost use Rattle.one_lock.specs.Lab.{words_sent};
 
+use execution::LockFault;
 use redomail::Reply;
 use rmecore::Body;
-use execution::LockFault;
 
 /// The value of worker p's message with this sequence number, `width` words wide: word j is 1,000,000 * p + seq + j.
 pub fn value_sent(p: u64, seq: u64, width: u64) -> Body

@@ -1,9 +1,9 @@
 //! The command lines that spell a command.
 
 use crate::arguments::kit::words_of;
-use crashlab::Variant;
-use cli::arguments::order::{Command, HuntOrder, ReplayOrder, RunOrder};
+use cli::arguments::order::{Command, HuntArgs, ReplayArgs, RunArgs};
 use cli::arguments::words::read_words;
+use crashlab::Variant;
 use std::test::Fail;
 
 #[test]
@@ -12,7 +12,7 @@ fn a_replay_of_standard_input(rt: HostRuntime) -> Result<(), Fail> {
     let Ok(Command::Replay(order)) = read_words(rt.alloc(), &words) else {
         panic!(&rt; "no replay");
     };
-    let plain = ReplayOrder {
+    let plain = ReplayArgs {
         json: false,
         each: false,
         variant: Variant::Right,
@@ -31,7 +31,7 @@ fn a_hunt(rt: HostRuntime) -> Result<(), Fail> {
     let Ok(Command::Hunt(order)) = read_words(rt.alloc(), &words) else {
         panic!(&rt; "no hunt");
     };
-    let longest = HuntOrder {
+    let longest = HuntArgs {
         variant: Variant::LastSkipped,
         seed: 1,
         rounds: 10_000,
@@ -51,7 +51,7 @@ fn runs(rt: HostRuntime) -> Result<(), Fail> {
         let Ok(Command::Run(order)) = read_words(rt.alloc(), &words) else {
             panic!(&rt; "no run: {line}");
         };
-        let greatest = RunOrder {
+        let greatest = RunArgs {
             procs: 16,
             messages: 4096,
             crash: 50,

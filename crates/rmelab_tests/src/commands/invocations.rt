@@ -1,12 +1,12 @@
 //! Whole invocations of other kinds: senders, a hunt, the version, and words that are refused.
 
-use commands::program::closed;
-use cli::arguments::words::words_given;
 use crate::support::fake::Failing;
 use crate::support::invocation::{all_come_to, comes_to, prints};
 use crate::support::row::invoked;
+use cli::arguments::words::words_given;
+use commands::program::closed;
+use commands::schedules::fault::CommandFault;
 use schedule::Page;
-use commands::schedules::fault::Fault;
 use std::env::FillError;
 use std::rt::Env;
 use std::test::Fail;
@@ -67,7 +67,7 @@ fn orders_that_are_refused(rt: HostRuntime) -> Result<(), Fail> {
 #[test]
 fn a_member_that_fails(rt: HostRuntime) -> Result<(), Fail> {
     let mut page = Page::new(rt.alloc());
-    assert_eq!(rt; closed(Err(Fault::Member { p: 3 }), &mut page), 3);
+    assert_eq!(rt; closed(Err(CommandFault::Member { p: 3 }), &mut page), 3);
     assert_eq!(rt;
         str::from_utf8(page.as_slice()),
         Ok("rmelab: member 3 failed\n")

@@ -2,8 +2,8 @@
 
 use crate::commands::drawings::{DRAWN, SMALLEST};
 use crate::commands::explains::{NO_NAME, NO_NEWLINE};
-use crate::support::wanting::all_want_memory;
 use crate::support::row::invoked;
+use crate::support::wanting::all_want_memory;
 use std::test::Fail;
 
 #[test]

@@ -1,10 +1,10 @@
 //! Senders on threads.
 
-use crashlab::{CrashPlan, Seeded};
+use crate::support::invocation::prints;
+use cli::arguments::order::RunArgs;
 use commands::running::{gates_of, lines_of, status_of_tallies};
 use commands::tally::tallied;
-use cli::arguments::order::RunOrder;
-use crate::support::invocation::prints;
+use crashlab::{CrashPlan, Seeded};
 use redomail::Message;
 use rmecore::Body;
 use std::test::Fail;
@@ -31,7 +31,7 @@ fn four_senders_of_wide_messages(rt: HostRuntime) -> Result<(), Fail> {
 /// The crashes of sender p are drawn from the seed and p.
 #[test]
 fn each_sender_has_the_next_seed(rt: HostRuntime) -> Result<(), Fail> {
-    let order = RunOrder {
+    let order = RunArgs {
         procs: 3,
         messages: 1,
         crash: 500,

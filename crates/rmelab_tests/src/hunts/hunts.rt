@@ -37,7 +37,7 @@ fn hunt_seeds(rt: HostRuntime) -> Result<(), Fail> {
     prints(&rt, alloc, line, "", "nothing found\n", "", 0)
 }
 
-/// The schedule that `bench/lab`, a program written by hand, draws by the same rule.
+/// The schedule that `running_judge/lab`, a program written by hand, draws by the same rule.
 const DRAWN: &str =
     "rme 1 procs 3 limit 1000000 cap 64\nlock 2\nlock 0\nlock 1\ncrash 1\nlock 1\nstep 2\nstep 0\nstep 2\n\
 step 2\nstep 2\nstep 1\nstep 1\nstep 2\ncrash 0\nlock 0\nstep 0\nstep 1\nstep 2\nstep 2\nstep 2\n\

@@ -2,8 +2,8 @@
 
 use crate::hunts::explores::GONE_OUT;
 use crate::hunts::shrinks::{LEAST, SMALLEST, TWO_INSIDE};
-use crate::support::wanting::all_want_memory;
 use crate::support::row::invoked;
+use crate::support::wanting::all_want_memory;
 use std::test::Fail;
 
 #[test]

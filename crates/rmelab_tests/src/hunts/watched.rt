@@ -1,12 +1,12 @@
 //! The progress of a search or a hunt, as it is reported and as it is shown.
 
 use crate::hunts::explores::SHORTEST;
-use crashlab::Variant;
-use crashlab::hunting::hunt_watched;
-use explorer::Watch;
 use crate::support::fake::Failing;
 use crate::support::invocation::all_come_to;
 use crate::support::row::invoked;
+use crashlab::Variant;
+use crashlab::hunting::hunt_watched;
+use explorer::Watch;
 use std::test::Fail;
 
 /// Keeps the progress that is reported to it. What it has no memory for is dropped.

@@ -1,8 +1,8 @@
 //! Each request for memory of a lab over the running lock is refused in turn.
 
 use crash_plans::Never;
+use memory_limit::{PIECES, ScarceMemory};
 use robust::{LabFault, LabResult, Spec, run_lab};
-use memory_limit::{PIECES, Scarce};
 use std::alloc::{AllocError, Global};
 use std::sync::Wait;
 use std::test::Fail;
@@ -41,7 +41,7 @@ fn lab<R: Threads + Wait + Sync>(
 fn a_lab(rt: HostRuntime) -> Result<(), Fail> {
     let alloc = rt.alloc();
     let mut gates = gates(alloc)?;
-    let mut scarce = Scarce::new(alloc)?;
+    let mut scarce_memory = ScarceMemory::new(alloc)?;
     let mut refused = 0u64;
     for _ in 0..PIECES {
         match lab(&rt, alloc, &mut gates) {
@@ -51,9 +51,9 @@ fn a_lab(rt: HostRuntime) -> Result<(), Fail> {
                 refused = refused.saturating_add(1);
             }
         }
-        scarce.give_back();
+        scarce_memory.give_back();
     }
-    scarce.end();
+    scarce_memory.end();
     assert!(rt; 0 < refused);
     let left = lab(&rt, alloc, &mut gates)?;
     assert_eq!(rt; left.messages.len(), 2);

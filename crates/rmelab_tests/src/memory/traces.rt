@@ -1,10 +1,9 @@
 //! Judging a trace keeps one line of it in memory: a long trace meets as many refusals as a short one.
 
-use memory_limit::{PIECES, Scarce};
-use schedule::Text;
+use memory_limit::{PIECES, ScarceMemory};
+use schedule::{ReplayFault, Text, Verdict, judge_trace};
 use std::alloc::{AllocError, Global};
 use std::test::Fail;
-use schedule::{ReplayFault, Verdict, judge_trace};
 
 const IN_ORDER: &[u8] = b"trace 1 procs 2 cap 1
 begin 0
@@ -16,7 +15,7 @@ enter 0
 
 /// How many requests for memory are refused in a row until the verdict of the trace is fine. None: it never is.
 fn refusals(alloc: Global, text: &[u8]) -> Result<Option<u64>, AllocError> {
-    let mut scarce = Scarce::new(alloc)?;
+    let mut scarce_memory = ScarceMemory::new(alloc)?;
     let mut refused = 0u64;
     for _ in 0..PIECES {
         match judge_trace(alloc, &mut Text::new(text, 512)) {
@@ -25,7 +24,7 @@ fn refusals(alloc: Global, text: &[u8]) -> Result<Option<u64>, AllocError> {
             _ => break,
         }
         refused = refused.saturating_add(1);
-        scarce.give_back();
+        scarce_memory.give_back();
     }
     Ok(None)
 }

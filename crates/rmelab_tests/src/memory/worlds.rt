@@ -1,19 +1,17 @@
 //! Each request for memory of worlds, images and replays is refused in turn.
 
-use rmeworld::{read_image, write_image};
+use memory_limit::{PIECES, ScarceMemory};
 use rmecore::Refusal;
-use rmeworld::{Call, Image, World};
-use memory_limit::{PIECES, Scarce};
-use schedule::{Text, ToWriter};
+use rmeworld::{Call, Image, World, read_image, write_image};
+use schedule::{ReplayFault, Text, ToWriter, Verdict, replay};
 use std::alloc::Global;
 use std::io::Cursor;
 use std::test::Fail;
-use schedule::{ReplayFault, Verdict, replay};
 
 #[test]
 fn a_new_world(rt: HostRuntime) -> Result<(), Fail> {
     let alloc = rt.alloc();
-    let mut scarce = Scarce::new(alloc)?;
+    let mut scarce_memory = ScarceMemory::new(alloc)?;
     let mut refused = 0u64;
     for _ in 0..PIECES {
         match World::new(alloc, 2, 10, 2, 1) {
@@ -21,7 +19,7 @@ fn a_new_world(rt: HostRuntime) -> Result<(), Fail> {
             Err(refusal) => assert_eq!(rt; refusal, Refusal::OutOfMemory),
         }
         refused = refused.saturating_add(1);
-        scarce.give_back();
+        scarce_memory.give_back();
     }
     assert!(rt; 0 < refused && refused < PIECES as u64);
     Ok(())
@@ -43,7 +41,7 @@ fn torn(alloc: Global, printed: &mut [u8]) -> Result<Verdict, ReplayFault> {
 #[test]
 fn a_replay(rt: HostRuntime) -> Result<(), Fail> {
     let alloc = rt.alloc();
-    let mut scarce = Scarce::new(alloc)?;
+    let mut scarce_memory = ScarceMemory::new(alloc)?;
     let mut refused = 0u64;
     for _ in 0..PIECES {
         let mut printed = [0u8; 512];
@@ -56,7 +54,7 @@ fn a_replay(rt: HostRuntime) -> Result<(), Fail> {
             Err(fault) => assert_eq!(rt; fault, ReplayFault::OutOfMemory),
         }
         refused = refused.saturating_add(1);
-        scarce.give_back();
+        scarce_memory.give_back();
     }
     assert!(rt; 0 < refused && refused < PIECES as u64);
     Ok(())
@@ -72,7 +70,7 @@ fn a_written_image(rt: HostRuntime) -> Result<(), Fail> {
     let alloc = rt.alloc();
     let image = new_image(alloc)?;
     let wanted = write_image(alloc, &image)?;
-    let mut scarce = Scarce::new(alloc)?;
+    let mut scarce_memory = ScarceMemory::new(alloc)?;
     let mut refused = 0u64;
     for _ in 0..PIECES {
         match write_image(alloc, &image) {
@@ -83,7 +81,7 @@ fn a_written_image(rt: HostRuntime) -> Result<(), Fail> {
             Err(refusal) => assert_eq!(rt; refusal, Refusal::OutOfMemory),
         }
         refused = refused.saturating_add(1);
-        scarce.give_back();
+        scarce_memory.give_back();
     }
     assert!(rt; 0 < refused && refused < PIECES as u64);
     Ok(())
@@ -94,7 +92,7 @@ fn a_read_image(rt: HostRuntime) -> Result<(), Fail> {
     let alloc = rt.alloc();
     let image = new_image(alloc)?;
     let text = write_image(alloc, &image)?;
-    let mut scarce = Scarce::new(alloc)?;
+    let mut scarce_memory = ScarceMemory::new(alloc)?;
     let mut refused = 0u64;
     for _ in 0..PIECES {
         match read_image(alloc, &text) {
@@ -106,7 +104,7 @@ fn a_read_image(rt: HostRuntime) -> Result<(), Fail> {
             Err(refusal) => assert_eq!(rt; refusal, Refusal::OutOfMemory),
         }
         refused = refused.saturating_add(1);
-        scarce.give_back();
+        scarce_memory.give_back();
     }
     assert!(rt; 0 < refused && refused < PIECES as u64);
     Ok(())
@@ -135,7 +133,7 @@ fn steps_of_a_world(rt: HostRuntime) -> Result<(), Fail> {
         advanced(&mut ample)?;
     }
     let mut world = locking(alloc)?;
-    let mut scarce = Scarce::new(alloc)?;
+    let mut scarce_memory = ScarceMemory::new(alloc)?;
     let mut refused = 0u64;
     let mut taken = 0u64;
     for _ in 0..PIECES + 8 {
@@ -147,7 +145,7 @@ fn steps_of_a_world(rt: HostRuntime) -> Result<(), Fail> {
             Err(refusal) => {
                 assert!(rt; refusal == Refusal::OutOfMemory && world.steps(0) == Ok(taken));
                 refused = refused.saturating_add(1);
-                scarce.give_back();
+                scarce_memory.give_back();
             }
         }
     }

@@ -2,8 +2,8 @@
 
 use crate::replays::reports::{IN_ORDER, OBJECT, REPORT, SMALLEST};
 use crate::replays::stepwise::TOLD;
-use crate::support::wanting::all_want_memory;
 use crate::support::row::invoked;
+use crate::support::wanting::all_want_memory;
 use std::test::Fail;
 
 #[test]

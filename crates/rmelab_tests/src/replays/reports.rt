@@ -1,10 +1,10 @@
 //! Replays and traces as whole invocations: the words, standard input and files; then what is printed on both outputs, the
 //! exit status and the file that is saved.
 
-use commands::command::command;
-use cli::arguments::order::Command;
 use crate::support::invocation::all_come_to;
 use crate::support::row::invoked;
+use cli::arguments::order::Command;
+use commands::command::command;
 use schedule::{Page, Text};
 use std::test::Fail;
 
@@ -194,15 +194,7 @@ fn a_command_alone(rt: HostRuntime) -> Result<(), Fail> {
         let mut out = Page::new(alloc);
         let mut err = Page::new(alloc);
         let order = Command::Judge(None);
-        let ending = command(
-            &rt,
-            alloc,
-            &order,
-            None,
-            &mut source,
-            &mut out,
-            &mut err,
-        );
+        let ending = command(&rt, alloc, &order, None, &mut source, &mut out, &mut err);
         assert_eq!(rt; str::from_utf8(out.as_slice()), Ok(printed));
         assert_eq!(rt; str::from_utf8(err.as_slice()), Ok(told));
         assert!(rt; ending.status == status && ending.save.is_none());

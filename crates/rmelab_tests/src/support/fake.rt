@@ -1,8 +1,8 @@
 //! A folder in memory, which may fail, and which device of an invocation fails.
 
 use crate::support::devices::Feed;
-use histories::Log;
 use commands::folder::{FileFault, Folder};
+use histories::Log;
 use schedule::FromReader;
 use std::alloc::Global;
 

@@ -2,10 +2,10 @@
 
 use crate::support::devices::{Feed, Paper, Ticking};
 use crate::support::fake::{Failing, Fake};
-use crate::support::row::{Row, invoked};
-use commands::program::run_program;
+use crate::support::row::{ProgramRow, invoked};
 use cli::arguments::words::WordsFault;
 use commands::Terminal;
+use commands::program::run_program;
 use std::alloc::{AllocError, Global};
 use std::process::ExitCode;
 use std::sync::Wait;
@@ -37,7 +37,7 @@ pub fn printed_by(
     rt: &(impl Threads + Wait + Sync),
     alloc: Global,
     words: Result<Vec<String>, WordsFault>,
-    row: &Row<'_>,
+    row: &ProgramRow<'_>,
 ) -> Printed {
     let mut folder = Fake::new(alloc, row.files, row.failing);
     let input = Feed::new(row.input, row.failing == Failing::Read);
@@ -97,7 +97,7 @@ pub fn comes_to(
     rt: &(impl Threads + Wait + Sync),
     alloc: Global,
     words: Result<Vec<String>, WordsFault>,
-    row: &Row<'_>,
+    row: &ProgramRow<'_>,
 ) -> Result<(), Fail> {
     let line = row.line;
     let found = printed_by(rt, alloc, words, row);
@@ -121,7 +121,7 @@ pub fn comes_to(
 pub fn all_come_to(
     rt: &(impl Threads + Wait + Sync),
     alloc: Global,
-    rows: &[Row<'_>],
+    rows: &[ProgramRow<'_>],
 ) -> Result<(), Fail> {
     for row in rows {
         comes_to(rt, alloc, Ok(words_of(alloc, row.line)?), row)?;

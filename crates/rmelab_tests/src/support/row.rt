@@ -4,7 +4,7 @@ use crate::support::fake::Failing;
 
 /// An invocation, and the output that is expected.
 #[derive(Clone, Copy)]
-pub struct Row<'a> {
+pub struct ProgramRow<'a> {
     pub(crate) line: &'a str,
     pub(crate) input: &'a str,
     pub(crate) files: [(&'a str, &'a str); 2],
@@ -18,8 +18,8 @@ pub struct Row<'a> {
 }
 
 /// With these words and this standard input, this is printed.
-pub fn invoked<'a>(line: &'a str, input: &'a str, printed: &'a str) -> Row<'a> {
-    Row {
+pub fn invoked<'a>(line: &'a str, input: &'a str, printed: &'a str) -> ProgramRow<'a> {
+    ProgramRow {
         line,
         input,
         files: [("", ""); 2],
@@ -33,28 +33,28 @@ pub fn invoked<'a>(line: &'a str, input: &'a str, printed: &'a str) -> Row<'a> {
     }
 }
 
-impl<'a> Row<'a> {
+impl<'a> ProgramRow<'a> {
     /// In a folder with these two files.
-    pub fn among(self, first: (&'a str, &'a str), second: (&'a str, &'a str)) -> Row<'a> {
-        Row {
+    pub fn among(self, first: (&'a str, &'a str), second: (&'a str, &'a str)) -> ProgramRow<'a> {
+        ProgramRow {
             files: [first, second],
             ..self
         }
     }
 
     /// In a folder with this file.
-    pub fn beside(self, first: (&'a str, &'a str)) -> Row<'a> {
+    pub fn beside(self, first: (&'a str, &'a str)) -> ProgramRow<'a> {
         self.among(first, ("", ""))
     }
 
     /// While this device fails.
-    pub fn where_fails(self, failing: Failing) -> Row<'a> {
-        Row { failing, ..self }
+    pub fn where_fails(self, failing: Failing) -> ProgramRow<'a> {
+        ProgramRow { failing, ..self }
     }
 
     /// Standard error is a terminal, on which this is shown.
-    pub fn shows(self, shown: &'a str) -> Row<'a> {
-        Row {
+    pub fn shows(self, shown: &'a str) -> ProgramRow<'a> {
+        ProgramRow {
             is_terminal: true,
             shown,
             ..self
@@ -62,16 +62,16 @@ impl<'a> Row<'a> {
     }
 
     /// The file with this name is written.
-    pub fn saves(self, name: &'a str, text: &'a str) -> Row<'a> {
-        Row {
+    pub fn saves(self, name: &'a str, text: &'a str) -> ProgramRow<'a> {
+        ProgramRow {
             saved: (name, text),
             ..self
         }
     }
 
     /// It ends with this exit status, and with this on standard error.
-    pub fn ends(self, status: u8, told: &'a str) -> Row<'a> {
-        Row {
+    pub fn ends(self, status: u8, told: &'a str) -> ProgramRow<'a> {
+        ProgramRow {
             status,
             told,
             ..self

@@ -3,10 +3,10 @@
 use crate::support::devices::Feed;
 use crate::support::fake::Fake;
 use crate::support::invocation::words_of;
-use crate::support::row::Row;
-use commands::program::run_program;
+use crate::support::row::ProgramRow;
 use commands::NoScreen;
-use memory_limit::{PIECES, Scarce};
+use commands::program::run_program;
+use memory_limit::{PIECES, ScarceMemory};
 use std::alloc::{AllocError, Global};
 use std::io::Cursor;
 use std::process::ExitCode;
@@ -28,7 +28,7 @@ fn ends(
     rt: &(impl Threads + Wait + Sync),
     alloc: Global,
     words: Vec<String>,
-    row: &Row<'_>,
+    row: &ProgramRow<'_>,
     out: &mut [u8],
     err: &mut [u8],
 ) -> ExitCode {
@@ -58,10 +58,14 @@ fn check(holds: bool, line: &str, what: &str) -> Result<(), Fail> {
 
 /// The program reports that it is out of memory and ends with 3, until it meets no refusal. Then its output is what the row
 /// says.
-fn wants(rt: &(impl Threads + Wait + Sync), alloc: Global, row: &Row<'_>) -> Result<(), Fail> {
+fn wants(
+    rt: &(impl Threads + Wait + Sync),
+    alloc: Global,
+    row: &ProgramRow<'_>,
+) -> Result<(), Fail> {
     let line = row.line;
     let mut all = all_words(alloc, line)?;
-    let mut scarce = Scarce::new(alloc)?;
+    let mut scarce_memory = ScarceMemory::new(alloc)?;
     let mut refused = 0u64;
     for _ in 0..PIECES {
         let words = all.pop().unwrap_or(Vec::new(alloc));
@@ -78,9 +82,9 @@ fn wants(rt: &(impl Threads + Wait + Sync), alloc: Global, row: &Row<'_>) -> Res
         let told = err.starts_with(b"rmelab: out of memory\n\0");
         check(told && code == ExitCode::from(3), line, "told")?;
         refused = refused.saturating_add(1);
-        scarce.give_back();
+        scarce_memory.give_back();
     }
-    scarce.end();
+    scarce_memory.end();
     check(0 < refused && refused < PIECES as u64, line, "refused")
 }
 
@@ -88,7 +92,7 @@ fn wants(rt: &(impl Threads + Wait + Sync), alloc: Global, row: &Row<'_>) -> Res
 pub fn all_want_memory(
     rt: &(impl Threads + Wait + Sync),
     alloc: Global,
-    rows: &[Row<'_>],
+    rows: &[ProgramRow<'_>],
 ) -> Result<(), Fail> {
     for row in rows {
         wants(rt, alloc, row)?;

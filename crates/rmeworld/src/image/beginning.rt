@@ -11,13 +11,13 @@ ghost use Rattle.rmeworld.specs.ImageRules.{layout_of, IsLawfulImage};
 ghost use Rattle.rmeworld.specs.ImageStart.{IsInAlone, IsStartOf, IsUnstarted};
 ghost use Rattle.rmeworld.specs.ImageWiden.{shown_in};
 
+use crate::image::Image;
+use crate::image::rules::{find_in, first_rule, layout, word};
 use judge::{Ahead, Messages, Phases, Start};
 use redomail::contents::value_at;
 use redomail::layout::{ARMED, CLOSED, COUNT, RECORD, RUINED};
 use redomail::{Message, content};
 use rmecore::{Own, Phase, Refusal};
-use crate::image::Image;
-use crate::image::rules::{find_in, first_rule, layout, word};
 use std::alloc::{AllocError, Global};
 
 /// The start of a history that continues from an image: the phases and ahead sets of the lock words, and what is shown and
@@ -130,7 +130,8 @@ fn ahead_of(alloc: Global, lock: &[Own], p: u64) -> Result<Vec<u64>, AllocError>
 
 fn ahead_sets(alloc: Global, lock: &[Own]) -> Result<Vec<Vec<u64>>, AllocError>
     ensures each { IfOk result (λ sets. length sets.items ≡ length lock.now) }
-    ensures ahead { IfOk result (λ sets. (p q : ℕ) → is_named (slice_index_or (map (λ names. names.items) sets.items) p []) q ≡ (start_by (own_at lock.now)).ahead p q) }
+    ensures ahead { IfOk result (λ sets. (p q : ℕ) → is_named (slice_index_or (map (λ names. names.items) sets.items) p []) q
+        ≡ (start_by (own_at lock.now)).ahead p q) }
 {
     let mut sets = Vec::with_capacity(alloc, lock.len())?;
     for p in 0..lock.len() as u64 {

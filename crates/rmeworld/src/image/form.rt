@@ -8,10 +8,10 @@ ghost use Rattle.rmeworld.specs.declared.image.Image.{Image as ImageOf};
 ghost use Rattle.serde_json.specs.Data.{Data, Members, member};
 ghost use Rattle.serde_json.specs.View.{view, members_view};
 
-use rmecore::{Own, Refusal};
-use crate::cells::Cells;
+use crate::cells::DataWords;
 use crate::image::Image;
 use crate::owns::Owns;
+use rmecore::{Own, Refusal};
 use serde_json::{Map, Value};
 use std::alloc::Global;
 
@@ -21,7 +21,8 @@ const MISSHAPEN: Refusal = Refusal::BadImage { rule: 1 };
 // Takes the first member of an object, which must have this name.
 fn take(members: &mut Map<String, Value>, name: &str) -> Result<Value, Refusal>
     ensures ok { IfOk result (λ v. members_view members.old.entries ≡ member name.now (view v) (members_view members.new.entries)) }
-    ensures err { IfErr result (λ e. (e ≡ BadImage 1) × ((d : Data) (ms : Members) → members_view members.old.entries ≡ member name.now d ms → ⊥)) }
+    ensures err { IfErr result (λ e. (e ≡ BadImage 1) × ((d : Data) (ms : Members)
+        → members_view members.old.entries ≡ member name.now d ms → ⊥)) }
 {
     match members.pop_first() {
         Some((key, value)) if key.as_str() == name => Ok(value),
@@ -91,7 +92,8 @@ fn owns(alloc: Global, value: &Value) -> Result<Vec<Own>, Refusal>
 // Takes the first member, a whole number.
 fn take_whole(members: &mut Map<String, Value>, name: &str) -> Result<u64, Refusal>
     ensures ok { IfOk result (λ n. members_view members.old.entries ≡ member name.now (whole_data n) (members_view members.new.entries)) }
-    ensures err { IfErr result (λ e. (e ≡ BadImage 1) × ((n : ℕ) (ms : Members) → members_view members.old.entries ≡ member name.now (whole_data n) ms → ⊥)) }
+    ensures err { IfErr result (λ e. (e ≡ BadImage 1) × ((n : ℕ) (ms : Members)
+        → members_view members.old.entries ≡ member name.now (whole_data n) ms → ⊥)) }
 {
     let value = take(members, name)?;
     whole(&value)
@@ -103,8 +105,10 @@ fn take_numbers(
     members: &mut Map<String, Value>,
     name: &str,
 ) -> Result<Vec<u64>, Refusal>
-    ensures ok { IfOk result (λ ns. members_view members.old.entries ≡ member name.now (list_data ns.items) (members_view members.new.entries)) }
-    ensures err { IfErr result (λ e. (e ≡ OutOfMemory) ⊎ ((e ≡ BadImage 1) × ((ns : List ℕ) (ms : Members) → members_view members.old.entries ≡ member name.now (list_data ns) ms → ⊥))) }
+    ensures ok { IfOk result (λ ns. members_view members.old.entries
+        ≡ member name.now (list_data ns.items) (members_view members.new.entries)) }
+    ensures err { IfErr result (λ e. (e ≡ OutOfMemory) ⊎ ((e ≡ BadImage 1)
+        × ((ns : List ℕ) (ms : Members) → members_view members.old.entries ≡ member name.now (list_data ns) ms → ⊥))) }
 {
     let value = take(members, name)?;
     numbers(alloc, &value)
@@ -116,8 +120,10 @@ fn take_owns(
     members: &mut Map<String, Value>,
     name: &str,
 ) -> Result<Vec<Own>, Refusal>
-    ensures ok { IfOk result (λ xs. members_view members.old.entries ≡ member name.now (lock_data xs.items) (members_view members.new.entries)) }
-    ensures err { IfErr result (λ e. (e ≡ OutOfMemory) ⊎ ((e ≡ BadImage 1) × ((xs : List OwnOf) (ms : Members) → members_view members.old.entries ≡ member name.now (lock_data xs) ms → ⊥))) }
+    ensures ok { IfOk result (λ xs. members_view members.old.entries
+        ≡ member name.now (lock_data xs.items) (members_view members.new.entries)) }
+    ensures err { IfErr result (λ e. (e ≡ OutOfMemory) ⊎ ((e ≡ BadImage 1)
+        × ((xs : List OwnOf) (ms : Members) → members_view members.old.entries ≡ member name.now (lock_data xs) ms → ⊥))) }
 {
     let value = take(members, name)?;
     owns(alloc, &value)
@@ -126,7 +132,8 @@ fn take_owns(
 // Takes the last member, the width, if there is one.
 fn last_width(members: &mut Map<String, Value>) -> Result<Option<u64>, Refusal>
     ensures ok { IfOk result (λ o. members_view members.old.entries ≡ width_member (is_some o) (unwrap_or o 1)) }
-    ensures err { IfErr result (λ e. (e ≡ BadImage 1) × ((wide : Bool) (w : ℕ) → members_view members.old.entries ≡ width_member wide w → ⊥)) }
+    ensures err { IfErr result (λ e. (e ≡ BadImage 1) × ((wide : Bool) (w : ℕ)
+        → members_view members.old.entries ≡ width_member wide w → ⊥)) }
 {
     if members.is_empty() {
         return Ok(None);
@@ -149,7 +156,8 @@ pub(crate) struct Spelled {
 pub(crate) fn image_in(alloc: Global, value: Value) -> Result<Spelled, Refusal>
     ensures ok { IfOk result (λ s. view value ≡ image_data s.wide s.image) }
     ensures narrow { IfOk result (λ s. s.wide ≡ false → s.image.width ≡ 1) }
-    ensures err { IfErr result (λ e. (e ≡ OutOfMemory) ⊎ ((e ≡ BadImage 1) × ((wide : Bool) (i : ImageOf) → view value ≡ image_data wide i → ⊥))) }
+    ensures err { IfErr result (λ e. (e ≡ OutOfMemory) ⊎ ((e ≡ BadImage 1)
+        × ((wide : Bool) (i : ImageOf) → view value ≡ image_data wide i → ⊥))) }
 {
     let Value::Object(mut members) = value else {
         return Err(MISSHAPEN);
@@ -162,7 +170,7 @@ pub(crate) fn image_in(alloc: Global, value: Value) -> Result<Spelled, Refusal>
     let width = last_width(&mut members)?;
     let image = Image {
         cap,
-        cells: Cells::new(cells),
+        cells: DataWords::new(cells),
         limit,
         lock: Owns::new(lock),
         version,

@@ -10,10 +10,10 @@ ghost use Rattle.rmeworld.specs.ImageText.{Spells};
 ghost use Rattle.rmeworld.specs.ImageWiden.{WideningKeeps};
 ghost use Rattle.rmeworld.specs.declared.image.Image.{Image as ImageOf};
 
+use crate::image::Image;
 use crate::image::reading::read_image;
 use crate::image::writing::write_image;
 use rmecore::Refusal;
-use crate::image::Image;
 use std::alloc::Global;
 
 /// If an image is lawful, the wider image is lawful too. It shows the same messages, each value with words 0 at its end.

@@ -7,10 +7,10 @@ ghost use Rattle.rmeworld.specs.ImageText.{Spells, version_of, IsFirstBrokenAs, 
 ghost use Rattle.serde_json.specs.Read.{read};
 ghost use Rattle.serde_json.specs.View.{view};
 
-use crate::image::form::{Spelled, image_in};
-use rmecore::Refusal;
 use crate::image::Image;
+use crate::image::form::{Spelled, image_in};
 use crate::image::rules::first_rule;
+use rmecore::Refusal;
 use serde_json::Value;
 use std::alloc::Global;
 

@@ -118,7 +118,8 @@ fn are_rows(lock: &[Own], limit: u64) -> bool
 // Whether p has the least pair of all processes that hold a number.
 fn has_least(lock: &[Own], p: u64) -> bool
     requires { p < length lock.now }
-    ensures { IsTrue result ↔ ((q : ℕ) → q < length lock.now → q ≢ p → 0 < (own_at lock.now q).number → is_before (own_at lock.now p).number p (own_at lock.now q).number q ≡ true) }
+    ensures { IsTrue result ↔ ((q : ℕ) → q < length lock.now → q ≢ p → 0 < (own_at lock.now q).number
+        → is_before (own_at lock.now p).number p (own_at lock.now q).number q ≡ true) }
 {
     let own = lock[p as usize];
     for q in 0..lock.len() as u64 {

@@ -6,13 +6,13 @@ ghost use Rattle.rmeworld.specs.ImageRules.{IsLawfulImage};
 ghost use Rattle.rmeworld.specs.ImageWiden.{padded, IsWider, IsUnwidened};
 ghost use Rattle.rmeworld.specs.WideWords.{wide_words, wide_place};
 
+use crate::cells::DataWords;
+use crate::image::Image;
+use crate::image::rules::{MOST_WIDTH, first_rule, layout};
+use crate::owns::Owns;
 use redomail::Layout;
 use redomail::contents::place;
 use rmecore::Refusal;
-use crate::image::rules::{MOST_WIDTH, first_rule, layout};
-use crate::cells::Cells;
-use crate::image::Image;
-use crate::owns::Owns;
 use std::alloc::{AllocError, Global};
 
 /// The image with values of `width` words: each value, and the record's, gets words 0 at its end. The result has version 2.
@@ -47,7 +47,7 @@ fn wider(alloc: Global, image: &Image, width: u64) -> Result<Image, AllocError>
     lock.extend_from_slice(image.lock.as_slice())?;
     Ok(Image {
         cap: image.cap,
-        cells: Cells::new(cells),
+        cells: DataWords::new(cells),
         limit: image.limit,
         lock: Owns::new(lock),
         version: 2,

@@ -5,8 +5,8 @@ ghost use Rattle.rmecore.specs.declared.refusal.Refusal.TheVariants.{OutOfMemory
 ghost use Rattle.rmeworld.specs.ImageText.{list_data, own_data, lock_data, written_data, image_line, Spells};
 ghost use Rattle.serde_json.specs.View.{view};
 
-use rmecore::{Own, Refusal};
 use crate::image::Image;
+use rmecore::{Own, Refusal};
 use serde_json::{Value, json};
 use std::alloc::{AllocError, Global};
 

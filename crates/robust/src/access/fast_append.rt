@@ -8,16 +8,16 @@ ghost use Rattle.redomail.specs.Tasks.{decided, record_of, store_steps};
 ghost use Rattle.redomail.specs.declared.layout.Layout.{Layout as LayoutOf};
 ghost use Rattle.redomail.specs.declared.reply.Reply.TheVariants.{Stored};
 ghost use Rattle.rmeworld.specs.declared.answer.Answer.TheVariants.{Mail};
-ghost use Rattle.execution.specs.Pass.{spot_now};
+ghost use Rattle.execution.specs.SeatView.{process_state_now};
 ghost use Rattle.execution.specs.Under.{Appends};
-ghost use Rattle.robust.specs.FastPath.{free_spot, IsClear, IsSame, Unanswered, EndsIn};
+ghost use Rattle.robust.specs.FastPath.{free_process_state, IsClear, IsSame, Unanswered, EndsIn};
 ghost use Rattle.robust.specs.FastAppend.{at_append, append_begun, HasLeft, IsOf, steps_of, stored_so_far};
 
-use crate::access::walker::Walker;
+use crate::access::port::Port;
+use execution::Setup;
 use redomail::Reply;
 use redomail::layout::{ARMED, CLOSED, COUNT, RECORD};
 use rmecore::{Body, Kind, Word};
-use execution::Setup;
 
 /// The words that an append reads first: whether the mailbox is closed, count, and the sender's last number.
 #[derive(Clone, Copy)]
@@ -51,22 +51,24 @@ impl NewEntry {
 }
 
 /// Reads the three words.
-fn read_heads(walker: &mut Walker, seq: u64, value: &Body) -> Heads
-    requires at { spot_now walker.old ≡ append_begun walker.old seq value.now }
-    ensures at { spot_now walker.new ≡ at_append seq value.now (decided walker.old.setup.layout walker.old.by seq value.now result.closed result.count result.last) }
-    ensures left { HasLeft walker.old 3 (decided walker.old.setup.layout walker.old.by seq value.now result.closed result.count result.last) walker.new }
-    ensures room { result.count ≤ walker.old.setup.layout.cap }
-    ensures clear { IsClear walker.new }
-    ensures same { IsSame walker.old walker.new }
+fn read_heads(port: &mut Port, seq: u64, value: &Body) -> Heads
+    requires at { process_state_now port.old ≡ append_begun port.old seq value.now }
+    ensures at { process_state_now port.new ≡ at_append seq value.now
+        (decided port.old.setup.layout port.old.by seq value.now result.closed result.count result.last) }
+    ensures left { HasLeft port.old 3
+        (decided port.old.setup.layout port.old.by seq value.now result.closed result.count result.last) port.new }
+    ensures room { result.count ≤ port.old.setup.layout.cap }
+    ensures clear { IsClear port.new }
+    ensures same { IsSame port.old port.new }
 {
     // For the proof alone: its value is read.
     let _ = seq;
     let _ = value;
-    let layout = walker.setup().layout;
-    let own = walker.by();
-    let closed = walker.load(Kind::Get, Word::Data(CLOSED));
-    let count = walker.load(Kind::Get, Word::Data(COUNT));
-    let last = walker.load(Kind::Get, Word::Data(layout.last(own)));
+    let layout = port.setup().layout;
+    let own = port.by();
+    let closed = port.load(Kind::Get, Word::Data(CLOSED));
+    let count = port.load(Kind::Get, Word::Data(COUNT));
+    let last = port.load(Kind::Get, Word::Data(layout.last(own)));
     Heads {
         closed,
         count,
@@ -76,8 +78,11 @@ fn read_heads(walker: &mut Walker, seq: u64, value: &Body) -> Heads
 
 /// The reply of an append that stores nothing, from the three words. None: it stores its message.
 fn answered(cap: u64, seq: u64, heads: &Heads) -> Option<Reply>
-    ensures answers { IfSome result (λ reply. (l : LayoutOf) (p : ℕ) (value : List ℕ) → l.cap ≡ cap → decided l p seq value heads.now.closed heads.now.count heads.now.last ≡ Done reply) }
-    ensures stores { result ≡ None → (l : LayoutOf) (p : ℕ) (value : List ℕ) → l.cap ≡ cap → decided l p seq value heads.now.closed heads.now.count heads.now.last ≡ puts (store_steps l p (record_of heads.now.count seq value)) (Done Stored) }
+    ensures answers { IfSome result (λ reply. (l : LayoutOf) (p : ℕ) (value : List ℕ) → l.cap ≡ cap
+        → decided l p seq value heads.now.closed heads.now.count heads.now.last ≡ Done reply) }
+    ensures stores { result ≡ None → (l : LayoutOf) (p : ℕ) (value : List ℕ) → l.cap ≡ cap
+        → decided l p seq value heads.now.closed heads.now.count heads.now.last
+        ≡ puts (store_steps l p (record_of heads.now.count seq value)) (Done Stored) }
     ensures room { result ≡ None → heads.now.count ≢ cap }
     ensures kind { IfSome result (Appends seq) }
 {
@@ -97,87 +102,83 @@ fn answered(cap: u64, seq: u64, heads: &Heads) -> Option<Reply>
 }
 
 /// One put of a storing append, but not the last.
-fn put(walker: &mut Walker, entry: &NewEntry, step: u64, i: u64, v: u64)
-    requires clear { IsClear walker.old }
-    requires of { IsOf walker.old entry.now }
+fn put(port: &mut Port, entry: &NewEntry, step: u64, i: u64, v: u64)
+    requires clear { IsClear port.old }
+    requires of { IsOf port.old entry.now }
     requires table { i < size entry.now.setup.layout }
     requires more { step + 1 < 8 + 2 * length entry.now.value }
     requires next { drop step (steps_of entry.now) ≡ (i, v) ∷ drop (step + 1) (steps_of entry.now) }
-    requires at { spot_now walker.old ≡ stored_so_far entry.now step }
-    ensures at { spot_now walker.new ≡ stored_so_far entry.now (step + 1) }
-    ensures unanswered { Unanswered walker.old 1 0 walker.new }
-    ensures clear { IsClear walker.new }
-    ensures of { IsOf walker.new entry.now }
+    requires at { process_state_now port.old ≡ stored_so_far entry.now step }
+    ensures at { process_state_now port.new ≡ stored_so_far entry.now (step + 1) }
+    ensures unanswered { Unanswered port.old 1 0 port.new }
+    ensures clear { IsClear port.new }
+    ensures of { IsOf port.new entry.now }
 {
     // For the proof alone: its value is read.
     let _ = step;
     let _ = entry;
-    walker.store(Kind::Put, Word::Data(i), v);
+    port.store(Kind::Put, Word::Data(i), v);
 }
 
 /// The puts of a row: a first word, the sequence number, and the words of the value.
-fn put_row(walker: &mut Walker, entry: &NewEntry, step: u64, start: u64, first: u64)
-    requires clear { IsClear walker.old }
-    requires of { IsOf walker.old entry.now }
+fn put_row(port: &mut Port, entry: &NewEntry, step: u64, start: u64, first: u64)
+    requires clear { IsClear port.old }
+    requires of { IsOf port.old entry.now }
     requires wide { length entry.now.value ≤ 8 }
     requires table { start + (2 + length entry.now.value) ≤ size entry.now.setup.layout }
     requires small { size entry.now.setup.layout ≤ 900000 }
     requires more { step + (2 + length entry.now.value) < 8 + 2 * length entry.now.value }
-    requires row { (j : ℕ) → j < 2 + length entry.now.value → drop (step + j) (steps_of entry.now) ≡ (start + j, slice_index (first ∷ entry.now.seq ∷ entry.now.value) j) ∷ drop (step + j + 1) (steps_of entry.now) }
-    requires at { spot_now walker.old ≡ stored_so_far entry.now step }
-    ensures at { spot_now walker.new ≡ stored_so_far entry.now (step + (2 + length entry.now.value)) }
-    ensures unanswered { Unanswered walker.old (2 + length entry.now.value) 0 walker.new }
-    ensures clear { IsClear walker.new }
-    ensures of { IsOf walker.new entry.now }
+    requires row { (j : ℕ) → j < 2 + length entry.now.value
+        → drop (step + j) (steps_of entry.now) ≡ (start + j, slice_index (first ∷ entry.now.seq ∷ entry.now.value) j)
+        ∷ drop (step + j + 1) (steps_of entry.now) }
+    requires at { process_state_now port.old ≡ stored_so_far entry.now step }
+    ensures at { process_state_now port.new ≡ stored_so_far entry.now (step + (2 + length entry.now.value)) }
+    ensures unanswered { Unanswered port.old (2 + length entry.now.value) 0 port.new }
+    ensures clear { IsClear port.new }
+    ensures of { IsOf port.new entry.now }
 {
     for j in 0..2 + entry.value.width() {
-        put(walker, entry, step + j, start + j, entry.word(first, j));
+        put(port, entry, step + j, start + j, entry.word(first, j));
     }
 }
 
 /// All puts of a storing append: the record, the commit (armed := 1), the entry at its place, the sender's last number,
 /// count, and armed := 0.
-fn store(walker: &mut Walker, entry: &NewEntry)
-    requires clear { IsClear walker.old }
-    requires of { IsOf walker.old entry.now }
+fn store(port: &mut Port, entry: &NewEntry)
+    requires clear { IsClear port.old }
+    requires of { IsOf port.old entry.now }
     requires wide { length entry.now.value ≡ entry.now.setup.layout.width }
     requires room { entry.now.at < entry.now.setup.layout.cap }
-    requires at { spot_now walker.old ≡ stored_so_far entry.now 0 }
-    ensures at { spot_now walker.new ≡ free_spot Inside true }
-    ensures ends { EndsIn walker.old (8 + 2 * length entry.now.value) (Mail Stored) walker.new }
-    ensures of { IsOf walker.new entry.now }
+    requires at { process_state_now port.old ≡ stored_so_far entry.now 0 }
+    ensures at { process_state_now port.new ≡ free_process_state Inside true }
+    ensures ends { EndsIn port.old (8 + 2 * length entry.now.value) (Mail Stored) port.new }
+    ensures of { IsOf port.new entry.now }
 {
     // For the proof alone: its value is read.
-    let _pass = walker.by();
+    let _seat_view = port.by();
     let layout = entry.setup.layout;
     let row = 2 + entry.value.width();
-    put_row(walker, entry, 0, RECORD, entry.at);
-    put(walker, entry, row, ARMED, 1);
-    put_row(walker, entry, row + 1, layout.place(entry.at, 0), entry.own);
-    put(
-        walker,
-        entry,
-        2 * row + 1,
-        layout.last(entry.own),
-        entry.seq,
-    );
-    put(walker, entry, 2 * row + 2, COUNT, entry.at + 1);
-    walker.store(Kind::Put, Word::Data(ARMED), 0);
+    put_row(port, entry, 0, RECORD, entry.at);
+    put(port, entry, row, ARMED, 1);
+    put_row(port, entry, row + 1, layout.place(entry.at, 0), entry.own);
+    put(port, entry, 2 * row + 1, layout.last(entry.own), entry.seq);
+    put(port, entry, 2 * row + 2, COUNT, entry.at + 1);
+    port.store(Kind::Put, Word::Data(ARMED), 0);
 }
 
 /// The steps of an append, right after its start. Answers its reply and the number of steps.
-pub fn append(walker: &mut Walker, seq: u64, value: &Body) -> (Reply, u64)
-    requires wide { length value.now ≡ walker.old.setup.layout.width }
-    requires at { spot_now walker.old ≡ append_begun walker.old seq value.now }
-    ensures at { spot_now walker.new ≡ free_spot Inside true }
-    ensures ends { EndsIn walker.old result.1 (Mail result.0) walker.new }
+pub fn append(port: &mut Port, seq: u64, value: &Body) -> (Reply, u64)
+    requires wide { length value.now ≡ port.old.setup.layout.width }
+    requires at { process_state_now port.old ≡ append_begun port.old seq value.now }
+    ensures at { process_state_now port.new ≡ free_process_state Inside true }
+    ensures ends { EndsIn port.old result.1 (Mail result.0) port.new }
     ensures kind { Appends seq result.0 }
     ensures few { result.1 ≤ 27 }
-    ensures same { IsSame walker.old walker.new }
+    ensures same { IsSame port.old port.new }
 {
-    let setup = walker.setup();
-    let own = walker.by();
-    let heads = read_heads(walker, seq, value);
+    let setup = port.setup();
+    let own = port.by();
+    let heads = read_heads(port, seq, value);
     match answered(setup.layout.cap, seq, &heads) {
         Some(reply) => (reply, 3),
         None => {
@@ -188,7 +189,7 @@ pub fn append(walker: &mut Walker, seq: u64, value: &Body) -> (Reply, u64)
                 seq,
                 value: *value,
             };
-            store(walker, &entry);
+            store(port, &entry);
             (Reply::Stored, 11 + 2 * setup.layout.width)
         }
     }

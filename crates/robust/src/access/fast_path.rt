@@ -9,77 +9,77 @@ ghost use Rattle.rmeworld.specs.declared.call.Call.TheVariants as CallOf;
 ghost use Rattle.rmeworld.specs.declared.answer.Answer.TheVariants as AnswerOf;
 ghost use Rattle.rmecore.specs.declared.kind.Kind.TheVariants.{Get as Gets, Mark as Marks};
 ghost use Rattle.rmecore.specs.declared.word.Word.TheVariants.{Data as DataAt, Inside as InsideOf};
-ghost use Rattle.execution.specs.Pass.{Advances, IsPass, spot_now};
+ghost use Rattle.execution.specs.SeatView.{Advances, IsSeatView, process_state_now};
 ghost use Rattle.execution.specs.Under.{Begun, IsUnder};
-ghost use Rattle.rmeworld.specs.Spot.{Free};
-ghost use Rattle.robust.specs.FastPath.{free_spot, IsClear, IsSame, Unanswered, Way, waits_at, EndsIn, Enters, checking_spot, checked_spot};
+ghost use Rattle.rmeworld.specs.ProcessState.{Free};
+ghost use Rattle.robust.specs.FastPath.{free_process_state, IsClear, IsSame, Unanswered, Way, waits_at, EndsIn, Enters, checking_process_state, checked_process_state};
 
 use crate::access::in_line::wait_on;
-use crate::access::walker::Walker;
+use crate::access::port::Port;
 use rmecore::{CoreCall, Kind, Stage, Word};
 
 /// Rereads the own choosing.
-fn read_choosing(walker: &mut Walker) -> u64
-    requires at { spot_now walker.old ≡ free_spot (Reread Lock []) (spot_now walker.old).mended }
-    ensures way { Way walker.old 1 walker.new (Reread Lock (result ∷ [])) }
+fn read_choosing(port: &mut Port) -> u64
+    requires at { process_state_now port.old ≡ free_process_state (Reread Lock []) (process_state_now port.old).mended }
+    ensures way { Way port.old 1 port.new (Reread Lock (result ∷ [])) }
 {
-    let own = walker.by();
-    walker.load(Kind::Reread, Word::Choosing(own))
+    let own = port.by();
+    port.load(Kind::Reread, Word::Choosing(own))
 }
 
 /// Rereads the own number.
-fn read_number(walker: &mut Walker, choosing: u64) -> u64
-    requires clear { IsClear walker.old }
-    requires at { spot_now walker.old ≡ free_spot (Reread Lock (choosing ∷ [])) (spot_now walker.old).mended }
-    ensures way { Way walker.old 1 walker.new (Reread Lock (choosing ∷ result ∷ [])) }
+fn read_number(port: &mut Port, choosing: u64) -> u64
+    requires clear { IsClear port.old }
+    requires at { process_state_now port.old ≡ free_process_state (Reread Lock (choosing ∷ [])) (process_state_now port.old).mended }
+    ensures way { Way port.old 1 port.new (Reread Lock (choosing ∷ result ∷ [])) }
 {
     // For the proof alone: its value is read.
     let _ = choosing;
-    let own = walker.by();
-    walker.load(Kind::Reread, Word::Number(own))
+    let own = port.by();
+    port.load(Kind::Reread, Word::Number(own))
 }
 
 /// Rereads the own inside, where the other two words are 0.
-fn read_inside(walker: &mut Walker) -> u64
-    requires clear { IsClear walker.old }
-    requires at { spot_now walker.old ≡ free_spot (Reread Lock (0 ∷ 0 ∷ [])) (spot_now walker.old).mended }
-    ensures way { Way walker.old 1 walker.new (relocked walker.old.setup.layout.procs walker.old.by 0 0 result) }
+fn read_inside(port: &mut Port) -> u64
+    requires clear { IsClear port.old }
+    requires at { process_state_now port.old ≡ free_process_state (Reread Lock (0 ∷ 0 ∷ [])) (process_state_now port.old).mended }
+    ensures way { Way port.old 1 port.new (relocked port.old.setup.layout.procs port.old.by 0 0 result) }
 {
-    let own = walker.by();
-    walker.load(Kind::Reread, Word::Inside(own))
+    let own = port.by();
+    port.load(Kind::Reread, Word::Inside(own))
 }
 
 /// Opens the doorway.
-fn open(walker: &mut Walker)
-    requires clear { IsClear walker.old }
-    requires at { spot_now walker.old ≡ free_spot Opening (spot_now walker.old).mended }
-    ensures way { Way walker.old 1 walker.new (Door (others walker.old.setup.layout.procs walker.old.by) 0) }
+fn open(port: &mut Port)
+    requires clear { IsClear port.old }
+    requires at { process_state_now port.old ≡ free_process_state Opening (process_state_now port.old).mended }
+    ensures way { Way port.old 1 port.new (Door (others port.old.setup.layout.procs port.old.by) 0) }
 {
-    let own = walker.by();
-    walker.store(Kind::Open, Word::Choosing(own), 1);
+    let own = port.by();
+    port.store(Kind::Open, Word::Choosing(own), 1);
 }
 
 /// Takes the number after the greatest.
-fn take(walker: &mut Walker, greatest: u64)
-    requires clear { IsClear walker.old }
-    requires below { greatest < walker.old.setup.limit }
-    requires at { spot_now walker.old ≡ free_spot (Door [] greatest) (spot_now walker.old).mended }
-    ensures way { Way walker.old 1 walker.new (Shutting Lock (greatest + 1)) }
+fn take(port: &mut Port, greatest: u64)
+    requires clear { IsClear port.old }
+    requires below { greatest < port.old.setup.limit }
+    requires at { process_state_now port.old ≡ free_process_state (Door [] greatest) (process_state_now port.old).mended }
+    ensures way { Way port.old 1 port.new (Shutting Lock (greatest + 1)) }
 {
-    let own = walker.by();
-    walker.store(Kind::Take, Word::Number(own), greatest + 1);
+    let own = port.by();
+    port.store(Kind::Take, Word::Number(own), greatest + 1);
 }
 
 /// Closes the doorway after taking a number.
-fn shut(walker: &mut Walker, number: u64)
-    requires clear { IsClear walker.old }
-    requires at { spot_now walker.old ≡ free_spot (Shutting Lock number) (spot_now walker.old).mended }
-    ensures way { Way walker.old 1 walker.new (Wait number (others walker.old.setup.layout.procs walker.old.by) None) }
+fn shut(port: &mut Port, number: u64)
+    requires clear { IsClear port.old }
+    requires at { process_state_now port.old ≡ free_process_state (Shutting Lock number) (process_state_now port.old).mended }
+    ensures way { Way port.old 1 port.new (Wait number (others port.old.setup.layout.procs port.old.by) None) }
 {
     // For the proof alone: its value is read.
     let _ = number;
-    let own = walker.by();
-    walker.store(Kind::Shut, Word::Choosing(own), 0);
+    let own = port.by();
+    port.store(Kind::Shut, Word::Choosing(own), 0);
 }
 
 /// The greater of two numbers.
@@ -92,19 +92,20 @@ fn greater(a: u64, b: u64) -> u64
 /// Reads the numbers of all others, in the doorway. Answers the greatest, and the number of steps.
 // Inline: one path of each lock.
 #[inline(always)]
-fn peek_others(walker: &mut Walker) -> (u64, u64)
-    requires clear { IsClear walker.old }
-    requires at { spot_now walker.old ≡ free_spot (Door (others walker.old.setup.layout.procs walker.old.by) 0) (spot_now walker.old).mended }
-    ensures way { Way walker.old result.1 walker.new (Door [] result.0) }
+fn peek_others(port: &mut Port) -> (u64, u64)
+    requires clear { IsClear port.old }
+    requires at { process_state_now port.old ≡ free_process_state (Door (others port.old.setup.layout.procs port.old.by) 0)
+        (process_state_now port.old).mended }
+    ensures way { Way port.old result.1 port.new (Door [] result.0) }
     ensures few { result.1 ≤ 64 }
 {
-    let own = walker.by();
-    let procs = walker.procs();
+    let own = port.by();
+    let procs = port.procs();
     let mut greatest = 0;
     let mut taken = 0;
     for j in 0..procs {
         if j != own {
-            let number = walker.load(Kind::Peek, Word::Number(j));
+            let number = port.load(Kind::Peek, Word::Number(j));
             greatest = greater(greatest, number);
             taken += 1;
         }
@@ -116,21 +117,21 @@ fn peek_others(walker: &mut Walker) -> (u64, u64)
 /// the word read last, and the number of steps.
 // Inline: one path of each lock.
 #[inline(always)]
-fn reread_own(walker: &mut Walker) -> Option<(Stage, u64)>
-    requires at { spot_now walker.old ≡ free_spot (Reread Lock []) (spot_now walker.old).mended }
-    ensures stands { IfSome result (λ r. Way walker.old r.1 walker.new (place_of walker.old.setup.layout.procs walker.old.by r.0)) }
+fn reread_own(port: &mut Port) -> Option<(Stage, u64)>
+    requires at { process_state_now port.old ≡ free_process_state (Reread Lock []) (process_state_now port.old).mended }
+    ensures stands { IfSome result (λ r. Way port.old r.1 port.new (place_of port.old.setup.layout.procs port.old.by r.0)) }
     ensures few { IfSome result (λ r. r.1 ≤ 3) }
-    ensures begun { IfSome result (λ r. Begun CallOf.Lock walker.old.setup.layout.procs (spot_now walker.new)) }
-    ensures rests { result ≡ None → Way walker.old 3 walker.new Opening }
+    ensures begun { IfSome result (λ r. Begun CallOf.Lock port.old.setup.layout.procs (process_state_now port.new)) }
+    ensures rests { result ≡ None → Way port.old 3 port.new Opening }
 {
     // For the proof alone: its value is read.
-    let _pass = walker.by();
+    let _seat_view = port.by();
     let call = CoreCall::Lock;
-    let choosing = read_choosing(walker);
+    let choosing = read_choosing(port);
     if choosing != 0 {
         return Some((Stage::ReadingNumber { call, choosing }, 1));
     }
-    let number = read_number(walker, choosing);
+    let number = read_number(port, choosing);
     if number != 0 {
         return Some((
             Stage::ReadingInside {
@@ -141,7 +142,7 @@ fn reread_own(walker: &mut Walker) -> Option<(Stage, u64)>
             2,
         ));
     }
-    let inside = read_inside(walker);
+    let inside = read_inside(port);
     if inside != 0 {
         return Some((Stage::Unmarking { call }, 3));
     }
@@ -152,19 +153,19 @@ fn reread_own(walker: &mut Walker) -> Option<(Stage, u64)>
 /// stage that it has reached, and the number of steps.
 // Inline: one path of each lock.
 #[inline(always)]
-fn through_doorway(walker: &mut Walker) -> (Stage, u64)
-    requires at { spot_now walker.old ≡ free_spot (Reread Lock []) (spot_now walker.old).mended }
-    ensures way { Way walker.old result.1 walker.new (place_of walker.old.setup.layout.procs walker.old.by result.0) }
+fn through_doorway(port: &mut Port) -> (Stage, u64)
+    requires at { process_state_now port.old ≡ free_process_state (Reread Lock []) (process_state_now port.old).mended }
+    ensures way { Way port.old result.1 port.new (place_of port.old.setup.layout.procs port.old.by result.0) }
     ensures few { result.1 ≤ 70 }
-    ensures begun { Begun CallOf.Lock walker.old.setup.layout.procs (spot_now walker.new) }
+    ensures begun { Begun CallOf.Lock port.old.setup.layout.procs (process_state_now port.new) }
 {
-    let procs = walker.procs();
-    let limit = walker.limit();
-    if let Some(stands) = reread_own(walker) {
+    let procs = port.procs();
+    let limit = port.limit();
+    if let Some(stands) = reread_own(port) {
         return stands;
     }
-    open(walker);
-    let (greatest, peeks) = peek_others(walker);
+    open(port);
+    let (greatest, peeks) = peek_others(port);
     if greatest >= limit {
         return (
             Stage::Door {
@@ -174,8 +175,8 @@ fn through_doorway(walker: &mut Walker) -> (Stage, u64)
             peeks + 4,
         );
     }
-    take(walker, greatest);
-    shut(walker, greatest + 1);
+    take(port, greatest);
+    shut(port, greatest + 1);
     let stage = Stage::Wait {
         number: greatest + 1,
         next: 0,
@@ -185,42 +186,42 @@ fn through_doorway(walker: &mut Walker) -> (Stage, u64)
 }
 
 /// Enters, past all others.
-fn mark(walker: &mut Walker, number: u64)
-    requires at { spot_now walker.old ≡ free_spot (Wait number [] None) (spot_now walker.old).mended }
-    ensures comes { (spot_now walker.new ≡ checking_spot walker.old) × Unanswered walker.old 1 0 walker.new }
-    ensures clear { IsClear walker.new }
-    ensures same { IsSame walker.old walker.new }
+fn mark(port: &mut Port, number: u64)
+    requires at { process_state_now port.old ≡ free_process_state (Wait number [] None) (process_state_now port.old).mended }
+    ensures comes { (process_state_now port.new ≡ checking_process_state port.old) × Unanswered port.old 1 0 port.new }
+    ensures clear { IsClear port.new }
+    ensures same { IsSame port.old port.new }
 {
     // For the proof alone: its value is read.
     let _ = number;
-    let own = walker.by();
-    walker.store(Kind::Mark, Word::Inside(own), 1);
+    let own = port.by();
+    port.store(Kind::Mark, Word::Inside(own), 1);
 }
 
 /// Reads whether the lock is ruined: 1 if it is.
-fn check(walker: &mut Walker) -> u64
-    requires clear { IsClear walker.old }
-    requires at { spot_now walker.old ≡ checking_spot walker.old }
-    ensures advances { Advances walker.old Gets (DataAt 0) result walker.new }
-    ensures at { spot_now walker.new ≡ checked_spot (result == 1) }
+fn check(port: &mut Port) -> u64
+    requires clear { IsClear port.old }
+    requires at { process_state_now port.old ≡ checking_process_state port.old }
+    ensures advances { Advances port.old Gets (DataAt 0) result port.new }
+    ensures at { process_state_now port.new ≡ checked_process_state (result == 1) }
 {
     // For the proof alone: its value is read.
-    let _pass = walker.by();
-    walker.load(Kind::Get, Word::Data(0))
+    let _seat_view = port.by();
+    port.load(Kind::Get, Word::Data(0))
 }
 
 /// Enters past all others, and reads whether the lock is ruined. True: it is.
 // Inline: one path of each lock.
 #[inline(always)]
-fn come_in(walker: &mut Walker, number: u64) -> bool
-    requires at { spot_now walker.old ≡ free_spot (Wait number [] None) (spot_now walker.old).mended }
-    ensures at { spot_now walker.new ≡ checked_spot result }
-    ensures clean { result ≡ false → EndsIn walker.old 2 AnswerOf.Clean walker.new }
-    ensures ruined { result ≡ true → Unanswered walker.old 2 0 walker.new }
-    ensures same { IsSame walker.old walker.new }
+fn come_in(port: &mut Port, number: u64) -> bool
+    requires at { process_state_now port.old ≡ free_process_state (Wait number [] None) (process_state_now port.old).mended }
+    ensures at { process_state_now port.new ≡ checked_process_state result }
+    ensures clean { result ≡ false → EndsIn port.old 2 AnswerOf.Clean port.new }
+    ensures ruined { result ≡ true → Unanswered port.old 2 0 port.new }
+    ensures same { IsSame port.old port.new }
 {
-    mark(walker, number);
-    check(walker) == 1
+    mark(port, number);
+    check(port) == 1
 }
 
 /// How far the fast path of a lock has got: to a blocked step in the line (`Blocked`); to a stage outside the section from
@@ -248,16 +249,16 @@ fn entered(is_ruined: bool) -> Reached
 /// From a place in the line into the section, unless a step is blocked. Also answers the number of steps.
 // Inline: one path of each lock.
 #[inline(always)]
-fn enter_from_line(walker: &mut Walker, number: u64, next: u64, looked: bool) -> (Reached, u64)
+fn enter_from_line(port: &mut Port, number: u64, next: u64, looked: bool) -> (Reached, u64)
     requires next { next ≤ 64 }
-    requires other { looked ≡ true → (next < walker.old.setup.layout.procs) × (next ≢ walker.old.by) }
-    requires at { spot_now walker.old ≡ waits_at walker.old number next looked }
-    ensures enters { Enters walker.old result.0 result.1 walker.new }
+    requires other { looked ≡ true → (next < port.old.setup.layout.procs) × (next ≢ port.old.by) }
+    requires at { process_state_now port.old ≡ waits_at port.old number next looked }
+    ensures enters { Enters port.old result.0 result.1 port.new }
     ensures few { result.1 ≤ 133 }
 {
     // For the proof alone: its value is read.
-    let _pass = walker.by();
-    let passed = wait_on(walker, number, next, looked);
+    let _seat_view = port.by();
+    let passed = wait_on(port, number, next, looked);
     if passed.is_blocked {
         let there = Stage::Wait {
             number,
@@ -266,25 +267,25 @@ fn enter_from_line(walker: &mut Walker, number: u64, next: u64, looked: bool) ->
         };
         return (Reached::Blocked(there), passed.taken);
     }
-    let is_ruined = come_in(walker, number);
+    let is_ruined = come_in(port, number);
     (entered(is_ruined), passed.taken + 2)
 }
 
 /// From right after the start of a lock into the section, unless a step is blocked. Also answers the number of steps.
 // Inline: one path of each lock.
 #[inline(always)]
-fn enter(walker: &mut Walker) -> (Reached, u64)
-    requires at { spot_now walker.old ≡ free_spot (Reread Lock []) (spot_now walker.old).mended }
-    ensures { Enters walker.old result.0 result.1 walker.new }
+fn enter(port: &mut Port) -> (Reached, u64)
+    requires at { process_state_now port.old ≡ free_process_state (Reread Lock []) (process_state_now port.old).mended }
+    ensures { Enters port.old result.0 result.1 port.new }
 {
-    let (stage, taken) = through_doorway(walker);
+    let (stage, taken) = through_doorway(port);
     match stage {
         Stage::Wait {
             number,
             next,
             looked: false,
         } if next <= 64 => {
-            let (reached, behind) = enter_from_line(walker, number, next, false);
+            let (reached, behind) = enter_from_line(port, number, next, false);
             (reached, taken + behind)
         }
         _ => (Reached::Stands(stage), taken),
@@ -295,55 +296,55 @@ fn enter(walker: &mut Walker) -> (Reached, u64)
 /// blocked reading.
 // Inline: one path of each lock.
 #[inline(always)]
-pub fn go_in(walker: &mut Walker, stage: Stage) -> Option<(Reached, u64)>
-    requires under { IsUnder CallOf.Lock (spot_now walker.old) }
-    requires free { (spot_now walker.old).errand ≡ Free }
-    requires at { (spot_now walker.old).lock ≡ place_of walker.old.setup.layout.procs walker.old.by stage }
-    ensures some { IfSome result (λ r. Enters walker.old r.0 r.1 walker.new) }
-    ensures none { result ≡ None → walker.new ≡ walker.old }
+pub fn go_in(port: &mut Port, stage: Stage) -> Option<(Reached, u64)>
+    requires under { IsUnder CallOf.Lock (process_state_now port.old) }
+    requires free { (process_state_now port.old).script_state ≡ Free }
+    requires at { (process_state_now port.old).lock ≡ place_of port.old.setup.layout.procs port.old.by stage }
+    ensures some { IfSome result (λ r. Enters port.old r.0 r.1 port.new) }
+    ensures none { result ≡ None → port.new ≡ port.old }
 {
-    let own = walker.by();
-    let procs = walker.procs();
+    let own = port.by();
+    let procs = port.procs();
     match stage {
         Stage::ReadingChoosing {
             call: CoreCall::Lock,
-        } => Some(enter(walker)),
+        } => Some(enter(port)),
         Stage::Wait {
             number,
             next,
             looked,
-        } if next < procs && next != own => Some(enter_from_line(walker, number, next, looked)),
+        } if next < procs && next != own => Some(enter_from_line(port, number, next, looked)),
         _ => None,
     }
 }
 
 /// Gives up the own number, right after the start of an unlock.
-fn drop_number(walker: &mut Walker)
-    requires at { spot_now walker.old ≡ free_spot Leaving (spot_now walker.old).mended }
-    ensures way { Way walker.old 1 walker.new (Unmarking Unlock) }
+fn drop_number(port: &mut Port)
+    requires at { process_state_now port.old ≡ free_process_state Leaving (process_state_now port.old).mended }
+    ensures way { Way port.old 1 port.new (Unmarking Unlock) }
 {
-    let own = walker.by();
-    walker.store(Kind::Drop, Word::Number(own), 0);
+    let own = port.by();
+    port.store(Kind::Drop, Word::Number(own), 0);
 }
 
 /// Resets the own inside word.
-fn unmark(walker: &mut Walker)
-    requires clear { IsClear walker.old }
-    requires at { spot_now walker.old ≡ free_spot (Unmarking Unlock) (spot_now walker.old).mended }
-    ensures advances { Advances walker.old Marks (InsideOf walker.old.by) 0 walker.new }
-    ensures at { spot_now walker.new ≡ free_spot Rest (spot_now walker.old).mended }
+fn unmark(port: &mut Port)
+    requires clear { IsClear port.old }
+    requires at { process_state_now port.old ≡ free_process_state (Unmarking Unlock) (process_state_now port.old).mended }
+    ensures advances { Advances port.old Marks (InsideOf port.old.by) 0 port.new }
+    ensures at { process_state_now port.new ≡ free_process_state Rest (process_state_now port.old).mended }
 {
-    let own = walker.by();
-    walker.store(Kind::Mark, Word::Inside(own), 0);
+    let own = port.by();
+    port.store(Kind::Mark, Word::Inside(own), 0);
 }
 
 /// From right after the start of an unlock out of the section, in two steps.
-pub fn leave(walker: &mut Walker)
-    requires at { spot_now walker.old ≡ free_spot Leaving (spot_now walker.old).mended }
-    ensures at { spot_now walker.new ≡ free_spot Rest (spot_now walker.old).mended }
-    ensures ends { EndsIn walker.old 2 AnswerOf.Unlocked walker.new }
-    ensures same { IsSame walker.old walker.new }
+pub fn leave(port: &mut Port)
+    requires at { process_state_now port.old ≡ free_process_state Leaving (process_state_now port.old).mended }
+    ensures at { process_state_now port.new ≡ free_process_state Rest (process_state_now port.old).mended }
+    ensures ends { EndsIn port.old 2 AnswerOf.Unlocked port.new }
+    ensures same { IsSame port.old port.new }
 {
-    drop_number(walker);
-    unmark(walker);
+    drop_number(port);
+    unmark(port);
 }

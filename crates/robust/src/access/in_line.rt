@@ -2,10 +2,10 @@
 //! be the run of their steps.
 ghost use Rattle.std.specs.Prelude.{◌≡◌, ◌≢◌, ◌+◌, ◌<◌, ◌≤◌, [], true, false, ◌==◌, ◌||◌, None, if◌then◌else◌};
 ghost use Rattle.rmecore.specs.Place.{Wait, is_before};
-ghost use Rattle.execution.specs.Pass.{spot_now};
-ghost use Rattle.robust.specs.FastPath.{free_spot, IsSame, Unanswered, waits_at};
+ghost use Rattle.execution.specs.SeatView.{process_state_now};
+ghost use Rattle.robust.specs.FastPath.{free_process_state, IsSame, Unanswered, waits_at};
 
-use crate::access::walker::Walker;
+use crate::access::port::Port;
 use rmecore::{Kind, Word};
 
 /// How far a wait has got: the first index that was not passed, whether that process was looked at, the number of steps, and
@@ -27,52 +27,53 @@ fn passes(number: u64, own: u64, value: u64, j: u64) -> bool
 }
 
 /// Looks at process `j`. True: it is in no doorway.
-fn look(walker: &mut Walker, number: u64, j: u64) -> bool
-    requires other { (j < walker.old.setup.layout.procs) × (j ≢ walker.old.by) }
-    requires at { spot_now walker.old ≡ waits_at walker.old number j false }
-    ensures at { spot_now walker.new ≡ waits_at walker.old number j result }
-    ensures unanswered { Unanswered walker.old 1 (if result then 0 else 1) walker.new }
-    ensures same { IsSame walker.old walker.new }
+fn look(port: &mut Port, number: u64, j: u64) -> bool
+    requires other { (j < port.old.setup.layout.procs) × (j ≢ port.old.by) }
+    requires at { process_state_now port.old ≡ waits_at port.old number j false }
+    ensures at { process_state_now port.new ≡ waits_at port.old number j result }
+    ensures unanswered { Unanswered port.old 1 (if result then 0 else 1) port.new }
+    ensures same { IsSame port.old port.new }
 {
     // For the proof alone: its value is read.
-    let _pass = walker.by();
-    let value = walker.load(Kind::Look, Word::Choosing(j));
+    let _seat_view = port.by();
+    let value = port.load(Kind::Look, Word::Choosing(j));
     value == 0
 }
 
 /// Weighs the number of process `j`. True: the waiter passes it.
-fn weigh(walker: &mut Walker, number: u64, j: u64) -> bool
-    requires other { (j < walker.old.setup.layout.procs) × (j ≢ walker.old.by) }
-    requires at { spot_now walker.old ≡ waits_at walker.old number j true }
-    ensures passed { result ≡ true → spot_now walker.new ≡ waits_at walker.old number (j + 1) false }
-    ensures stays { result ≡ false → spot_now walker.new ≡ waits_at walker.old number j true }
-    ensures unanswered { Unanswered walker.old 1 (if result then 0 else 1) walker.new }
-    ensures same { IsSame walker.old walker.new }
+fn weigh(port: &mut Port, number: u64, j: u64) -> bool
+    requires other { (j < port.old.setup.layout.procs) × (j ≢ port.old.by) }
+    requires at { process_state_now port.old ≡ waits_at port.old number j true }
+    ensures passed { result ≡ true → process_state_now port.new ≡ waits_at port.old number (j + 1) false }
+    ensures stays { result ≡ false → process_state_now port.new ≡ waits_at port.old number j true }
+    ensures unanswered { Unanswered port.old 1 (if result then 0 else 1) port.new }
+    ensures same { IsSame port.old port.new }
 {
-    let own = walker.by();
-    let value = walker.load(Kind::Weigh, Word::Number(j));
+    let own = port.by();
+    let value = port.load(Kind::Weigh, Word::Number(j));
     passes(number, own, value, j)
 }
 
 /// Looks at the others from an index on and weighs their numbers, up to the last one or to a blocked reading.
 // Inline: the loop of each wait.
 #[inline(always)]
-pub fn pass_others(walker: &mut Walker, number: u64, from: u64) -> Passed
+pub fn seat_view_others(port: &mut Port, number: u64, from: u64) -> Passed
     requires from { from ≤ 64 }
-    requires at { spot_now walker.old ≡ waits_at walker.old number from false }
-    ensures at { spot_now walker.new ≡ waits_at walker.old number result.next result.looked }
-    ensures passed { result.is_blocked ≡ false → spot_now walker.new ≡ free_spot (Wait number [] None) (spot_now walker.old).mended }
-    ensures unanswered { Unanswered walker.old result.taken (if result.is_blocked then 1 else 0) walker.new }
+    requires at { process_state_now port.old ≡ waits_at port.old number from false }
+    ensures at { process_state_now port.new ≡ waits_at port.old number result.next result.looked }
+    ensures passed { result.is_blocked ≡ false → process_state_now port.new
+        ≡ free_process_state (Wait number [] None) (process_state_now port.old).mended }
+    ensures unanswered { Unanswered port.old result.taken (if result.is_blocked then 1 else 0) port.new }
     ensures few { result.taken ≤ 130 }
     ensures next { result.next ≤ 64 }
-    ensures same { IsSame walker.old walker.new }
+    ensures same { IsSame port.old port.new }
 {
-    let own = walker.by();
-    let procs = walker.procs();
+    let own = port.by();
+    let procs = port.procs();
     let mut taken = 0;
     for j in from..procs {
         if j != own {
-            if !look(walker, number, j) {
+            if !look(port, number, j) {
                 return Passed {
                     next: j,
                     looked: false,
@@ -80,7 +81,7 @@ pub fn pass_others(walker: &mut Walker, number: u64, from: u64) -> Passed
                     is_blocked: true,
                 };
             }
-            if !weigh(walker, number, j) {
+            if !weigh(port, number, j) {
                 return Passed {
                     next: j,
                     looked: true,
@@ -102,22 +103,23 @@ pub fn pass_others(walker: &mut Walker, number: u64, from: u64) -> Passed
 /// Waits on in the line: process `next` is looked at, or weighed if it was looked at before, and then the others after it.
 // Inline: the loop of each wait.
 #[inline(always)]
-pub fn wait_on(walker: &mut Walker, number: u64, next: u64, looked: bool) -> Passed
+pub fn wait_on(port: &mut Port, number: u64, next: u64, looked: bool) -> Passed
     requires next { next ≤ 64 }
-    requires other { looked ≡ true → (next < walker.old.setup.layout.procs) × (next ≢ walker.old.by) }
-    requires at { spot_now walker.old ≡ waits_at walker.old number next looked }
-    ensures at { spot_now walker.new ≡ waits_at walker.old number result.next result.looked }
-    ensures passed { result.is_blocked ≡ false → spot_now walker.new ≡ free_spot (Wait number [] None) (spot_now walker.old).mended }
-    ensures unanswered { Unanswered walker.old result.taken (if result.is_blocked then 1 else 0) walker.new }
+    requires other { looked ≡ true → (next < port.old.setup.layout.procs) × (next ≢ port.old.by) }
+    requires at { process_state_now port.old ≡ waits_at port.old number next looked }
+    ensures at { process_state_now port.new ≡ waits_at port.old number result.next result.looked }
+    ensures passed { result.is_blocked ≡ false → process_state_now port.new
+        ≡ free_process_state (Wait number [] None) (process_state_now port.old).mended }
+    ensures unanswered { Unanswered port.old result.taken (if result.is_blocked then 1 else 0) port.new }
     ensures few { result.taken ≤ 131 }
-    ensures same { IsSame walker.old walker.new }
+    ensures same { IsSame port.old port.new }
 {
     // For the proof alone: its value is read.
-    let _pass = walker.by();
+    let _seat_view = port.by();
     if !looked {
-        return pass_others(walker, number, next);
+        return seat_view_others(port, number, next);
     }
-    if !weigh(walker, number, next) {
+    if !weigh(port, number, next) {
         return Passed {
             next,
             looked: true,
@@ -125,7 +127,7 @@ pub fn wait_on(walker: &mut Walker, number: u64, next: u64, looked: bool) -> Pas
             is_blocked: true,
         };
     }
-    let behind = pass_others(walker, number, next + 1);
+    let behind = seat_view_others(port, number, next + 1);
     Passed {
         next: behind.next,
         looked: behind.looked,

@@ -1,15 +1,15 @@
 //! The shared table, which no other file names: its rule, what the caller learns from a step, and each load and store.
 ghost use Rattle.std.specs.Prelude.{◌≡◌, ℕ, ◌<◌, []};
 ghost use Rattle.atomic_table.specs.Table.{Splits, Joins};
-ghost use Rattle.execution.specs.Pass.{glanced};
-ghost use Rattle.execution.specs.Rule.{Kept, Did, MayLoad, MayStore, MayPass, without_first, first_alone, joined, spent_known};
-ghost use Rattle.robust.specs.Owed.{step_of};
+ghost use Rattle.execution.specs.SeatView.{glanced};
+ghost use Rattle.execution.specs.Rule.{Kept, Did, MayLoad, MayStore, MaySeatView, without_first, first_alone, joined, spent_known};
+ghost use Rattle.robust.specs.PendingEvents.{step_of};
 
-use crate::access::owed::Owed;
+use crate::access::pending_events::PendingEvents;
 use atomic_table::{Join, Play, Seat, Split, Table, TableRule};
-use rmecore::{Kind, Word};
 use execution::Setup;
-use execution::entry::Known;
+use execution::entry::SeatKnowledge;
+use rmecore::{Kind, Word};
 use std::alloc::Global;
 use std::marker::{Brand, PhantomData};
 
@@ -17,7 +17,7 @@ use std::marker::{Brand, PhantomData};
 /// the sizes.
 pub struct OneRun;
 
-impl TableRule<(), Known, Setup> for OneRun {
+impl TableRule<(), SeatKnowledge, Setup> for OneRun {
     ghost use Rattle.execution.specs.Rule.{Kept, opening_known};
 
     ghost holds = { Kept };
@@ -26,10 +26,10 @@ impl TableRule<(), Known, Setup> for OneRun {
 }
 
 /// The table: three lock words for each process, then the data words.
-pub type Board = Table<(), Known, Setup, OneRun, Global>;
+pub type Board = Table<(), SeatKnowledge, Setup, OneRun, Global>;
 
-/// A seat at the table. What it knows is in `Known`.
-pub type RunSeat = Seat<(), Known>;
+/// A seat at the table. What it knows is in `SeatKnowledge`.
+pub type RunSeat = Seat<(), SeatKnowledge>;
 
 /// Gives a name to the step that a load or a store is. Only contracts use it.
 trait StepName {
@@ -55,7 +55,7 @@ struct Does<D> {
     of: PhantomData<D>,
 }
 
-impl<D: StepName> Play<(), Known> for Does<D> {
+impl<D: StepName> Play<(), SeatKnowledge> for Does<D> {
     ghost use Rattle.std.specs.Prelude.{◌≡◌};
     ghost use Rattle.execution.specs.Rule.{Did};
 
@@ -67,7 +67,7 @@ struct Passes<D> {
     of: PhantomData<D>,
 }
 
-impl<D: StepName> Play<(), Known> for Passes<D> {
+impl<D: StepName> Play<(), SeatKnowledge> for Passes<D> {
     ghost use Rattle.std.specs.Prelude.{◌≡◌};
     ghost use Rattle.execution.specs.Rule.{Did};
 
@@ -77,7 +77,7 @@ impl<D: StepName> Play<(), Known> for Passes<D> {
 /// Split: the first process of a seat gets a seat of its own.
 struct Cut;
 
-impl Split<Known> for Cut {
+impl Split<SeatKnowledge> for Cut {
     ghost use Rattle.execution.specs.Rule.{without_first, first_alone};
 
     ghost left = { without_first };
@@ -88,7 +88,7 @@ impl Split<Known> for Cut {
 /// Join: one seat answers for the processes of both.
 struct Glue;
 
-impl Join<Known> for Glue {
+impl Join<SeatKnowledge> for Glue {
     ghost use Rattle.execution.specs.Rule.{joined, spent_known};
 
     ghost both = { joined };
@@ -99,20 +99,20 @@ impl Join<Known> for Glue {
 fn load_named<D: StepName>(
     table: &Board,
     seat: &mut RunSeat,
-    owed: &Owed,
+    pending_events: &PendingEvents,
     kind: Kind,
     word: Word,
     at: u64,
 ) -> u64
     requires table { seat.old.table_id ≡ table.now.shared.table_id }
     requires word { at < table.now.shared.table_id.words }
-    requires step { step_of owed.now kind word ≡ D.step }
-    requires may { MayLoad (step_of owed.now kind word) at seat.old.me.0.view }
+    requires step { step_of pending_events.now kind word ≡ D.step }
+    requires may { MayLoad (step_of pending_events.now kind word) at seat.old.me.0.view }
     ensures same { (seat.new.table_id ≡ seat.old.table_id) × (seat.new.id ≡ seat.old.id) × (seat.new.me.1 ≡ seat.old.me.1) }
-    ensures did { Did (step_of owed.now kind word) seat.old.me.0 result seat.new.me.0 }
+    ensures did { Did (step_of pending_events.now kind word) seat.old.me.0 result seat.new.me.0 }
 {
     // For the proof alone: its value is read.
-    let _ = owed;
+    let _ = pending_events;
     let _ = (kind, word);
     table.shared.load::<Does<D>>(seat, at as usize)
 }
@@ -120,7 +120,7 @@ fn load_named<D: StepName>(
 fn store_named<D: StepName>(
     table: &Board,
     seat: &mut RunSeat,
-    owed: &Owed,
+    pending_events: &PendingEvents,
     kind: Kind,
     word: Word,
     at: u64,
@@ -128,59 +128,73 @@ fn store_named<D: StepName>(
 )
     requires table { seat.old.table_id ≡ table.now.shared.table_id }
     requires word { at < table.now.shared.table_id.words }
-    requires step { step_of owed.now kind word ≡ D.step }
-    requires may { MayStore (step_of owed.now kind word) at seat.old.me.0.view new }
+    requires step { step_of pending_events.now kind word ≡ D.step }
+    requires may { MayStore (step_of pending_events.now kind word) at seat.old.me.0.view new }
     ensures same { (seat.new.table_id ≡ seat.old.table_id) × (seat.new.id ≡ seat.old.id) × (seat.new.me.1 ≡ seat.old.me.1) }
-    ensures did { Did (step_of owed.now kind word) seat.old.me.0 new seat.new.me.0 }
+    ensures did { Did (step_of pending_events.now kind word) seat.old.me.0 new seat.new.me.0 }
 {
     // For the proof alone: its value is read.
-    let _ = owed;
+    let _ = pending_events;
     let _ = (kind, word);
     table.shared.store::<Does<D>>(seat, at as usize, new);
 }
 
-fn pass_named<D: StepName>(
+fn seat_view_named<D: StepName>(
     table: &Board,
     seat: &mut RunSeat,
-    owed: &Owed,
+    pending_events: &PendingEvents,
     kind: Kind,
     word: Word,
     value: u64,
 )
     requires table { seat.old.table_id ≡ table.now.shared.table_id }
     requires some { 0 < table.now.shared.table_id.words }
-    requires step { step_of owed.now kind word ≡ D.step }
+    requires step { step_of pending_events.now kind word ≡ D.step }
     requires value { value ≡ D.value }
-    requires may { MayPass (step_of owed.now kind word) seat.old.me.0.view value }
+    requires may { MaySeatView (step_of pending_events.now kind word) seat.old.me.0.view value }
     ensures same { (seat.new.table_id ≡ seat.old.table_id) × (seat.new.id ≡ seat.old.id) × (seat.new.me.1 ≡ seat.old.me.1) }
-    ensures did { Did (step_of owed.now kind word) seat.old.me.0 value seat.new.me.0 }
+    ensures did { Did (step_of pending_events.now kind word) seat.old.me.0 value seat.new.me.0 }
 {
     // For the proof alone: its value is read.
-    let _ = owed;
+    let _ = pending_events;
     let _ = (kind, word, value);
     table.shared.load::<Passes<D>>(seat, 0);
 }
 
 /// A step at a data word past the table's end. The view grows by this step, and no word changes.
-pub fn pass(table: &Board, seat: &mut RunSeat, owed: &Owed, kind: Kind, word: Word, value: u64)
+pub fn seat_view(
+    table: &Board,
+    seat: &mut RunSeat,
+    pending_events: &PendingEvents,
+    kind: Kind,
+    word: Word,
+    value: u64,
+)
     requires table { seat.old.table_id ≡ table.now.shared.table_id }
     requires some { 0 < table.now.shared.table_id.words }
-    requires may { MayPass (step_of owed.now kind word) seat.old.me.0.view value }
+    requires may { MaySeatView (step_of pending_events.now kind word) seat.old.me.0.view value }
     ensures same { (seat.new.table_id ≡ seat.old.table_id) × (seat.new.id ≡ seat.old.id) × (seat.new.me.1 ≡ seat.old.me.1) }
-    ensures did { Did (step_of owed.now kind word) seat.old.me.0 value seat.new.me.0 }
+    ensures did { Did (step_of pending_events.now kind word) seat.old.me.0 value seat.new.me.0 }
 {
-    pass_named::<Brand>(table, seat, owed, kind, word, value);
+    seat_view_named::<Brand>(table, seat, pending_events, kind, word, value);
 }
 
 /// One load of word `at`. The view grows by this step.
-pub fn load(table: &Board, seat: &mut RunSeat, owed: &Owed, kind: Kind, word: Word, at: u64) -> u64
+pub fn load(
+    table: &Board,
+    seat: &mut RunSeat,
+    pending_events: &PendingEvents,
+    kind: Kind,
+    word: Word,
+    at: u64,
+) -> u64
     requires table { seat.old.table_id ≡ table.now.shared.table_id }
     requires word { at < table.now.shared.table_id.words }
-    requires may { MayLoad (step_of owed.now kind word) at seat.old.me.0.view }
+    requires may { MayLoad (step_of pending_events.now kind word) at seat.old.me.0.view }
     ensures same { (seat.new.table_id ≡ seat.old.table_id) × (seat.new.id ≡ seat.old.id) × (seat.new.me.1 ≡ seat.old.me.1) }
-    ensures did { Did (step_of owed.now kind word) seat.old.me.0 result seat.new.me.0 }
+    ensures did { Did (step_of pending_events.now kind word) seat.old.me.0 result seat.new.me.0 }
 {
-    load_named::<Brand>(table, seat, owed, kind, word, at)
+    load_named::<Brand>(table, seat, pending_events, kind, word, at)
 }
 
 /// One load of word `at` that belongs to no call. Pending events stay pending.
@@ -191,15 +205,15 @@ pub fn glance(table: &Board, seat: &mut RunSeat, word: Word, at: u64) -> u64
     ensures same { (seat.new.table_id ≡ seat.old.table_id) × (seat.new.id ≡ seat.old.id) × (seat.new.me.1 ≡ seat.old.me.1) }
     ensures did { Did (glanced word) seat.old.me.0 result seat.new.me.0 }
 {
-    let owed = Owed::nothing();
-    load_named::<Brand>(table, seat, &owed, Kind::Glance, word, at)
+    let pending_events = PendingEvents::nothing();
+    load_named::<Brand>(table, seat, &pending_events, Kind::Glance, word, at)
 }
 
 /// One store into word `at`. The view grows by this step.
 pub fn store(
     table: &Board,
     seat: &mut RunSeat,
-    owed: &Owed,
+    pending_events: &PendingEvents,
     kind: Kind,
     word: Word,
     at: u64,
@@ -207,24 +221,30 @@ pub fn store(
 )
     requires table { seat.old.table_id ≡ table.now.shared.table_id }
     requires word { at < table.now.shared.table_id.words }
-    requires may { MayStore (step_of owed.now kind word) at seat.old.me.0.view new }
+    requires may { MayStore (step_of pending_events.now kind word) at seat.old.me.0.view new }
     ensures same { (seat.new.table_id ≡ seat.old.table_id) × (seat.new.id ≡ seat.old.id) × (seat.new.me.1 ≡ seat.old.me.1) }
-    ensures did { Did (step_of owed.now kind word) seat.old.me.0 new seat.new.me.0 }
+    ensures did { Did (step_of pending_events.now kind word) seat.old.me.0 new seat.new.me.0 }
 {
-    store_named::<Brand>(table, seat, owed, kind, word, at, new);
+    store_named::<Brand>(table, seat, pending_events, kind, word, at, new);
 }
 
 /// Gives the first process of a seat a seat of its own, which is answered.
 pub fn cut_off(table: &Board, seat: &mut RunSeat) -> RunSeat
-    requires { (seat.old.table_id ≡ table.now.shared.table_id) × (0 < table.now.shared.table_id.words) × Splits (Kept table.now.shared.key) seat.old.id seat.old.me.0 (without_first seat.old.me.0) (first_alone seat.old.me.0) }
-    ensures { (seat.new.table_id ≡ seat.old.table_id) × (seat.new.me ≡ (without_first seat.old.me.0, seat.old.me.1)) × (result.table_id ≡ seat.old.table_id) × (result.me ≡ (first_alone seat.old.me.0, [])) }
+    requires { (seat.old.table_id ≡ table.now.shared.table_id) × (0 < table.now.shared.table_id.words)
+        × Splits (Kept table.now.shared.key) seat.old.id seat.old.me.0 (without_first seat.old.me.0)
+        (first_alone seat.old.me.0) }
+    ensures { (seat.new.table_id ≡ seat.old.table_id) × (seat.new.me ≡ (without_first seat.old.me.0, seat.old.me.1))
+        × (result.table_id ≡ seat.old.table_id) × (result.me ≡ (first_alone seat.old.me.0, [])) }
 {
     table.shared.split_seat::<Cut>(seat)
 }
 
 /// Joins the other seat into this one, which then answers for the processes of both.
 pub fn take_in(table: &Board, seat: &mut RunSeat, other: RunSeat)
-    requires { (seat.old.table_id ≡ table.now.shared.table_id) × (other.table_id ≡ table.now.shared.table_id) × (other.me.1 ≡ []) × (0 < table.now.shared.table_id.words) × Joins (Kept table.now.shared.key) seat.old.id seat.old.me.0 other.id other.me.0 (joined seat.old.me.0 other.me.0) spent_known }
+    requires { (seat.old.table_id ≡ table.now.shared.table_id) × (other.table_id ≡ table.now.shared.table_id)
+        × (other.me.1 ≡ []) × (0 < table.now.shared.table_id.words)
+        × Joins (Kept table.now.shared.key) seat.old.id seat.old.me.0 other.id other.me.0 (joined seat.old.me.0 other.me.0)
+        spent_known }
     ensures { (seat.new.table_id ≡ seat.old.table_id) × (seat.new.me ≡ (joined seat.old.me.0 other.me.0, seat.old.me.1)) }
 {
     table.shared.join_seat::<Glue>(seat, other);

@@ -4,8 +4,8 @@ ghost use Rattle.rmeworld.specs.declared.call.Call.TheVariants.{Lock};
 ghost use Rattle.rmeworld.specs.OwnSteps.{most_steps};
 ghost use Rattle.rmeworld.specs.Refused.{is_idle};
 ghost use Rattle.execution.specs.declared.entry.TakenStep.{TakenStep};
-ghost use Rattle.execution.specs.Pass.{IsPass, spot_now};
-ghost use Rattle.execution.specs.Calls.{blocked_of, Ran, CutOff, Still, Served, Crashes, Calm, Fell};
+ghost use Rattle.execution.specs.SeatView.{IsSeatView, process_state_now};
+ghost use Rattle.execution.specs.Calls.{blocked_of, Ran, CutOff, Still, Served, Crashes, NeverCrashes, Fell};
 ghost use Rattle.execution.specs.Lasting.{Lasts};
 ghost use Rattle.execution.specs.Running.{began};
 ghost use Rattle.execution.specs.Tabled.{table_steps, CountsAtMost};
@@ -13,29 +13,32 @@ ghost use Rattle.robust.specs.Working.{seat_of};
 ghost use Rattle.execution.specs.Faults.{fault_for as fault_of, refusal_now, Fails};
 ghost use Rattle.execution.specs.Under.{IsUnder, Begun, Fits};
 
-use crate::call::runner::Runner;
+use crate::call::call_driver::CallDriver;
 use crash_plans::CrashPlan;
+use execution::LockFault;
 use rmecore::Refusal;
 use rmeworld::{Answer, Call};
-use execution::LockFault;
 
 /// More steps than any call takes, blocked ones not counted.
 const MOST_STEPS: u64 = 256;
 
-impl Runner {
+impl CallDriver {
     /// Takes the steps of the call under way, up to its answer or to a blocked reading (`None`). `Crashed`: the plan fell.
     pub fn run<C: CrashPlan>(
         &mut self,
         plan: &mut C,
         call: &Call,
     ) -> Result<Option<Answer>, LockFault>
-        requires under { IsUnder call.now (spot_now self.old.pass) }
-        requires busy { is_idle (spot_now self.old.pass) ≡ false }
-        requires lasts { Lasts self.old.pass.setup.layout.procs 256 (spot_now self.old.pass) }
-        ensures ran { IfOk result (λ o. (mine : List TakenStep) × Ran self.old o self.new mine × Calm (length mine) (C.asked plan.old) (C.asked plan.new) (C.fallen plan.old) (C.fallen plan.new)) }
+        requires under { IsUnder call.now (process_state_now self.old.seat_view) }
+        requires busy { is_idle (process_state_now self.old.seat_view) ≡ false }
+        requires lasts { Lasts self.old.seat_view.setup.layout.procs 256 (process_state_now self.old.seat_view) }
+        ensures ran { IfOk result (λ o. (mine : List TakenStep) × Ran self.old o self.new mine
+            × NeverCrashes (length mine) (C.asked plan.old) (C.asked plan.new) (C.fallen plan.old) (C.fallen plan.new)) }
         ensures still { IfOk result (λ o. Still call.now self.new o) }
         ensures crashed { IfErr result (λ e. e ≡ LockFault.Crashed) }
-        ensures cut { OnErr result ((mine : List TakenStep) × CutOff self.old mine self.new × Fell (length mine + 1) (C.asked plan.old) (C.asked plan.new) (C.fallen plan.old) (C.fallen plan.new) × (blocked_of self.old.pass mine ≡ 0)) }
+        ensures cut { OnErr result ((mine : List TakenStep) × CutOff self.old mine self.new
+            × Fell (length mine + 1) (C.asked plan.old) (C.asked plan.new) (C.fallen plan.old) (C.fallen plan.new)
+            × (blocked_of self.old.seat_view mine ≡ 0)) }
     {
         if let Some(ran) = self.fast_way(plan, call) {
             return Ok(ran);
@@ -55,16 +58,18 @@ impl Runner {
 
     /// Takes the steps of a call that is never blocked, up to its answer. `Crashed`: the plan fell.
     pub fn serve<C: CrashPlan>(&mut self, plan: &mut C, call: &Call) -> Result<Answer, LockFault>
-        requires begun { Begun call.now self.old.pass.setup.layout.procs (spot_now self.old.pass) }
-        requires pass { IsPass self.old.pass }
-        requires start { self.old.pass.start ≡ Some call.now }
+        requires begun { Begun call.now self.old.seat_view.setup.layout.procs (process_state_now self.old.seat_view) }
+        requires seat_view { IsSeatView self.old.seat_view }
+        requires start { self.old.seat_view.start ≡ Some call.now }
         requires brief { call.now ≢ Lock }
-        ensures answered { IfOk result (λ a. (mine : List TakenStep) × Served self.old call.now (a ∷ []) 0 self.new mine × Calm (length mine + 1) (C.asked plan.old) (C.asked plan.new) (C.fallen plan.old) (C.fallen plan.new)) }
+        ensures answered { IfOk result (λ a. (mine : List TakenStep) × Served self.old call.now (a ∷ []) 0 self.new mine
+            × NeverCrashes (length mine + 1) (C.asked plan.old) (C.asked plan.new) (C.fallen plan.old) (C.fallen plan.new)) }
         ensures fits { IfOk result (λ a. Fits call.now a) }
         ensures crashed { IfErr result (λ e. e ≡ LockFault.Crashed) }
-        ensures cut { OnErr result ((mine : List TakenStep) × Crashes self.old call.now self.new mine × Fell (length mine + 1) (C.asked plan.old) (C.asked plan.new) (C.fallen plan.old) (C.fallen plan.new)) }
-        ensures idle { self.new.pass.start ≡ None }
-        ensures few { CountsAtMost (most_steps self.old.pass.setup.layout call.now) self.old self.new }
+        ensures cut { OnErr result ((mine : List TakenStep) × Crashes self.old call.now self.new mine
+            × Fell (length mine + 1) (C.asked plan.old) (C.asked plan.new) (C.fallen plan.old) (C.fallen plan.new)) }
+        ensures idle { self.new.seat_view.start ≡ None }
+        ensures few { CountsAtMost (most_steps self.old.seat_view.setup.layout call.now) self.old self.new }
     {
         match self.run(plan, call)? {
             Some(answer) => {
@@ -78,16 +83,19 @@ impl Runner {
     /// Starts a call that is never blocked, and takes its steps up to its answer. A refusal is answered as its fault;
     /// `Crashed`: the plan fell.
     pub fn call<C: CrashPlan>(&mut self, plan: &mut C, call: &Call) -> Result<Answer, LockFault>
-        requires idle { self.old.pass.start ≡ None }
+        requires idle { self.old.seat_view.start ≡ None }
         requires brief { call.now ≢ Lock }
-        ensures answered { IfOk result (λ a. (mine : List TakenStep) × Served (began self.old call.now) call.now (a ∷ []) 0 self.new mine × Calm (length mine + 1) (C.asked plan.old) (C.asked plan.new) (C.fallen plan.old) (C.fallen plan.new)) }
+        ensures answered { IfOk result (λ a. (mine : List TakenStep)
+            × Served (began self.old call.now) call.now (a ∷ []) 0 self.new mine
+            × NeverCrashes (length mine + 1) (C.asked plan.old) (C.asked plan.new) (C.fallen plan.old) (C.fallen plan.new)) }
         ensures accepted { OnOk result (refusal_now self.old call.now ≡ None) }
         ensures fits { IfOk result (λ a. Fits call.now a) }
-        ensures fails { IfErr result (Fails self.old call.now self.new (C.asked plan.old) (C.asked plan.new) (C.fallen plan.old) (C.fallen plan.new)) }
-        ensures idle { self.new.pass.start ≡ None }
+        ensures fails { IfErr result (Fails self.old call.now self.new (C.asked plan.old) (C.asked plan.new)
+            (C.fallen plan.old) (C.fallen plan.new)) }
+        ensures idle { self.new.seat_view.start ≡ None }
         ensures seat { seat_of self.new ≡ seat_of self.old }
-        ensures table { IfOk result (λ a. table_steps self.old.pass call.now a ≡ Some self.new.steps) }
-        ensures few { refusal_now self.old call.now ≡ None → self.new.steps ≤ most_steps self.old.pass.setup.layout call.now }
+        ensures table { IfOk result (λ a. table_steps self.old.seat_view call.now a ≡ Some self.new.steps) }
+        ensures few { refusal_now self.old call.now ≡ None → self.new.steps ≤ most_steps self.old.seat_view.setup.layout call.now }
     {
         match self.begin(call) {
             Ok(()) => self.serve(plan, call),

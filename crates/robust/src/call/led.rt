@@ -1,8 +1,8 @@
 //! What the fast path of a lock has led to, for its caller and for the machine of the process.
 ghost use Rattle.std.specs.Prelude.{◌≡◌, true, false};
-ghost use Rattle.rmeworld.specs.Stand.{spot_of as standing_at};
-ghost use Rattle.rmeworld.specs.declared.errand.Errand.TheVariants as Errand;
-ghost use Rattle.robust.specs.FastPath.{checked_spot};
+ghost use Rattle.rmeworld.specs.MachineState.{process_state_of as standing_at};
+ghost use Rattle.rmeworld.specs.declared.script_state.ScriptState.TheVariants as ScriptState;
+ghost use Rattle.robust.specs.FastPath.{checked_process_state};
 ghost use Rattle.robust.specs.FastCalls.{told_by};
 
 use rmecore::Stage;
@@ -31,13 +31,14 @@ pub fn told(led: Led) -> Option<Option<Answer>>
 
 /// Puts the machine of a process that found the lock ruined on its way out.
 pub fn bar(process: &mut Process)
-    requires free { process.old.errand ≡ Errand.Free }
+    requires free { process.old.script_state ≡ ScriptState.Free }
     requires barred { process.old.barred ≡ false }
-    ensures at { standing_at process.new ≡ checked_spot true }
-    ensures same { (process.new.layout ≡ process.old.layout) × (process.new.limit ≡ process.old.limit) × (process.new.index ≡ process.old.index) }
+    ensures at { standing_at process.new ≡ checked_process_state true }
+    ensures same { (process.new.layout ≡ process.old.layout) × (process.new.limit ≡ process.old.limit)
+        × (process.new.index ≡ process.old.index) }
 {
     let next = process.layout().procs;
-    process.seam_stand(Stage::Wait {
+    process.seam_machine_state(Stage::Wait {
         number: 1,
         next,
         looked: false,

@@ -4,27 +4,29 @@ ghost use Rattle.rmecore.specs.declared.refusal.Refusal.{Refusal as RefusalOf};
 ghost use Rattle.rmeworld.specs.declared.call.Call.TheVariants.{Lock, Recover, Withdraw};
 ghost use Rattle.rmeworld.specs.OwnSteps.{most_steps};
 ghost use Rattle.rmeworld.specs.Refused.{is_idle};
-ghost use Rattle.execution.specs.Pass.{IsPass, spot_now};
+ghost use Rattle.execution.specs.SeatView.{IsSeatView, process_state_now};
 ghost use Rattle.execution.specs.Running.{began};
 ghost use Rattle.execution.specs.Tabled.{LockCounts, CountsAtMost};
 ghost use Rattle.execution.specs.Under.{Begun, Fits, Leaves};
 ghost use Rattle.execution.specs.Faults.{refusal_now, ready, CutIn, LockBy, LockEnds};
 
-use crate::call::runner::Runner;
-use crossbeam_utils::Backoff;
+use crate::call::call_driver::CallDriver;
 use crash_plans::CrashPlan;
+use crossbeam_utils::Backoff;
+use execution::LockFault;
 use rmecore::Refusal;
 use rmeworld::{Answer, Call};
-use execution::LockFault;
 use std::sync::Wait;
 
-impl Runner {
+impl CallDriver {
     /// Starts a lock or a recovery, unless the process is in the section (`AlreadyIn`). A process whose lock still waits
     /// crashes first: it gives up that call, and its words stay.
     pub fn set_out(&mut self, call: &Call) -> Result<(), LockFault>
-        requires idle { self.old.pass.start ≡ None }
+        requires idle { self.old.seat_view.start ≡ None }
         requires comes { (call.now ≡ Lock) ⊎ (call.now ≡ Recover) }
-        ensures out { OnOk result ((self.new ≡ began (ready self.old) call.now) × Begun call.now self.new.pass.setup.layout.procs (spot_now self.new.pass) × IsPass self.new.pass) }
+        ensures out { OnOk result ((self.new ≡ began (ready self.old) call.now)
+            × Begun call.now self.new.seat_view.setup.layout.procs (process_state_now self.new.seat_view)
+            × IsSeatView self.new.seat_view) }
         ensures accepted { OnOk result (refusal_now (ready self.old) call.now ≡ None) }
         ensures refused { OnErr result ((self.new ≡ self.old) × (refusal_now self.old call.now ≡ Some Refusal.AlreadyIn)) }
         ensures fault { IfErr result (λ e. e ≡ LockFault.AlreadyIn) }
@@ -46,8 +48,10 @@ impl Runner {
     // Inline: once in each lock.
     #[inline(always)]
     pub fn set_out_lock(&mut self) -> Result<(), LockFault>
-        requires idle { self.old.pass.start ≡ None }
-        ensures out { OnOk result ((self.new ≡ began (ready self.old) Lock) × Begun Lock self.new.pass.setup.layout.procs (spot_now self.new.pass) × IsPass self.new.pass) }
+        requires idle { self.old.seat_view.start ≡ None }
+        ensures out { OnOk result ((self.new ≡ began (ready self.old) Lock)
+            × Begun Lock self.new.seat_view.setup.layout.procs (process_state_now self.new.seat_view)
+            × IsSeatView self.new.seat_view) }
         ensures accepted { OnOk result (refusal_now (ready self.old) Lock ≡ None) }
         ensures refused { OnErr result ((self.new ≡ self.old) × (refusal_now self.old Lock ≡ Some Refusal.AlreadyIn)) }
         ensures fault { IfErr result (λ e. e ≡ LockFault.AlreadyIn) }
@@ -66,16 +70,18 @@ impl Runner {
         plan: &mut C,
         turns: u64,
     ) -> Result<Option<Answer>, LockFault>
-        requires begun { Begun Lock self.old.pass.setup.layout.procs (spot_now self.old.pass) }
-        requires pass { IsPass self.old.pass }
-        requires start { self.old.pass.start ≡ Some Lock }
-        ensures ends { IfOk result (λ o. LockBy 0 self.old turns o self.new (C.asked plan.old) (C.asked plan.new) (C.fallen plan.old) (C.fallen plan.new)) }
-        ensures fits { IfOk result (λ o. IfSome o (λ a. Fits Lock a × Leaves Lock a (spot_now self.new.pass))) }
-        ensures waits { IfOk result (λ o. o ≡ None → is_idle (spot_now self.new.pass) ≡ false) }
+        requires begun { Begun Lock self.old.seat_view.setup.layout.procs (process_state_now self.old.seat_view) }
+        requires seat_view { IsSeatView self.old.seat_view }
+        requires start { self.old.seat_view.start ≡ Some Lock }
+        ensures ends { IfOk result (λ o. LockBy 0 self.old turns o self.new (C.asked plan.old) (C.asked plan.new)
+            (C.fallen plan.old) (C.fallen plan.new)) }
+        ensures fits { IfOk result (λ o. IfSome o (λ a. Fits Lock a × Leaves Lock a (process_state_now self.new.seat_view))) }
+        ensures waits { IfOk result (λ o. o ≡ None → is_idle (process_state_now self.new.seat_view) ≡ false) }
         ensures waiting { IfOk result (λ o. o ≡ None → refusal_now self.new Withdraw ≡ None) }
         ensures crashed { IfErr result (λ e. e ≡ LockFault.Crashed) }
-        ensures cut { OnErr result (CutIn self.old Lock self.new (C.asked plan.old) (C.asked plan.new) (C.fallen plan.old) (C.fallen plan.new)) }
-        ensures few { CountsAtMost (most_steps self.old.pass.setup.layout Lock + turns) self.old self.new }
+        ensures cut { OnErr result (CutIn self.old Lock self.new (C.asked plan.old) (C.asked plan.new) (C.fallen plan.old)
+            (C.fallen plan.new)) }
+        ensures few { CountsAtMost (most_steps self.old.seat_view.setup.layout Lock + turns) self.old self.new }
     {
         let backoff = Backoff::new();
         let mut left = turns;
@@ -100,13 +106,15 @@ impl Runner {
         rt: &R,
         plan: &mut C,
     ) -> Result<Answer, LockFault>
-        requires begun { Begun Lock self.old.pass.setup.layout.procs (spot_now self.old.pass) }
-        requires pass { IsPass self.old.pass }
-        requires start { self.old.pass.start ≡ Some Lock }
-        ensures ends { IfOk result (λ a. (turns : ℕ) × LockBy 0 self.old turns (Some a) self.new (C.asked plan.old) (C.asked plan.new) (C.fallen plan.old) (C.fallen plan.new)) }
-        ensures fits { IfOk result (λ a. Fits Lock a × Leaves Lock a (spot_now self.new.pass)) }
+        requires begun { Begun Lock self.old.seat_view.setup.layout.procs (process_state_now self.old.seat_view) }
+        requires seat_view { IsSeatView self.old.seat_view }
+        requires start { self.old.seat_view.start ≡ Some Lock }
+        ensures ends { IfOk result (λ a. (turns : ℕ) × LockBy 0 self.old turns (Some a) self.new (C.asked plan.old)
+            (C.asked plan.new) (C.fallen plan.old) (C.fallen plan.new)) }
+        ensures fits { IfOk result (λ a. Fits Lock a × Leaves Lock a (process_state_now self.new.seat_view)) }
         ensures crashed { IfErr result (λ e. e ≡ LockFault.Crashed) }
-        ensures cut { OnErr result (CutIn self.old Lock self.new (C.asked plan.old) (C.asked plan.new) (C.fallen plan.old) (C.fallen plan.new)) }
+        ensures cut { OnErr result (CutIn self.old Lock self.new (C.asked plan.old) (C.asked plan.new) (C.fallen plan.old)
+            (C.fallen plan.new)) }
     {
         let backoff = Backoff::new();
         for _ in rt.forever() {
@@ -124,17 +132,19 @@ impl Runner {
         plan: &mut C,
         turns: u64,
     ) -> Result<Option<Answer>, LockFault>
-        requires begun { Begun Lock self.old.pass.setup.layout.procs (spot_now self.old.pass) }
-        requires pass { IsPass self.old.pass }
-        requires start { self.old.pass.start ≡ Some Lock }
-        ensures ends { IfOk result (λ o. LockEnds self.old turns o self.new (C.asked plan.old) (C.asked plan.new) (C.fallen plan.old) (C.fallen plan.new)) }
+        requires begun { Begun Lock self.old.seat_view.setup.layout.procs (process_state_now self.old.seat_view) }
+        requires seat_view { IsSeatView self.old.seat_view }
+        requires start { self.old.seat_view.start ≡ Some Lock }
+        ensures ends { IfOk result (λ o. LockEnds self.old turns o self.new (C.asked plan.old) (C.asked plan.new)
+            (C.fallen plan.old) (C.fallen plan.new)) }
         ensures fits { IfOk result (λ o. IfSome o (Fits Lock)) }
         ensures waiting { IfOk result (λ o. o ≡ None → refusal_now self.new Withdraw ≡ None) }
         ensures crashed { IfErr result (λ e. e ≡ LockFault.Crashed) }
-        ensures cut { OnErr result (CutIn self.old Lock self.new (C.asked plan.old) (C.asked plan.new) (C.fallen plan.old) (C.fallen plan.new)) }
-        ensures idle { self.new.pass.start ≡ None }
+        ensures cut { OnErr result (CutIn self.old Lock self.new (C.asked plan.old) (C.asked plan.new) (C.fallen plan.old)
+            (C.fallen plan.new)) }
+        ensures idle { self.new.seat_view.start ≡ None }
         ensures counts { IfOk result (λ o. LockCounts self.old o self.new) }
-        ensures few { CountsAtMost (most_steps self.old.pass.setup.layout Lock + turns) self.old self.new }
+        ensures few { CountsAtMost (most_steps self.old.seat_view.setup.layout Lock + turns) self.old self.new }
     {
         let answer = self.take_turns(plan, turns)?;
         self.ask(plan)?;
@@ -143,14 +153,16 @@ impl Runner {
 
     /// The same as `take_all`, and the plan is asked once more, before the answer. `Crashed`: the plan fell.
     pub fn wait<R: Wait, C: CrashPlan>(&mut self, rt: &R, plan: &mut C) -> Result<Answer, LockFault>
-        requires begun { Begun Lock self.old.pass.setup.layout.procs (spot_now self.old.pass) }
-        requires pass { IsPass self.old.pass }
-        requires start { self.old.pass.start ≡ Some Lock }
-        ensures ends { IfOk result (λ a. (turns : ℕ) × LockEnds self.old turns (Some a) self.new (C.asked plan.old) (C.asked plan.new) (C.fallen plan.old) (C.fallen plan.new)) }
+        requires begun { Begun Lock self.old.seat_view.setup.layout.procs (process_state_now self.old.seat_view) }
+        requires seat_view { IsSeatView self.old.seat_view }
+        requires start { self.old.seat_view.start ≡ Some Lock }
+        ensures ends { IfOk result (λ a. (turns : ℕ) × LockEnds self.old turns (Some a) self.new (C.asked plan.old)
+            (C.asked plan.new) (C.fallen plan.old) (C.fallen plan.new)) }
         ensures fits { IfOk result (Fits Lock) }
         ensures crashed { IfErr result (λ e. e ≡ LockFault.Crashed) }
-        ensures cut { OnErr result (CutIn self.old Lock self.new (C.asked plan.old) (C.asked plan.new) (C.fallen plan.old) (C.fallen plan.new)) }
-        ensures idle { self.new.pass.start ≡ None }
+        ensures cut { OnErr result (CutIn self.old Lock self.new (C.asked plan.old) (C.asked plan.new) (C.fallen plan.old)
+            (C.fallen plan.new)) }
+        ensures idle { self.new.seat_view.start ≡ None }
         ensures counts { IfOk result (λ a. LockCounts self.old (Some a) self.new) }
     {
         let answer = self.take_all(rt, plan)?;

@@ -6,7 +6,7 @@ ghost use Rattle.rmeworld.specs.declared.call.Call.TheVariants.{Lock, Unlock, Wi
 ghost use Rattle.rmeworld.specs.declared.answer.Answer.{Answer as AnswerOf};
 ghost use Rattle.rmeworld.specs.declared.answer.Answer.TheVariants.{Mail, Unlocked};
 ghost use Rattle.rmeworld.specs.OwnSteps.{most_steps};
-ghost use Rattle.execution.specs.Pass.{spot_now};
+ghost use Rattle.execution.specs.SeatView.{process_state_now};
 ghost use Rattle.execution.specs.Running.{Seated, began};
 ghost use Rattle.execution.specs.Tabled.{CountsAtMost};
 ghost use Rattle.execution.specs.Under.{Fits, Leaves, IsHolder};
@@ -14,25 +14,27 @@ ghost use Rattle.execution.specs.Faults.{refusal_now, ready, CutIn, CutBy, Answe
 ghost use Rattle.execution.specs.WholeSteps.{InsideCounts, most_inside, most_whole};
 ghost use Rattle.execution.specs.Whole.{IsTask, IsFront, IsInner, IsWithin, Inner, WholeBy, WholeGoes, WholeEnds, WholeFails};
 
-use crate::call::runner::Runner;
+use crate::call::call_driver::CallDriver;
 use crash_plans::CrashPlan;
+use execution::{Entry, LockFault};
 use redomail::Reply;
 use rmeworld::{Answer, Call};
-use execution::{Entry, LockFault};
 use std::sync::Wait;
 
-impl Runner {
+impl CallDriver {
     /// Starts a call after another one, one that is never blocked, and takes its steps up to its answer. The plan is not yet
     /// asked for the answer: the caller does that.
     fn follow<C: CrashPlan>(&mut self, plan: &mut C, call: &Call) -> Result<Answer, LockFault>
-        requires idle { self.old.pass.start ≡ None }
+        requires idle { self.old.seat_view.start ≡ None }
         requires accepted { refusal_now self.old call.now ≡ None }
         requires brief { call.now ≢ Lock }
-        ensures answered { IfOk result (λ a. AnsweredBy 0 self.old (call.now ∷ []) (a ∷ []) 0 self.new (C.asked plan.old) (C.asked plan.new) (C.fallen plan.old) (C.fallen plan.new)) }
-        ensures leaves { IfOk result (λ a. Fits call.now a × Leaves call.now a (spot_now self.new.pass)) }
+        ensures answered { IfOk result (λ a. AnsweredBy 0 self.old (call.now ∷ []) (a ∷ []) 0 self.new (C.asked plan.old)
+            (C.asked plan.new) (C.fallen plan.old) (C.fallen plan.new)) }
+        ensures leaves { IfOk result (λ a. Fits call.now a × Leaves call.now a (process_state_now self.new.seat_view)) }
         ensures crashed { IfErr result (λ e. e ≡ LockFault.Crashed) }
-        ensures cut { OnErr result (CutIn self.old call.now self.new (C.asked plan.old) (C.asked plan.new) (C.fallen plan.old) (C.fallen plan.new)) }
-        ensures few { CountsAtMost (most_steps self.old.pass.setup.layout call.now) self.old self.new }
+        ensures cut { OnErr result (CutIn self.old call.now self.new (C.asked plan.old) (C.asked plan.new)
+            (C.fallen plan.old) (C.fallen plan.new)) }
+        ensures few { CountsAtMost (most_steps self.old.seat_view.setup.layout call.now) self.old self.new }
     {
         if self.has_fast_way(plan, call) {
             return Ok(self.fast_call(plan, call));
@@ -48,16 +50,20 @@ impl Runner {
 
     /// Does a task of the mailbox as a holder with nothing to mend, and leaves.
     fn work<C: CrashPlan>(&mut self, plan: &mut C, task: &Call) -> Result<Reply, LockFault>
-        requires idle { self.old.pass.start ≡ None }
-        requires holder { IsHolder (spot_now self.old.pass) × ((spot_now self.old.pass).mended ≡ true) }
-        requires task { IsTask self.old.pass.setup.layout task.now }
+        requires idle { self.old.seat_view.start ≡ None }
+        requires holder { IsHolder (process_state_now self.old.seat_view) × ((process_state_now self.old.seat_view).mended ≡ true) }
+        requires task { IsTask self.old.seat_view.setup.layout task.now }
         ensures fits { IfOk result (λ reply. Fits task.now (Mail reply)) }
         ensures out { OnOk result (refusal_now (ready self.new) Lock ≡ None) }
-        ensures done { IfOk result (λ reply. AnsweredBy 0 self.old (task.now ∷ Unlock ∷ []) (Mail reply ∷ Unlocked ∷ []) 0 self.new (C.asked plan.old) (C.asked plan.new) (C.fallen plan.old) (C.fallen plan.new)) }
+        ensures done { IfOk result (λ reply. AnsweredBy 0 self.old (task.now ∷ Unlock ∷ []) (Mail reply ∷ Unlocked ∷ [])
+            0 self.new (C.asked plan.old) (C.asked plan.new) (C.fallen plan.old) (C.fallen plan.new)) }
         ensures crashed { IfErr result (λ e. e ≡ LockFault.Crashed) }
-        ensures cut { OnErr result (CutBy self.old (λ order. IsFront order (task.now ∷ Unlock ∷ [])) self.new (C.asked plan.old) (C.asked plan.new) (C.fallen plan.old) (C.fallen plan.new)) }
+        ensures cut { OnErr result (CutBy self.old (λ order. IsFront order (task.now ∷ Unlock ∷ [])) self.new
+            (C.asked plan.old) (C.asked plan.new) (C.fallen plan.old) (C.fallen plan.new)) }
         ensures counts { IfOk result (λ reply. InsideCounts self.old true (task.now ∷ Unlock ∷ []) (Mail reply ∷ Unlocked ∷ []) self.new) }
-        ensures few { CountsAtMost (most_steps self.old.pass.setup.layout task.now + most_steps self.old.pass.setup.layout Unlock) self.old self.new }
+        ensures few { CountsAtMost
+            (most_steps self.old.seat_view.setup.layout task.now + most_steps self.old.seat_view.setup.layout Unlock)
+            self.old self.new }
     {
         let answer = self.follow(plan, task)?;
         self.follow(plan, &Call::Unlock)?;
@@ -73,15 +79,19 @@ impl Runner {
         plan: &mut C,
         task: &Call,
     ) -> Result<Result<Reply, LockFault>, LockFault>
-        requires idle { self.old.pass.start ≡ None }
-        requires holder { Leaves Lock (answer_of Entry.OwnerDied) (spot_now self.old.pass) }
-        requires task { IsTask self.old.pass.setup.layout task.now }
-        ensures done { IfOk result (λ r. (order : List CallOf) × (answers : List AnswerOf) × Inner Entry.OwnerDied task.now r order answers × AnsweredBy 0 self.old order answers 0 self.new (C.asked plan.old) (C.asked plan.new) (C.fallen plan.old) (C.fallen plan.new) × InsideCounts self.old false order answers self.new) }
+        requires idle { self.old.seat_view.start ≡ None }
+        requires holder { Leaves Lock (answer_of Entry.OwnerDied) (process_state_now self.old.seat_view) }
+        requires task { IsTask self.old.seat_view.setup.layout task.now }
+        ensures done { IfOk result (λ r. (order : List CallOf) × (answers : List AnswerOf)
+            × Inner Entry.OwnerDied task.now r order answers
+            × AnsweredBy 0 self.old order answers 0 self.new (C.asked plan.old) (C.asked plan.new) (C.fallen plan.old)
+            (C.fallen plan.new) × InsideCounts self.old false order answers self.new) }
         ensures fits { IfOk result (λ r. IfOk r (λ reply. Fits task.now (Mail reply))) }
         ensures out { OnOk result (refusal_now (ready self.new) Lock ≡ None) }
         ensures crashed { IfErr result (λ e. e ≡ LockFault.Crashed) }
-        ensures cut { OnErr result (CutBy self.old (IsInner Entry.OwnerDied task.now) self.new (C.asked plan.old) (C.asked plan.new) (C.fallen plan.old) (C.fallen plan.new)) }
-        ensures few { CountsAtMost (most_inside self.old.pass.setup.layout task.now) self.old self.new }
+        ensures cut { OnErr result (CutBy self.old (IsInner Entry.OwnerDied task.now) self.new (C.asked plan.old)
+            (C.asked plan.new) (C.fallen plan.old) (C.fallen plan.new)) }
+        ensures few { CountsAtMost (most_inside self.old.seat_view.setup.layout task.now) self.old self.new }
     {
         match self.follow(plan, &Call::Consistent)? {
             Answer::Mail(_) => {
@@ -104,17 +114,21 @@ impl Runner {
         answer: Option<Answer>,
         task: &Call,
     ) -> Result<Result<Reply, LockFault>, LockFault>
-        requires idle { self.old.pass.start ≡ None }
-        requires leaves { IfSome answer (λ a. Fits Lock a × Leaves Lock a (spot_now self.old.pass)) }
-        requires task { IsTask self.old.pass.setup.layout task.now }
+        requires idle { self.old.seat_view.start ≡ None }
+        requires leaves { IfSome answer (λ a. Fits Lock a × Leaves Lock a (process_state_now self.old.seat_view)) }
+        requires task { IsTask self.old.seat_view.setup.layout task.now }
         ensures fits { IfOk result (λ r. IfOk r (λ reply. Fits task.now (Mail reply))) }
         ensures out { (answer ≡ None → refusal_now (ready self.old) Lock ≡ None) → refusal_now (ready self.new) Lock ≡ None }
-        ensures comes { IfOk result (λ r. (x : Seated) (turns asked fallen : ℕ) → LockBy 0 x turns answer self.old asked (C.asked plan.old) fallen (C.fallen plan.old) → WholeBy 0 x turns task.now r self.new asked (C.asked plan.new) fallen (C.fallen plan.new)) }
+        ensures comes { IfOk result (λ r. (x : Seated) (turns asked fallen : ℕ)
+            → LockBy 0 x turns answer self.old asked (C.asked plan.old) fallen (C.fallen plan.old)
+            → WholeBy 0 x turns task.now r self.new asked (C.asked plan.new) fallen (C.fallen plan.new)) }
         ensures patient { IfOk result (λ r. r ≡ Err LockFault.NotYet → answer ≡ None) }
         ensures stays { OnOk result (answer ≡ None → self.new ≡ self.old) }
         ensures crashed { IfErr result (λ e. e ≡ LockFault.Crashed) }
-        ensures cut { OnErr result ((x : Seated) (turns asked fallen : ℕ) → LockBy 0 x turns answer self.old asked (C.asked plan.old) fallen (C.fallen plan.old) → CutBy x (IsWithin task.now) self.new asked (C.asked plan.new) fallen (C.fallen plan.new)) }
-        ensures few { CountsAtMost (most_inside self.old.pass.setup.layout task.now) self.old self.new }
+        ensures cut { OnErr result ((x : Seated) (turns asked fallen : ℕ)
+            → LockBy 0 x turns answer self.old asked (C.asked plan.old) fallen (C.fallen plan.old)
+            → CutBy x (IsWithin task.now) self.new asked (C.asked plan.new) fallen (C.fallen plan.new)) }
+        ensures few { CountsAtMost (most_inside self.old.seat_view.setup.layout task.now) self.old self.new }
     {
         match answer {
             Some(answer) => match answer {
@@ -140,15 +154,17 @@ impl Runner {
         answer: Option<Answer>,
         task: &Call,
     ) -> Result<Reply, LockFault>
-        requires idle { self.old.pass.start ≡ None }
-        requires leaves { IfSome answer (λ a. Fits Lock a × Leaves Lock a (spot_now self.old.pass)) }
-        requires task { IsTask self.old.pass.setup.layout task.now }
+        requires idle { self.old.seat_view.start ≡ None }
+        requires leaves { IfSome answer (λ a. Fits Lock a × Leaves Lock a (process_state_now self.old.seat_view)) }
+        requires task { IsTask self.old.seat_view.setup.layout task.now }
         ensures fits { IfOk result (λ reply. Fits task.now (Mail reply)) }
         ensures out { (answer ≡ None → refusal_now (ready self.old) Lock ≡ None) → refusal_now (ready self.new) Lock ≡ None }
-        ensures goes { (x : Seated) (turns asked fallen : ℕ) → LockBy 0 x turns answer self.old asked (C.asked plan.old) fallen (C.fallen plan.old) → WholeGoes x turns task.now result self.new asked (C.asked plan.new) fallen (C.fallen plan.new) }
+        ensures goes { (x : Seated) (turns asked fallen : ℕ)
+            → LockBy 0 x turns answer self.old asked (C.asked plan.old) fallen (C.fallen plan.old)
+            → WholeGoes x turns task.now result self.new asked (C.asked plan.new) fallen (C.fallen plan.new) }
         ensures patient { result ≡ Err LockFault.NotYet → answer ≡ None }
         ensures stays { result ≡ Err LockFault.NotYet → self.new ≡ self.old }
-        ensures few { CountsAtMost (most_inside self.old.pass.setup.layout task.now) self.old self.new }
+        ensures few { CountsAtMost (most_inside self.old.seat_view.setup.layout task.now) self.old self.new }
     {
         let reply = self.come(plan, answer, task)?;
         match self.ask(plan) {
@@ -165,17 +181,20 @@ impl Runner {
         task: &Call,
         turns: u64,
     ) -> Result<Reply, LockFault>
-        requires idle { self.old.pass.start ≡ None }
-        requires task { IsTask self.old.pass.setup.layout task.now }
+        requires idle { self.old.seat_view.start ≡ None }
+        requires task { IsTask self.old.seat_view.setup.layout task.now }
         ensures accepted { OnOk result (refusal_now (ready self.old) Lock ≡ None) }
         ensures fits { IfOk result (λ reply. Fits task.now (Mail reply)) }
         ensures out { result ≢ Err LockFault.AlreadyIn → refusal_now (ready self.new) Lock ≡ None }
         ensures waits { result ≡ Err LockFault.NotYet → refusal_now self.new Withdraw ≡ None }
-        ensures replied { IfOk result (λ reply. WholeEnds (began (ready self.old) Lock) turns task.now (Ok reply) self.new (C.asked plan.old) (C.asked plan.new) (C.fallen plan.old) (C.fallen plan.new)) }
-        ensures fails { IfErr result (WholeFails self.old turns task.now self.new (C.asked plan.old) (C.asked plan.new) (C.fallen plan.old) (C.fallen plan.new)) }
-        ensures idle { self.new.pass.start ≡ None }
-        ensures few { OnOk result (self.new.steps ≤ most_whole self.old.pass.setup.layout task.now + turns) }
-        ensures few_out { IfErr result (λ e. e ≢ LockFault.AlreadyIn → self.new.steps ≤ most_whole self.old.pass.setup.layout task.now + turns) }
+        ensures replied { IfOk result (λ reply. WholeEnds (began (ready self.old) Lock) turns task.now (Ok reply) self.new
+            (C.asked plan.old) (C.asked plan.new) (C.fallen plan.old) (C.fallen plan.new)) }
+        ensures fails { IfErr result (WholeFails self.old turns task.now self.new (C.asked plan.old) (C.asked plan.new)
+            (C.fallen plan.old) (C.fallen plan.new)) }
+        ensures idle { self.new.seat_view.start ≡ None }
+        ensures few { OnOk result (self.new.steps ≤ most_whole self.old.seat_view.setup.layout task.now + turns) }
+        ensures few_out { IfErr result (λ e. e ≢ LockFault.AlreadyIn
+            → self.new.steps ≤ most_whole self.old.seat_view.setup.layout task.now + turns) }
     {
         self.set_out_lock()?;
         match self.take_turns(plan, turns) {
@@ -191,15 +210,17 @@ impl Runner {
         plan: &mut C,
         task: &Call,
     ) -> Result<Reply, LockFault>
-        requires idle { self.old.pass.start ≡ None }
-        requires task { IsTask self.old.pass.setup.layout task.now }
+        requires idle { self.old.seat_view.start ≡ None }
+        requires task { IsTask self.old.seat_view.setup.layout task.now }
         ensures accepted { OnOk result (refusal_now (ready self.old) Lock ≡ None) }
         ensures fits { IfOk result (λ reply. Fits task.now (Mail reply)) }
         ensures out { result ≢ Err LockFault.AlreadyIn → refusal_now (ready self.new) Lock ≡ None }
-        ensures replied { IfOk result (λ reply. (turns : ℕ) × WholeEnds (began (ready self.old) Lock) turns task.now (Ok reply) self.new (C.asked plan.old) (C.asked plan.new) (C.fallen plan.old) (C.fallen plan.new)) }
-        ensures fails { IfErr result (λ e. (turns : ℕ) × WholeFails self.old turns task.now self.new (C.asked plan.old) (C.asked plan.new) (C.fallen plan.old) (C.fallen plan.new) e) }
+        ensures replied { IfOk result (λ reply. (turns : ℕ) × WholeEnds (began (ready self.old) Lock) turns task.now
+            (Ok reply) self.new (C.asked plan.old) (C.asked plan.new) (C.fallen plan.old) (C.fallen plan.new)) }
+        ensures fails { IfErr result (λ e. (turns : ℕ) × WholeFails self.old turns task.now self.new (C.asked plan.old)
+            (C.asked plan.new) (C.fallen plan.old) (C.fallen plan.new) e) }
         ensures patient { IfErr result (λ e. e ≢ LockFault.NotYet) }
-        ensures idle { self.new.pass.start ≡ None }
+        ensures idle { self.new.seat_view.start ≡ None }
     {
         self.set_out_lock()?;
         match self.take_all(rt, plan) {

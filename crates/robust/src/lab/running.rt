@@ -123,7 +123,8 @@ fn work_all<G: Gate + Send + Drop, R: Threads + Wait + Sync>(
         thread::scope_env(),
         rt,
         |scope| -> Result<Vec<Done>, AllocError>
-            requires { IsSend G.row × IsSync R.row × (vec_len gates ≡ vec_len members) × (1 ≤ spec.messages) × (spec.messages ≤ 4096) × (1 ≤ spec.width) × (spec.width ≤ 8) × All (IsNew (sizes_of spec)) members.items }
+            requires { IsSend G.row × IsSync R.row × (vec_len gates ≡ vec_len members) × (1 ≤ spec.messages)
+                × (spec.messages ≤ 4096) × (1 ≤ spec.width) × (spec.width ≤ 8) × All (IsNew (sizes_of spec)) members.items }
             ensures { IfOk result (λ all. (map seat_done all.items ≡ seats_of members.items) × All (HasWorked spec) all.items) }
         {
             let threads = start_all(scope, rt, alloc, spec, members, gates)?;
@@ -156,7 +157,8 @@ fn start_all<'s, E: 's, G: Gate + Send + Drop + 's, R: Wait + Sync>(
         };
         let promise = HandsBack(Snapshot::of(&member), spec);
         let job = move || -> Done
-            requires { IsSend G.row × IsSync R.row × (1 ≤ spec.messages) × (spec.messages ≤ 4096) × (1 ≤ spec.width) × (spec.width ≤ 8) × IsNew (sizes_of spec) member }
+            requires { IsSend G.row × IsSync R.row × (1 ≤ spec.messages) × (spec.messages ≤ 4096) × (1 ≤ spec.width)
+                × (spec.width ≤ 8) × IsNew (sizes_of spec) member }
         { work(rt, member, gate, spec) };
         let Ok(thread) = scope.spawn_with(promise, job) else {
             return Err(AllocError);
@@ -213,7 +215,8 @@ fn members_of(alloc: Global, ended: Vec<Done>) -> Result<Vec<Member>, AllocError
 fn shown(alloc: Global, spec: Spec, image: &Image) -> Result<LabResult, LabFault>
     requires lawful { IsLawfulImage image.now }
     requires layout { layout_of image.now ≡ (sizes_of spec).layout }
-    ensures messages { IfOk result (λ r. r.messages.items ≡ entries (sizes_of spec).layout (words_of image.now.cells) (slice_index image.now.cells 2)) }
+    ensures messages { IfOk result (λ r. r.messages.items ≡ entries (sizes_of spec).layout (words_of image.now.cells)
+        (slice_index image.now.cells 2)) }
     ensures numbered { OnOk result (IsNumbered (sizes_of spec).layout (words_of image.now.cells) (slice_index image.now.cells 2)) }
     ensures fault { IfErr result (λ fault. fault ≡ LabFault.OutOfMemory) }
 {

@@ -3,7 +3,7 @@
 ghost use Rattle.std.specs.Prelude.{◌≡◌, ◌≤◌, ◌⊎◌, ℕ, None, IfOk, IfErr, OnOk, length};
 ghost use Rattle.rmeworld.specs.declared.call.Call.TheVariants.{Lock, Append};
 ghost use Rattle.execution.specs.Faults.{refusal_now, ready};
-ghost use Rattle.execution.specs.Pass.{own_of};
+ghost use Rattle.execution.specs.SeatView.{own_of};
 ghost use Rattle.execution.specs.Ruins.{AreInOrder, HasReadRuin};
 ghost use Rattle.execution.specs.Telling.{ToldIn};
 ghost use Rattle.execution.specs.Under.{Appends};
@@ -13,11 +13,11 @@ ghost use Rattle.robust.specs.Sending.{IsNew, IsSending, SendsOnly, HasShown};
 ghost use Rattle.robust.specs.Working.{seat_of};
 
 use crate::member::Member;
+use execution::LockFault;
 use one_lock::lab::sending::{is_crash, is_sent, value_sent};
 use one_lock::lab::{Ending, Gate, Spec};
 use redomail::Reply;
 use rmecore::Body;
-use execution::LockFault;
 use std::snapshot::Snapshot;
 use std::sync::Wait;
 use std::thread::Promise;
@@ -79,17 +79,20 @@ fn send<G: Gate, R: Wait>(
     seq: u64,
     value: Body,
 ) -> Result<Reply, LockFault>
-    requires width { length value ≡ member.old.pass.setup.layout.width }
+    requires width { length value ≡ member.old.seat_view.setup.layout.width }
     requires out { refusal_now (ready member.old) Lock ≡ None }
     ensures out { refusal_now (ready member.new) Lock ≡ None }
     ensures kind { IfOk result (Appends seq) }
     ensures tells { IfOk result (λ reply. ToldIn member.old seq reply member.new) }
-    ensures faults { IfErr result (λ why. (why ≡ LockFault.NumbersSpent) ⊎ (why ≡ LockFault.NotRecoverable)) }
-    ensures ordered { AreInOrder None (own_of member.old.pass) → AreInOrder None (own_of member.new.pass) }
-    ensures ruin { IfErr result (λ why. AreInOrder None (own_of member.old.pass) → why ≡ LockFault.NotRecoverable → HasReadRuin (own_of member.new.pass)) }
-    ensures spent { IfErr result (λ why. why ≡ LockFault.NumbersSpent → WasSpent member.new.pass.setup (own_of member.new.pass)) }
+    ensures faults { IfErr result (λ purpose. (purpose ≡ LockFault.NumbersSpent) ⊎ (purpose ≡ LockFault.NotRecoverable)) }
+    ensures ordered { AreInOrder None (own_of member.old.seat_view) → AreInOrder None (own_of member.new.seat_view) }
+    ensures ruin { IfErr result (λ purpose. AreInOrder None (own_of member.old.seat_view)
+        → purpose ≡ LockFault.NotRecoverable → HasReadRuin (own_of member.new.seat_view)) }
+    ensures spent { IfErr result (λ purpose. purpose ≡ LockFault.NumbersSpent
+        → WasSpent member.new.seat_view.setup (own_of member.new.seat_view)) }
     ensures seat { seat_of member.new ≡ seat_of member.old }
-    ensures only { (width k : ℕ) → IsSending width k member.old.pass.by (Append seq value) → SendsOnly width k member.old → SendsOnly width k member.new }
+    ensures only { (width k : ℕ) → IsSending width k member.old.seat_view.by (Append seq value)
+        → SendsOnly width k member.old → SendsOnly width k member.new }
     ensures shown { IfOk result (λ reply. (reply ≡ Reply.Stored) ⊎ (reply ≡ Reply.Already) → HasShown seq member.new) }
     ensures told { OnOk result ((asking : G) × G.heard asking seq gate.new) }
 {

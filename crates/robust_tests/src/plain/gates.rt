@@ -4,16 +4,15 @@ ghost use Rattle.std.specs.Prelude.{◌≡◌};
 ghost use Rattle.std.specs.Thread.{IsSend, IsSync};
 
 use crate::plain::kit::two;
-use one_lock::lab::{LabFault, Spec};
-use one_lock::{Entry, Member};
-use one_lock::run_lab;
-use crash_plans::{CrashPlan, Never};
-use redomail::{Message, Reply};
-use rmecore::Body;
-use crate::support::gated::{Gated, Progress, Until, meeting};
+use crate::support::gated::{Gated, Until, WorkerProgress, meeting};
 use crate::support::messages::{TWO, are_all_sent};
 use crate::support::noting::{ALONE, Noting};
+use crash_plans::{CrashPlan, Never};
 use execution::LockFault;
+use one_lock::lab::{LabFault, Spec};
+use one_lock::{Entry, Member, run_lab};
+use redomail::{Message, Reply};
+use rmecore::Body;
 use std::alloc::{AllocError, Global};
 use std::marker::Brand;
 use std::process::Abort;
@@ -69,8 +68,8 @@ fn waits_for_the_other<R: Abort + Threads + Wait + Sync>(
     spec: Spec,
     p: u64,
 ) -> Result<(), Fail> {
-    let zero = Progress::new(alloc)?;
-    let one = Progress::new(alloc)?;
+    let zero = WorkerProgress::new(alloc)?;
+    let one = WorkerProgress::new(alloc)?;
     let (first, second) = if p == 0 { (1, 0) } else { (0, 1) };
     let mut gates = Vec::new(alloc);
     gates.push(Gated::new(first, Until::Answer(1), &zero, &one)?)?;

@@ -1,10 +1,10 @@
 //! Labs whose workers crash, and those that are refused.
 
+use crate::support::messages::are_all_sent;
+use crash_plans::{Never, Seeded};
 use one_lock::lab::{LabFault, Spec};
 use one_lock::run_lab;
-use crash_plans::{Never, Seeded};
 use redomail::{Message, Reply};
-use crate::support::messages::are_all_sent;
 use std::alloc::Global;
 use std::process::Abort;
 use std::sync::Wait;

@@ -3,11 +3,11 @@
 ghost use Rattle.std.specs.Prelude.{◌≡◌};
 
 use crate::plain::kit::{left_by, own, two};
+use crate::support::counted::{at, never};
+use execution::LockFault;
 use one_lock::{Arena, Entry};
 use redomail::Reply;
 use rmecore::Found;
-use crate::support::counted::{at, never};
-use execution::LockFault;
 use std::alloc::Global;
 use std::marker::Brand;
 use std::process::Abort;

@@ -4,13 +4,13 @@ ghost use Rattle.std.specs.Prelude.{◌≡◌};
 ghost use Rattle.one_lock.specs.Shown.{place_of};
 
 use crate::plain::kit::{left_by, two};
-use one_lock::{Entry, Member};
-use crash_plans::{Both, CrashPlan};
-use redomail::Reply;
 use crate::support::counted::{Counted, at, never};
 use crate::support::cut_off::{answered_after, blocked_after};
 use crate::support::messages::{body, shows};
+use crash_plans::{Both, CrashPlan};
 use execution::LockFault;
+use one_lock::{Entry, Member};
+use redomail::Reply;
 use std::alloc::Global;
 use std::marker::Brand;
 use std::process::Abort;

@@ -28,10 +28,10 @@ impl<P: CrashPlan> CrashPlan for Counted<P> {
 
     ghost fallen = { λ c. P.fallen c.plan };
 
-    ghost calm = { λ c. P.calm c.plan };
+    ghost never_crashes = { λ c. P.never_crashes c.plan };
 
-    fn is_calm(&self) -> bool {
-        self.plan.is_calm()
+    fn is_never_crashes(&self) -> bool {
+        self.plan.is_never_crashes()
     }
 
     fn count_askings(&mut self, askings: u64) {

@@ -1,8 +1,8 @@
 //! A gate that holds its worker at one asking until the other worker has got far enough.
 
+use crash_plans::{CrashPlan, Never};
 use crossbeam_utils::Backoff;
 use one_lock::lab::Gate;
-use crash_plans::{CrashPlan, Never};
 use std::alloc::{AllocError, Global};
 use std::sync::Arc;
 use std::sync::atomic::{AtomicU64, Ordering};
@@ -12,7 +12,7 @@ const MOST_LOOKS: u64 = 10_000_000;
 
 /// How far a worker has got, and whether its gate has given up.
 #[derive(Drop)]
-pub struct Progress {
+pub struct WorkerProgress {
     askings: AtomicU64,
     answer: AtomicU64,
     /// The number of askings when the answer was reported.
@@ -20,10 +20,10 @@ pub struct Progress {
     gave_up: AtomicU64,
 }
 
-impl Progress {
+impl WorkerProgress {
     /// A worker that has not asked yet.
-    pub fn new(alloc: Global) -> Result<Arc<Progress>, AllocError> {
-        let progress = Progress {
+    pub fn new(alloc: Global) -> Result<Arc<WorkerProgress>, AllocError> {
+        let progress = WorkerProgress {
             askings: AtomicU64::new(0),
             answer: AtomicU64::new(0),
             answered_at: AtomicU64::new(0),
@@ -67,16 +67,16 @@ pub struct Gated {
     askings: u64,
     at: u64,
     until: Until,
-    mine: Arc<Progress>,
-    others: Arc<Progress>,
+    mine: Arc<WorkerProgress>,
+    others: Arc<WorkerProgress>,
 }
 
 impl Gated {
     pub fn new(
         at: u64,
         until: Until,
-        mine: &Arc<Progress>,
-        others: &Arc<Progress>,
+        mine: &Arc<WorkerProgress>,
+        others: &Arc<WorkerProgress>,
     ) -> Result<Gated, AllocError> {
         Ok(Gated {
             never: Never::new(),
@@ -134,9 +134,9 @@ impl Gate for Gated {
 pub fn meeting(
     alloc: Global,
     asking: u64,
-) -> Result<(Gated, Gated, Arc<Progress>, Arc<Progress>), AllocError> {
-    let zero = Progress::new(alloc)?;
-    let one = Progress::new(alloc)?;
+) -> Result<(Gated, Gated, Arc<WorkerProgress>, Arc<WorkerProgress>), AllocError> {
+    let zero = WorkerProgress::new(alloc)?;
+    let one = WorkerProgress::new(alloc)?;
     let first = Gated::new(12, Until::Asking(asking), &zero, &one)?;
     let second = Gated::new(1, Until::Asking(12), &one, &zero)?;
     Ok((first, second, zero, one))

@@ -1,7 +1,7 @@
 //! A gate that notes which answers its worker reports, and after which asking.
 
-use one_lock::lab::{Gate, Spec};
 use crash_plans::{Both, CrashPlan};
+use one_lock::lab::{Gate, Spec};
 use std::alloc::{AllocError, Global};
 use std::sync::Arc;
 use std::sync::atomic::{AtomicU64, Ordering};
@@ -21,13 +21,13 @@ const TOLD: [(u64, u64); 3] = [(1, 34), (2, 64), (3, 88)];
 
 /// What a gate has noted: the askings, the answers that came as expected, and whether another answer came.
 #[derive(Drop)]
-pub struct Notes {
+pub struct GateNotes {
     askings: AtomicU64,
     right: AtomicU64,
     wrong: AtomicU64,
 }
 
-impl Notes {
+impl GateNotes {
     /// Each of the three answers was reported once, in order, after its asking, and the worker has not asked since.
     pub fn are_right(&self) -> bool {
         self.right.load(Ordering::SeqCst) == 3
@@ -42,13 +42,13 @@ pub struct Noting {
     plan: Both,
     askings: u64,
     heard: usize,
-    notes: Arc<Notes>,
+    notes: Arc<GateNotes>,
 }
 
 impl Noting {
     /// The gate, and its notes for the test.
-    pub fn new(alloc: Global) -> Result<(Noting, Arc<Notes>), AllocError> {
-        let notes = Notes {
+    pub fn new(alloc: Global) -> Result<(Noting, Arc<GateNotes>), AllocError> {
+        let notes = GateNotes {
             askings: AtomicU64::new(0),
             right: AtomicU64::new(0),
             wrong: AtomicU64::new(0),

@@ -1,11 +1,11 @@
 //! A plan is asked right before each step: what another member finds at an asking.
 
 use super::kit::two;
+use crate::support::counted::never;
+use crate::support::messages::body;
 use crash_plans::{At, CrashPlan, Never};
 use redomail::Reply;
 use robust::{Entry, LockFault, Member};
-use crate::support::counted::never;
-use crate::support::messages::body;
 use std::alloc::Global;
 use std::process::Abort;
 

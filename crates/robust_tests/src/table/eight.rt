@@ -8,10 +8,9 @@ ghost use Rattle.execution.specs.Gathering.{OneArena};
 ghost use Rattle.robust.specs.Making.{fresh_members};
 ghost use Rattle.robust.specs.Working.{seat_of, seats_of};
 
-use rmeworld::start_of;
 use crash_plans::{CrashPlan, Seeded};
 use redomail::Layout;
-use rmeworld::Image;
+use rmeworld::{Image, start_of};
 use robust::{Arena, Entry, LockFault, Member, gather};
 use std::alloc::{AllocError, Global};
 use std::process::Abort;

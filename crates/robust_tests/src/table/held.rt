@@ -1,12 +1,12 @@
 //! Two members on two threads, at the same time.
 
 use super::kit::two;
+use crate::support::gated::{Gated, meeting};
+use crate::support::messages::body;
 use crash_plans::Never;
 use redomail::Reply;
 use rmecore::Body;
 use robust::{Entry, LockFault, Member};
-use crate::support::gated::{Gated, meeting};
-use crate::support::messages::body;
 use std::sync::Wait;
 use std::test::Fail;
 use std::thread;

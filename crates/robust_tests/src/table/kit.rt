@@ -2,8 +2,7 @@
 
 ghost use Rattle.std.specs.Prelude.{◌≡◌};
 
-use rmeworld::start_of;
-use rmeworld::Image;
+use rmeworld::{Image, start_of};
 use robust::{Arena, Member, gather};
 use std::alloc::Global;
 use std::process::Abort;

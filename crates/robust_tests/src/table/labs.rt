@@ -1,11 +1,11 @@
 //! The lab over the running lock, and workers that meet: each waits at an asking until the other has got far enough.
 
+use crate::support::gated::{Gated, Until, WorkerProgress, meeting};
+use crate::support::messages::{TWO, are, are_all_sent};
+use crate::support::noting::{ALONE, Noting};
 use crash_plans::{Never, Seeded};
 use redomail::{Message, Reply};
 use robust::{LabFault, LockFault, Spec, run_lab};
-use crate::support::gated::{Gated, Progress, Until, meeting};
-use crate::support::messages::{TWO, are, are_all_sent};
-use crate::support::noting::{ALONE, Noting};
 use std::alloc::Global;
 use std::process::Abort;
 use std::sync::Wait;
@@ -48,8 +48,8 @@ fn waits_for_the_other<R: Abort + Threads + Wait + Sync>(
     spec: Spec,
     p: u64,
 ) -> Result<(), Fail> {
-    let zero = Progress::new(alloc)?;
-    let one = Progress::new(alloc)?;
+    let zero = WorkerProgress::new(alloc)?;
+    let one = WorkerProgress::new(alloc)?;
     let (first, second) = if p == 0 { (1, 0) } else { (0, 1) };
     let mut gates = Vec::new(alloc);
     gates.push(Gated::new(first, Until::Answer(1), &zero, &one)?)?;

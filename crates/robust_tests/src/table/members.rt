@@ -1,11 +1,11 @@
 //! The worked rows over members that need no threads.
 
 use super::kit::{gathered, two, words};
+use crate::support::counted::{Counted, at, never, stepwise};
 use crash_plans::CrashPlan;
 use redomail::Reply;
 use rmecore::Found;
 use robust::{Arena, Entry, LockFault};
-use crate::support::counted::{Counted, at, never, stepwise};
 use std::alloc::Global;
 use std::process::Abort;
 use std::test::Fail;

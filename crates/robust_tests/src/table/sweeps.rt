@@ -4,12 +4,12 @@ ghost use Rattle.std.specs.Prelude.{◌≡◌};
 ghost use Rattle.robust.specs.Working.{seat_of};
 
 use super::kit::{gathered, two};
-use crash_plans::{Both, CrashPlan};
-use redomail::Reply;
-use robust::{Entry, LockFault, Member};
 use crate::support::counted::{Counted, at, never, stepwise};
 use crate::support::cut_off::{answered_after, blocked_after};
 use crate::support::messages::{are, body, shows};
+use crash_plans::{Both, CrashPlan};
+use redomail::Reply;
+use robust::{Entry, LockFault, Member};
 use std::alloc::Global;
 use std::process::Abort;
 use std::test::Fail;

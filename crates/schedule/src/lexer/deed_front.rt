@@ -99,7 +99,8 @@ fn short_deed(word: DeedWord, p: u64) -> Option<Deed>
 #[inline(always)]
 fn commit(width: u64, p: u64, text: &[u8]) -> Option<(Deed, &[u8])>
     requires { (1 ≤ width) × (width ≤ 8) }
-    ensures { IfSome result (λ read. (line_of (words_of_deed read.0) ++ read.1.now ≡ word_of names.Commit ++ 32 ∷ (decimal p ++ text.now)) × IsDeed width read.0) }
+    ensures { IfSome result (λ read. (line_of (words_of_deed read.0) ++ read.1.now
+        ≡ word_of names.Commit ++ 32 ∷ (decimal p ++ text.now)) × IsDeed width read.0) }
 {
     let message = behind_space(text)?;
     let (seq, body) = number(message)?;
@@ -115,7 +116,8 @@ fn commit(width: u64, p: u64, text: &[u8]) -> Option<(Deed, &[u8])>
 #[inline(always)]
 fn show(width: u64, p: u64, text: &[u8]) -> Option<(Deed, &[u8])>
     requires { (1 ≤ width) × (width ≤ 8) }
-    ensures { IfSome result (λ read. (line_of (words_of_deed read.0) ++ read.1.now ≡ word_of names.Show ++ 32 ∷ (decimal p ++ text.now)) × IsDeed width read.0) }
+    ensures { IfSome result (λ read. (line_of (words_of_deed read.0) ++ read.1.now
+        ≡ word_of names.Show ++ 32 ∷ (decimal p ++ text.now)) × IsDeed width read.0) }
 {
     let place = behind_space(text)?;
     let (at, more) = number(place)?;

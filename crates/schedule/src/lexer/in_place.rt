@@ -12,9 +12,9 @@ ghost use Rattle.schedule.specs.Schedules.{schedule_at, scheduled_with};
 use crate::lexer::front::steps;
 use crate::lexer::line_front::first_line;
 use crate::lines::cut::cut_once;
-use crate::lines::reading::read_line;
-use crate::lines::line::Line;
 use crate::lines::fault::LineFault;
+use crate::lines::line::Line;
+use crate::lines::reading::read_line;
 use crate::texts::fault::TextFault;
 use crate::texts::head::Head;
 use crate::texts::whole::Heading;
@@ -108,7 +108,9 @@ fn check_lines(width: u64, first: u64, text: &[u8]) -> Result<(), TextFault>
 /// Checks a whole text of a schedule. Answers its header, and the text after the header.
 fn read(text: &[u8]) -> Result<(Head, &[u8]), TextFault>
     requires room { length text.now + 2 < 2 ^ 64 }
-    ensures lines { IfOk result (λ read. (lines : List LineOf) × (items_at (line_at read.0.width) 2 (parts_of read.1.now) ≡ Ok lines) × (schedule_at text.now ≡ Ok (scheduled_with (read.0, lines)))) }
+    ensures lines { IfOk result (λ read. (lines : List LineOf)
+        × (items_at (line_at read.0.width) 2 (parts_of read.1.now) ≡ Ok lines)
+        × (schedule_at text.now ≡ Ok (scheduled_with (read.0, lines)))) }
     ensures width { IfOk result (λ read. (1 ≤ read.0.width) × (read.0.width ≤ 8)) }
     ensures room { IfOk result (λ read. length read.1.now + 2 < 2 ^ 64) }
     ensures shorter { IfOk result (λ read. length read.1.now ≤ length text.now) }
@@ -139,7 +141,9 @@ fn read(text: &[u8]) -> Result<(Head, &[u8]), TextFault>
 /// As `read`, with the place of the first byte after the header.
 fn read_to(text: &[u8]) -> Result<(Head, usize), TextFault>
     requires room { length text.now + 2 < 2 ^ 64 }
-    ensures lines { IfOk result (λ read. (lines : List LineOf) × (items_at (line_at read.0.width) 2 (parts_of (drop read.1 text.now)) ≡ Ok lines) × (schedule_at text.now ≡ Ok (scheduled_with (read.0, lines)))) }
+    ensures lines { IfOk result (λ read. (lines : List LineOf)
+        × (items_at (line_at read.0.width) 2 (parts_of (drop read.1 text.now)) ≡ Ok lines)
+        × (schedule_at text.now ≡ Ok (scheduled_with (read.0, lines)))) }
     ensures width { IfOk result (λ read. (1 ≤ read.0.width) × (read.0.width ≤ 8)) }
     ensures within { IfOk result (λ read. read.1 ≤ length text.now) }
     ensures fault { IfErr result (λ fault. Fails fault (schedule_at text.now)) }
@@ -153,7 +157,9 @@ fn read_to(text: &[u8]) -> Result<(Head, usize), TextFault>
 /// As `read_to`, for a text that is owned.
 pub fn read_whole(text: &Vec<u8>) -> Result<(Head, usize), TextFault>
     requires room { length text.now.items + 2 < 2 ^ 64 }
-    ensures lines { IfOk result (λ read. (lines : List LineOf) × (items_at (line_at read.0.width) 2 (parts_of (drop read.1 text.now.items)) ≡ Ok lines) × (schedule_at text.now.items ≡ Ok (scheduled_with (read.0, lines)))) }
+    ensures lines { IfOk result (λ read. (lines : List LineOf)
+        × (items_at (line_at read.0.width) 2 (parts_of (drop read.1 text.now.items)) ≡ Ok lines)
+        × (schedule_at text.now.items ≡ Ok (scheduled_with (read.0, lines)))) }
     ensures width { IfOk result (λ read. (1 ≤ read.0.width) × (read.0.width ≤ 8)) }
     ensures within { IfOk result (λ read. read.1 ≤ length text.now.items) }
     ensures fault { IfErr result (λ fault. Fails fault (schedule_at text.now.items)) }

@@ -2,20 +2,20 @@
 
 ghost use Rattle.std.specs.Prelude.{◌≡◌, ℕ, ◌≤◌, ◌++◌, ◌∷◌, [], IfSome};
 ghost use Rattle.std.specs.Fmt.{decimal};
-ghost use Rattle.schedule.specs.declared.lines.command.Command.TheVariants as commands;
+ghost use Rattle.schedule.specs.declared.lines.command.Keyword.TheVariants as commands;
 ghost use Rattle.schedule.specs.Words.{line_of};
 ghost use Rattle.schedule.specs.Commands.{word_of, words_of_line, line_at, IsLine};
 ghost use Rattle.schedule.specs.Fronts.{Begins};
 
 use crate::lexer::front::{behind_end, behind_space, number, numbers, value};
+use crate::lines::command::Keyword;
 use crate::lines::line::Line;
-use crate::lines::command::Command;
 use rmeworld::Call;
 
 /// The first word of a line, and the text after the space that follows it.
 // Inline: one call a line.
 #[inline(always)]
-fn word(text: &[u8]) -> Option<(Command, &[u8])>
+fn word(text: &[u8]) -> Option<(Keyword, &[u8])>
     ensures { IfSome result (λ read. text.now ≡ word_of read.0 ++ 32 ∷ read.1.now) }
 {
     match lock_word(text) {
@@ -30,15 +30,15 @@ fn word(text: &[u8]) -> Option<(Command, &[u8])>
 /// As `word`, for the calls of the lock, and for `crash`.
 // Inline: one call a line.
 #[inline(always)]
-fn lock_word(text: &[u8]) -> Option<(Command, &[u8])>
+fn lock_word(text: &[u8]) -> Option<(Keyword, &[u8])>
     ensures { IfSome result (λ read. text.now ≡ word_of read.0 ++ 32 ∷ read.1.now) }
 {
     match text {
-        [b'l', b'o', b'c', b'k', b' ', rest @ ..] => Some((Command::Lock, rest)),
-        [b'u', b'n', b'l', b'o', b'c', b'k', b' ', rest @ ..] => Some((Command::Unlock, rest)),
-        [b'c', b'r', b'a', b's', b'h', b' ', rest @ ..] => Some((Command::Crash, rest)),
+        [b'l', b'o', b'c', b'k', b' ', rest @ ..] => Some((Keyword::Lock, rest)),
+        [b'u', b'n', b'l', b'o', b'c', b'k', b' ', rest @ ..] => Some((Keyword::Unlock, rest)),
+        [b'c', b'r', b'a', b's', b'h', b' ', rest @ ..] => Some((Keyword::Crash, rest)),
         [b'r', b'e', b'c', b'o', b'v', b'e', b'r', b' ', rest @ ..] => Some((
-            Command::Recover,
+            Keyword::Recover,
             rest,
         )),
         [
@@ -52,7 +52,7 @@ fn lock_word(text: &[u8]) -> Option<(Command, &[u8])>
             b'w',
             b' ',
             rest @ ..,
-        ] => Some((Command::Withdraw, rest)),
+        ] => Some((Keyword::Withdraw, rest)),
         _ => None,
     }
 }
@@ -60,11 +60,11 @@ fn lock_word(text: &[u8]) -> Option<(Command, &[u8])>
 /// As `word`, for `append`, `consistent` and `close`.
 // Inline: one call a line.
 #[inline(always)]
-fn mail_word(text: &[u8]) -> Option<(Command, &[u8])>
+fn mail_word(text: &[u8]) -> Option<(Keyword, &[u8])>
     ensures { IfSome result (λ read. text.now ≡ word_of read.0 ++ 32 ∷ read.1.now) }
 {
     match text {
-        [b'a', b'p', b'p', b'e', b'n', b'd', b' ', rest @ ..] => Some((Command::Append, rest)),
+        [b'a', b'p', b'p', b'e', b'n', b'd', b' ', rest @ ..] => Some((Keyword::Append, rest)),
         [
             b'c',
             b'o',
@@ -78,8 +78,8 @@ fn mail_word(text: &[u8]) -> Option<(Command, &[u8])>
             b't',
             b' ',
             rest @ ..,
-        ] => Some((Command::Consistent, rest)),
-        [b'c', b'l', b'o', b's', b'e', b' ', rest @ ..] => Some((Command::Close, rest)),
+        ] => Some((Keyword::Consistent, rest)),
+        [b'c', b'l', b'o', b's', b'e', b' ', rest @ ..] => Some((Keyword::Close, rest)),
         _ => None,
     }
 }
@@ -87,12 +87,12 @@ fn mail_word(text: &[u8]) -> Option<(Command, &[u8])>
 /// As `word`, for the calls on board words.
 // Inline: one call a line.
 #[inline(always)]
-fn board_word(text: &[u8]) -> Option<(Command, &[u8])>
+fn board_word(text: &[u8]) -> Option<(Keyword, &[u8])>
     ensures { IfSome result (λ read. text.now ≡ word_of read.0 ++ 32 ∷ read.1.now) }
 {
     match text {
-        [b'g', b'e', b't', b' ', rest @ ..] => Some((Command::Get, rest)),
-        [b'p', b'u', b't', b' ', rest @ ..] => Some((Command::Put, rest)),
+        [b'g', b'e', b't', b' ', rest @ ..] => Some((Keyword::Get, rest)),
+        [b'p', b'u', b't', b' ', rest @ ..] => Some((Keyword::Put, rest)),
         _ => None,
     }
 }
@@ -100,18 +100,18 @@ fn board_word(text: &[u8]) -> Option<(Command, &[u8])>
 /// The line of a command that takes one number, its process. None for the other commands.
 // Inline: one call a line.
 #[inline(always)]
-fn short_line(command: Command, p: u64) -> Option<Line>
+fn short_line(command: Keyword, p: u64) -> Option<Line>
     ensures { IfSome result (λ line. (words_of_line line ≡ word_of command ∷ decimal p ∷ []) × ((width : ℕ) → IsLine width line)) }
 {
     match command {
-        Command::Lock => Some(Line::Start(p, Call::Lock)),
-        Command::Unlock => Some(Line::Start(p, Call::Unlock)),
-        Command::Consistent => Some(Line::Start(p, Call::Consistent)),
-        Command::Recover => Some(Line::Start(p, Call::Recover)),
-        Command::Close => Some(Line::Start(p, Call::Close)),
-        Command::Withdraw => Some(Line::Start(p, Call::Withdraw)),
-        Command::Crash => Some(Line::Crash(p)),
-        Command::Append | Command::Put | Command::Get | Command::Step => None,
+        Keyword::Lock => Some(Line::Start(p, Call::Lock)),
+        Keyword::Unlock => Some(Line::Start(p, Call::Unlock)),
+        Keyword::Consistent => Some(Line::Start(p, Call::Consistent)),
+        Keyword::Recover => Some(Line::Start(p, Call::Recover)),
+        Keyword::Close => Some(Line::Start(p, Call::Close)),
+        Keyword::Withdraw => Some(Line::Start(p, Call::Withdraw)),
+        Keyword::Crash => Some(Line::Crash(p)),
+        Keyword::Append | Keyword::Put | Keyword::Get | Keyword::Step => None,
     }
 }
 
@@ -120,7 +120,8 @@ fn short_line(command: Command, p: u64) -> Option<Line>
 #[inline(always)]
 fn append(width: u64, p: u64, text: &[u8]) -> Option<(Line, &[u8])>
     requires { (1 ≤ width) × (width ≤ 8) }
-    ensures { IfSome result (λ read. (line_of (words_of_line read.0) ++ read.1.now ≡ word_of commands.Append ++ 32 ∷ (decimal p ++ text.now)) × IsLine width read.0) }
+    ensures { IfSome result (λ read. (line_of (words_of_line read.0) ++ read.1.now
+        ≡ word_of commands.Append ++ 32 ∷ (decimal p ++ text.now)) × IsLine width read.0) }
 {
     let message = behind_space(text)?;
     let (seq, body) = number(message)?;
@@ -135,7 +136,8 @@ fn append(width: u64, p: u64, text: &[u8]) -> Option<(Line, &[u8])>
 // Inline: one call a line.
 #[inline(always)]
 fn get(p: u64, text: &[u8]) -> Option<(Line, &[u8])>
-    ensures { IfSome result (λ read. (line_of (words_of_line read.0) ++ read.1.now ≡ word_of commands.Get ++ 32 ∷ (decimal p ++ text.now)) × ((width : ℕ) → IsLine width read.0)) }
+    ensures { IfSome result (λ read. (line_of (words_of_line read.0) ++ read.1.now
+        ≡ word_of commands.Get ++ 32 ∷ (decimal p ++ text.now)) × ((width : ℕ) → IsLine width read.0)) }
 {
     let place = behind_space(text)?;
     let (i, end) = number(place)?;
@@ -147,7 +149,8 @@ fn get(p: u64, text: &[u8]) -> Option<(Line, &[u8])>
 // Inline: one call a line.
 #[inline(always)]
 fn put(p: u64, text: &[u8]) -> Option<(Line, &[u8])>
-    ensures { IfSome result (λ read. (line_of (words_of_line read.0) ++ read.1.now ≡ word_of commands.Put ++ 32 ∷ (decimal p ++ text.now)) × ((width : ℕ) → IsLine width read.0)) }
+    ensures { IfSome result (λ read. (line_of (words_of_line read.0) ++ read.1.now
+        ≡ word_of commands.Put ++ 32 ∷ (decimal p ++ text.now)) × ((width : ℕ) → IsLine width read.0)) }
 {
     let place = behind_space(text)?;
     let (i, more) = number(place)?;
@@ -168,19 +171,19 @@ pub fn first_line(width: u64, text: &[u8]) -> Option<(Line, &[u8])>
     let (command, behind) = word(text)?;
     let (p, rest) = number(behind)?;
     match command {
-        Command::Append => {
+        Keyword::Append => {
             let Some((line, after)) = append(width, p, rest) else {
                 return None;
             };
             Some((line, after))
         }
-        Command::Get => {
+        Keyword::Get => {
             let Some((line, after)) = get(p, rest) else {
                 return None;
             };
             Some((line, after))
         }
-        Command::Put => {
+        Keyword::Put => {
             let Some((line, after)) = put(p, rest) else {
                 return None;
             };

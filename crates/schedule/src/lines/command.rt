@@ -6,7 +6,7 @@ ghost use Rattle.schedule.specs.Commands.{commands_by_name};
 
 /// The first word of a line: a call that a process starts, or `step`, or `crash`.
 #[derive(Clone, Copy)]
-pub enum Command {
+pub enum Keyword {
     Lock,
     Unlock,
     Consistent,
@@ -21,31 +21,31 @@ pub enum Command {
 }
 
 /// The command that a word names.
-pub fn command_at(word: &[u8]) -> Option<Command>
+pub fn command_at(word: &[u8]) -> Option<Keyword>
     ensures { result ≡ named commands_by_name word.now }
 {
     if word == b"lock".as_slice() {
-        Some(Command::Lock)
+        Some(Keyword::Lock)
     } else if word == b"unlock".as_slice() {
-        Some(Command::Unlock)
+        Some(Keyword::Unlock)
     } else if word == b"consistent".as_slice() {
-        Some(Command::Consistent)
+        Some(Keyword::Consistent)
     } else if word == b"recover".as_slice() {
-        Some(Command::Recover)
+        Some(Keyword::Recover)
     } else if word == b"append".as_slice() {
-        Some(Command::Append)
+        Some(Keyword::Append)
     } else if word == b"close".as_slice() {
-        Some(Command::Close)
+        Some(Keyword::Close)
     } else if word == b"put".as_slice() {
-        Some(Command::Put)
+        Some(Keyword::Put)
     } else if word == b"get".as_slice() {
-        Some(Command::Get)
+        Some(Keyword::Get)
     } else if word == b"withdraw".as_slice() {
-        Some(Command::Withdraw)
+        Some(Keyword::Withdraw)
     } else if word == b"step".as_slice() {
-        Some(Command::Step)
+        Some(Keyword::Step)
     } else if word == b"crash".as_slice() {
-        Some(Command::Crash)
+        Some(Keyword::Crash)
     } else {
         None
     }

@@ -4,7 +4,7 @@ ghost use Rattle.std.specs.Prelude.{◌≡◌, ◌≤◌, drop, IsTrue};
 ghost use Rattle.schedule.specs.Words.{Reads, words_of, item_after};
 ghost use Rattle.schedule.specs.Commands.{places, line_with, line_at, call_fits, fits, IsCall, IsLine};
 
-use crate::lines::command::{Command, command_at};
+use crate::lines::command::{Keyword, command_at};
 use crate::lines::count::Count;
 use crate::lines::fault::LineFault;
 use crate::lines::item::Item;
@@ -14,27 +14,27 @@ use crate::lines::words::Words;
 use rmeworld::Call;
 
 #[tactic(auto, unfolding(crate::specs::Words::item_after))]
-fn line_after(width: u64, command: Command, words: &mut Words) -> Result<Line, LineFault>
+fn line_after(width: u64, command: Keyword, words: &mut Words) -> Result<Line, LineFault>
     requires { (1 ≤ width) × (width ≤ 8) }
     ensures { Reads (λ line. line) result (item_after (places width) line_with command words.old) }
 {
     let p = words.number()?;
     let line = match command {
-        Command::Lock => Line::Start(p, Call::Lock),
-        Command::Unlock => Line::Start(p, Call::Unlock),
-        Command::Consistent => Line::Start(p, Call::Consistent),
-        Command::Recover => Line::Start(p, Call::Recover),
-        Command::Append => {
+        Keyword::Lock => Line::Start(p, Call::Lock),
+        Keyword::Unlock => Line::Start(p, Call::Unlock),
+        Keyword::Consistent => Line::Start(p, Call::Consistent),
+        Keyword::Recover => Line::Start(p, Call::Recover),
+        Keyword::Append => {
             let seq = words.number()?;
             let value = words.body(width)?;
             Line::Start(p, Call::Append { seq, value })
         }
-        Command::Close => Line::Start(p, Call::Close),
-        Command::Put => Line::Start(p, Call::Put(words.number()?, words.number()?)),
-        Command::Get => Line::Start(p, Call::Get(words.number()?)),
-        Command::Withdraw => Line::Start(p, Call::Withdraw),
-        Command::Step => Line::Step(p, words.count()?),
-        Command::Crash => Line::Crash(p),
+        Keyword::Close => Line::Start(p, Call::Close),
+        Keyword::Put => Line::Start(p, Call::Put(words.number()?, words.number()?)),
+        Keyword::Get => Line::Start(p, Call::Get(words.number()?)),
+        Keyword::Withdraw => Line::Start(p, Call::Withdraw),
+        Keyword::Step => Line::Step(p, words.count()?),
+        Keyword::Crash => Line::Crash(p),
     };
     words.end()?;
     Ok(line)

@@ -142,7 +142,8 @@ impl<'a> Words<'a> {
 
     /// The width at the end of a header: from 2 to 8 where it is wide, else 1, without a word.
     pub fn width(&mut self, wide: bool) -> Result<u64, LineFault>
-        ensures width { Reads (λ width. (if wide then width ∷ [] else [])) result (numbers_at (if wide then Number 2 8 ∷ [] else []) self.old) }
+        ensures width { Reads (λ width. (if wide then width ∷ [] else [])) result
+            (numbers_at (if wide then Number 2 8 ∷ [] else []) self.old) }
         ensures range { IfOk result (λ width. (1 ≤ width) × (width ≤ 8)) }
         ensures narrow { IfOk result (λ width. wide ≡ false → width ≡ 1) }
     {

@@ -66,7 +66,8 @@ pub fn put_message(
     seq: u64,
     value: &Body,
 ) -> Result<(), AllocError>
-    ensures { OnOk result (out.new.items ≡ out.old.items ++ join_with_byte 32 (name.now ∷ decimal p ∷ decimal seq ∷ map decimal value.now)) }
+    ensures { OnOk result (out.new.items ≡ out.old.items
+        ++ join_with_byte 32 (name.now ∷ decimal p ∷ decimal seq ∷ map decimal value.now)) }
 {
     put_start(out, name, p)?;
     put_number(out, seq)?;
@@ -84,7 +85,8 @@ pub fn put_placed(
     seq: u64,
     value: &Body,
 ) -> Result<(), AllocError>
-    ensures { OnOk result (out.new.items ≡ out.old.items ++ join_with_byte 32 (name.now ∷ decimal first ∷ decimal second ∷ decimal seq ∷ map decimal value.now)) }
+    ensures { OnOk result (out.new.items ≡ out.old.items
+        ++ join_with_byte 32 (name.now ∷ decimal first ∷ decimal second ∷ decimal seq ∷ map decimal value.now)) }
 {
     put_start(out, name, first)?;
     put_number(out, second)?;

@@ -17,23 +17,33 @@ ghost use Rattle.schedule.specs.declared.replays.verdict.Verdict.TheVariants.{Fi
 ghost use Rattle.schedule.specs.Tapes.{Tape};
 ghost use Rattle.schedule.specs.Replays.{Replays};
 ghost use Rattle.schedule.specs.Runs.{deeds_of, run_on};
-ghost use Rattle.schedule.specs.Stories.{IsStory};
+ghost use Rattle.schedule.specs.Executions.{IsExecution};
 ghost use Rattle.schedule.specs.Verdicts.{verdict_on};
 
 /// The run of a schedule on a world is an execution of the model, also where a line is refused or memory runs out.
 /// From a new world, or from that of a lawful image, some execution has just the deeds and answers of the run, in its order,
 /// and ends with just the words that the run leaves. A replay reports just this run.
-pub fn runs_are_stories()
-    ensures new { (l : LayoutOf) (limit : ℕ) (lines : List LineOf) → new_refusal l limit ≡ None → IsStory l limit None (run_on world_behaviour 2 (new_world l limit) lines) }
-    ensures later { (i : ImageOf) (lines : List LineOf) → IsLawfulImage i → IsStory (layout_of i) i.limit (Some i) (run_on world_behaviour 2 (image_world i) lines) }
+pub fn runs_are_executions()
+    ensures new { (l : LayoutOf) (limit : ℕ) (lines : List LineOf) → new_refusal l limit ≡ None
+        → IsExecution l limit None (run_on world_behaviour 2 (new_world l limit) lines) }
+    ensures later { (i : ImageOf) (lines : List LineOf) → IsLawfulImage i
+        → IsExecution (layout_of i) i.limit (Some i) (run_on world_behaviour 2 (image_world i) lines) }
 {}
 
 /// The lock theorem for replays: whatever lines are played on a new world, a new judge of its processes and its capacity
 /// allows each deed. So does a judge made from the start of an image, on the world of that image.
 /// `replayed` and `replayed_later` say it of what `replay_on` answers there.
 pub fn worlds_are_never_found_out()
-    ensures new { (l : LayoutOf) (limit : ℕ) (lines : List LineOf) → new_refusal l limit ≡ None → verdict_on (empty l.procs l.cap) (deeds_of (run_on world_behaviour 2 (new_world l limit) lines).told) ≡ Fine }
-    ensures later { (i : ImageOf) (s : StartOf) (lines : List LineOf) → IsLawfulImage i → IsStartOf i s → verdict_on (state_of s) (deeds_of (run_on world_behaviour 2 (image_world i) lines).told) ≡ Fine }
-    ensures replayed { (l : LayoutOf) (limit : ℕ) (lines : List LineOf) (before now : Tape) (answer : Result VerdictOf ReplayFaultOf) → new_refusal l limit ≡ None → Replays before now (empty l.procs l.cap) image_of (run_on world_behaviour 2 (new_world l limit) lines) answer → IfOk answer (λ verdict. verdict ≡ Fine) }
-    ensures replayed_later { (i : ImageOf) (s : StartOf) (lines : List LineOf) (before now : Tape) (answer : Result VerdictOf ReplayFaultOf) → IsLawfulImage i → IsStartOf i s → Replays before now (state_of s) image_of (run_on world_behaviour 2 (image_world i) lines) answer → IfOk answer (λ verdict. verdict ≡ Fine) }
+    ensures new { (l : LayoutOf) (limit : ℕ) (lines : List LineOf) → new_refusal l limit ≡ None
+        → verdict_on (empty l.procs l.cap) (deeds_of (run_on world_behaviour 2 (new_world l limit) lines).told) ≡ Fine }
+    ensures later { (i : ImageOf) (s : StartOf) (lines : List LineOf) → IsLawfulImage i → IsStartOf i s
+        → verdict_on (state_of s) (deeds_of (run_on world_behaviour 2 (image_world i) lines).told) ≡ Fine }
+    ensures replayed { (l : LayoutOf) (limit : ℕ) (lines : List LineOf) (before now : Tape)
+        (answer : Result VerdictOf ReplayFaultOf) → new_refusal l limit ≡ None
+        → Replays before now (empty l.procs l.cap) image_of (run_on world_behaviour 2 (new_world l limit) lines) answer
+        → IfOk answer (λ verdict. verdict ≡ Fine) }
+    ensures replayed_later { (i : ImageOf) (s : StartOf) (lines : List LineOf) (before now : Tape)
+        (answer : Result VerdictOf ReplayFaultOf) → IsLawfulImage i → IsStartOf i s
+        → Replays before now (state_of s) image_of (run_on world_behaviour 2 (image_world i) lines) answer
+        → IfOk answer (λ verdict. verdict ≡ Fine) }
 {}

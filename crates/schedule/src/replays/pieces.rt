@@ -3,8 +3,8 @@
 ghost use Rattle.std.specs.Prelude.{◌≡◌, ℕ, ◌+◌, ◌-◌, ◌^◌, ◌⊎◌, List, [], ◌∷◌, ◌++◌, OnOk, IfOk, IfErr, true, min, length, ◌≤◌};
 ghost use Rattle.schedule.specs.Words.{parts_of};
 
-use crate::replays::replay_fault::ReplayFault;
 use crate::lines::cut::cut_once;
+use crate::replays::replay_fault::ReplayFault;
 use crate::texts::device::{Failed, Source};
 use std::alloc::{AllocError, Global};
 
@@ -20,7 +20,8 @@ pub trait TakeLine {
     /// Takes lines from the front of a text that begins with a line. It may take none.
     /// Answers the text after the lines that it took.
     fn take_front<'a>(&mut self, text: &'a [u8]) -> &'a [u8]
-        ensures taken { (lines : List (List ℕ)) → after self.old lines → (more : List (List ℕ)) × (parts_of text.now ≡ more ++ parts_of result.now) × after self.new (lines ++ more) }
+        ensures taken { (lines : List (List ℕ)) → after self.old lines
+            → (more : List (List ℕ)) × (parts_of text.now ≡ more ++ parts_of result.now) × after self.new (lines ++ more) }
         ensures shorter { length result.now ≤ length text.now };
 }
 
@@ -28,7 +29,8 @@ pub trait TakeLine {
 /// Where the buffer is empty, nothing is copied.
 fn hand_on<T: TakeLine>(buffer: &mut Vec<u8>, taker: &mut T, end: &[u8]) -> Result<(), AllocError>
     ensures cleared { OnOk result (buffer.new.items ≡ []) }
-    ensures taken { (lines : List (List ℕ)) → T.after taker.old lines → OnOk result (T.after taker.new (lines ++ (buffer.old.items ++ end.now) ∷ [])) }
+    ensures taken { (lines : List (List ℕ)) → T.after taker.old lines
+        → OnOk result (T.after taker.new (lines ++ (buffer.old.items ++ end.now) ∷ [])) }
 {
     if buffer.is_empty() {
         taker.take_line(end)?;
@@ -66,12 +68,14 @@ pub fn take_lines<S: Source, T: TakeLine>(
     source: &mut S,
     taker: &mut T,
 ) -> Result<Vec<u8>, ReplayFault>
-    ensures taken { (lines : List (List ℕ)) → T.after taker.old lines → IfOk result (λ rest. (text : List ℕ) × ((S.reading source.new).given ≡ (S.reading source.old).given ++ text)
+    ensures taken { (lines : List (List ℕ)) → T.after taker.old lines
+        → IfOk result (λ rest. (text : List ℕ) × ((S.reading source.new).given ≡ (S.reading source.old).given ++ text)
         × ((more : List (List ℕ)) × (parts_of text ≡ more ++ rest.items ∷ []) × T.after taker.new (lines ++ more))) }
     ensures ended { OnOk result ((S.reading source.new).ended ≡ true) }
     ensures finite { OnOk result (length (S.reading source.new).given ≤ 2 ^ 63) }
     ensures fine { OnOk result ((S.reading source.new).failures ≡ (S.reading source.old).failures) }
-    ensures fault { IfErr result (λ fault. (fault ≡ ReplayFault.Read) × ((S.reading source.new).failures ≡ min ((S.reading source.old).failures + 1) (2 ^ 64 - 1))
+    ensures fault { IfErr result (λ fault. (fault ≡ ReplayFault.Read)
+        × ((S.reading source.new).failures ≡ min ((S.reading source.old).failures + 1) (2 ^ 64 - 1))
         ⊎ (fault ≡ ReplayFault.OutOfMemory) × ((S.reading source.new).failures ≡ (S.reading source.old).failures)) }
 {
     let mut buffer = Vec::with_capacity(alloc, LINE_ROOM)?;
@@ -91,7 +95,8 @@ pub fn read_all<S: Source>(alloc: Global, source: &mut S) -> Result<Vec<u8>, Rep
     ensures given { IfOk result (λ text. (S.reading source.new).given ≡ (S.reading source.old).given ++ text.items) }
     ensures ended { OnOk result ((S.reading source.new).ended ≡ true) }
     ensures fine { OnOk result ((S.reading source.new).failures ≡ (S.reading source.old).failures) }
-    ensures fault { IfErr result (λ fault. (fault ≡ ReplayFault.Read) × ((S.reading source.new).failures ≡ min ((S.reading source.old).failures + 1) (2 ^ 64 - 1))
+    ensures fault { IfErr result (λ fault. (fault ≡ ReplayFault.Read)
+        × ((S.reading source.new).failures ≡ min ((S.reading source.old).failures + 1) (2 ^ 64 - 1))
         ⊎ (fault ≡ ReplayFault.OutOfMemory) × ((S.reading source.new).failures ≡ (S.reading source.old).failures)) }
 {
     let mut text = Vec::new(alloc);

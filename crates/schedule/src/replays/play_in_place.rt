@@ -6,19 +6,19 @@ ghost use Rattle.schedule.specs.Commands.{line_at};
 ghost use Rattle.schedule.specs.Texts.{items_at};
 ghost use Rattle.schedule.specs.Fronts.{IsRead, Begins};
 ghost use Rattle.schedule.specs.Words.{parts_of};
-ghost use Rattle.schedule.specs.Hearings.{bench};
+ghost use Rattle.schedule.specs.RunningVerdicts.{running_judge};
 ghost use Rattle.schedule.specs.Plays.{Plays, Runs};
 ghost use Rattle.schedule.specs.Runs.{line_on, run_on};
 
-use crate::replays::clerk::Clerk;
-use crate::replays::halt::Halt;
-use crate::replays::play::{play_line, take_steps};
-use crate::replays::replay_fault::ReplayFault;
 use crate::lexer::front::steps;
 use crate::lexer::in_place::next_line;
+use crate::replays::play::{play_line, take_steps};
+use crate::replays::replay_fault::ReplayFault;
+use crate::replays::replay_stop::ReplayStop;
+use crate::replays::reporter::Reporter;
+use crate::texts::device::Sink;
 use judge::Judge;
 use rmeworld::Machine;
-use crate::texts::device::Sink;
 
 /// Plays the first line of a text that was checked. Answers the text after it.
 // Apart: most lines are steps.
@@ -26,21 +26,27 @@ use crate::texts::device::Sink;
 fn play_next<'a, M: Machine, W: Sink>(
     machine: &mut M,
     judge: &mut Judge,
-    clerk: &mut Clerk,
+    reporter: &mut Reporter,
     w: &mut W,
     width: u64,
     text: &'a [u8],
-) -> Result<&'a [u8], Halt>
+) -> Result<&'a [u8], ReplayStop>
     requires width { (1 ≤ width) × (width ≤ 8) }
     requires some { 0 < length text.now }
     requires read { IsRead (line_at width) text.now }
-    ensures ok { IfOk result (λ rest. (line : LineOf) × Begins (line_at width) text.now line rest.now × (let part = line_on M.behaviour machine.old line in Plays (W.tape w.old) (W.tape w.new) (bench judge.old clerk.old) (bench judge.new clerk.new) part.told part.left part.refused machine.new result)) }
-    ensures err { IfErr result (λ _. (line : LineOf) × (after : List ℕ) × Begins (line_at width) text.now line after × (let part = line_on M.behaviour machine.old line in Plays (W.tape w.old) (W.tape w.new) (bench judge.old clerk.old) (bench judge.new clerk.new) part.told part.left part.refused machine.new result)) }
+    ensures ok { IfOk result (λ rest. (line : LineOf) × Begins (line_at width) text.now line rest.now
+        × (let part = line_on M.behaviour machine.old line in
+        Plays (W.tape w.old) (W.tape w.new) (running_judge judge.old reporter.old) (running_judge judge.new reporter.new)
+        part.told part.left part.refused machine.new result)) }
+    ensures err { IfErr result (λ _. (line : LineOf) × (after : List ℕ) × Begins (line_at width) text.now line after
+        × (let part = line_on M.behaviour machine.old line in
+        Plays (W.tape w.old) (W.tape w.new) (running_judge judge.old reporter.old) (running_judge judge.new reporter.new)
+        part.told part.left part.refused machine.new result)) }
 {
     let Ok((line, after)) = next_line(width, text) else {
         unreachable!()
     };
-    play_line(machine, judge, clerk, w, &line)?;
+    play_line(machine, judge, reporter, w, &line)?;
     Ok(after)
 }
 
@@ -50,21 +56,27 @@ fn play_next<'a, M: Machine, W: Sink>(
 fn play_first<'a, M: Machine, W: Sink>(
     machine: &mut M,
     judge: &mut Judge,
-    clerk: &mut Clerk,
+    reporter: &mut Reporter,
     w: &mut W,
     width: u64,
     text: &'a [u8],
-) -> Result<&'a [u8], Halt>
+) -> Result<&'a [u8], ReplayStop>
     requires width { (1 ≤ width) × (width ≤ 8) }
     requires some { 0 < length text.now }
     requires read { IsRead (line_at width) text.now }
-    ensures ok { IfOk result (λ rest. (line : LineOf) × Begins (line_at width) text.now line rest.now × (let part = line_on M.behaviour machine.old line in Plays (W.tape w.old) (W.tape w.new) (bench judge.old clerk.old) (bench judge.new clerk.new) part.told part.left part.refused machine.new result)) }
-    ensures err { IfErr result (λ _. (line : LineOf) × (after : List ℕ) × Begins (line_at width) text.now line after × (let part = line_on M.behaviour machine.old line in Plays (W.tape w.old) (W.tape w.new) (bench judge.old clerk.old) (bench judge.new clerk.new) part.told part.left part.refused machine.new result)) }
+    ensures ok { IfOk result (λ rest. (line : LineOf) × Begins (line_at width) text.now line rest.now
+        × (let part = line_on M.behaviour machine.old line in
+        Plays (W.tape w.old) (W.tape w.new) (running_judge judge.old reporter.old) (running_judge judge.new reporter.new)
+        part.told part.left part.refused machine.new result)) }
+    ensures err { IfErr result (λ _. (line : LineOf) × (after : List ℕ) × Begins (line_at width) text.now line after
+        × (let part = line_on M.behaviour machine.old line in
+        Plays (W.tape w.old) (W.tape w.new) (running_judge judge.old reporter.old) (running_judge judge.new reporter.new)
+        part.told part.left part.refused machine.new result)) }
 {
     let Some((p, n, after)) = steps(text) else {
-        return play_next(machine, judge, clerk, w, width, text);
+        return play_next(machine, judge, reporter, w, width, text);
     };
-    take_steps(machine, judge, clerk, w, p, n)?;
+    take_steps(machine, judge, reporter, w, p, n)?;
     Ok(after)
 }
 
@@ -74,7 +86,7 @@ fn play_first<'a, M: Machine, W: Sink>(
 pub(crate) fn play_text<M: Machine, W: Sink>(
     machine: &mut M,
     judge: &mut Judge,
-    clerk: &mut Clerk,
+    reporter: &mut Reporter,
     w: &mut W,
     width: u64,
     text: &[u8],
@@ -82,14 +94,16 @@ pub(crate) fn play_text<M: Machine, W: Sink>(
     requires width { (1 ≤ width) × (width ≤ 8) }
     requires room { length text.now + 2 < 2 ^ 64 }
     requires read { (lines : List LineOf) × (items_at (line_at width) 2 (parts_of text.now) ≡ Ok lines) }
-    ensures { (lines : List LineOf) → items_at (line_at width) 2 (parts_of text.now) ≡ Ok lines → Runs (W.tape w.old) (W.tape w.new) (bench judge.old clerk.old) (bench judge.new clerk.new) (run_on M.behaviour 2 machine.old lines) machine.new result }
+    ensures { (lines : List LineOf) → items_at (line_at width) 2 (parts_of text.now) ≡ Ok lines
+        → Runs (W.tape w.old) (W.tape w.new) (running_judge judge.old reporter.old) (running_judge judge.new reporter.new)
+        (run_on M.behaviour 2 machine.old lines) machine.new result }
 {
     let mut rest = text;
     let mut number = 2;
     while !rest.is_empty() {
-        match play_first(machine, judge, clerk, w, width, rest) {
+        match play_first(machine, judge, reporter, w, width, rest) {
             Ok(after) => rest = after,
-            Err(halt) => return Err(halt.at(number)),
+            Err(replay_stop) => return Err(replay_stop.at(number)),
         }
         number += 1;
     }

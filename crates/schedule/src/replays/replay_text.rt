@@ -11,25 +11,25 @@ ghost use Rattle.schedule.specs.declared.lines.line.Line.{Line as LineOf};
 ghost use Rattle.schedule.specs.Commands.{line_at};
 ghost use Rattle.schedule.specs.Texts.{items_at};
 ghost use Rattle.schedule.specs.Words.{parts_of};
-ghost use Rattle.schedule.specs.Hearings.{bench};
+ghost use Rattle.schedule.specs.RunningVerdicts.{running_judge};
 ghost use Rattle.schedule.specs.Plays.{Runs};
 ghost use Rattle.schedule.specs.Schedules.{schedule_at, scheduled_with};
 ghost use Rattle.schedule.specs.Wholes.{layout_of, header_fault, OfSchedule, OfText, ReplaysSource};
 
-use crate::replays::clerk::Clerk;
+use crate::lexer::in_place::read_whole;
 use crate::replays::laws::worlds_are_never_found_out;
 use crate::replays::pieces::read_all;
 use crate::replays::play_in_place::play_text;
 use crate::replays::replay_fault::ReplayFault;
 use crate::replays::replaying::{close, settle};
+use crate::replays::reporter::Reporter;
 use crate::replays::verdict::Verdict;
-use crate::lexer::in_place::read_whole;
+use crate::texts::device::{Sink, Source};
+use crate::texts::fault::TextFault;
+use crate::texts::head::Head;
 use judge::Judge;
 use rmecore::Refusal;
 use rmeworld::{Machine, World};
-use crate::texts::head::Head;
-use crate::texts::device::{Sink, Source};
-use crate::texts::fault::TextFault;
 use std::alloc::Global;
 
 /// The fault where no world or no judge has the header's sizes.
@@ -46,7 +46,7 @@ fn at_header(refusal: Refusal) -> ReplayFault
 fn play_behind<M: Machine, W: Sink>(
     machine: &mut M,
     judge: &mut Judge,
-    clerk: &mut Clerk,
+    reporter: &mut Reporter,
     w: &mut W,
     width: u64,
     text: Vec<u8>,
@@ -56,9 +56,11 @@ fn play_behind<M: Machine, W: Sink>(
     requires room { length text.items + 2 < 2 ^ 64 }
     requires within { from ≤ length text.items }
     requires read { (lines : List LineOf) × (items_at (line_at width) 2 (parts_of (drop from text.items)) ≡ Ok lines) }
-    ensures { (lines : List LineOf) → items_at (line_at width) 2 (parts_of (drop from text.items)) ≡ Ok lines → Runs (W.tape w.old) (W.tape w.new) (bench judge.old clerk.old) (bench judge.new clerk.new) (run_on M.behaviour 2 machine.old lines) machine.new result }
+    ensures { (lines : List LineOf) → items_at (line_at width) 2 (parts_of (drop from text.items)) ≡ Ok lines
+        → Runs (W.tape w.old) (W.tape w.new) (running_judge judge.old reporter.old) (running_judge judge.new reporter.new)
+        (run_on M.behaviour 2 machine.old lines) machine.new result }
 {
-    play_text(machine, judge, clerk, w, width, &text[from..])
+    play_text(machine, judge, reporter, w, width, &text[from..])
 }
 
 /// Replays the lines of a text from this byte on, as `replay_on` does, and keeps none of them.
@@ -76,13 +78,15 @@ fn replay_in_place<M: Machine, W: Sink>(
     requires room { length text.items + 2 < 2 ^ 64 }
     requires within { from ≤ length text.items }
     requires read { (lines : List LineOf) × (items_at (line_at width) 2 (parts_of (drop from text.items)) ≡ Ok lines) }
-    ensures { (start : State) (lines : List LineOf) → Keeps judge.old start → items_at (line_at width) 2 (parts_of (drop from text.items)) ≡ Ok lines → Replays (W.tape w.old) (W.tape w.new) start M.behaviour.image_of (run_on M.behaviour 2 machine.old lines) result }
+    ensures { (start : State) (lines : List LineOf) → Keeps judge.old start
+        → items_at (line_at width) 2 (parts_of (drop from text.items)) ≡ Ok lines
+        → Replays (W.tape w.old) (W.tape w.new) start M.behaviour.image_of (run_on M.behaviour 2 machine.old lines) result }
 {
-    let mut clerk = Clerk::new(alloc);
-    if let Err(fault) = play_behind(machine, judge, &mut clerk, w, width, text, from) {
+    let mut reporter = Reporter::new(alloc);
+    if let Err(fault) = play_behind(machine, judge, &mut reporter, w, width, text, from) {
         return Err(settle(w, fault));
     }
-    let verdict = clerk.verdict();
+    let verdict = reporter.verdict();
     let Ok(image) = machine.image() else {
         return Err(ReplayFault::OutOfMemory);
     };
@@ -102,7 +106,9 @@ fn replay_new<W: Sink>(
     requires room { length text.items + 2 < 2 ^ 64 }
     requires within { from ≤ length text.items }
     requires read { (all : List LineOf) × (items_at (line_at head.width) 2 (parts_of (drop from text.items)) ≡ Ok all) }
-    ensures of { (all : List LineOf) → items_at (line_at head.width) 2 (parts_of (drop from text.items)) ≡ Ok all → OfSchedule (W.tape w.old) (W.tape w.new) (scheduled_with (head, all)) (new_refusal (layout_of (scheduled_with (head, all))) head.limit) result }
+    ensures of { (all : List LineOf) → items_at (line_at head.width) 2 (parts_of (drop from text.items)) ≡ Ok all
+        → OfSchedule (W.tape w.old) (W.tape w.new) (scheduled_with (head, all))
+        (new_refusal (layout_of (scheduled_with (head, all))) head.limit) result }
     ensures fine { IfOk result (λ verdict. verdict ≡ Verdict.Fine) }
 {
     worlds_are_never_found_out();

@@ -6,24 +6,26 @@ ghost use Rattle.judge.specs.Stands.{Keeps};
 ghost use Rattle.schedule.specs.Tapes.{Writes, Begins};
 ghost use Rattle.schedule.specs.Plays.{IsRefused, IsOver};
 ghost use Rattle.schedule.specs.Runs.{deeds_of, run_on};
-ghost use Rattle.schedule.specs.Hearings.{heard};
+ghost use Rattle.schedule.specs.RunningVerdicts.{heard};
 ghost use Rattle.schedule.specs.Replays.{Replays, Closes};
 
-use crate::replays::clerk::Clerk;
 use crate::replays::last_words::put_end;
 use crate::replays::play::play_lines;
 use crate::replays::replay_fault::ReplayFault;
+use crate::replays::reporter::Reporter;
 use crate::replays::verdict::Verdict;
+use crate::texts::device::{Sink, write_all};
+use crate::texts::schedule::Schedule;
 use judge::Judge;
 use rmeworld::{Image, Machine};
-use crate::texts::schedule::Schedule;
-use crate::texts::device::{Sink, write_all};
 use std::alloc::Global;
 
 /// Writes a text and flushes the sink.
 fn put_out<W: Sink>(w: &mut W, text: &[u8]) -> Result<(), ReplayFault>
     ensures written { OnOk result (Writes (W.tape w.old) (W.tape w.new) text.now) }
-    ensures failed { IfErr result (λ fault. (fault ≡ ReplayFault.Write) × Begins (W.tape w.old).taken (W.tape w.new).taken text.now × ((W.tape w.new).failures ≡ min ((W.tape w.old).failures + 1) (2 ^ 64 - 1))) }
+    ensures failed { IfErr result (λ fault. (fault ≡ ReplayFault.Write)
+        × Begins (W.tape w.old).taken (W.tape w.new).taken text.now
+        × ((W.tape w.new).failures ≡ min ((W.tape w.old).failures + 1) (2 ^ 64 - 1))) }
 {
     write_all(w, text)?;
     w.flush()?;
@@ -47,7 +49,8 @@ pub fn close<W: Sink>(
 /// Flushes the sink after a refused line. Answers the fault, or `Write` where the flush fails.
 pub(crate) fn settle<W: Sink>(w: &mut W, fault: ReplayFault) -> ReplayFault
     ensures taken { (W.tape w.new).taken ≡ (W.tape w.old).taken }
-    ensures fault { (result ≡ fault) × ((W.tape w.new).failures ≡ (W.tape w.old).failures) ⊎ (result ≡ ReplayFault.Write) × ((W.tape w.new).failures ≡ min ((W.tape w.old).failures + 1) (2 ^ 64 - 1)) × IsRefused fault }
+    ensures fault { (result ≡ fault) × ((W.tape w.new).failures ≡ (W.tape w.old).failures) ⊎ (result ≡ ReplayFault.Write)
+        × ((W.tape w.new).failures ≡ min ((W.tape w.old).failures + 1) (2 ^ 64 - 1)) × IsRefused fault }
 {
     match fault {
         ReplayFault::Refused { .. } => match w.flush() {
@@ -69,17 +72,20 @@ pub fn replay_on<M: Machine, W: Sink>(
     w: &mut W,
 ) -> Result<Verdict, ReplayFault>
     // The report of just this run is written and its verdict answered, or the reason why not.
-    ensures replay { (start : State) → Keeps judge.old start → Replays (W.tape w.old) (W.tape w.new) start M.behaviour.image_of (run_on M.behaviour 2 machine.old schedule.now.lines) result }
+    ensures replay { (start : State) → Keeps judge.old start
+        → Replays (W.tape w.old) (W.tape w.new) start M.behaviour.image_of
+        (run_on M.behaviour 2 machine.old schedule.now.lines) result }
     // After a verdict or a refused line the machine is as the run leaves it. A run ends at the line that is refused.
     ensures left { IsOver result → machine.new ≡ (run_on M.behaviour 2 machine.old schedule.now.lines).left }
     // The judge was given the deeds of just this run, up to the first that is not allowed.
-    ensures heard { (start : State) → Keeps judge.old start → IsOver result → Keeps judge.new (heard start (deeds_of (run_on M.behaviour 2 machine.old schedule.now.lines).told)) }
+    ensures heard { (start : State) → Keeps judge.old start → IsOver result
+        → Keeps judge.new (heard start (deeds_of (run_on M.behaviour 2 machine.old schedule.now.lines).told)) }
 {
-    let mut clerk = Clerk::new(alloc);
-    if let Err(fault) = play_lines(machine, judge, &mut clerk, w, schedule.lines()) {
+    let mut reporter = Reporter::new(alloc);
+    if let Err(fault) = play_lines(machine, judge, &mut reporter, w, schedule.lines()) {
         return Err(settle(w, fault));
     }
-    let verdict = clerk.verdict();
+    let verdict = reporter.verdict();
     let Ok(image) = machine.image() else {
         return Err(ReplayFault::OutOfMemory);
     };

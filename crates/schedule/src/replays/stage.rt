@@ -1,44 +1,44 @@
 //! What is known of a trace after some of its lines.
 
 ghost use Rattle.std.specs.Prelude.{◌≡◌, ℕ, ◌+◌, ◌<◌, ◌≤◌, ◌^◌, List, [], ◌∷◌, ◌++◌, length, OnOk, IfOk};
-ghost use Rattle.schedule.specs.declared.replays.stage.Stage.TheVariants as stages;
-ghost use Rattle.schedule.specs.Trials.{IsStage, Stands, Fed};
+ghost use Rattle.schedule.specs.declared.replays.stage.TraceStage.TheVariants as stages;
+ghost use Rattle.schedule.specs.TraceJudges.{IsStage, Stands, Fed};
 
-use crate::replays::hearing::Hearing;
 use crate::lexer::deed_front::first_deed;
-use judge::Judge;
-use crate::lines::fault::LineFault;
 use crate::lines::deed::read_deed;
+use crate::lines::fault::LineFault;
+use crate::replays::running_verdict::RunningVerdict;
 use crate::texts::trace::TraceHead;
 use crate::texts::whole::Heading;
+use judge::Judge;
 use std::alloc::{AllocError, Global};
 
 /// What is known of a trace after some of its lines.
 #[derive(Drop)]
-pub enum Stage {
+pub enum TraceStage {
     /// No line was read.
     First,
     /// The header is refused with this number; later lines may still have a fault.
     Refused(TraceHead, u64),
     /// The deeds so far were given to the judge.
-    Judging(TraceHead, Judge, Hearing),
+    Judging(TraceHead, Judge, RunningVerdict),
     /// The first faulty line: its number, counted from 1, and its fault.
     Faulty(u64, LineFault),
 }
 
 /// The stage after the first line.
-fn begin(alloc: Global, line: &[u8]) -> Result<Stage, AllocError>
+fn begin(alloc: Global, line: &[u8]) -> Result<TraceStage, AllocError>
     ensures stage { IfOk result (λ stage. IsStage stage) }
     ensures stands { IfOk result (λ stage. Stands stage (line.now ∷ [])) }
 {
     let head = match TraceHead::read(line) {
         Ok(head) => head,
-        Err(fault) => return Ok(Stage::Faulty(1, fault)),
+        Err(fault) => return Ok(TraceStage::Faulty(1, fault)),
     };
     match Judge::new(alloc, head.procs, head.cap) {
-        Ok(judge) => Ok(Stage::Judging(head, judge, Hearing::OPENED)),
+        Ok(judge) => Ok(TraceStage::Judging(head, judge, RunningVerdict::OPENED)),
         Err(refusal) => match refusal.number() {
-            Some(number) => Ok(Stage::Refused(head, number)),
+            Some(number) => Ok(TraceStage::Refused(head, number)),
             None => Err(AllocError),
         },
     }
@@ -49,24 +49,25 @@ fn begin(alloc: Global, line: &[u8]) -> Result<Stage, AllocError>
 fn hear_lines<'a>(
     head: &TraceHead,
     judge: &mut Judge,
-    hearing: &mut Hearing,
+    running_verdict: &mut RunningVerdict,
     number: &mut u64,
     text: &'a [u8],
 ) -> &'a [u8]
     requires { (1 ≤ head.now.width) × (head.now.width ≤ 8) }
-    ensures fed { Fed (stages.Judging head.now judge.old hearing.old) (stages.Judging head.now judge.new hearing.new) text.now result.now number.old number.new }
+    ensures fed { Fed (stages.Judging head.now judge.old running_verdict.old)
+        (stages.Judging head.now judge.new running_verdict.new) text.now result.now number.old number.new }
     ensures shorter { length result.now ≤ length text.now }
 {
     let mut rest = text;
     while let Some((deed, after)) = first_deed(head.width, rest) {
-        hearing.hear(judge, &deed);
+        running_verdict.hear(judge, &deed);
         *number = number.saturating_add(1);
         rest = after;
     }
     rest
 }
 
-impl Stage {
+impl TraceStage {
     /// Takes the first line.
     // Apart: keeps `take`'s stack small.
     #[inline(never)]
@@ -83,28 +84,29 @@ impl Stage {
     pub fn take(&mut self, alloc: Global, number: u64, line: &[u8]) -> Result<(), AllocError>
         requires { IsStage self.old }
         ensures stage { IsStage self.new }
-        ensures stands { (lines : List (List ℕ)) → Stands self.old lines → number ≡ length lines + 1 → OnOk result (Stands self.new (lines ++ line.now ∷ [])) }
+        ensures stands { (lines : List (List ℕ)) → Stands self.old lines → number ≡ length lines + 1
+            → OnOk result (Stands self.new (lines ++ line.now ∷ [])) }
     {
         match self {
-            Stage::First => self.take_first(alloc, line),
-            Stage::Refused(head, _) => match read_deed(head.width, line) {
+            TraceStage::First => self.take_first(alloc, line),
+            TraceStage::Refused(head, _) => match read_deed(head.width, line) {
                 Ok(_) => Ok(()),
                 Err(fault) => {
-                    *self = Stage::Faulty(number, fault);
+                    *self = TraceStage::Faulty(number, fault);
                     Ok(())
                 }
             },
-            Stage::Judging(head, judge, hearing) => match read_deed(head.width, line) {
+            TraceStage::Judging(head, judge, running_verdict) => match read_deed(head.width, line) {
                 Ok(deed) => {
-                    hearing.hear(judge, &deed);
+                    running_verdict.hear(judge, &deed);
                     Ok(())
                 }
                 Err(fault) => {
-                    *self = Stage::Faulty(number, fault);
+                    *self = TraceStage::Faulty(number, fault);
                     Ok(())
                 }
             },
-            Stage::Faulty(..) => Ok(()),
+            TraceStage::Faulty(..) => Ok(()),
         }
     }
     /// Takes lines from the front of a text, the first of which has this number, and counts them. It may take none.
@@ -116,7 +118,13 @@ impl Stage {
         ensures shorter { length result.now ≤ length text.now }
     {
         match self {
-            Stage::Judging(head, judge, hearing) => hear_lines(head, judge, hearing, number, text),
+            TraceStage::Judging(head, judge, running_verdict) => hear_lines(
+                head,
+                judge,
+                running_verdict,
+                number,
+                text,
+            ),
             _ => text,
         }
     }

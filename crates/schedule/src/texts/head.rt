@@ -4,11 +4,11 @@ ghost use Rattle.std.specs.Prelude.{◌≡◌, ◌≤◌, IfOk};
 ghost use Rattle.schedule.specs.Words.{Reads, words_of};
 ghost use Rattle.schedule.specs.Schedules.{head_at};
 
-use crate::texts::whole::Heading;
+use crate::lines::fault::LineFault;
+use crate::lines::line::Line;
 use crate::lines::number::{number, number_from};
 use crate::lines::words::Words;
-use crate::lines::line::Line;
-use crate::lines::fault::LineFault;
+use crate::texts::whole::Heading;
 
 /// The header of a schedule: the sizes of its world.
 #[derive(Clone, Copy, Debug, PartialEq, Eq)]

@@ -7,7 +7,8 @@ ghost use Rattle.schedule.specs.Traces.{Traced, IsTraced, trace_spelling, trace_
 /// A text has no fault exactly where it is the spelling of a schedule, and then that schedule is read.
 pub fn one_spelling()
     ensures again { (schedule : Scheduled) → IsScheduled schedule → schedule_at (spelling schedule) ≡ Ok schedule }
-    ensures takes { (text : List ℕ) (schedule : Scheduled) → schedule_at text ≡ Ok schedule → (text ≡ spelling schedule) × IsScheduled schedule }
+    ensures takes { (text : List ℕ) (schedule : Scheduled) → schedule_at text ≡ Ok schedule
+        → (text ≡ spelling schedule) × IsScheduled schedule }
     ensures only { (one other : Scheduled) → IsScheduled one → IsScheduled other → spelling one ≡ spelling other → one ≡ other }
 {}
 

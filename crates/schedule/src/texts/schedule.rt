@@ -5,10 +5,10 @@ ghost use Rattle.schedule.specs.Commands.{fits};
 ghost use Rattle.schedule.specs.Texts.{Gives};
 ghost use Rattle.schedule.specs.Schedules.{Scheduled, IsScheduled, spelling, schedule_at, head_of};
 
+use crate::lines::line::Line;
 use crate::texts::fault::TextFault;
 use crate::texts::head::Head;
 use crate::texts::whole::{add, whole};
-use crate::lines::line::Line;
 use rmecore::Refusal;
 use std::alloc::Global;
 use std::marker::Model;
@@ -61,7 +61,8 @@ impl Schedule {
     pub fn push(&mut self, line: Line) -> Result<(), Refusal>
         ensures ok { OnOk result (self.new ≡ record self.old { lines = self.old.lines ++ line ∷ [] }) }
         ensures accepted { OnOk result (IsTrue (fits self.old.width line)) }
-        ensures refused { IfErr result (λ refusal. (refusal ≡ Refusal.BadWidth) × IsFalse (fits self.old.width line) ⊎ (refusal ≡ Refusal.OutOfMemory)) }
+        ensures refused { IfErr result (λ refusal. (refusal ≡ Refusal.BadWidth)
+            × IsFalse (fits self.old.width line) ⊎ (refusal ≡ Refusal.OutOfMemory)) }
         // A wrong width comes before out of memory.
         ensures width { IsFalse (fits self.old.width line) → IsErrOf result Refusal.BadWidth }
         ensures err { OnErr result (self.new ≡ self.old) }
@@ -121,7 +122,8 @@ pub fn read_schedule(alloc: Global, text: &[u8]) -> Result<Schedule, TextFault>
     // The text is the spelling of what is read.
     ensures found { IfOk result (λ schedule. (text.now ≡ spelling schedule) × IsScheduled schedule) }
     // Each spelling is read, unless memory runs out.
-    ensures only { (schedule : Scheduled) → IsScheduled schedule → text.now ≡ spelling schedule → Gives (λ schedule. schedule) result (Ok schedule) }
+    ensures only { (schedule : Scheduled) → IsScheduled schedule → text.now ≡ spelling schedule
+        → Gives (λ schedule. schedule) result (Ok schedule) }
     // The fault is the one that the definition gives.
     ensures exact { Gives (λ schedule. schedule) result (schedule_at text.now) }
 {

@@ -5,11 +5,11 @@ ghost use Rattle.schedule.specs.Texts.{Gives};
 ghost use Rattle.schedule.specs.Deeds.{deed_at, fits};
 ghost use Rattle.schedule.specs.Traces.{Traced, IsTraced, trace_spelling, trace_at, trace_head_of, trace_head_at};
 
-use crate::texts::fault::TextFault;
-use crate::texts::whole::{Heading, add, whole};
 use crate::lines::fault::LineFault;
 use crate::lines::number::number;
 use crate::lines::words::Words;
+use crate::texts::fault::TextFault;
+use crate::texts::whole::{Heading, add, whole};
 use redomail::Deed;
 use rmecore::Refusal;
 use std::alloc::Global;
@@ -94,7 +94,8 @@ impl Trace {
     pub fn push(&mut self, deed: Deed) -> Result<(), Refusal>
         ensures ok { OnOk result (self.new ≡ record self.old { deeds = self.old.deeds ++ deed ∷ [] }) }
         ensures accepted { OnOk result (IsTrue (fits self.old.width deed)) }
-        ensures refused { IfErr result (λ refusal. (refusal ≡ Refusal.BadWidth) × IsFalse (fits self.old.width deed) ⊎ (refusal ≡ Refusal.OutOfMemory)) }
+        ensures refused { IfErr result (λ refusal. (refusal ≡ Refusal.BadWidth)
+            × IsFalse (fits self.old.width deed) ⊎ (refusal ≡ Refusal.OutOfMemory)) }
         // A wrong width comes before out of memory.
         ensures width { IsFalse (fits self.old.width deed) → IsErrOf result Refusal.BadWidth }
         ensures err { OnErr result (self.new ≡ self.old) }

@@ -5,10 +5,10 @@ ghost use Rattle.schedule.specs.declared.lines.fault.LineFault.{LineFault};
 ghost use Rattle.schedule.specs.Words.{Reads, words_of, parts_of};
 ghost use Rattle.schedule.specs.Texts.{Gives, items_at, text_at};
 
-use crate::texts::fault::TextFault;
-use crate::lines::fault::LineFault;
 use crate::lines::cut::cut_once;
+use crate::lines::fault::LineFault;
 use crate::lines::item::Item;
+use crate::texts::fault::TextFault;
 use rmecore::Refusal;
 use std::alloc::Global;
 
@@ -17,7 +17,8 @@ pub fn add<T: Item>(items: &mut Vec<T>, width: u64, item: T) -> Result<(), Refus
     ensures ok { OnOk result (items.new.items ≡ items.old.items ++ item ∷ []) }
     ensures item { OnOk result (T.is_item width item) }
     ensures accepted { OnOk result (IsTrue (T.fits width item)) }
-    ensures refused { IfErr result (λ refusal. (refusal ≡ Refusal.BadWidth) × IsFalse (T.fits width item) ⊎ (refusal ≡ Refusal.OutOfMemory)) }
+    ensures refused { IfErr result (λ refusal. (refusal ≡ Refusal.BadWidth)
+        × IsFalse (T.fits width item) ⊎ (refusal ≡ Refusal.OutOfMemory)) }
     ensures width { IsFalse (T.fits width item) → IsErrOf result Refusal.BadWidth }
     ensures err { OnErr result (items.new.items ≡ items.old.items) }
 {
@@ -84,7 +85,8 @@ pub trait Heading: Drop {
 
 /// Reads a whole text.
 pub fn whole<H: Heading>(alloc: Global, text: &[u8]) -> Result<(H, Vec<H::Item>), TextFault>
-    ensures { Gives (λ read. (read.0, read.1.items)) result (text_at H.head_at (λ head. H.Item.item_at (H.width_of head)) (parts_of text.now)) }
+    ensures { Gives (λ read. (read.0, read.1.items)) result
+        (text_at H.head_at (λ head. H.Item.item_at (H.width_of head)) (parts_of text.now)) }
 {
     if text.is_empty() {
         return Err(TextFault::At {

@@ -6,10 +6,10 @@ ghost use Rattle.std.specs.Fmt.{decimal};
 ghost use Rattle.schedule.specs.Schedules.{words_of_head, spelling};
 ghost use Rattle.schedule.specs.Words.{line_of};
 
+use crate::lines::writing::{put_line, put_named};
 use crate::texts::fault::OutOfMemory;
 use crate::texts::head::Head;
 use crate::texts::schedule::Schedule;
-use crate::lines::writing::{put_line, put_named};
 use std::alloc::{AllocError, Global};
 
 fn put_sizes(out: &mut Vec<u8>, head: &Head) -> Result<(), AllocError>

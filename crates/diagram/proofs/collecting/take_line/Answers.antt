@@ -14,7 +14,7 @@ returns-in_err-start-in-Start g c =
     let p = err_from_is_err_and c.from_residual.result c.from_residual.ensures.1 in
     rw (p.1, p.2)
     (refused_plays c.args.rows.now.items c.args.rows.now.items (events_of b s line) (line_on b s line).refused (line_on b s line).left c.start.new.self c.in_err-start-in-Start.field-0.0 (inr refused)
-    (λ why. start_shows b s line c.in-Start.p call c.in-Start.is) refl)
+    (λ purpose. start_shows b s line c.in-Start.p call c.in-Start.is) refl)
 
 pub returns-in_ok-start-in-Start : goal.returns-in_ok-start-in-Start
 returns-in_ok-start-in-Start g c =

@@ -4,5 +4,5 @@ use Rattle.diagram.proofs.following.write_rows.Given as goal
 
 abbrev pub invariant-loop-row : goal.invariant-loop-row
 invariant-loop-row g l =
-    WritesFront (g.W.Sink.tape l.fn.w).taken (g.W.Sink.tape l.w).taken (followed l.layout l.fn.pen.phases (events_in l.rows)) (followed l.layout l.pen.phases (events_in (drop l.row-index l.rows)))
+    WritesFront (g.W.Sink.tape l.fn.w).taken (g.W.Sink.tape l.w).taken (followed l.layout l.fn.lifeline_state.phases (events_in l.rows)) (followed l.layout l.lifeline_state.phases (events_in (drop l.row-index l.rows)))
     × ((g.W.Sink.tape l.w).failures ≡ (g.W.Sink.tape l.fn.w).failures)

@@ -7,4 +7,4 @@ returns-in_err-flush g c =
     let p = err_from_is_err_and c.from_residual-in_err-flush.result c.from_residual-in_err-flush.ensures.1 in
     rw (p.1, p.2)
     (fails_behind (g.W.Sink.tape c.args.w.now) (g.W.Sink.tape c.write_last.new.w) (g.W.Sink.tape c.flush.new.self)
-    (end_in c.args.sheet.now.style c.args.sheet.now c.args.end.now) c.in_ok-write_last.ensures c.in_err-flush.ensures.taken c.in_err-flush.ensures.failed)
+    (end_in c.args.diagram_layout.now.style c.args.diagram_layout.now c.args.end.now) c.in_ok-write_last.ensures c.in_err-flush.ensures.taken c.in_err-flush.ensures.failed)

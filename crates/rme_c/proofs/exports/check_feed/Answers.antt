@@ -1,7 +1,7 @@
 use Rattle.std.proofs.Common.{◌≡◌, ◌+◌, ap, ◌∙◌, arith}
-use Rattle.rme_c.proofs.Common.{held, Within, RmeProcess, stand_at}
-use Rattle.rme_c.specs.declared.chore.Chore.TheVariants.{Checking}
-use Rattle.rme_c.proofs.Arms.{has_chore}
+use Rattle.rme_c.proofs.Common.{held, Within, RmeProcess, machine_state_at}
+use Rattle.rme_c.specs.declared.script_position.ScriptPosition.TheVariants.{Checking}
+use Rattle.rme_c.proofs.Arms.{has_script_position}
 use Rattle.rme_c.proofs.Feeds.{step_fed}
 use Rattle.rme_c.proofs.exports.check_feed.Goals as goal
 
@@ -9,8 +9,8 @@ pub returns : goal.returns
 returns c =
     let p = c.args.p.now in
     let to = c.checked-behind.result.0 in
-    let procs : c.stand.new.p.procs ≡ p.procs = ap (λ (z : RmeProcess). z.procs) c.stand.ensures.same ∙ ap (λ (z : RmeProcess). z.procs) c.checked-behind.ensures.same in
+    let procs : c.machine_state.new.p.procs ≡ p.procs = ap (λ (z : RmeProcess). z.procs) c.machine_state.ensures.same ∙ ap (λ (z : RmeProcess). z.procs) c.checked-behind.ensures.same in
     let counts : c.args.steps ≡ held (p.steps + 1) = omega (arith, c.requires.steps, c.ranges.steps) in
-    step_fed p (Within Checking) c.args.value c.checked-behind.new.p _ to c.checked-behind.result.1 _ _ _ c.stand.new.p.procs _ c.requires.here (has_chore p c.requires.eight Checking c.requires.fits) c.checked-behind.ensures.step c.stand.ensures.is
-    (ap (λ (z : RmeProcess). stand_at z to) c.stand.ensures.same)
+    step_fed p (Within Checking) c.args.value c.checked-behind.new.p _ to c.checked-behind.result.1 _ _ _ c.machine_state.new.p.procs _ c.requires.here (has_script_position p c.requires.eight Checking c.requires.fits) c.checked-behind.ensures.step c.machine_state.ensures.is
+    (ap (λ (z : RmeProcess). machine_state_at z to) c.machine_state.ensures.same)
     c.tell.ensures.next c.tell.ensures.kept c.tell.ensures.few procs c.next_at.ensures.next c.tell.ensures.code counts

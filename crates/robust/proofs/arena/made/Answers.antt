@@ -1,5 +1,5 @@
 use Rattle.std.proofs.Common.{◌≡◌, ℕ, ◌+◌, ◌*◌, List, [], ◌∷◌, ◌++◌, map, replicate, sym, ap, ◌∙◌, arith}
-use Rattle.robust.proofs.Common.{TableId, Pass, count_from, Seated, word_count, size_small, mapped_more, fresh_member}
+use Rattle.robust.proofs.Common.{TableId, SeatView, count_from, Seated, word_count, size_small, mapped_more, fresh_member}
 use Rattle.execution.proofs.Keeps.{opens}
 use Rattle.robust.proofs.arena.made.Goals as goal
 
@@ -14,9 +14,9 @@ of_words-requires c =
 pub loop-p-preserved : goal.loop-p-preserved
 loop-p-preserved c =
     let i = c.loop-p.invariant in
-    let r = c.in_ok-walker.ensures.rest in
+    let r = c.in_ok-port.ensures.rest in
     let f : ℕ → Seated = fresh_member c.loop-p.seat.table_id c.args.setup in
-    let value : c.new-in-loop-p.result ≡ f c.loop-p.p = c.new-in-loop-p.ensures ∙ ap (λ (x : Pass). record { pass = x; steps = 0 }) c.in_ok-walker.ensures.walker in
+    let value : c.new-in-loop-p.result ≡ f c.loop-p.p = c.new-in-loop-p.ensures ∙ ap (λ (x : SeatView). record { seat_view = x; steps = 0 }) c.in_ok-port.ensures.port in
     let items : c.push.new.self.items ≡ map f (count_from 0 (c.loop-p.p + 1)) =
     c.in_ok-push.ensures.items ∙ ap (λ (l : List Seated). l ++ c.new-in-loop-p.result ∷ []) i.made ∙ ap (λ (x : Seated). map f (count_from 0 c.loop-p.p) ++ x ∷ []) value ∙ sym (mapped_more f c.loop-p.p)
     in record {

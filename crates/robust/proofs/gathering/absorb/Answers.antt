@@ -1,6 +1,6 @@
 use Rattle.std.proofs.Common.{◌≡◌, ◌<◌, ℕ, true, List, sym, ap, ◌∙◌, subst, arith}
 use Rattle.robust.proofs.Common.{TableId, stepper, has, has_one}
-use Rattle.execution.specs.declared.entry.Known.{Known}
+use Rattle.execution.specs.declared.entry.SeatKnowledge.{SeatKnowledge}
 use Rattle.execution.proofs.Keeps.{glues}
 use Rattle.robust.proofs.gathering.absorb.Goals as goal
 
@@ -11,7 +11,7 @@ take_in-requires c =
     let here = c.look.ensures.same.0 ∙ c.requires.table.0 in
     let step = stepper c.args.seat.now.me.0.view in
     let old : has step c.look.new.seat.me.0.view.answers ≡ true = subst (λ (ps : List ℕ). has step ps ≡ true) (sym c.look.ensures.did.answers) c.requires.some in
-    let new : has c.args.other.by c.into_parts-theirs.result.1.me.0.view.answers ≡ true = subst (λ (k : Known). has c.args.other.by k.view.answers ≡ true) (sym (ap (λ m. m.0) me)) (has_one c.args.other.by) in
+    let new : has c.args.other.by c.into_parts-theirs.result.1.me.0.view.answers ≡ true = subst (λ (k : SeatKnowledge). has c.args.other.by k.view.answers ≡ true) (sym (ap (λ m. m.0) me)) (has_one c.args.other.by) in
     let some : 0 < c.args.seat.now.table_id.words = (let p = c.requires.size.procs in omega (arith, c.requires.table.1, p)) in (
       here,
       t.0 ∙ c.requires.table.2 ∙ c.requires.table.0,

@@ -1,15 +1,15 @@
 use Rattle.std.proofs.Common.{◌≡◌, ◌∙◌, ◌∷◌, ◌++◌, List, [], sym, ap, append-nil, append_assoc, subst}
-use Rattle.robust.proofs.Common.{TableId, Absorbs, Pass, alone, Seated, word_count, knows_some, absorbs_on, knows_first, one_table}
+use Rattle.robust.proofs.Common.{TableId, Absorbs, SeatView, alone, Seated, word_count, knows_some, absorbs_on, knows_first, one_table}
 use Rattle.robust.proofs.gathering.join_all.Goals as goal
 
 pub loop-other-init : goal.loop-other-init
 loop-other-init c =
-    let w = c.into_walker.ensures in
+    let w = c.into_port.ensures in
     let p = c.into_parts-board.ensures in (
       p.table.0 ∙ sym p.table.1,
-      p.table.0 ∙ ap (λ (x : Pass). x.table) w,
-      ap (λ (t : TableId). t.words) p.table.0 ∙ p.pass.words ∙ ap (λ (x : Pass). word_count x.setup) w ∙ ap word_count (sym c.requires.setup),
-      ([], sym (append-nil _), knows_first c.args.first _ (ap (λ m. m.0) p.seat ∙ ap (λ (x : Pass). alone x.setup x.by x.seen) w)),
+      p.table.0 ∙ ap (λ (x : SeatView). x.table) w,
+      ap (λ (t : TableId). t.words) p.table.0 ∙ p.seat_view.words ∙ ap (λ (x : SeatView). word_count x.setup) w ∙ ap word_count (sym c.requires.setup),
+      ([], sym (append-nil _), knows_first c.args.first _ (ap (λ m. m.0) p.seat ∙ ap (λ (x : SeatView). alone x.setup x.by x.seen) w)),
     )
 
 pub absorb-requires-clause-table : goal.absorb-requires-clause-table
@@ -18,7 +18,7 @@ absorb-requires-clause-table c =
     let items : c.args.others.items ≡ (c.pop.new.self.items ++ c.in-Some.other ∷ []) ++ i.3.0 = i.3.1 ∙ ap (λ (l : List Seated). l ++ i.3.0) c.in-Some.ensures.items in (
       i.0 ∙ ap (λ b. b.shared.table_id) (sym c.deref.ensures),
       i.2,
-      ap (λ (x : Pass). x.table) c.into_walker-in-Some.ensures ∙ one_table c.args.first c.args.others.items c.pop.new.self.items i.3.0 c.in-Some.other c.requires.arena items ∙ sym i.1,
+      ap (λ (x : SeatView). x.table) c.into_port-in-Some.ensures ∙ one_table c.args.first c.args.others.items c.pop.new.self.items i.3.0 c.in-Some.other c.requires.arena items ∙ sym i.1,
     )
 
 pub absorb-requires-clause-some : goal.absorb-requires-clause-some
@@ -30,7 +30,7 @@ loop-other-preserved c =
     let a = c.absorb.ensures in
     let x = c.in-Some.other in
     let items : c.args.others.items ≡ (c.pop.new.self.items ++ x ∷ []) ++ i.3.0 = i.3.1 ∙ ap (λ (l : List Seated). l ++ i.3.0) c.in-Some.ensures.items in
-    let absorbs : Absorbs c.loop-other.seat.me.0 x.pass c.absorb.new.seat.me.0 = subst (λ (y : Pass). Absorbs c.loop-other.seat.me.0 y c.absorb.new.seat.me.0) c.into_walker-in-Some.ensures a.absorbs in (
+    let absorbs : Absorbs c.loop-other.seat.me.0 x.seat_view c.absorb.new.seat.me.0 = subst (λ (y : SeatView). Absorbs c.loop-other.seat.me.0 y c.absorb.new.seat.me.0) c.into_port-in-Some.ensures a.absorbs in (
       a.same.0 ∙ i.0,
       a.same.0 ∙ i.1,
       ap (λ (t : TableId). t.words) a.same.0 ∙ i.2,

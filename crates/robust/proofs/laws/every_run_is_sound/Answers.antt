@@ -4,7 +4,7 @@ use Rattle.robust.proofs.laws.every_run_is_sound.Goals as goal
 
 pub returns : goal.returns
 returns c s es layout run =
-    let e = c.every_story_is_sound.ensures in
+    let e = c.every_execution_is_sound.ensures in
     let l = s.layout in
     let sound = e.sound l s.limit (spelled es) layout run in
     let legal = e.legal l s.limit (spelled es) layout run in

@@ -1,6 +1,6 @@
 use Rattle.std.proofs.Common.{length, refl, ap, ◌∙◌}
 use Rattle.crashlab.proofs.Common.{refill}
-use Rattle.crashlab.proofs.Seats.{seated_stepped, in_words}
+use Rattle.crashlab.proofs.Configurations.{configured_stepped, in_words}
 use Rattle.crashlab.proofs.variant_world.VariantWorld.take_step.Goals as goal
 
 pub load-found-requires : goal.load-found-requires
@@ -13,6 +13,6 @@ store-requires c =
 
 pub invariant_of-self : goal.invariant_of-self
 invariant_of-self c =
-    seated_stepped _ _ _ c.args.p _ _ c.load-found.result c.self.invariant c.index_mut.ensures.value c.if-p-self.false c.feed-outcome.ensures.exact
+    configured_stepped _ _ _ c.args.p _ _ c.load-found.result c.self.invariant c.index_mut.ensures.value c.if-p-self.false c.feed-outcome.ensures.exact
     (ap length (refill _ _ _ (c.store.auto.words ∙ c.deref_mut.ensures.len)) ∙ c.store.auto.words ∙ ap length c.deref_mut.ensures.value)
     (ap length (refill _ _ _ (c.store.auto.cells ∙ c.deref_mut-2.ensures.len)) ∙ c.store.auto.cells ∙ ap length c.deref_mut-2.ensures.value)

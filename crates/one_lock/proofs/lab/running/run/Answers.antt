@@ -6,7 +6,7 @@ use Rattle.redomail.specs.Layout.{words_of}
 use Rattle.redomail.specs.Shape.{entries}
 use Rattle.rmeworld.specs.declared.image.Image.{Image}
 use Rattle.rmeworld.specs.ImageRules.{IsLawfulImage}
-use Rattle.one_lock.specs.Story.{AreSizes, IsLeftBy}
+use Rattle.one_lock.specs.Execution.{AreSizes, IsLeftBy}
 use Rattle.one_lock.proofs.Endings.{lab_ended, all_sent, may_end_lab}
 use Rattle.one_lock.proofs.Places.{same_fit, same_count, new_ready}
 use Rattle.one_lock.proofs.lab.running.run.Goals as goal

@@ -1,6 +1,6 @@
 use Rattle.std.proofs.Common.{◌≡◌, ◌+◌, arith}
 use Rattle.one_lock.proofs.Common.{Falls}
-use Rattle.one_lock.proofs.Stories.{told_more, still_sized}
+use Rattle.one_lock.proofs.Executions.{told_more, still_sized}
 use Rattle.one_lock.proofs.shared.Shared.crash.Goals as goal
 
 pub invariant_of-self-2 : goal.invariant_of-self-2

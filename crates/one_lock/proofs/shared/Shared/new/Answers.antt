@@ -1,6 +1,6 @@
 use Rattle.std.proofs.Common.{sym, subst}
 use Rattle.one_lock.proofs.Common.{IsTold}
-use Rattle.one_lock.proofs.Stories.{told_first}
+use Rattle.one_lock.proofs.Executions.{told_first}
 use Rattle.one_lock.proofs.shared.Shared.new.Goals as goal
 
 pub invariant_of-result : goal.invariant_of-result

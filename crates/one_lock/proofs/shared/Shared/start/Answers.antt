@@ -1,6 +1,6 @@
 use Rattle.std.proofs.Common.{◌≡◌, ◌+◌, arith}
 use Rattle.one_lock.proofs.Common.{Begins}
-use Rattle.one_lock.proofs.Stories.{told_more, still_sized}
+use Rattle.one_lock.proofs.Executions.{told_more, still_sized}
 use Rattle.one_lock.proofs.shared.Shared.start.Goals as goal
 
 pub invariant_of-self-2 : goal.invariant_of-self-2

@@ -1,7 +1,7 @@
 use Rattle.std.proofs.Common.{◌≡◌, length, replicate, rules, arith}
 use Rattle.rmecore.proofs.Common.{zeros, fresh}
 use Rattle.std.proofs.lemmas.Grind.{common_steps}
-use Rattle.rmecore.proofs.CoreSteps.{reached_first, first_words, first_places, first_seated}
+use Rattle.rmecore.proofs.CoreSteps.{reached_first, first_words, first_places, first_configured}
 use Rattle.rmecore.proofs.CoreTallies.{tallied_first}
 use Rattle.rmecore.proofs.simulated.Core.new.Goals as goal
 
@@ -13,7 +13,7 @@ invariant_of-result c =
     let own = first_words _ _ words in
     let places = first_places _ c.args.limit _ each c.in_ok-processes.ensures.each in
     record {
-      seated = first_seated _ _ _ _ _ words each tallies c.in_ok-processes.ensures.each;
+      configured = first_configured _ _ _ _ _ words each tallies c.in_ok-processes.ensures.each;
       reached = reached_first _ _ _ (λ i. record { words = own i; places = places i });
       tallied = tallied_first _ _ _ places tallies;
     }

@@ -1,5 +1,5 @@
 use Rattle.std.proofs.Common.{refl, ap, ◌∙◌}
-use Rattle.rmeworld.proofs.Common.{spot_of}
+use Rattle.rmeworld.proofs.Common.{process_state_of}
 use Rattle.rmeworld.proofs.Chores.{part_allowed, part_progress, part_moved, part_goes}
 use Rattle.rmeworld.proofs.process.Process.move_by.Goals as goal
 
@@ -12,5 +12,5 @@ returns-clause-progress c = part_progress c.self.view_is c.self.inside.lock c.se
 pub returns-clause-exact : goal.returns-clause-exact
 returns-clause-exact c = part_moved c.self.view_is c.self.inside.lock c.self.invariant.procs refl c.self.invariant.index refl c.requires.free c.args.value _ _ _ _ c.lock_scan-mended.ensures.lock c.lock_scan-mended.ensures.mended c.lock_scan-mended.ensures.checks c.check_next.ensures
 
-pub returns-clause-spot : goal.returns-clause-spot
-returns-clause-spot c = ap spot_of (returns-clause-exact c) ∙ part_goes c.self.view_is c.self.inside.lock c.self.invariant.procs refl c.self.invariant.index refl c.requires.free c.args.value c.lock_scan-mended.ensures.allowed
+pub returns-clause-process_state : goal.returns-clause-process_state
+returns-clause-process_state c = ap process_state_of (returns-clause-exact c) ∙ part_goes c.self.view_is c.self.inside.lock c.self.invariant.procs refl c.self.invariant.index refl c.requires.free c.args.value c.lock_scan-mended.ensures.allowed

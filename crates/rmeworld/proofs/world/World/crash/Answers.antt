@@ -1,5 +1,5 @@
 use Rattle.std.proofs.Common.{◌≡◌, slice_set, sym, ap, ◌∙◌, subst}
-use Rattle.rmeworld.proofs.Common.{IsWorld, Falls, crashed as stand_crashed, WorldState, Takes}
+use Rattle.rmeworld.proofs.Common.{IsWorld, Falls, crashed as machine_state_crashed, WorldState, Takes}
 use Rattle.rmeworld.specs.Replayed.{crashed}
 use Rattle.rmeworld.proofs.Worlds.{found, world_crash}
 use Rattle.rmeworld.proofs.WorldSteps.{crash_takes}
@@ -13,7 +13,7 @@ new c = record (state c) { processes = slice_set c.self.inside.processes.items c
 
 is : (c : goal.After-self-1) → new c ≡ crashed (state c) c.args.p
 is c =
-    let dead = c.crash.ensures ∙ ap stand_crashed (sym (found (state c) c.args.p _ c.self.invariant c.if-p-self.false c.index_mut.ensures.value)) in
+    let dead = c.crash.ensures ∙ ap machine_state_crashed (sym (found (state c) c.args.p _ c.self.invariant c.if-p-self.false c.index_mut.ensures.value)) in
     λ i. record (state c) { processes = slice_set c.self.inside.processes.items c.args.p (dead i); history = c.in_ok-push.ensures.items i }
 
 pub invariant_of-self-2 : goal.invariant_of-self-2
@@ -21,4 +21,4 @@ invariant_of-self-2 c = subst IsWorld (sym (is c)) (world_crash (state c) c.args
 
 pub returns-clause-crash : goal.returns-clause-crash
 returns-clause-crash c =
-    subst (λ s. Takes s (Falls c.args.p) (new c)) c.self.view_is (subst (Takes (state c) (Falls c.args.p)) (sym (is c)) (crash_takes (state c) c.args.p c.self.invariant.seated c.if-p-self.false))
+    subst (λ s. Takes s (Falls c.args.p) (new c)) c.self.view_is (subst (Takes (state c) (Falls c.args.p)) (sym (is c)) (crash_takes (state c) c.args.p c.self.invariant.configured c.if-p-self.false))

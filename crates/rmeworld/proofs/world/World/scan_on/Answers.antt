@@ -1,6 +1,6 @@
 use Rattle.std.proofs.Common.{◌++◌, slice_index_or, slice_set, refl, sym, ap, ◌∙◌, subst, append-nil}
-use Rattle.rmeworld.proofs.Common.{Access, word_of, own_at, words_of, Advances, GoesOn, IsWorld, prospect_of, quiet_step, outcome, reading_of, WorldState}
-use Rattle.rmeworld.proofs.Advancing.{scan_is_quiet, scan_tells, load_leaves}
+use Rattle.rmeworld.proofs.Common.{Access, word_of, own_at, words_of, Advances, GoesOn, IsWorld, prospect_of, silent_step, outcome, reading_of, WorldState}
+use Rattle.rmeworld.proofs.Advancing.{scan_is_silent, scan_tells, load_leaves}
 use Rattle.rmeworld.proofs.Taken.{IsNext, Fed, stays, takes, told_by}
 use Rattle.rmeworld.proofs.Worlds.{found}
 use Rattle.rmeworld.proofs.world.World.scan_on.Goals as goal
@@ -25,22 +25,22 @@ goes c =
     let at = found c.args.self.now c.args.p c.index_mut.result.now (world c) c.requires.below (c.index_mut.ensures.value ∙ ap (λ (s : WorldState). slice_index_or s.processes c.args.p c.index_mut.result.now) c.self.view_is) in
     subst (λ t. GoesOn t c.args.scan c.args.access) at c.requires.goes_on
 
-fed : (c : goal.After-self-2-1) → Fed c.args.self.now c.args.p c.args.access c.load-found.result c.scan_on-scanned.result (quiet_step c.args.access c.load-found.result) (new c)
+fed : (c : goal.After-self-2-1) → Fed c.args.self.now c.args.p c.args.access c.load-found.result c.scan_on-scanned.result (silent_step c.args.access c.load-found.result) (new c)
 fed c =
     let a : Access = c.args.access in
     let v = c.load-found.result in
     let s : WorldState = state c in
     let leaves = load_leaves a s.words s.cells (goes c).load in
     let what = c.scan_on-scanned.ensures.outcome ∙ ap (λ x. outcome c.index_mut.result.now x v) (goes c).next in
-    let none = ap (prospect_of s c.args.p a) what ∙ scan_is_quiet c.index_mut.result.now c.args.scan a s.layout c.args.p (words_of s.cells) v (goes c) in
-    subst (λ s. Fed s c.args.p a v c.scan_on-scanned.result (quiet_step a v) (new c)) c.self.view_is (record {
+    let none = ap (prospect_of s c.args.p a) what ∙ scan_is_silent c.index_mut.result.now c.args.scan a s.layout c.args.p (words_of s.cells) v (goes c) in
+    subst (λ s. Fed s c.args.p a v c.scan_on-scanned.result (silent_step a v) (new c)) c.self.view_is (record {
       before = c.index_mut.result.now;
       after = c.scan_on-scanned.new.self;
       tally = c.index_mut-2.result.now;
       here = c.index_mut.ensures.value;
       there = c.index_mut-2.ensures.value;
       exact = c.scan_on-scanned.ensures.exact;
-      spot = c.scan_on-scanned.ensures.spot;
+      process_state = c.scan_on-scanned.ensures.process_state;
       what = c.scan_on-scanned.ensures.outcome;
       layout = refl;
       limit = refl;
@@ -55,11 +55,11 @@ fed c =
 pub invariant_of-self : goal.invariant_of-self
 invariant_of-self c = stays (world c) (next c) (fed c)
 
-taken : (c : goal.After-self-2-1) → Advances c.args.self.now c.args.p (quiet_step c.args.access c.load-found.result) (new c)
+taken : (c : goal.After-self-2-1) → Advances c.args.self.now c.args.p (silent_step c.args.access c.load-found.result) (new c)
 taken c = takes (world c) (next c) (fed c)
 
 pub returns-clause-advances : goal.returns-clause-advances
 returns-clause-advances c = subst (λ told. Advances c.args.self.now c.args.p told (new c)) (taken c).told (taken c)
 
-pub returns-clause-quiet : goal.returns-clause-quiet
-returns-clause-quiet c = sym (taken c).told
+pub returns-clause-silent : goal.returns-clause-silent
+returns-clause-silent c = sym (taken c).told

@@ -6,7 +6,7 @@ use Rattle.robust.proofs.access.fast_append.put_row.Goals as goal
 pub loop-j-init : goal.loop-j-init
 loop-j-init c = record {
   at = c.requires.at ∙ ap (stored_so_far c.args.entry.now) (let none : c.args.step ≡ c.args.step + 0 = omega arith in none);
-  unanswered = unanswered_none c.args.walker.now;
+  unanswered = unanswered_none c.args.port.now;
   clear = c.requires.clear;
   of = c.requires.of;
 }
@@ -20,7 +20,7 @@ put-requires-clause-next c =
 pub loop-j-preserved : goal.loop-j-preserved
 loop-j-preserved c = record {
   at = c.put.ensures.at ∙ ap (stored_so_far c.args.entry.now) (let more : (c.args.step + c.loop-j.j) + 1 ≡ c.args.step + (c.loop-j.j + 1) = omega arith in more);
-  unanswered = unanswered_then c.args.walker.now c.loop-j.walker c.put.new.walker c.loop-j.j 1 0 c.loop-j.invariant.unanswered c.put.ensures.unanswered;
+  unanswered = unanswered_then c.args.port.now c.loop-j.port c.put.new.port c.loop-j.j 1 0 c.loop-j.invariant.unanswered c.put.ensures.unanswered;
   clear = c.put.ensures.clear;
   of = c.put.ensures.of;
 }

@@ -4,6 +4,6 @@ use Rattle.robust.proofs.access.fast_path.peek_others.Given as goal
 
 abbrev pub invariant-loop-j : goal.invariant-loop-j
 invariant-loop-j l = record {
-  way : Way l.fn.walker l.taken l.walker (Door (above l.fn.walker.setup.layout.procs l.fn.walker.by l.j) l.greatest);
+  way : Way l.fn.port l.taken l.port (Door (above l.fn.port.setup.layout.procs l.fn.port.by l.j) l.greatest);
   few : l.taken ≤ l.j;
 }

@@ -10,12 +10,12 @@ returns-then-number-ne0-clause-stands c = way_then c.read_choosing-choosing.ensu
 
 pub returns-then-inside-ne0-clause-stands : goal.returns-then-inside-ne0-clause-stands
 returns-then-inside-ne0-clause-stands c =
-    let y = c.read_number-number.new.walker in
+    let y = c.read_number-number.new.port in
     let r = c.read_inside-inside in
-    way_to c.args.walker.now r.new.walker 3 3 (relocked y.setup.layout.procs y.by 0 0 r.result) (Unmarking Lock) refl (relocked_some y.setup.layout.procs y.by r.result c.if-inside-ne0.true) (way_then (way_then c.read_choosing-choosing.ensures.way c.read_number-number.ensures.way) r.ensures.way)
+    way_to c.args.port.now r.new.port 3 3 (relocked y.setup.layout.procs y.by 0 0 r.result) (Unmarking Lock) refl (relocked_some y.setup.layout.procs y.by r.result c.if-inside-ne0.true) (way_then (way_then c.read_choosing-choosing.ensures.way c.read_number-number.ensures.way) r.ensures.way)
 
 pub returns-clause-rests : goal.returns-clause-rests
 returns-clause-rests c = λ none.
-    let y = c.read_number-number.new.walker in
+    let y = c.read_number-number.new.port in
     let r = c.read_inside-inside in
-    way_to c.args.walker.now r.new.walker 3 3 (relocked y.setup.layout.procs y.by 0 0 r.result) Opening refl (relocked_none y.setup.layout.procs y.by r.result c.if-inside-ne0.false) (way_then (way_then c.read_choosing-choosing.ensures.way c.read_number-number.ensures.way) r.ensures.way)
+    way_to c.args.port.now r.new.port 3 3 (relocked y.setup.layout.procs y.by 0 0 r.result) Opening refl (relocked_none y.setup.layout.procs y.by r.result c.if-inside-ne0.false) (way_then (way_then c.read_choosing-choosing.ensures.way c.read_number-number.ensures.way) r.ensures.way)

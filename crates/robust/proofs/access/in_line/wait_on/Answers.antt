@@ -5,9 +5,9 @@ use Rattle.robust.proofs.access.in_line.wait_on.Goals as goal
 
 pub returns-clause-unanswered : goal.returns-clause-unanswered
 returns-clause-unanswered c =
-    let x = c.args.walker.now in
-    let y = c.weigh.new.walker in
-    let b = c.pass_others-behind in
+    let x = c.args.port.now in
+    let y = c.weigh.new.port in
+    let b = c.seat_view_others-behind in
     let m = if b.result.is_blocked then 1 else 0 in
     let e : 1 + b.result.taken ≡ b.result.taken + 1 = omega arith in
-    subst (λ (k : ℕ). Unanswered x k m b.new.walker) e (unanswered_then x y b.new.walker 1 b.result.taken m c.if-not-weigh.ensures.unanswered b.ensures.unanswered)
+    subst (λ (k : ℕ). Unanswered x k m b.new.port) e (unanswered_then x y b.new.port 1 b.result.taken m c.if-not-weigh.ensures.unanswered b.ensures.unanswered)

@@ -16,8 +16,8 @@ returns-in-Fault-clause-first c =
       back = drop (suc i) ended;
       are = split_at ended i d c.loop-done-test.true ∙ ap (λ (x : Done). take i ended ++ x ∷ drop (suc i) ended) (sym c.done-item.is);
       sent = c.loop-done.invariant;
-      below = c.number-p.ensures.pass.below;
-      cause_is = ap (fault_by d.member.pass.by) c.in-Fault.is ∙ ap (λ (p : ℕ). Some (Member p c.in-Fault.fault)) (sym c.number-p.ensures.is);
+      below = c.number-p.ensures.seat_view.below;
+      cause_is = ap (fault_by d.member.seat_view.by) c.in-Fault.is ∙ ap (λ (p : ℕ). Some (Member p c.in-Fault.fault)) (sym c.number-p.ensures.is);
     }
 
 pub returns-in-Refused-clause-first : goal.returns-in-Refused-clause-first
@@ -31,8 +31,8 @@ returns-in-Refused-clause-first c =
       back = drop (suc i) ended;
       are = split_at ended i d c.loop-done-test.true ∙ ap (λ (x : Done). take i ended ++ x ∷ drop (suc i) ended) (sym c.done-item.is);
       sent = c.loop-done.invariant;
-      below = c.number-p.ensures.pass.below;
-      cause_is = ap (fault_by d.member.pass.by) c.in-Refused.is ∙ ap (λ (p : ℕ). Some (Reply p c.in-Refused.reply)) (sym c.number-p.ensures.is);
+      below = c.number-p.ensures.seat_view.below;
+      cause_is = ap (fault_by d.member.seat_view.by) c.in-Refused.is ∙ ap (λ (p : ℕ). Some (Reply p c.in-Refused.reply)) (sym c.number-p.ensures.is);
     }
 
 pub loop-done-preserved : goal.loop-done-preserved

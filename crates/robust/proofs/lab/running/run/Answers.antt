@@ -74,7 +74,7 @@ returns-in-Ok-gather-clause-ends g c =
     let ended = c.in-Ok.ended.items in
     let members : xs ≡ map member_of ended = c.in-Ok-members_of.ensures in
     let seats = ap seats_of members ∙ members_seats ended ∙ c.in-Ok.ensures.seats ∙ s.1 in
-    let setups = subst (All (λ (x : Seated). x.pass.setup ≡ z)) members (all_setups s.0 z xs seats) in
+    let setups = subst (All (λ (x : Seated). x.seat_view.setup ≡ z)) members (all_setups s.0 z xs seats) in
     let first = subst (λ (ds : List Done). IsFirstFault ds c.in-Some.fault) c.as_slice.ensures.value c.in-Some.ensures.first in
     let gathered = subst (λ (ys : List Seated). Gathers ys c.in-Ok-gather.image) members c.in-Ok-gather.ensures.gathered in
     lab_ends spec ended c.in-Ok-gather.image c.in-Some.fault (good_layout spec (vec_len c.args.gates) c.requires) setups c.in-Ok.ensures.worked first gathered c.in-Ok-gather.ensures.lawful c.messages_were_sent.ensures.sent c.messages_were_sent.ensures.closed c.runs_show.ensures c.loads_tell.ensures c.nobody_ruins.ensures

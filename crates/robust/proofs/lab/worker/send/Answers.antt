@@ -15,7 +15,7 @@ returns-in-Ok-clause-only g c = λ width k fits old.
 pub returns-in-Ok-clause-shown : goal.returns-in-Ok-clause-shown
 returns-in-Ok-clause-shown g c = λ stored.
     let seat = sent_seat c.loop.member c.append.new.self (Append c.args.seq c.args.value) c.args.seq c.args.value _ _ _ _ c.append.result c.append.ensures.replied c.append.ensures.fails in
-    subst (λ (p : ℕ). IsAmong p c.args.seq (shown_by c.append.new.self.pass.setup c.append.new.self.pass.seen)) (ap (λ (s : TableId × Setup × ℕ). s.2) (sym seat)) (c.in-Ok.ensures.shown stored)
+    subst (λ (p : ℕ). IsAmong p c.args.seq (shown_by c.append.new.self.seat_view.setup c.append.new.self.seat_view.seen)) (ap (λ (s : TableId × Setup × ℕ). s.2) (sym seat)) (c.in-Ok.ensures.shown stored)
 
 pub loop-preserved : goal.loop-preserved
 loop-preserved g c = record {

@@ -6,8 +6,8 @@ use Rattle.robust.proofs.lab.worker.send.Given as goal
 abbrev pub invariant-loop : goal.invariant-loop
 invariant-loop g l = record {
   seat : seat_of l.member ≡ seat_of l.fn.member;
-  only : (width k : ℕ) → IsSending width k l.fn.member.pass.by (Append l.fn.seq l.fn.value) → SendsOnly width k l.fn.member → SendsOnly width k l.member;
+  only : (width k : ℕ) → IsSending width k l.fn.member.seat_view.by (Append l.fn.seq l.fn.value) → SendsOnly width k l.fn.member → SendsOnly width k l.member;
   out : refusal_now (ready l.member) Lock ≡ None;
-  ordered : AreInOrder None (own_of l.fn.member.pass) → AreInOrder None (own_of l.member.pass);
+  ordered : AreInOrder None (own_of l.fn.member.seat_view) → AreInOrder None (own_of l.member.seat_view);
   grown : Grown l.fn.member l.member;
 }

@@ -8,5 +8,5 @@ invariant-loop-seq g l = record {
   only : SendsOnly l.fn.spec.width l.fn.spec.messages l.member;
   shown : (n : ℕ) → n + 1 ≡ l.seq → 0 < n → HasShown n l.member;
   out : refusal_now (ready l.member) Lock ≡ None;
-  ordered : AreInOrder None (own_of l.member.pass);
+  ordered : AreInOrder None (own_of l.member.seat_view);
 }

@@ -6,9 +6,9 @@ use Rattle.robust.proofs.member.Member.put.Goals as goal
 
 pub returns-clause-last : goal.returns-clause-last
 returns-clause-last g c =
-    let x = c.self.inside.runner in
+    let x = c.self.inside.call_driver in
     let i = c.args.i in
     let r = c.in_ok-call.ensures.answered in
     let is : c.in_ok-call.field-0 ≡ Mail c.in-Mail.field-0 = search rules in
-    subst (λ (u : Seated). (e : TakenStep) × (last_put u.pass.setup i c.call.new.self.pass.seen ≡ Some e) × (e.by ≡ u.pass.by) × (e.value ≡ c.args.value)) c.self.view_is
+    subst (λ (u : Seated). (e : TakenStep) × (last_put u.seat_view.setup i c.call.new.self.seat_view.seen ≡ Some e) × (e.by ≡ u.seat_view.by) × (e.value ≡ c.args.value)) c.self.view_is
     (has_put x c.call.new.self i c.args.value c.in-Mail.field-0 r.0 c.self.invariant c.in_ok-call.ensures.accepted (subst (λ (a : Answer). Served (began x (Put i c.args.value)) (Put i c.args.value) (a ∷ []) 0 c.call.new.self r.0) is r.1))

@@ -1,6 +1,6 @@
 use Rattle.std.proofs.Common.{◌≡◌, ◌++◌, ◌∷◌, subst}
 use Rattle.schedule.proofs.LexerCommon.{word_of}
-use Rattle.schedule.specs.declared.lines.command.Command.TheVariants as commands
+use Rattle.schedule.specs.declared.lines.command.Keyword.TheVariants as commands
 use Rattle.schedule.proofs.Commands.{line_codec}
 use Rattle.schedule.proofs.Fronts.{short_begins, long_begins}
 use Rattle.schedule.proofs.lexer.line_front.first_line.Goals as goal

@@ -1,14 +1,14 @@
 use Rattle.std.proofs.Common.{◌++◌, [], arith}
-use Rattle.schedule.proofs.ReplaysCommon.{line_at, bench, line_on}
+use Rattle.schedule.proofs.ReplaysCommon.{line_at, running_judge, line_on}
 use Rattle.schedule.proofs.InPlace.{shorter, reads_on, reads_nothing}
-use Rattle.schedule.proofs.Playing.{played_none, played_more, runs_begin, runs_more, runs_halt, runs_end}
+use Rattle.schedule.proofs.Playing.{played_none, played_more, runs_begin, runs_more, runs_replay_stop, runs_end}
 use Rattle.schedule.proofs.replays.play_in_place.play_text.Goals as goal
 
 pub loop-rest-init : goal.loop-rest-init
 loop-rest-init g c = record {
   room = omega arith;
   read = c.requires.read;
-  played = λ lines e. ([], lines, e, played_none _ (bench c.args.judge.now c.args.clerk.now), runs_begin _ 2 c.args.machine.now lines);
+  played = λ lines e. ([], lines, e, played_none _ (running_judge c.args.judge.now c.args.reporter.now), runs_begin _ 2 c.args.machine.now lines);
 }
 
 pub returns-in-Err : goal.returns-in-Err
@@ -16,7 +16,7 @@ returns-in-Err g c lines e =
     let so_far = c.loop-rest.invariant.played lines e in
     let one = c.in-Err.ensures.err in
     let left = reads_on (line_at c.args.width) c.loop-rest.number c.loop-rest.rest.now one.1 one.0 so_far.1 one.2 so_far.2 in
-    rw c.at.ensures (runs_halt _ _ _ _ _ _ _ _ so_far.0 _ c.loop-rest.machine _ one.0 _ _ c.in-Err.halt so_far.3 so_far.4 left.1 one.3)
+    rw c.at.ensures (runs_replay_stop _ _ _ _ _ _ _ _ so_far.0 _ c.loop-rest.machine _ one.0 _ _ c.in-Err.replay_stop so_far.3 so_far.4 left.1 one.3)
 
 pub loop-rest-smaller : goal.loop-rest-smaller
 loop-rest-smaller g c = let one = c.in-Ok.ensures.ok in omega (arith, shorter (line_at c.args.width) c.loop-rest.rest.now c.in-Ok.after.now one.0 one.1)

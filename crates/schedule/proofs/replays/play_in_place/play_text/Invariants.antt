@@ -1,5 +1,5 @@
 use Rattle.std.proofs.Common.{◌≡◌, ◌+◌, ◌≤◌, List, Ok, length}
-use Rattle.schedule.proofs.ReplaysCommon.{Line, line_at, bench, Told, run_on, parts_of, items_at}
+use Rattle.schedule.proofs.ReplaysCommon.{Line, line_at, running_judge, Told, run_on, parts_of, items_at}
 use Rattle.schedule.proofs.Playing.{Played, RunsOn}
 use Rattle.schedule.proofs.replays.play_in_place.play_text.Given as goal
 
@@ -13,7 +13,7 @@ invariant-loop-rest g l =
       read : (all : List Line) × (items_at (line_at l.width) l.number (parts_of l.rest) ≡ Ok all);
       played : (lines : List Line) → items_at (line_at l.width) 2 (parts_of l.text) ≡ Ok lines
           → (told : List Told) × (left : List Line) × (items_at (line_at l.width) l.number (parts_of l.rest) ≡ Ok left)
-          × Played before now (bench l.fn.judge l.fn.clerk) (bench l.judge l.clerk) told × RunsOn b (run_on b 2 l.fn.machine lines) told l.number l.machine left;
+          × Played before now (running_judge l.fn.judge l.fn.reporter) (running_judge l.judge l.reporter) told × RunsOn b (run_on b 2 l.fn.machine lines) told l.number l.machine left;
     }
 
 abbrev pub decreases-loop-rest : goal.decreases-loop-rest

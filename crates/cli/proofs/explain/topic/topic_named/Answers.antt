@@ -1,6 +1,0 @@
--- the name of each topic is that of a listed one
-use Rattle.cli.proofs.Listed.{nowhere}
-use Rattle.cli.proofs.explain.topic.topic_named.Goals as goal
-
-pub returns-clause-none : goal.returns-clause-none
-returns-clause-none c = λ none. nowhere c.args.name.now (c.among.ensures.none none)

@@ -1,4 +1,0 @@
-use Rattle.crashlab.proofs.shrinking.far.lower_all.Given as goal
-
-abbrev pub decreases-loop-by : goal.decreases-loop-by
-decreases-loop-by l = l.by

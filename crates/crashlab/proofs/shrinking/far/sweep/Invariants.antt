@@ -1,4 +1,0 @@
-use Rattle.crashlab.proofs.shrinking.far.sweep.Given as goal
-
-abbrev pub decreases-loop-to : goal.decreases-loop-to
-decreases-loop-to l = l.to

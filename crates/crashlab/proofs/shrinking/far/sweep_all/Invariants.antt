@@ -1,4 +1,0 @@
-use Rattle.crashlab.proofs.shrinking.far.sweep_all.Given as goal
-
-abbrev pub decreases-loop-size : goal.decreases-loop-size
-decreases-loop-size l = l.size

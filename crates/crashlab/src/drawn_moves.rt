@@ -1,0 +1,65 @@
+//! The moves of a round so far.
+
+ghost use Rattle.std.specs.Prelude.{◌≡◌, ◌∷◌, [], map, take, IfOk, OnOk, IfErr};
+ghost use Rattle.crashlab.specs.Found.{line_by, drawn_moves_of, with_line};
+
+use crate::hunt_fault::HuntFault;
+use crate::hunting::{CAP, LIMIT, PROCS, WIDTH};
+use crate::moves::DrawnMove;
+use schedule::Schedule;
+use std::alloc::Global;
+use std::marker::Model;
+
+/// The moves of a round so far. Contracts see the schedule that they spell. Its lines take three times the room, so they are
+/// made only when the schedule is asked for.
+#[derive(Drop)]
+pub struct DrawnMoves {
+    moves: Vec<DrawnMove>,
+}
+
+impl Model for DrawnMoves {
+    ghost use Rattle.schedule.specs.Schedules.{Scheduled};
+    ghost use Rattle.crashlab.specs.Found.{drawn_moves_of};
+
+    ghost Value = { Scheduled };
+
+    ghost view = { λ r. drawn_moves_of r.moves.items };
+}
+
+impl DrawnMoves {
+    /// No moves.
+    pub fn new(alloc: Global) -> DrawnMoves
+        ensures { result ≡ drawn_moves_of [] }
+    {
+        DrawnMoves {
+            moves: Vec::new(alloc),
+        }
+    }
+
+    /// Adds a move.
+    pub fn push(&mut self, made: DrawnMove) -> Result<(), HuntFault>
+        ensures line { OnOk result (self.new ≡ with_line self.old (line_by made)) }
+        ensures memory { IfErr result (λ e. e ≡ HuntFault.OutOfMemory) }
+    {
+        match self.moves.push(made) {
+            Ok(()) => Ok(()),
+            Err(_) => Err(HuntFault::OutOfMemory),
+        }
+    }
+
+    /// The moves as a schedule of a hunt's world.
+    pub fn schedule(&self, alloc: Global) -> Result<Schedule, HuntFault>
+        ensures same { IfOk result (λ schedule. schedule ≡ self.now) }
+        ensures memory { IfErr result (λ e. e ≡ HuntFault.OutOfMemory) }
+    {
+        let Ok(mut schedule) = Schedule::new(alloc, PROCS, LIMIT, CAP, WIDTH) else {
+            return Err(HuntFault::OutOfMemory);
+        };
+        for made in &self.moves {
+            if schedule.push(made.line()).is_err() {
+                return Err(HuntFault::OutOfMemory);
+            }
+        }
+        Ok(schedule)
+    }
+}

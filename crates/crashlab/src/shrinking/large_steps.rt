@@ -1,0 +1,190 @@
+//! Large changes, so that few changes by one are left. Nothing is proved of them: their result is played once more.
+
+ghost use Rattle.std.specs.Prelude.{◌<◌};
+
+use crate::shrinking::change::{Removal, both, process_of};
+use crate::shrinking::played::{Wanted, goes_wrong};
+use crate::shrinking::replaced::{copied, emptied};
+use schedule::{Line, OutOfMemory, Schedule};
+
+/// The schedule with a change.
+fn changed(
+    wanted: &Wanted,
+    schedule: &Schedule,
+    change: &Removal,
+) -> Result<Schedule, OutOfMemory> {
+    let mut changed = emptied(wanted.alloc, schedule)?;
+    for (index, line) in schedule.lines().iter().enumerate() {
+        if let Some(line) = change.made(index, line) {
+            if changed.push(line).is_err() {
+                return Err(OutOfMemory);
+            }
+        }
+    }
+    Ok(changed)
+}
+
+/// Makes a change, if the schedule still goes wrong with it. Answers whether the change was made.
+fn make(wanted: &Wanted, schedule: &mut Schedule, change: Removal) -> Result<bool, OutOfMemory> {
+    let changed = changed(wanted, schedule, &change)?;
+    let wrong = goes_wrong(wanted, &changed)?;
+    if wrong {
+        *schedule = changed;
+    }
+    Ok(wrong)
+}
+
+/// Leaves out `size` lines at a time, from the end on.
+fn sweep(wanted: &Wanted, schedule: &mut Schedule, size: usize) -> Result<(), OutOfMemory>
+    requires { 0 < size }
+{
+    let mut to = schedule.lines().len();
+    while to > 0 {
+        let from = to.saturating_sub(size);
+        make(wanted, schedule, Removal::LeaveOut { from, to })?;
+        to = from;
+    }
+    Ok(())
+}
+
+/// Leaves out ranges of lines, each time half as long.
+fn sweep_all(wanted: &Wanted, schedule: &mut Schedule) -> Result<(), OutOfMemory> {
+    let mut size = schedule.lines().len();
+    while size > 1 {
+        size /= 2;
+        sweep(wanted, schedule, size)?;
+    }
+    Ok(())
+}
+
+/// Leaves out all lines of a process, for each process.
+fn silence(wanted: &Wanted, schedule: &mut Schedule) -> Result<(), OutOfMemory> {
+    for process in 0..schedule.head().procs {
+        let to = schedule.lines().len();
+        let from = 0;
+        make(wanted, schedule, Removal::Silence { process, from, to })?;
+    }
+    Ok(())
+}
+
+/// The next line, from this one on, at which the process starts a call or crashes. The end where there is none.
+fn next_turn(lines: &[Line], process: u64, from: usize) -> usize {
+    for next in from..lines.len() {
+        match lines[next] {
+            Line::Start(p, _) | Line::Crash(p) if p == process => return next,
+            _ => {}
+        }
+    }
+    lines.len()
+}
+
+/// Leaves out the lines of this line's process from it on, up to each of the next four starts or crashes of the process.
+fn silence_from(wanted: &Wanted, schedule: &mut Schedule, from: usize) -> Result<(), OutOfMemory> {
+    let mut to = from;
+    for _ in 0..4 {
+        let Some(line) = schedule.lines().get(from) else {
+            return Ok(());
+        };
+        let process = process_of(line);
+        to = next_turn(schedule.lines(), process, to.saturating_add(1));
+        make(wanted, schedule, Removal::Silence { process, from, to })?;
+    }
+    Ok(())
+}
+
+/// Leaves out what a process does in one call, or in a few.
+fn silence_calls(wanted: &Wanted, schedule: &mut Schedule) -> Result<(), OutOfMemory> {
+    for at in (0..schedule.lines().len()).rev() {
+        silence_from(wanted, schedule, at)?;
+    }
+    Ok(())
+}
+
+/// The next line of the same process.
+fn next_of(lines: &[Line], first: usize) -> Option<usize> {
+    let process = process_of(lines.get(first)?);
+    for second in first.saturating_add(1)..lines.len() {
+        if process_of(&lines[second]) == process {
+            return Some(second);
+        }
+    }
+    None
+}
+
+/// Makes two lines of steps one line, in the place `at`.
+fn gather_into(
+    wanted: &Wanted,
+    schedule: &mut Schedule,
+    first: usize,
+    second: usize,
+    at: usize,
+) -> Result<bool, OutOfMemory> {
+    let lines = schedule.lines();
+    let (Some(before), Some(after)) = (lines.get(first), lines.get(second)) else {
+        return Ok(false);
+    };
+    let Some(line) = both(before, after) else {
+        return Ok(false);
+    };
+    let change = Removal::Gather {
+        first,
+        second,
+        at,
+        line,
+    };
+    make(wanted, schedule, change)
+}
+
+/// Makes this line and the next of its process one, in the place of the first, else of the second.
+fn gather_at(wanted: &Wanted, schedule: &mut Schedule, first: usize) -> Result<bool, OutOfMemory> {
+    let Some(second) = next_of(schedule.lines(), first) else {
+        return Ok(false);
+    };
+    if gather_into(wanted, schedule, first, second, first)? {
+        return Ok(true);
+    }
+    gather_into(wanted, schedule, first, second, second)
+}
+
+/// Makes two lines of steps one, wherever no other line of their process is between them.
+fn gather(wanted: &Wanted, schedule: &mut Schedule) -> Result<(), OutOfMemory> {
+    for first in (0..schedule.lines().len()).rev() {
+        gather_at(wanted, schedule, first)?;
+    }
+    Ok(())
+}
+
+/// Lowers each count by `by`, where something is left.
+fn lower(wanted: &Wanted, schedule: &mut Schedule, by: u64) -> Result<(), OutOfMemory> {
+    for at in 0..schedule.lines().len() {
+        if let Some(Line::Step(_, count)) = schedule.lines().get(at) {
+            if count.get() > by {
+                make(wanted, schedule, Removal::Lower { at, by })?;
+            }
+        }
+    }
+    Ok(())
+}
+
+/// Lowers counts, each time by half as much.
+fn lower_all(wanted: &Wanted, schedule: &mut Schedule) -> Result<(), OutOfMemory> {
+    let mut by = 1_000_000;
+    while by > 1 {
+        by /= 2;
+        lower(wanted, schedule, by)?;
+    }
+    Ok(())
+}
+
+/// The schedule with large changes made. It still goes wrong.
+pub fn shorten(wanted: &Wanted, schedule: &Schedule) -> Result<Schedule, OutOfMemory> {
+    let mut now = copied(wanted.alloc, schedule)?;
+    for _ in 0..3 {
+        silence(wanted, &mut now)?;
+        sweep_all(wanted, &mut now)?;
+        silence_calls(wanted, &mut now)?;
+        gather(wanted, &mut now)?;
+        lower_all(wanted, &mut now)?;
+    }
+    Ok(now)
+}

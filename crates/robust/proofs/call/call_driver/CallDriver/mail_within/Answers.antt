@@ -1,0 +1,38 @@
+use Rattle.std.proofs.Common.{◌≡◌, ◌≢◌, None, sym, subst}
+use Rattle.robust.proofs.CallCommon.{Withdraw, refusal_now, Seated, lock_setup, err_any, ok_any, cut_out, busy_out, whole_fails, cut_fails}
+use Rattle.execution.specs.declared.lock_fault.LockFault.TheVariants.{AlreadyIn}
+use Rattle.execution.proofs.WholeSteps.{few_whole, few_lock}
+use Rattle.robust.proofs.call.call_driver.CallDriver.mail_within.Goals as goal
+
+pub returns-in-Err-clause-fails : goal.returns-in-Err-clause-fails
+returns-in-Err-clause-fails g c =
+    cut_fails c.args.self.now c.set_out_lock.new.self c.take_turns.new.self c.args.turns c.args.task.now (g.C.CrashPlan.asked c.args.plan.now) (g.C.CrashPlan.asked c.take_turns.new.plan) (g.C.CrashPlan.fallen c.args.plan.now) (g.C.CrashPlan.fallen c.take_turns.new.plan) c.in_ok-set_out_lock.ensures.out.0
+    c.in_ok-set_out_lock.ensures.accepted c.in-Err.fault c.in-Err.ensures.crashed c.in-Err.ensures.cut
+
+pub returns-in-Ok-clause-fails : goal.returns-in-Ok-clause-fails
+returns-in-Ok-clause-fails g c =
+    whole_fails c.args.self.now c.set_out_lock.new.self c.finish.new.self c.args.turns c.args.task.now (g.C.CrashPlan.asked c.args.plan.now) (g.C.CrashPlan.asked c.finish.new.plan) (g.C.CrashPlan.fallen c.args.plan.now) (g.C.CrashPlan.fallen c.finish.new.plan)
+    c.in_ok-set_out_lock.ensures.out.0 c.in_ok-set_out_lock.ensures.accepted c.finish.result (c.finish.ensures.goes c.set_out_lock.new.self c.args.turns (g.C.CrashPlan.asked c.args.plan.now) (g.C.CrashPlan.fallen c.args.plan.now) c.in-Ok.ensures.ends)
+
+pub returns-in-Ok-clause-few : goal.returns-in-Ok-clause-few
+returns-in-Ok-clause-few g c =
+    ok_any c.finish.result _
+    (few_whole c.args.self.now c.set_out_lock.new.self c.take_turns.new.self c.finish.new.self c.args.task.now c.args.turns c.in_ok-set_out_lock.ensures.out.0 (lock_setup c.set_out_lock.new.self c.take_turns.new.self c.args.turns c.in-Ok.answer _ _ _ _ c.in-Ok.ensures.ends) c.in-Ok.ensures.few c.finish.ensures.few)
+
+pub returns-in-Ok-clause-few_out : goal.returns-in-Ok-clause-few_out
+returns-in-Ok-clause-few_out g c =
+    err_any c.finish.result (λ e. e ≢ AlreadyIn) _
+    (few_whole c.args.self.now c.set_out_lock.new.self c.take_turns.new.self c.finish.new.self c.args.task.now c.args.turns c.in_ok-set_out_lock.ensures.out.0 (lock_setup c.set_out_lock.new.self c.take_turns.new.self c.args.turns c.in-Ok.answer _ _ _ _ c.in-Ok.ensures.ends) c.in-Ok.ensures.few c.finish.ensures.few)
+
+pub returns-in-Err-clause-few_out : goal.returns-in-Err-clause-few_out
+returns-in-Err-clause-few_out g c = λ other. few_lock c.args.self.now c.set_out_lock.new.self c.take_turns.new.self c.take_turns.new.self c.args.task.now c.args.turns c.in_ok-set_out_lock.ensures.out.0 c.in-Err.ensures.few
+
+pub returns-in-Err-clause-out : goal.returns-in-Err-clause-out
+returns-in-Err-clause-out g c = λ alive. cut_out c.set_out_lock.new.self c.take_turns.new.self _ _ _ _ _ c.in-Err.ensures.cut
+
+pub returns-in-Ok-clause-out : goal.returns-in-Ok-clause-out
+returns-in-Ok-clause-out g c = λ alive. c.finish.ensures.out (λ none. busy_out c.take_turns.new.self (c.in-Ok.ensures.waits none))
+
+pub returns-in-Ok-clause-waits : goal.returns-in-Ok-clause-waits
+returns-in-Ok-clause-waits g c =
+    λ late. subst (λ (u : Seated). refusal_now u Withdraw ≡ None) (sym (c.finish.ensures.stays late)) (c.in-Ok.ensures.waiting (c.finish.ensures.patient late))

@@ -1,5 +1,0 @@
-use Rattle.execution.proofs.Running.{run_by_look}
-use Rattle.robust.proofs.call.runner.Runner.glance.Goals as goal
-
-pub invariant_of-self : goal.invariant_of-self
-invariant_of-self c = run_by_look c.self.inside.walker c.glance.new.self c.args.word c.glance.result c.self.inside.process c.glance.ensures c.self.invariant

@@ -1,4 +1,0 @@
-use Rattle.schedule.proofs.replays.clerk.Clerk.hear.Goals as goal
-
-pub returns : goal.returns
-returns c = rw (← c.self.view_is, c.in-Some.is) c.hear.ensures

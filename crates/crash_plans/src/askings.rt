@@ -41,7 +41,7 @@ impl Askings {
     }
 
     /// Counts askings at which the plan does not fall.
-    pub fn count_never_crashes(&mut self, askings: u64)
+    pub fn count_without_crash(&mut self, askings: u64)
         ensures { self.new ≡ record self.old { asked = so_many_more askings self.old.asked } }
     {
         self.asked = self.asked.saturating_add(askings);

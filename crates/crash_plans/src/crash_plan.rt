@@ -18,7 +18,7 @@ pub trait CrashPlan {
 
     /// Whether the plan is known never to fall. If so, a process may take its steps first and count their askings
     /// afterwards, as the lock's fast path does. A plan without its own answer counts as one that may fall.
-    fn is_never_crashes(&self) -> bool
+    fn never_crashes(&self) -> bool
         ensures { result ≡ true → never_crashes self.now ≡ true }
     {
         false

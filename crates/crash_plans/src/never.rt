@@ -41,12 +41,12 @@ impl CrashPlan for Never {
 
     ghost never_crashes = { λ _. true };
 
-    fn is_never_crashes(&self) -> bool {
+    fn never_crashes(&self) -> bool {
         true
     }
 
     fn count_askings(&mut self, askings: u64) {
-        self.askings.count_never_crashes(askings);
+        self.askings.count_without_crash(askings);
     }
 
     fn falls(&mut self) -> bool

@@ -68,7 +68,7 @@ pub use Rattle.execution.specs.Lasting.{Within, lock_left, IsFair, exit_of, Last
 pub use Rattle.execution.specs.SeatView.{SeatView, IsSeatView, process_state_now, EndsWith, Adds, Calls, alone, view_of, glanced, glance_entry, Looks, pending_events, next_entry, moved_process_state, Advances, rest_known, own_of}
 pub use Rattle.execution.specs.Reading.{cells_of, row_words, entry_words, AreGlances, up_to_count, ReadsFrom, AreShown, RunsShow, EntriesStandInRuns}
 pub use Rattle.execution.specs.Ruins.{last_call, last_of, MayStart, AreInOrder, ReadsRuin, HasReadRuin, settles}
-pub use Rattle.execution.specs.Rule.{count_from, joined, IsIn, Did, MayLoad, stepper, entry_of, opening_known, longer, spent_known, IsAnswered, AllFit, IsMember, IsKept, Kept, May, MayStore, MaySeatView, without_first, first_alone}
+pub use Rattle.execution.specs.Rule.{count_from, joined, IsIn, Did, MayLoad, stepper, entry_of, opening_known, longer, spent_known, IsAnswered, AllFit, IsMember, IsKept, Kept, May, MayStore, MayStepPastEnd, without_first, first_alone}
 pub use Rattle.execution.specs.Running.{Seated, began, many_more, fell, behind, IsRunBy, next_of, outcome_of, TakesStep}
 pub use Rattle.execution.specs.Runs.{before, taken, world_events, spelled, own, IsRun, end_of, gone, process_state_of, has, index, InTable, Goes, word_count, IsBeyond, Shows, stores, crash_first}
 pub use Rattle.execution.specs.Tabled.{KeepsTable, CountsAtMost, words_begun, process_state_begun, table_steps, blocked_since, LockCounts, CallsKeepTheTable}

@@ -1,7 +1,7 @@
 -- Each step keeps the rule. What is proved here doesn't use the lock's machine.
 use Rattle.std.proofs.Common.{◌≡◌, ◌≢◌, ◌⊎◌, ℕ, zero, suc, ◌+◌, ◌<◌, ◌≤◌, ◌==◌, ltb, Bool, true, false, cond, All, true≢false, List, [], ◌∷◌, ◌++◌, length, set, replicate, refl, sym, ap, ◌∙◌, subst, inl, inr, ⊎_elim, arith, eqb-true, eq-eqb, ne_eqb, length-set, length-append, append_assoc, append-nil, ltb-true, ltb-false}
 use Rattle.execution.proofs.Common.{set-get_or, or_cases, All-nil, All-cons, All-append, slice_index, dite, ℕ_discrete, keeps, Allows, Splits, Joins, opening, ProcessState, at_rest, at_first, reading, SeatKnowledge, Step, TakenStep, View}
-use Rattle.execution.proofs.Common.{Setup, count_from, joined, IsIn, Did, MayLoad, stepper, entry_of, opening_known, longer, spent_known, IsAnswered, AllFit, IsMember, IsKept, Kept, May, MayStore, MaySeatView}
+use Rattle.execution.proofs.Common.{Setup, count_from, joined, IsIn, Did, MayLoad, stepper, entry_of, opening_known, longer, spent_known, IsAnswered, AllFit, IsMember, IsKept, Kept, May, MayStore, MayStepPastEnd}
 use Rattle.execution.proofs.Common.{world_events, spelled, own, IsRun, end_of, gone, process_state_of, has, index, InTable, Goes, word_count, IsBeyond, Shows, stores}
 use mathlib.Core.Option.{Option, some, some-injective, some-ne-none}
 use lib.ListN.{get_elem?}
@@ -151,7 +151,7 @@ stores_kept sizes slots id v c step word new may s h homes at small =
     allowed sizes h.0 h.1 s.words s.views h.2 id v at step new m s.homes c word new (set s.words (index sizes step.word) new) (ap (λ (i : ℕ). set s.words i new) there.0) k
 
 pub passes : (sizes : Setup) (slots id : ℕ) (v : SeatKnowledge) (c : List (ℕ × Unit {0})) (step : Step) (word value : ℕ)
-    → MaySeatView step v.view value
+    → MayStepPastEnd step v.view value
     → Allows (Kept sizes) slots id (v, c) word (λ x. x) (λ found m. Did step v value m.0 × (m.1 ≡ c))
 passes sizes slots id v c step word value may s h homes at small =
     let m = may.2 in

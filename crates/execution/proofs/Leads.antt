@@ -1,7 +1,7 @@
 -- What a member's own entries say of its process state.
 use Rattle.std.proofs.Common.{◌≡◌, ℕ, ◌^◌, ◌<◌, ◌≤◌, Bool, true, false, List, [], ◌∷◌, ◌++◌, Option, IsSome, unwrap_or, refl, sym, ap, ◌∙◌, subst, eq-eqb, append-nil}
 use Rattle.execution.proofs.Common.{Kind, Word, is_store, Call, ProcessState, next_process_state, WorldEvent, at_rest, IsSize, SeatKnowledge, Step, TakenStep, Setup, SeatView, IsSeatView, process_state_now, Adds, alone, view_of, glanced}
-use Rattle.execution.proofs.Common.{glance_entry, Looks, pending_events, next_entry, moved_process_state, Advances, Did, MayLoad, May, MaySeatView, before, taken, world_events, spelled, own, IsRun, gone, process_state_of, has, index}
+use Rattle.execution.proofs.Common.{glance_entry, Looks, pending_events, next_entry, moved_process_state, Advances, Did, MayLoad, May, MayStepPastEnd, before, taken, world_events, spelled, own, IsRun, gone, process_state_of, has, index}
 use Rattle.execution.proofs.Common.{InTable, Goes, word_count, IsBeyond}
 use Rattle.execution.proofs.Runs.{own-append, own_mine, spelled_snoc}
 
@@ -98,6 +98,6 @@ pub load_as : (x now : SeatView) (k : SeatKnowledge) (kind : Kind) (word : Word)
 load_as x now k kind word at same e seat_view t is loads some =
     may_load x k kind word at e seat_view (subst (λ (y : SeatView). InTable y.setup word) (sym same) t) is loads (subst (λ (y : SeatView). (found : ℕ) → found < 18446744073709551616 → IsSome (moved_process_state y kind word found)) (sym same) some)
 
-pub seat_view_as : (x now : SeatView) (k : SeatKnowledge) (kind : Kind) (word : Word) (value : ℕ) → x ≡ now → k ≡ alone x.setup x.by x.seen → IsSeatView x → IsBeyond now.setup word → (is_store kind ≡ false → value ≡ 0) → IsSome (moved_process_state now kind word value) → MaySeatView (pending_events x kind word) k.view value
+pub seat_view_as : (x now : SeatView) (k : SeatKnowledge) (kind : Kind) (word : Word) (value : ℕ) → x ≡ now → k ≡ alone x.setup x.by x.seen → IsSeatView x → IsBeyond now.setup word → (is_store kind ≡ false → value ≡ 0) → IsSome (moved_process_state now kind word value) → MayStepPastEnd (pending_events x kind word) k.view value
 seat_view_as x now k kind word value same e seat_view t none some =
-    subst (λ v. MaySeatView (pending_events x kind word) v value) (sym (alone_is x k e)) (subst (λ (y : SeatView). IsBeyond y.setup word) (sym same) t, none, may x kind word value seat_view (subst (λ (y : SeatView). IsSome (moved_process_state y kind word value)) (sym same) some))
+    subst (λ v. MayStepPastEnd (pending_events x kind word) v value) (sym (alone_is x k e)) (subst (λ (y : SeatView). IsBeyond y.setup word) (sym same) t, none, may x kind word value seat_view (subst (λ (y : SeatView). IsSome (moved_process_state y kind word value)) (sym same) some))

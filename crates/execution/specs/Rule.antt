@@ -135,5 +135,5 @@ MayStore step word v new = (word ≡ index v.setup step.word) × InTable v.setup
 
 -- A step at a data word past the end of the mailbox: no word changes, and a load reads 0. No run has such a step. The lock
 -- theorem says so, not this rule.
-abbrev pub MaySeatView : Step → View → ℕ → Type 0
-MaySeatView step v value = IsBeyond v.setup step.word × (is_store step.kind ≡ false → value ≡ 0) × May step v value
+abbrev pub MayStepPastEnd : Step → View → ℕ → Type 0
+MayStepPastEnd step v value = IsBeyond v.setup step.word × (is_store step.kind ≡ false → value ≡ 0) × May step v value

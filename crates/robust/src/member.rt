@@ -124,7 +124,7 @@ impl Member {
         ensures table { OnOk result (table_steps self.old.seat_view Call.Unlock Answer.Unlocked ≡ Some self.new.steps) }
         ensures few { refusal_now self.old Call.Unlock ≡ None → self.new.steps ≤ most_steps self.old.seat_view.setup.layout Call.Unlock }
     {
-        if self.call_driver.is_clean() && plan.is_never_crashes() {
+        if self.call_driver.is_clean() && plan.never_crashes() {
             self.call_driver.fast_unlock(plan);
             return Ok(());
         }

@@ -35,7 +35,7 @@ fn look(port: &mut Port, number: u64, j: u64) -> bool
     ensures same { IsSame port.old port.new }
 {
     // For the proof alone: its value is read.
-    let _seat_view = port.by();
+    let _by = port.by();
     let value = port.load(Kind::Look, Word::Choosing(j));
     value == 0
 }
@@ -57,7 +57,7 @@ fn weigh(port: &mut Port, number: u64, j: u64) -> bool
 /// Looks at the others from an index on and weighs their numbers, up to the last one or to a blocked reading.
 // Inline: the loop of each wait.
 #[inline(always)]
-pub fn seat_view_others(port: &mut Port, number: u64, from: u64) -> Passed
+pub fn pass_others(port: &mut Port, number: u64, from: u64) -> Passed
     requires from { from ≤ 64 }
     requires at { process_state_now port.old ≡ waits_at port.old number from false }
     ensures at { process_state_now port.new ≡ waits_at port.old number result.next result.looked }
@@ -115,9 +115,9 @@ pub fn wait_on(port: &mut Port, number: u64, next: u64, looked: bool) -> Passed
     ensures same { IsSame port.old port.new }
 {
     // For the proof alone: its value is read.
-    let _seat_view = port.by();
+    let _by = port.by();
     if !looked {
-        return seat_view_others(port, number, next);
+        return pass_others(port, number, next);
     }
     if !weigh(port, number, next) {
         return Passed {
@@ -127,7 +127,7 @@ pub fn wait_on(port: &mut Port, number: u64, next: u64, looked: bool) -> Passed
             is_blocked: true,
         };
     }
-    let behind = seat_view_others(port, number, next + 1);
+    let behind = pass_others(port, number, next + 1);
     Passed {
         next: behind.next,
         looked: behind.looked,

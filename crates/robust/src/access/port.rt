@@ -132,14 +132,8 @@ impl Port {
         ensures { Advances self.old kind word result self.new }
     {
         let at = index(&self.setup, word);
-        let found = table::load(
-            &self.board,
-            &mut self.seat,
-            &self.pending_events,
-            kind,
-            word,
-            at,
-        );
+        let events = &self.pending_events;
+        let found = table::load(&self.board, &mut self.seat, events, kind, word, at);
         self.pending_events = PendingEvents::nothing();
         found
     }
@@ -165,13 +159,13 @@ impl Port {
     }
 
     /// A step at a data word past the table's end: no word changes, and a load reads 0. It loads word 0 and drops the value.
-    pub fn seat_view(&mut self, kind: Kind, word: Word, value: u64)
+    pub fn step_past_end(&mut self, kind: Kind, word: Word, value: u64)
         requires beyond { IsBeyond self.old.setup word }
         requires zero { is_store kind ≡ false → value ≡ 0 }
         requires may { IsSome (moved_process_state self.old kind word value) }
         ensures { Advances self.old kind word value self.new }
     {
-        table::seat_view(
+        table::step_past_end(
             &self.board,
             &mut self.seat,
             &self.pending_events,

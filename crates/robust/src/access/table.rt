@@ -2,7 +2,7 @@
 ghost use Rattle.std.specs.Prelude.{◌≡◌, ℕ, ◌<◌, []};
 ghost use Rattle.atomic_table.specs.Table.{Splits, Joins};
 ghost use Rattle.execution.specs.SeatView.{glanced};
-ghost use Rattle.execution.specs.Rule.{Kept, Did, MayLoad, MayStore, MaySeatView, without_first, first_alone, joined, spent_known};
+ghost use Rattle.execution.specs.Rule.{Kept, Did, MayLoad, MayStore, MayStepPastEnd, without_first, first_alone, joined, spent_known};
 ghost use Rattle.robust.specs.PendingEvents.{step_of};
 
 use crate::access::pending_events::PendingEvents;
@@ -139,7 +139,7 @@ fn store_named<D: StepName>(
     table.shared.store::<Does<D>>(seat, at as usize, new);
 }
 
-fn seat_view_named<D: StepName>(
+fn step_past_end_named<D: StepName>(
     table: &Board,
     seat: &mut RunSeat,
     pending_events: &PendingEvents,
@@ -151,7 +151,7 @@ fn seat_view_named<D: StepName>(
     requires some { 0 < table.now.shared.table_id.words }
     requires step { step_of pending_events.now kind word ≡ D.step }
     requires value { value ≡ D.value }
-    requires may { MaySeatView (step_of pending_events.now kind word) seat.old.me.0.view value }
+    requires may { MayStepPastEnd (step_of pending_events.now kind word) seat.old.me.0.view value }
     ensures same { (seat.new.table_id ≡ seat.old.table_id) × (seat.new.id ≡ seat.old.id) × (seat.new.me.1 ≡ seat.old.me.1) }
     ensures did { Did (step_of pending_events.now kind word) seat.old.me.0 value seat.new.me.0 }
 {
@@ -162,7 +162,7 @@ fn seat_view_named<D: StepName>(
 }
 
 /// A step at a data word past the table's end. The view grows by this step, and no word changes.
-pub fn seat_view(
+pub fn step_past_end(
     table: &Board,
     seat: &mut RunSeat,
     pending_events: &PendingEvents,
@@ -172,11 +172,11 @@ pub fn seat_view(
 )
     requires table { seat.old.table_id ≡ table.now.shared.table_id }
     requires some { 0 < table.now.shared.table_id.words }
-    requires may { MaySeatView (step_of pending_events.now kind word) seat.old.me.0.view value }
+    requires may { MayStepPastEnd (step_of pending_events.now kind word) seat.old.me.0.view value }
     ensures same { (seat.new.table_id ≡ seat.old.table_id) × (seat.new.id ≡ seat.old.id) × (seat.new.me.1 ≡ seat.old.me.1) }
     ensures did { Did (step_of pending_events.now kind word) seat.old.me.0 value seat.new.me.0 }
 {
-    seat_view_named::<Brand>(table, seat, pending_events, kind, word, value);
+    step_past_end_named::<Brand>(table, seat, pending_events, kind, word, value);
 }
 
 /// One load of word `at`. The view grows by this step.

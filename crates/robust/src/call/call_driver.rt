@@ -73,7 +73,7 @@ fn read(port: &mut Port, kind: Kind, word: Word) -> u64
     if in_table(&setup, word) {
         return port.load(kind, word);
     }
-    port.seat_view(kind, word, 0);
+    port.step_past_end(kind, word, 0);
     0
 }
 
@@ -91,7 +91,7 @@ fn perform(port: &mut Port, access: Access) -> u64
             if in_table(&setup, word) {
                 port.store(kind, word, value);
             } else {
-                port.seat_view(kind, word, value);
+                port.step_past_end(kind, word, value);
             }
             value
         }
@@ -99,7 +99,7 @@ fn perform(port: &mut Port, access: Access) -> u64
 }
 
 /// Counts the askings of a plan that never falls, in place of asking.
-fn count_never_crashes<C: CrashPlan>(plan: &mut C, askings: u64)
+fn count_without_crash<C: CrashPlan>(plan: &mut C, askings: u64)
     requires { C.never_crashes plan.old ≡ true }
     ensures asked { C.asked plan.new ≡ so_many_more askings (C.asked plan.old) }
     ensures fallen { C.fallen plan.new ≡ C.fallen plan.old }
@@ -201,7 +201,7 @@ impl CallDriver {
             × NeverCrashes (length mine) (C.asked plan.old) (C.asked plan.new) (C.fallen plan.old) (C.fallen plan.new) }
         ensures begun { told_by result ≡ None → Begun Lock self.new.seat_view.setup.layout.procs (process_state_now self.new.seat_view) }
     {
-        if !plan.is_never_crashes() {
+        if !plan.never_crashes() {
             return Led::Further;
         }
         let Some(stage) = self.process.stage() else {
@@ -211,7 +211,7 @@ impl CallDriver {
             return Led::Further;
         };
         self.steps = self.steps.saturating_add(taken);
-        count_never_crashes(plan, taken);
+        count_without_crash(plan, taken);
         match reached {
             Reached::Blocked(stage) => {
                 self.process.seam_machine_state(stage);
@@ -292,7 +292,7 @@ impl CallDriver {
     {
         self.go_out();
         self.steps = 2;
-        count_never_crashes(plan, 3);
+        count_without_crash(plan, 3);
     }
 
     /// The two stores of an unlock of a holder with nothing to mend. The caller counts them.
@@ -321,8 +321,7 @@ impl CallDriver {
         ensures call { result ≡ true → HasFastWay call.now }
     {
         match call {
-            Call::Append { .. } | Call::Unlock => self.process.is_clean()
-                && plan.is_never_crashes(),
+            Call::Append { .. } | Call::Unlock => self.process.is_clean() && plan.never_crashes(),
             _ => false,
         }
     }
@@ -343,7 +342,7 @@ impl CallDriver {
         let _seat_view = self.port.by();
         let (reply, taken) = append(&mut self.port, seq, value);
         self.steps = self.steps.saturating_add(taken);
-        count_never_crashes(plan, taken);
+        count_without_crash(plan, taken);
         Answer::Mail(reply)
     }
 
@@ -359,7 +358,7 @@ impl CallDriver {
     {
         self.go_out();
         self.steps = self.steps.saturating_add(2);
-        count_never_crashes(plan, 2);
+        count_without_crash(plan, 2);
         Answer::Unlocked
     }
 

@@ -30,8 +30,8 @@ impl<P: CrashPlan> CrashPlan for Counted<P> {
 
     ghost never_crashes = { λ c. P.never_crashes c.plan };
 
-    fn is_never_crashes(&self) -> bool {
-        self.plan.is_never_crashes()
+    fn never_crashes(&self) -> bool {
+        self.plan.never_crashes()
     }
 
     fn count_askings(&mut self, askings: u64) {

@@ -9,5 +9,5 @@ read-requires-clause-allowed c = subst (λ (a : Access). (v : ℕ) → IsSome (m
 pub store-requires-clause-may : goal.store-requires-clause-may
 store-requires-clause-may c = subst (λ (a : Access). (v : ℕ) → IsSome (moved_process_state c.args.port.now (kind_of a) (word_of a) (carried a v))) c.in-Store.is c.requires.allowed 0
 
-pub seat_view-requires-clause-may : goal.seat_view-requires-clause-may
-seat_view-requires-clause-may c = subst (λ (a : Access). (v : ℕ) → IsSome (moved_process_state c.args.port.now (kind_of a) (word_of a) (carried a v))) c.in-Store.is c.requires.allowed 0
+pub step_past_end-requires-clause-may : goal.step_past_end-requires-clause-may
+step_past_end-requires-clause-may c = subst (λ (a : Access). (v : ℕ) → IsSome (moved_process_state c.args.port.now (kind_of a) (word_of a) (carried a v))) c.in-Store.is c.requires.allowed 0

@@ -7,7 +7,7 @@ pub returns-clause-served : goal.returns-clause-served
 returns-clause-served g c =
     let x = c.args.self.now in
     let ends = subst (λ (u : Seated). EndsIn (began x Unlock).seat_view 2 Unlocked u.seat_view) (sym c.self.view_is) c.go_out.ensures.ends in
-    unlock_served x c.self.inside.port _ _ _ _ c.go_out.ensures.seat_view ends c.count_never_crashes.ensures.asked c.count_never_crashes.ensures.fallen
+    unlock_served x c.self.inside.port _ _ _ _ c.go_out.ensures.seat_view ends c.count_without_crash.ensures.asked c.count_without_crash.ensures.fallen
 
 pub returns-clause-table : goal.returns-clause-table
 returns-clause-table g c =

@@ -1,8 +1,8 @@
 use Rattle.std.proofs.Common.{false, ◌≡◌, ℕ, ◌+◌, refl, sym, ◌∙◌, subst, arith}
 use Rattle.robust.proofs.AccessCommon.{SeatView}
 use Rattle.robust.proofs.Waits.{KeptWait, look_counted, weigh_counted, kept_passed, wait_over}
-use Rattle.robust.proofs.access.in_line.seat_view_others.Goals as goal
-use Rattle.robust.proofs.access.in_line.seat_view_others.Goals.{then-j-own+else-not-look+else-not-weigh, else-j-own}
+use Rattle.robust.proofs.access.in_line.pass_others.Goals as goal
+use Rattle.robust.proofs.access.in_line.pass_others.Goals.{then-j-own+else-not-look+else-not-weigh, else-j-own}
 
 pub returns-then-not-look-clause-unanswered : goal.returns-then-not-look-clause-unanswered
 returns-then-not-look-clause-unanswered c =

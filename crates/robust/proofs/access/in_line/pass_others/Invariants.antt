@@ -1,6 +1,6 @@
 use Rattle.std.proofs.Common.{◌≡◌, ◌+◌, ◌≤◌, false}
 use Rattle.robust.proofs.AccessCommon.{process_state_now, IsSame, Unanswered, waits_at}
-use Rattle.robust.proofs.access.in_line.seat_view_others.Given as goal
+use Rattle.robust.proofs.access.in_line.pass_others.Given as goal
 
 abbrev pub invariant-loop-j : goal.invariant-loop-j
 invariant-loop-j l = record {

@@ -2,7 +2,7 @@ use Rattle.std.proofs.Common.{◌≡◌, ◌-◌, ◌^◌, ◌≤◌, sym, ap, �
 use Rattle.rmecore.specs.Simulated.{one_more}
 use Rattle.crash_plans.specs.Plans.{Count, so_many_more}
 use Rattle.crash_plans.proofs.Counted.{so_many_is}
-use Rattle.crash_plans.proofs.askings.Askings.count_never_crashes.Goals as goal
+use Rattle.crash_plans.proofs.askings.Askings.count_without_crash.Goals as goal
 
 pub returns : goal.returns
 returns c =

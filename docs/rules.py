@@ -166,7 +166,7 @@ def retired_names():
 
 # ---- sizes
 
-CLAUSE = re.compile(r"(?<![\w.])(requires|ensures|ghost)\b")
+CLAUSE = re.compile(r"(?<![\w.])(requires|ensures)\b")
 FUNCTION = re.compile(r"\bfn\s+(\w+)")
 
 

@@ -84,9 +84,9 @@ Adds before now row (Ok x) = now ≡ before ++ row ∷ []
 Adds before now row (Err stop) = stop ≡ stops.OutOfMemory
 
 -- one more event is shown, or out of memory
-abbrev pub Notes : {A : Type 0} → List DiagramRow → List DiagramRow → Event → Result A DiagramStop → Type 0
-Notes before now event (Ok x) = events_in now ≡ events_in before ++ event ∷ []
-Notes before now event (Err stop) = stop ≡ stops.OutOfMemory
+abbrev pub AddsEvent : {A : Type 0} → List DiagramRow → List DiagramRow → Event → Result A DiagramStop → Type 0
+AddsEvent before now event (Ok x) = events_in now ≡ events_in before ++ event ∷ []
+AddsEvent before now event (Err stop) = stop ≡ stops.OutOfMemory
 
 -- how a run ends, by how its lines were played
 abbrev pub IsEndOf : {A : Type 0} → Result A (ℕ × DiagramStop) → Verdict → End → Type 0

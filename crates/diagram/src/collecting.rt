@@ -3,7 +3,7 @@
 ghost use Rattle.std.specs.Prelude.{◌≡◌, ◌≤◌, ◌<◌, ◌-◌, ◌^◌, ◌∷◌, ◌++◌, [], None, IfSome, IsTrue, IsFalse};
 ghost use Rattle.diagram.specs.declared.act.Act.TheVariants.{Silent as ActSilent};
 ghost use Rattle.diagram.specs.Events.{Took, Fell, steps_of, events_of, events_on};
-ghost use Rattle.diagram.specs.Rows.{events_in, silent_step, Adds, Plays, PlaysOn, Notes};
+ghost use Rattle.diagram.specs.Rows.{events_in, silent_step, Adds, Plays, PlaysOn, AddsEvent};
 ghost use Rattle.schedule.specs.declared.lines.line.Line.TheVariants.{Crash as LineCrash};
 ghost use Rattle.schedule.specs.Runs.{steps, line_on, run_on};
 
@@ -62,7 +62,7 @@ fn note_act(rows: &mut Vec<DiagramRow>, p: u64, act: Act) -> Result<(), DiagramS
 
 /// Adds a silent step.
 fn note_silent(rows: &mut Vec<DiagramRow>, p: u64, happened: &Happened) -> Result<(), DiagramStop>
-    ensures { Notes rows.old.items rows.new.items (Took p (silent_step happened.now)) result }
+    ensures { AddsEvent rows.old.items rows.new.items (Took p (silent_step happened.now)) result }
 {
     if again(rows, p, happened) {
         return Ok(());
@@ -72,7 +72,7 @@ fn note_silent(rows: &mut Vec<DiagramRow>, p: u64, happened: &Happened) -> Resul
 
 /// Adds a step.
 fn note(rows: &mut Vec<DiagramRow>, p: u64, stepped: &Stepped) -> Result<(), DiagramStop>
-    ensures { Notes rows.old.items rows.new.items (Took p stepped.now) result }
+    ensures { AddsEvent rows.old.items rows.new.items (Took p stepped.now) result }
 {
     match (stepped.deed, stepped.answer) {
         (None, None) => note_silent(rows, p, &stepped.happened),

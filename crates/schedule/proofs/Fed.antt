@@ -1,7 +1,7 @@
 -- Lines at the front of a text, whose deeds are given to a judge.
 use Rattle.std.proofs.Common.{◌≡◌, ℕ, ◌+◌, ◌-◌, ◌^◌, min, List, [], ◌∷◌, ◌++◌, Ok, refl, sym, ap, subst, ◌∙◌, append_assoc, arith, length-append, append-nil}
 use Rattle.schedule.proofs.ReplaysCommon.{Deed, Kept, RunningVerdict, Stage, TraceHead, deed_at, opened, running_judge, Hears, parts_of, trace_head_at, Stands, Fed, words_of}
-use Rattle.schedule.specs.Fronts.{Begins}
+use Rattle.schedule.specs.FirstLines.{Begins}
 use Rattle.schedule.specs.declared.replays.stage.TraceStage.TheVariants as stages
 use Rattle.schedule.proofs.Heard.{hears_both}
 use Rattle.schedule.proofs.Staging.{more_reads}

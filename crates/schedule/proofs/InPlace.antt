@@ -5,15 +5,15 @@ use Rattle.schedule.specs.declared.texts.fault.TextFault.{TextFault}
 use Rattle.schedule.specs.declared.texts.head.Head.{Head}
 use Rattle.schedule.specs.Texts.{Fails}
 use Rattle.schedule.specs.declared.lines.line.Line.{Line}
-use Rattle.schedule.specs.Fronts.{Begins}
+use Rattle.schedule.specs.FirstLines.{Begins}
 use Rattle.std.proofs.Math.Seq.{drop-append_seam}
 use Rattle.schedule.specs.declared.texts.fault.TextFault.TheVariants as faults
 use Rattle.schedule.proofs.Items.{items_at-cut, with_items, items_go_on, items_stop, items_end, empty_reads}
 use Rattle.schedule.proofs.Places.{bind_ok, ok_is}
 
 -- the text after the front of a text
-pub behind_front : (text front after : List ℕ) → text ≡ front ++ after → drop (length text - length after) text ≡ after
-behind_front text front after e =
+pub drop_first : (text front after : List ℕ) → text ≡ front ++ after → drop (length text - length after) text ≡ after
+drop_first text front after e =
     let n : length text - length after ≡ length front = omega (arith, ap length e ∙ length-append front after) in
     ap (λ (k : ℕ). drop k text) n ∙ ap (λ (t : List ℕ). drop (length front) t) e ∙ drop-append_seam front after
 

@@ -17,9 +17,9 @@ pub mod WholeTexts
 pub mod Schedules
 pub mod Traces
 pub mod LexerCommon
-pub mod Fronts
-pub mod DeedFronts
-pub mod LineFronts
+pub mod Tokens
+pub mod DeedTokens
+pub mod LineTokens
 pub mod InPlace
 pub mod ReplaysCommon
 pub mod Heard

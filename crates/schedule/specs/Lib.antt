@@ -8,7 +8,7 @@ pub mod Headers
 pub mod Texts
 pub mod Schedules
 pub mod Traces
-pub mod Fronts
+pub mod FirstLines
 pub mod Verdicts
 pub mod Runs
 pub mod Reports

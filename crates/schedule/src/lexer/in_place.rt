@@ -5,12 +5,12 @@ ghost use Rattle.std.specs.Prelude.{◌≡◌, ℕ, ◌+◌, ◌^◌, ◌<◌, �
 ghost use Rattle.schedule.specs.declared.lines.line.Line.{Line as LineOf};
 ghost use Rattle.schedule.specs.Commands.{line_at};
 ghost use Rattle.schedule.specs.Texts.{items_at, Fails};
-ghost use Rattle.schedule.specs.Fronts.{Tries, Begins};
+ghost use Rattle.schedule.specs.FirstLines.{Tries, Begins};
 ghost use Rattle.schedule.specs.Words.{parts_of};
 ghost use Rattle.schedule.specs.Schedules.{schedule_at, scheduled_with};
 
-use crate::lexer::front::steps;
-use crate::lexer::line_front::first_line;
+use crate::lexer::line_tokens::first_line;
+use crate::lexer::tokens::steps;
 use crate::lines::cut::cut_once;
 use crate::lines::fault::LineFault;
 use crate::lines::line::Line;
@@ -55,7 +55,7 @@ pub fn next_line(width: u64, text: &[u8]) -> Result<(Line, &[u8]), LineFault>
 /// The text after the first line of a text that is not empty, where that line has no fault.
 // Apart: most lines are steps.
 #[inline(never)]
-fn behind_line(width: u64, text: &[u8]) -> Result<&[u8], LineFault>
+fn after_other_line(width: u64, text: &[u8]) -> Result<&[u8], LineFault>
     requires width { (1 ≤ width) × (width ≤ 8) }
     requires some { 0 < length text.now }
     ensures read { IfOk result (λ after. (line : LineOf) × Begins (line_at width) text.now line after.now) }
@@ -70,7 +70,7 @@ fn behind_line(width: u64, text: &[u8]) -> Result<&[u8], LineFault>
 /// The same. A line of steps, the commonest, is tried first.
 // Inline: one call a line.
 #[inline(always)]
-fn behind_next(width: u64, text: &[u8]) -> Result<&[u8], LineFault>
+fn after_line(width: u64, text: &[u8]) -> Result<&[u8], LineFault>
     requires width { (1 ≤ width) × (width ≤ 8) }
     requires some { 0 < length text.now }
     ensures read { IfOk result (λ after. (line : LineOf) × Begins (line_at width) text.now line after.now) }
@@ -78,7 +78,7 @@ fn behind_next(width: u64, text: &[u8]) -> Result<&[u8], LineFault>
 {
     match steps(text) {
         Some((_, _, after)) => Ok(after),
-        None => behind_line(width, text),
+        None => after_other_line(width, text),
     }
 }
 
@@ -93,7 +93,7 @@ fn check_lines(width: u64, first: u64, text: &[u8]) -> Result<(), TextFault>
     let mut rest = text;
     let mut number = first;
     while !rest.is_empty() {
-        match behind_next(width, rest) {
+        match after_line(width, rest) {
             Ok(after) => rest = after,
             Err(fault) => return Err(TextFault::At {
                 line: number,
@@ -114,7 +114,7 @@ fn read(text: &[u8]) -> Result<(Head, &[u8]), TextFault>
     ensures width { IfOk result (λ read. (1 ≤ read.0.width) × (read.0.width ≤ 8)) }
     ensures room { IfOk result (λ read. length read.1.now + 2 < 2 ^ 64) }
     ensures shorter { IfOk result (λ read. length read.1.now ≤ length text.now) }
-    ensures behind { IfOk result (λ read. (first : List ℕ) × (text.now ≡ first ++ read.1.now)) }
+    ensures tail { IfOk result (λ read. (first : List ℕ) × (text.now ≡ first ++ read.1.now)) }
     ensures fault { IfErr result (λ fault. Fails fault (schedule_at text.now)) }
 {
     if text.is_empty() {

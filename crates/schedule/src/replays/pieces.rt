@@ -19,7 +19,7 @@ pub trait TakeLine {
 
     /// Takes lines from the front of a text that begins with a line. It may take none.
     /// Answers the text after the lines that it took.
-    fn take_front<'a>(&mut self, text: &'a [u8]) -> &'a [u8]
+    fn take_leading_lines<'a>(&mut self, text: &'a [u8]) -> &'a [u8]
         ensures taken { (lines : List (List ℕ)) → after self.old lines
             → (more : List (List ℕ)) × (parts_of text.now ≡ more ++ parts_of result.now) × after self.new (lines ++ more) }
         ensures shorter { length result.now ≤ length text.now };
@@ -52,7 +52,7 @@ fn feed<T: TakeLine>(buffer: &mut Vec<u8>, taker: &mut T, piece: &[u8]) -> Resul
     let mut rest = piece;
     while let Some((front, after)) = cut_once(rest, b'\n') {
         hand_on(buffer, taker, front)?;
-        rest = taker.take_front(after);
+        rest = taker.take_leading_lines(after);
     }
     buffer.extend_from_slice(rest)?;
     Ok(())

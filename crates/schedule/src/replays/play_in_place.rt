@@ -4,15 +4,15 @@ ghost use Rattle.std.specs.Prelude.{◌≡◌, ℕ, ◌+◌, ◌^◌, ◌<◌, �
 ghost use Rattle.schedule.specs.declared.lines.line.Line.{Line as LineOf};
 ghost use Rattle.schedule.specs.Commands.{line_at};
 ghost use Rattle.schedule.specs.Texts.{items_at};
-ghost use Rattle.schedule.specs.Fronts.{IsRead, Begins};
+ghost use Rattle.schedule.specs.FirstLines.{IsRead, Begins};
 ghost use Rattle.schedule.specs.Words.{parts_of};
 ghost use Rattle.schedule.specs.RunningVerdicts.{running_judge};
 ghost use Rattle.schedule.specs.Plays.{Plays, Runs};
 ghost use Rattle.schedule.specs.Runs.{line_on, run_on};
 
-use crate::lexer::front::steps;
 use crate::lexer::in_place::next_line;
-use crate::replays::play::{play_line, take_steps};
+use crate::lexer::tokens::steps;
+use crate::replays::play_lines::{play_line, take_steps};
 use crate::replays::replay_fault::ReplayFault;
 use crate::replays::replay_stop::ReplayStop;
 use crate::replays::reporter::Reporter;

@@ -43,7 +43,7 @@ fn at_header(refusal: Refusal) -> ReplayFault
 }
 
 /// Plays the lines of a text from this byte on, as `play_text` does, and then frees the text.
-fn play_behind<M: Machine, W: Sink>(
+fn play_from<M: Machine, W: Sink>(
     machine: &mut M,
     judge: &mut Judge,
     reporter: &mut Reporter,
@@ -83,7 +83,7 @@ fn replay_in_place<M: Machine, W: Sink>(
         → Replays (W.tape w.old) (W.tape w.new) start M.behaviour.image_of (run_on M.behaviour 2 machine.old lines) result }
 {
     let mut reporter = Reporter::new(alloc);
-    if let Err(fault) = play_behind(machine, judge, &mut reporter, w, width, text, from) {
+    if let Err(fault) = play_from(machine, judge, &mut reporter, w, width, text, from) {
         return Err(settle(w, fault));
     }
     let verdict = reporter.verdict();

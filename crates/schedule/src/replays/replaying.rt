@@ -10,7 +10,7 @@ ghost use Rattle.schedule.specs.RunningVerdicts.{heard};
 ghost use Rattle.schedule.specs.Replays.{Replays, Closes};
 
 use crate::replays::last_words::put_end;
-use crate::replays::play::play_lines;
+use crate::replays::play_lines::play_lines;
 use crate::replays::replay_fault::ReplayFault;
 use crate::replays::reporter::Reporter;
 use crate::replays::verdict::Verdict;

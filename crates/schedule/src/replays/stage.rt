@@ -4,7 +4,7 @@ ghost use Rattle.std.specs.Prelude.{◌≡◌, ℕ, ◌+◌, ◌<◌, ◌≤◌,
 ghost use Rattle.schedule.specs.declared.replays.stage.TraceStage.TheVariants as stages;
 ghost use Rattle.schedule.specs.TraceJudges.{IsStage, Stands, Fed};
 
-use crate::lexer::deed_front::first_deed;
+use crate::lexer::deed_tokens::first_deed;
 use crate::lines::deed::read_deed;
 use crate::lines::fault::LineFault;
 use crate::replays::running_verdict::RunningVerdict;
@@ -111,7 +111,7 @@ impl TraceStage {
     }
     /// Takes lines from the front of a text, the first of which has this number, and counts them. It may take none.
     /// Answers the text after the lines that it took.
-    pub fn take_front<'a>(&mut self, number: &mut u64, text: &'a [u8]) -> &'a [u8]
+    pub fn take_leading_lines<'a>(&mut self, number: &mut u64, text: &'a [u8]) -> &'a [u8]
         requires { IsStage self.old }
         ensures stage { IsStage self.new }
         ensures fed { Fed self.old self.new text.now result.now number.old number.new }

@@ -83,8 +83,8 @@ impl TakeLine for TraceJudge {
         Ok(())
     }
 
-    fn take_front<'a>(&mut self, text: &'a [u8]) -> &'a [u8] {
-        self.stage.take_front(&mut self.line, text)
+    fn take_leading_lines<'a>(&mut self, text: &'a [u8]) -> &'a [u8] {
+        self.stage.take_leading_lines(&mut self.line, text)
     }
 }
 

@@ -24,8 +24,8 @@ returns-in_ok-check_lines-in-Ok-clause-lines c =
 pub returns-in-Err-clause-fault : goal.returns-in-Err-clause-fault
 returns-in-Err-clause-fault c = is_wrong c.args.text.now _ (head_fails head_at (λ h. line_at h.width) c.args.text.now c.in-Some.first.now c.in-Some.lines.now c.in-Err.fault c.in-Some.ensures.parts c.in-Err.ensures.head)
 
-pub returns-in_ok-check_lines-in-Ok-clause-behind : goal.returns-in_ok-check_lines-in-Ok-clause-behind
-returns-in_ok-check_lines-in-Ok-clause-behind c =
+pub returns-in_ok-check_lines-in-Ok-clause-tail : goal.returns-in_ok-check_lines-in-Ok-clause-tail
+returns-in_ok-check_lines-in-Ok-clause-tail c =
     (c.in-Some.first.now ++ 10 ∷ [], c.in-Some.ensures.whole ∙ sym (append_assoc c.in-Some.first.now (10 ∷ []) c.in-Some.lines.now))
 
 pub returns-in_ok-check_lines-in-Ok-clause-shorter : goal.returns-in_ok-check_lines-in-Ok-clause-shorter

@@ -4,14 +4,14 @@ use Rattle.schedule.proofs.Cutting.{parts_of-append}
 use Rattle.schedule.proofs.replays.pieces.feed.Goals as goal
 
 pub loop-front-smaller : goal.loop-front-smaller
-loop-front-smaller g c = omega (arith, ap length c.in-Some.ensures.whole, length-append c.in-Some.front.now (10 ∷ c.in-Some.after.now), c.take_front-rest.ensures.shorter)
+loop-front-smaller g c = omega (arith, ap length c.in-Some.ensures.whole, length-append c.in-Some.front.now (10 ∷ c.in-Some.after.now), c.take_leading_lines-rest.ensures.shorter)
 
 pub loop-front-preserved : goal.loop-front-preserved
 loop-front-preserved g c =
     let buffer = c.loop-front.buffer.items in
     let line : List ℕ = buffer ++ c.in-Some.front.now in
     let cut = parts_of-append buffer c.loop-front.rest.now c.in-Some.front.now (parts_of c.in-Some.after.now) c.loop-front.invariant.whole c.in-Some.ensures.parts in
-    let rest = c.take_front-rest.result.now in
+    let rest = c.take_leading_lines-rest.result.now in
     record {
       taken = λ lines after.
           let so_far = c.loop-front.invariant.taken lines after in
@@ -19,7 +19,7 @@ loop-front-preserved g c =
           let parts : parts_of (c.args.buffer.now.items ++ c.args.piece.now) ≡ more ++ parts_of c.in-Some.after.now =
           so_far.1 ∙ ap (λ (ps : List (List ℕ)). so_far.0 ++ ps) cut ∙ sym (append_assoc so_far.0 (line ∷ []) (parts_of c.in-Some.after.now)) in
           let handed : g.T.TakeLine.after c.hand_on.new.taker (lines ++ more) = rw (sym (append_assoc lines so_far.0 (line ∷ []))) (c.in_ok-hand_on.ensures.taken (lines ++ so_far.0) so_far.2) in
-          let fed = c.take_front-rest.ensures.taken (lines ++ more) handed in
+          let fed = c.take_leading_lines-rest.ensures.taken (lines ++ more) handed in
           let all : parts_of (c.args.buffer.now.items ++ c.args.piece.now) ≡ (more ++ fed.0) ++ parts_of rest = parts ∙ ap (λ (ps : List (List ℕ)). more ++ ps) fed.1 ∙ sym (append_assoc more fed.0 (parts_of rest)) in (
             more ++ fed.0,
             rw c.in_ok-hand_on.ensures.cleared all,

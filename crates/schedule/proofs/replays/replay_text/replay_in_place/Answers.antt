@@ -11,7 +11,7 @@ pub returns-in_err-close : goal.returns-in_err-close
 returns-in_err-close g c start lines keeps read =
     let p = err_from_is_err_and c.from_residual.result c.from_residual.ensures.1 in
     let played = c.in_default.ensures lines read in
-    let ruled = ruled_on c.args.judge.now c.play_behind.new.judge c.new-reporter.result c.play_behind.new.reporter _ start c.new-reporter.ensures played.1 keeps in
+    let ruled = ruled_on c.args.judge.now c.play_from.new.judge c.new-reporter.result c.play_from.new.reporter _ start c.new-reporter.ensures played.1 keeps in
     rw (p.1, p.2)
     (cut_end start g.M.Machine.behaviour.image_of _ _ _ _ c.in-Ok.image c.verdict-verdict.result c.in_err-close.field-0.0 played.0 played.2
     (c.in-Ok.ensures.ok ∙ ap g.M.Machine.behaviour.image_of played.3) (c.verdict-verdict.ensures ∙ ruled) c.in_err-close.ensures)
@@ -19,7 +19,7 @@ returns-in_err-close g c start lines keeps read =
 pub returns : goal.returns
 returns g c start lines keeps read =
     let played = c.in_default.ensures lines read in
-    let ruled = ruled_on c.args.judge.now c.play_behind.new.judge c.new-reporter.result c.play_behind.new.reporter _ start c.new-reporter.ensures played.1 keeps in
+    let ruled = ruled_on c.args.judge.now c.play_from.new.judge c.new-reporter.result c.play_from.new.reporter _ start c.new-reporter.ensures played.1 keeps in
     reported start g.M.Machine.behaviour.image_of _ _ _ _ c.in-Ok.image c.verdict-verdict.result played.0 played.2
     (c.in-Ok.ensures.ok ∙ ap g.M.Machine.behaviour.image_of played.3) (c.verdict-verdict.ensures ∙ ruled) c.in_ok-close.ensures
 

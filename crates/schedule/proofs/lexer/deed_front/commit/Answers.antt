@@ -1,8 +1,0 @@
-use Rattle.schedule.proofs.DeedFronts.{commit_line}
-use Rattle.schedule.proofs.lexer.deed_front.commit.Goals as goal
-
-pub returns : goal.returns
-returns c = (
-  rw c.value-v.ensures.words (commit_line c.args.p c.in_ok-seq.seq _ c.args.text.now c.in_ok-message.message.now c.in_ok-seq.body.now c.in_ok-end.end.now c.in_ok-after.after.now c.in_ok-message.ensures c.in_ok-seq.ensures.0 c.in_ok-end.ensures c.in_ok-after.ensures),
-  (c.ranges.p.fits, c.in_ok-seq.ensures.1, c.value-v.ensures.value),
-)

@@ -42,7 +42,7 @@ WORDS = [
     (r"sights", "observer"),
     (r"routes?", "drawn moves"),
     (r"detours?", "variant state"),
-    (r"topics?", "entry of the dictionary"),
+    (r"topics?", "entry"),
     (r"calm", "that it never crashes"),
     (r"quiet(?:ly)?|unheard", "silent"),
     (r"sheets?|pens?", "layout, lifeline state"),
@@ -61,10 +61,10 @@ ALLOWED = [
     ("docs/theory/model.md", "member p's pass", "the specification's definition Pass is quoted under its own name"),
 ]
 
-# Names that were replaced, as types and modules. Found, Seat and Words have a second meaning that stays.
+# Names that were replaced, as types and modules. Found, Seat, Seen and Words have a second meaning that stays.
 RETIRED_NAMES = (
     "Away Chore Clerk Court Detour Due Errand Far Ground Halt Happening Hearing Home Known LineFront Made Notes Owed Pass Pen "
-    "Play Route Runner Scarce Scene Seen Sheet Sights Spot Stand Story Topic Walker Why"
+    "Play Route Runner Scarce Scene Sheet Sights Spot Stand Story Topic Walker Why"
 ).split()
 DECLARES = re.compile(rf"\b(?:struct|enum|trait|type|record|data|abbrev)\s+(?:pub\s+)?({'|'.join(RETIRED_NAMES)})\b")
 RETIRED_CRATES = (
@@ -166,6 +166,8 @@ def retired_names():
 
 # ---- sizes
 
+# A clause: what a function or a closure requires or ensures. `ghost` members and `ghost use` lines are none: `rt fmt` lays
+# each of them out on one line.
 CLAUSE = re.compile(r"(?<![\w.])(requires|ensures)\b")
 FUNCTION = re.compile(r"\bfn\s+(\w+)")
 
@@ -200,6 +202,8 @@ def body_of(code, at):
         clause = CLAUSE.match(code, at)
         if clause and depth == 0:
             at = clause_end(code, at)
+            if code[at - 1] == ";":
+                return None  # A method of a trait, without a body.
             continue
         depth += (code[at] in "([") - (code[at] in ")]")
         if depth == 0 and code[at] == ";":

@@ -1,15 +1,15 @@
 -- A run that was played, and how it ends.
 use Rattle.std.proofs.Common.{◌≡◌, ℕ, List, [], Result, Ok, Err, ◌∙◌}
-use Rattle.diagram.proofs.Common.{Refusal, State, Verdict, Part, deeds_of, verdict_on, Row, End, Stop, Event, events_in, PlaysOn, EndsAs, IsEndOf, IsJudged}
+use Rattle.diagram.proofs.Common.{Refusal, State, Verdict, Part, deeds_of, verdict_on, DiagramRow, End, DiagramStop, Event, events_in, PlaysOn, EndsAs, IsEndOf, IsJudged}
 use Rattle.diagram.specs.declared.drawing.End.TheVariants as ends
 use Rattle.diagram.specs.declared.stop.DiagramStop.TheVariants as stops
 
-pub record Drawn {S : Type 0} (now : List Row) (events : List Event) (run : Part S (ℕ × Refusal)) (s : S) (verdict : Verdict) (end : End) : Type 0 where
+pub record Drawn {S : Type 0} (now : List DiagramRow) (events : List Event) (run : Part S (ℕ × Refusal)) (s : S) (verdict : Verdict) (end : End) : Type 0 where
   pub shows : events_in now ≡ events
   pub stands : IsJudged end → s ≡ run.left
   pub ends_so : (start : State) → verdict ≡ verdict_on start (deeds_of run.told) → EndsAs start run end
 
-pub drawn : {S A : Type 0} (now : List Row) (events : List Event) (run : Part S (ℕ × Refusal)) (s : S) (verdict : Verdict) (r : Result A (ℕ × Stop)) (end : End)
+pub drawn : {S A : Type 0} (now : List DiagramRow) (events : List Event) (run : Part S (ℕ × Refusal)) (s : S) (verdict : Verdict) (r : Result A (ℕ × DiagramStop)) (end : End)
     → PlaysOn [] now events run s r → IsEndOf r verdict end → Drawn now events run s verdict end
 drawn now events run s verdict (Ok x) (ends.Judged said) played is = record { shows = played.0; stands = λ judged. played.2; ends_so = λ start ruled. (played.1, is ∙ ruled) }
 drawn now events run s verdict (Ok x) (ends.Refused at purpose said) played is = absurd is

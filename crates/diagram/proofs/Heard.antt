@@ -1,6 +1,6 @@
 -- Rows whose deeds are judged one after another.
 use Rattle.std.proofs.Common.{◌≡◌, ℕ, zero, suc, List, [], ◌∷◌, ◌++◌, refl, ap, ◌∙◌}
-use Rattle.diagram.proofs.Common.{replicate, append-nil, flat_map-cons, flat_map-append, Happened, Deed, RunningJudge, Hears, deeds_of, did, told_of, hears_both, deeds_append, deeds_told, Act, Row, Event}
+use Rattle.diagram.proofs.Common.{replicate, append-nil, flat_map-cons, flat_map-append, Happened, Deed, RunningJudge, Hears, deeds_of, did, told_of, hears_both, deeds_append, deeds_told, Act, DiagramRow, Event}
 use Rattle.diagram.proofs.Common.{Took, told_in, events_in, events_shown, silent_step, deed_of}
 use Rattle.diagram.specs.declared.act.Act.TheVariants.{Silent, Telling, Fell}
 use Rattle.diagram.specs.Events as events
@@ -17,16 +17,16 @@ row_deeds p (Telling step) =
     ap deeds_of (told_cons (Took p step) []) ∙ deeds_append (told_of p step.deed step.answer) [] ∙ append-nil (deeds_of (told_of p step.deed step.answer)) ∙ deeds_told p step.deed step.answer
 row_deeds p (Fell deed) = ap deeds_of (told_cons (events.Fell p deed) [])
 
-pub events_append : (rows more : List Row) → events_in (rows ++ more) ≡ events_in rows ++ events_in more
+pub events_append : (rows more : List DiagramRow) → events_in (rows ++ more) ≡ events_in rows ++ events_in more
 events_append rows more = flat_map-append (λ row. events_shown row.p row.act) rows more
 
-pub events_last : (rows : List Row) (row : Row) → events_in (rows ++ row ∷ []) ≡ events_in rows ++ events_shown row.p row.act
+pub events_last : (rows : List DiagramRow) (row : DiagramRow) → events_in (rows ++ row ∷ []) ≡ events_in rows ++ events_shown row.p row.act
 events_last rows row =
     events_append rows (row ∷ []) ∙ ap (λ (es : List Event). events_in rows ++ es)
     (flat_map-cons (λ row. events_shown row.p row.act) row [] ∙ append-nil (events_shown row.p row.act))
 
 -- one more row is judged
-pub hears_row : (first mid now : RunningJudge) (rows : List Row) (row : Row) → Hears first (deeds_of (told_in (events_in rows))) mid → Hears mid (deeds_of (did (deed_of row.act))) now
+pub hears_row : (first mid now : RunningJudge) (rows : List DiagramRow) (row : DiagramRow) → Hears first (deeds_of (told_in (events_in rows))) mid → Hears mid (deeds_of (did (deed_of row.act))) now
     → Hears first (deeds_of (told_in (events_in (rows ++ row ∷ [])))) now
 hears_row first mid now rows row before one =
     let deeds : deeds_of (told_in (events_in (rows ++ row ∷ []))) ≡ deeds_of (told_in (events_in rows)) ++ deeds_of (did (deed_of row.act)) =

@@ -1,7 +1,7 @@
 -- Parts of a run that are shown one after another.
 use Rattle.std.proofs.Common.{◌≡◌, ℕ, suc, ◌+◌, true, false, is_some, List, [], ◌∷◌, ◌++◌, Option, Some, None, Result, Ok, Err, refl, sym, ap, ◌∙◌, append_assoc, ◌⊎◌, inl, inr, length, take, get_or, set, arith}
 use Rattle.diagram.proofs.Common.{replicate, length-set, append-nil, take_more, take_more_set, take_all, Happened, Refusal, Deed, Line, Start, Step, Crash, Part, Told, Behaviour, unless, steps}
-use Rattle.diagram.proofs.Common.{line_on, run_on, Row, Stop, Event, Took, Fell, steps_of, events_of, events_on, events_in, PlaysOn, events_shown, silent_step, stopped, Adds, Plays}
+use Rattle.diagram.proofs.Common.{line_on, run_on, DiagramRow, DiagramStop, Event, Took, Fell, steps_of, events_of, events_on, events_in, PlaysOn, events_shown, silent_step, stopped, Adds, Plays}
 use Rattle.std.proofs.lemmas.Grind.{replicate_next}
 use Rattle.rmecore.specs.declared.refusal.Refusal.TheVariants as refusals
 use Rattle.rmecore.specs.Refused.{number_of}
@@ -12,22 +12,22 @@ use Rattle.diagram.specs.declared.stop.DiagramStop.TheVariants.{Refused, OutOfMe
 use Rattle.diagram.proofs.Heard.{events_last}
 
 -- what was still to be shown is shown
-pub shown_all : (before mid now : List Row) (es rest all : List Event) → events_in mid ++ rest ≡ events_in before ++ all → events_in now ≡ events_in mid ++ es → rest ≡ es
+pub shown_all : (before mid now : List DiagramRow) (es rest all : List Event) → events_in mid ++ rest ≡ events_in before ++ all → events_in now ≡ events_in mid ++ es → rest ≡ es
     → events_in now ≡ events_in before ++ all
 shown_all before mid now es rest all still note e = note ∙ ap (λ (xs : List Event). events_in mid ++ xs) (sym e) ∙ still
 
 -- or nothing was left
-pub shown_none : (before now : List Row) (rest all : List Event) → events_in now ++ rest ≡ events_in before ++ all → rest ≡ [] → events_in now ≡ events_in before ++ all
+pub shown_none : (before now : List DiagramRow) (rest all : List Event) → events_in now ++ rest ≡ events_in before ++ all → rest ≡ [] → events_in now ≡ events_in before ++ all
 shown_none before now rest all still e = sym (append-nil (events_in now)) ∙ ap (λ (xs : List Event). events_in now ++ xs) (sym e) ∙ still
 
 -- or some of it, and the rest is still to be shown
-pub shown_some : (mid now : List Row) (es after rest all : List Event) → events_in mid ++ rest ≡ all → events_in now ≡ events_in mid ++ es → rest ≡ es ++ after
+pub shown_some : (mid now : List DiagramRow) (es after rest all : List Event) → events_in mid ++ rest ≡ all → events_in now ≡ events_in mid ++ es → rest ≡ es ++ after
     → events_in now ++ after ≡ all
 shown_some mid now es after rest all still note e =
     ap (λ (xs : List Event). xs ++ after) note ∙ append_assoc (events_in mid) es after ∙ ap (λ (xs : List Event). events_in mid ++ xs) (sym e) ∙ still
 
 -- a part that is refused before anything of it is shown, or that is out of memory
-pub refused_plays : {S : Type 0} (rows now : List Row) (es : List Event) (o : Option Refusal) (left s : S) (e : Refusal) → (e ≡ refusals.OutOfMemory) ⊎ (o ≡ Some e)
+pub refused_plays : {S : Type 0} (rows now : List DiagramRow) (es : List Event) (o : Option Refusal) (left s : S) (e : Refusal) → (e ≡ refusals.OutOfMemory) ⊎ (o ≡ Some e)
     → (o ≡ Some e → es ≡ []) → now ≡ rows → Plays {S = S} {A = Unit {0}} rows now es o left s (Err (stopped (number_of e)))
 refused_plays {S = S} rows now es o left s e purpose silent same = by (number_of e) refl purpose
   where
@@ -38,7 +38,7 @@ refused_plays {S = S} rows now es o left s e purpose silent same = by (number_of
         (rw (same, silent refused) (sym (append-nil (events_in rows))), (e, refused, is))
 
 -- one event was shown, and then the rest of a part
-pub plays_then : {S A : Type 0} (first mid now : List Row) (x : Event) (after all : List Event) (o : Option Refusal) (left last s : S) (r : Result A Stop)
+pub plays_then : {S A : Type 0} (first mid now : List DiagramRow) (x : Event) (after all : List Event) (o : Option Refusal) (left last s : S) (r : Result A DiagramStop)
     → events_in mid ≡ events_in first ++ x ∷ [] → all ≡ x ∷ after → o ≡ None → left ≡ last → Plays mid now after None last s r → Plays first now all o left s r
 plays_then first mid now x after all o left last s (Ok y) note e accepted is h =
     (h.0 ∙ ap (λ (xs : List Event). xs ++ after) note ∙ append_assoc (events_in first) (x ∷ []) after ∙ ap (λ (xs : List Event). events_in first ++ xs) (sym e), accepted, h.2 ∙ sym is)
@@ -46,7 +46,7 @@ plays_then first mid now x after all o left last s (Err (Refused number)) note e
 plays_then first mid now x after all o left last s (Err OutOfMemory) note e accepted is h = tt
 
 -- a crash is noted
-pub plays_noted : {S A : Type 0} (first now : List Row) (all : List Event) (o : Option Refusal) (left s : S) (r : Result A Stop) (p : ℕ) (deed told : Deed)
+pub plays_noted : {S A : Type 0} (first now : List DiagramRow) (all : List Event) (o : Option Refusal) (left s : S) (r : Result A DiagramStop) (p : ℕ) (deed told : Deed)
     → Adds first now (record { p = p; act = acts.Fell deed }) r → all ≡ Fell p told ∷ [] → deed ≡ told → o ≡ None → s ≡ left → Plays first now all o left s r
 plays_noted first now all o left s (Ok x) p deed told adds e same accepted is = (
   ap events_in adds ∙ events_last first (record { p = p; act = acts.Fell deed }) ∙ ap (λ (d : Deed). events_in first ++ Fell p d ∷ []) same
@@ -58,16 +58,16 @@ plays_noted first now all o left s (Err (Refused number)) p deed told adds e sam
 plays_noted first now all o left s (Err OutOfMemory) p deed told adds e same accepted is = tt
 
 -- a row is counted once more
-pub counted : (rows now : List Row) (i n p : ℕ) (happened : Happened) (row : Row) → length rows ≡ i + 1 → get_or rows i row ≡ row → row ≡ record { p = p; act = acts.Silent happened n }
+pub counted : (rows now : List DiagramRow) (i n p : ℕ) (happened : Happened) (row : DiagramRow) → length rows ≡ i + 1 → get_or rows i row ≡ row → row ≡ record { p = p; act = acts.Silent happened n }
     → now ≡ set rows i (record { p = p; act = acts.Silent happened (n + 1) }) → events_in now ≡ events_in rows ++ Took p (silent_step happened) ∷ []
 counted rows now i n p happened row long at is changed =
     let before : rows ≡ take i rows ++ row ∷ [] =
-    sym (take_all (i + 1) rows (omega (arith, long))) ∙ take_more rows i row (omega (arith, long)) ∙ ap (λ (r : Row). take i rows ++ r ∷ []) at in
-    let again : Row = record { p = p; act = acts.Silent happened (n + 1) } in
+    sym (take_all (i + 1) rows (omega (arith, long))) ∙ take_more rows i row (omega (arith, long)) ∙ ap (λ (r : DiagramRow). take i rows ++ r ∷ []) at in
+    let again : DiagramRow = record { p = p; act = acts.Silent happened (n + 1) } in
     let after : now ≡ take i rows ++ again ∷ [] =
     changed ∙ sym (take_all (i + 1) (set rows i again) (omega (arith, long, length-set rows i again))) ∙ take_more_set rows i again (omega (arith, long)) in
     let x : Event = Took p (silent_step happened) in
-    let old : events_in rows ≡ events_in (take i rows) ++ replicate n x = ap events_in before ∙ events_last (take i rows) row ∙ ap (λ (r : Row). events_in (take i rows) ++ events_shown r.p r.act) is in
+    let old : events_in rows ≡ events_in (take i rows) ++ replicate n x = ap events_in before ∙ events_last (take i rows) row ∙ ap (λ (r : DiagramRow). events_in (take i rows) ++ events_shown r.p r.act) is in
     ap events_in after ∙ events_last (take i rows) again ∙ ap (λ (es : List Event). events_in (take i rows) ++ es) (replicate_next n x)
     ∙ sym (append_assoc (events_in (take i rows)) (replicate n x) (x ∷ [])) ∙ ap (λ (es : List Event). es ++ x ∷ []) (sym old)
 
@@ -123,7 +123,7 @@ module _ {S : Type 0} (b : Behaviour S) where
   crash_refused s p e refused = rw refused refl
 
   -- a line is played by its kind
-  pub plays_line : (first now : List Row) (s last left : S) (line : Line) (es : List Event) (o : Option Refusal) (r : Result (Unit {0}) Stop)
+  pub plays_line : (first now : List DiagramRow) (s last left : S) (line : Line) (es : List Event) (o : Option Refusal) (r : Result (Unit {0}) DiagramStop)
       → events_of b s line ≡ es → (line_on b s line).refused ≡ o → (o ≡ None → (line_on b s line).left ≡ left)
       → Plays first now es o left last r → Plays first now (events_of b s line) (line_on b s line).refused (line_on b s line).left last r
   plays_line first now s last left line es o (Ok x) shows refused stays h =
@@ -150,7 +150,7 @@ module _ {S : Type 0} (b : Behaviour S) where
   line_goes_on k s t line lines rest is accepted left = rw left (rw is (rw accepted (refl, refl, refl)))
 
   -- a line stops where it does
-  pub stops : (before mid now : List Row) (all : List Event) (run : Part S (ℕ × Refusal)) (k : ℕ) (s last : S) (line : Line) (lines rest : List Line) (stop : Stop)
+  pub stops : (before mid now : List DiagramRow) (all : List Event) (run : Part S (ℕ × Refusal)) (k : ℕ) (s last : S) (line : Line) (lines rest : List Line) (stop : DiagramStop)
       → events_in mid ++ events_on b s lines ≡ events_in before ++ all → (run_on b k s lines).refused ≡ run.refused → lines ≡ line ∷ rest
       → Plays {S = S} {A = Unit {0}} mid now (events_of b s line) (line_on b s line).refused (line_on b s line).left last (Err stop)
       → PlaysOn {S = S} {A = Unit {0}} before now all run last (Err (k, stop))

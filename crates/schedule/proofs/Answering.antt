@@ -1,6 +1,6 @@
 -- The answer of a trace that was judged to its end.
 use Rattle.std.proofs.Common.{◌≡◌, ℕ, ◌+◌, ◌<◌, List, [], ◌∷◌, ◌++◌, length, Option, Some, None, Result, Ok, Err, Bool, true, refl, sym, ap, subst, ◌∙◌}
-use Rattle.schedule.proofs.ReplaysCommon.{Refusal, Deed, Kept, empty, LineFault, RunningVerdict, ReplayFault, Text, Read, OutOfMemory, Stage, TraceHead, Verdict, deed_at, opened, parts_of, text_at, trace_head_at}
+use Rattle.schedule.proofs.ReplaysCommon.{Refusal, Deed, Kept, empty, LineFault, RunningVerdict, ReplayFault, Text, Read, OutOfMemory, TraceStage, TraceHead, Verdict, deed_at, opened, parts_of, text_at, trace_head_at}
 use Rattle.schedule.proofs.ReplaysCommon.{Stands, trace_answer, answer_of, judged_of, judge_refusal, numbered, JudgesTrace}
 use Rattle.schedule.specs.declared.replays.stage.TraceStage.TheVariants as stages
 use Rattle.schedule.specs.Numbers.{number_of}
@@ -24,7 +24,7 @@ pub cut_faulty : (lines : List (List ℕ)) (rest : List ℕ) (k : ℕ) (f : Line
 cut_faulty lines rest k f some h = ap answer_of (faulty_last trace_head_at item lines rest (k, f) h.1 some h.0)
 
 -- the last line has no LF, and no earlier line is faulty
-pub cut_fine : (stage : Stage) (lines : List (List ℕ)) (rest : List ℕ) → 0 < length rest → ((k : ℕ) (f : LineFault) → stage ≡ stages.Faulty k f → ⊥) → Stands stage lines
+pub cut_fine : (stage : TraceStage) (lines : List (List ℕ)) (rest : List ℕ) → 0 < length rest → ((k : ℕ) (f : LineFault) → stage ≡ stages.Faulty k f → ⊥) → Stands stage lines
     → trace_answer (lines ++ rest ∷ []) ≡ Err (Text (length lines + 1) 5)
 cut_fine stages.First lines rest some sound none = rw none (ap answer_of (none_last trace_head_at item rest some))
 cut_fine (stages.Refused head number) lines rest some sound h = ap answer_of (fine_last trace_head_at item lines rest head h.0 some h.1)

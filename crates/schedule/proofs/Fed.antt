@@ -1,12 +1,12 @@
 -- Lines at the front of a text, whose deeds are given to a judge.
 use Rattle.std.proofs.Common.{◌≡◌, ℕ, ◌+◌, ◌-◌, ◌^◌, min, List, [], ◌∷◌, ◌++◌, Ok, refl, sym, ap, subst, ◌∙◌, append_assoc, arith, length-append, append-nil}
-use Rattle.schedule.proofs.ReplaysCommon.{Deed, Kept, RunningVerdict, Stage, TraceHead, deed_at, opened, running_judge, Hears, parts_of, trace_head_at, Stands, Fed, words_of}
+use Rattle.schedule.proofs.ReplaysCommon.{Deed, Kept, RunningVerdict, TraceStage, TraceHead, deed_at, opened, running_judge, Hears, parts_of, trace_head_at, Stands, Fed, words_of}
 use Rattle.schedule.specs.FirstLines.{Begins}
 use Rattle.schedule.specs.declared.replays.stage.TraceStage.TheVariants as stages
 use Rattle.schedule.proofs.Heard.{hears_both}
 use Rattle.schedule.proofs.Staging.{more_reads}
 
-pub fed_none : (stage : Stage) (text : List ℕ) (number : ℕ) → Fed stage stage text text number number
+pub fed_none : (stage : TraceStage) (text : List ℕ) (number : ℕ) → Fed stage stage text text number number
 fed_none stage text number = record {
   more = [];
   parts = refl;
@@ -24,7 +24,7 @@ stands_more head judge now running_verdict later lines line deed hears says know
   (known.3.0, known.3.1, hears_both (running_judge known.3.0 opened) (running_judge judge running_verdict) (running_judge now later) known.0 (deed ∷ []) known.3.2 hears),
 )
 
-pub fed_more : (opening : Stage) (head : TraceHead) (judge now : Kept) (running_verdict later : RunningVerdict) (text rest after : List ℕ) (number count : ℕ) (deed : Deed)
+pub fed_more : (opening : TraceStage) (head : TraceHead) (judge now : Kept) (running_verdict later : RunningVerdict) (text rest after : List ℕ) (number count : ℕ) (deed : Deed)
     → Begins (deed_at head.width) rest deed after → Hears (running_judge judge running_verdict) (deed ∷ []) (running_judge now later)
     → Fed opening (stages.Judging head judge running_verdict) text rest number count
     → Fed opening (stages.Judging head now later) text after number (min (count + 1) (2 ^ 64 - 1))

@@ -10,7 +10,7 @@ ghost use Rattle.one_lock.specs.Member.{is_in};
 ghost use Rattle.one_lock.specs.Shown.{CanSend, place_of};
 
 use crate::lab::sending::{is_crash, is_sent, value_sent};
-use crate::lab::{Ending, Gate, LabFault, Spec};
+use crate::lab::{WorkerEnd, Gate, LabFault, Spec};
 use crate::member::Member;
 use crate::sizes::Sizes;
 use execution::LockFault;
@@ -27,7 +27,7 @@ use std::thread::{Promise, PromisedHandle, Scope, Threads};
 #[derive(Drop)]
 pub struct Done<L: Ledger, S: Sizes> {
     pub member: Member<L, S>,
-    pub ending: Ending,
+    pub ending: WorkerEnd,
 }
 
 /// The promise of a worker's thread: it hands back the member that it was given, and has ended in one of a worker's ways.
@@ -62,17 +62,17 @@ fn work<L: Ledger, S: Sizes, G: Gate + Drop, R: Wait>(
         match send(rt, &mut member, &mut gate, seq, value) {
             Ok(reply) => {
                 if !is_sent(reply) {
-                    let ending = Ending::Refused(reply);
+                    let ending = WorkerEnd::Refused(reply);
                     return Done { member, ending };
                 }
             }
             Err(fault) => {
-                let ending = Ending::Fault(fault);
+                let ending = WorkerEnd::Fault(fault);
                 return Done { member, ending };
             }
         }
     }
-    let ending = Ending::AllSent;
+    let ending = WorkerEnd::AllSent;
     Done { member, ending }
 }
 
@@ -90,7 +90,7 @@ fn send<L: Ledger, S: Sizes, G: Gate, R: Wait>(
     ensures ready { is_in member.new.standing ≡ false }
     ensures told { OnOk result ((asking : G) × G.heard asking seq gate.new) }
     ensures answered { IfOk result (λ reply. IsReply S.named member.old.process (Append seq value) reply) }
-    ensures ends { IfErr result (λ purpose. (s : SpecOf) → MayEnd S.named s member.new.process (Ending.Fault purpose)) }
+    ensures ends { IfErr result (λ purpose. (s : SpecOf) → MayEnd S.named s member.new.process (WorkerEnd.Fault purpose)) }
 {
     for _ in rt.forever() {
         match member.append(rt, seq, value, gate) {
@@ -223,7 +223,7 @@ fn want_memory<L: Ledger, S: Sizes>(ended: &[Done<L, S>]) -> bool
     ensures { IsTrue result ↔ WantedMemory (map (λ d. d.ending) ended.now) }
 {
     for done in ended {
-        if done.ending == Ending::Fault(LockFault::OutOfMemory) {
+        if done.ending == WorkerEnd::Fault(LockFault::OutOfMemory) {
             return true;
         }
     }
@@ -237,9 +237,9 @@ fn least_fault<L: Ledger, S: Sizes>(ended: &[Done<L, S>]) -> Option<LabFault>
 {
     for p in 0..ended.len() {
         match ended[p].ending {
-            Ending::AllSent => {}
-            Ending::Fault(fault) => return Some(LabFault::Member { p: p as u64, fault }),
-            Ending::Refused(reply) => return Some(LabFault::Reply { p: p as u64, reply }),
+            WorkerEnd::AllSent => {}
+            WorkerEnd::Fault(fault) => return Some(LabFault::Member { p: p as u64, fault }),
+            WorkerEnd::Refused(reply) => return Some(LabFault::Reply { p: p as u64, reply }),
         }
     }
     None

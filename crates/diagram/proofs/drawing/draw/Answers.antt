@@ -1,5 +1,5 @@
 use Rattle.std.proofs.Common.{List, ap, subst, ◌∙◌, rules}
-use Rattle.diagram.proofs.Common.{Line, deeds_of, run_on, verdict_on, Row, told_in, events_on, events_in, PlaysOn}
+use Rattle.diagram.proofs.Common.{Line, deeds_of, run_on, verdict_on, DiagramRow, told_in, events_on, events_in, PlaysOn}
 use Rattle.diagram.proofs.Telling.{run_tells}
 use Rattle.diagram.proofs.Drawn.{drawn}
 use Rattle.diagram.proofs.drawing.draw.Goals as goal
@@ -13,7 +13,7 @@ returns g c =
     let r = c.take_lines-played.result in
     let run = run_on b 2 m lines in
     let s = c.take_lines-played.new.machine in
-    let played = subst (λ (before : List Row). PlaysOn before now (events_on b m lines) run s r) c.new-rows.ensures.items
+    let played = subst (λ (before : List DiagramRow). PlaysOn before now (events_on b m lines) run s r) c.new-rows.ensures.items
     (subst (λ (ls : List Line). PlaysOn c.new-rows.result.items now (events_on b m ls) (run_on b 2 m ls) s r) c.lines.ensures c.take_lines-played.ensures) in
     let all = drawn now (events_on b m lines) run s c.verdict_on-verdict.result r c.in_ok-end.end played c.in_ok-end.ensures in
     let told = ap told_in all.shows ∙ run_tells b 2 m lines in

@@ -1,5 +1,5 @@
 use Rattle.std.proofs.Common.{◌≡◌, List, Err, refl, ap, subst, ◌∙◌, ℕ}
-use Rattle.diagram.proofs.Common.{replicate, err_from_is_err_and, Writes, run_on, begins_nothing, Phase, Spells, Event, events_on, followed, events_in, layout_of}
+use Rattle.diagram.proofs.Common.{replicate, err_from_is_err_and, Writes, run_on, begins_nothing, LifelinePhase, Spells, Event, events_on, followed, events_in, layout_of}
 use Rattle.schedule.specs.declared.texts.head.Head.{Head}
 use Rattle.schedule.specs.Schedules.{head_of}
 use Rattle.diagram.proofs.Ended.{steps_end, steps_fail}
@@ -18,7 +18,7 @@ returns-in_err-write_steps-clause-follows g c start keeps =
     let steps : followed (layout_of drawing.head) (replicate drawing.head.procs drawing.first) (events_in drawing.rows.items)
     ≡ followed (layout_of (head_of schedule)) (replicate schedule.procs c.args.first) (events_on b c.args.machine.now schedule.lines) =
     ap (λ (head : Head). followed (layout_of head) (replicate head.procs drawing.first) (events_in drawing.rows.items)) told.sizes.0
-    ∙ ap (λ (first : Phase). followed (layout_of (head_of schedule)) (replicate schedule.procs first) (events_in drawing.rows.items)) told.sizes.1
+    ∙ ap (λ (first : LifelinePhase). followed (layout_of (head_of schedule)) (replicate schedule.procs first) (events_in drawing.rows.items)) told.sizes.1
     ∙ ap (λ (events : List Event). followed (layout_of (head_of schedule)) (replicate schedule.procs c.args.first) events) told.events in
     let t = g.W.Sink.tape c.args.w.now in
     let u = g.W.Sink.tape c.write_steps.new.w in
@@ -37,7 +37,7 @@ returns-clause-follows g c start keeps =
     let steps : followed (layout_of drawing.head) (replicate drawing.head.procs drawing.first) (events_in drawing.rows.items)
     ≡ followed (layout_of (head_of schedule)) (replicate schedule.procs c.args.first) (events_on b c.args.machine.now schedule.lines) =
     ap (λ (head : Head). followed (layout_of head) (replicate head.procs drawing.first) (events_in drawing.rows.items)) told.sizes.0
-    ∙ ap (λ (first : Phase). followed (layout_of (head_of schedule)) (replicate schedule.procs first) (events_in drawing.rows.items)) told.sizes.1
+    ∙ ap (λ (first : LifelinePhase). followed (layout_of (head_of schedule)) (replicate schedule.procs first) (events_in drawing.rows.items)) told.sizes.1
     ∙ ap (λ (events : List Event). followed (layout_of (head_of schedule)) (replicate schedule.procs c.args.first) events) told.events in
     let t = g.W.Sink.tape c.args.w.now in
     let u = g.W.Sink.tape c.write_steps.new.w in

@@ -1,5 +1,5 @@
 use Rattle.std.proofs.Common.{◌≡◌, ℕ, ◌+◌, ◌∷◌, List, drop, [], map, refl, sym, ap, subst, ◌∙◌, arith}
-use Rattle.diagram.proofs.Common.{drop_more, length-drop, nil_from_length, err_from_is_err_and, WritesFront, Row, Phase, row_of, phases_behind, rows_told, followed, events_in, events_shown}
+use Rattle.diagram.proofs.Common.{drop_more, length-drop, nil_from_length, err_from_is_err_and, WritesFront, DiagramRow, LifelinePhase, row_of, phases_behind, rows_told, followed, events_in, events_shown}
 use Rattle.diagram.proofs.Steps.{followed_more}
 use Rattle.diagram.proofs.Written.{nothing_yet, one_more_part, all_parts, stops_within}
 use Rattle.diagram.proofs.following.write_rows.Goals as goal
@@ -21,7 +21,7 @@ returns-in_err-write_shown g c =
     let p = err_from_is_err_and c.from_residual.result c.from_residual.ensures.1 in
     let whole = followed layout c.args.lifeline_state.now.phases (events_in rows) in
     let shown = map row_of (events_shown item.p item.act) in
-    let front = subst (λ (t : List ℕ). WritesFront first.taken mid.taken whole t) (ap (λ (rs : List Row). followed layout phases (events_in rs)) e ∙ followed_more layout phases item (drop (i + 1) rows)) c.loop-row.invariant.0 in
+    let front = subst (λ (t : List ℕ). WritesFront first.taken mid.taken whole t) (ap (λ (rs : List DiagramRow). followed layout phases (events_in rs)) e ∙ followed_more layout phases item (drop (i + 1) rows)) c.loop-row.invariant.0 in
     rw (p.1, p.2)
     (stops_within first mid last whole (rows_told layout phases shown) (followed layout (phases_behind phases shown) (events_in (drop (i + 1) rows))) c.in_err-write_shown.field-0.0 front c.loop-row.invariant.1 c.in_err-write_shown.ensures.0)
 
@@ -38,10 +38,10 @@ loop-row-preserved g c =
     let e : drop i rows ≡ item ∷ drop (i + 1) rows = drop_more rows i item c.loop-row-test.true ∙ ap (λ x. x ∷ drop (i + 1) rows) (sym c.row-item.is) in
     let whole = followed layout c.args.lifeline_state.now.phases (events_in rows) in
     let shown = map row_of (events_shown item.p item.act) in
-    let front = subst (λ (t : List ℕ). WritesFront first.taken mid.taken whole t) (ap (λ (rs : List Row). followed layout phases (events_in rs)) e ∙ followed_more layout phases item (drop (i + 1) rows)) c.loop-row.invariant.0 in
+    let front = subst (λ (t : List ℕ). WritesFront first.taken mid.taken whole t) (ap (λ (rs : List DiagramRow). followed layout phases (events_in rs)) e ∙ followed_more layout phases item (drop (i + 1) rows)) c.loop-row.invariant.0 in
     let written = c.in_ok-write_shown.ensures.0 in
     let further = one_more_part first mid last whole (rows_told layout phases shown) (followed layout (phases_behind phases shown) (events_in (drop (i + 1) rows))) front written in
-    (subst (λ (ps : List Phase). WritesFront first.taken last.taken whole (followed layout ps (events_in (drop (i + 1) rows)))) (sym c.in_ok-write_shown.ensures.1) further, written.fine ∙ c.loop-row.invariant.1)
+    (subst (λ (ps : List LifelinePhase). WritesFront first.taken last.taken whole (followed layout ps (events_in (drop (i + 1) rows)))) (sym c.in_ok-write_shown.ensures.1) further, written.fine ∙ c.loop-row.invariant.1)
 
 pub returns : goal.returns
 returns g c =
@@ -52,4 +52,4 @@ returns g c =
     let mid = g.W.Sink.tape c.loop-row.w in
     let none : drop i rows ≡ [] = nil_from_length (drop i rows) (omega (arith, length-drop i rows, c.loop-row-test.false)) in
     let whole = followed layout c.args.lifeline_state.now.phases (events_in rows) in
-    all_parts first mid whole (subst (λ (rs : List Row). WritesFront first.taken mid.taken whole (followed layout c.loop-row.lifeline_state.phases (events_in rs))) none c.loop-row.invariant.0) c.loop-row.invariant.1
+    all_parts first mid whole (subst (λ (rs : List DiagramRow). WritesFront first.taken mid.taken whole (followed layout c.loop-row.lifeline_state.phases (events_in rs))) none c.loop-row.invariant.0) c.loop-row.invariant.1

@@ -1,5 +1,5 @@
 use Rattle.std.proofs.Common.{◌∷◌, [], List, map, sym, subst}
-use Rattle.diagram.proofs.Common.{Act, Row, row_of, Tells, events_shown}
+use Rattle.diagram.proofs.Common.{Act, DiagramRow, row_of, Tells, events_shown}
 use Rattle.diagram.proofs.Steps.{again_and_again}
 use Rattle.diagram.proofs.following.write_shown.Goals as goal
 
@@ -9,7 +9,7 @@ returns-in-Silent g c =
     let u = g.W.Sink.tape c.write_times.new.w in
     let p = c.args.row.now.p in
     subst (λ (act : Act). Tells t u c.args.layout.now c.args.lifeline_state.now.phases c.write_times.new.lifeline_state.phases (map row_of (events_shown p act)) c.write_times.result) (sym c.in-Silent.is)
-    (subst (λ (rows : List Row). Tells t u c.args.layout.now c.args.lifeline_state.now.phases c.write_times.new.lifeline_state.phases rows c.write_times.result)
+    (subst (λ (rows : List DiagramRow). Tells t u c.args.layout.now c.args.lifeline_state.now.phases c.write_times.new.lifeline_state.phases rows c.write_times.result)
     (again_and_again p c.in-Silent.times c.in-Silent.happened) c.write_times.ensures)
 
 pub returns-in-Telling : goal.returns-in-Telling
@@ -18,7 +18,7 @@ returns-in-Telling g c =
     let u = g.W.Sink.tape c.write_times-in-Telling.new.w in
     let p = c.args.row.now.p in
     subst (λ (act : Act). Tells t u c.args.layout.now c.args.lifeline_state.now.phases c.write_times-in-Telling.new.lifeline_state.phases (map row_of (events_shown p act)) c.write_times-in-Telling.result) (sym c.in-Telling.is)
-    (subst (λ (row : Row). Tells t u c.args.layout.now c.args.lifeline_state.now.phases c.write_times-in-Telling.new.lifeline_state.phases (row ∷ []) c.write_times-in-Telling.result)
+    (subst (λ (row : DiagramRow). Tells t u c.args.layout.now c.args.lifeline_state.now.phases c.write_times-in-Telling.new.lifeline_state.phases (row ∷ []) c.write_times-in-Telling.result)
     c.row_of.ensures c.write_times-in-Telling.ensures)
 
 pub returns-in-Fell : goal.returns-in-Fell

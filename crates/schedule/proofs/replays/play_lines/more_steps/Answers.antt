@@ -61,7 +61,7 @@ loop-preserved g c =
 pub loop-preserved-then-step_silently : goal.loop-preserved-then-step_silently
 loop-preserved-then-step_silently g c =
     let count : c.args.n - c.loop.counter ≡ suc (c.args.n - (c.loop.counter + 1)) = omega (arith, c.loop-test.true) in
-    let silent_step = c.if-step_silently.ensures.silent_step refl in
+    let silent_step = c.if-step_silently.ensures.silent refl in
     let still = step_silent _ c.args.p _ c.loop.invariant.0 _ _ c.loop.machine c.step_silently.new.self c.loop.invariant.2 count (c.if-step_silently.ensures.accepted refl) silent_step.0 silent_step.1 (c.if-step_silently.ensures.ok refl) in
     (c.loop.invariant.0, c.loop.invariant.1, still)
 

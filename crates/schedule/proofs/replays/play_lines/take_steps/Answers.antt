@@ -9,7 +9,7 @@ returns-then-not-step_silently g c = rw (← (c.if-not-step_silently.ensures.sam
 pub returns-then-left-eq0 : goal.returns-then-left-eq0
 returns-then-left-eq0 g c =
     let count : c.args.n ≡ suc 0 = omega (arith, c.requires, c.if-left-eq0.true) in
-    let silent_step = c.if-not-step_silently.ensures.silent_step refl in
+    let silent_step = c.if-not-step_silently.ensures.silent refl in
     let here = c.step_silently.new.self in
     let still = step_silent _ c.args.p _ [] _ _ c.args.machine.now here refl count (c.if-not-step_silently.ensures.accepted refl) silent_step.0 silent_step.1 (c.if-not-step_silently.ensures.ok refl) in
     plays_all _ _ _ _ _ [] _ here (played_none _ (running_judge c.args.judge.now c.args.reporter.now)) (still ∙ rw (steps_none _ c.args.p here) refl) (c.if-not-step_silently.ensures.accepted refl)
@@ -17,7 +17,7 @@ returns-then-left-eq0 g c =
 pub returns : goal.returns
 returns g c =
     let count : c.args.n ≡ suc (c.args.n - 1) = omega (arith, c.requires) in
-    let silent_step = c.if-not-step_silently.ensures.silent_step refl in
+    let silent_step = c.if-not-step_silently.ensures.silent refl in
     let here = c.step_silently.new.self in
     let still = step_silent _ c.args.p _ [] _ _ c.args.machine.now here refl count (c.if-not-step_silently.ensures.accepted refl) silent_step.0 silent_step.1 (c.if-not-step_silently.ensures.ok refl) in
     plays_then _ _ _ _ _ _ [] _ _ _ _ c.more_steps.result (played_none _ (running_judge c.args.judge.now c.args.reporter.now)) still (c.if-not-step_silently.ensures.accepted refl) c.more_steps.ensures

@@ -27,7 +27,7 @@ pub use Rattle.rmeworld.specs.Entered.{is_entry, mended_done, checks_done}
 pub use Rattle.rmeworld.specs.ScriptStates.{HasStep}
 pub use Rattle.rmeworld.specs.ProcessState.{end_place, end_mended, end_barred, mended_entered}
 pub use Rattle.rmeworld.specs.MachineState.{next_access, MachineState, stepped_by, job_left, standing, stepped, lock_moved, outcome, access_by, InWords}
-pub use Rattle.rmeworld.proofs.ScriptPositions.{lock_outcome, with}
+pub use Rattle.rmeworld.proofs.Chores.{lock_outcome, with}
 pub use Rattle.rme_c.specs.declared.answers.Told.{Told}
 pub use Rattle.rme_c.specs.declared.script_position.ScriptPosition.{ScriptPosition}
 pub use Rattle.rme_c.specs.declared.position.Position.{Position}

@@ -15,7 +15,8 @@ ghost use Rattle.rme_c.specs.declared.position.Position.TheVariants as PositionO
 use crate::accesses::next_at;
 use crate::answers::{NOTHING, refusal_code, tell, wanted};
 use crate::blocks::{block_words, image, is_block};
-use crate::lock_arms::{lock_feed, quick_feed, scan_feed};
+use crate::clean_steps::quick_feed;
+use crate::lock_arms::{lock_feed, scan_feed};
 use crate::position::{
     Position, is_checking, is_idle, lock_stage, machine_state, position_now, scan_stage,
 };

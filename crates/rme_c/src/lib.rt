@@ -6,6 +6,7 @@
 mod accesses;
 mod answers;
 mod blocks;
+mod clean_steps;
 mod exports;
 mod lock_arms;
 mod lock_part;

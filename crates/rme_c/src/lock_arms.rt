@@ -13,14 +13,14 @@ ghost use Rattle.rme_c.specs.declared.position.Position.TheVariants as Position;
 
 use crate::accesses::first;
 use crate::lock_part::{Landing, comes_in, lands, leaves, loads, runs_out, stays, stores};
-use crate::position::{at, number};
+use crate::position::at;
 use crate::process::{RmeAccess, RmeProcess};
 use rmecore::{CoreCall, LockProcess, Stage};
 
 /// The doorway, with the processes from an index on still to be peeked at.
 // Inline: each scan step, the hottest.
 #[inline(always)]
-fn peeks_from(
+pub(crate) fn peeks_from(
     p: &mut RmeProcess,
     from: u64,
     greatest: u64,
@@ -60,7 +60,7 @@ fn peeks_from(
 /// The wait, with the processes from an index on still to be passed.
 // Inline: each scan step, the hottest.
 #[inline(always)]
-fn looks_from(
+pub(crate) fn looks_from(
     p: &mut RmeProcess,
     number: u64,
     from: u64,
@@ -323,103 +323,6 @@ fn scanned(
     }
 }
 
-/// Takes the next step of a lock or an unlock that finds no trace of a crash, other than a scan's. None: it is another step,
-/// and nothing changed.
-// Inline: once in each lock step.
-#[inline(always)]
-fn shortly(
-    p: &mut RmeProcess,
-    stage: Stage,
-    value: u64,
-    steps: u64,
-    next: &mut RmeAccess,
-) -> Option<Landing>
-    requires below { p.old.index < p.old.procs }
-    requires few { p.old.procs ≤ 64 }
-    requires steps { steps ≡ p.old.steps + 1 }
-    ensures place { IfSome result (λ r. place_of p.old.procs p.old.index r.to
-        ≡ after_access (standing_at p.old stage) (next_access (standing_at p.old stage)) value) }
-    ensures done { IfSome result (λ r. r.done ≡ (progress (standing_at p.old stage) (next_access (standing_at p.old stage)) value).done) }
-    ensures blocked { IfSome result (λ r. r.blocked ≡ (progress (standing_at p.old stage)
-        (next_access (standing_at p.old stage)) value).blocked) }
-    ensures numbers { IfSome result (λ r. IsLanding p.old r p.new next.old next.new) }
-    ensures busy { IfSome result (λ _. is_idle (place_of p.old.procs p.old.index stage) ≡ false) }
-    ensures none { result ≡ None → (p.new ≡ p.old) × (next.new ≡ next.old) }
-{
-    let own = p.index;
-    let q = p.position;
-    let landing = match stage {
-        Stage::ReadingChoosing { call } => {
-            let to = Stage::ReadingNumber {
-                call,
-                choosing: value,
-            };
-            loads(
-                p,
-                to,
-                at(3, q.first, value, number(call)),
-                3 * own + 1,
-                steps,
-                next,
-            )
-        }
-        Stage::ReadingNumber { call, choosing } => {
-            let to = Stage::ReadingInside {
-                call,
-                choosing,
-                number: value,
-            };
-            loads(
-                p,
-                to,
-                at(4, value, choosing, number(call)),
-                3 * own + 2,
-                steps,
-                next,
-            )
-        }
-        Stage::ReadingInside {
-            call: CoreCall::Lock,
-            choosing: 0,
-            number: 0,
-        } if value == 0 => {
-            stores(
-                p,
-                Stage::Opening,
-                at(5, q.first, q.second, q.third),
-                3 * own,
-                1,
-                steps,
-                next,
-            )
-        }
-        Stage::Opening => peeks_from(p, 0, 0, steps, next),
-        Stage::Shutting {
-            call: CoreCall::Lock,
-            number,
-        } => looks_from(p, number, 0, steps, next),
-        Stage::Leaving => {
-            let to = Stage::Unmarking {
-                call: CoreCall::Unlock,
-            };
-            stores(
-                p,
-                to,
-                at(13, q.first, q.second, 2),
-                3 * own + 2,
-                0,
-                steps,
-                next,
-            )
-        }
-        Stage::Unmarking {
-            call: CoreCall::Unlock,
-        } => leaves(p, steps, next),
-        _ => return None,
-    };
-    Some(landing)
-}
-
 /// Takes a step of the lock's part, if it is a scan's. None: it isn't, and nothing changed.
 // Inline: each scan step, the hottest.
 #[inline(always)]
@@ -437,28 +340,6 @@ pub fn scan_feed(
     ensures none { result ≡ None → (p.new ≡ p.old) × (next.new ≡ next.old) }
 {
     match scanned(p, stage, value, steps, next) {
-        Some(landing) => Some(landing.code),
-        None => None,
-    }
-}
-
-/// Takes a step of the lock's part, if it is one of a lock or an unlock that finds no trace of a crash, other than a scan's.
-// Inline: once in each lock step.
-#[inline(always)]
-pub fn quick_feed(
-    p: &mut RmeProcess,
-    stage: Stage,
-    value: u64,
-    steps: u64,
-    next: &mut RmeAccess,
-) -> Option<u64>
-    requires here { position_of p.old ≡ Position.Lock stage }
-    requires fits { Fits p.old (Position.Lock stage) }
-    requires steps { steps ≡ p.old.steps + 1 }
-    ensures fed { IfSome result (λ code. IsFed p.old value p.new next.old next.new code) }
-    ensures none { result ≡ None → (p.new ≡ p.old) × (next.new ≡ next.old) }
-{
-    match shortly(p, stage, value, steps, next) {
         Some(landing) => Some(landing.code),
         None => None,
     }

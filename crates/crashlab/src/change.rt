@@ -2,7 +2,7 @@
 
 /// What a wrong variant still changes of the repair under way.
 #[derive(Clone, Copy, Debug, PartialEq, Eq)]
-pub enum Removal {
+pub enum Change {
     /// Nothing, or nothing more.
     Nothing,
     /// The put of the sender's last number is left out.

@@ -11,9 +11,9 @@ use Rattle.schedule.specs.Wholes.{Silent}
 use Rattle.explorer.specs.Paths.{HasMoreStates, IsNumberOfStates}
 use Rattle.schedule.specs.Words.{line_of}
 use Rattle.crashlab.specs.declared.variant.Variant.TheVariants.{Right}
-use Rattle.lock_explorer.specs.declared.space.moves.Move.{Move}
+use Rattle.crashlab.specs.declared.space.moves.Move.{Move}
 use Rattle.lock_explorer.specs.GlobalStateWords.{global_state_words}
-use Rattle.lock_explorer.specs.Spaces.{first_global_state, line_by, rules}
+use Rattle.crashlab.specs.Spaces.{first_global_state, line_by, rules}
 use Rattle.lock_explorer.specs.Finding.{IsFoundIn, IsLeast, NoneOfAtMost, NoneIsFound}
 use Rattle.commands.specs.declared.schedules.ending.Ending.{Ending}
 use Rattle.commands.specs.declared.schedules.fault.CommandFault.{CommandFault}

@@ -5,7 +5,7 @@ ghost use Rattle.std.specs.Fmt.{decimal};
 ghost use Rattle.commands.specs.Endings.{FailsToWrite, IsEnded};
 ghost use Rattle.schedule.specs.Tapes.{Writes};
 ghost use Rattle.commands.specs.Explores.{appends as appends_of, asked, all_line, calls_of as calls_asked, ExploreEnds, schedule_of as schedule_by, within_line};
-ghost use Rattle.lock_explorer.specs.Spaces.{line_by};
+ghost use Rattle.crashlab.specs.Spaces.{line_by};
 
 use crate::progress::meter::Meter;
 use crate::progress::screen::Screen;
@@ -15,7 +15,7 @@ use crate::schedules::fault::CommandFault;
 use crate::schedules::line::line_around;
 use crate::schedules::shrunk::write_lines;
 use cli::arguments::order::ExploreArgs;
-use lock_explorer::{Bounds, ExploreFault, Found, Move, shortest_schedule};
+use lock_explorer::{Bounds, ExploreFault, Move, SearchOutcome, shortest_schedule};
 use redomail::Layout;
 use rmecore::Body;
 use rmeworld::Call;
@@ -189,7 +189,7 @@ pub fn explore_order<S: Screen, W: Sink>(
     );
     meter.end();
     match found {
-        Ok(Found::Path(path)) => {
+        Ok(SearchOutcome::Path(path)) => {
             let schedule = schedule_of(alloc, order, &path)?;
             write_lines(alloc, &schedule, w)?;
             Ok(Ending {
@@ -197,8 +197,8 @@ pub fn explore_order<S: Screen, W: Sink>(
                 save: None,
             })
         }
-        Ok(Found::NoneWithin) => tell_within(order.moves, w),
-        Ok(Found::Nowhere(states)) => tell_all(states, w),
+        Ok(SearchOutcome::NoneWithin) => tell_within(order.moves, w),
+        Ok(SearchOutcome::Nowhere(states)) => tell_all(states, w),
         Err(ExploreFault::Refused(_)) => Err(CommandFault::BadSize),
         Err(ExploreFault::TooManyStates) => Err(CommandFault::TooManyStates),
         Err(ExploreFault::OutOfMemory) => Err(CommandFault::OutOfMemory),

@@ -16,3 +16,11 @@ pub mod Answered
 pub mod Found
 pub mod Sizes
 pub mod Needed
+pub mod PlaceBack
+pub mod JobBack
+pub mod MachineStateTells
+pub mod Filtered
+pub mod Numbers
+pub mod Played
+pub mod JudgeTells
+pub mod SearchStateTells

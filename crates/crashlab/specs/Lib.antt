@@ -11,3 +11,10 @@ pub mod Hunts
 pub mod Found
 -- The definitions that the contracts cite.
 pub mod Shrunk
+pub mod PlaceWords
+pub mod JobWords
+pub mod MachineStateWords
+pub mod Spaces
+pub mod Numbered
+pub mod FoundBy
+pub mod SearchStateWords

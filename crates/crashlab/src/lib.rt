@@ -11,11 +11,13 @@ mod moves;
 mod observer;
 mod round;
 pub mod shrinking;
+pub mod space;
 mod telling;
 pub mod variant;
 pub mod variant_memory;
 pub mod variant_process;
 pub mod variant_world;
+pub mod words;
 
 pub use crash_plans::{At, Both, CrashPlan, Never, Seeded};
 pub use hunt_fault::HuntFault;

@@ -2,8 +2,8 @@
 #![tactic(auto)]
 
 mod arguments;
-mod commands;
 mod hunts;
 mod memory;
+mod program;
 mod replays;
 pub mod support;

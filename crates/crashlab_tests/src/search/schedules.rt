@@ -3,7 +3,7 @@
 
 use crashlab::{Variant, VariantWorld};
 use judge::Judge;
-use lock_explorer::{Bounds, ExploreFault, Found, Move, Unwatched, shortest_schedule};
+use lock_explorer::{Bounds, ExploreFault, Move, SearchOutcome, Unwatched, shortest_schedule};
 use redomail::Layout;
 use rmecore::{Body, Fault, Refusal};
 use rmeworld::{Call, Machine};
@@ -35,7 +35,7 @@ impl Sizes {
         alloc: Global,
         calls: &[Call],
         moves: u64,
-    ) -> Result<Found<Move>, ExploreFault> {
+    ) -> Result<SearchOutcome<Move>, ExploreFault> {
         let bounds = Bounds {
             crashes: self.crashes,
             moves,
@@ -93,12 +93,16 @@ fn is_shortest(
     moves: u64,
     fault: Fault,
 ) -> Result<bool, Fail> {
-    let Ok(Found::Path(path)) = sizes.explore(alloc, calls, moves) else {
+    let Ok(SearchOutcome::Path(path)) = sizes.explore(alloc, calls, moves) else {
         return Ok(false);
     };
     let judged = sizes.judged(alloc, &path);
     let below = sizes.explore(alloc, calls, moves.saturating_sub(1));
-    Ok(path.len() as u64 == moves && judged == Ok(Some(fault)) && below == Ok(Found::NoneWithin))
+    Ok(
+        path.len() as u64 == moves
+            && judged == Ok(Some(fault))
+            && below == Ok(SearchOutcome::NoneWithin),
+    )
 }
 
 const LOCKING: [Call; 2] = [Call::Lock, Call::Unlock];
@@ -243,11 +247,11 @@ fn the_lock_is_searched_to_the_end(rt: HostRuntime) -> Result<(), Fail> {
     let alloc = rt.alloc();
     assert_eq!(rt;
         sizes(2, 1, 4).explore(alloc, &LOCKING, 1_000),
-        Ok(Found::Nowhere(7_729))
+        Ok(SearchOutcome::Nowhere(7_729))
     );
     assert_eq!(rt;
         sizes(3, 0, 3).explore(alloc, &LOCKING, 1_000),
-        Ok(Found::Nowhere(43_762))
+        Ok(SearchOutcome::Nowhere(43_762))
     );
     Ok(())
 }

@@ -10,7 +10,7 @@ ghost use Rattle.one_lock.specs.Member.{is_in};
 ghost use Rattle.one_lock.specs.Shown.{CanSend, place_of};
 
 use crate::lab::sending::{is_crash, is_sent, value_sent};
-use crate::lab::{WorkerEnd, Gate, LabFault, Spec};
+use crate::lab::{Gate, LabFault, Spec, WorkerEnd};
 use crate::member::Member;
 use crate::sizes::Sizes;
 use execution::LockFault;

@@ -21,7 +21,7 @@ use crate::lab::worker::{Done, HandsBack, work};
 use crate::laws;
 use crate::member::Member;
 use one_lock::GatherFault;
-use one_lock::lab::{Ending, Gate, LabFault, LabResult, Spec};
+use one_lock::lab::{Gate, LabFault, LabResult, Spec, WorkerEnd};
 use redomail::{Layout, content};
 use rmecore::Refusal;
 use rmeworld::Image;
@@ -187,14 +187,14 @@ fn join_all<R: Threads>(
 /// What ended the worker with the least number of those that ended early.
 fn first_fault(ended: &[Done]) -> Option<LabFault>
     ensures first { IfSome result (IsFirstFault ended.now) }
-    ensures none { result ≡ None → All (λ done. done.ending ≡ Ending.AllSent) ended.now }
+    ensures none { result ≡ None → All (λ done. done.ending ≡ WorkerEnd.AllSent) ended.now }
 {
     for done in ended {
         let p = done.member.number();
         match done.ending {
-            Ending::AllSent => {}
-            Ending::Fault(fault) => return Some(LabFault::Member { p, fault }),
-            Ending::Refused(reply) => return Some(LabFault::Reply { p, reply }),
+            WorkerEnd::AllSent => {}
+            WorkerEnd::Fault(fault) => return Some(LabFault::Member { p, fault }),
+            WorkerEnd::Refused(reply) => return Some(LabFault::Reply { p, reply }),
         }
     }
     None

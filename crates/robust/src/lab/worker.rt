@@ -15,7 +15,7 @@ ghost use Rattle.robust.specs.Working.{seat_of};
 use crate::member::Member;
 use execution::LockFault;
 use one_lock::lab::sending::{is_crash, is_sent, value_sent};
-use one_lock::lab::{Ending, Gate, Spec};
+use one_lock::lab::{Gate, Spec, WorkerEnd};
 use redomail::Reply;
 use rmecore::Body;
 use std::snapshot::Snapshot;
@@ -26,7 +26,7 @@ use std::thread::Promise;
 #[derive(Drop)]
 pub struct Done {
     pub member: Member,
-    pub ending: Ending,
+    pub ending: WorkerEnd,
 }
 
 /// The promise of a worker's thread: it hands back the member that it was given, with its messages sent.
@@ -57,17 +57,17 @@ pub fn work<G: Gate + Drop, R: Wait>(rt: &R, mut member: Member, mut gate: G, sp
         match send(rt, &mut member, &mut gate, seq, value) {
             Ok(reply) => {
                 if !is_sent(reply) {
-                    let ending = Ending::Refused(reply);
+                    let ending = WorkerEnd::Refused(reply);
                     return Done { member, ending };
                 }
             }
             Err(fault) => {
-                let ending = Ending::Fault(fault);
+                let ending = WorkerEnd::Fault(fault);
                 return Done { member, ending };
             }
         }
     }
-    let ending = Ending::AllSent;
+    let ending = WorkerEnd::AllSent;
     Done { member, ending }
 }
 

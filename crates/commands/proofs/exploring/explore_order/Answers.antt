@@ -2,7 +2,7 @@ use Rattle.std.proofs.Common.{◌≡◌, ℕ, Result, Ok, Err, IfOk, OnOk, IfErr
 use Rattle.schedule.specs.Tapes.{Tape, Writes}
 use Rattle.explorer.specs.Paths.{IsNumberOfStates}
 use Rattle.lock_explorer.specs.GlobalStateWords.{global_state_words}
-use Rattle.lock_explorer.specs.Spaces.{first_global_state, rules}
+use Rattle.crashlab.specs.Spaces.{first_global_state, rules}
 use Rattle.lock_explorer.specs.Finding.{NoneOfAtMost, NoneIsFound}
 use Rattle.commands.specs.declared.schedules.ending.Ending.{Ending}
 use Rattle.commands.specs.declared.schedules.fault.CommandFault.{CommandFault}

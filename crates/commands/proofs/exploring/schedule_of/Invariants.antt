@@ -1,5 +1,5 @@
 use Rattle.std.proofs.Common.{◌≡◌, map, take}
-use Rattle.lock_explorer.specs.Spaces.{line_by}
+use Rattle.crashlab.specs.Spaces.{line_by}
 use Rattle.commands.proofs.exploring.schedule_of.Given as goal
 
 abbrev pub invariant-loop-made : goal.invariant-loop-made

@@ -1,11 +1,11 @@
-//! The calls of a member. Each takes the world's mutex once for each of its steps. Contracts hold if the call returns.
+//! The calls of a member, but for those of the whole mailbox. Each takes the world's mutex once for each of its steps. Contracts hold if the call returns.
 //!
 //! Each plan is asked before each step and once before the answer, while the mutex is not held. The first asking that falls
 //! ends the call. A call that is refused for the member's state or its arguments takes no step and asks nothing.
 
-ghost use Rattle.std.specs.Prelude.{◌≡◌, ◌≢◌, ◌<◌, ◌≤◌, ◌⊎◌, ◌↔◌, ℕ, Ok, Some, None, IfOk, IfErr, IsErrOf, OnOk, OnErr, IsNone, IsSome, true, false, length};
-ghost use Rattle.one_lock.specs.Answers.{Answered, IsReply, EndsAtLock, entry_by, found_by, mended_by, word_by, reply_by};
-ghost use Rattle.one_lock.specs.Member.{Goes, AskedEach, AskedOnceMore, Counts, CountsOn, is_in, may_start, of_lock, of_wait, of_steps, of_consistent, falls_by, stands_entered, stands_out, stands_found, stands_mended, stands_still};
+ghost use Rattle.std.specs.Prelude.{◌≡◌, ◌≢◌, ◌<◌, ◌≤◌, ◌⊎◌, ◌↔◌, ℕ, Ok, Some, None, IfErr, IsErrOf, OnOk, OnErr, IsNone, IsSome, true, false};
+ghost use Rattle.one_lock.specs.Answers.{Answered, entry_by, found_by, mended_by, word_by};
+ghost use Rattle.one_lock.specs.Member.{Goes, AskedOnceMore, Counts, is_in, of_lock, of_wait, of_steps, of_consistent, falls_by, stands_entered, stands_out, stands_found, stands_mended, stands_still};
 
 use crate::member::Member;
 use crate::member_state::MemberState;
@@ -13,7 +13,7 @@ use crate::sizes::Sizes;
 use crash_plans::CrashPlan;
 use execution::{Entry, LockFault};
 use redomail::Reply;
-use rmecore::{Body, Found};
+use rmecore::Found;
 use rmeworld::{Answer, Call};
 use std::sync::Wait;
 use std::sync::ledger::Ledger;
@@ -22,7 +22,7 @@ use std::sync::ledger::Ledger;
 const BOARD: u64 = 4;
 
 /// The result of a lock from its answer, and the member's state after it. None: the lock has used up its turns.
-fn entered(answer: Option<Answer>) -> (Result<Entry, LockFault>, MemberState)
+pub(crate) fn entered(answer: Option<Answer>) -> (Result<Entry, LockFault>, MemberState)
     ensures told { result.0 ≡ entry_by answer }
     ensures stands { result.1 ≡ stands_entered result.0 }
     ensures inside { OnOk result.0 (is_in result.1 ≡ true) }
@@ -56,7 +56,7 @@ fn found(answer: Option<Answer>) -> (Result<Found, LockFault>, MemberState)
 }
 
 /// The result of `consistent` from its answer, and the member's state after it.
-fn mended(answer: Option<Answer>) -> (Result<bool, LockFault>, MemberState)
+pub(crate) fn mended(answer: Option<Answer>) -> (Result<bool, LockFault>, MemberState)
     ensures told { result.0 ≡ mended_by answer }
     ensures stands { result.1 ≡ stands_mended result.0 }
     ensures falls { (f : ℕ) → falls_by result.0 f ≡ f }
@@ -65,16 +65,6 @@ fn mended(answer: Option<Answer>) -> (Result<bool, LockFault>, MemberState)
     match answer {
         Some(Answer::Mail(Reply::Mended(repaired))) => (Ok(repaired), MemberState::Mended),
         _ => (Err(LockFault::NotRecoverable), MemberState::Unmended),
-    }
-}
-
-/// The reply of a task.
-fn replied(answer: Option<Answer>) -> Reply
-    ensures { result ≡ reply_by answer }
-{
-    match answer {
-        Some(Answer::Mail(reply)) => reply,
-        _ => Reply::Done,
     }
 }
 
@@ -290,221 +280,5 @@ impl<L: Ledger, S: Sizes> Member<L, S> {
         let standing = self.standing;
         self.begin(rt, plan, Call::Put(i, value), None)?;
         self.conclude(plan, Ok(()), standing)
-    }
-
-    /// Locks, mends where the owner died, stores a message with this sequence number, and unlocks. Its one answer is the
-    /// reply of the append. `BadWidth`: the value has another width than the arena's. The other faults are those of
-    /// `lock_within`. After `Crashed` it may be stored or not: send it again with the same number.
-    pub fn append_within<R: Wait, P: CrashPlan>(
-        &mut self,
-        rt: &R,
-        seq: u64,
-        value: Body,
-        plan: &mut P,
-        turns: u64,
-    ) -> Result<Reply, LockFault>
-        ensures narrow { IsErrOf result LockFault.BadWidth ↔ (length value ≢ self.old.layout.width) }
-        ensures refused { IsErrOf result LockFault.AlreadyIn ↔ ((length value ≡ self.old.layout.width) × (is_in self.old.standing ≡ true)) }
-        ensures unasked { is_in self.old.standing ≡ true → (self.new ≡ self.old) × (P.asked plan.new ≡ P.asked plan.old) }
-        ensures untaken { length value ≢ self.old.layout.width → (self.new ≡ self.old) × (P.asked plan.new ≡ P.asked plan.old) }
-        ensures asked { is_in self.old.standing ≡ false → length value ≡ self.old.layout.width
-            → AskedOnceMore self.old self.new (P.asked plan.old) (P.asked plan.new) }
-        ensures counted { is_in self.old.standing ≡ false → length value ≡ self.old.layout.width → Counts self.old self.new }
-        ensures fallen { P.fallen plan.new ≡ falls_by result (P.fallen plan.old) }
-        ensures goes { Goes self.old self.new }
-        ensures stands { is_in self.old.standing ≡ false → length value ≡ self.old.layout.width → self.new.standing ≡ stands_out result }
-        ensures faults { is_in self.old.standing ≡ false → length value ≡ self.old.layout.width → IfErr result (λ e. of_lock e ≡ true) }
-        ensures at_lock { IfErr result (EndsAtLock S.named self.old (Some turns) self.new.steps) }
-        ensures answered { IfOk result (λ reply. IsReply S.named self.old.process (Call.Append seq value) reply) }
-    {
-        self.append_by(rt, seq, value, plan, Some(turns))
-    }
-
-    /// The same as `append_within`, but it waits as long as it has to. Its faults are those of `append_within`, but for
-    /// `NotYet`.
-    pub fn append<R: Wait, P: CrashPlan>(
-        &mut self,
-        rt: &R,
-        seq: u64,
-        value: Body,
-        plan: &mut P,
-    ) -> Result<Reply, LockFault>
-        ensures narrow { IsErrOf result LockFault.BadWidth ↔ (length value ≢ self.old.layout.width) }
-        ensures refused { IsErrOf result LockFault.AlreadyIn ↔ ((length value ≡ self.old.layout.width) × (is_in self.old.standing ≡ true)) }
-        ensures unasked { is_in self.old.standing ≡ true → (self.new ≡ self.old) × (P.asked plan.new ≡ P.asked plan.old) }
-        ensures untaken { length value ≢ self.old.layout.width → (self.new ≡ self.old) × (P.asked plan.new ≡ P.asked plan.old) }
-        ensures asked { is_in self.old.standing ≡ false → length value ≡ self.old.layout.width
-            → AskedOnceMore self.old self.new (P.asked plan.old) (P.asked plan.new) }
-        ensures counted { is_in self.old.standing ≡ false → length value ≡ self.old.layout.width → Counts self.old self.new }
-        ensures fallen { P.fallen plan.new ≡ falls_by result (P.fallen plan.old) }
-        ensures goes { Goes self.old self.new }
-        ensures stands { is_in self.old.standing ≡ false → length value ≡ self.old.layout.width → self.new.standing ≡ stands_out result }
-        ensures faults { is_in self.old.standing ≡ false → length value ≡ self.old.layout.width → IfErr result (λ e. of_wait e ≡ true) }
-        ensures at_lock { IfErr result (EndsAtLock S.named self.old None self.new.steps) }
-        ensures answered { IfOk result (λ reply. IsReply S.named self.old.process (Call.Append seq value) reply) }
-    {
-        self.append_by(rt, seq, value, plan, None)
-    }
-
-    /// An append with this many turns, or without a limit of them.
-    fn append_by<R: Wait, P: CrashPlan>(
-        &mut self,
-        rt: &R,
-        seq: u64,
-        value: Body,
-        plan: &mut P,
-        turns: Option<u64>,
-    ) -> Result<Reply, LockFault>
-        ensures narrow { IsErrOf result LockFault.BadWidth ↔ (length value ≢ self.old.layout.width) }
-        ensures refused { IsErrOf result LockFault.AlreadyIn ↔ ((length value ≡ self.old.layout.width) × (is_in self.old.standing ≡ true)) }
-        ensures unasked { is_in self.old.standing ≡ true → (self.new ≡ self.old) × (P.asked plan.new ≡ P.asked plan.old) }
-        ensures untaken { length value ≢ self.old.layout.width → (self.new ≡ self.old) × (P.asked plan.new ≡ P.asked plan.old) }
-        ensures patient { IsErrOf result LockFault.NotYet → IsSome turns }
-        ensures asked { is_in self.old.standing ≡ false → length value ≡ self.old.layout.width
-            → AskedOnceMore self.old self.new (P.asked plan.old) (P.asked plan.new) }
-        ensures counted { is_in self.old.standing ≡ false → length value ≡ self.old.layout.width → Counts self.old self.new }
-        ensures fallen { P.fallen plan.new ≡ falls_by result (P.fallen plan.old) }
-        ensures goes { Goes self.old self.new }
-        ensures stands { is_in self.old.standing ≡ false → length value ≡ self.old.layout.width → self.new.standing ≡ stands_out result }
-        ensures faults { is_in self.old.standing ≡ false → length value ≡ self.old.layout.width → IfErr result (λ e. of_lock e ≡ true) }
-        ensures at_lock { IfErr result (EndsAtLock S.named self.old turns self.new.steps) }
-        ensures answered { IfOk result (λ reply. IsReply S.named self.old.process (Call.Append seq value) reply) }
-    {
-        if value.width() != self.layout.width {
-            return Err(LockFault::BadWidth);
-        }
-        self.mail_by(rt, plan, Call::Append { seq, value }, turns)
-    }
-
-    /// Locks, mends where the owner died, closes the mailbox, and unlocks. Its one answer is the reply of the close. Its
-    /// faults are those of `lock_within`.
-    pub fn close_within<R: Wait, P: CrashPlan>(
-        &mut self,
-        rt: &R,
-        plan: &mut P,
-        turns: u64,
-    ) -> Result<Reply, LockFault>
-        ensures refused { IsErrOf result LockFault.AlreadyIn ↔ (is_in self.old.standing ≡ true) }
-        ensures unasked { is_in self.old.standing ≡ true → (self.new ≡ self.old) × (P.asked plan.new ≡ P.asked plan.old) }
-        ensures asked { is_in self.old.standing ≡ false → AskedOnceMore self.old self.new (P.asked plan.old) (P.asked plan.new) }
-        ensures counted { is_in self.old.standing ≡ false → Counts self.old self.new }
-        ensures fallen { P.fallen plan.new ≡ falls_by result (P.fallen plan.old) }
-        ensures goes { Goes self.old self.new }
-        ensures stands { is_in self.old.standing ≡ false → self.new.standing ≡ stands_out result }
-        ensures faults { is_in self.old.standing ≡ false → IfErr result (λ e. of_lock e ≡ true) }
-        ensures at_lock { IfErr result (EndsAtLock S.named self.old (Some turns) self.new.steps) }
-        ensures answered { IfOk result (λ reply. IsReply S.named self.old.process Call.Close reply) }
-    {
-        self.mail_by(rt, plan, Call::Close, Some(turns))
-    }
-
-    /// The same as `close_within`, but it waits as long as it has to. Its faults are those of `lock_within`, but for
-    /// `NotYet`.
-    pub fn close<R: Wait, P: CrashPlan>(&mut self, rt: &R, plan: &mut P) -> Result<Reply, LockFault>
-        ensures refused { IsErrOf result LockFault.AlreadyIn ↔ (is_in self.old.standing ≡ true) }
-        ensures unasked { is_in self.old.standing ≡ true → (self.new ≡ self.old) × (P.asked plan.new ≡ P.asked plan.old) }
-        ensures asked { is_in self.old.standing ≡ false → AskedOnceMore self.old self.new (P.asked plan.old) (P.asked plan.new) }
-        ensures counted { is_in self.old.standing ≡ false → Counts self.old self.new }
-        ensures fallen { P.fallen plan.new ≡ falls_by result (P.fallen plan.old) }
-        ensures goes { Goes self.old self.new }
-        ensures stands { is_in self.old.standing ≡ false → self.new.standing ≡ stands_out result }
-        ensures faults { is_in self.old.standing ≡ false → IfErr result (λ e. of_wait e ≡ true) }
-        ensures at_lock { IfErr result (EndsAtLock S.named self.old None self.new.steps) }
-        ensures answered { IfOk result (λ reply. IsReply S.named self.old.process Call.Close reply) }
-    {
-        self.mail_by(rt, plan, Call::Close, None)
-    }
-
-    /// A whole mailbox call: a lock, `consistent` where the entry is `OwnerDied`, the task and an unlock. The plan is asked
-    /// once before the one answer.
-    #[tactic(auto, using(crate::proofs::Answered::cut_at_lock, crate::proofs::Answered::locked_out, crate::proofs::Answered::came_in))]
-    fn mail_by<R: Wait, P: CrashPlan>(
-        &mut self,
-        rt: &R,
-        plan: &mut P,
-        call: Call,
-        turns: Option<u64>,
-    ) -> Result<Reply, LockFault>
-        requires { may_start MemberState.Mended call ≡ true }
-        ensures refused { IsErrOf result LockFault.AlreadyIn ↔ (is_in self.old.standing ≡ true) }
-        ensures unasked { is_in self.old.standing ≡ true → (self.new ≡ self.old) × (P.asked plan.new ≡ P.asked plan.old) }
-        ensures patient { IsErrOf result LockFault.NotYet → IsSome turns }
-        ensures asked { is_in self.old.standing ≡ false → AskedOnceMore self.old self.new (P.asked plan.old) (P.asked plan.new) }
-        ensures counted { is_in self.old.standing ≡ false → Counts self.old self.new }
-        ensures fallen { P.fallen plan.new ≡ falls_by result (P.fallen plan.old) }
-        ensures goes { Goes self.old self.new }
-        ensures stands { is_in self.old.standing ≡ false → self.new.standing ≡ stands_out result }
-        ensures faults { is_in self.old.standing ≡ false → IfErr result (λ e. of_lock e ≡ true) }
-        ensures at_lock { IfErr result (EndsAtLock S.named self.old turns self.new.steps) }
-        ensures answered { IfOk result (λ reply. IsReply S.named self.old.process call reply) }
-    {
-        if self.standing.is_in() {
-            return Err(LockFault::AlreadyIn);
-        }
-        let (entry, standing) = entered(self.begin(rt, plan, Call::Lock, turns)?);
-        match entry {
-            Ok(_) => {
-                self.standing = standing;
-                let reply = self.work(rt, plan, call)?;
-                self.conclude(plan, reply, MemberState::Out)
-            }
-            Err(fault) => self.conclude(plan, Err(fault), standing),
-        }
-    }
-
-    /// What a mailbox call does once it is in, up to the asking before its answer. If the lock is ruined, it leaves without
-    /// the task.
-    #[tactic(auto, using(crate::proofs::Answered::replied_by))]
-    fn work<R: Wait, P: CrashPlan>(
-        &mut self,
-        rt: &R,
-        plan: &mut P,
-        call: Call,
-    ) -> Result<Result<Reply, LockFault>, LockFault>
-        requires inside { is_in self.old.standing ≡ true }
-        requires task { may_start MemberState.Mended call ≡ true }
-        ensures goes { Goes self.old self.new }
-        ensures counted { CountsOn self.old self.new }
-        ensures asked { OnOk result (AskedEach self.old self.new (P.asked plan.old) (P.asked plan.new)) }
-        ensures ended { OnErr result (AskedOnceMore self.old self.new (P.asked plan.old) (P.asked plan.new)) }
-        ensures fallen { P.fallen plan.new ≡ falls_by result (P.fallen plan.old) }
-        ensures falls { IfOk result (λ reply. (f : ℕ) → falls_by reply f ≡ f) }
-        ensures faults { IfOk result (λ reply. IfErr reply (λ e. e ≡ LockFault.NotRecoverable)) }
-        ensures lost { OnErr result (self.new.standing ≡ MemberState.Lost) }
-        ensures only { IfErr result (λ e. (e ≡ LockFault.Crashed) ⊎ (e ≡ LockFault.OutOfMemory)) }
-        ensures answered { IfOk result (λ answer. IfOk answer (λ reply. IsReply S.named self.old.process call reply)) }
-    {
-        let mended = self.mend(rt, plan)?;
-        let reply = match mended {
-            Ok(_) => Ok(replied(self.pursue(rt, plan, call, None)?)),
-            Err(fault) => Err(fault),
-        };
-        self.pursue(rt, plan, Call::Unlock, None)?;
-        Ok(reply)
-    }
-
-    /// Mends, if the owner died.
-    fn mend<R: Wait, P: CrashPlan>(
-        &mut self,
-        rt: &R,
-        plan: &mut P,
-    ) -> Result<Result<bool, LockFault>, LockFault>
-        requires { is_in self.old.standing ≡ true }
-        ensures goes { Goes self.old self.new }
-        ensures counted { CountsOn self.old self.new }
-        ensures asked { OnOk result (AskedEach self.old self.new (P.asked plan.old) (P.asked plan.new)) }
-        ensures ended { OnErr result (AskedOnceMore self.old self.new (P.asked plan.old) (P.asked plan.new)) }
-        ensures fallen { P.fallen plan.new ≡ falls_by result (P.fallen plan.old) }
-        ensures stands { IfOk result (λ mended. self.new.standing ≡ stands_mended mended) }
-        ensures faults { IfOk result (λ mended. IfErr mended (λ e. e ≡ LockFault.NotRecoverable)) }
-        ensures lost { OnErr result (self.new.standing ≡ MemberState.Lost) }
-        ensures only { IfErr result (λ e. (e ≡ LockFault.Crashed) ⊎ (e ≡ LockFault.OutOfMemory)) }
-    {
-        if self.standing == MemberState::Mended {
-            return Ok(Ok(false));
-        }
-        let (repaired, standing) = mended(self.pursue(rt, plan, Call::Consistent, None)?);
-        self.standing = standing;
-        Ok(repaired)
     }
 }

@@ -10,6 +10,7 @@ mod calls;
 pub mod gather_fault;
 pub mod gathering;
 pub mod lab;
+mod mailing;
 pub mod member;
 pub mod member_state;
 mod opening;

@@ -107,6 +107,16 @@ fn is_shortest(
 
 const LOCKING: [Call; 2] = [Call::Lock, Call::Unlock];
 
+/// The same as `is_shortest`, of locks and unlocks alone.
+fn locking_is_shortest(
+    alloc: Global,
+    sizes: Sizes,
+    moves: u64,
+    fault: Fault,
+) -> Result<bool, Fail> {
+    is_shortest(alloc, sizes, &LOCKING, moves, fault)
+}
+
 #[test]
 fn each_wrong_lock_is_found_by_its_shortest_schedule(rt: HostRuntime) -> Result<(), Fail> {
     let sizes = |variant, procs, crashes, limit| Sizes {
@@ -117,38 +127,20 @@ fn each_wrong_lock_is_found_by_its_shortest_schedule(rt: HostRuntime) -> Result<
         cap: 1,
     };
     let alloc = rt.alloc();
+    assert!(rt; locking_is_shortest(alloc, sizes(Variant::NoLook, 2, 0, 1), 20, Fault::TwoInside)?);
+    assert!(rt; locking_is_shortest(alloc, sizes(Variant::NoTies, 2, 0, 1), 22, Fault::TwoInside)?);
     assert!(rt;
-        is_shortest(
-            alloc,
-            sizes(Variant::NoLook, 2, 0, 1),
-            &LOCKING,
-            20,
-            Fault::TwoInside
-        )?
-    );
-    assert!(rt;
-        is_shortest(
-            alloc,
-            sizes(Variant::NoTies, 2, 0, 1),
-            &LOCKING,
-            22,
-            Fault::TwoInside
-        )?
-    );
-    assert!(rt;
-        is_shortest(
+        locking_is_shortest(
             alloc,
             sizes(Variant::Renumber, 2, 1, 3),
-            &LOCKING,
             26,
             Fault::Overtaken { by: 1, of: 0 }
         )?
     );
     assert!(rt;
-        is_shortest(
+        locking_is_shortest(
             alloc,
             sizes(Variant::ExitOnCrash, 1, 1, 1),
-            &LOCKING,
             16,
             Fault::OutOfPlace
         )?

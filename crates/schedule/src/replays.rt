@@ -3,8 +3,8 @@
 pub mod last_words;
 pub mod laws;
 pub mod pieces;
-mod play;
 mod play_in_place;
+mod play_lines;
 pub mod replay_fault;
 mod replay_stop;
 pub mod replay_text;

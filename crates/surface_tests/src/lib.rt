@@ -3,8 +3,13 @@
 #![tactic(auto)]
 
 pub mod four_methods;
+pub mod of_crashlab;
 pub mod of_judge;
+pub mod of_one_lock;
+pub mod of_program;
 pub mod of_redomail;
 pub mod of_rmecore;
 pub mod of_rmeworld;
+pub mod of_robust;
 pub mod of_schedule;
+pub mod of_searches;

@@ -12,7 +12,6 @@ use Rattle.rmecore.specs.declared.refusal.Refusal.TheVariants.{BadImage}
 use Rattle.commands.specs.declared.schedules.ending.Ending.{Ending}
 use Rattle.commands.specs.declared.schedules.fault.CommandFault.{CommandFault}
 use Rattle.commands.specs.declared.schedules.fault.CommandFault.TheVariants.{Text, Refused, Image, Read, Write, OutOfMemory, Member, TooManyStates}
-use Rattle.schedule.specs.Numbers.{number_of as number_of_line}
 
 -- 3 for a fault of a device, of memory or of a member, and for too many states in a search; 2 for one of the input
 abbrev pub status_of : CommandFault → ℕ
@@ -53,7 +52,7 @@ fault_of_image _ = OutOfMemory
 
 -- the fault for the fault of a text
 abbrev pub fault_of_text : TextFault → CommandFault
-fault_of_text (of_text.At line fault) = Text line (number_of_line fault)
+fault_of_text (of_text.At line number) = Text line number
 fault_of_text of_text.OutOfMemory = OutOfMemory
 
 -- the exit status of a command with this result

@@ -80,5 +80,5 @@ pub is_wrong : (text : List ℕ) (f : ℕ × LineFault) → text_at head_at (λ 
 is_wrong text f e = ap made_of e
 
 pub fails_so : (e : TextFault) (text : List ℕ) → Fails e (text_at head_at (λ h. line_at h.width) (parts_of text)) → Fails e (schedule_at text)
-fails_so (faults.At k f) text fails = is_wrong text (k, f) fails
+fails_so (faults.At k n) text (f, fails, is) = (f, is_wrong text (k, f) fails, is)
 fails_so faults.OutOfMemory text fails = tt

@@ -2,6 +2,7 @@
 pub use Rattle.std.specs.Fmt.{decimal}
 pub use Rattle.std.specs.List.{join_with_byte}
 pub use Rattle.schedule.specs.declared.lines.fault.LineFault.{LineFault}
+pub use Rattle.schedule.specs.declared.lines.fault.LineFault.TheVariants.{NoHeader, NoNewline}
 pub use Rattle.schedule.specs.declared.lines.line.Line.TheVariants.{Start, Step}
 pub use Rattle.schedule.specs.Commands.{word_of, words_of_line, line_at}
 pub use Rattle.schedule.specs.Words.{parts_of, line_of, spaced, words_of, ◌>>=◌}

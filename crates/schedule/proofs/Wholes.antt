@@ -36,5 +36,5 @@ module _ {H A : Type 0} (head : List (List ℕ) → Result H LineFault) (item : 
 
   pub items_fail : (e : TextFault) (bytes line after : List ℕ) (h : H) → parts_of bytes ≡ line ∷ parts_of after
       → head (words_of line) ≡ Ok h → Fails e (items_at (item h) 2 (parts_of after)) → Fails e (text_at head item (parts_of bytes))
-  items_fail (faults.At k f) bytes line after h e first rest = rw (text_at-cut bytes line after e, first, rest) refl
+  items_fail (faults.At k n) bytes line after h e first (f, rest, is) = (f, rw (text_at-cut bytes line after e, first, rest) refl, is)
   items_fail faults.OutOfMemory bytes line after h e first rest = tt

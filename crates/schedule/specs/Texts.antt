@@ -5,6 +5,7 @@ use Rattle.schedule.specs.declared.lines.fault.LineFault.{LineFault}
 use Rattle.schedule.specs.declared.lines.fault.LineFault.TheVariants.{NoHeader, NoNewline}
 use Rattle.schedule.specs.declared.texts.fault.TextFault.{TextFault}
 use Rattle.schedule.specs.declared.texts.fault.TextFault.TheVariants as faults
+use Rattle.schedule.specs.Numbers.{number_of}
 use Rattle.schedule.specs.Words.{words_of, ◌>>=◌}
 
 -- a fault, with the number of its line
@@ -30,9 +31,9 @@ text_at head item (line ∷ next ∷ parts) = do
   xs ← items_at (item h) 2 (next ∷ parts)
   Ok (h, xs)
 
--- a fault that a function returns is that of the definition, unless memory ran out
+-- a fault that a function returns has the line of the definition's fault, and its number, unless memory ran out
 abbrev pub Fails : {Y : Type 0} → TextFault → Result Y (ℕ × LineFault) → Type 0
-Fails (faults.At line fault) read = read ≡ Err (line, fault)
+Fails (faults.At line number) read = (fault : LineFault) × (read ≡ Err (line, fault)) × (number ≡ number_of fault)
 Fails faults.OutOfMemory read = Unit {0}
 
 -- what a function returns, seen by view, is what the definition gives, unless memory ran out

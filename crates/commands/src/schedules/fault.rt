@@ -87,10 +87,7 @@ impl From<TextFault> for CommandFault {
 
     fn from(fault: TextFault) -> CommandFault {
         match fault {
-            TextFault::At { line, fault } => CommandFault::Text {
-                line,
-                number: fault.number(),
-            },
+            TextFault::At { line, number } => CommandFault::Text { line, number },
             TextFault::OutOfMemory => CommandFault::OutOfMemory,
         }
     }

@@ -4,14 +4,14 @@ use rmeworld::Answer;
 use schedule::lines::answer::{put_answer, put_deed};
 use schedule::texts::device::{Page, write_all};
 use schedule::texts::trace::read_trace;
-use schedule::{LineFault, TextFault, read_schedule, write_schedule};
+use schedule::{TextFault, read_schedule, write_schedule};
 use std::test::Fail;
 
 /// The line and the number of a text's fault.
 fn fault_of(rt: &HostRuntime, text: &[u8]) -> Option<(u64, u64)> {
     match read_schedule(rt.alloc(), text) {
         Ok(_) => None,
-        Err(TextFault::At { line, fault }) => Some((line, fault.number())),
+        Err(TextFault::At { line, number }) => Some((line, number)),
         Err(TextFault::OutOfMemory) => Some((0, 0)),
     }
 }
@@ -98,7 +98,7 @@ fn traces(rt: HostRuntime) -> Result<(), Fail> {
             ),
             Err(TextFault::At {
                 line: 7,
-                fault: LineFault::BadWord
+                number: 2
             })
         )
     );

@@ -95,10 +95,7 @@ fn check_lines(width: u64, first: u64, text: &[u8]) -> Result<(), TextFault>
     while !rest.is_empty() {
         match after_line(width, rest) {
             Ok(after) => rest = after,
-            Err(fault) => return Err(TextFault::At {
-                line: number,
-                fault,
-            }),
+            Err(fault) => return Err(TextFault::on_line(number, fault)),
         }
         number += 1;
     }
@@ -118,23 +115,17 @@ fn read(text: &[u8]) -> Result<(Head, &[u8]), TextFault>
     ensures fault { IfErr result (λ fault. Fails fault (schedule_at text.now)) }
 {
     if text.is_empty() {
-        return Err(TextFault::At {
-            line: 1,
-            fault: LineFault::NoHeader,
-        });
+        return Err(TextFault::on_line(1, LineFault::NoHeader));
     }
     let Some((first, lines)) = cut_once(text, b'\n') else {
-        return Err(TextFault::At {
-            line: 1,
-            fault: LineFault::NoNewline,
-        });
+        return Err(TextFault::on_line(1, LineFault::NoNewline));
     };
     match Head::read(first) {
         Ok(head) => {
             check_lines(head.width, 2, lines)?;
             Ok((head, lines))
         }
-        Err(fault) => Err(TextFault::At { line: 1, fault }),
+        Err(fault) => Err(TextFault::on_line(1, fault)),
     }
 }
 

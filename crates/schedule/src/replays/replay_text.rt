@@ -131,10 +131,7 @@ fn replay_text<W: Sink>(alloc: Global, text: Vec<u8>, w: &mut W) -> Result<Verdi
 {
     match read_whole(&text) {
         Ok((head, from)) => replay_new(alloc, head, text, from, w),
-        Err(TextFault::At { line, fault }) => Err(ReplayFault::Text {
-            line,
-            number: fault.number(),
-        }),
+        Err(TextFault::At { line, number }) => Err(ReplayFault::Text { line, number }),
         Err(TextFault::OutOfMemory) => Err(ReplayFault::OutOfMemory),
     }
 }

@@ -10,11 +10,25 @@ use thiserror::Error;
 /// Why a text could not be read.
 #[derive(Clone, Copy, Debug, PartialEq, Eq, Error)]
 pub enum TextFault {
-    /// The first faulty line, counted from 1.
-    #[error("line {line}: {fault}")]
-    At { line: u64, fault: LineFault },
+    /// The first faulty line, counted from 1, and the number of its fault, from 1 to 6.
+    #[error("line {line}: fault {number}")]
+    At { line: u64, number: u64 },
     #[error("out of memory")]
     OutOfMemory,
+}
+
+impl TextFault {
+    ghost use Rattle.schedule.specs.Numbers.{number_of};
+
+    /// This fault of this line.
+    pub fn on_line(line: u64, fault: LineFault) -> TextFault
+        ensures { result ≡ TextFault.At line (number_of fault) }
+    {
+        TextFault::At {
+            line,
+            number: fault.number(),
+        }
+    }
 }
 
 impl From<AllocError> for TextFault {

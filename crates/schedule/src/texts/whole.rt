@@ -45,17 +45,11 @@ pub fn items<T: Item>(
     let mut number = first;
     while !rest.is_empty() {
         let Some((line, after)) = cut_once(rest, b'\n') else {
-            return Err(TextFault::At {
-                line: number,
-                fault: LineFault::NoNewline,
-            });
+            return Err(TextFault::on_line(number, LineFault::NoNewline));
         };
         match T::read(width, line) {
             Ok(item) => items.push(item)?,
-            Err(fault) => return Err(TextFault::At {
-                line: number,
-                fault,
-            }),
+            Err(fault) => return Err(TextFault::on_line(number, fault)),
         }
         rest = after;
         number += 1;
@@ -89,22 +83,16 @@ pub fn whole<H: Heading>(alloc: Global, text: &[u8]) -> Result<(H, Vec<H::Item>)
         (text_at H.head_at (λ head. H.Item.item_at (H.width_of head)) (parts_of text.now)) }
 {
     if text.is_empty() {
-        return Err(TextFault::At {
-            line: 1,
-            fault: LineFault::NoHeader,
-        });
+        return Err(TextFault::on_line(1, LineFault::NoHeader));
     }
     let Some((first, rest)) = cut_once(text, b'\n') else {
-        return Err(TextFault::At {
-            line: 1,
-            fault: LineFault::NoNewline,
-        });
+        return Err(TextFault::on_line(1, LineFault::NoNewline));
     };
     match H::read(first) {
         Ok(head) => {
             let items = items(alloc, head.width(), 2, rest)?;
             Ok((head, items))
         }
-        Err(fault) => Err(TextFault::At { line: 1, fault }),
+        Err(fault) => Err(TextFault::on_line(1, fault)),
     }
 }

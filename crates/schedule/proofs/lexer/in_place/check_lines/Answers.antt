@@ -1,4 +1,4 @@
-use Rattle.std.proofs.Common.{arith}
+use Rattle.std.proofs.Common.{refl, arith}
 use Rattle.schedule.proofs.LexerCommon.{line_at}
 use Rattle.schedule.proofs.InPlace.{shorter, goes_first, goes_on, goes_wrong, goes_to_end}
 use Rattle.schedule.proofs.lexer.in_place.check_lines.Goals as goal
@@ -7,7 +7,8 @@ pub loop-rest-init : goal.loop-rest-init
 loop-rest-init c = record { so_far = goes_first (line_at c.args.width) c.args.first c.args.text.now; room = omega arith }
 
 pub returns-in-Err : goal.returns-in-Err
-returns-in-Err c = goes_wrong (line_at c.args.width) _ c.loop-rest.number c.loop-rest.rest.now c.in-Err.fault (c.in-Err.ensures.fault c.loop-rest.number) c.loop-rest.invariant.so_far
+returns-in-Err c =
+    rw c.on_line.ensures (c.in-Err.fault, goes_wrong (line_at c.args.width) _ c.loop-rest.number c.loop-rest.rest.now c.in-Err.fault (c.in-Err.ensures.fault c.loop-rest.number) c.loop-rest.invariant.so_far, refl)
 
 pub loop-rest-smaller : goal.loop-rest-smaller
 loop-rest-smaller c = let b = c.in-Ok.ensures.read in omega (arith, shorter (line_at c.args.width) c.loop-rest.rest.now c.in-Ok.after.now b.0 b.1)

@@ -1,15 +1,17 @@
-use Rattle.std.proofs.Common.{◌++◌, ◌∷◌, [], ◌∙◌, sym, append_assoc, length, ap, length-append, arith}
-use Rattle.schedule.proofs.LexerCommon.{line_at, head_at}
+use Rattle.std.proofs.Common.{◌++◌, ◌∷◌, [], ◌∙◌, refl, sym, append_assoc, length, ap, length-append, arith}
+use Rattle.schedule.proofs.LexerCommon.{NoHeader, NoNewline, line_at, head_at}
 use Rattle.std.proofs.lemmas.Result.{err_from_is_err_and}
 use Rattle.schedule.proofs.Wholes.{text_at-empty, text_at-uncut, text_read, head_fails, items_fail}
 use Rattle.schedule.proofs.InPlace.{is_right, is_wrong, fails_so}
 use Rattle.schedule.proofs.lexer.in_place.read.Goals as goal
 
 pub returns-then-is_empty-clause-fault : goal.returns-then-is_empty-clause-fault
-returns-then-is_empty-clause-fault c = is_wrong c.args.text.now _ (text_at-empty head_at (λ h. line_at h.width) c.args.text.now (grind arith))
+returns-then-is_empty-clause-fault c =
+    rw c.on_line.ensures (NoHeader, is_wrong c.args.text.now _ (text_at-empty head_at (λ h. line_at h.width) c.args.text.now (grind arith)), refl)
 
 pub returns-in_default-clause-fault : goal.returns-in_default-clause-fault
-returns-in_default-clause-fault c = is_wrong c.args.text.now _ (text_at-uncut head_at (λ h. line_at h.width) c.args.text.now c.in_default.ensures.parts (grind arith))
+returns-in_default-clause-fault c =
+    rw c.on_line-in_default.ensures (NoNewline, is_wrong c.args.text.now _ (text_at-uncut head_at (λ h. line_at h.width) c.args.text.now c.in_default.ensures.parts (grind arith)), refl)
 
 pub returns-in_err-check_lines-in-Ok-clause-fault : goal.returns-in_err-check_lines-in-Ok-clause-fault
 returns-in_err-check_lines-in-Ok-clause-fault c =
@@ -22,7 +24,8 @@ returns-in_ok-check_lines-in-Ok-clause-lines c =
     (lines.0, lines.1, is_right c.args.text.now _ (text_read head_at (λ h. line_at h.width) c.args.text.now c.in-Some.first.now c.in-Some.lines.now c.in-Ok.head lines.0 c.in-Some.ensures.parts c.in-Ok.ensures.head lines.1))
 
 pub returns-in-Err-clause-fault : goal.returns-in-Err-clause-fault
-returns-in-Err-clause-fault c = is_wrong c.args.text.now _ (head_fails head_at (λ h. line_at h.width) c.args.text.now c.in-Some.first.now c.in-Some.lines.now c.in-Err.fault c.in-Some.ensures.parts c.in-Err.ensures.head)
+returns-in-Err-clause-fault c =
+    rw c.on_line-in-Err.ensures (c.in-Err.fault, is_wrong c.args.text.now _ (head_fails head_at (λ h. line_at h.width) c.args.text.now c.in-Some.first.now c.in-Some.lines.now c.in-Err.fault c.in-Some.ensures.parts c.in-Err.ensures.head), refl)
 
 pub returns-in_ok-check_lines-in-Ok-clause-tail : goal.returns-in_ok-check_lines-in-Ok-clause-tail
 returns-in_ok-check_lines-in-Ok-clause-tail c =

@@ -1,14 +1,15 @@
-use Rattle.std.proofs.Common.{◌∷◌, length, ap, sym, ◌∙◌, arith, eqb-true, length-append}
+use Rattle.std.proofs.Common.{◌∷◌, length, refl, ap, sym, ◌∙◌, arith, eqb-true, length-append}
+use Rattle.schedule.proofs.TextsCommon.{NoNewline}
 use Rattle.schedule.proofs.Items.{items_go_on, cut_fails, uncut_fails, items_stop, items_end}
 use Rattle.schedule.proofs.texts.whole.items.Goals as goal
 
 pub returns-in_default : goal.returns-in_default
 returns-in_default g c =
-    items_stop (g.T.Item.item_at c.args.width) c.loop-rest.items.items _ _ _ (uncut_fails (g.T.Item.item_at c.args.width) c.loop-rest.number c.loop-rest.rest.now c.in_default.ensures.parts (grind arith)) c.loop-rest.invariant.so_far
+    rw c.on_line.ensures (NoNewline, items_stop (g.T.Item.item_at c.args.width) c.loop-rest.items.items _ _ _ (uncut_fails (g.T.Item.item_at c.args.width) c.loop-rest.number c.loop-rest.rest.now c.in_default.ensures.parts (grind arith)) c.loop-rest.invariant.so_far, refl)
 
 pub returns-in-Err : goal.returns-in-Err
 returns-in-Err g c =
-    items_stop (g.T.Item.item_at c.args.width) c.loop-rest.items.items _ _ _ (cut_fails (g.T.Item.item_at c.args.width) c.loop-rest.number c.loop-rest.rest.now c.in-Some.line.now c.in-Some.after.now c.in-Err.fault c.in-Some.ensures.parts c.in-Err.ensures) c.loop-rest.invariant.so_far
+    rw c.on_line-in-Err.ensures (c.in-Err.fault, items_stop (g.T.Item.item_at c.args.width) c.loop-rest.items.items _ _ _ (cut_fails (g.T.Item.item_at c.args.width) c.loop-rest.number c.loop-rest.rest.now c.in-Some.line.now c.in-Some.after.now c.in-Err.fault c.in-Some.ensures.parts c.in-Err.ensures) c.loop-rest.invariant.so_far, refl)
 
 pub loop-rest-preserved : goal.loop-rest-preserved
 loop-rest-preserved g c = record {

@@ -1,0 +1,103 @@
+//! The items of `judge`.
+
+use judge::{Ahead, Deed, Fault, Judge, Messages, Phase, Phases, Start, laws};
+use redomail::Message;
+use rmecore::{Body, Refusal};
+use std::alloc::Global;
+
+pub fn new_judge(alloc: Global, procs: u64, cap: u64) -> Result<Judge, Refusal> {
+    Judge::new(alloc, procs, cap)
+}
+
+pub fn judge_from(alloc: Global, start: &Start) -> Result<Judge, Refusal> {
+    Judge::from_start(alloc, start)
+}
+
+pub fn feed(judge: &mut Judge, deed: Deed) -> Result<(), Fault> {
+    judge.feed(deed)
+}
+
+pub fn feed_from(judge: &mut Judge, deed: &Deed) -> Result<(), Fault> {
+    judge.feed_from(deed)
+}
+
+pub fn procs(judge: &Judge) -> u64 {
+    judge.procs()
+}
+
+pub fn body_in(deed: Deed) -> Option<Body> {
+    match deed {
+        Deed::Commit { p: _, seq: _, v }
+        | Deed::Show {
+            p: _,
+            at: _,
+            seq: _,
+            v,
+        } => Some(v),
+        Deed::Outer(_) | Deed::Close { p: _ } | Deed::Ruin { p: _ } => None,
+    }
+}
+
+/// The faults and their numbers, as the specification has them.
+pub fn number_specified(fault: Fault) -> u64 {
+    match fault {
+        Fault::OutOfPlace => 1,
+        Fault::TwoInside => 2,
+        Fault::NotReentered => 3,
+        Fault::Overtaken { by: _, of: _ } => 4,
+        Fault::NotInside => 5,
+        Fault::MailOrder => 6,
+        Fault::AfterClose => 7,
+    }
+}
+
+pub fn is_in(phase: Phase) -> bool {
+    match phase {
+        Phase::Inside | Phase::DeadIn => true,
+        Phase::Out | Phase::Door | Phase::Ready => false,
+    }
+}
+
+/// A start, made of lists that give their `Vec` back.
+pub fn new_start(
+    procs: u64,
+    cap: u64,
+    phases: Vec<Phase>,
+    ahead: Vec<Vec<u64>>,
+    shown: Vec<Message>,
+    pending: Option<Message>,
+    closed: bool,
+    ruined: bool,
+) -> Start {
+    Start {
+        procs,
+        cap,
+        phases: Phases::new(phases),
+        ahead: Ahead::new(ahead),
+        shown: Messages::new(shown),
+        pending,
+        closed,
+        ruined,
+    }
+}
+
+pub fn lists_of_start(start: &Start) -> (&[Phase], &[Vec<u64>], &[Message]) {
+    (
+        start.phases.as_slice(),
+        start.ahead.as_slice(),
+        start.shown.as_slice(),
+    )
+}
+
+pub fn taken_back(
+    phases: Phases,
+    ahead: Ahead,
+    shown: Messages,
+) -> (Vec<Phase>, Vec<Vec<u64>>, Vec<Message>) {
+    (phases.into_vec(), ahead.into_vec(), shown.into_vec())
+}
+
+pub fn cite_the_laws() {
+    laws::legal_histories_are_plain();
+    laws::core_runs_are_legal();
+}

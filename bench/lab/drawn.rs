@@ -49,7 +49,7 @@ struct Drawing<'a> {
 impl Drawing<'_> {
     fn of(plan: &Plan) -> Drawing<'_> {
         let sizes = Sizes { procs: plan.procs, limit: MOST_LIMIT, cap: MOST_CAP, width: 1 };
-        Drawing { plan, walk: Walk::new(sizes, true), draws: Draws::seeded(plan.seed) }
+        Drawing { plan, walk: Walk::new(sizes, Variant::Right), draws: Draws::seeded(plan.seed) }
     }
 
     fn below(&mut self, bound: u64) -> u64 {

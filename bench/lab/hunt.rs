@@ -3,7 +3,7 @@
 use crate::draws::Draws;
 use crate::fault::Fault;
 use crate::judge::Judge;
-use crate::terms::Sizes;
+use crate::terms::{Sizes, Variant};
 use crate::walk::{Move, Walk};
 
 const SIZES: Sizes = Sizes { procs: 3, limit: 1_000_000, cap: 64, width: 1 };
@@ -11,28 +11,44 @@ const HEADER: &[u8] = b"rme 1 procs 3 limit 1000000 cap 64\n";
 const MOST: u64 = 10_000;
 
 /// Draws rounds until the judge refuses a deed, and writes the schedule of that round. Answers whether there is none.
+pub fn hunt(variant: Variant, numbers: [u64; 3], out: &mut Vec<u8>) -> Result<bool, Fault> {
+    out.extend_from_slice(HEADER);
+    let none = search(variant, numbers, |p, to| to.write(p, out))?;
+    if none {
+        out.clear();
+        out.extend_from_slice(b"nothing found\n");
+    }
+    Ok(none)
+}
+
+/// The same, a letter a move.
+pub fn letters(variant: Variant, numbers: [u64; 3], out: &mut Vec<u8>) -> Result<bool, Fault> {
+    let none = search(variant, numbers, |p, to| to.write_letter(p, out))?;
+    out.push(b'\n');
+    Ok(none)
+}
+
+/// Draws rounds until the judge refuses a deed, and hands on the moves of that round. Answers whether there is none.
 ///
-/// The moves of a round are not kept: those of the one that is written are drawn again.
-pub fn hunt(looks: bool, [seed, rounds, steps]: [u64; 3], out: &mut Vec<u8>) -> Result<bool, Fault> {
+/// The moves of a round are not kept: those of the one that is handed on are drawn again.
+fn search(variant: Variant, [seed, rounds, steps]: [u64; 3], see: impl FnMut(u64, Move)) -> Result<bool, Fault> {
     if !(1..=MOST).contains(&rounds) || !(1..=MOST).contains(&steps) {
         return Err(Fault::BadSize);
     }
     let mut draws = Draws::seeded(seed);
     for _ in 0..rounds {
         let mut again = draws.clone();
-        if !round(looks, &mut draws, steps, |_, _| ()) {
-            out.extend_from_slice(HEADER);
-            round(looks, &mut again, steps, |p, to| to.write(p, out));
+        if !round(variant, &mut draws, steps, |_, _| ()) {
+            round(variant, &mut again, steps, see);
             return Ok(false);
         }
     }
-    out.extend_from_slice(b"nothing found\n");
     Ok(true)
 }
 
 /// Draws a round in a new world. Answers whether all its deeds were allowed.
-fn round(looks: bool, draws: &mut Draws, steps: u64, mut see: impl FnMut(u64, Move)) -> bool {
-    let (mut walk, mut judge) = (Walk::new(SIZES, looks), Judge::new(SIZES));
+fn round(variant: Variant, draws: &mut Draws, steps: u64, mut see: impl FnMut(u64, Move)) -> bool {
+    let (mut walk, mut judge) = (Walk::new(SIZES, variant), Judge::new(SIZES));
     for _ in 0..steps {
         let word = draws.draw();
         let p = u64::from(word % 3);

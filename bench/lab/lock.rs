@@ -7,19 +7,19 @@ impl World {
     /// Takes the next step of a process.
     #[inline(always)]
     pub fn step(&mut self, p: u64) -> Result<Told, Refusal> {
-        let World { limit, looks, lock, processes, mail } = self;
+        let World { limit, variant, lock, processes, mail } = self;
         let process = processes.get_mut(p as usize).ok_or(NO_SUCH_PROCESS)?;
         let own = &mut lock[p as usize];
         Ok(match process.next {
             Next::Rest | Next::Dead | Next::Inside => return Err(NOTHING_TO_DO),
             Next::ReadChoosing => process.go(Next::ReadNumber),
             Next::ReadNumber => process.go(Next::ReadInside),
-            Next::ReadInside => process.restart(own),
+            Next::ReadInside => process.restart(own, *variant),
             Next::Open => process.open(own),
             Next::Peek => process.peek(p as usize, lock, *limit),
             Next::Shut => process.shut(own),
-            Next::Look if *looks => process.look(p as usize, lock),
-            Next::Look | Next::Weigh => process.weigh(p as usize, lock),
+            Next::Look if *variant != Variant::NoLook => process.look(p as usize, lock),
+            Next::Look | Next::Weigh => process.weigh(p as usize, lock, *variant),
             Next::Drop => process.drop_number(own),
             Next::Withdraw => process.withdraw(own),
             Next::Unmark => process.unmark(own),
@@ -40,7 +40,7 @@ impl Process {
     }
 
     /// The third reread, by the restart table. Only the process itself writes the three words, so they still stand.
-    fn restart(&mut self, own: &Own) -> Told {
+    fn restart(&mut self, own: &Own, variant: Variant) -> Told {
         let locks = self.aim == Aim::Lock;
         match (own.choosing, own.number, own.inside) {
             (0, 0, 0) if locks => self.go(Next::Open),
@@ -48,9 +48,11 @@ impl Process {
             (0, 0, _) => self.go(Next::Unmark),
             (0, _, 0) if locks => self.scan(Next::Look),
             (0, _, 0) => self.end(Next::Rest, Answer::FoundWaiting),
+            (0, _, _) if variant == Variant::ExitOnCrash => self.go(Next::Drop),
             (0, _, _) => self.enter_again(locks),
             (_, 0, _) if locks => self.scan(Next::Peek),
             (_, 0, _) => self.end(Next::Rest, Answer::FoundDoorway),
+            _ if locks && variant == Variant::Renumber => self.scan(Next::Peek),
             _ => self.go(Next::Shut),
         }
     }
@@ -100,18 +102,25 @@ impl Process {
     }
 
     /// Compares two numbers. (Without looks it may stand behind the last one.)
-    fn weigh(&mut self, p: usize, lock: &mut [Own]) -> Told {
+    fn weigh(&mut self, p: usize, lock: &mut [Own], variant: Variant) -> Told {
         let Some((other, theirs)) = self.other(p, lock) else {
             return self.mark(&mut lock[p]);
         };
-        if theirs.number == 0 || (lock[p].number, p) < (theirs.number, other) {
+        let number = lock[p].number;
+        let ties = theirs.number == number && variant == Variant::NoTies;
+        if theirs.number == 0 || (number, p) < (theirs.number, other) || ties {
             self.scanned = other + 1;
             self.next = Next::Look;
         }
         Told::NOTHING
     }
 
+    /// Takes a number. Only the variant renumber takes one over another, and that is no deed.
     fn take(&mut self, own: &mut Own, limit: u64) -> Told {
+        let over = own.number != 0;
+        if self.greatest >= limit && over {
+            return self.go(Next::Shut);
+        }
         if self.greatest >= limit {
             own.choosing = 0;
             self.next = Next::Rest;
@@ -119,7 +128,7 @@ impl Process {
         }
         own.number = self.greatest + 1;
         self.next = Next::Shut;
-        Told::act(Act::Ready)
+        Told { act: (!over).then_some(Act::Ready), answer: None }
     }
 
     fn shut(&mut self, own: &mut Own) -> Told {
@@ -137,10 +146,12 @@ impl Process {
         Told::act(Act::Enter)
     }
 
+    /// Drops the number. In a lock or a recover, where only the variant exit-on-crash does, it is no deed.
     fn drop_number(&mut self, own: &mut Own) -> Told {
         own.number = 0;
         self.next = Next::Unmark;
-        Told::act(Act::Leave)
+        let leaves = matches!(self.aim, Aim::Unlock | Aim::Barred);
+        Told { act: leaves.then_some(Act::Leave), answer: None }
     }
 
     fn withdraw(&mut self, own: &mut Own) -> Told {

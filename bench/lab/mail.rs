@@ -17,14 +17,15 @@ pub struct Mail {
     pub width: usize,
     procs: usize,
     cap: u64,
+    variant: Variant,
     words: Vec<u64>,
 }
 
 impl Mail {
-    pub fn new(sizes: Sizes) -> Mail {
+    pub fn new(sizes: Sizes, variant: Variant) -> Mail {
         let (width, procs) = (sizes.width, sizes.procs as usize);
         let words = vec![0; 10 + width + procs + (2 + width) * sizes.cap as usize];
-        Mail { width, procs, cap: sizes.cap, words }
+        Mail { width, procs, cap: sizes.cap, variant, words }
     }
 
     pub fn ruined(&self) -> u64 {
@@ -84,6 +85,7 @@ impl Process {
             Next::GetRuined if mail.words[RUINED] == 1 => self.end(Next::Inside, Answer::NotRecoverable),
             Next::GetRuined => self.go(Next::GetArmed),
             Next::GetArmed => self.get_armed(mail),
+            Next::GetCountUp => self.get_count_up(mail),
             Next::GetRecord => self.get_record(mail),
             Next::GetClosed => self.get_closed(mail),
             Next::GetCount => self.get_count(mail),
@@ -188,12 +190,20 @@ impl Process {
     fn put_entry(&mut self, p: u64, mail: &mut Mail) -> Told {
         let at = mail.place(self.job.record[0]) + self.job.done;
         mail.words[at] = if self.job.done == 0 { p } else { self.job.record[self.job.done] };
-        self.go_on(mail, Next::PutLast)
+        let skips = !self.mended && mail.variant == Variant::LastSkipped;
+        self.go_on(mail, if skips { Next::PutCount } else { Next::PutLast })
     }
 
     fn put_last(&mut self, p: u64, mail: &mut Mail) -> Told {
         let at = mail.last(p);
         mail.words[at] = self.job.record[1];
+        let counts = !self.mended && mail.variant == Variant::CountUp;
+        self.go(if counts { Next::GetCountUp } else { Next::PutCount })
+    }
+
+    /// A repair of the variant count-up: one more than the count, which stays where it is the capacity.
+    fn get_count_up(&mut self, mail: &Mail) -> Told {
+        self.job.record[0] = mail.words[COUNT].min(mail.cap - 1);
         self.go(Next::PutCount)
     }
 

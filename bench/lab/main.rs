@@ -1,9 +1,10 @@
 //! The opponent of `rmelab`'s replay, judge and hunt: the same work in plain Rust, without contracts, written for speed.
 //! It prints the same bytes, tells the same faults and ends with the same status.
 //!
-//!     lab replay < SCHEDULE        lab judge < TRACE        lab hunt right|no-look SEED ROUNDS STEPS
+//!     lab replay < SCHEDULE        lab judge < TRACE        lab hunt VARIANT SEED ROUNDS STEPS
 //!
-//! It also draws what the two are measured by, with so many crashes among 1,000 moves:
+//! It also writes the schedule of a hunt with a letter a move, `letters` in the place of `hunt`, for the tests of the
+//! drawing rule, and draws what the two are measured by, with so many crashes among 1,000 moves:
 //!
 //!     lab schedule PROCS LINES SEED CRASHES        lab trace PROCS DEEDS SEED CRASHES
 
@@ -27,6 +28,7 @@ use drawn::Plan;
 use fault::Fault;
 use std::io::{self, Read, Write};
 use std::process::ExitCode;
+use terms::Variant;
 
 /// Does what the words ask for, writing to `out`. Answers whether all is fine.
 fn obey(words: &[String], out: &mut Vec<u8>) -> Result<bool, Fault> {
@@ -39,7 +41,11 @@ fn obey(words: &[String], out: &mut Vec<u8>) -> Result<bool, Fault> {
             replay::replay(&text, out)
         }
         ("judge", []) => trial::judge(&mut io::stdin().lock(), out),
-        ("hunt", &[seed, rounds, steps]) => hunt::hunt(words[1] != "no-look", [seed, rounds, steps], out),
+        ("hunt" | "letters", &[seed, rounds, steps]) => {
+            let variant = Variant::named(&words[1]).ok_or(Fault::BadSize)?;
+            let hunts = if command == "hunt" { hunt::hunt } else { hunt::letters };
+            hunts(variant, [seed, rounds, steps], out)
+        }
         ("schedule", &[procs, lines, seed, crashes]) => {
             *out = Plan { procs, lines, seed, crashes }.schedule();
             Ok(true)

@@ -103,7 +103,7 @@ pub fn replay(text: &[u8], out: &mut Vec<u8>) -> Result<bool, Fault> {
     let in_header = |number| Fault::Text { line: 1, number };
     let (sizes, rest) = words::header(text, "rme", true).map_err(in_header)?;
     let mut stage = match sizes.check() {
-        Ok(()) => Ok(Stage { world: World::new(sizes, true), judge: Judge::new(sizes), out }),
+        Ok(()) => Ok(Stage { world: World::new(sizes, Variant::Right), judge: Judge::new(sizes), out }),
         Err(number) => Err(Fault::Refused { line: 1, number }),
     };
     let mut reader = Reader { rest };

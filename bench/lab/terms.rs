@@ -28,6 +28,33 @@ impl Sizes {
     }
 }
 
+/// The lock, or what differs from it.
+#[derive(Clone, Copy, PartialEq)]
+pub enum Variant {
+    Right,
+    NoLook,
+    NoTies,
+    Renumber,
+    ExitOnCrash,
+    CountUp,
+    LastSkipped,
+}
+
+impl Variant {
+    pub fn named(name: &str) -> Option<Variant> {
+        Some(match name {
+            "right" => Variant::Right,
+            "no-look" => Variant::NoLook,
+            "no-ties" => Variant::NoTies,
+            "renumber" => Variant::Renumber,
+            "exit-on-crash" => Variant::ExitOnCrash,
+            "count-up" => Variant::CountUp,
+            "last-skipped" => Variant::LastSkipped,
+            _ => return None,
+        })
+    }
+}
+
 /// A refusal's number.
 pub type Refusal = u8;
 

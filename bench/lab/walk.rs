@@ -22,6 +22,23 @@ impl Move {
             Move::Start(call, _) => report::line(out, call.name(), &[p]),
         }
     }
+
+    /// Writes the move as one character, by its process: `012` a step, `xyz` a crash, `lmn` lock, `fgh` consistent, `abc`
+    /// append, and then its number from `A` on, `uvw` unlock. The hunts start no other calls.
+    pub fn write_letter(self, p: u64, out: &mut Vec<u8>) {
+        let letters = match self {
+            Move::Step => b"012",
+            Move::Crash => b"xyz",
+            Move::Start(Call::Lock, _) => b"lmn",
+            Move::Start(Call::Consistent, _) => b"fgh",
+            Move::Start(Call::Append, _) => b"abc",
+            Move::Start(..) => b"uvw",
+        };
+        out.push(letters[p as usize]);
+        if let Move::Start(Call::Append, number) = self {
+            out.push(b'@' + number as u8);
+        }
+    }
 }
 
 /// What a walk keeps of a process: whether it has appended since it came in, and its next number.
@@ -37,9 +54,9 @@ pub struct Walk {
 }
 
 impl Walk {
-    pub fn new(sizes: Sizes, looks: bool) -> Walk {
+    pub fn new(sizes: Sizes, variant: Variant) -> Walk {
         let sent = vec![Sent { appended: false, next: 1 }; sizes.procs as usize];
-        Walk { world: World::new(sizes, looks), sent }
+        Walk { world: World::new(sizes, variant), sent }
     }
 
     /// Moves a process. Hands on the move, and answers the deed that it was.

@@ -25,6 +25,7 @@ pub enum Next {
     Unmark,
     Check,
     GetRuined,
+    GetCountUp,
     GetArmed,
     GetRecord,
     GetClosed,
@@ -93,8 +94,7 @@ impl Told {
 
 pub struct World {
     pub limit: u64,
-    /// Whether waiting looks at choosing. The variant no-look does not.
-    pub looks: bool,
+    pub variant: Variant,
     pub lock: Vec<Own>,
     pub processes: Vec<Process>,
     pub mail: Mail,
@@ -102,13 +102,13 @@ pub struct World {
 
 impl World {
     /// A world whose words are all 0, of sizes that were checked.
-    pub fn new(sizes: Sizes, looks: bool) -> World {
+    pub fn new(sizes: Sizes, variant: Variant) -> World {
         World {
             limit: sizes.limit,
-            looks,
+            variant,
             lock: vec![Own::default(); sizes.procs as usize],
             processes: vec![Process::idle(); sizes.procs as usize],
-            mail: Mail::new(sizes),
+            mail: Mail::new(sizes, variant),
         }
     }
 

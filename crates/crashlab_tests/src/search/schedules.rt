@@ -184,28 +184,51 @@ fn each_wrong_repair_is_found_by_its_shortest_schedule(rt: HostRuntime) -> Resul
     Ok(())
 }
 
-#[test]
-fn more_states_than_may_be_kept_are_told(rt: HostRuntime) -> Result<(), Fail> {
-    let bounds = Bounds {
-        crashes: 1,
-        moves: 1_000,
-        states: 7_728,
-    };
+/// A search of the right lock of two processes, with a crash.
+fn search_right(
+    alloc: Global,
+    moves: u64,
+    states: u64,
+) -> Result<SearchOutcome<Move>, ExploreFault> {
     let layout = Layout {
         procs: 2,
         cap: 1,
         width: 1,
     };
+    let bounds = Bounds {
+        crashes: 1,
+        moves,
+        states,
+    };
+    shortest_schedule(
+        alloc,
+        Variant::Right,
+        layout,
+        4,
+        &LOCKING,
+        &bounds,
+        &mut Unwatched,
+    )
+}
+
+#[test]
+fn more_states_than_may_be_kept_are_told(rt: HostRuntime) -> Result<(), Fail> {
     assert_eq!(rt;
-        shortest_schedule(
-            rt.alloc(),
-            Variant::Right,
-            layout,
-            4,
-            &LOCKING,
-            &bounds,
-            &mut Unwatched
-        ),
+        search_right(rt.alloc(), 1_000, 7_728),
+        Err(ExploreFault::TooManyStates)
+    );
+    Ok(())
+}
+
+/// Ten moves lead to 186 of the 7,729 states.
+#[test]
+fn states_past_the_moves_are_not_counted(rt: HostRuntime) -> Result<(), Fail> {
+    assert_eq!(rt;
+        search_right(rt.alloc(), 10, 186),
+        Ok(SearchOutcome::NoneWithin)
+    );
+    assert_eq!(rt;
+        search_right(rt.alloc(), 10, 185),
         Err(ExploreFault::TooManyStates)
     );
     Ok(())

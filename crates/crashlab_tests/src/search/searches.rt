@@ -71,6 +71,24 @@ fn seven_litres_are_nowhere_among_sixteen_states(rt: HostRuntime) -> Result<(), 
     Ok(())
 }
 
+/// Two moves lead to 6 of the 16 states, and five to 12.
+#[test]
+fn states_past_the_moves_are_not_counted(rt: HostRuntime) -> Result<(), Fail> {
+    assert_eq!(rt;
+        pour_until(rt.alloc(), 7, 2, 6),
+        Ok(SearchOutcome::NoneWithin)
+    );
+    assert_eq!(rt;
+        pour_until(rt.alloc(), 7, 2, 5),
+        Err(SearchFault::TooManyStates)
+    );
+    assert_eq!(rt;
+        pour_until(rt.alloc(), 4, 5, 12),
+        Ok(SearchOutcome::NoneWithin)
+    );
+    Ok(())
+}
+
 /// What a search showed its watcher: how many states, the sum of the moves to them, and the first and the last call.
 #[derive(Drop)]
 struct Told {

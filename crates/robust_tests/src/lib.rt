@@ -2,6 +2,8 @@
 //! crash.
 #![tactic(auto)]
 
+#[cfg(test)]
+mod labs;
 mod plain;
 pub mod support;
 mod table;

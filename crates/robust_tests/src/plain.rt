@@ -8,8 +8,6 @@ mod gathers;
 #[cfg(test)]
 mod kit;
 #[cfg(test)]
-mod labs;
-#[cfg(test)]
 mod members;
 #[cfg(test)]
 mod sweep;

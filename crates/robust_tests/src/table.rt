@@ -6,13 +6,13 @@ mod asked;
 #[cfg(test)]
 mod calls;
 #[cfg(test)]
+mod cut_calls;
+#[cfg(test)]
 mod eight;
 #[cfg(test)]
 mod held;
 #[cfg(test)]
 mod kit;
-#[cfg(test)]
-mod labs;
 #[cfg(test)]
 mod members;
 #[cfg(test)]

@@ -9,7 +9,7 @@ use std::process::Abort;
 
 /// The two members of a new arena.
 pub fn two(rt: &impl Abort, alloc: Global, limit: u64, cap: u64) -> (Member, Member)
-    ensures { result.0.pass.table ≡ result.1.pass.table }
+    ensures { result.0.seat_view.table ≡ result.1.seat_view.table }
 {
     let Ok(mut all) = Arena::new(rt, alloc, 2, limit, cap, 1) else {
         panic!(rt; "no members")
@@ -22,7 +22,7 @@ pub fn two(rt: &impl Abort, alloc: Global, limit: u64, cap: u64) -> (Member, Mem
 
 /// The image of two members' words, which is lawful.
 pub fn gathered(rt: &impl Abort, alloc: Global, one: Member, other: Member) -> Image
-    requires { one.pass.table ≡ other.pass.table }
+    requires { one.seat_view.table ≡ other.seat_view.table }
 {
     let Ok(members) = vec![in alloc; one, other] else {
         panic!(rt; "no room")

@@ -8,6 +8,7 @@ use rmecore::Found;
 use robust::{Arena, Entry, LockFault};
 use std::alloc::Global;
 use std::process::Abort;
+use std::sync::Wait;
 use std::test::Fail;
 
 /// Calls that are refused, and don't ask the plan.
@@ -93,40 +94,33 @@ fn withdraw_member(rt: HostRuntime) -> Result<(), Fail> {
     Ok(())
 }
 
-#[test]
-fn withdraw_that_crashes(rt: HostRuntime) -> Result<(), Fail> {
-    for (place, left) in [(1, (0, 2, 0)), (2, (0, 0, 0))] {
-        let (mut one, mut other) = two(&rt, rt.alloc(), 10, 1);
-        let mut plan = never();
-        let mut falls = at(place);
-        assert!(rt; one.lock_within(&mut plan, 0) == Ok(Entry::Clean));
-        assert!(rt; other.lock_within(&mut plan, 0) == Err(LockFault::NotYet));
-        assert!(rt;
-            other.withdraw(&mut falls) == Err(LockFault::Crashed),
-            "at {place}"
-        );
-        let image = gathered(&rt, rt.alloc(), one, other);
-        assert!(rt; words(&rt, &image, 1) == left, "at {place}");
-    }
+/// A lock that crashes, and the calls of its member after that.
+fn crashes<R: Abort + Wait, C: CrashPlan>(
+    rt: &R,
+    alloc: Global,
+    plan: &mut Counted<C>,
+) -> Result<(), Fail> {
+    let mut one = Arena::new(rt, alloc, 1, 10, 1, 1)?.pop().ok_or("a member")?;
+    assert!(rt; one.lock_within(&mut at(1), 0) == Err(LockFault::Crashed) && one.steps() == 0);
+    assert!(rt; one.recover(plan) == Ok(Found::Idle));
+    assert!(rt; one.steps() == 3 && plan.taken() == 4);
+    let mut falls = at(9);
+    assert!(rt; one.lock_within(&mut falls, 0) == Err(LockFault::Crashed));
+    assert!(rt; one.steps() == 8 && falls.taken() == 9);
+    assert!(rt; one.unlock(plan) == Err(LockFault::NotOwner) && plan.taken() == 0);
+    assert!(rt; one.lock_within(plan, 0) == Ok(Entry::OwnerDied));
+    assert!(rt; one.steps() == 4 && plan.taken() == 5);
+    assert!(rt; one.consistent(plan) == Ok(false) && one.steps() == 2 && plan.taken() == 3);
+    assert!(rt; one.unlock(plan) == Ok(()) && one.steps() == 2 && plan.taken() == 3);
+    assert!(rt; one.lock(rt, plan) == Ok(Entry::Clean) && one.steps() == 8 && plan.taken() == 9);
+    assert!(rt; one.unlock(plan) == Ok(()) && one.steps() == 2 && plan.taken() == 3);
+    assert!(rt; one.close(rt, plan) == Ok(Reply::ClosedNow));
+    assert!(rt; one.steps() == 12 && plan.taken() == 13);
     Ok(())
 }
 
 #[test]
 fn crashes_at_askings(rt: HostRuntime) -> Result<(), Fail> {
-    let mut all = Arena::new(&rt, rt.alloc(), 1, 10, 1, 1).expect(&rt, "a member");
-    let mut one = all.pop().expect(&rt, "one member");
-    let mut plan = never();
-    assert!(rt; one.lock_within(&mut at(1), 0) == Err(LockFault::Crashed));
-    assert!(rt; one.recover(&mut plan) == Ok(Found::Idle));
-    assert!(rt; one.steps() == 3 && plan.taken() == 4);
-    assert!(rt; one.lock_within(&mut at(9), 0) == Err(LockFault::Crashed) && one.steps() == 8);
-    assert!(rt; one.unlock(&mut plan) == Err(LockFault::NotOwner) && plan.taken() == 0);
-    assert!(rt; one.lock_within(&mut plan, 0) == Ok(Entry::OwnerDied));
-    assert!(rt; one.steps() == 4 && plan.taken() == 5);
-    assert!(rt; one.consistent(&mut plan) == Ok(false) && one.steps() == 2);
-    assert!(rt; one.unlock(&mut plan) == Ok(()) && one.steps() == 2);
-    assert!(rt; one.lock(&rt, &mut plan) == Ok(Entry::Clean));
-    assert!(rt; one.unlock(&mut plan) == Ok(()));
-    assert!(rt; one.close(&rt, &mut plan) == Ok(Reply::ClosedNow));
-    Ok(())
+    crashes(&rt, rt.alloc(), &mut never())?;
+    crashes(&rt, rt.alloc(), &mut stepwise())
 }

@@ -25,7 +25,7 @@ fn cut<C: CrashPlan>(rt: &impl Abort, member: &mut Member, plan: &mut Counted<C>
 
 /// The append of member 1 that comes last, and what the mailbox shows after it.
 fn both_stand(rt: &impl Abort, alloc: Global, one: Member, mut other: Member)
-    requires { one.pass.table ≡ other.pass.table }
+    requires { one.seat_view.table ≡ other.seat_view.table }
 {
     let mut plan = never();
     assert!(rt; other.append_within(1, body(9), &mut plan, 0) == Ok(Reply::Stored));

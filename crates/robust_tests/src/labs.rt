@@ -1,0 +1,302 @@
+//! The lab over the running lock, and that over the plain reference: workers that crash, that are refused, and that meet at
+//! an asking.
+
+use crate::support::gated::{Gated, Until, WorkerProgress, meeting};
+use crate::support::messages::{TWO, are, are_all_sent};
+use crate::support::noting::{ALONE, Noting};
+use crash_plans::{Never, Seeded};
+use execution::LockFault;
+use one_lock::lab::{Gate, LabFault, LabResult, Spec};
+use redomail::{Message, Reply};
+use std::alloc::Global;
+use std::process::Abort;
+use std::sync::Wait;
+use std::test::Fail;
+use std::thread::Threads;
+
+/// Which lab.
+#[derive(Clone, Copy, Debug)]
+enum Lab {
+    Plain,
+    Running,
+}
+
+const BOTH: [Lab; 2] = [Lab::Plain, Lab::Running];
+
+/// Runs this lab.
+fn run<G: Gate + Send + Drop, R: Threads + Wait + Sync>(
+    rt: &R,
+    alloc: Global,
+    lab: Lab,
+    spec: Spec,
+    gates: Vec<G>,
+) -> Result<LabResult, LabFault> {
+    match lab {
+        Lab::Plain => one_lock::run_lab(rt, alloc, spec, gates),
+        Lab::Running => robust::run_lab(rt, alloc, spec, gates),
+    }
+}
+
+/// Two workers that meet: worker 1 comes while worker 0 is inside, and worker 0 goes on once worker 1 is at this asking.
+fn meets<R: Abort + Threads + Wait + Sync>(
+    rt: &R,
+    alloc: Global,
+    lab: Lab,
+    limit: u64,
+    asking: u64,
+) -> Result<(), Fail> {
+    let mut spec = TWO;
+    spec.limit = limit;
+    let (first, second, zero, one) = meeting(alloc, asking)?;
+    let mut gates = Vec::new(alloc);
+    gates.push(first)?;
+    gates.push(second)?;
+    let result = run(rt, alloc, lab, spec, gates);
+    assert!(rt; !zero.has_given_up() && !one.has_given_up());
+    assert!(rt; zero.has_told_at(1, 27), "{lab:?}");
+    if limit > 1 {
+        let messages = result?.messages;
+        assert!(rt; are(messages.as_slice(), &[(0, 1, 1), (1, 1, 1_000_001)]));
+        assert!(rt; one.has_told(1, asking), "{lab:?}");
+    } else {
+        let fault = LockFault::NumbersSpent;
+        assert!(rt;
+            result.err() == Some(LabFault::Member { p: 1, fault }),
+            "{lab:?}"
+        );
+        assert!(rt; one.has_told_at(0, asking), "{lab:?}");
+    }
+    Ok(())
+}
+
+#[test]
+fn both_at_once(rt: HostRuntime) -> Result<(), Fail> {
+    for lab in BOTH {
+        meets(&rt, rt.alloc(), lab, 10, 20)?;
+    }
+    Ok(())
+}
+
+#[test]
+fn numbers_spent(rt: HostRuntime) -> Result<(), Fail> {
+    for lab in BOTH {
+        meets(&rt, rt.alloc(), lab, 1, 7)?;
+    }
+    Ok(())
+}
+
+/// Worker p waits at its first asking until the other is answered. So the other's message comes first.
+fn waits_for_the_other<R: Abort + Threads + Wait + Sync>(
+    rt: &R,
+    alloc: Global,
+    lab: Lab,
+    limit: u64,
+    p: u64,
+) -> Result<(), Fail> {
+    let mut spec = TWO;
+    spec.limit = limit;
+    let zero = WorkerProgress::new(alloc)?;
+    let one = WorkerProgress::new(alloc)?;
+    let (first, second) = if p == 0 { (1, 0) } else { (0, 1) };
+    let mut gates = Vec::new(alloc);
+    gates.push(Gated::new(first, Until::Answer(1), &zero, &one)?)?;
+    gates.push(Gated::new(second, Until::Answer(1), &one, &zero)?)?;
+    let messages = run(rt, alloc, lab, spec, gates)?.messages;
+    let order = if p == 0 {
+        [(1, 1, 1_000_001), (0, 1, 1)]
+    } else {
+        [(0, 1, 1), (1, 1, 1_000_001)]
+    };
+    assert!(rt; are(messages.as_slice(), &order), "{lab:?}, worker {p}");
+    assert!(rt; !zero.has_given_up() && !one.has_given_up());
+    assert!(rt; zero.has_told_at(1, 27) && one.has_told_at(1, 27));
+    Ok(())
+}
+
+#[test]
+fn two_workers_at_once(rt: HostRuntime) -> Result<(), Fail> {
+    for lab in BOTH {
+        waits_for_the_other(&rt, rt.alloc(), lab, 10, 0)?;
+        waits_for_the_other(&rt, rt.alloc(), lab, 10, 1)?;
+    }
+    Ok(())
+}
+
+#[test]
+fn numbers_enough(rt: HostRuntime) -> Result<(), Fail> {
+    for lab in BOTH {
+        meets(&rt, rt.alloc(), lab, 2, 20)?;
+        waits_for_the_other(&rt, rt.alloc(), lab, 1, 0)?;
+        waits_for_the_other(&rt, rt.alloc(), lab, 1, 1)?;
+    }
+    Ok(())
+}
+
+#[test]
+fn answers_told(rt: HostRuntime) -> Result<(), Fail> {
+    for lab in BOTH {
+        let (gate, notes) = Noting::new(rt.alloc())?;
+        let mut gates = Vec::new(rt.alloc());
+        gates.push(gate)?;
+        let messages = run(&rt, rt.alloc(), lab, ALONE, gates)?.messages;
+        assert!(rt; are_all_sent(ALONE, messages.as_slice()));
+        assert!(rt; notes.are_right(), "{lab:?}");
+    }
+    Ok(())
+}
+
+/// Three workers, and room for one message. Worker p waits at its first asking until worker `waits_on[p]` is answered, if
+/// that is another one. It answers what the lab answers.
+fn three_in_turn<R: Abort + Threads + Wait + Sync>(
+    rt: &R,
+    alloc: Global,
+    lab: Lab,
+    waits_on: [usize; 3],
+) -> Result<Option<LabFault>, Fail> {
+    let spec = Spec {
+        procs: 3,
+        messages: 1,
+        limit: 10,
+        cap: 1,
+        width: 1,
+    };
+    let mut all = Vec::new(alloc);
+    for _ in 0..3 {
+        all.push(WorkerProgress::new(alloc)?)?;
+    }
+    let mut gates = Vec::new(alloc);
+    for (p, on) in waits_on.into_iter().enumerate() {
+        let mine = all.get(p).ok_or("a worker")?;
+        let other = all.get(on).ok_or("another")?;
+        let at = if on == p { 0 } else { 1 };
+        gates.push(Gated::new(at, Until::Answer(1), mine, other)?)?;
+    }
+    let fault = run(rt, alloc, lab, spec, gates).err();
+    for progress in &all {
+        assert!(rt; !progress.has_given_up() && progress.has_told(1, 1));
+    }
+    Ok(fault)
+}
+
+/// One worker stores its message, and the others are refused after one another: the lab answers the least of them.
+#[test]
+fn the_least_of_two_that_are_refused(rt: HostRuntime) -> Result<(), Fail> {
+    let rows = [
+        ([1, 2, 2], 0),
+        ([2, 0, 2], 0),
+        ([2, 1, 1], 0),
+        ([1, 1, 0], 0),
+        ([0, 2, 0], 1),
+        ([0, 0, 1], 1),
+    ];
+    for lab in BOTH {
+        for (waits_on, p) in rows {
+            let reply = Reply::Full;
+            let fault = three_in_turn(&rt, rt.alloc(), lab, waits_on)?;
+            assert!(rt;
+                fault == Some(LabFault::Reply { p, reply }),
+                "{lab:?}, {waits_on:?}"
+            );
+        }
+    }
+    Ok(())
+}
+
+/// A lab with this many workers, each of which crashes at 20 of 1,000 askings.
+fn sends_all<R: Abort + Threads + Wait + Sync>(
+    rt: &R,
+    alloc: Global,
+    lab: Lab,
+    procs: u64,
+    width: u64,
+) -> Result<(), Fail> {
+    let spec = Spec {
+        procs,
+        messages: 50,
+        limit: 1 << 62,
+        cap: procs.saturating_mul(50),
+        width,
+    };
+    let mut gates = Vec::new(alloc);
+    for p in 0..procs {
+        gates.push(Seeded::new(p.saturating_add(7), 20))?;
+    }
+    let messages = run(rt, alloc, lab, spec, gates)?.messages;
+    assert!(rt; are_all_sent(spec, messages.as_slice()), "{lab:?}");
+    Ok(())
+}
+
+#[test]
+fn lab_run(rt: HostRuntime) -> Result<(), Fail> {
+    for (procs, width) in [(1, 1), (4, 1), (4, 8), (8, 1), (8, 8)] {
+        for lab in BOTH {
+            sends_all(&rt, rt.alloc(), lab, procs, width)?;
+        }
+    }
+    Ok(())
+}
+
+/// The fault of a lab with these sizes and this many gates.
+fn fault_with<R: Threads + Wait + Sync>(
+    rt: &R,
+    alloc: Global,
+    lab: Lab,
+    sizes: (u64, u64, u64, u64, u64),
+    gates: u64,
+) -> Result<Option<LabFault>, Fail> {
+    let (procs, messages, limit, cap, width) = sizes;
+    let spec = Spec {
+        procs,
+        messages,
+        limit,
+        cap,
+        width,
+    };
+    let mut all = Vec::new(alloc);
+    for _ in 0..gates {
+        all.push(Never::new())?;
+    }
+    Ok(run(rt, alloc, lab, spec, all).err())
+}
+
+#[test]
+fn a_full_mailbox(rt: HostRuntime) -> Result<(), Fail> {
+    for lab in BOTH {
+        let full = LabFault::Reply {
+            p: 0,
+            reply: Reply::Full,
+        };
+        let fault = fault_with(&rt, rt.alloc(), lab, (1, 2, 10, 1, 1), 1)?;
+        assert!(rt; fault == Some(full), "{lab:?}");
+    }
+    Ok(())
+}
+
+#[test]
+fn bad_specs(rt: HostRuntime) -> Result<(), Fail> {
+    let rows = [
+        ((0, 1, 1, 1, 1), 0),
+        ((65, 1, 1, 1, 1), 65),
+        ((1, 0, 1, 1, 1), 1),
+        ((1, 4_097, 1, 1, 1), 1),
+        ((1, 1, 0, 1, 1), 1),
+        ((1, 1, (1 << 62) + 1, 1, 1), 1),
+        ((1, 1, 1, 0, 1), 1),
+        ((1, 1, 1, 65_537, 1), 1),
+        ((1, 1, 1, 1, 0), 1),
+        ((1, 1, 1, 1, 9), 1),
+        ((2, 1, 1, 1, 1), 1),
+        ((1, 1, 1, 1, 1), 2),
+    ];
+    for lab in BOTH {
+        for (sizes, gates) in rows {
+            let fault = fault_with(&rt, rt.alloc(), lab, sizes, gates)?;
+            assert!(rt;
+                fault == Some(LabFault::BadSpec),
+                "{sizes:?} with {gates} gates"
+            );
+        }
+        assert!(rt; fault_with(&rt, rt.alloc(), lab, (1, 1, 1, 1, 1), 1)?.is_none());
+    }
+    Ok(())
+}

@@ -1,4 +1,4 @@
--- Each topic has the name of one that is listed.
+-- Each entry has the name of one that is listed.
 use Rattle.std.proofs.Common.{◌≢◌, ℕ, ◌<◌, List, All, get_or, true, false, arith}
 use Rattle.std.proofs.lemmas.List.Elements.{All-get_or}
 use Rattle.rmecore.specs.declared.fault.Fault.TheVariants as faults
@@ -14,7 +14,7 @@ use Rattle.cli.specs.declared.explain.dictionary_entry.DictionaryEntry.TheVarian
 use Rattle.cli.specs.declared.explain.dictionary_entry.TheConstants.{ENTRIES}
 use Rattle.cli.specs.Names.{name_of}
 
--- the topic at this place of the list doesn't have this name
+-- the entry at this place of the list doesn't have this name
 passed : (name : List ℕ) → All (λ t. name_of t ≢ name) ENTRIES → (i : ℕ) → i < 74 → name_of (get_or ENTRIES i (Fault lines.NoHeader)) ≢ name
 passed name all i below = All-get_or (λ t. name_of t ≢ name) ENTRIES i (Fault lines.NoHeader) below all
 

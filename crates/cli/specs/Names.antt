@@ -1,4 +1,4 @@
--- The names of the topics, as faults, reports and pages spell them.
+-- The names of the entries, as faults, reports and pages spell them.
 use Rattle.std.specs.Prelude.{ℕ, Option, Some, None, List, [], ◌∷◌, codes}
 use Rattle.std.specs.Fmt.{decimal}
 use Rattle.std.specs.List.{join_with_byte}
@@ -54,7 +54,7 @@ word_of_kind kinds.Get = codes "get"
 word_of_kind kinds.Put = codes "put"
 word_of_kind kinds.Glance = codes "glance"
 
--- the words of a topic's name
+-- the words of an entry's name
 abbrev pub words_of : DictionaryEntry → List (List ℕ)
 words_of (Fault fault) = codes "fault" ∷ decimal (number_of_line fault) ∷ []
 words_of (Refused refusal) = words_of_refusal (number_of_refusal refusal)
@@ -64,7 +64,7 @@ words_of (OfAnswer (answers.Mail reply)) = codes "answer" ∷ words_without repl
 words_of (OfAnswer answer) = codes "answer" ∷ words_of_answer answer
 words_of (Step kind) = codes "step" ∷ word_of_kind kind ∷ []
 
--- the topic's name: its words with a space between two
+-- the entry's name: its words with a space between two
 abbrev pub name_of : DictionaryEntry → List ℕ
 name_of dictionary_entry = join_with_byte 32 (words_of dictionary_entry)
 

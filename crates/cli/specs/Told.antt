@@ -11,7 +11,7 @@ abbrev pub meaning_text : Meaning → List ℕ
 meaning_text meaning =
     meaning.name.now ++ codes ": " ++ meaning.text.now ++ 10 ∷ codes "See " ++ meaning.page.now ++ codes "." ++ 10 ∷ []
 
--- the meaning of a topic was written, under its name
+-- the meaning of an entry was written, under its name
 abbrev pub TellsDictionaryEntry : DictionaryEntry → Tape → Tape → Type 0
 TellsDictionaryEntry dictionary_entry before now = (meaning : Meaning) × (meaning.name.now ≡ name_of dictionary_entry) × Writes before now (meaning_text meaning)
 

@@ -1,6 +1,6 @@
 //! The arguments of `rmelab`'s commands, and the words of a command line that spell them.
 
+pub mod args;
 mod argument;
-pub mod order;
 mod parser;
 pub mod words;

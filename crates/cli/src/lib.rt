@@ -4,7 +4,7 @@
 pub mod arguments;
 pub mod explain;
 
-pub use arguments::order::Command;
+pub use arguments::args::Command;
 pub use arguments::words::{WordsFault, read_words};
 pub use explain::dictionary_entry::{DictionaryEntry, ENTRIES, dictionary_entry_named};
 pub use explain::meaning::{Meaning, meaning_of};

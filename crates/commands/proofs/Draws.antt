@@ -3,7 +3,7 @@ use Rattle.std.proofs.Common.{◌≡◌, ◌≤◌, ◌⊎◌, ℕ, List, Option
 use Rattle.crashlab.specs.declared.variant.Variant.{Variant}
 use Rattle.commands.specs.declared.schedules.fault.CommandFault.{CommandFault}
 use Rattle.schedule.specs.Tapes.{Tape, Reading}
-use Rattle.cli.specs.declared.arguments.order.DrawArgs.{DrawArgs}
+use Rattle.cli.specs.declared.arguments.args.DrawArgs.{DrawArgs}
 use Rattle.commands.specs.Draws.{DrawEnds}
 use Rattle.commands.specs.Settings.{IsWrongText}
 use Rattle.commands.specs.Statuses.{status_of}
@@ -14,7 +14,7 @@ pub untold : (variant : Variant) (manner : Manner) (image : Option (List ℕ)) (
 untold variant manner image old new now fault (inl three) = inl (record { taken = refl; fine = refl }, (fault, refl, inl three))
 untold variant manner image old new now fault (inr wrong) = inl (record { taken = refl; fine = refl }, (fault, refl, inr (inr wrong)))
 
-pub unread : (order : DrawArgs) (image : Option (List ℕ)) (old new : Reading) (now : Tape) (fault : CommandFault) → 2 ≤ status_of fault
-    → (status_of fault ≡ 3) ⊎ IsWrongText old new fault → DrawEnds order image old new now now (Err fault)
-unread order image old new now fault least purpose =
-    (λ one right. omega (arith, one, least), untold order.variant (Drawn order.style) image old new now fault purpose)
+pub unread : (args : DrawArgs) (image : Option (List ℕ)) (old new : Reading) (now : Tape) (fault : CommandFault) → 2 ≤ status_of fault
+    → (status_of fault ≡ 3) ⊎ IsWrongText old new fault → DrawEnds args image old new now now (Err fault)
+unread args image old new now fault least purpose =
+    (λ one right. omega (arith, one, least), untold args.variant (Drawn args.style) image old new now fault purpose)

@@ -3,7 +3,7 @@ use Rattle.std.proofs.Common.{◌≡◌, ℕ, ◌-◌, ◌*◌, ◌^◌, ◌≤�
 use Rattle.std.proofs.Math.Nat.{min-eq_left, one-le-mul}
 use Rattle.std.proofs.lemmas.Nat.{mul-le}
 use Rattle.one_lock.specs.Lab.{IsBadSpec}
-use Rattle.cli.specs.declared.arguments.order.RunArgs.{RunArgs}
+use Rattle.cli.specs.declared.arguments.args.RunArgs.{RunArgs}
 use Rattle.commands.specs.Commands.{lab_for}
 use Rattle.cli.specs.Sizes.{RunFits}
 
@@ -13,21 +13,21 @@ room_fits p m few some =
     let most = mul-le p m 16 4096 few some in
     min-eq_left (omega (arith, most))
 
-pub fits_lab : (order : RunArgs) → RunFits order → IsBadSpec (lab_for order) order.procs → ⊥
-fits_lab order fits (inl (inl none)) = omega (arith, fits.0.0, none)
-fits_lab order fits (inl (inr more)) = omega (arith, fits.0.1, more)
-fits_lab order fits (inr (inl (inl none))) = omega (arith, none)
-fits_lab order fits (inr (inl (inr more))) = omega (arith, more)
-fits_lab order fits (inr (inr (inl (inl none)))) =
-    let room = room_fits order.procs order.messages fits.0.1 fits.1.1 in
+pub fits_lab : (args : RunArgs) → RunFits args → IsBadSpec (lab_for args) args.procs → ⊥
+fits_lab args fits (inl (inl none)) = omega (arith, fits.0.0, none)
+fits_lab args fits (inl (inr more)) = omega (arith, fits.0.1, more)
+fits_lab args fits (inr (inl (inl none))) = omega (arith, none)
+fits_lab args fits (inr (inl (inr more))) = omega (arith, more)
+fits_lab args fits (inr (inr (inl (inl none)))) =
+    let room = room_fits args.procs args.messages fits.0.1 fits.1.1 in
     let some = one-le-mul fits.0.0 fits.1.0 in
     omega (arith, none, room, some)
-fits_lab order fits (inr (inr (inl (inr more)))) =
-    let room = room_fits order.procs order.messages fits.0.1 fits.1.1 in
-    let most = mul-le order.procs order.messages 16 4096 fits.0.1 fits.1.1 in
+fits_lab args fits (inr (inr (inl (inr more)))) =
+    let room = room_fits args.procs args.messages fits.0.1 fits.1.1 in
+    let most = mul-le args.procs args.messages 16 4096 fits.0.1 fits.1.1 in
     omega (arith, more, room, most)
-fits_lab order fits (inr (inr (inr (inl (inl none))))) = omega (arith, fits.3, none)
-fits_lab order fits (inr (inr (inr (inl (inr more))))) = omega (arith, fits.4, more)
-fits_lab order fits (inr (inr (inr (inr (inl (inl none)))))) = omega (arith, fits.1.0, none)
-fits_lab order fits (inr (inr (inr (inr (inl (inr more)))))) = omega (arith, fits.1.1, more)
-fits_lab order fits (inr (inr (inr (inr (inr other))))) = other refl
+fits_lab args fits (inr (inr (inr (inl (inl none))))) = omega (arith, fits.3, none)
+fits_lab args fits (inr (inr (inr (inl (inr more))))) = omega (arith, fits.4, more)
+fits_lab args fits (inr (inr (inr (inr (inl (inl none)))))) = omega (arith, fits.1.0, none)
+fits_lab args fits (inr (inr (inr (inr (inl (inr more)))))) = omega (arith, fits.1.1, more)
+fits_lab args fits (inr (inr (inr (inr (inr other))))) = other refl

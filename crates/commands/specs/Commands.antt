@@ -16,10 +16,10 @@ use Rattle.schedule.specs.Wholes.{WasRead}
 use Rattle.schedule.specs.declared.replays.replay_fault.ReplayFault.{ReplayFault}
 use Rattle.schedule.specs.declared.replays.verdict.Verdict.{Verdict}
 use Rattle.crashlab.specs.Shrunk.{Shrinks}
-use Rattle.cli.specs.declared.arguments.order.Command.{Command}
-use Rattle.cli.specs.declared.arguments.order.Command.TheVariants.{Replay, Run, Hunt, Explore, Judge, Draw, Shrink, Explain}
-use Rattle.cli.specs.declared.arguments.order.HuntArgs.{HuntArgs}
-use Rattle.cli.specs.declared.arguments.order.RunArgs.{RunArgs}
+use Rattle.cli.specs.declared.arguments.args.Command.{Command}
+use Rattle.cli.specs.declared.arguments.args.Command.TheVariants.{Replay, Run, Hunt, Explore, Judge, Draw, Shrink, Explain}
+use Rattle.cli.specs.declared.arguments.args.HuntArgs.{HuntArgs}
+use Rattle.cli.specs.declared.arguments.args.RunArgs.{RunArgs}
 use Rattle.cli.specs.Sizes.{HuntFits, RunFits}
 use Rattle.commands.specs.declared.schedules.ending.Ending.{Ending}
 use Rattle.commands.specs.declared.schedules.fault.CommandFault.{CommandFault}
@@ -53,37 +53,37 @@ TellsFound false variant found before now = Writes before now (spelling found)
 TellsFound true variant found before now = (least : Scheduled) × Shrinks variant found (Some least) × Writes before now (spelling least)
 
 -- a wrong variant fails on a schedule with at most the moves asked for, and the schedule was written
-pub record TellsFind (order : HuntArgs) (before now : Tape) : Type 0 where
-  pub wrong : order.variant ≢ Right
+pub record TellsFind (args : HuntArgs) (before now : Tape) : Type 0 where
+  pub wrong : args.variant ≢ Right
   pub schedule : Scheduled
-  pub few : length schedule.lines ≤ order.steps
-  pub found : IsFound order.variant schedule
-  pub text : TellsFound order.shrink order.variant schedule before now
+  pub few : length schedule.lines ≤ args.steps
+  pub found : IsFound args.variant schedule
+  pub text : TellsFound args.shrink args.variant schedule before now
 
 -- how `hunt` ends: nothing found, a schedule found, sizes out of their ranges, or a failure
 abbrev pub HuntEnds : HuntArgs → Tape → Tape → Result Ending CommandFault → Type 0
-HuntEnds order before now end =
+HuntEnds args before now end =
     (outcome end ≡ Ok 0) × Writes before now (line_of (codes "nothing" ∷ codes "found" ∷ []))
-    ⊎ (outcome end ≡ Ok 1) × TellsFind order before now
-    ⊎ (outcome end ≡ Err BadSize) × (HuntFits order → ⊥)
+    ⊎ (outcome end ≡ Ok 1) × TellsFind args before now
+    ⊎ (outcome end ≡ Err BadSize) × (HuntFits args → ⊥)
     ⊎ IsBroken end
 
 -- the sizes of a run's lab: room for each message, and the greatest limit of numbers
 abbrev pub lab_for : RunArgs → Spec
-lab_for order =
+lab_for args =
     record {
-      procs = order.procs;
-      messages = order.messages;
+      procs = args.procs;
+      messages = args.messages;
       limit = 2 ^ 62;
-      cap = min (order.procs * order.messages) (2 ^ 64 - 1);
-      width = order.width;
+      cap = min (args.procs * args.messages) (2 ^ 64 - 1);
+      width = args.width;
     }
 
 -- status 2 means sizes outside their ranges
 abbrev pub RunEnds : RunArgs → Result Ending CommandFault → Type 0
-RunEnds order end = status_ended end ≡ 2 → RunFits order → ⊥
+RunEnds args end = status_ended end ≡ 2 → RunFits args → ⊥
 
--- the meaning of a topic was written, or the names of all topics
+-- the meaning of an entry was written, or the names of all entries
 abbrev pub Explains : Option DictionaryEntry → Tape → Tape → Type 0
 Explains (Some dictionary_entry) before now = TellsDictionaryEntry dictionary_entry before now
 Explains None before now = Writes before now (list_of ENTRIES)
@@ -94,11 +94,11 @@ ExplainEnds dictionary_entry before now end = (outcome end ≡ Ok 0) × Explains
 
 -- by the command and the text of its image; by what was read of the input and written, before and after
 abbrev pub CommandEnds : Command → Option (List ℕ) → Reading → Reading → Tape → Tape → Result Ending CommandFault → Type 0
-CommandEnds (Replay order) image old new before now end = ReplayEnds order image old new before now end
-CommandEnds (Run order) image old new before now end = RunEnds order end
-CommandEnds (Hunt order) image old new before now end = HuntEnds order before now end
-CommandEnds (Explore order) image old new before now end = ExploreEnds order before now end
+CommandEnds (Replay args) image old new before now end = ReplayEnds args image old new before now end
+CommandEnds (Run args) image old new before now end = RunEnds args end
+CommandEnds (Hunt args) image old new before now end = HuntEnds args before now end
+CommandEnds (Explore args) image old new before now end = ExploreEnds args before now end
 CommandEnds (Judge file) image old new before now end = JudgeEnds old new before now end
-CommandEnds (Draw order) image old new before now end = DrawEnds order image old new before now end × TellsReads old new end
-CommandEnds (Shrink order) image old new before now end = ShrinkEnds order old new before now end × TellsReads old new end
+CommandEnds (Draw args) image old new before now end = DrawEnds args image old new before now end × TellsReads old new end
+CommandEnds (Shrink args) image old new before now end = ShrinkEnds args old new before now end × TellsReads old new end
 CommandEnds (Explain dictionary_entry) image old new before now end = (new ≡ old) × ExplainEnds dictionary_entry before now end

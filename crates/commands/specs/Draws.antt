@@ -4,11 +4,11 @@ use Rattle.crashlab.specs.declared.variant.Variant.TheVariants.{Right}
 use Rattle.commands.specs.declared.schedules.ending.Ending.{Ending}
 use Rattle.commands.specs.declared.schedules.fault.CommandFault.{CommandFault}
 use Rattle.schedule.specs.Tapes.{Tape, Reading}
-use Rattle.cli.specs.declared.arguments.order.DrawArgs.{DrawArgs}
+use Rattle.cli.specs.declared.arguments.args.DrawArgs.{DrawArgs}
 use Rattle.commands.specs.Statuses.{status_ended}
 use Rattle.commands.specs.Tellings.{Drawn, TellsRead}
 
 -- no verdict is against the right lock
 abbrev pub DrawEnds : DrawArgs → Option (List ℕ) → Reading → Reading → Tape → Tape → Result Ending CommandFault → Type 0
-DrawEnds order image old new before now end =
-    (status_ended end ≡ 1 → order.variant ≢ Right) × TellsRead order.variant (Drawn order.style) image old new before now end
+DrawEnds args image old new before now end =
+    (status_ended end ≡ 1 → args.variant ≢ Right) × TellsRead args.variant (Drawn args.style) image old new before now end

@@ -18,7 +18,7 @@ use Rattle.lock_explorer.specs.Finding.{IsFoundIn, IsLeast, NoneOfAtMost, NoneIs
 use Rattle.commands.specs.declared.schedules.ending.Ending.{Ending}
 use Rattle.commands.specs.declared.schedules.fault.CommandFault.{CommandFault}
 use Rattle.commands.specs.declared.schedules.fault.CommandFault.TheVariants.{BadSize, TooManyStates}
-use Rattle.cli.specs.declared.arguments.order.ExploreArgs.{ExploreArgs}
+use Rattle.cli.specs.declared.arguments.args.ExploreArgs.{ExploreArgs}
 use Rattle.commands.specs.Endings.{FailsToWrite}
 use Rattle.commands.specs.Statuses.{outcome}
 
@@ -34,31 +34,31 @@ appends width (suc n) = appends width n ++ call.Append (suc n) (take width (repl
 
 -- the calls that the search starts
 abbrev pub calls_of : ExploreArgs → List Call
-calls_of order =
-    asked order.calls.lock (call.Lock ∷ [])
-    ++ (asked order.calls.unlock (call.Unlock ∷ [])
-    ++ (asked order.calls.recover (call.Recover ∷ [])
-    ++ (asked order.calls.consistent (call.Consistent ∷ [])
-    ++ (asked order.calls.withdraw (call.Withdraw ∷ [])
-    ++ (asked order.calls.append (appends order.width order.cap)
-    ++ asked order.calls.close (call.Close ∷ []))))))
+calls_of args =
+    asked args.calls.lock (call.Lock ∷ [])
+    ++ (asked args.calls.unlock (call.Unlock ∷ [])
+    ++ (asked args.calls.recover (call.Recover ∷ [])
+    ++ (asked args.calls.consistent (call.Consistent ∷ [])
+    ++ (asked args.calls.withdraw (call.Withdraw ∷ [])
+    ++ (asked args.calls.append (appends args.width args.cap)
+    ++ asked args.calls.close (call.Close ∷ []))))))
 
 -- the sizes of the search's worlds
 abbrev pub layout_of : ExploreArgs → Layout
-layout_of order = record { procs = order.procs; cap = order.cap; width = order.width }
+layout_of args = record { procs = args.procs; cap = args.cap; width = args.width }
 
 -- the moves as a schedule
 abbrev pub schedule_of : ExploreArgs → List Move → Scheduled
-schedule_of order path = record { procs = order.procs; limit = order.limit; cap = order.cap; width = order.width; lines = map line_by path }
+schedule_of args path = record { procs = args.procs; limit = args.limit; cap = args.cap; width = args.width; lines = map line_by path }
 
 -- a schedule of fewest moves on which a wrong variant fails was written
-pub record TellsLeast (order : ExploreArgs) (before now : Tape) : Type 0 where
-  pub wrong : order.variant ≢ Right
+pub record TellsLeast (args : ExploreArgs) (before now : Tape) : Type 0 where
+  pub wrong : args.variant ≢ Right
   pub path : List Move
-  pub found : IsFoundIn order.variant (layout_of order) order.limit order.crashes (calls_of order) path
-  pub least : IsLeast order.variant (layout_of order) order.limit order.crashes (calls_of order) path
-  pub few : length path ≤ order.moves
-  pub text : Writes before now (spelling (schedule_of order path))
+  pub found : IsFoundIn args.variant (layout_of args) args.limit args.crashes (calls_of args) path
+  pub least : IsLeast args.variant (layout_of args) args.limit args.crashes (calls_of args) path
+  pub few : length path ≤ args.moves
+  pub text : Writes before now (spelling (schedule_of args path))
 
 -- the line `nothing found within K moves`
 abbrev pub within_line : ℕ → List ℕ
@@ -69,32 +69,32 @@ abbrev pub all_line : ℕ → List ℕ
 all_line states = line_of (codes "nothing" ∷ codes "found:" ∷ codes "all" ∷ decimal states ∷ codes "states" ∷ [])
 
 -- the variant fails on no schedule of at most this many moves, and that was written
-pub record TellsNoneWithin (order : ExploreArgs) (before now : Tape) : Type 0 where
-  pub none : NoneOfAtMost order.variant (layout_of order) order.limit order.crashes (calls_of order) order.moves
-  pub text : Writes before now (within_line order.moves)
+pub record TellsNoneWithin (args : ExploreArgs) (before now : Tape) : Type 0 where
+  pub none : NoneOfAtMost args.variant (layout_of args) args.limit args.crashes (calls_of args) args.moves
+  pub text : Writes before now (within_line args.moves)
 
 -- the variant fails on no schedule of any length, and that was written, with the number of states
-pub record TellsNone (order : ExploreArgs) (before now : Tape) : Type 0 where
-  pub none : NoneIsFound order.variant (layout_of order) order.limit order.crashes (calls_of order)
+pub record TellsNone (args : ExploreArgs) (before now : Tape) : Type 0 where
+  pub none : NoneIsFound args.variant (layout_of args) args.limit args.crashes (calls_of args)
   pub states : ℕ
-  pub number : IsNumberOfStates (rules global_state_words) (first_global_state order.variant (layout_of order) order.limit order.crashes (calls_of order)) states
+  pub number : IsNumberOfStates (rules global_state_words) (first_global_state args.variant (layout_of args) args.limit args.crashes (calls_of args)) states
   pub text : Writes before now (all_line states)
 
 -- no world has these sizes, or no value has this width
 abbrev pub IsNoSize : ExploreArgs → Type 0
-IsNoSize order = (new_refusal (layout_of order) order.limit ≡ None → ⊥) ⊎ ((1 ≤ order.width) × (order.width ≤ 8) → ⊥)
+IsNoSize args = (new_refusal (layout_of args) args.limit ≡ None → ⊥) ⊎ ((1 ≤ args.width) × (args.width ≤ 8) → ⊥)
 
 -- there are more states than may be kept, and nothing was written
-pub record HasTooMany (order : ExploreArgs) (before now : Tape) : Type 0 where
-  pub more : HasMoreStates (rules global_state_words) (first_global_state order.variant (layout_of order) order.limit order.crashes (calls_of order)) order.states
+pub record HasTooMany (args : ExploreArgs) (before now : Tape) : Type 0 where
+  pub more : HasMoreStates (rules global_state_words) (first_global_state args.variant (layout_of args) args.limit args.crashes (calls_of args)) args.states
   pub silent : Silent before now
 
 -- how `explore` ends
 abbrev pub ExploreEnds : ExploreArgs → Tape → Tape → Result Ending CommandFault → Type 0
-ExploreEnds order before now end =
-    (outcome end ≡ Ok 1) × TellsLeast order before now
-    ⊎ (outcome end ≡ Ok 0) × TellsNoneWithin order before now
-    ⊎ (outcome end ≡ Ok 0) × TellsNone order before now
-    ⊎ (outcome end ≡ Err BadSize) × IsNoSize order
-    ⊎ (outcome end ≡ Err TooManyStates) × HasTooMany order before now
+ExploreEnds args before now end =
+    (outcome end ≡ Ok 1) × TellsLeast args before now
+    ⊎ (outcome end ≡ Ok 0) × TellsNoneWithin args before now
+    ⊎ (outcome end ≡ Ok 0) × TellsNone args before now
+    ⊎ (outcome end ≡ Err BadSize) × IsNoSize args
+    ⊎ (outcome end ≡ Err TooManyStates) × HasTooMany args before now
     ⊎ IsErrAnd end (FailsToWrite before now)

@@ -4,12 +4,12 @@ use Rattle.std.specs.List.{range_with_len}
 use Rattle.rand_core.specs.Pcg32Seed.{pcg32_seed}
 use Rattle.rand_pcg.specs.Pcg.{pcg32_of_seed}
 use Rattle.crash_plans.specs.Plans.{Drawing, unasked}
-use Rattle.cli.specs.declared.arguments.order.RunArgs.{RunArgs}
+use Rattle.cli.specs.declared.arguments.args.RunArgs.{RunArgs}
 
 -- the crashes of sender p are drawn from the seed and p, modulo 2^64
 abbrev pub gate_of : RunArgs → ℕ → Drawing
-gate_of order p = record { generator = pcg32_of_seed (pcg32_seed 16 ((order.seed + p) % 2 ^ 64)); per_mille = order.crash; count = unasked }
+gate_of args p = record { generator = pcg32_of_seed (pcg32_seed 16 ((args.seed + p) % 2 ^ 64)); per_mille = args.crash; count = unasked }
 
 -- the crash plans of all senders
 abbrev pub gates_for : RunArgs → List Drawing
-gates_for order = map (gate_of order) (range_with_len 0 order.procs)
+gates_for args = map (gate_of args) (range_with_len 0 args.procs)

@@ -5,7 +5,7 @@ use Rattle.commands.specs.declared.schedules.ending.Ending.{Ending}
 use Rattle.commands.specs.declared.schedules.fault.CommandFault.{CommandFault}
 use Rattle.commands.specs.declared.schedules.fault.CommandFault.TheVariants.{BadVariant, BadSize, Write, OutOfMemory}
 use Rattle.schedule.specs.Tapes.{Tape, Writes, Reading}
-use Rattle.cli.specs.declared.arguments.order.Command.{Command}
+use Rattle.cli.specs.declared.arguments.args.Command.{Command}
 use Rattle.cli.specs.declared.arguments.words.WordsFault.{WordsFault}
 use Rattle.cli.specs.declared.arguments.words.WordsFault.TheVariants as words
 use Rattle.commands.specs.Commands.{CommandEnds}
@@ -25,19 +25,19 @@ pub record Used : Type 0 where
 
 -- the image is opened, then the file to be read, and no other
 abbrev pub opens_all : Command → List (String Global) → List (String Global)
-opens_all order before = (before ++ option_to_list (image_of order)) ++ option_to_list (input_of order)
+opens_all command before = (before ++ option_to_list (image_of command)) ++ option_to_list (input_of command)
 
 -- if the image can't be read, the file to be read isn't opened
 abbrev pub OpensSome : Command → List (String Global) → List (String Global) → Type 0
-OpensSome order before now = (now ≡ opens_all order before) ⊎ (now ≡ before ++ option_to_list (image_of order))
+OpensSome command before now = (now ≡ opens_all command before) ⊎ (now ≡ before ++ option_to_list (image_of command))
 
 -- the file for the last image is written, and no other
 abbrev pub saves_all : Command → List (String Global) → List (String Global)
-saves_all order before = before ++ option_to_list (save_of order)
+saves_all command before = before ++ option_to_list (save_of command)
 
 -- these bytes are written to the file that the command names; without an image nothing is written
-pub record SavesAll (order : Command) (before now : Used) (save : Option (Vec ℕ Global)) : Type 0 where
-  pub names : now.saved ≡ saves_all order before.saved
+pub record SavesAll (command : Command) (before now : Used) (save : Option (Vec ℕ Global)) : Type 0 where
+  pub names : now.saved ≡ saves_all command before.saved
   pub texts : now.texts ≡ before.texts ++ option_to_list save
 
 -- nothing is written to any file
@@ -47,25 +47,25 @@ pub record SavesNone (before now : Used) : Type 0 where
 
 -- after a fault nothing was saved, unless saving itself has failed; then no write and no flush had failed before
 abbrev pub Saves : Command → Used → Used → Tape → Tape → Result Ending CommandFault → Type 0
-Saves order before now blank written (Ok ending) = SavesAll order before now ending.save
-Saves order before now blank written (Err fault) =
-    SavesNone before now ⊎ (status_of fault ≡ 3) × (now.saved ≡ saves_all order before.saved) × (written.failures ≡ blank.failures)
+Saves command before now blank written (Ok ending) = SavesAll command before now ending.save
+Saves command before now blank written (Err fault) =
+    SavesNone before now ⊎ (status_of fault ≡ 3) × (now.saved ≡ saves_all command before.saved) × (written.failures ≡ blank.failures)
 
 -- ---- what is read and written
 
 -- the command ends like this, with the text of an image if the command names one
 abbrev pub EndsBeside : Command → Reading → Reading → Tape → Tape → Result Ending CommandFault → Type 0
-EndsBeside order old new before now end =
-    (image : Option (List ℕ)) × (is_some image ≡ is_some (image_of order)) × CommandEnds order image old new before now end
+EndsBeside command old new before now end =
+    (image : Option (List ℕ)) × (is_some image ≡ is_some (image_of command)) × CommandEnds command image old new before now end
 
 -- a device or memory may fail as well
 abbrev pub EndsOnInput : Command → Reading → Reading → Tape → Tape → Result Ending CommandFault → Type 0
-EndsOnInput order old new before now end = IsBroken end ⊎ EndsBeside order old new before now end
+EndsOnInput command old new before now end = IsBroken end ⊎ EndsBeside command old new before now end
 
 -- the contract on a file is the one on standard input
 abbrev pub EndsOnFile : Command → Tape → Tape → Result Ending CommandFault → Type 0
-EndsOnFile order before now end =
-    IsBroken end ⊎ ((last : Reading) × EndsBeside order (record { given = []; ended = false; failures = 0 }) last before now end)
+EndsOnFile command before now end =
+    IsBroken end ⊎ ((last : Reading) × EndsBeside command (record { given = []; ended = false; failures = 0 }) last before now end)
 
 -- without a fault, no write and no flush has failed
 abbrev pub IsWhole : Tape → Tape → Result Ending CommandFault → Type 0
@@ -73,14 +73,14 @@ IsWhole before now (Ok ending) = (ending.status ≤ 1) × (now.failures ≡ befo
 IsWhole before now (Err fault) = Unit {0}
 
 -- what is done for a command: standard input is read if and only if no file is named
-pub record Does (order : Command) (before now : Used) (old new : Reading) (blank written : Tape) (end : Result Ending CommandFault) : Type 0 where
-  pub opens_all : OnOk end (now.opened ≡ opens_all order before.opened)
-  pub opens_some : OpensSome order before.opened now.opened
-  pub saves : Saves order before now blank written end
+pub record Does (command : Command) (before now : Used) (old new : Reading) (blank written : Tape) (end : Result Ending CommandFault) : Type 0 where
+  pub opens_all : OnOk end (now.opened ≡ opens_all command before.opened)
+  pub opens_some : OpensSome command before.opened now.opened
+  pub saves : Saves command before now blank written end
   pub whole : IsWhole blank written end
-  pub apart : is_some (input_of order) ≡ true → new ≡ old
-  pub on_input : input_of order ≡ None → EndsOnInput order old new blank written end
-  pub on_file : is_some (input_of order) ≡ true → EndsOnFile order blank written end
+  pub apart : is_some (input_of command) ≡ true → new ≡ old
+  pub on_input : input_of command ≡ None → EndsOnInput command old new blank written end
+  pub on_file : is_some (input_of command) ≡ true → EndsOnFile command blank written end
 
 -- the line of a fault, or nothing
 abbrev pub Tells : Tape → Tape → Result Ending CommandFault → Type 0
@@ -94,25 +94,25 @@ pub record Closes (said says : Tape) (end : Result Ending CommandFault) (status 
 
 -- a command is carried out, and its fault reported
 abbrev pub Obeys : Command → Used → Used → Reading → Reading → Tape → Tape → Tape → Tape → ℕ → Type 0
-Obeys order before now old new blank written said says status =
-    (end : Result Ending CommandFault) × Does order before now old new blank written end × Closes said says end status
+Obeys command before now old new blank written said says status =
+    (end : Result Ending CommandFault) × Does command before now old new blank written end × Closes said says end status
 
 -- ---- words that are no command
 
 -- the help is printed, or the fault that it can't be is written
-abbrev pub Helps : List ℕ → Tape → Tape → Tape → Tape → ℕ → Type 0
-Helps text blank written said says status =
+abbrev pub PrintsHelp : List ℕ → Tape → Tape → Tape → Tape → ℕ → Type 0
+PrintsHelp text blank written said says status =
     (Writes blank written text × (says ≡ said) × (status ≡ 0)) ⊎ (IsTold said says (fault_line Write) × (status ≡ 3))
 
 -- the error text for the words is written
-abbrev pub Scolds : List ℕ → Tape → Tape → ℕ → Type 0
-Scolds text said says status = IsTold said says text × (status ≡ 2)
+abbrev pub PrintsUsageError : List ℕ → Tape → Tape → ℕ → Type 0
+PrintsUsageError text said says status = IsTold said says text × (status ≡ 2)
 
 -- what is reported for words that are no command
 abbrev pub Answers : WordsFault → Tape → Tape → Tape → Tape → ℕ → Type 0
-Answers (words.Help text) blank written said says status = Helps (string_bytes text) blank written said says status
-Answers (words.Refused text) blank written said says status = Scolds (string_bytes text) said says status
-Answers words.Unreadable blank written said says status = (text : List ℕ) × Scolds text said says status
+Answers (words.Help text) blank written said says status = PrintsHelp (string_bytes text) blank written said says status
+Answers (words.Refused text) blank written said says status = PrintsUsageError (string_bytes text) said says status
+Answers words.Unreadable blank written said says status = (text : List ℕ) × PrintsUsageError text said says status
 Answers words.BadVariant blank written said says status = IsTold said says (fault_line BadVariant) × (status ≡ 2)
 Answers words.BadSize blank written said says status = IsTold said says (fault_line BadSize) × (status ≡ 2)
 Answers words.OutOfMemory blank written said says status = IsTold said says (fault_line OutOfMemory) × (status ≡ 3)
@@ -120,5 +120,5 @@ Answers words.OutOfMemory blank written said says status = IsTold said says (fau
 -- a command is carried out, or only the fault of the words is reported
 abbrev pub IsProgram : Used → Used → Reading → Reading → Tape → Tape → Tape → Tape → ℕ → Type 0
 IsProgram before now old new blank written said says status =
-    ((order : Command) × IsSized order × Obeys order before now old new blank written said says status)
+    ((command : Command) × IsSized command × Obeys command before now old new blank written said says status)
     ⊎ ((fault : WordsFault) × Answers fault blank written said says status × (now ≡ before) × (new ≡ old))

@@ -14,7 +14,7 @@ use Rattle.schedule.specs.Schedules.{Scheduled, schedule_at}
 use Rattle.schedule.specs.Runs.{Part, deeds_of}
 use Rattle.schedule.specs.Verdicts.{verdict_on}
 use Rattle.schedule.specs.Wholes.{WasRead, ReplaysSource, world_run}
-use Rattle.cli.specs.declared.arguments.order.ReplayArgs.{ReplayArgs}
+use Rattle.cli.specs.declared.arguments.args.ReplayArgs.{ReplayArgs}
 use Rattle.commands.specs.declared.schedules.ending.Ending.{Ending}
 use Rattle.commands.specs.declared.schedules.fault.CommandFault.{CommandFault}
 use Rattle.commands.specs.Endings.{IsEnded, TellsReads}
@@ -23,11 +23,11 @@ use Rattle.commands.specs.Tellings.{Replayed, TellsRead}
 
 -- only the report of a schedule on the right lock is asked for
 abbrev pub IsPlainReplay : ReplayArgs → Option (List ℕ) → Type 0
-IsPlainReplay order image = (image ≡ None) × (order.variant ≡ Right) × (order.json ≡ false) × (order.each ≡ false) × (order.save ≡ None)
+IsPlainReplay args image = (image ≡ None) × (args.variant ≡ Right) × (args.json ≡ false) × (args.each ≡ false) × (args.save ≡ None)
 
 -- something else is asked for besides the report, and no JSON
 abbrev pub IsTold : ReplayArgs → Option (List ℕ) → Type 0
-IsTold order image = (order.json ≡ false) × (IsPlainReplay order image → ⊥)
+IsTold args image = (args.json ≡ false) × (IsPlainReplay args image → ⊥)
 
 -- the report of the schedule that was read was written, or the command answers why not
 abbrev pub TellsReplay : Reading → Reading → Tape → Tape → Result Ending CommandFault → Type 0
@@ -36,7 +36,7 @@ TellsReplay old new before now end =
 
 -- the right lock is asked for, from the beginning
 abbrev pub IsNew : ReplayArgs → Option (List ℕ) → Type 0
-IsNew order image = (image ≡ None) × (order.variant ≡ Right)
+IsNew args image = (image ≡ None) × (args.variant ≡ Right)
 
 -- these bytes are the image after the run of a schedule on a new world
 abbrev pub IsLast : Scheduled → List ℕ → Type 0
@@ -64,7 +64,7 @@ pub record IsReplayed {S : Type 0} (start : State) (run : Part S (ℕ × Refusal
 
 -- whatever else is asked for, no verdict is against the right lock, and a failed read isn't taken for the end of the text
 abbrev pub ReplayEnds : ReplayArgs → Option (List ℕ) → Reading → Reading → Tape → Tape → Result Ending CommandFault → Type 0
-ReplayEnds order image old new before now end =
-    (status_ended end ≡ 1 → order.variant ≢ Right) × (IsPlainReplay order image → TellsReplay old new before now end)
-    × (IsNew order image → IfOk end (λ ending. SavesLast old new ending.save))
-    × (IsTold order image → TellsRead order.variant (Replayed order.each) image old new before now end) × TellsReads old new end
+ReplayEnds args image old new before now end =
+    (status_ended end ≡ 1 → args.variant ≢ Right) × (IsPlainReplay args image → TellsReplay old new before now end)
+    × (IsNew args image → IfOk end (λ ending. SavesLast old new ending.save))
+    × (IsTold args image → TellsRead args.variant (Replayed args.each) image old new before now end) × TellsReads old new end

@@ -11,7 +11,7 @@ use Rattle.crashlab.specs.Shrunk.{IsReason, Shrinks}
 use Rattle.commands.specs.declared.schedules.ending.Ending.{Ending}
 use Rattle.commands.specs.declared.schedules.fault.CommandFault.{CommandFault}
 use Rattle.commands.specs.declared.schedules.fault.CommandFault.TheVariants.{Refused}
-use Rattle.cli.specs.declared.arguments.order.ShrinkArgs.{ShrinkArgs}
+use Rattle.cli.specs.declared.arguments.args.ShrinkArgs.{ShrinkArgs}
 use Rattle.commands.specs.Settings.{IsWrongText}
 use Rattle.commands.specs.Statuses.{outcome, status_ended}
 
@@ -62,5 +62,5 @@ pub record TellsText (old new : Reading) (before now : Tape) (end : Result Endin
 
 -- how `shrink` ends
 abbrev pub ShrinkEnds : ShrinkArgs → Reading → Reading → Tape → Tape → Result Ending CommandFault → Type 0
-ShrinkEnds order old new before now end =
-    ShrinksText order.variant old new before now end ⊎ (TellsText old new before now end ⊎ (status_ended end ≡ 3))
+ShrinkEnds args old new before now end =
+    ShrinksText args.variant old new before now end ⊎ (TellsText old new before now end ⊎ (status_ended end ≡ 3))

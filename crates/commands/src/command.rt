@@ -8,18 +8,18 @@ ghost use Rattle.cli.specs.FilesNamed.{save_of};
 ghost use Rattle.commands.specs.Programs.{Closes};
 ghost use Rattle.commands.specs.Statuses.{status_of};
 
-use crate::exploring::explore_order;
+use crate::exploring::explore_command;
 use crate::progress::meter::Meter;
 use crate::progress::screen::{NoScreen, Screen};
 use crate::progress::work::Work;
-use crate::running::run_order;
-use crate::schedules::drawn::draw_order;
+use crate::running::run_command;
+use crate::schedules::drawn::draw_command;
 use crate::schedules::ending::{Ending, status_after_verdict};
 use crate::schedules::fault::CommandFault;
 use crate::schedules::line::told;
-use crate::schedules::replaying::replay_order;
-use crate::schedules::shrunk::{shrink_order, write_lines};
-use cli::arguments::order::{Command, HuntArgs};
+use crate::schedules::replaying::replay_command;
+use crate::schedules::shrunk::{shrink_command, write_lines};
+use cli::arguments::args::{Command, HuntArgs};
 use cli::{DictionaryEntry, tell_all_names, tell_dictionary_entry};
 use crashlab::hunting::hunt_watched;
 use crashlab::{HuntFault, Variant, shrink_found};
@@ -30,7 +30,7 @@ use std::sync::Wait;
 use std::thread::Threads;
 
 /// Writes the verdict line of a trace.
-fn judge_order<R: Source, W: Sink>(
+fn judge_command<R: Source, W: Sink>(
     alloc: Global,
     r: &mut R,
     w: &mut W,
@@ -68,16 +68,16 @@ fn write_least<W: Sink>(
 /// Writes the schedule that a hunt has found, shrunk if that is asked for.
 fn write_found<W: Sink>(
     alloc: Global,
-    order: &HuntArgs,
+    args: &HuntArgs,
     found: &Schedule,
     w: &mut W,
 ) -> Result<(), CommandFault>
-    requires { IsFound order.now.variant found.now }
-    ensures written { OnOk result (TellsFound order.now.shrink order.now.variant found.now (W.tape w.old) (W.tape w.new)) }
+    requires { IsFound args.now.variant found.now }
+    ensures written { OnOk result (TellsFound args.now.shrink args.now.variant found.now (W.tape w.old) (W.tape w.new)) }
     ensures failed { IfErr result (λ fault. status_of fault ≡ 3) }
 {
-    if order.shrink {
-        write_least(alloc, order.variant, found, w)
+    if args.shrink {
+        write_least(alloc, args.variant, found, w)
     } else {
         write_lines(alloc, found, w)
     }
@@ -85,28 +85,28 @@ fn write_found<W: Sink>(
 
 /// Runs `hunt`: writes the schedule that was found, or that there is none. Progress is shown on the screen. `BadSize`: a
 /// number is outside its range. Other faults are those of the writer and of memory.
-pub fn hunt_order<S: Screen, W: Sink>(
+pub fn hunt_command<S: Screen, W: Sink>(
     alloc: Global,
-    order: &HuntArgs,
+    args: &HuntArgs,
     screen: &mut S,
     w: &mut W,
 ) -> Result<Ending, CommandFault>
-    ensures ends { HuntEnds order.now (W.tape w.old) (W.tape w.new) result }
+    ensures ends { HuntEnds args.now (W.tape w.old) (W.tape w.new) result }
     ensures ended { IfOk result (IsEnded false (W.tape w.old).failures (W.tape w.new).failures) }
 {
     let mut meter = Meter::new(screen, Work::Hunt);
     let found = hunt_watched(
         alloc,
-        order.variant,
-        order.seed,
-        order.rounds,
-        order.steps,
+        args.variant,
+        args.seed,
+        args.rounds,
+        args.steps,
         &mut meter,
     );
     meter.end();
     match found {
         Ok(Some(schedule)) => {
-            write_found(alloc, order, &schedule, w)?;
+            write_found(alloc, args, &schedule, w)?;
             Ok(Ending {
                 status: 1,
                 save: None,
@@ -122,8 +122,8 @@ pub fn hunt_order<S: Screen, W: Sink>(
     }
 }
 
-/// Writes what a topic means, or the names of all topics.
-fn explain_order<W: Sink>(
+/// Writes what an entry means, or the names of all entries.
+fn explain_command<W: Sink>(
     dictionary_entry: Option<DictionaryEntry>,
     w: &mut W,
 ) -> Result<Ending, CommandFault>
@@ -159,14 +159,14 @@ pub fn ended<T: Threads + Wait + Sync, S: Screen, R: Source, W: Sink>(
     ensures ended { IfOk result (IsEnded (is_some (save_of command.now)) (W.tape w.old).failures (W.tape w.new).failures) }
 {
     match command {
-        Command::Replay(order) => replay_order(alloc, order, image, r, w),
-        Command::Judge(_) => judge_order(alloc, r, w),
-        Command::Draw(order) => draw_order(alloc, order, image, r, w),
-        Command::Shrink(order) => shrink_order(alloc, order, r, w),
-        Command::Hunt(order) => hunt_order(alloc, order, screen, w),
-        Command::Explore(order) => explore_order(alloc, order, screen, w),
-        Command::Run(order) => run_order(rt, alloc, order, w),
-        Command::Explain(dictionary_entry) => explain_order(*dictionary_entry, w),
+        Command::Replay(args) => replay_command(alloc, args, image, r, w),
+        Command::Judge(_) => judge_command(alloc, r, w),
+        Command::Draw(args) => draw_command(alloc, args, image, r, w),
+        Command::Shrink(args) => shrink_command(alloc, args, r, w),
+        Command::Hunt(args) => hunt_command(alloc, args, screen, w),
+        Command::Explore(args) => explore_command(alloc, args, screen, w),
+        Command::Run(args) => run_command(rt, alloc, args, w),
+        Command::Explain(dictionary_entry) => explain_command(*dictionary_entry, w),
     }
 }
 

@@ -14,7 +14,7 @@ use crate::schedules::ending::Ending;
 use crate::schedules::fault::CommandFault;
 use crate::schedules::line::line_around;
 use crate::schedules::shrunk::write_lines;
-use cli::arguments::order::ExploreArgs;
+use cli::arguments::args::ExploreArgs;
 use lock_explorer::{Bounds, ExploreFault, Move, SearchOutcome, shortest_schedule};
 use redomail::Layout;
 use rmecore::Body;
@@ -49,12 +49,12 @@ fn append_of(seq: u64, width: u64) -> Option<Call>
 }
 
 /// Adds the appends with each number from 1 to the capacity.
-fn put_appends(calls: &mut Vec<Call>, order: &ExploreArgs) -> Result<(), CommandFault>
-    ensures listed { OnOk result (calls.new.items ≡ calls.old.items ++ appends_of order.now.width order.now.cap) }
+fn put_appends(calls: &mut Vec<Call>, args: &ExploreArgs) -> Result<(), CommandFault>
+    ensures listed { OnOk result (calls.new.items ≡ calls.old.items ++ appends_of args.now.width args.now.cap) }
     ensures failed { IfErr result (λ fault. fault ≡ CommandFault.OutOfMemory) }
 {
-    for seq in 0..order.cap {
-        let Some(call) = append_of(seq + 1, order.width) else {
+    for seq in 0..args.cap {
+        let Some(call) = append_of(seq + 1, args.width) else {
             return Err(CommandFault::OutOfMemory);
         };
         calls.push(call)?;
@@ -63,11 +63,11 @@ fn put_appends(calls: &mut Vec<Call>, order: &ExploreArgs) -> Result<(), Command
 }
 
 /// The calls that the search starts, always in this order.
-fn calls_of(alloc: Global, order: &ExploreArgs) -> Result<Vec<Call>, CommandFault>
-    ensures listed { IfOk result (λ calls. calls.items ≡ calls_asked order.now) }
+fn calls_of(alloc: Global, args: &ExploreArgs) -> Result<Vec<Call>, CommandFault>
+    ensures listed { IfOk result (λ calls. calls.items ≡ calls_asked args.now) }
     ensures failed { IfErr result (λ fault. fault ≡ CommandFault.OutOfMemory) }
 {
-    let asked = &order.calls;
+    let asked = &args.calls;
     let mut calls = Vec::new(alloc);
     put_call(&mut calls, asked.lock, Call::Lock)?;
     put_call(&mut calls, asked.unlock, Call::Unlock)?;
@@ -75,7 +75,7 @@ fn calls_of(alloc: Global, order: &ExploreArgs) -> Result<Vec<Call>, CommandFaul
     put_call(&mut calls, asked.consistent, Call::Consistent)?;
     put_call(&mut calls, asked.withdraw, Call::Withdraw)?;
     if asked.append {
-        put_appends(&mut calls, order)?;
+        put_appends(&mut calls, args)?;
     }
     put_call(&mut calls, asked.close, Call::Close)?;
     Ok(calls)
@@ -93,12 +93,11 @@ fn line_of_move(made: &Move) -> Line
 }
 
 /// The moves as a schedule.
-fn schedule_of(alloc: Global, order: &ExploreArgs, path: &[Move]) -> Result<Schedule, CommandFault>
-    ensures schedule { IfOk result (λ schedule. schedule ≡ schedule_by order.now path.now) }
+fn schedule_of(alloc: Global, args: &ExploreArgs, path: &[Move]) -> Result<Schedule, CommandFault>
+    ensures schedule { IfOk result (λ schedule. schedule ≡ schedule_by args.now path.now) }
     ensures failed { IfErr result (λ fault. fault ≡ CommandFault.OutOfMemory) }
 {
-    let Ok(mut schedule) = Schedule::new(alloc, order.procs, order.limit, order.cap, order.width)
-    else {
+    let Ok(mut schedule) = Schedule::new(alloc, args.procs, args.limit, args.cap, args.width) else {
         return Err(CommandFault::OutOfMemory);
     };
     for made in path {
@@ -154,35 +153,35 @@ fn tell_all<W: Sink>(states: u64, w: &mut W) -> Result<Ending, CommandFault>
 
 /// Runs `explore`: writes the schedule of fewest moves that was found, or that there is none. Progress is shown on the
 /// screen. `BadSize`: a size is outside its limits. `TooManyStates`: the search reached more states than it may keep.
-pub fn explore_order<S: Screen, W: Sink>(
+pub fn explore_command<S: Screen, W: Sink>(
     alloc: Global,
-    order: &ExploreArgs,
+    args: &ExploreArgs,
     screen: &mut S,
     w: &mut W,
 ) -> Result<Ending, CommandFault>
-    ensures ends { ExploreEnds order.now (W.tape w.old) (W.tape w.new) result }
+    ensures ends { ExploreEnds args.now (W.tape w.old) (W.tape w.new) result }
     ensures ended { IfOk result (IsEnded false (W.tape w.old).failures (W.tape w.new).failures) }
 {
-    if order.width == 0 || order.width > 8 {
+    if args.width == 0 || args.width > 8 {
         return Err(CommandFault::BadSize);
     }
     let layout = Layout {
-        procs: order.procs,
-        cap: order.cap,
-        width: order.width,
+        procs: args.procs,
+        cap: args.cap,
+        width: args.width,
     };
     let bounds = Bounds {
-        crashes: order.crashes,
-        moves: order.moves,
-        states: order.states,
+        crashes: args.crashes,
+        moves: args.moves,
+        states: args.states,
     };
-    let calls = calls_of(alloc, order)?;
+    let calls = calls_of(alloc, args)?;
     let mut meter = Meter::new(screen, Work::Search);
     let found = shortest_schedule(
         alloc,
-        order.variant,
+        args.variant,
         layout,
-        order.limit,
+        args.limit,
         &calls,
         &bounds,
         &mut meter,
@@ -190,14 +189,14 @@ pub fn explore_order<S: Screen, W: Sink>(
     meter.end();
     match found {
         Ok(SearchOutcome::Path(path)) => {
-            let schedule = schedule_of(alloc, order, &path)?;
+            let schedule = schedule_of(alloc, args, &path)?;
             write_lines(alloc, &schedule, w)?;
             Ok(Ending {
                 status: 1,
                 save: None,
             })
         }
-        Ok(SearchOutcome::NoneWithin) => tell_within(order.moves, w),
+        Ok(SearchOutcome::NoneWithin) => tell_within(args.moves, w),
         Ok(SearchOutcome::Nowhere(states)) => tell_all(states, w),
         Err(ExploreFault::Refused(_)) => Err(CommandFault::BadSize),
         Err(ExploreFault::TooManyStates) => Err(CommandFault::TooManyStates),

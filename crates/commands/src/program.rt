@@ -6,7 +6,7 @@ ghost use Rattle.schedule.specs.Tapes.{Writes};
 ghost use Rattle.cli.specs.FilesNamed.{image_of, input_of, save_of};
 ghost use Rattle.commands.specs.Lines.{IsTold};
 ghost use Rattle.commands.specs.declared.schedules.fault.CommandFault.TheVariants.{Write as WriteFault};
-ghost use Rattle.commands.specs.Programs.{Answers, Closes, Does, EndsOnFile, EndsOnInput, Helps, IsProgram, Obeys, opens_all, OpensSome, SavesAll, Scolds};
+ghost use Rattle.commands.specs.Programs.{Answers, Closes, Does, EndsOnFile, EndsOnInput, PrintsHelp, IsProgram, Obeys, opens_all, OpensSome, SavesAll, PrintsUsageError};
 ghost use Rattle.cli.specs.Sizes.{IsSized};
 ghost use Rattle.commands.specs.Faults.{fault_of_opening, fault_of_saving};
 ghost use Rattle.commands.specs.Statuses.{status_of};
@@ -17,7 +17,7 @@ use crate::progress::screen::Screen;
 use crate::schedules::ending::Ending;
 use crate::schedules::fault::CommandFault;
 use crate::schedules::line::told;
-use cli::arguments::order::Command;
+use cli::arguments::args::Command;
 use cli::arguments::words::{WordsFault, read_words};
 use schedule::replays::pieces::read_all;
 use schedule::texts::device::write_all;
@@ -68,16 +68,16 @@ fn file_text<F: Folder>(
 /// The text of the image that the command names, if it names one.
 fn image_text<F: Folder>(
     alloc: Global,
-    order: &Command,
+    command: &Command,
     folder: &mut F,
 ) -> Result<Option<Vec<u8>>, CommandFault>
-    ensures opened { (F.used folder.new).opened ≡ (F.used folder.old).opened ++ option_to_list (image_of order.now) }
+    ensures opened { (F.used folder.new).opened ≡ (F.used folder.old).opened ++ option_to_list (image_of command.now) }
     ensures saved { (F.used folder.new).saved ≡ (F.used folder.old).saved }
     ensures texts { (F.used folder.new).texts ≡ (F.used folder.old).texts }
-    ensures named { IfOk result (λ text. is_some text ≡ is_some (image_of order.now)) }
+    ensures named { IfOk result (λ text. is_some text ≡ is_some (image_of command.now)) }
     ensures failed { IfErr result (λ fault. status_of fault ≡ 3) }
 {
-    match order.image_file() {
+    match command.image_file() {
         Some(name) => Ok(Some(file_text(alloc, folder, name)?)),
         None => Ok(None),
     }
@@ -87,68 +87,68 @@ fn image_text<F: Folder>(
 fn ended_on_file<T: Threads + Wait + Sync, F: Folder, S: Screen, W: Sink>(
     rt: &T,
     alloc: Global,
-    order: &Command,
+    command: &Command,
     image: Option<&[u8]>,
     folder: &mut F,
     name: &String,
     screen: &mut S,
     out: &mut W,
 ) -> Result<Ending, CommandFault>
-    requires { is_some image ≡ is_some (image_of order.now) }
+    requires { is_some image ≡ is_some (image_of command.now) }
     ensures opened { (F.used folder.new).opened ≡ (F.used folder.old).opened ++ name.now ∷ [] }
     ensures saved { (F.used folder.new).saved ≡ (F.used folder.old).saved }
     ensures texts { (F.used folder.new).texts ≡ (F.used folder.old).texts }
-    ensures ends { EndsOnFile order.now (W.tape out.old) (W.tape out.new) result }
-    ensures ended { IfOk result (IsEnded (is_some (save_of order.now)) (W.tape out.old).failures (W.tape out.new).failures) }
+    ensures ends { EndsOnFile command.now (W.tape out.old) (W.tape out.new) result }
+    ensures ended { IfOk result (IsEnded (is_some (save_of command.now)) (W.tape out.old).failures (W.tape out.new).failures) }
 {
     let mut file = folder.open(name).map_err(unopened)?;
-    ended(rt, alloc, order, image, screen, &mut file, out)
+    ended(rt, alloc, command, image, screen, &mut file, out)
 }
 
 /// Carries out the command. The image is read first. The input is read if no file is named.
-fn ordered<T: Threads + Wait + Sync, F: Folder, S: Screen, R: Source, W: Sink>(
+fn execute<T: Threads + Wait + Sync, F: Folder, S: Screen, R: Source, W: Sink>(
     rt: &T,
     alloc: Global,
-    order: &Command,
+    command: &Command,
     folder: &mut F,
     screen: &mut S,
     input: &mut R,
     out: &mut W,
 ) -> Result<Ending, CommandFault>
-    ensures all { OnOk result ((F.used folder.new).opened ≡ opens_all order.now (F.used folder.old).opened) }
-    ensures opened { OpensSome order.now (F.used folder.old).opened (F.used folder.new).opened }
+    ensures all { OnOk result ((F.used folder.new).opened ≡ opens_all command.now (F.used folder.old).opened) }
+    ensures opened { OpensSome command.now (F.used folder.old).opened (F.used folder.new).opened }
     ensures saved { (F.used folder.new).saved ≡ (F.used folder.old).saved }
     ensures texts { (F.used folder.new).texts ≡ (F.used folder.old).texts }
-    ensures ended { IfOk result (IsEnded (is_some (save_of order.now)) (W.tape out.old).failures (W.tape out.new).failures) }
-    ensures apart { is_some (input_of order.now) ≡ true → R.reading input.new ≡ R.reading input.old }
-    ensures on_input { input_of order.now ≡ None → EndsOnInput order.now (R.reading input.old) (R.reading input.new)
+    ensures ended { IfOk result (IsEnded (is_some (save_of command.now)) (W.tape out.old).failures (W.tape out.new).failures) }
+    ensures apart { is_some (input_of command.now) ≡ true → R.reading input.new ≡ R.reading input.old }
+    ensures on_input { input_of command.now ≡ None → EndsOnInput command.now (R.reading input.old) (R.reading input.new)
         (W.tape out.old) (W.tape out.new) result }
-    ensures on_file { is_some (input_of order.now) ≡ true → EndsOnFile order.now (W.tape out.old) (W.tape out.new) result }
+    ensures on_file { is_some (input_of command.now) ≡ true → EndsOnFile command.now (W.tape out.old) (W.tape out.new) result }
 {
-    let image = image_text(alloc, order, folder)?;
-    match order.input_file() {
+    let image = image_text(alloc, command, folder)?;
+    match command.input_file() {
         Some(name) => ended_on_file(
             rt,
             alloc,
-            order,
+            command,
             image.as_deref(),
             folder,
             name,
             screen,
             out,
         ),
-        None => ended(rt, alloc, order, image.as_deref(), screen, input, out),
+        None => ended(rt, alloc, command, image.as_deref(), screen, input, out),
     }
 }
 
 /// Saves the image, if the command names a file for it.
-fn save<F: Folder>(folder: &mut F, order: &Command, ending: &Ending) -> Result<(), CommandFault>
-    requires { is_some ending.now.save ≡ is_some (save_of order.now) }
+fn save<F: Folder>(folder: &mut F, command: &Command, ending: &Ending) -> Result<(), CommandFault>
+    requires { is_some ending.now.save ≡ is_some (save_of command.now) }
     ensures opened { (F.used folder.new).opened ≡ (F.used folder.old).opened }
-    ensures saved { SavesAll order.now (F.used folder.old) (F.used folder.new) ending.now.save }
+    ensures saved { SavesAll command.now (F.used folder.old) (F.used folder.new) ending.now.save }
     ensures failed { IfErr result (λ fault. status_of fault ≡ 3) }
 {
-    match (order.save_file(), &ending.save) {
+    match (command.save_file(), &ending.save) {
         (Some(name), Some(text)) => folder.save(name, text).map_err(unsaved),
         _ => Ok(()),
     }
@@ -156,7 +156,7 @@ fn save<F: Folder>(folder: &mut F, order: &Command, ending: &Ending) -> Result<(
 
 /// Flushes the output.
 #[tactic(auto, using(crate::proofs::Tapes::same_tape))]
-fn handed_on<W: Sink>(out: &mut W) -> Result<(), CommandFault>
+fn flush_output<W: Sink>(out: &mut W) -> Result<(), CommandFault>
     ensures same { OnOk result (W.tape out.new ≡ W.tape out.old) }
     ensures failed { IfErr result (λ fault. fault ≡ WriteFault) }
 {
@@ -167,22 +167,22 @@ fn handed_on<W: Sink>(out: &mut W) -> Result<(), CommandFault>
 }
 
 /// Carries out the command, flushes the output, and then saves the image. If the flush fails, that is the fault.
-fn carried_out<T: Threads + Wait + Sync, F: Folder, S: Screen, R: Source, W: Sink>(
+fn execute_and_save<T: Threads + Wait + Sync, F: Folder, S: Screen, R: Source, W: Sink>(
     rt: &T,
     alloc: Global,
-    order: &Command,
+    command: &Command,
     folder: &mut F,
     screen: &mut S,
     input: &mut R,
     out: &mut W,
 ) -> Result<Ending, CommandFault>
-    ensures { Does order.now (F.used folder.old) (F.used folder.new) (R.reading input.old) (R.reading input.new)
+    ensures { Does command.now (F.used folder.old) (F.used folder.new) (R.reading input.old) (R.reading input.new)
         (W.tape out.old) (W.tape out.new) result }
 {
-    let ended = ordered(rt, alloc, order, folder, screen, input, out);
-    handed_on(out)?;
+    let ended = execute(rt, alloc, command, folder, screen, input, out);
+    flush_output(out)?;
     let ending = ended?;
-    save(folder, order, &ending)?;
+    save(folder, command, &ending)?;
     Ok(ending)
 }
 
@@ -201,17 +201,17 @@ pub fn closed<E: Sink>(end: Result<Ending, CommandFault>, err: &mut E) -> u8
 pub fn obey<T: Threads + Wait + Sync, F: Folder, S: Screen, R: Source, W: Sink, E: Sink>(
     rt: &T,
     alloc: Global,
-    order: &Command,
+    command: &Command,
     folder: &mut F,
     screen: &mut S,
     input: &mut R,
     out: &mut W,
     err: &mut E,
 ) -> u8
-    ensures { Obeys order.now (F.used folder.old) (F.used folder.new) (R.reading input.old) (R.reading input.new)
+    ensures { Obeys command.now (F.used folder.old) (F.used folder.new) (R.reading input.old) (R.reading input.new)
         (W.tape out.old) (W.tape out.new) (E.tape err.old) (E.tape err.new) result }
 {
-    let end = carried_out(rt, alloc, order, folder, screen, input, out);
+    let end = execute_and_save(rt, alloc, command, folder, screen, input, out);
     closed(end, err)
 }
 
@@ -224,8 +224,8 @@ fn printed<W: Sink>(text: &str, out: &mut W) -> Result<(), Failed>
 }
 
 /// Prints the help that was asked for, and answers the exit status.
-fn helped<W: Sink, E: Sink>(text: &str, out: &mut W, err: &mut E) -> u8
-    ensures { Helps text.now (W.tape out.old) (W.tape out.new) (E.tape err.old) (E.tape err.new) result }
+fn print_help<W: Sink, E: Sink>(text: &str, out: &mut W, err: &mut E) -> u8
+    ensures { PrintsHelp text.now (W.tape out.old) (W.tape out.new) (E.tape err.old) (E.tape err.new) result }
 {
     match printed(text, out) {
         Ok(()) => 0,
@@ -234,8 +234,8 @@ fn helped<W: Sink, E: Sink>(text: &str, out: &mut W, err: &mut E) -> u8
 }
 
 /// Prints the error text for the words, and answers exit status 2. A failed write is ignored.
-fn scolded<E: Sink>(text: &str, err: &mut E) -> u8
-    ensures { Scolds text.now (E.tape err.old) (E.tape err.new) result }
+fn print_usage_error<E: Sink>(text: &str, err: &mut E) -> u8
+    ensures { PrintsUsageError text.now (E.tape err.old) (E.tape err.new) result }
 {
     let _ = write_all(err, text.as_bytes());
     2
@@ -250,9 +250,9 @@ fn answered<W: Sink, E: Sink>(fault: &WordsFault, out: &mut W, err: &mut E) -> u
     ensures { Answers fault.now (W.tape out.old) (W.tape out.new) (E.tape err.old) (E.tape err.new) result }
 {
     match fault {
-        WordsFault::Help { text } => helped(text.as_str(), out, err),
-        WordsFault::Refused { text } => scolded(text.as_str(), err),
-        WordsFault::Unreadable => scolded(UNREADABLE, err),
+        WordsFault::Help { text } => print_help(text.as_str(), out, err),
+        WordsFault::Refused { text } => print_usage_error(text.as_str(), err),
+        WordsFault::Unreadable => print_usage_error(UNREADABLE, err),
         WordsFault::BadVariant => told(CommandFault::BadVariant, err),
         WordsFault::BadSize => told(CommandFault::BadSize, err),
         WordsFault::OutOfMemory => told(CommandFault::OutOfMemory, err),
@@ -260,7 +260,7 @@ fn answered<W: Sink, E: Sink>(fault: &WordsFault, out: &mut W, err: &mut E) -> u
 }
 
 /// The command that the words spell.
-fn order_of(alloc: Global, words: Result<Vec<String>, WordsFault>) -> Result<Command, WordsFault>
+fn parse_words(alloc: Global, words: Result<Vec<String>, WordsFault>) -> Result<Command, WordsFault>
     ensures { IfOk result IsSized }
 {
     let words = words?;
@@ -281,8 +281,8 @@ pub fn program<T: Threads + Wait + Sync, F: Folder, S: Screen, R: Source, W: Sin
     ensures { IsProgram (F.used folder.old) (F.used folder.new) (R.reading input.old) (R.reading input.new) (W.tape out.old)
         (W.tape out.new) (E.tape err.old) (E.tape err.new) result }
 {
-    match order_of(alloc, words) {
-        Ok(order) => obey(rt, alloc, &order, folder, screen, input, out, err),
+    match parse_words(alloc, words) {
+        Ok(command) => obey(rt, alloc, &command, folder, screen, input, out, err),
         Err(fault) => answered(&fault, out, err),
     }
 }

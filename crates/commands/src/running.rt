@@ -12,7 +12,7 @@ ghost use Rattle.commands.specs.Tallies.{IsFine};
 use crate::schedules::ending::Ending;
 use crate::schedules::fault::CommandFault;
 use crate::tally::{SenderTally, tallied};
-use cli::arguments::order::RunArgs;
+use cli::arguments::args::RunArgs;
 use crashlab::Seeded;
 use indexmap::IndexMap;
 use robust::{LabFault, Spec, run_lab};
@@ -26,27 +26,27 @@ use std::thread::Threads;
 const MOST: u64 = 1 << 62;
 
 /// The sizes of a run's lab: room for each message, and the greatest limit.
-fn spec_of(order: &RunArgs) -> Spec
-    ensures { result ≡ lab_for order.now }
+fn spec_of(args: &RunArgs) -> Spec
+    ensures { result ≡ lab_for args.now }
 {
     Spec {
-        procs: order.procs,
-        messages: order.messages,
+        procs: args.procs,
+        messages: args.messages,
         limit: MOST,
-        cap: order.procs.saturating_mul(order.messages),
-        width: order.width,
+        cap: args.procs.saturating_mul(args.messages),
+        width: args.width,
     }
 }
 
 /// The crash plan of each sender. `AllocError`: out of memory.
 #[tactic(auto, using(crate::proofs::Gates::gates_more))]
-pub fn gates_of(alloc: Global, order: &RunArgs) -> Result<Vec<Seeded>, AllocError>
-    ensures each { IfOk result (λ gates. gates.items ≡ gates_for order.now) }
-    ensures count { IfOk result (λ gates. vec_len gates ≡ order.now.procs) }
+pub fn gates_of(alloc: Global, args: &RunArgs) -> Result<Vec<Seeded>, AllocError>
+    ensures each { IfOk result (λ gates. gates.items ≡ gates_for args.now) }
+    ensures count { IfOk result (λ gates. vec_len gates ≡ args.now.procs) }
 {
     let mut gates = Vec::new(alloc);
-    for p in 0..order.procs {
-        gates.push(Seeded::new(order.seed.wrapping_add(p), order.crash))?;
+    for p in 0..args.procs {
+        gates.push(Seeded::new(args.seed.wrapping_add(p), args.crash))?;
     }
     Ok(gates)
 }
@@ -98,13 +98,13 @@ fn unrun(fault: LabFault) -> CommandFault
 fn counted<T: Threads + Wait + Sync>(
     rt: &T,
     alloc: Global,
-    order: &RunArgs,
+    args: &RunArgs,
 ) -> Result<IndexMap<u64, SenderTally>, CommandFault>
-    ensures { IfErr result (λ fault. status_of fault ≡ 2 → RunFits order.now → ⊥) }
+    ensures { IfErr result (λ fault. status_of fault ≡ 2 → RunFits args.now → ⊥) }
 {
-    let gates = gates_of(alloc, order)?;
-    let result = run_lab(rt, alloc, spec_of(order), gates).map_err(unrun)?;
-    Ok(tallied(alloc, order.procs, &result.messages)?)
+    let gates = gates_of(alloc, args)?;
+    let result = run_lab(rt, alloc, spec_of(args), gates).map_err(unrun)?;
+    Ok(tallied(alloc, args.procs, &result.messages)?)
 }
 
 /// Writes the lines of the tallies.
@@ -125,16 +125,16 @@ fn write_lines<W: Sink>(
 
 /// Runs `run`: the messages in the mailbox are counted, and the counts written. `BadSize`: a number is outside its range.
 /// `Member`: that sender could not go on.
-pub fn run_order<T: Threads + Wait + Sync, W: Sink>(
+pub fn run_command<T: Threads + Wait + Sync, W: Sink>(
     rt: &T,
     alloc: Global,
-    order: &RunArgs,
+    args: &RunArgs,
     w: &mut W,
 ) -> Result<Ending, CommandFault>
-    ensures ends { RunEnds order.now result }
+    ensures ends { RunEnds args.now result }
     ensures ended { IfOk result (IsEnded false (W.tape w.old).failures (W.tape w.new).failures) }
 {
-    let tallies = counted(rt, alloc, order)?;
+    let tallies = counted(rt, alloc, args)?;
     write_lines(alloc, &tallies, w)?;
     Ok(Ending {
         status: status_of_tallies(&tallies),

@@ -1,7 +1,7 @@
 //! `rmelab`: a laboratory of recoverable first-come first-served locks.
 #![tactic(auto)]
 
-pub use cli::arguments::order::Command;
+pub use cli::arguments::args::Command;
 use cli::arguments::words::words_given;
 pub use cli::arguments::words::{WordsFault, read_words};
 use commands::Terminal;

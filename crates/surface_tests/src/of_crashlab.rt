@@ -3,8 +3,8 @@
 ghost use Rattle.crashlab.specs.Hunts.{IsFound};
 
 use crashlab::{
-    At, Both, CrashPlan, HuntFault, Never, Seeded, Variant, VariantWorld, hunt, hunt_watched, shrink,
-    shrink_found,
+    At, Both, CrashPlan, HuntFault, Never, Seeded, Variant, VariantWorld, hunt, hunt_watched,
+    shrink, shrink_found,
 };
 use explorer::Watch;
 use redomail::Layout;

@@ -2,12 +2,12 @@
 //! `main.rt` hands the same five on.
 
 use cli::{
-    Command, DictionaryEntry, ENTRIES, Meaning, Rule, WordsFault, dictionary_entry_named, meaning_of,
-    read_words, tell_all_names, tell_dictionary_entry,
+    Command, DictionaryEntry, ENTRIES, Meaning, Rule, WordsFault, dictionary_entry_named,
+    meaning_of, read_words, tell_all_names, tell_dictionary_entry,
 };
 use commands::command::command;
-use commands::program::{obey, program};
 use commands::folder::Folder;
+use commands::program::{obey, program};
 use commands::{Ending, NoScreen};
 use schedule::{Failed, Sink, Source};
 use std::alloc::Global;

@@ -117,10 +117,7 @@ pub fn close<R: Wait, P: CrashPlan>(
     member.close(rt, plan)
 }
 
-pub fn gathered(
-    alloc: Global,
-    members: Vec<Member>,
-) -> Result<Image, (Vec<Member>, GatherFault)>
+pub fn gathered(alloc: Global, members: Vec<Member>) -> Result<Image, (Vec<Member>, GatherFault)>
     requires { OneArena members.items }
 {
     gather(alloc, members)

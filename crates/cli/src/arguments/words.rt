@@ -5,7 +5,7 @@ ghost use Rattle.cli.specs.declared.explain.dictionary_entry.DictionaryEntry.{Di
 ghost use Rattle.cli.specs.Names.{name_of};
 ghost use Rattle.cli.specs.Sizes.{IsSized, HuntFits, RunFits};
 
-use crate::arguments::order::{
+use crate::arguments::args::{
     Alphabet, Command, DrawArgs, ExploreArgs, HuntArgs, ReplayArgs, RunArgs, ShrinkArgs,
 };
 use crate::arguments::parser::parser;
@@ -25,7 +25,7 @@ pub enum WordsFault {
     /// The help or the version that was asked for. It is printed; the exit status is 0.
     #[error("{text}")]
     Help { text: String },
-    /// The error text of `clap`, or that the words name no topic. It is printed to standard error; the exit status is 2.
+    /// The error text of `clap`, or that the words name no entry. It is printed to standard error; the exit status is 2.
     #[error("{text}")]
     Refused { text: String },
     /// There is no such variant, or it isn't `right` and an image is given; the exit status is 2.
@@ -132,14 +132,14 @@ fn draw_words(alloc: Global, matches: &ArgMatches<'_>) -> Result<DrawArgs, Words
 }
 
 /// The arguments of a hunt, if its numbers are in their ranges.
-fn hunt_of(order: HuntArgs) -> Result<HuntArgs, WordsFault>
-    ensures fits { IsOk result ↔ HuntFits order }
-    ensures same { IfOk result (λ sized. sized ≡ order) }
+fn hunt_of(args: HuntArgs) -> Result<HuntArgs, WordsFault>
+    ensures fits { IsOk result ↔ HuntFits args }
+    ensures same { IfOk result (λ sized. sized ≡ args) }
     ensures size { OnErr result (IsErrOf result WordsFault.BadSize) }
 {
-    let fits = (1..=10_000).contains(&order.rounds) && (1..=10_000).contains(&order.steps);
+    let fits = (1..=10_000).contains(&args.rounds) && (1..=10_000).contains(&args.steps);
     if fits {
-        Ok(order)
+        Ok(args)
     } else {
         Err(WordsFault::BadSize)
     }
@@ -210,17 +210,17 @@ fn explore_words(matches: &ArgMatches<'_>) -> Result<ExploreArgs, WordsFault> {
 }
 
 /// The arguments of a run, if its numbers are in their ranges.
-fn run_of(order: RunArgs) -> Result<RunArgs, WordsFault>
-    ensures fits { IsOk result ↔ RunFits order }
-    ensures same { IfOk result (λ sized. sized ≡ order) }
+fn run_of(args: RunArgs) -> Result<RunArgs, WordsFault>
+    ensures fits { IsOk result ↔ RunFits args }
+    ensures same { IfOk result (λ sized. sized ≡ args) }
     ensures size { OnErr result (IsErrOf result WordsFault.BadSize) }
 {
-    let fits = (1..=16).contains(&order.procs)
-        && (1..=4096).contains(&order.messages)
-        && order.crash <= 50
-        && (1..=8).contains(&order.width);
+    let fits = (1..=16).contains(&args.procs)
+        && (1..=4096).contains(&args.messages)
+        && args.crash <= 50
+        && (1..=8).contains(&args.width);
     if fits {
-        Ok(order)
+        Ok(args)
     } else {
         Err(WordsFault::BadSize)
     }
@@ -238,14 +238,14 @@ fn run_words(matches: &ArgMatches<'_>) -> Result<RunArgs, WordsFault>
     })
 }
 
-/// The error text for words that name no topic.
+/// The error text for words that name no entry.
 fn unnamed(alloc: Global, name: &str) -> Result<String, AllocError> {
     format!(in alloc;
         "error: '{name}' names nothing that is explained\n\nFor more information, try 'rmelab explain'.\n"
     )
 }
 
-/// The topic with this name.
+/// The entry with this name.
 fn dictionary_entry_of(alloc: Global, name: &str) -> Result<DictionaryEntry, WordsFault>
     ensures named { IfOk result (λ dictionary_entry. name_of dictionary_entry ≡ name.now) }
     ensures found { (dictionary_entry : AnyDictionaryEntry) → name_of dictionary_entry ≡ name.now → IsOk result }
@@ -258,7 +258,7 @@ fn dictionary_entry_of(alloc: Global, name: &str) -> Result<DictionaryEntry, Wor
     }
 }
 
-/// The topic that the words name, joined by spaces; none without words.
+/// The entry that the words name, joined by spaces; none without words.
 fn explain_words(
     alloc: Global,
     matches: &ArgMatches<'_>,
@@ -301,7 +301,7 @@ fn refused(alloc: Global, error: &Error) -> Result<WordsFault, AllocError> {
 }
 
 /// Reads the words of a command line. The first word is the program's name. A refusal by `clap` is found first, then a bad
-/// variant, then a bad size. Words of `explain` that name no topic are refused in the same way as by `clap`.
+/// variant, then a bad size. Words of `explain` that name no entry are refused in the same way as by `clap`.
 pub fn read_words(alloc: Global, words: &[String]) -> Result<Command, WordsFault>
     ensures sized { IfOk result IsSized }
 {

@@ -1,4 +1,4 @@
-//! The topics that can be explained, by name.
+//! The entries that can be explained, by name.
 
 ghost use Rattle.std.specs.Prelude.{◌≡◌, ◌≢◌, ◌↔◌, All, IfSome, IsNone, true};
 ghost use Rattle.cli.specs.Names.{name_of};
@@ -10,7 +10,7 @@ use rmecore::{Fault, Found, Kind, Refusal};
 use rmeworld::Answer;
 use schedule::LineFault;
 
-/// A topic that can be explained. A number or a process beside it isn't part of its name.
+/// An entry that can be explained. A number or a process beside it isn't part of its name.
 #[derive(Clone, Copy, Debug, PartialEq, Eq)]
 pub enum DictionaryEntry {
     /// A fault of a line of a text.
@@ -27,7 +27,7 @@ pub enum DictionaryEntry {
     Step(Kind),
 }
 
-/// All topics that can be explained: one for each name.
+/// All entries that can be explained: one for each name.
 pub const ENTRIES: [DictionaryEntry; 74] = [
     DictionaryEntry::Fault(LineFault::NoHeader),
     DictionaryEntry::Fault(LineFault::BadWord),
@@ -105,14 +105,14 @@ pub const ENTRIES: [DictionaryEntry; 74] = [
     DictionaryEntry::Step(Kind::Glance),
 ];
 
-/// Whether the topic has this name.
+/// Whether the entry has this name.
 fn has_name(dictionary_entry: DictionaryEntry, name: &str) -> bool
     ensures { result ≡ true ↔ name_of dictionary_entry ≡ name.now }
 {
     meaning_of(dictionary_entry).name == name
 }
 
-/// The first of these topics with this name.
+/// The first of these entries with this name.
 fn among(dictionary_entries: &[DictionaryEntry], name: &str) -> Option<DictionaryEntry>
     ensures some { IfSome result (λ dictionary_entry. name_of dictionary_entry ≡ name.now) }
     ensures none { IsNone result → All (λ dictionary_entry. name_of dictionary_entry ≢ name.now) dictionary_entries.now }
@@ -125,7 +125,7 @@ fn among(dictionary_entries: &[DictionaryEntry], name: &str) -> Option<Dictionar
     None
 }
 
-/// The topic with this name, if there is one.
+/// The entry with this name, if there is one.
 pub fn dictionary_entry_named(name: &str) -> Option<DictionaryEntry>
     ensures some { IfSome result (λ dictionary_entry. name_of dictionary_entry ≡ name.now) }
     ensures none { IsNone result → (dictionary_entry : DictionaryEntry) → name_of dictionary_entry ≢ name.now }

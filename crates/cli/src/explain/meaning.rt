@@ -1,4 +1,4 @@
-//! The meaning of a topic.
+//! The meaning of an entry.
 
 ghost use Rattle.std.specs.Prelude.{◌≡◌};
 ghost use Rattle.cli.specs.Names.{name_of};
@@ -9,10 +9,10 @@ use crate::explain::refusals::of_refusal;
 use crate::explain::steps::of_kind;
 use crate::explain::texts::{of_judge_fault, of_line_fault, of_rule};
 
-/// The meaning of a topic, for a reader who has met its name.
+/// The meaning of an entry, for a reader who has met its name.
 #[derive(Clone, Copy, Debug, PartialEq, Eq)]
 pub struct Meaning {
-    /// The topic's name.
+    /// The entry's name.
     pub name: &'static str,
     /// Two sentences.
     pub text: &'static str,
@@ -20,7 +20,7 @@ pub struct Meaning {
     pub page: &'static str,
 }
 
-/// The meaning of a topic. Topics with the same name have the same meaning.
+/// The meaning of an entry. Entries with the same name have the same meaning.
 pub fn meaning_of(dictionary_entry: DictionaryEntry) -> Meaning
     ensures { result.name.now ≡ name_of dictionary_entry }
 {

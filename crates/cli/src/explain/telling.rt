@@ -1,4 +1,4 @@
-//! Writes the meanings of topics to a sink.
+//! Writes the meanings of entries to a sink.
 
 ghost use Rattle.std.specs.Prelude.{◌≡◌, ◌+◌, ◌-◌, ◌^◌, min, OnOk, OnErr};
 ghost use Rattle.schedule.specs.Tapes.{Writes};
@@ -23,7 +23,7 @@ fn tell<W: Sink>(meaning: &Meaning, w: &mut W) -> Result<(), Failed>
     write_all(w, b".\n")
 }
 
-/// Writes the meaning of a topic. `Failed`: the sink has failed.
+/// Writes the meaning of an entry. `Failed`: the sink has failed.
 pub fn tell_dictionary_entry<W: Sink>(
     dictionary_entry: DictionaryEntry,
     w: &mut W,
@@ -35,7 +35,7 @@ pub fn tell_dictionary_entry<W: Sink>(
     tell(&meaning, w)
 }
 
-/// Writes the name of each of these topics, one on a line.
+/// Writes the name of each of these entries, one on a line.
 fn tell_names<W: Sink>(dictionary_entries: &[DictionaryEntry], w: &mut W) -> Result<(), Failed>
     ensures told { OnOk result (Writes (W.tape w.old) (W.tape w.new) (list_of dictionary_entries.now)) }
     ensures failed { OnErr result ((W.tape w.new).failures ≡ min ((W.tape w.old).failures + 1) (2 ^ 64 - 1)) }
@@ -47,7 +47,7 @@ fn tell_names<W: Sink>(dictionary_entries: &[DictionaryEntry], w: &mut W) -> Res
     Ok(())
 }
 
-/// Writes the names of all topics, one on a line. `Failed`: the sink has failed.
+/// Writes the names of all entries, one on a line. `Failed`: the sink has failed.
 pub fn tell_all_names<W: Sink>(w: &mut W) -> Result<(), Failed>
     ensures told { OnOk result (Writes (W.tape w.old) (W.tape w.new) (list_of all_dictionary_entries)) }
     ensures failed { OnErr result ((W.tape w.new).failures ≡ min ((W.tape w.old).failures + 1) (2 ^ 64 - 1)) }

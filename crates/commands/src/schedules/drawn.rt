@@ -22,7 +22,7 @@ use crate::schedules::setting::{
     fitting, image_read, image_world, new_judge, new_world, schedule_read, start_at, started_judge,
     variant_world,
 };
-use cli::arguments::order::DrawArgs;
+use cli::arguments::args::DrawArgs;
 use crashlab::Variant;
 use diagram::{Drawing, End, LifelinePhase, Style, draw, write_drawing};
 use judge::{Judge, Start};
@@ -183,37 +183,37 @@ fn draw_image<W: Sink>(
 /// The run of the schedule on the machine that is asked for.
 fn draw_schedule<W: Sink>(
     alloc: Global,
-    order: &DrawArgs,
+    args: &DrawArgs,
     image: Option<Image>,
     schedule: &Schedule,
     w: &mut W,
 ) -> Result<Ending, CommandFault>
     requires { IfSome image IsLawfulImage }
-    ensures draws { TellsSchedule order.now.variant image (Drawn order.now.style) schedule.now (W.tape w.old) (W.tape w.new) result }
-    ensures fine { order.now.variant ≡ Variant.Right → IfOk result (λ ending. ending.status ≡ 0) }
+    ensures draws { TellsSchedule args.now.variant image (Drawn args.now.style) schedule.now (W.tape w.old) (W.tape w.new) result }
+    ensures fine { args.now.variant ≡ Variant.Right → IfOk result (λ ending. ending.status ≡ 0) }
     ensures ended { IfOk result (IsEnded false (W.tape w.old).failures (W.tape w.new).failures) }
 {
-    match (image, order.variant) {
-        (Some(image), _) => draw_image(alloc, image, schedule, order.style, w),
-        (None, Variant::Right) => draw_new(alloc, schedule, order.style, w),
-        (None, variant) => draw_variant(alloc, variant, schedule, order.style, w),
+    match (image, args.variant) {
+        (Some(image), _) => draw_image(alloc, image, schedule, args.style, w),
+        (None, Variant::Right) => draw_new(alloc, schedule, args.style, w),
+        (None, variant) => draw_variant(alloc, variant, schedule, args.style, w),
     }
 }
 
 /// Runs `draw`: reads the image first, then the schedule; then it draws the run and judges it. A fault says what can't be
 /// read, which line the world refuses, or that a device or memory has failed.
-pub fn draw_order<R: Source, W: Sink>(
+pub fn draw_command<R: Source, W: Sink>(
     alloc: Global,
-    order: &DrawArgs,
+    args: &DrawArgs,
     image: Option<&[u8]>,
     r: &mut R,
     w: &mut W,
 ) -> Result<Ending, CommandFault>
-    ensures ends { DrawEnds order.now (option_copied image.entry) (R.reading r.old) (R.reading r.new) (W.tape w.old) (W.tape w.new) result }
+    ensures ends { DrawEnds args.now (option_copied image.entry) (R.reading r.old) (R.reading r.new) (W.tape w.old) (W.tape w.new) result }
     ensures reads { TellsReads (R.reading r.old) (R.reading r.new) result }
     ensures ended { IfOk result (IsEnded false (W.tape w.old).failures (W.tape w.new).failures) }
 {
     let image = image_read(alloc, image)?;
     let schedule = schedule_read(alloc, r)?;
-    draw_schedule(alloc, order, image, &schedule, w)
+    draw_schedule(alloc, args, image, &schedule, w)
 }

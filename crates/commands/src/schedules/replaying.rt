@@ -22,7 +22,7 @@ use crate::schedules::setting::{
     fitting, image_read, image_world, new_judge, new_world, schedule_read, start_at, started_judge,
     variant_world,
 };
-use cli::arguments::order::ReplayArgs;
+use cli::arguments::args::ReplayArgs;
 use crashlab::Variant;
 use diagram::{LifelinePhase, follow};
 use judge::{Judge, Start};
@@ -95,21 +95,21 @@ fn play<M: Machine, W: Sink>(
     judge: &mut Judge,
     schedule: &Schedule,
     first: LifelinePhase,
-    order: &ReplayArgs,
+    args: &ReplayArgs,
     w: &mut W,
 ) -> Result<Verdict, CommandFault>
     ensures played { (start : State) → Keeps judge.old start
         → IfOk result (IsPlayed start (run_on M.behaviour 2 machine.old schedule.now.lines) machine.new
         (W.tape w.old).failures (W.tape w.new).failures) }
-    ensures told { order.now.json ≡ false → (start : State) → Keeps judge.old start
+    ensures told { args.now.json ≡ false → (start : State) → Keeps judge.old start
         → (answer : Result Verdict ReplayFault)
-        × AnswersRun order.now.each M.behaviour M.behaviour.image_of start machine.old first schedule.now (W.tape w.old)
+        × AnswersRun args.now.each M.behaviour M.behaviour.image_of start machine.old first schedule.now (W.tape w.old)
         (W.tape w.new) answer × (result ≡ answer_told answer) }
 {
-    if order.json {
-        return play_object(alloc, machine, judge, schedule, first, order.each, w);
+    if args.json {
+        return play_object(alloc, machine, judge, schedule, first, args.each, w);
     }
-    match report(alloc, machine, judge, schedule, first, order.each, w) {
+    match report(alloc, machine, judge, schedule, first, args.each, w) {
         Ok(verdict) => Ok(verdict),
         Err(fault) => Err(CommandFault::from(fault)),
     }
@@ -144,18 +144,18 @@ fn replay_machine<M: Machine, W: Sink>(
     judge: &mut Judge,
     schedule: &Schedule,
     first: LifelinePhase,
-    order: &ReplayArgs,
+    args: &ReplayArgs,
     w: &mut W,
 ) -> Result<Ending, CommandFault>
     ensures replayed { (start : State) → Keeps judge.old start
         → IfOk result (IsReplayed start (run_on M.behaviour 2 machine.old schedule.now.lines) M.behaviour.image_of
-        (is_some order.now.save) (W.tape w.old).failures (W.tape w.new).failures) }
-    ensures told { order.now.json ≡ false → (start : State) → Keeps judge.old start
-        → Tells (Replayed order.now.each) M.behaviour M.behaviour.image_of start machine.old first schedule.now
+        (is_some args.now.save) (W.tape w.old).failures (W.tape w.new).failures) }
+    ensures told { args.now.json ≡ false → (start : State) → Keeps judge.old start
+        → Tells (Replayed args.now.each) M.behaviour M.behaviour.image_of start machine.old first schedule.now
         (W.tape w.old) (W.tape w.new) result }
 {
-    let verdict = play(alloc, machine, judge, schedule, first, order, w)?;
-    let save = saved(alloc, machine, order.save.is_some())?;
+    let verdict = play(alloc, machine, judge, schedule, first, args, w)?;
+    let save = saved(alloc, machine, args.save.is_some())?;
     Ok(Ending {
         status: status_after_verdict(verdict),
         save,
@@ -166,13 +166,13 @@ fn replay_machine<M: Machine, W: Sink>(
 fn replay_new<W: Sink>(
     alloc: Global,
     schedule: &Schedule,
-    order: &ReplayArgs,
+    args: &ReplayArgs,
     w: &mut W,
 ) -> Result<Ending, CommandFault>
     ensures fine { IfOk result (λ ending. ending.status ≡ 0) }
     ensures last { IfOk result (λ ending. IfSome ending.save (λ image. IsLast schedule.now image.items)) }
-    ensures told { order.now.json ≡ false → TellsNew (Replayed order.now.each) schedule.now (W.tape w.old) (W.tape w.new) result }
-    ensures ended { IfOk result (IsEnded (is_some order.now.save) (W.tape w.old).failures (W.tape w.new).failures) }
+    ensures told { args.now.json ≡ false → TellsNew (Replayed args.now.each) schedule.now (W.tape w.old) (W.tape w.new) result }
+    ensures ended { IfOk result (IsEnded (is_some args.now.save) (W.tape w.old).failures (W.tape w.new).failures) }
 {
     worlds_are_never_found_out();
     let mut world = new_world(alloc, schedule)?;
@@ -183,7 +183,7 @@ fn replay_new<W: Sink>(
         &mut judge,
         schedule,
         LifelinePhase::Rest,
-        order,
+        args,
         w,
     )
 }
@@ -193,17 +193,17 @@ fn replay_image<W: Sink>(
     alloc: Global,
     image: Image,
     schedule: &Schedule,
-    order: &ReplayArgs,
+    args: &ReplayArgs,
     w: &mut W,
 ) -> Result<Ending, CommandFault>
     requires { IsLawfulImage image }
     ensures fine { IfOk result (λ ending. ending.status ≡ 0) }
-    ensures told { order.now.json ≡ false → TellsImage image (Replayed order.now.each) schedule.now (W.tape w.old) (W.tape w.new) result }
-    ensures ended { IfOk result (IsEnded (is_some order.now.save) (W.tape w.old).failures (W.tape w.new).failures) }
+    ensures told { args.now.json ≡ false → TellsImage image (Replayed args.now.each) schedule.now (W.tape w.old) (W.tape w.new) result }
+    ensures ended { IfOk result (IsEnded (is_some args.now.save) (W.tape w.old).failures (W.tape w.new).failures) }
 {
     let image = fitting(alloc, image, schedule)?;
     let start = start_at(alloc, &image)?;
-    replay_started(alloc, &image, &start, schedule, order, w)
+    replay_started(alloc, &image, &start, schedule, args, w)
 }
 
 /// Plays the schedule on the world of an image, with a judge that starts in the state of the image.
@@ -212,16 +212,16 @@ fn replay_started<W: Sink>(
     image: &Image,
     start: &Start,
     schedule: &Schedule,
-    order: &ReplayArgs,
+    args: &ReplayArgs,
     w: &mut W,
 ) -> Result<Ending, CommandFault>
     requires lawful { IsLawfulImage image.now }
     requires begins { IsStartOf image.now start.now }
     requires judged { IsStart start.now }
     ensures fine { IfOk result (λ ending. ending.status ≡ 0) }
-    ensures told { order.now.json ≡ false → Tells (Replayed order.now.each) world_behaviour image_of (state_of start.now)
+    ensures told { args.now.json ≡ false → Tells (Replayed args.now.each) world_behaviour image_of (state_of start.now)
         (world_of_image image.now) LifelinePhase.Dead schedule.now (W.tape w.old) (W.tape w.new) result }
-    ensures ended { IfOk result (IsEnded (is_some order.now.save) (W.tape w.old).failures (W.tape w.new).failures) }
+    ensures ended { IfOk result (IsEnded (is_some args.now.save) (W.tape w.old).failures (W.tape w.new).failures) }
 {
     worlds_are_never_found_out();
     let mut world = image_world(alloc, image)?;
@@ -232,7 +232,7 @@ fn replay_started<W: Sink>(
         &mut judge,
         schedule,
         LifelinePhase::Dead,
-        order,
+        args,
         w,
     )
 }
@@ -241,14 +241,14 @@ fn replay_started<W: Sink>(
 fn replay_variant<W: Sink>(
     alloc: Global,
     schedule: &Schedule,
-    order: &ReplayArgs,
+    args: &ReplayArgs,
     w: &mut W,
 ) -> Result<Ending, CommandFault>
-    ensures told { order.now.json ≡ false → TellsVariant order.now.variant (Replayed order.now.each) schedule.now
+    ensures told { args.now.json ≡ false → TellsVariant args.now.variant (Replayed args.now.each) schedule.now
         (W.tape w.old) (W.tape w.new) result }
-    ensures ended { IfOk result (IsEnded (is_some order.now.save) (W.tape w.old).failures (W.tape w.new).failures) }
+    ensures ended { IfOk result (IsEnded (is_some args.now.save) (W.tape w.old).failures (W.tape w.new).failures) }
 {
-    let mut world = variant_world(alloc, order.variant, schedule)?;
+    let mut world = variant_world(alloc, args.variant, schedule)?;
     let mut judge = new_judge(alloc, schedule)?;
     replay_machine(
         alloc,
@@ -256,7 +256,7 @@ fn replay_variant<W: Sink>(
         &mut judge,
         schedule,
         LifelinePhase::Rest,
-        order,
+        args,
         w,
     )
 }
@@ -264,23 +264,23 @@ fn replay_variant<W: Sink>(
 /// Plays the schedule on the machine that is asked for.
 fn replay_schedule<W: Sink>(
     alloc: Global,
-    order: &ReplayArgs,
+    args: &ReplayArgs,
     image: Option<Image>,
     schedule: &Schedule,
     w: &mut W,
 ) -> Result<Ending, CommandFault>
     requires { IfSome image IsLawfulImage }
-    ensures fine { order.now.variant ≡ Variant.Right → IfOk result (λ ending. ending.status ≡ 0) }
-    ensures last { order.now.variant ≡ Variant.Right → is_some image ≡ false
+    ensures fine { args.now.variant ≡ Variant.Right → IfOk result (λ ending. ending.status ≡ 0) }
+    ensures last { args.now.variant ≡ Variant.Right → is_some image ≡ false
         → IfOk result (λ ending. IfSome ending.save (λ image. IsLast schedule.now image.items)) }
-    ensures told { order.now.json ≡ false → TellsSchedule order.now.variant image (Replayed order.now.each) schedule.now
+    ensures told { args.now.json ≡ false → TellsSchedule args.now.variant image (Replayed args.now.each) schedule.now
         (W.tape w.old) (W.tape w.new) result }
-    ensures ended { IfOk result (IsEnded (is_some order.now.save) (W.tape w.old).failures (W.tape w.new).failures) }
+    ensures ended { IfOk result (IsEnded (is_some args.now.save) (W.tape w.old).failures (W.tape w.new).failures) }
 {
-    match (image, order.variant) {
-        (Some(image), _) => replay_image(alloc, image, schedule, order, w),
-        (None, Variant::Right) => replay_new(alloc, schedule, order, w),
-        (None, _) => replay_variant(alloc, schedule, order, w),
+    match (image, args.variant) {
+        (Some(image), _) => replay_image(alloc, image, schedule, args, w),
+        (None, Variant::Right) => replay_new(alloc, schedule, args, w),
+        (None, _) => replay_variant(alloc, schedule, args, w),
     }
 }
 
@@ -305,26 +305,23 @@ fn replay_plain<R: Source, W: Sink>(
 
 /// Runs `replay`: reads the image first, then the schedule; then it plays the schedule to its verdict. A fault says what
 /// can't be read, which line the world refuses, or that a device or memory has failed.
-pub fn replay_order<R: Source, W: Sink>(
+pub fn replay_command<R: Source, W: Sink>(
     alloc: Global,
-    order: &ReplayArgs,
+    args: &ReplayArgs,
     image: Option<&[u8]>,
     r: &mut R,
     w: &mut W,
 ) -> Result<Ending, CommandFault>
-    ensures ends { ReplayEnds order.now (option_copied image.entry) (R.reading r.old) (R.reading r.new) (W.tape w.old)
+    ensures ends { ReplayEnds args.now (option_copied image.entry) (R.reading r.old) (R.reading r.new) (W.tape w.old)
         (W.tape w.new) result }
-    ensures ended { IfOk result (IsEnded (is_some order.now.save) (W.tape w.old).failures (W.tape w.new).failures) }
+    ensures ended { IfOk result (IsEnded (is_some args.now.save) (W.tape w.old).failures (W.tape w.new).failures) }
 {
-    let plain = order.variant == Variant::Right
-        && !order.json
-        && !order.each
-        && order.save.is_none();
+    let plain = args.variant == Variant::Right && !args.json && !args.each && args.save.is_none();
     if image.is_none() && plain {
         return replay_plain(alloc, r, w);
     }
     let image = image_read(alloc, image)?;
     let schedule = schedule_read(alloc, r)?;
-    let ending = replay_schedule(alloc, order, image, &schedule, w)?;
+    let ending = replay_schedule(alloc, args, image, &schedule, w)?;
     Ok(ending)
 }

@@ -11,7 +11,7 @@ ghost use Rattle.commands.specs.Statuses.{status_of};
 use crate::schedules::ending::Ending;
 use crate::schedules::fault::CommandFault;
 use crate::schedules::setting::schedule_read;
-use cli::arguments::order::ShrinkArgs;
+use cli::arguments::args::ShrinkArgs;
 use crashlab::{Variant, shrink};
 use schedule::texts::device::write_all;
 use schedule::{Schedule, Sink, Source, Verdict, put_verdict, write_schedule};
@@ -77,16 +77,16 @@ fn shrink_schedule<W: Sink>(
 
 /// Runs `shrink`: reads the schedule, plays it on the variant, and shrinks it if the verdict is against. A fault says what
 /// can't be read, which line the world refuses, or that a device or memory has failed.
-pub fn shrink_order<R: Source, W: Sink>(
+pub fn shrink_command<R: Source, W: Sink>(
     alloc: Global,
-    order: &ShrinkArgs,
+    args: &ShrinkArgs,
     r: &mut R,
     w: &mut W,
 ) -> Result<Ending, CommandFault>
-    ensures ends { ShrinkEnds order.now (R.reading r.old) (R.reading r.new) (W.tape w.old) (W.tape w.new) result }
+    ensures ends { ShrinkEnds args.now (R.reading r.old) (R.reading r.new) (W.tape w.old) (W.tape w.new) result }
     ensures reads { TellsReads (R.reading r.old) (R.reading r.new) result }
     ensures ended { IfOk result (IsEnded false (W.tape w.old).failures (W.tape w.new).failures) }
 {
     let schedule = schedule_read(alloc, r)?;
-    shrink_schedule(alloc, order.variant, &schedule, w)
+    shrink_schedule(alloc, args.variant, &schedule, w)
 }

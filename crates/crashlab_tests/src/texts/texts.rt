@@ -96,10 +96,7 @@ fn traces(rt: HostRuntime) -> Result<(), Fail> {
                 rt.alloc(),
                 b"trace 1 procs 2 cap 1\nbegin 0\nready 0\nbegin 1\nready 1\nenter 1\nentr 1\n"
             ),
-            Err(TextFault::At {
-                line: 7,
-                number: 2
-            })
+            Err(TextFault::At { line: 7, number: 2 })
         )
     );
     Ok(())

@@ -1,7 +1,7 @@
 //! The command lines that spell a command.
 
 use crate::arguments::kit::words_of;
-use cli::arguments::order::{Command, HuntArgs, ReplayArgs, RunArgs};
+use cli::arguments::args::{Command, HuntArgs, ReplayArgs, RunArgs};
 use cli::arguments::words::{WordsFault, read_words};
 use crashlab::Variant;
 use std::alloc::Global;
@@ -10,7 +10,7 @@ use std::test::Fail;
 #[test]
 fn a_replay_of_standard_input(rt: HostRuntime) -> Result<(), Fail> {
     let words = words_of(rt.alloc(), "rmelab replay")?;
-    let Ok(Command::Replay(order)) = read_words(rt.alloc(), &words) else {
+    let Ok(Command::Replay(args)) = read_words(rt.alloc(), &words) else {
         panic!(&rt; "no replay");
     };
     let plain = ReplayArgs {
@@ -21,7 +21,7 @@ fn a_replay_of_standard_input(rt: HostRuntime) -> Result<(), Fail> {
         save: None,
         file: None,
     };
-    assert_eq!(rt; order, plain);
+    assert_eq!(rt; args, plain);
     Ok(())
 }
 
@@ -29,7 +29,7 @@ fn a_replay_of_standard_input(rt: HostRuntime) -> Result<(), Fail> {
 fn a_hunt(rt: HostRuntime) -> Result<(), Fail> {
     let line = "rmelab hunt --variant last-skipped --seed 1 --rounds 10000 --steps 10000";
     let words = words_of(rt.alloc(), line)?;
-    let Ok(Command::Hunt(order)) = read_words(rt.alloc(), &words) else {
+    let Ok(Command::Hunt(args)) = read_words(rt.alloc(), &words) else {
         panic!(&rt; "no hunt");
     };
     let longest = HuntArgs {
@@ -39,7 +39,7 @@ fn a_hunt(rt: HostRuntime) -> Result<(), Fail> {
         steps: 10_000,
         shrink: false,
     };
-    assert_eq!(rt; order, longest);
+    assert_eq!(rt; args, longest);
     Ok(())
 }
 
@@ -49,7 +49,7 @@ fn runs(rt: HostRuntime) -> Result<(), Fail> {
     let wide = "rmelab run --procs 16 --messages 4096 --crash 50 --seed 7 --width 8";
     for (line, width) in [(narrow, 1), (wide, 8)] {
         let words = words_of(rt.alloc(), line)?;
-        let Ok(Command::Run(order)) = read_words(rt.alloc(), &words) else {
+        let Ok(Command::Run(args)) = read_words(rt.alloc(), &words) else {
             panic!(&rt; "no run: {line}");
         };
         let greatest = RunArgs {
@@ -59,7 +59,7 @@ fn runs(rt: HostRuntime) -> Result<(), Fail> {
             seed: 7,
             width,
         };
-        assert_eq!(rt; order, greatest);
+        assert_eq!(rt; args, greatest);
     }
     Ok(())
 }
@@ -88,7 +88,7 @@ const WRONG_VARIANTS: [&str; 6] = [
 #[test]
 fn variants_beside_an_image(rt: HostRuntime) -> Result<(), Fail> {
     let alloc = rt.alloc();
-    for order in ["replay", "draw"] {
+    for args in ["replay", "draw"] {
         for variant in &WRONG_VARIANTS {
             let alone = format!(in alloc; "rmelab {order} --variant {variant}")?;
             assert_eq!(rt; answered(alloc, &alone)?, "a command", "{alone}");
@@ -112,11 +112,11 @@ fn right_beside_an_image(rt: HostRuntime) -> Result<(), Fail> {
     ];
     for line in lines {
         let words = words_of(rt.alloc(), line)?;
-        let Ok(Command::Replay(order)) = read_words(rt.alloc(), &words) else {
+        let Ok(Command::Replay(args)) = read_words(rt.alloc(), &words) else {
             panic!(&rt; "no replay: {line}");
         };
-        assert!(rt; order.variant == Variant::Right, "{line}");
-        assert_eq!(rt; order.image.as_deref(), Some("a.json"), "{line}");
+        assert!(rt; args.variant == Variant::Right, "{line}");
+        assert_eq!(rt; args.image.as_deref(), Some("a.json"), "{line}");
     }
     Ok(())
 }

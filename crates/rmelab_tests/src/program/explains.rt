@@ -1,4 +1,4 @@
-//! What `explain` prints: the names of all topics, one topic of each kind, and words that name none.
+//! What `explain` prints: the names of all entries, one entry of each kind, and words that name none.
 
 use crate::support::fake::Failing;
 use crate::support::invocation::all_come_to;
@@ -142,7 +142,7 @@ fn explanations(rt: HostRuntime) -> Result<(), Fail> {
     all_come_to(&rt, rt.alloc(), &rows)
 }
 
-/// What is printed for words that name no topic.
+/// What is printed for words that name no entry.
 pub const NO_NAME: &str = "error: 'fault 7' names nothing that is explained
 
 For more information, try 'rmelab explain'.

@@ -1,7 +1,7 @@
 //! Senders on threads.
 
 use crate::support::invocation::prints;
-use cli::arguments::order::RunArgs;
+use cli::arguments::args::RunArgs;
 use commands::running::{gates_of, lines_of, status_of_tallies};
 use commands::tally::tallied;
 use crashlab::{CrashPlan, Seeded};
@@ -31,14 +31,14 @@ fn four_senders_of_wide_messages(rt: HostRuntime) -> Result<(), Fail> {
 /// The crashes of sender p are drawn from the seed and p.
 #[test]
 fn each_sender_has_the_next_seed(rt: HostRuntime) -> Result<(), Fail> {
-    let order = RunArgs {
+    let args = RunArgs {
         procs: 3,
         messages: 1,
         crash: 500,
         seed: 7,
         width: 1,
     };
-    let mut gates = gates_of(rt.alloc(), &order)?;
+    let mut gates = gates_of(rt.alloc(), &args)?;
     assert_eq!(rt; gates.len(), 3);
     let mut seed = 7u64;
     for gate in gates.iter_mut() {

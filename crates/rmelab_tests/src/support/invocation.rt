@@ -141,7 +141,7 @@ pub fn comes_to_alone(
 ) -> Result<(), Fail> {
     let line = row.line;
     let words = words_of(alloc, line)?;
-    let Ok(order) = read_words(alloc, &words) else {
+    let Ok(args) = read_words(alloc, &words) else {
         return Err(Fail::new(format_args!("{line}: no command")));
     };
     let (name, text) = row.files[0];
@@ -153,7 +153,7 @@ pub fn comes_to_alone(
     let mut source = Text::new(row.input.as_bytes(), 64);
     let mut out = Page::new(alloc);
     let mut err = Page::new(alloc);
-    let ending = command(rt, alloc, &order, image, &mut source, &mut out, &mut err);
+    let ending = command(rt, alloc, &args, image, &mut source, &mut out, &mut err);
     wrote(line, "the writer", out.as_slice(), row.printed)?;
     wrote(line, "the second writer", err.as_slice(), row.told)?;
     let (asked, saved) = row.saved;

@@ -1,4 +1,4 @@
--- the name of each topic is that of a listed one
+-- the name of each entry is that of a listed one
 use Rattle.cli.proofs.Listed.{nowhere}
 use Rattle.cli.proofs.explain.dictionary_entry.dictionary_entry_named.Goals as goal
 

@@ -109,7 +109,7 @@ pub enum Command {
     Judge(Option<String>),
     Draw(DrawArgs),
     Shrink(ShrinkArgs),
-    /// Prints what this topic means; without one, the names of all topics.
+    /// Prints what this entry means; without one, the names of all entries.
     Explain(Option<DictionaryEntry>),
 }
 
@@ -121,10 +121,10 @@ impl Command {
         ensures { option_copied result ≡ input_of self.now }
     {
         match self {
-            Command::Replay(order) => order.file.as_ref(),
+            Command::Replay(args) => args.file.as_ref(),
             Command::Judge(file) => file.as_ref(),
-            Command::Draw(order) => order.file.as_ref(),
-            Command::Shrink(order) => order.file.as_ref(),
+            Command::Draw(args) => args.file.as_ref(),
+            Command::Shrink(args) => args.file.as_ref(),
             _ => None,
         }
     }
@@ -134,8 +134,8 @@ impl Command {
         ensures { option_copied result ≡ image_of self.now }
     {
         match self {
-            Command::Replay(order) => order.image.as_ref(),
-            Command::Draw(order) => order.image.as_ref(),
+            Command::Replay(args) => args.image.as_ref(),
+            Command::Draw(args) => args.image.as_ref(),
             _ => None,
         }
     }
@@ -145,7 +145,7 @@ impl Command {
         ensures { option_copied result ≡ save_of self.now }
     {
         match self {
-            Command::Replay(order) => order.save.as_ref(),
+            Command::Replay(args) => args.save.as_ref(),
             _ => None,
         }
     }

@@ -12,8 +12,8 @@ use Rattle.explorer.specs.Paths.{HasMoreStates, IsNumberOfStates}
 use Rattle.schedule.specs.Words.{line_of}
 use Rattle.crashlab.specs.declared.variant.Variant.TheVariants.{Right}
 use Rattle.crashlab.specs.declared.space.moves.Move.{Move}
-use Rattle.lock_explorer.specs.GlobalStateWords.{global_state_words}
-use Rattle.crashlab.specs.Spaces.{first_global_state, line_by, rules}
+use Rattle.crashlab.specs.SearchStateWords.{search_state_words}
+use Rattle.crashlab.specs.Spaces.{first_search_state, line_by, rules}
 use Rattle.lock_explorer.specs.Finding.{IsFoundIn, IsLeast, NoneOfAtMost, NoneIsFound}
 use Rattle.commands.specs.declared.schedules.ending.Ending.{Ending}
 use Rattle.commands.specs.declared.schedules.fault.CommandFault.{CommandFault}
@@ -77,7 +77,7 @@ pub record TellsNoneWithin (args : ExploreArgs) (before now : Tape) : Type 0 whe
 pub record TellsNone (args : ExploreArgs) (before now : Tape) : Type 0 where
   pub none : NoneIsFound args.variant (layout_of args) args.limit args.crashes (calls_of args)
   pub states : ℕ
-  pub number : IsNumberOfStates (rules global_state_words) (first_global_state args.variant (layout_of args) args.limit args.crashes (calls_of args)) states
+  pub number : IsNumberOfStates (rules search_state_words) (first_search_state args.variant (layout_of args) args.limit args.crashes (calls_of args)) states
   pub text : Writes before now (all_line states)
 
 -- no world has these sizes, or no value has this width
@@ -86,7 +86,7 @@ IsNoSize args = (new_refusal (layout_of args) args.limit ≡ None → ⊥) ⊎ (
 
 -- there are more states than may be kept, and nothing was written
 pub record HasTooMany (args : ExploreArgs) (before now : Tape) : Type 0 where
-  pub more : HasMoreStates (rules global_state_words) (first_global_state args.variant (layout_of args) args.limit args.crashes (calls_of args)) args.states
+  pub more : HasMoreStates (rules search_state_words) (first_search_state args.variant (layout_of args) args.limit args.crashes (calls_of args)) args.states
   pub silent : Silent before now
 
 -- how `explore` ends

@@ -1,6 +1,6 @@
 //! The items of `robust`: the running lock.
 
-ghost use Rattle.robust.specs.Gathering.{OneArena};
+ghost use Rattle.execution.specs.Gathering.{OneArena};
 
 use crashlab::CrashPlan;
 use redomail::{Message, Reply};

@@ -4,6 +4,7 @@
 #include "rme.h"
 
 #include <errno.h>
+#include <stdatomic.h>
 #include <fcntl.h>
 #include <sched.h>
 #include <stdio.h>
@@ -23,11 +24,11 @@ _Static_assert(sizeof(_Atomic uint64_t) == 8 && sizeof(struct rme_header) <= RME
 /* The access that the machine has named. A word that the block does not have reads 0, and no store goes there. */
 static inline uint64_t take(const struct rme_seat *s, const struct rme_access *access)
 {
-    if (access->place >= s->count)
+    if (access->place >= s->header->words)
         return 0;
     if (access->store == 0)
-        return atomic_load(&s->words[access->place]);
-    atomic_store(&s->words[access->place], access->value);
+        return __atomic_load_n(&s->words[access->place], __ATOMIC_SEQ_CST);
+    __atomic_store_n(&s->words[access->place], access->value, __ATOMIC_SEQ_CST);
     return 0;
 }
 
@@ -49,7 +50,7 @@ static void rest(uint64_t turn)
  * RME_LOAD on the machine tells a lock word of 64 processes at most: they lie in the page behind the header's. */
 static inline __attribute__((always_inline)) uint64_t finish(struct rme_seat *s, struct rme_access *access, uint64_t turns)
 {
-    const _Atomic uint64_t *words = s->words - RME_LOAD;
+    const _Atomic uint64_t *words = (_Atomic uint64_t *)s->words - RME_LOAD;
     uint64_t turn = 0, told;
     for (;; rest(turn++)) {
         do {
@@ -152,7 +153,7 @@ int rme_put(struct rme_seat *s, uint64_t i, uint64_t word)
 uint64_t rme_read_from(const struct rme_seat *s, uint64_t place, struct rme_message *messages, uint64_t room)
 {
     const struct rme_header *h = s->header;
-    const _Atomic uint64_t *data = s->words + 3 * h->procs, *entry;
+    const _Atomic uint64_t *data = (_Atomic uint64_t *)s->words + 3 * h->procs, *entry;
     uint64_t count = atomic_load(&data[2]), copied = 0;
     for (; place < count && place < h->cap && copied < room; place++, copied++) {
         entry = data + 10 + h->width + h->procs + (2 + h->width) * place;
@@ -166,15 +167,17 @@ uint64_t rme_read_from(const struct rme_seat *s, uint64_t place, struct rme_mess
 /* ---- the file ---- */
 
 /* A whole file under a name of its own, which then gets this name in one step, unless there is one. */
-int rme_create(const char *path, uint64_t procs, uint64_t cap, uint64_t width)
+int rme_create(const char *path, uint64_t procs, uint64_t cap, uint64_t width, uint64_t data_bytes)
 {
     const struct rme_header header = {
-        .magic = RME_MAGIC, .version = RME_VERSION, .header = RME_HEADER, .words = rme_words(procs, cap, width),
+        .magic = RME_MAGIC, .format = RME_FORMAT, .header = RME_HEADER, .words = rme_words(procs, cap, width),
         .procs = procs, .cap = cap, .width = width, .limit = RME_LIMIT,
     };
     if (header.words == 0)
         return EINVAL;
     char name[4096];
+    if (data_bytes)
+        return ENOSYS;
     if (snprintf(name, sizeof name, "%s.XXXXXX", path) >= (int)sizeof name)
         return ENAMETOOLONG;
     int file = mkostemp(name, O_CLOEXEC);
@@ -195,7 +198,7 @@ static int check(const struct rme_header *header, uint64_t length, uint64_t inde
 {
     if (length < sizeof *header || header->magic != RME_MAGIC)
         return EBADMSG;
-    if (header->version != RME_VERSION || header->header != RME_HEADER || header->limit != RME_LIMIT)
+    if (header->format != RME_FORMAT || header->header != RME_HEADER || header->limit != RME_LIMIT)
         return EPROTO;
     if (header->words == 0 || header->words != rme_words(header->procs, header->cap, header->width))
         return EPROTO;
@@ -233,9 +236,8 @@ static int open_seat(struct rme_seat *s, uint64_t index)
     if (page == MAP_FAILED)
         return errno;
     s->header = page;
-    s->words = (_Atomic uint64_t *)((char *)page + RME_HEADER);
-    s->count = header.words;
-    s->crashed = atomic_exchange(&s->header->seats[index], 1) != 0;
+    s->words = (uint64_t *)((char *)page + RME_HEADER);
+    s->crashed = __atomic_exchange_n(&s->header->marks[index], 1, __ATOMIC_SEQ_CST) != 0;
     uint64_t refused = rme_init(&s->machine, header.procs, header.cap, header.width, header.limit, index);
     if (s->crashed)
         rme_crash(&s->machine);
@@ -260,10 +262,29 @@ int rme_detach(struct rme_seat *s)
     struct rme_access access;
     uint64_t refused = rme_start(&s->machine, &calls[RME_UNLOCK], &access);
     if (refused == RME_NOT_OWNER)
-        atomic_store(&s->header->seats[s->machine.index], 0);
+        __atomic_store_n(&s->header->marks[s->machine.index], 0, __ATOMIC_SEQ_CST);
     munmap(s->header, s->length);
     close(s->file);
     memset(s, 0, sizeof *s);
     s->file = -1;
     return refused == RME_NOT_OWNER ? 0 : EBUSY;
 }
+
+/* ---- not there yet ---- */
+
+#pragma GCC diagnostic ignored "-Wunused-parameter"
+int rme_attach_within(struct rme_seat *s, const char *path, uint64_t index, uint64_t ms) { return ENOSYS; }
+int rme_inspect(struct rme_seat *s, const char *path) { return ENOSYS; }
+int rme_lock_reaping(struct rme_seat *s, uint64_t turns, rme_repair *repair, void *context) { return ENOSYS; }
+int rme_blocker(struct rme_seat *s, uint64_t *index, bool *alive) { return ENOSYS; }
+void *rme_data(const struct rme_seat *s, size_t *bytes) { return NULL; }
+int rme_reap(const char *path, uint64_t index, rme_repair *repair, void *context) { return ENOSYS; }
+int rme_reap_all(const char *path, rme_repair *repair, void *context, uint64_t *reaped) { return ENOSYS; }
+bool rme_crashed(const struct rme_seat *s) { return s->crashed; }
+int rme_reaped(const struct rme_seat *s) { return s->reaped; }
+int rme_file_status(const struct rme_seat *s, struct rme_file *status) { return ENOSYS; }
+int rme_index_status(const struct rme_seat *s, uint64_t index, struct rme_index *status) { return ENOSYS; }
+uint64_t rme_copy_words(const struct rme_seat *s, uint64_t *words, uint64_t room) { return 0; }
+size_t rme_seat_size(void) { return sizeof(struct rme_seat); }
+const char *rme_version(void) { return RME_VERSION; }
+const char *rme_strerror(int error) { return strerror(error); }

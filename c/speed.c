@@ -39,7 +39,7 @@ int main(int count, char **word)
     int processes = atoi(word[2]), seats = atoi(word[3]), status, bad = 0;
     long rounds = atol(word[4]);
     char path[] = "/dev/shm/rme-speed.XXXXXX";
-    if (mkstemp(path) < 0 || unlink(path) || rme_create(path, (uint64_t)seats, 1, 1))
+    if (mkstemp(path) < 0 || unlink(path) || rme_create(path, (uint64_t)seats, 1, 1, 0))
         return 3;
     pthread_mutex_t *mutex = mmap(NULL, 4096, PROT_READ | PROT_WRITE, MAP_SHARED | MAP_ANONYMOUS, -1, 0);
     pthread_mutexattr_t kind;

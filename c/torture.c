@@ -70,9 +70,9 @@ static void files(void)
 {
     struct rme_seat seat, other;
     expect("no file", rme_attach(&seat, path, 0), ENOENT);
-    expect("sizes of no world", rme_create(path, 65, 4, 1), EINVAL);
-    expect("create", rme_create(path, 2, 4, 1), 0);
-    expect("create again", rme_create(path, 2, 4, 1), EEXIST);
+    expect("sizes of no world", rme_create(path, 65, 4, 1, 0), EINVAL);
+    expect("create", rme_create(path, 2, 4, 1, 0), 0);
+    expect("create again", rme_create(path, 2, 4, 1, 0), EEXIST);
     expect("no such index", rme_attach(&seat, path, 2), EINVAL);
     expect("attach", rme_attach(&seat, path, 0), 0);
     expect("a living process", rme_attach(&other, path, 0), EBUSY);
@@ -144,7 +144,7 @@ static void creates(unsigned rounds)
     for (unsigned i = 0; i < rounds; i++) {
         pid_t child = fork();
         if (child == 0)
-            _exit(rme_create(path, 4, 65536, 8));
+            _exit(rme_create(path, 4, 65536, 8, 0));
         nap(drand48() * 0.003);
         kill(child, SIGKILL);
         waitpid(child, NULL, 0);
@@ -382,7 +382,7 @@ int main(int count, char **word)
         fail("mmap", errno);
     files();
     creates(200);
-    expect("create", rme_create(path, senders, senders * messages, WIDTH), 0);
+    expect("create", rme_create(path, senders, senders * messages, WIDTH, 0), 0);
     uint64_t kills = torment(atof(word[4]));
     struct rme_seat seat;
     expect("attach at the end", rme_attach(&seat, path, 0), 0);

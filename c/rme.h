@@ -1,130 +1,255 @@
-/* A recoverable first-come first-served lock and its mailbox, between processes that may really die. docs/use/c.md says what is
+/* A recoverable first-come first-served lock with a mailbox, between processes that may really die. docs/c.md says what is
  * proved of it, what is trusted, and how a supervisor starts a process again.
  *
- * Two layers. The machine (librme_c.a, proved): which shared word a process loads or stores next, and what that was. The
- * shim (rme.c, not proved): takes each access that the machine names, and keeps the file. */
+ * Two layers, both in librme. The machine (proved): which shared word a process loads or stores next, and what that was. The shim
+ * (not proved): makes each access that the machine names and waits (rme.c), keeps the file (file.c), and recovers for the dead
+ * (reap.c). */
 #ifndef RME_H
 #define RME_H
 
-#include <stdatomic.h>
+#include "rme_machine.h"
 #include <stdbool.h>
-#include <stddef.h>
-#include <stdint.h>
 
-/* ---- the machine: crates/rme_c. Its structs are plain numbers, which C keeps and hands back. ---- */
+#ifdef __cplusplus
+extern "C" {
+#endif
 
-/* The private memory of a process. Its fields are the machine's own: whatever numbers stand here, no call of the machine
- * goes wrong, and numbers that no call has left stand for a process that has crashed. */
-struct rme_process {
-    uint64_t procs, cap, width, limit, index;
-    uint64_t position[4];
-    uint64_t unmended, barred, steps;
-    uint64_t value[8];
-};
+/* ---- the file that processes share ----
+ *
+ * A page with the header; a page with a cache line for each process, that begins with its three lock words and the set of those
+ * who sleep on one of them; the data words; from the next multiple of 64 bytes on the caller's own data. */
 
-struct rme_call {
-    uint64_t code, number, value[8];
-};
-
-/* The next load (store is 0) or store of the word at `place`; behind an answer `value` is the board word answered. */
-struct rme_access {
-    uint64_t store, place, value;
-};
-
-enum rme_code {
-    RME_LOCK = 1, RME_UNLOCK, RME_CONSISTENT, RME_RECOVER, RME_APPEND, RME_CLOSE, RME_GET, RME_PUT, RME_WITHDRAW
-};
-
-/* Why nothing was done: the number that rme_init, rme_start and rme_next answer. 0: it was done. */
-enum rme_refusal {
-    RME_BAD_PROCS = 1, RME_BAD_LIMIT, RME_NO_SUCH_PROCESS, RME_CALL_UNDER_WAY, RME_NOT_OWNER, RME_ALREADY_IN,
-    RME_NOTHING_TO_DO, RME_BAD_CAP, RME_NOT_INCONSISTENT = 10, RME_UNMENDED = 12, RME_BAD_INDEX, RME_NOT_WAITING,
-    RME_BAD_WIDTH
-};
-
-/* What rme_feed answers: RME_LOAD and the place of the word that comes next, which is loaded (the access shown is as before);
- * 0 the call goes on with the access shown, RME_NOTHING_TO_DO, RME_BLOCKED (the word shown is read again), or how the call
- * ended. */
-enum rme_answer {
-    RME_BLOCKED = 16, RME_CLEAN, RME_OWNER_DIED, RME_NUMBERS_SPENT, RME_NOT_RECOVERABLE, RME_UNLOCKED, RME_WITHDRAWN,
-    RME_FOUND_IDLE, RME_FOUND_LEFT, RME_FOUND_DOORWAY, RME_FOUND_WAITING, RME_FOUND_INSIDE,
-    RME_STORED, RME_ALREADY, RME_OUT_OF_ORDER, RME_FULL, RME_CLOSED, RME_CLOSED_NOW, RME_ALREADY_CLOSED,
-    RME_MENDED, RME_NOTHING_TO_MEND, RME_WORD, RME_DONE,
-    RME_LOAD = 64
-};
-
-uint64_t rme_words(uint64_t procs, uint64_t cap, uint64_t width);
-uint64_t rme_init(struct rme_process *, uint64_t procs, uint64_t cap, uint64_t width, uint64_t limit, uint64_t index);
-void rme_crash(struct rme_process *);
-uint64_t rme_start(struct rme_process *, const struct rme_call *, struct rme_access *);
-uint64_t rme_next(const struct rme_process *, struct rme_access *);
-uint64_t rme_feed(struct rme_process *, uint64_t value, struct rme_access *);
-uint64_t rme_step_count(const struct rme_process *);
-
-/* The rule that copied words break first, from 2 to 9 (docs/dev/texts.md); or one of these. It alone takes memory. */
-enum rme_rule { RME_LAWFUL = 0, RME_NO_BLOCK = 1, RME_NO_MEMORY = 16 };
-uint64_t rme_content_rule(const uint64_t *words, size_t count, uint64_t procs, uint64_t cap, uint64_t width, uint64_t limit);
-
-/* ---- the shim: a file that processes share ---- */
-
+#define RME_VERSION "1.0.0" /* of the library */
 #define RME_MAGIC UINT64_C(0x31656d7265726d65)
-#define RME_VERSION UINT64_C(1)
+#define RME_FORMAT UINT64_C(2) /* of the file */
 #define RME_HEADER 4096
 #define RME_LIMIT (UINT64_C(1) << 62)
 
-/* The first page of the file; the words follow. `seats` are 1 from the first attach of an index on, and 0 again behind an
- * orderly rme_detach: whoever attaches to one that is 1 comes back from a crash. */
+/* `marks` are 0 at rest; 1 (RME_ATTACHED) from an attach on until an orderly rme_detach, so whoever attaches to one that is 1
+ * comes back from a crash; and what a reaper found there (RME_FOUND_..) times 256. */
+enum { RME_ATTACHED = 1, RME_REAPED = 256 };
 struct rme_header {
-    uint64_t magic, version, header, words, procs, cap, width, limit;
-    _Atomic uint64_t seats[64];
+    uint64_t magic, format, header, words, procs, cap, width, limit, data_bytes;
+    uint64_t marks[64];
 };
 
-/* One living process at its index. */
+/* One living process at its index, or a file that is looked at. A program only makes room for it: rme_attach and rme_inspect
+ * fill it, whatever stood there; a second of them on a seat that is attached loses the first, whose index stays taken until the
+ * process ends. All zeros are a seat that is not attached. */
 struct rme_seat {
     struct rme_process machine;
-    struct rme_header *header;
-    _Atomic uint64_t *words;
-    uint64_t count, length;
-    int file;
-    bool crashed; /* an earlier process with this index has died */
+    struct rme_header *header; /* null: not attached */
+    uint64_t *lines, *words, *state; /* of each process eight words; the data words; whether a call is under way */
+    uint64_t *blocked_at; /* the set of those who sleep where it waited last */
+    uint64_t count, length, data_bytes, turn, yields, naps, pauses;
+    int file, reaped;
+    bool crashed, astray, asleep;
 };
 
 struct rme_message {
     uint64_t sender, number, value[8];
 };
 
-/* Each call answers 0 or an error number:
- *
- *     rme_create       EEXIST it is there (nothing is changed), EINVAL sizes of no world, or open's, write's and link's
- *     rme_attach       EBUSY a living process has this index, EINVAL no such index, EBADMSG no file of this kind,
- *                      EPROTO of another version or another size, or open's and mmap's
- *     rme_lock         EOWNERDEAD inside again: this index died inside; call rme_consistent. ENOTRECOVERABLE the lock is
- *                      ruined. EDEADLK inside already. EOVERFLOW the numbers are spent
- *     rme_lock_within  those, and ETIMEDOUT: so many blocked readings; it keeps its place, and the next lock waits on
- *     rme_unlock       EPERM not inside. Without rme_consistent behind EOWNERDEAD it ruins the lock
- *     rme_consistent   EINVAL nothing to mend, EPERM not inside, ENOTRECOVERABLE
- *     rme_recover      0, and what it found (RME_FOUND_..)
- *     rme_withdraw     EINVAL it does not wait: it gives up the place behind ETIMEDOUT
- *     rme_append       0 stored, EALREADY it was there, EINVAL not the next number, ENOSPC full, EPIPE closed, EPERM not
- *                      inside, EOWNERDEAD not mended yet
- *     rme_close        0, EALREADY, EPERM, EOWNERDEAD
- *     rme_get, rme_put 0, EPERM, EINVAL no such word of the board (0 to 3)
- *     rme_read_from    how many messages it has copied, from this place on; it needs no lock
- *
- * A seat is used by one thread at a time. */
-int rme_create(const char *path, uint64_t procs, uint64_t cap, uint64_t width);
-int rme_attach(struct rme_seat *, const char *path, uint64_t index);
-int rme_detach(struct rme_seat *);
-int rme_lock(struct rme_seat *);
-int rme_lock_within(struct rme_seat *, uint64_t turns);
-int rme_unlock(struct rme_seat *);
-int rme_consistent(struct rme_seat *);
-int rme_recover(struct rme_seat *, int *found);
-int rme_withdraw(struct rme_seat *);
-int rme_append(struct rme_seat *, uint64_t number, const uint64_t *value);
-int rme_close(struct rme_seat *);
-int rme_get(struct rme_seat *, uint64_t i, uint64_t *word);
-int rme_put(struct rme_seat *, uint64_t i, uint64_t word);
-uint64_t rme_read_from(const struct rme_seat *, uint64_t place, struct rme_message *, uint64_t room);
+/* How a file stands, each number read by itself: they are of one moment only where all processes have stopped. */
+struct rme_file {
+    uint64_t procs, cap, width, limit, words, data_bytes;
+    uint64_t count, closed, ruined;
+};
 
+/* How an index stands: its lock words, and what rme_recover would find of them (RME_FOUND_.., 0 none of them). */
+enum rme_life { RME_ABSENT = 0, RME_ALIVE, RME_DEAD, RME_IN_REAPING };
+struct rme_index {
+    uint64_t choosing, number, inside;
+    int found;
+    int life;   /* no process is attached; one is; one died and nobody has its place; a reaper acts for it */
+    int reaped; /* as rme_reaped answers after the next attach */
+};
+
+/* What the caller's own data need after the process `index` died inside: it acts as that process, inside, with the lock's data
+ * area. 0: repaired. Any other answer: they are lost, and the lock is ruined for all. It may be killed and called again, so it
+ * must be able to start anew. It may use rme_get, rme_put and rme_read_from of `dead`, and must neither detach nor unlock it. */
+typedef int rme_repair(struct rme_seat *dead, uint64_t index, void *data, size_t data_bytes, void *context);
+
+/* Each call answers 0 or one of its errors, unless it says `Answers`. Each call with a seat has these errors too:
+ *     EINVAL  the seat is not attached in this process (in a child of fork it can only look), or a pointer that is needed is null
+ *     EBUSY   a call with this seat is under way: in another thread, or in the one that this signal handler has interrupted; or,
+ *             but for locks, rme_blocker, rme_withdraw, rme_read_from and rme_detach: its lock was left after ETIMEDOUT
+ *     EBADMSG the words are none that this library leaves, and the call named one that is not there; nothing is stored there
+ * A seat is used by one thread at a time. No call with a seat is a point of cancellation, and cancellation is off in the others;
+ * none may be left by longjmp or asynchronous cancellation. Cutting the file short while it is mapped ends in SIGBUS. */
+
+/* Makes the file, whole, under this name: for procs processes (1 to 64), cap messages (1 to 65,536, which nothing ever takes out
+ * again) of width words (1 to 8), and data_bytes bytes of the caller's own, all 0. Its mode is 0600.
+ * Errors:
+ *     EEXIST       there is such a name already, on a full or read-only disk too; nothing is changed
+ *     EINVAL       sizes out of range
+ *     EFBIG        data_bytes is too great
+ *     ENAMETOOLONG the name is too long
+ *     and those of open, posix_fallocate, write and linkat */
+int rme_create(const char *path, uint64_t procs, uint64_t cap, uint64_t width, uint64_t data_bytes);
+
+/* Takes the index in the file. The index is this process's (and its children's, until they close the file, call exec or end)
+ * until rme_detach or its end. A file that is replaced under its name later is another lock: whoever is attached stays with the
+ * old one, and no call can see that. Never replace one that is in use.
+ * Errors:
+ *     EBUSY   a living process has this index, or a reaper acts for it
+ *     EINVAL  no such index
+ *     EBADMSG no file of this kind: another magic number, or cut short
+ *     EPROTO  of another format, or its sizes do not fit
+ *     ESTALE  another file has taken its name meanwhile
+ *     and those of open, fstat, pread, fcntl and mmap */
+int rme_attach(struct rme_seat *seat, const char *path, uint64_t index);
+
+/* The same, and waits for a reaper that acts for the index to be done, for so many milliseconds.
+ * Errors:
+ *     EBUSY     a living process has this index
+ *     ETIMEDOUT a reaper still acts for it
+ *     and the others of rme_attach */
+int rme_attach_within(struct rme_seat *seat, const char *path, uint64_t index, uint64_t milliseconds);
+
+/* Opens the file for looking: nothing in it is changed, and read permission is enough. Such a seat has no index; it can
+ * rme_read_from, rme_data (which must not be written), rme_file_status, rme_index_status, rme_copy_words and rme_detach.
+ * Errors: those of rme_attach but EBUSY */
+int rme_inspect(struct rme_seat *seat, const char *path);
+
+/* Gives the index back and closes the file. The seat is not attached any more, but after EINVAL of a null pointer and EBUSY of a
+ * call under way. In a child of fork it closes the child's share of the file, and answers EINVAL.
+ * Errors:
+ *     EBUSY   it was inside, in line, or an earlier process of the index had died there: this counts as a crash, and the next
+ *             attach comes back from it */
+int rme_detach(struct rme_seat *seat);
+
+/* Waits for its turn and enters. A lock left after ETIMEDOUT goes on in its place. It is not recursive.
+ * Errors:
+ *     EOWNERDEAD      inside, again: an earlier process of this index died inside. Mend, then rme_consistent
+ *     ENOTRECOVERABLE the lock is ruined; not inside
+ *     EDEADLK         inside already
+ *     EOVERFLOW       the numbers are spent; not inside */
+int rme_lock(struct rme_seat *seat);
+
+/* The same, for so many blocked readings: short ones at first, then sleeps of at most a millisecond.
+ * Errors:
+ *     ETIMEDOUT still not inside: it keeps its place in line; rme_lock.. goes on, rme_withdraw gives the place up
+ *     and those of rme_lock */
+int rme_lock_within(struct rme_seat *seat, uint64_t turns);
+
+/* rme_lock that reaps the dead who block it: after so many blocked readings, and where it sleeps every 20 milliseconds at the
+ * latest, it looks whether the process that blocks it lives. After an error of the reaping it keeps its place, as after ETIMEDOUT.
+ * Errors: those of rme_lock, and of fcntl */
+int rme_lock_reaping(struct rme_seat *seat, uint64_t turns, rme_repair *repair, void *context);
+
+/* After ETIMEDOUT: the process that was waited for at last, and whether it lives (or a reaper acts for it). Either may be null.
+ * Errors:
+ *     EINVAL it does not wait
+ *     and those of fcntl */
+int rme_blocker(struct rme_seat *seat, uint64_t *index, bool *alive);
+
+/* Gives up the place in line after ETIMEDOUT.
+ * Errors:
+ *     EINVAL it does not wait */
+int rme_withdraw(struct rme_seat *seat);
+
+/* Leaves. Without rme_consistent after EOWNERDEAD it ruins the lock for all.
+ * Errors:
+ *     EPERM not inside */
+int rme_unlock(struct rme_seat *seat);
+
+/* Inside after EOWNERDEAD: what the dead one left half done in the mailbox is ended, and the lock counts as mended.
+ * Errors:
+ *     EINVAL          nothing to mend
+ *     EPERM           not inside
+ *     ENOTRECOVERABLE the lock is ruined */
+int rme_consistent(struct rme_seat *seat);
+
+/* Says where an earlier process of this index stood: *found (may be null) gets RME_FOUND_... It waits for nobody. After
+ * RME_FOUND_INSIDE this process is inside, as after EOWNERDEAD; after RME_FOUND_DOORWAY and RME_FOUND_WAITING it still blocks
+ * others, until it has locked.
+ * Errors:
+ *     EDEADLK inside already */
+int rme_recover(struct rme_seat *seat, int *found);
+
+/* Stores a message, of width words at value, as this process's next. The numbers of a process go 1, 2, 3 ...
+ * Errors:
+ *     EALREADY   the message with this number is there already
+ *     EINVAL     not the next number, or value is null
+ *     ENOSPC     full
+ *     EPIPE      closed
+ *     EPERM      not inside
+ *     EOWNERDEAD not mended yet */
+int rme_append(struct rme_seat *seat, uint64_t number, const uint64_t *value);
+
+/* Closes the mailbox: nothing is appended any more.
+ * Errors:
+ *     EALREADY   it was closed
+ *     EPERM      not inside
+ *     EOWNERDEAD not mended yet */
+int rme_close(struct rme_seat *seat);
+
+/* Reads word i (0 to 3) of the board; *word may not be null.
+ * Errors:
+ *     EINVAL no such word
+ *     EPERM  not inside */
+int rme_get(struct rme_seat *seat, uint64_t i, uint64_t *word);
+
+/* Writes word i (0 to 3) of the board.
+ * Errors:
+ *     EINVAL no such word
+ *     EPERM  not inside */
+int rme_put(struct rme_seat *seat, uint64_t i, uint64_t word);
+
+/* Answers how many messages it has copied, at most room, from the one at this place (the first is 0) on; 0 also where the seat is
+ * not attached. It needs no lock. */
+uint64_t rme_read_from(const struct rme_seat *seat, uint64_t place, struct rme_message *messages, uint64_t room);
+
+/* Answers the caller's own data in the file, at a multiple of 64; *bytes (may be null) gets their length. Null and 0 where there
+ * are none or the seat is not attached. The lock guards them: inside alone they may be touched. */
+void *rme_data(const struct rme_seat *seat, size_t *bytes);
+
+/* Gives up the place of a process that died and is not started again, as that process would: where it died inside, repair (if not
+ * null) is called with context, the mailbox is mended, and it leaves; else it gives up its place in line. It waits for nobody, and
+ * whoever is killed in here leaves the place to the next.
+ * Errors:
+ *     ESRCH           nothing to do: nobody died here since the last rme_detach or reaping
+ *     EBUSY           a living process has this index, or another reaper acts for it
+ *     ENOTRECOVERABLE its place is given up, but the lock is ruined: it was, or repair said so
+ *     EBADMSG         no file of this kind, or its words are none that this library leaves
+ *     and the others of rme_attach */
+int rme_reap(const char *path, uint64_t index, rme_repair *repair, void *context);
+
+/* The same for each index; *reaped (may be null) gets how many places were given up. ESRCH and EBUSY of an index are no errors.
+ * Errors: those of rme_reap, the first that an index had; the others are reaped all the same */
+int rme_reap_all(const char *path, rme_repair *repair, void *context, uint64_t *reaped);
+
+/* Answers whether an earlier process of this index died, and nobody has given up its place: true from the attach on. */
+bool rme_crashed(const struct rme_seat *seat);
+
+/* Answers where a reaper found an earlier process of this index that had died (RME_FOUND_..), or 0 where none was reaped since
+ * the last attach: RME_FOUND_INSIDE says that what it was doing inside was ended or repaired by another. */
+int rme_reaped(const struct rme_seat *seat);
+
+/* How the file stands. */
+int rme_file_status(const struct rme_seat *seat, struct rme_file *status);
+
+/* How an index stands: who is alive is told by its lease, which is not taken for that.
+ * Errors:
+ *     EINVAL no such index
+ *     and those of fcntl */
+int rme_index_status(const struct rme_seat *seat, uint64_t index, struct rme_index *status);
+
+/* Answers how many words it has copied, at most room: the block as rme_content_rule and rmelab's images have it, the lock words
+ * of each process and then the data words. They are of one moment only where all processes have stopped. */
+uint64_t rme_copy_words(const struct rme_seat *seat, uint64_t *words, uint64_t room);
+
+/* Answers sizeof (struct rme_seat), for callers that do not read this file. */
+size_t rme_seat_size(void);
+
+/* Answers the library's version, as RME_VERSION. */
+const char *rme_version(void);
+
+/* Answers what an error of these calls says, in words of the lock; else what strerror says. */
+const char *rme_strerror(int error);
+
+#ifdef __cplusplus
+}
+#endif
 #endif

@@ -17,7 +17,7 @@ int main(int count, char **word)
     if (count < 5)
         return 2;
     uint64_t index = strtoull(word[3], NULL, 10), last = 0;
-    rme_create(word[1], strtoull(word[2], NULL, 10), 1024, 1); /* EEXIST: it is there already */
+    rme_create(word[1], strtoull(word[2], NULL, 10), 1024, 1, 0); /* EEXIST: it is there already */
     int error = rme_attach(&seat, word[1], index);
     if (error) {
         fprintf(stderr, "attach: %s\n", strerror(error));

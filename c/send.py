@@ -27,7 +27,7 @@ def say(index, text):
 
 file, procs, index, messages = sys.argv[1].encode(), *map(int, sys.argv[2:5])
 seat = ctypes.create_string_buffer(4096)  # struct rme_seat is smaller
-rme.rme_create(file, WORD(procs), WORD(1024), WORD(1))
+rme.rme_create(file, WORD(procs), WORD(1024), WORD(1), WORD(0))
 error = rme.rme_attach(seat, file, WORD(index))
 if error:
     sys.exit(f"attach: {os.strerror(error)}")

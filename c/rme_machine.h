@@ -1,0 +1,68 @@
+/* The machine of one process: which shared word it loads or stores next, and what that was. It is proved (crates/rme_c) and
+ * stands in librme. Its structs are plain numbers, which C keeps and hands back. */
+#ifndef RME_MACHINE_H
+#define RME_MACHINE_H
+
+#include <stddef.h>
+#include <stdint.h>
+
+#ifdef __cplusplus
+extern "C" {
+#endif
+
+/* The private memory of a process. Its fields are the machine's own: whatever numbers stand here, no call of the machine
+ * goes wrong, and numbers that no call has left are those of a process that has crashed. */
+struct rme_process {
+    uint64_t procs, cap, width, limit, index;
+    uint64_t position[4];
+    uint64_t unmended, barred, steps;
+    uint64_t value[8];
+};
+
+struct rme_call {
+    uint64_t code, number, value[8];
+};
+
+/* The next load (store is 0) or store of the word at `place`; after an answer `value` is the board word answered. */
+struct rme_access {
+    uint64_t store, place, value;
+};
+
+enum rme_code {
+    RME_LOCK = 1, RME_UNLOCK, RME_CONSISTENT, RME_RECOVER, RME_APPEND, RME_CLOSE, RME_GET, RME_PUT, RME_WITHDRAW
+};
+
+/* Why nothing was done: the number that rme_init, rme_start and rme_next answer. 0: it was done. */
+enum rme_refusal {
+    RME_BAD_PROCS = 1, RME_BAD_LIMIT, RME_NO_SUCH_PROCESS, RME_CALL_UNDER_WAY, RME_NOT_OWNER, RME_ALREADY_IN,
+    RME_NOTHING_TO_DO, RME_BAD_CAP, RME_NOT_INCONSISTENT = 10, RME_UNMENDED = 12, RME_BAD_INDEX, RME_NOT_WAITING,
+    RME_BAD_WIDTH
+};
+
+/* What rme_feed answers: RME_LOAD and the place of the word that comes next, which is loaded (the access shown is as before);
+ * 0 the call goes on with the access shown, RME_NOTHING_TO_DO, RME_BLOCKED (the word shown is read again), or how the call
+ * ended. */
+enum rme_answer {
+    RME_BLOCKED = 16, RME_CLEAN, RME_OWNER_DIED, RME_NUMBERS_SPENT, RME_NOT_RECOVERABLE, RME_UNLOCKED, RME_WITHDRAWN,
+    RME_FOUND_IDLE, RME_FOUND_LEFT, RME_FOUND_DOORWAY, RME_FOUND_WAITING, RME_FOUND_INSIDE,
+    RME_STORED, RME_ALREADY, RME_OUT_OF_ORDER, RME_FULL, RME_CLOSED, RME_CLOSED_NOW, RME_ALREADY_CLOSED,
+    RME_MENDED, RME_NOTHING_TO_MEND, RME_WORD, RME_DONE,
+    RME_LOAD = 64
+};
+
+uint64_t rme_words(uint64_t procs, uint64_t cap, uint64_t width);
+uint64_t rme_init(struct rme_process *, uint64_t procs, uint64_t cap, uint64_t width, uint64_t limit, uint64_t index);
+void rme_crash(struct rme_process *);
+uint64_t rme_start(struct rme_process *, const struct rme_call *, struct rme_access *);
+uint64_t rme_next(const struct rme_process *, struct rme_access *);
+uint64_t rme_feed(struct rme_process *, uint64_t value, struct rme_access *);
+uint64_t rme_step_count(const struct rme_process *);
+
+/* The rule that copied words break first, from 2 to 9 (docs/texts.md); or one of these. It alone takes memory. */
+enum rme_rule { RME_LAWFUL = 0, RME_NO_BLOCK = 1, RME_NO_MEMORY = 16 };
+uint64_t rme_content_rule(const uint64_t *words, size_t count, uint64_t procs, uint64_t cap, uint64_t width, uint64_t limit);
+
+#ifdef __cplusplus
+}
+#endif
+#endif

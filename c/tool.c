@@ -216,9 +216,10 @@ static int reap_one(const struct view *v, const char *path, uint64_t p, bool ask
         fprintf(stderr, "rme: process %" PRIu64 " died inside; what it guards may need repair: see --no-repair\n", p);
         return 1;
     }
+    struct rme_index after;
     int error = rme_reap(path, p, no_repair ? NULL : leave_it, NULL);
-    if (error == 0 || error == ENOTRECOVERABLE)
-        printf("process %" PRIu64 ": reaped, was %s%s\n", p, stands(i->found), error ? ", the lock is ruined" : "");
+    if ((error == 0 || error == ENOTRECOVERABLE) && rme_index_status(&v->seat, p, &after) == 0)
+        printf("process %" PRIu64 ": reaped, was %s%s\n", p, stands(after.reaped), error ? ", the lock is ruined" : "");
     else if (asked || (error != ESRCH && error != EBUSY))
         return refuse(path, error);
     return 0;

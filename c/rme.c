@@ -1,69 +1,131 @@
-/* The shim: takes each access that the machine names, as one sequentially consistent load or store, and keeps the file that
- * processes share. Nothing here is proved. */
+/* The shim: makes each access that the machine names, as one sequentially consistent load or store, and waits. Nothing here is
+ * proved. */
 #define _GNU_SOURCE
-#include "rme.h"
+#include "shim.h"
 
 #include <errno.h>
-#include <stdatomic.h>
-#include <fcntl.h>
+#include <limits.h>
+#include <linux/futex.h>
 #include <sched.h>
-#include <stdio.h>
-#include <stdlib.h>
-#include <string.h>
-#include <sys/mman.h>
-#include <sys/stat.h>
+#include <sys/syscall.h>
 #include <time.h>
 #include <unistd.h>
 
-_Static_assert(sizeof(struct rme_process) == 20 * 8, "the machine's numbers are u64, one behind the other");
+_Static_assert(sizeof(struct rme_process) == 20 * 8, "the machine's numbers are u64, one after the other");
 _Static_assert(sizeof(struct rme_call) == 10 * 8 && sizeof(struct rme_access) == 3 * 8, "so are those of a call");
-_Static_assert(sizeof(_Atomic uint64_t) == 8 && sizeof(struct rme_header) <= RME_HEADER, "a word is one atomic u64");
+_Static_assert(__atomic_always_lock_free(8, 0), "a word is one atomic u64");
 
 /* ---- accesses ---- */
 
-/* The access that the machine has named. A word that the block does not have reads 0, and no store goes there. */
-static inline uint64_t take(const struct rme_seat *s, const struct rme_access *access)
+/* A futex has 32 bits: the lower half of a word. */
+static void futex(uint64_t *word, int operation, uint32_t value, const struct timespec *most)
 {
-    if (access->place >= s->header->words)
+    syscall(SYS_futex, (uint32_t *)word + (__BYTE_ORDER__ == __ORDER_BIG_ENDIAN__), operation, value, most, NULL, 0);
+}
+
+/* The access that the machine has named. A word that the block does not have reads 0, and no store goes there: only words that no
+ * call leaves lead the machine to it. All waiting is for lock words to become 0: who sleeps on one is woken then. */
+static inline uint64_t take(struct rme_seat *s, const struct rme_access *access)
+{
+    const uint64_t locks = 3 * s->machine.procs, place = access->place;
+    if (place >= s->count) {
+        s->astray = true;
         return 0;
+    }
+    uint64_t *word = place < locks ? lock_word(s, place) : s->words + (place - locks);
     if (access->store == 0)
-        return __atomic_load_n(&s->words[access->place], __ATOMIC_SEQ_CST);
-    __atomic_store_n(&s->words[access->place], access->value, __ATOMIC_SEQ_CST);
+        return load(word);
+    store(word, access->value);
+    if (access->value == 0 && place < locks && load(sleepers_on(s, place)) != 0)
+        futex(word, FUTEX_WAKE, INT_MAX, NULL);
     return 0;
 }
 
-static void rest(uint64_t turn)
+/* ---- waiting ---- */
+
+#ifndef MOST_PAUSES
+#define MOST_PAUSES 2000
+#endif
+#ifndef LEAST_PAUSES
+#define LEAST_PAUSES 64
+#endif
+#ifndef YIELDS
+#define YIELDS 64
+#endif
+#ifndef ALONE
+#define ALONE 2000
+#endif
+
+static uint64_t nanoseconds(void)
 {
-    if (turn < 64) {
+    struct timespec now;
+    clock_gettime(CLOCK_MONOTONIC, &now);
+    return (uint64_t)now.tv_sec * 1000000000 + (uint64_t)now.tv_nsec;
+}
+
+static void stop_sleeping(struct rme_seat *s)
+{
+    if (s->asleep_at)
+        __atomic_fetch_and(s->asleep_at, ~(UINT64_C(1) << s->machine.index), __ATOMIC_SEQ_CST);
+    s->asleep_at = NULL;
+}
+
+/* Who stores 0 sees the bit, or else the kernel sees the 0 here and does not sleep. The time is for those who die between their
+ * store and their waking. */
+static void sleep_on(struct rme_seat *s, uint64_t place, uint64_t seen, uint64_t milliseconds)
+{
+    const struct timespec most = {0, (long)milliseconds * 1000000};
+    if (s->asleep_at != sleepers_on(s, place)) {
+        stop_sleeping(s);
+        s->asleep_at = sleepers_on(s, place);
+        __atomic_fetch_or(s->asleep_at, UINT64_C(1) << s->machine.index, __ATOMIC_SEQ_CST);
+    }
+    futex(lock_word(s, place), FUTEX_WAIT, (uint32_t)seen, &most);
+}
+
+/* After a blocked reading: pauses, then lets others run, then sleeps. A yield that comes back at once says that a processor is
+ * free: then more pauses cost nothing. */
+static void rest(struct rme_seat *s, uint64_t place, uint64_t seen, uint64_t longest)
+{
+    if (s->turn++ < s->pauses + LEAST_PAUSES) {
 #if defined(__x86_64__) || defined(__i386__)
         __builtin_ia32_pause();
 #endif
-    } else if (turn < 4096) {
+    } else if (s->yields++ < YIELDS) {
+        uint64_t before = nanoseconds();
         sched_yield();
+        if (nanoseconds() - before > ALONE)
+            s->pauses /= 2;
+        else if (s->pauses < MOST_PAUSES)
+            s->pauses = 2 * s->pauses + LEAST_PAUSES;
     } else {
-        const struct timespec nap = {0, 50000};
-        nanosleep(&nap, NULL);
+        uint64_t most = UINT64_C(1) << (s->naps < 7 ? s->naps++ : 7);
+        sleep_on(s, place, seen, most < longest ? most : longest);
     }
 }
 
 /* Takes the steps of the call under way, from this access on, to its answer, or to so many blocked readings and one more. From
- * RME_LOAD on the machine tells a lock word of 64 processes at most: they lie in the page behind the header's. */
-static inline __attribute__((always_inline)) uint64_t finish(struct rme_seat *s, struct rme_access *access, uint64_t turns)
+ * RME_LOAD on the machine tells the place of a lock word. */
+static inline __attribute__((always_inline)) uint64_t finish(struct rme_seat *s, struct rme_access *access, uint64_t turns,
+                                                             uint64_t longest)
 {
-    const _Atomic uint64_t *words = (_Atomic uint64_t *)s->words - RME_LOAD;
-    uint64_t turn = 0, told;
-    for (;; rest(turn++)) {
+    uint64_t told, seen;
+    for (;; rest(s, access->place, seen, longest)) {
         do {
-            told = rme_feed(&s->machine, take(s, access), access);
+            told = rme_feed(&s->machine, seen = take(s, access), access);
             while (told >= RME_LOAD)
-                told = rme_feed(&s->machine, atomic_load(&words[told]), access);
+                told = rme_feed(&s->machine, seen = load(lock_word(s, told - RME_LOAD)), access);
         } while (told == 0);
-        if (told != RME_BLOCKED || turn >= turns)
-            return told;
+        if (told != RME_BLOCKED || turns-- == 0)
+            break;
     }
+    stop_sleeping(s);
+    if (told != RME_BLOCKED)
+        s->turn = s->yields = s->naps = 0;
+    return told;
 }
 
-static int error_of(uint64_t told)
+int rme_error_of(uint64_t told)
 {
     switch (told) {
     case RME_CLEAN: case RME_UNLOCKED: case RME_WITHDRAWN: case RME_STORED: case RME_CLOSED_NOW: case RME_MENDED:
@@ -84,207 +146,110 @@ static int error_of(uint64_t told)
     }
 }
 
-static uint64_t call(struct rme_seat *s, const struct rme_call *asked, uint64_t *word)
+/* ---- calls ---- */
+
+int rme_begin_call(struct rme_seat *s)
+{
+    uint64_t was = FREE;
+    if (!s || !s->header || !s->state)
+        return EINVAL;
+    if (__atomic_compare_exchange_n(s->state, &was, BUSY, false, __ATOMIC_ACQUIRE, __ATOMIC_RELAXED))
+        return 0;
+    return was == BUSY ? EBUSY : EINVAL;
+}
+
+int rme_end_call(struct rme_seat *s, int error)
+{
+    if (s->astray)
+        error = EBADMSG;
+    s->astray = false;
+    __atomic_store_n(s->state, FREE, __ATOMIC_RELEASE);
+    return error;
+}
+
+/* A call that is never blocked; *got (may be null) is the board word that it has read, or else what the machine told. */
+static int call(struct rme_seat *s, const struct rme_call *asked, uint64_t *got)
 {
     struct rme_access access;
+    int error = rme_begin_call(s);
+    if (error)
+        return error;
     uint64_t told = rme_start(&s->machine, asked, &access);
     if (told == 0)
-        told = finish(s, &access, UINT64_MAX);
-    if (word && told == RME_WORD)
-        *word = access.value;
-    return told;
+        told = finish(s, &access, 0, 0);
+    if (got)
+        *got = told == RME_WORD ? access.value : told;
+    return rme_end_call(s, rme_error_of(told));
 }
 
 /* The calls that have a code alone. */
-static const struct rme_call calls[] = {
+static const struct rme_call plain[] = {
     [RME_LOCK] = {.code = RME_LOCK}, [RME_UNLOCK] = {.code = RME_UNLOCK}, [RME_CONSISTENT] = {.code = RME_CONSISTENT},
     [RME_RECOVER] = {.code = RME_RECOVER}, [RME_CLOSE] = {.code = RME_CLOSE}, [RME_WITHDRAW] = {.code = RME_WITHDRAW},
 };
 
-static uint64_t plain(struct rme_seat *s, enum rme_code code) { return call(s, &calls[code], NULL); }
-
-/* ---- calls ---- */
-
-/* A lock that was given up behind ETIMEDOUT is under way still: it goes on where it waited. */
-int rme_lock_within(struct rme_seat *s, uint64_t turns)
+/* A lock that was left after ETIMEDOUT is under way still: it goes on where it waited. */
+uint64_t rme_take_lock(struct rme_seat *s, uint64_t turns, uint64_t longest)
 {
     struct rme_access access;
-    uint64_t told = rme_start(&s->machine, &calls[RME_LOCK], &access);
+    uint64_t told = rme_start(&s->machine, &plain[RME_LOCK], &access);
     if (told == RME_CALL_UNDER_WAY)
         told = rme_next(&s->machine, &access);
-    return error_of(told ? told : finish(s, &access, turns));
+    return told ? told : finish(s, &access, turns, longest);
 }
 
-int rme_lock(struct rme_seat *s) { return rme_lock_within(s, UINT64_MAX); }
-int rme_unlock(struct rme_seat *s) { return error_of(plain(s, RME_UNLOCK)); }
-int rme_consistent(struct rme_seat *s) { return error_of(plain(s, RME_CONSISTENT)); }
-int rme_withdraw(struct rme_seat *s) { return error_of(plain(s, RME_WITHDRAW)); }
-int rme_close(struct rme_seat *s) { return error_of(plain(s, RME_CLOSE)); }
+static int lock(struct rme_seat *s, uint64_t turns, uint64_t longest)
+{
+    int error = rme_begin_call(s);
+    return error ? error : rme_end_call(s, rme_error_of(rme_take_lock(s, turns, longest)));
+}
+
+int rme_lock(struct rme_seat *s) { return lock(s, UINT64_MAX, 100); }
+int rme_lock_within(struct rme_seat *s, uint64_t turns) { return lock(s, turns, 1); }
+int rme_unlock(struct rme_seat *s) { return call(s, &plain[RME_UNLOCK], NULL); }
+int rme_consistent(struct rme_seat *s) { return call(s, &plain[RME_CONSISTENT], NULL); }
+int rme_withdraw(struct rme_seat *s) { return call(s, &plain[RME_WITHDRAW], NULL); }
+int rme_close(struct rme_seat *s) { return call(s, &plain[RME_CLOSE], NULL); }
 
 int rme_recover(struct rme_seat *s, int *found)
 {
-    uint64_t told = plain(s, RME_RECOVER);
-    if (found)
+    uint64_t told = 0;
+    int error = call(s, &plain[RME_RECOVER], &told);
+    if (found && !error)
         *found = (int)told;
-    return error_of(told);
+    return error;
 }
 
 int rme_append(struct rme_seat *s, uint64_t number, const uint64_t *value)
 {
     struct rme_call asked = {.code = RME_APPEND, .number = number};
+    if (!s || !value)
+        return EINVAL;
     for (uint64_t j = 0; j < s->machine.width && j < 8; j++)
         asked.value[j] = value[j];
-    return error_of(call(s, &asked, NULL));
+    return call(s, &asked, NULL);
 }
 
 int rme_get(struct rme_seat *s, uint64_t i, uint64_t *word)
 {
-    const struct rme_call asked = {.code = RME_GET, .number = i};
-    return error_of(call(s, &asked, word));
+    uint64_t got = 0;
+    int error = word ? call(s, &(struct rme_call){.code = RME_GET, .number = i}, &got) : EINVAL;
+    if (!error)
+        *word = got;
+    return error;
 }
 
 int rme_put(struct rme_seat *s, uint64_t i, uint64_t word)
 {
-    const struct rme_call asked = {.code = RME_PUT, .number = i, .value = {word}};
-    return error_of(call(s, &asked, NULL));
+    return call(s, &(struct rme_call){.code = RME_PUT, .number = i, .value = {word}}, NULL);
 }
 
-/* Count first, then entries below it: they never change once count has passed them. */
-uint64_t rme_read_from(const struct rme_seat *s, uint64_t place, struct rme_message *messages, uint64_t room)
-{
-    const struct rme_header *h = s->header;
-    const _Atomic uint64_t *data = (_Atomic uint64_t *)s->words + 3 * h->procs, *entry;
-    uint64_t count = atomic_load(&data[2]), copied = 0;
-    for (; place < count && place < h->cap && copied < room; place++, copied++) {
-        entry = data + 10 + h->width + h->procs + (2 + h->width) * place;
-        messages[copied] = (struct rme_message){.sender = atomic_load(&entry[0]), .number = atomic_load(&entry[1])};
-        for (uint64_t j = 0; j < h->width; j++)
-            messages[copied].value[j] = atomic_load(&entry[2 + j]);
-    }
-    return copied;
-}
-
-/* ---- the file ---- */
-
-/* A whole file under a name of its own, which then gets this name in one step, unless there is one. */
-int rme_create(const char *path, uint64_t procs, uint64_t cap, uint64_t width, uint64_t data_bytes)
-{
-    const struct rme_header header = {
-        .magic = RME_MAGIC, .format = RME_FORMAT, .header = RME_HEADER, .words = rme_words(procs, cap, width),
-        .procs = procs, .cap = cap, .width = width, .limit = RME_LIMIT,
-    };
-    if (header.words == 0)
-        return EINVAL;
-    char name[4096];
-    if (data_bytes)
-        return ENOSYS;
-    if (snprintf(name, sizeof name, "%s.XXXXXX", path) >= (int)sizeof name)
-        return ENAMETOOLONG;
-    int file = mkostemp(name, O_CLOEXEC);
-    if (file < 0)
-        return errno;
-    int error = posix_fallocate(file, 0, (off_t)(RME_HEADER + header.words * 8));
-    if (!error && pwrite(file, &header, sizeof header, 0) != (ssize_t)sizeof header)
-        error = EIO;
-    if (!error && link(name, path))
-        error = errno;
-    unlink(name);
-    close(file);
-    return error;
-}
-
-/* Whether the first page is one that this library has made, of a file that is whole. */
-static int check(const struct rme_header *header, uint64_t length, uint64_t index)
-{
-    if (length < sizeof *header || header->magic != RME_MAGIC)
-        return EBADMSG;
-    if (header->format != RME_FORMAT || header->header != RME_HEADER || header->limit != RME_LIMIT)
-        return EPROTO;
-    if (header->words == 0 || header->words != rme_words(header->procs, header->cap, header->width))
-        return EPROTO;
-    if (length != RME_HEADER + header->words * 8)
-        return EPROTO;
-    return index < header->procs ? 0 : EINVAL;
-}
-
-/* A lease on the byte of the index: it ends with the last process that has this open file, however that ends. */
-static int lease(int file, uint64_t index)
-{
-    struct flock byte = {.l_type = F_WRLCK, .l_whence = SEEK_SET, .l_start = (off_t)index, .l_len = 1};
-    if (fcntl(file, F_OFD_SETLK, &byte) == 0)
-        return 0;
-    return errno == EACCES || errno == EAGAIN ? EBUSY : errno;
-}
-
-static int open_seat(struct rme_seat *s, uint64_t index)
-{
-    struct rme_header header;
-    struct stat status;
-    if (fstat(s->file, &status))
-        return errno;
-    memset(&header, 0, sizeof header);
-    ssize_t got = pread(s->file, &header, sizeof header, 0);
-    if (got < 0)
-        return errno;
-    s->length = (uint64_t)status.st_size;
-    int error = check(&header, (size_t)got < sizeof header ? 0 : s->length, index);
-    if (!error)
-        error = lease(s->file, index);
-    if (error)
-        return error;
-    void *page = mmap(NULL, s->length, PROT_READ | PROT_WRITE, MAP_SHARED, s->file, 0);
-    if (page == MAP_FAILED)
-        return errno;
-    s->header = page;
-    s->words = (uint64_t *)((char *)page + RME_HEADER);
-    s->crashed = __atomic_exchange_n(&s->header->marks[index], 1, __ATOMIC_SEQ_CST) != 0;
-    uint64_t refused = rme_init(&s->machine, header.procs, header.cap, header.width, header.limit, index);
-    if (s->crashed)
-        rme_crash(&s->machine);
-    return error_of(refused ? refused : RME_DONE);
-}
-
-int rme_attach(struct rme_seat *s, const char *path, uint64_t index)
-{
-    memset(s, 0, sizeof *s);
-    s->file = open(path, O_RDWR | O_CLOEXEC);
-    if (s->file < 0)
-        return errno;
-    int error = open_seat(s, index);
-    if (error)
-        close(s->file);
-    return error;
-}
-
-/* At rest the index is given back; inside or under way this is a crash, as any other end of the process is. */
-int rme_detach(struct rme_seat *s)
+/* Whether nothing of this process stands in the words: neither of what it does, nor of what an earlier process of its index did. */
+bool rme_rests(struct rme_seat *s)
 {
     struct rme_access access;
-    uint64_t refused = rme_start(&s->machine, &calls[RME_UNLOCK], &access);
-    if (refused == RME_NOT_OWNER)
-        __atomic_store_n(&s->header->marks[s->machine.index], 0, __ATOMIC_SEQ_CST);
-    munmap(s->header, s->length);
-    close(s->file);
-    memset(s, 0, sizeof *s);
-    s->file = -1;
-    return refused == RME_NOT_OWNER ? 0 : EBUSY;
+    bool rests = rme_start(&s->machine, &plain[RME_UNLOCK], &access) == RME_NOT_OWNER;
+    for (uint64_t k = 0; rests && k < 3; k++)
+        rests = load(s->lines + s->machine.index * LINE + k) == 0;
+    return rests;
 }
-
-/* ---- not there yet ---- */
-
-#pragma GCC diagnostic ignored "-Wunused-parameter"
-int rme_attach_within(struct rme_seat *s, const char *path, uint64_t index, uint64_t ms) { return ENOSYS; }
-int rme_inspect(struct rme_seat *s, const char *path) { return ENOSYS; }
-int rme_lock_reaping(struct rme_seat *s, uint64_t turns, rme_repair *repair, void *context) { return ENOSYS; }
-int rme_blocker(struct rme_seat *s, uint64_t *index, bool *alive) { return ENOSYS; }
-void *rme_data(const struct rme_seat *s, size_t *bytes) { return NULL; }
-int rme_reap(const char *path, uint64_t index, rme_repair *repair, void *context) { return ENOSYS; }
-int rme_reap_all(const char *path, rme_repair *repair, void *context, uint64_t *reaped) { return ENOSYS; }
-bool rme_crashed(const struct rme_seat *s) { return s->crashed; }
-int rme_reaped(const struct rme_seat *s) { return s->reaped; }
-int rme_file_status(const struct rme_seat *s, struct rme_file *status) { return ENOSYS; }
-int rme_index_status(const struct rme_seat *s, uint64_t index, struct rme_index *status) { return ENOSYS; }
-uint64_t rme_copy_words(const struct rme_seat *s, uint64_t *words, uint64_t room) { return 0; }
-size_t rme_seat_size(void) { return sizeof(struct rme_seat); }
-const char *rme_version(void) { return RME_VERSION; }
-const char *rme_strerror(int error) { return strerror(error); }

@@ -39,10 +39,10 @@ struct rme_seat {
     struct rme_process machine;
     struct rme_header *header; /* null: not attached */
     uint64_t *lines, *words, *state; /* of each process eight words; the data words; whether a call is under way */
-    uint64_t length, turn, asleep_at;
-    uint32_t pauses;
+    uint64_t *asleep_at;
+    uint64_t count, length, data_bytes, turn, yields, naps, pauses;
     int file, reaped;
-    bool crashed;
+    bool crashed, astray;
 };
 
 struct rme_message {

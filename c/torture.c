@@ -13,6 +13,7 @@
 #include <fcntl.h>
 #include <inttypes.h>
 #include <signal.h>
+#include <stdatomic.h>
 #include <stdio.h>
 #include <stdlib.h>
 #include <string.h>
@@ -117,16 +118,15 @@ static void files(void)
         fail("read", 0);
     memset(&other.machine, 0xff, sizeof other.machine);
     expect("a corrupted machine", rme_lock(&other), EINVAL);
-    other.header->seats[1] = 0;
-    rme_detach(&other);
+    expect("detach of a corrupted machine", rme_detach(&other), EBUSY);
     expect("detach", rme_detach(&seat), 0);
     patch(3, 12345);
     expect("header of another size", rme_attach(&seat, path, 0), EPROTO);
     patch(3, rme_words(2, 4, 1));
-    patch(1, RME_VERSION + 1);
+    patch(1, RME_FORMAT + 1);
     expect("header of another version", rme_attach(&seat, path, 0), EPROTO);
-    patch(1, RME_VERSION);
-    if (truncate(path, (off_t)(RME_HEADER + 8 * rme_words(2, 4, 1) - 8)))
+    patch(1, RME_FORMAT);
+    if (truncate(path, 2 * RME_HEADER + 8))
         fail("truncate", errno);
     expect("a file cut short", rme_attach(&seat, path, 0), EPROTO);
     patch(0, 1);
@@ -201,12 +201,13 @@ static int slow_append(struct rme_seat *seat, uint64_t number, const uint64_t *v
     while (told == 0) {
         uint64_t read = 0;
         nap(0.0002);
-        if (next.place >= seat->count)
+        if (next.place < 3 * senders || next.place >= seat->count)
             _exit(9);
+        _Atomic uint64_t *word = (_Atomic uint64_t *)&seat->words[next.place - 3 * senders];
         if (next.store)
-            atomic_store(&seat->words[next.place], next.value);
+            atomic_store(word, next.value);
         else
-            read = atomic_load(&seat->words[next.place]);
+            read = atomic_load(word);
         told = rme_feed(&seat->machine, read, &next);
     }
     return told == RME_STORED ? 0 : told == RME_ALREADY ? EALREADY : EINVAL;
@@ -315,37 +316,40 @@ static FILE *output(const char *folder, const char *name)
     return file;
 }
 
-static void write_image(const struct rme_seat *seat, const char *folder)
+static uint64_t *words_of(const struct rme_seat *seat)
+{
+    uint64_t *words = calloc(seat->count, sizeof *words);
+    if (!words)
+        fail("memory", ENOMEM);
+    if (rme_copy_words(seat, words, seat->count) != seat->count)
+        fail("the words", 0);
+    return words;
+}
+
+static void write_image(const uint64_t *words, uint64_t count, const char *folder)
 {
     FILE *image = output(folder, "image");
-    fprintf(image, "{\"cap\":%" PRIu64 ",\"data\":[", seat->header->cap);
-    for (uint64_t i = 3 * senders; i < seat->count; i++)
-        fprintf(image, "%s%" PRIu64, i > 3 * senders ? "," : "", (uint64_t)seat->words[i]);
-    fprintf(image, "],\"limit\":%" PRIu64 ",\"lock\":[", seat->header->limit);
+    fprintf(image, "{\"cap\":%" PRIu64 ",\"data\":[", senders * messages);
+    for (uint64_t i = 3 * senders; i < count; i++)
+        fprintf(image, "%s%" PRIu64, i > 3 * senders ? "," : "", words[i]);
+    fprintf(image, "],\"limit\":%" PRIu64 ",\"lock\":[", RME_LIMIT);
     for (uint64_t p = 0; p < senders; p++)
-        fprintf(image, "%s[%" PRIu64 ",%" PRIu64 ",%" PRIu64 "]", p ? "," : "", (uint64_t)seat->words[3 * p],
-                (uint64_t)seat->words[3 * p + 1], (uint64_t)seat->words[3 * p + 2]);
+        fprintf(image, "%s[%" PRIu64 ",%" PRIu64 ",%" PRIu64 "]", p ? "," : "", words[3 * p], words[3 * p + 1], words[3 * p + 2]);
     fprintf(image, "],\"version\":2,\"width\":%d}\n", WIDTH);
     fclose(image);
 }
 
 /* The words are an image's, and words that are none's are told from them. */
-static void judge(const struct rme_seat *seat)
+static void judge(uint64_t *words, uint64_t count)
 {
-    const struct rme_header *h = seat->header;
-    uint64_t *words = calloc(seat->count, sizeof *words);
-    if (!words)
-        fail("memory", ENOMEM);
-    for (uint64_t i = 0; i < seat->count; i++)
-        words[i] = seat->words[i];
-    if (rme_content_rule(words, seat->count, h->procs, h->cap, h->width, h->limit) != RME_LAWFUL)
+    const uint64_t cap = senders * messages;
+    if (rme_content_rule(words, count, senders, cap, WIDTH, RME_LIMIT) != RME_LAWFUL)
         fail("the last words", 0);
-    if (rme_content_rule(words, seat->count - 1, h->procs, h->cap, h->width, h->limit) != RME_NO_BLOCK)
+    if (rme_content_rule(words, count - 1, senders, cap, WIDTH, RME_LIMIT) != RME_NO_BLOCK)
         fail("words of another length", 0);
     words[0] = 2;
-    if (rme_content_rule(words, seat->count, h->procs, h->cap, h->width, h->limit) != 5)
+    if (rme_content_rule(words, count, senders, cap, WIDTH, RME_LIMIT) != 5)
         fail("a lock word that is no row's", 0);
-    free(words);
 }
 
 static uint64_t check_list(const struct rme_seat *seat, const char *folder)
@@ -387,8 +391,10 @@ int main(int count, char **word)
     struct rme_seat seat;
     expect("attach at the end", rme_attach(&seat, path, 0), 0);
     uint64_t wrong = check_list(&seat, word[1]);
-    write_image(&seat, word[1]);
-    judge(&seat);
+    uint64_t *words = words_of(&seat);
+    write_image(words, seat.count, word[1]);
+    judge(words, seat.count);
+    free(words);
     printf("senders %" PRIu64 " messages %" PRIu64 " kills %" PRIu64 " entries %" PRIu64 " owner-died %" PRIu64 " already %" PRIu64
            " overlaps %" PRIu64 " wrong %" PRIu64 "\n",
            senders, senders * messages, kills, (uint64_t)tally->entries, (uint64_t)tally->owner_died,

@@ -1,0 +1,348 @@
+/* The file that processes share: making and opening it, who has which index of it, and how it stands. */
+#define _GNU_SOURCE
+#include "shim.h"
+
+#include <errno.h>
+#include <fcntl.h>
+#include <limits.h>
+#include <stdio.h>
+#include <stdlib.h>
+#include <string.h>
+#include <sys/mman.h>
+#include <sys/stat.h>
+#include <time.h>
+#include <unistd.h>
+
+_Static_assert(sizeof(struct rme_header) <= PAGE && 64 * LINE * 8 <= PAGE, "the header lies in a page, and so do all lines");
+
+/* ---- making it ---- */
+
+static uint64_t data_offset(uint64_t words, uint64_t procs) { return (2 * PAGE + 8 * (words - 3 * procs) + 63) / 64 * 64; }
+
+/* A file in the path's folder that has no name yet; or, where the file system has none without, under the name that is left. */
+static int open_unnamed(const char *path, char name[PATH_MAX])
+{
+    const char *slash = strrchr(path, '/');
+    if (strlen(path) + sizeof ".XXXXXX" > PATH_MAX)
+        return errno = ENAMETOOLONG, -1;
+    snprintf(name, PATH_MAX, "%.*s.", slash ? (int)(slash - path) + 1 : 0, path);
+    int file = open(name, O_TMPFILE | O_RDWR | O_CLOEXEC, 0600);
+    *name = 0;
+    if (file >= 0 || (errno != EOPNOTSUPP && errno != EISDIR))
+        return file;
+    snprintf(name, PATH_MAX, "%s.XXXXXX", path);
+    return mkostemp(name, O_CLOEXEC);
+}
+
+/* A whole file, which then gets its name in one step, unless there is one. */
+int rme_create(const char *path, uint64_t procs, uint64_t cap, uint64_t width, uint64_t data_bytes)
+{
+    WITHOUT_CANCELLATION;
+    const struct rme_header header = {
+        .magic = RME_MAGIC, .format = RME_FORMAT, .header = RME_HEADER, .words = rme_words(procs, cap, width),
+        .procs = procs, .cap = cap, .width = width, .limit = RME_LIMIT, .data_bytes = data_bytes,
+    };
+    char name[PATH_MAX], descriptor[32];
+    struct stat there;
+    if (!path || header.words == 0)
+        return EINVAL;
+    if (data_bytes > RME_LIMIT)
+        return EFBIG;
+    if (lstat(path, &there) == 0)
+        return EEXIST;
+    int file = open_unnamed(path, name);
+    if (file < 0)
+        return errno;
+    snprintf(descriptor, sizeof descriptor, "/proc/self/fd/%d", file);
+    int error = posix_fallocate(file, 0, (off_t)(data_offset(header.words, procs) + data_bytes));
+    if (!error && pwrite(file, &header, sizeof header, 0) != (ssize_t)sizeof header)
+        error = EIO;
+    if (!error && linkat(AT_FDCWD, *name ? name : descriptor, AT_FDCWD, path, AT_SYMLINK_FOLLOW))
+        error = errno;
+    if (*name)
+        unlink(name);
+    close(file);
+    return error;
+}
+
+/* ---- opening it ---- */
+
+/* Whether the first page is one that this library has made, of a file that is whole. */
+static int check(const struct rme_header *h, uint64_t length)
+{
+    if (length < sizeof *h || h->magic != RME_MAGIC)
+        return EBADMSG;
+    if (h->format != RME_FORMAT || h->header != RME_HEADER || h->limit != RME_LIMIT || h->data_bytes > RME_LIMIT)
+        return EPROTO;
+    if (h->words == 0 || h->words != rme_words(h->procs, h->cap, h->width))
+        return EPROTO;
+    return length == data_offset(h->words, h->procs) + h->data_bytes ? 0 : EPROTO;
+}
+
+static int map(struct rme_seat *s, int protection)
+{
+    struct rme_header h = {0};
+    struct stat status;
+    if (fstat(s->file, &status))
+        return errno;
+    ssize_t got = S_ISREG(status.st_mode) ? pread(s->file, &h, sizeof h, 0) : 0;
+    if (got < 0)
+        return errno;
+    s->length = (uint64_t)status.st_size;
+    int error = check(&h, (size_t)got < sizeof h ? 0 : s->length);
+    if (error)
+        return error;
+    void *start = mmap(NULL, s->length, protection, MAP_SHARED, s->file, 0);
+    if (start == MAP_FAILED)
+        return errno;
+    s->header = start;
+    s->lines = (uint64_t *)start + PAGE / 8;
+    s->words = (uint64_t *)start + 2 * PAGE / 8;
+    s->count = h.words;
+    s->data_bytes = h.data_bytes;
+    return rme_init(&s->machine, h.procs, h.cap, h.width, h.limit, 0) ? EPROTO : 0;
+}
+
+void rme_close_seat(struct rme_seat *s)
+{
+    if (s->header)
+        munmap(s->header, s->length);
+    if (s->state)
+        munmap(s->state, PAGE);
+    if (s->file >= 0)
+        close(s->file);
+    memset(s, 0, sizeof *s);
+    s->file = -1;
+}
+
+int rme_open_seat(struct rme_seat *s, const char *path, int access)
+{
+    if (!s || !path)
+        return EINVAL;
+    memset(s, 0, sizeof *s);
+    s->file = open(path, access | O_CLOEXEC | O_NONBLOCK | O_NOCTTY);
+    int error = s->file < 0 ? errno : map(s, access == O_RDWR ? PROT_READ | PROT_WRITE : PROT_READ);
+    if (error)
+        rme_close_seat(s);
+    return error;
+}
+
+/* ---- who has an index ---- */
+
+/* Locks of the open file on two bytes for each index. They end with the last process that has this open file, however that ends. A
+ * living process has both bytes of its index, a reaper the first of them. */
+static struct flock bytes_of(uint64_t index, short type, int from, int bytes)
+{
+    return (struct flock){.l_type = type, .l_whence = SEEK_SET, .l_start = (off_t)(2 * index) + from, .l_len = bytes};
+}
+
+int rme_lease(const struct rme_seat *s, uint64_t index, short type, int bytes)
+{
+    struct flock wanted = bytes_of(index, type, 0, bytes);
+    if (fcntl(s->file, F_OFD_SETLK, &wanted) == 0)
+        return 0;
+    return errno == EACCES || errno == EAGAIN ? EBUSY : errno;
+}
+
+int rme_life_of(const struct rme_seat *s, uint64_t index, int *life)
+{
+    struct flock first = bytes_of(index, F_WRLCK, 0, 1), second = bytes_of(index, F_WRLCK, 1, 1);
+    if (fcntl(s->file, F_OFD_GETLK, &second) || fcntl(s->file, F_OFD_GETLK, &first))
+        return errno;
+    *life = second.l_type != F_UNLCK ? RME_ALIVE : first.l_type != F_UNLCK ? RME_IN_REAPING : RME_ABSENT;
+    return 0;
+}
+
+/* Takes the lease, after a reaper that acts for the index. */
+static int lease_within(const struct rme_seat *s, uint64_t index, uint64_t milliseconds)
+{
+    const struct timespec nap = {0, 1000000};
+    for (uint64_t passed = 0;; passed++) {
+        int life = RME_ALIVE, error = rme_lease(s, index, F_WRLCK, BOTH_BYTES);
+        if (error != EBUSY || milliseconds == 0)
+            return error;
+        error = rme_life_of(s, index, &life);
+        if (error || life == RME_ALIVE)
+            return error ? error : EBUSY;
+        if (passed >= milliseconds)
+            return ETIMEDOUT;
+        nanosleep(&nap, NULL);
+    }
+}
+
+void rme_become(struct rme_seat *s, uint64_t index, bool crashed)
+{
+    const struct rme_process m = s->machine;
+    rme_init(&s->machine, m.procs, m.cap, m.width, m.limit, index);
+    s->crashed = crashed;
+    if (!crashed)
+        return;
+    rme_crash(&s->machine);
+    /* The bits of one that was killed asleep. */
+    for (uint64_t place = 0; place < 3 * m.procs; place += 3)
+        if (load(sleepers_on(s, place)) & UINT64_C(1) << index)
+            __atomic_fetch_and(sleepers_on(s, place), ~(UINT64_C(1) << index), __ATOMIC_SEQ_CST);
+}
+
+/* The lease of the index in the file that has this name now, and the seat's state, which reads 0 in a child of fork. */
+static int take(struct rme_seat *s, const char *path, uint64_t index, uint64_t milliseconds)
+{
+    struct stat ours, named;
+    if (index >= s->machine.procs)
+        return EINVAL;
+    int error = lease_within(s, index, milliseconds);
+    if (error)
+        return error;
+    if (fstat(s->file, &ours) || stat(path, &named))
+        return errno;
+    if (ours.st_dev != named.st_dev || ours.st_ino != named.st_ino)
+        return ESTALE;
+    void *state = mmap(NULL, PAGE, PROT_READ | PROT_WRITE, MAP_PRIVATE | MAP_ANONYMOUS, -1, 0);
+    if (state == MAP_FAILED)
+        return errno;
+    s->state = state;
+    *s->state = FREE;
+    return madvise(state, PAGE, MADV_WIPEONFORK) ? errno : 0;
+}
+
+int rme_attach_within(struct rme_seat *s, const char *path, uint64_t index, uint64_t milliseconds)
+{
+    WITHOUT_CANCELLATION;
+    int error = rme_open_seat(s, path, O_RDWR);
+    if (error)
+        return error;
+    error = take(s, path, index, milliseconds);
+    if (error) {
+        rme_close_seat(s);
+        return error;
+    }
+    uint64_t mark = __atomic_exchange_n(&s->header->marks[index], RME_ATTACHED, __ATOMIC_SEQ_CST);
+    rme_become(s, index, mark & RME_ATTACHED);
+    s->reaped = (int)(mark / RME_REAPED);
+    return 0;
+}
+
+int rme_attach(struct rme_seat *s, const char *path, uint64_t index) { return rme_attach_within(s, path, index, 0); }
+
+int rme_inspect(struct rme_seat *s, const char *path)
+{
+    WITHOUT_CANCELLATION;
+    return rme_open_seat(s, path, O_RDONLY);
+}
+
+/* At rest the index is given back; otherwise this is a crash, as any other end of the process is. */
+int rme_detach(struct rme_seat *s)
+{
+    WITHOUT_CANCELLATION;
+    int error = 0;
+    if (!s || !s->header)
+        return EINVAL;
+    if (s->state) {
+        error = rme_begin_call(s);
+        if (error == EBUSY)
+            return error;
+        if (!error && rme_rests(s))
+            store(&s->header->marks[s->machine.index], 0);
+        else if (!error)
+            error = EBUSY;
+    }
+    rme_close_seat(s);
+    return error;
+}
+
+/* ---- how it stands ---- */
+
+bool rme_crashed(const struct rme_seat *s) { return s && s->crashed; }
+int rme_reaped(const struct rme_seat *s) { return s ? s->reaped : 0; }
+size_t rme_seat_size(void) { return sizeof(struct rme_seat); }
+const char *rme_version(void) { return RME_VERSION; }
+
+/* Count first, then entries below it: they never change once count has passed them. */
+uint64_t rme_read_from(const struct rme_seat *s, uint64_t place, struct rme_message *messages, uint64_t room)
+{
+    if (!s || !s->header || !messages)
+        return 0;
+    const struct rme_process *m = &s->machine;
+    uint64_t count = load(s->words + 2), copied = 0;
+    for (; place < count && place < m->cap && copied < room; place++, copied++) {
+        const uint64_t *entry = s->words + 10 + m->width + m->procs + (2 + m->width) * place;
+        messages[copied] = (struct rme_message){.sender = load(entry), .number = load(entry + 1)};
+        for (uint64_t j = 0; j < m->width; j++)
+            messages[copied].value[j] = load(entry + 2 + j);
+    }
+    return copied;
+}
+
+void *rme_data(const struct rme_seat *s, size_t *bytes)
+{
+    bool some = s && s->header && s->data_bytes;
+    if (bytes)
+        *bytes = some ? s->data_bytes : 0;
+    return some ? (char *)s->header + data_offset(s->count, s->machine.procs) : NULL;
+}
+
+int rme_file_status(const struct rme_seat *s, struct rme_file *status)
+{
+    if (!s || !s->header || !status)
+        return EINVAL;
+    *status = (struct rme_file){
+        .procs = s->machine.procs, .cap = s->machine.cap, .width = s->machine.width, .limit = s->machine.limit,
+        .words = s->count, .data_bytes = s->data_bytes,
+        .count = load(s->words + 2), .closed = load(s->words + 1), .ruined = load(s->words),
+    };
+    return 0;
+}
+
+/* The restart table. */
+static int row_of(uint64_t choosing, uint64_t number, uint64_t inside)
+{
+    if (choosing > 1 || inside > 1 || (choosing && inside))
+        return 0;
+    if (inside)
+        return number ? RME_FOUND_INSIDE : RME_FOUND_LEFT;
+    return number ? RME_FOUND_WAITING : choosing ? RME_FOUND_DOORWAY : RME_FOUND_IDLE;
+}
+
+int rme_index_status(const struct rme_seat *s, uint64_t index, struct rme_index *status)
+{
+    if (!s || !s->header || !status || index >= s->machine.procs)
+        return EINVAL;
+    const uint64_t *line = s->lines + index * LINE, mark = load(&s->header->marks[index]);
+    int life = RME_ALIVE, error = s->state && index == s->machine.index ? 0 : rme_life_of(s, index, &life);
+    *status = (struct rme_index){.choosing = load(line), .number = load(line + 1), .inside = load(line + 2)};
+    status->found = row_of(status->choosing, status->number, status->inside);
+    status->life = life == RME_ABSENT && mark & RME_ATTACHED ? RME_DEAD : life;
+    status->reaped = (int)(mark / RME_REAPED);
+    return error;
+}
+
+uint64_t rme_copy_words(const struct rme_seat *s, uint64_t *words, uint64_t room)
+{
+    if (!s || !s->header || !words)
+        return 0;
+    const uint64_t locks = 3 * s->machine.procs, count = room < s->count ? room : s->count;
+    for (uint64_t i = 0; i < count; i++)
+        words[i] = load(i < locks ? lock_word(s, i) : s->words + (i - locks));
+    return count;
+}
+
+const char *rme_strerror(int error)
+{
+    switch (error) {
+    case 0: return "done";
+    case EOWNERDEAD: return "the owner died inside: mend, then call rme_consistent";
+    case ENOTRECOVERABLE: return "the lock is ruined";
+    case EOVERFLOW: return "the numbers of the lock are spent";
+    case ETIMEDOUT: return "still blocked";
+    case EDEADLK: return "inside already";
+    case EPERM: return "not inside";
+    case EBUSY: return "another process has the index, or another call the seat";
+    case EALREADY: return "it is stored, or closed, already";
+    case EPIPE: return "the mailbox is closed";
+    case EBADMSG: return "no file of this library, or words that break its rules";
+    case EPROTO: return "a file of another format or size";
+    case ESTALE: return "another file has taken the name";
+    case ESRCH: return "no dead process has the index";
+    default: return strerror(error);
+    }
+}

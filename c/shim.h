@@ -1,0 +1,48 @@
+/* What the files of the shim share; no part of the library's interface. */
+#ifndef RME_SHIM_H
+#define RME_SHIM_H
+
+#include "rme.h"
+
+#include <pthread.h>
+
+/* A process's line in the file: its three lock words, and a bit for each process that sleeps on one of them. */
+enum { SLEEPERS = 3, LINE = 8, PAGE = RME_HEADER };
+enum state { ELSEWHERE, FREE, BUSY }; /* of a seat; in a child of fork it reads ELSEWHERE */
+
+static inline uint64_t load(const uint64_t *word) { return __atomic_load_n(word, __ATOMIC_SEQ_CST); }
+static inline void store(uint64_t *word, uint64_t value) { __atomic_store_n(word, value, __ATOMIC_SEQ_CST); }
+
+static inline uint64_t *lock_word(const struct rme_seat *s, uint64_t place) { return s->lines + place / 3 * LINE + place % 3; }
+static inline uint64_t *sleepers_on(const struct rme_seat *s, uint64_t place) { return s->lines + place / 3 * LINE + SLEEPERS; }
+
+/* Opening and closing are points of cancellation, after which a seat would keep its index for good. */
+static inline void restore_cancellation(const int *state) { pthread_setcancelstate(*state, NULL); }
+static inline int disable_cancellation(void)
+{
+    int state = PTHREAD_CANCEL_ENABLE;
+    pthread_setcancelstate(PTHREAD_CANCEL_DISABLE, &state);
+    return state;
+}
+#define WITHOUT_CANCELLATION __attribute__((cleanup(restore_cancellation))) const int cancellation = disable_cancellation()
+
+#pragma GCC visibility push(hidden)
+
+/* rme.c: a call with a seat begins and ends with these. Between them a lock, to its answer or so many blocked readings and one
+ * more, where no sleep is longer than so many milliseconds. */
+int rme_begin_call(struct rme_seat *s);
+int rme_end_call(struct rme_seat *s, int error);
+uint64_t rme_take_lock(struct rme_seat *s, uint64_t turns, uint64_t longest);
+int rme_error_of(uint64_t told);
+bool rme_rests(struct rme_seat *s);
+
+/* file.c: a seat without an index; the bytes of an index's lease (F_WRLCK, F_UNLCK); what others have of them. */
+enum { REAPERS_BYTE = 1, BOTH_BYTES = 2 };
+int rme_open_seat(struct rme_seat *s, const char *path, int access);
+void rme_close_seat(struct rme_seat *s);
+int rme_lease(const struct rme_seat *s, uint64_t index, short type, int bytes);
+int rme_life_of(const struct rme_seat *s, uint64_t index, int *life);
+void rme_become(struct rme_seat *s, uint64_t index, bool crashed);
+
+#pragma GCC visibility pop
+#endif

@@ -20,6 +20,10 @@ pub enum LockError {
     Busy,
     /// All numbers of this lock are spent.
     NumbersSpent,
+    /// It does not wait in line.
+    NotWaiting,
+    /// The owner had not died, or it is mended already.
+    NothingToMend,
     /// The error number of another cause.
     Other(i32),
 }
@@ -73,6 +77,8 @@ impl fmt::Display for LockError {
             LockError::TimedOut => out.write_str("timed out; the place in the line is kept"),
             LockError::Busy => out.write_str("another call of this seat is under way"),
             LockError::NumbersSpent => out.write_str("the numbers of this lock are spent"),
+            LockError::NotWaiting => out.write_str("this process does not wait in line"),
+            LockError::NothingToMend => out.write_str("there is nothing to mend"),
             LockError::Other(number) => io::Error::from_raw_os_error(*number).fmt(out),
         }
     }
@@ -94,7 +100,7 @@ impl Error for LockError {}
 impl Error for MailError {}
 
 /// 0 is fine, any other number an error of the system.
-pub(crate) fn io(number: i32) -> io::Result<()> {
+pub(crate) fn io_result(number: i32) -> io::Result<()> {
     if number == 0 {
         Ok(())
     } else {

@@ -12,8 +12,9 @@
         print(seat.messages())
 
 The shared library is the one that RME_LIBRARY names, else the one beside or above this file, else the system's. Each refusal is
-an OSError with its error number. A lock that is left unmended, or by an exception while it is unmended, is ruined for all.
-A seat is used by one thread at a time, and not by a child of fork."""
+an OSError with its error number. A block `with seat.lock()` leaves the lock at its end, by an exception too; where the owner had
+died and `mended` was not called, this ruins the lock for all. A seat is used by one thread at a time, and not by a child of
+fork."""
 
 import ctypes
 import ctypes.util
@@ -132,9 +133,10 @@ def _repairing(repair, raised):
 
     def call(dead, index, data, length, _context):
         try:
-            memory = (ctypes.c_char * length).from_address(data) if data else b""
-            return 0 if repair(index, memoryview(memory).cast("B")) is not False else 1
-        except BaseException as error:
+            shared = (ctypes.c_char * length).from_address(data) if data else bytearray()
+            with memoryview(shared).cast("B") as memory:
+                return 1 if repair(index, memory) is False else 0
+        except BaseException as error:  # goes on in the caller: nothing may pass through C
             raised.append(error)
             return 1
 
@@ -197,17 +199,24 @@ class _Open:
             place += count
         return found
 
-    def data(self):
-        """The caller's own data, as bytes that are written through. Inside alone they may be touched."""
+    def data(self, start=0, length=None):
+        """Bytes of the caller's own data, as they stand. Who writes them is inside, so read them inside."""
+        at, whole = self._data()
+        end = whole if length is None else start + length
+        if not 0 <= start <= end <= whole:
+            raise IndexError(f"the data of this file have {whole} bytes")
+        return ctypes.string_at(at + start, end - start) if end > start else b""
+
+    def _data(self):
         length = ctypes.c_size_t()
-        at = _rme.rme_data(self._at, ctypes.byref(length))
-        return memoryview((ctypes.c_char * length.value).from_address(at) if at else bytearray()).cast("B")
+        return _rme.rme_data(self._at, ctypes.byref(length)), length.value
 
     def file_status(self):
         """How the file stands."""
         status = _File()
         _check(_rme.rme_file_status(self._at, status))
-        return FileStatus(*(getattr(status, name) for name in FileStatus._fields))
+        *sizes, closed, ruined = (getattr(status, name) for name in FileStatus._fields)
+        return FileStatus(*sizes, closed != 0, ruined != 0)
 
     def index_status(self, index):
         """How an index stands: its lock words, where they stand, and whether a process has it."""
@@ -269,10 +278,10 @@ class Seat(_Open):
         _check(_rme.rme_withdraw(self._at))
 
     def recover(self):
-        """Says where an earlier process of this index stood. After Found.INSIDE this process is inside: `lock` answers EDEADLK."""
+        """Answers where an earlier process of this index stood, and after Found.INSIDE the lock that is held again, else None."""
         found = _INT()
         _check(_rme.rme_recover(self._at, ctypes.byref(found)))
-        return Found(found.value)
+        return Found(found.value), Inside(self, True) if found.value == Found.INSIDE else None
 
 
 class Inside:
@@ -301,6 +310,14 @@ class Inside:
             return False
         _check(error)
         return True
+
+    def write(self, start, data):
+        """Writes the caller's own data from this byte on."""
+        at, whole = self._seat._data()
+        if not 0 <= start <= start + len(data) <= whole:
+            raise IndexError(f"the data of this file have {whole} bytes")
+        if data:
+            ctypes.memmove(at + start, bytes(data), len(data))
 
     def close_mailbox(self):
         """Nothing is appended any more. False: it was closed already."""

@@ -24,7 +24,9 @@ fn made() -> Option<PathBuf> {
     if !sources.join("Makefile").exists() || !sources.join("rme.c").exists() {
         return None;
     }
-    for name in ["Makefile", "rme.c", "rme.h", "librme_machine.a", "../crates/rme_c/out/librme_c.a"] {
+    let shim = ["Makefile", "rme.c", "file.c", "reap.c", "shim.h", "rme.h", "rme_machine.h"];
+    let machine = ["librme_machine.a", "../crates/rme_c/out/librme_c.a"];
+    for name in shim.iter().chain(&machine) {
         let path = sources.join(name);
         if path.exists() {
             println!("cargo:rerun-if-changed={}", path.display());

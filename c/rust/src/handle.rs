@@ -127,7 +127,13 @@ impl Iterator for Messages<'_> {
             (self.next, self.end) = (0, read as usize);
         }
         let read = self.room[..self.end].get(self.next)?;
-        let message = Message { place: self.place, sender: read.sender, number: read.number, value: read.value, width: self.handle.width };
+        let message = Message {
+            place: self.place,
+            sender: read.sender,
+            number: read.number,
+            value: read.value,
+            width: self.handle.width,
+        };
         self.next += 1;
         self.place += 1;
         Some(message)

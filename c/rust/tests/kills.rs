@@ -159,20 +159,26 @@ fn started_again() {
 /// Two of four are killed inside for good; the others reap them, and finish.
 fn never_started_again() {
     let path = fresh("never");
-    let mut dying: Vec<_> = (0..2).map(|index| start(&path, index, true, true)).collect();
+    let mut dying: Vec<_> = (0..2).map(|index| (index, start(&path, index, true, true))).collect();
     let mut living: Vec<_> = (2..SENDERS).map(|index| start(&path, index, true, false)).collect();
     let look = Inspection::open(&path).expect("inspect");
-    for (index, child) in dying.iter_mut().enumerate() {
-        let begin = Instant::now();
-        // Each lingers inside at the middle of its messages: the second one once the first is reaped.
-        while look.read_from(0).filter(|message| message.sender == index as u64).count() as u64 + 1 < MESSAGES / 2
-            || look.index_status(index as u64).expect("status").stands != Some(rme::Found::Inside)
-        {
-            assert!(begin.elapsed() < LONGEST, "sender {index} does not come so far");
-            thread::sleep(Duration::from_millis(1));
-        }
-        child.kill().expect("kill");
-        assert!(killed(child.wait().expect("wait")));
+    let begin = Instant::now();
+    // Each of the dying stays inside at the middle of its messages: the later one once the earlier is reaped.
+    while !dying.is_empty() {
+        assert!(begin.elapsed() < LONGEST, "the dying do not come so far");
+        thread::sleep(Duration::from_millis(1));
+        dying.retain_mut(|(index, child)| {
+            let sent = look.read_from(0).filter(|message| message.sender == *index).count() as u64;
+            let stands = look.index_status(*index).expect("status").stands;
+            let lingers = sent == MESSAGES / 2 - 1 && stands == Some(rme::Found::Inside);
+            if lingers {
+                // It has just come in, or stays: in a moment it has counted the first number.
+                thread::sleep(Duration::from_millis(20));
+                child.kill().expect("kill");
+                assert!(killed(child.wait().expect("wait")));
+            }
+            !lingers
+        });
     }
     for child in &mut living {
         let begin = Instant::now();

@@ -487,7 +487,6 @@ static void null_pointers(void)
 static void waiting_behind_a_long_holder(void)
 {
     struct rme_seat holder;
-    struct timespec at;
     double late = 0;
     make(2, 4);
     EXPECT(rme_attach(&holder, path, 0), 0);
@@ -518,7 +517,6 @@ static void waiting_behind_a_long_holder(void)
         late += entered - left;
         close(ends[0]), close(ends[1]);
     }
-    (void)at;
     printf("  woken after %.3f ms\n", late / 8 * 1000);
     EXPECT(late / 8 < 0.02, true);
 }

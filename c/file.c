@@ -175,6 +175,8 @@ void rme_become(struct rme_seat *s, uint64_t index, bool crashed)
     const struct rme_process m = s->machine;
     rme_init(&s->machine, m.procs, m.cap, m.width, m.limit, index);
     s->crashed = crashed;
+    s->asleep = false;
+    s->blocked_at = NULL;
     if (!crashed)
         return;
     rme_crash(&s->machine);

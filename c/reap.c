@@ -117,7 +117,7 @@ int rme_lock_reaping(struct rme_seat *s, uint64_t turns, rme_repair *repair, voi
     int error = rme_begin_call(s);
     if (error)
         return error;
-    while ((told = rme_take_lock(s, s->naps ? 1 : turns, 100)) == RME_BLOCKED) {
+    while ((told = rme_take_lock(s, (struct patience){.turns = turns, .longest = 20, .once = true})) == RME_BLOCKED) {
         error = blocker(s, &j);
         if (!error)
             error = reap(s, j, repair, context);

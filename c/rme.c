@@ -43,18 +43,7 @@ static inline uint64_t take(struct rme_seat *s, const struct rme_access *access)
 
 /* ---- waiting ---- */
 
-#ifndef MOST_PAUSES
-#define MOST_PAUSES 2000
-#endif
-#ifndef LEAST_PAUSES
-#define LEAST_PAUSES 64
-#endif
-#ifndef YIELDS
-#define YIELDS 64
-#endif
-#ifndef ALONE
-#define ALONE 2000
-#endif
+enum { LEAST_PAUSES = 64, MOST_PAUSES = 2000, YIELDS = 64, AT_ONCE = 2000 };
 
 static uint64_t nanoseconds(void)
 {
@@ -63,30 +52,33 @@ static uint64_t nanoseconds(void)
     return (uint64_t)now.tv_sec * 1000000000 + (uint64_t)now.tv_nsec;
 }
 
-static void stop_sleeping(struct rme_seat *s)
+void rme_stop_sleeping(struct rme_seat *s)
 {
-    if (s->asleep_at)
-        __atomic_fetch_and(s->asleep_at, ~(UINT64_C(1) << s->machine.index), __ATOMIC_SEQ_CST);
-    s->asleep_at = NULL;
+    if (s->asleep)
+        __atomic_fetch_and(s->blocked_at, ~(UINT64_C(1) << s->machine.index), __ATOMIC_SEQ_CST);
+    s->asleep = false;
 }
 
 /* Who stores 0 sees the bit, or else the kernel sees the 0 here and does not sleep. The time is for those who die between their
  * store and their waking. */
-static void sleep_on(struct rme_seat *s, uint64_t place, uint64_t seen, uint64_t milliseconds)
+static void sleep_on(struct rme_seat *s, uint64_t *word, uint64_t seen, uint64_t milliseconds)
 {
     const struct timespec most = {0, (long)milliseconds * 1000000};
-    if (s->asleep_at != sleepers_on(s, place)) {
-        stop_sleeping(s);
-        s->asleep_at = sleepers_on(s, place);
-        __atomic_fetch_or(s->asleep_at, UINT64_C(1) << s->machine.index, __ATOMIC_SEQ_CST);
-    }
-    futex(lock_word(s, place), FUTEX_WAIT, (uint32_t)seen, &most);
+    if (!s->asleep)
+        __atomic_fetch_or(s->blocked_at, UINT64_C(1) << s->machine.index, __ATOMIC_SEQ_CST);
+    s->asleep = true;
+    futex(word, FUTEX_WAIT, (uint32_t)seen, &most);
 }
 
-/* After a blocked reading: pauses, then lets others run, then sleeps. A yield that comes back at once says that a processor is
- * free: then more pauses cost nothing. */
-static void rest(struct rme_seat *s, uint64_t place, uint64_t seen, uint64_t longest)
+/* After a blocked reading, whether it slept: behind each process it pauses at first, then lets others run, then sleeps longer and
+ * longer. A yield that comes back at once says that a processor is free: then more pauses cost nothing. */
+static bool rest(struct rme_seat *s, uint64_t place, uint64_t seen, uint64_t longest)
 {
+    if (s->blocked_at != sleepers_on(s, place)) {
+        rme_stop_sleeping(s);
+        s->blocked_at = sleepers_on(s, place);
+        s->turn = s->yields = s->naps = 0;
+    }
     if (s->turn++ < s->pauses + LEAST_PAUSES) {
 #if defined(__x86_64__) || defined(__i386__)
         __builtin_ia32_pause();
@@ -94,35 +86,34 @@ static void rest(struct rme_seat *s, uint64_t place, uint64_t seen, uint64_t lon
     } else if (s->yields++ < YIELDS) {
         uint64_t before = nanoseconds();
         sched_yield();
-        if (nanoseconds() - before > ALONE)
+        if (nanoseconds() - before > AT_ONCE)
             s->pauses /= 2;
         else if (s->pauses < MOST_PAUSES)
             s->pauses = 2 * s->pauses + LEAST_PAUSES;
     } else {
-        uint64_t most = UINT64_C(1) << (s->naps < 7 ? s->naps++ : 7);
-        sleep_on(s, place, seen, most < longest ? most : longest);
+        uint64_t next = UINT64_C(1) << (s->naps < 10 ? s->naps++ : 10);
+        sleep_on(s, lock_word(s, place), seen, next < longest ? next : longest);
+        return true;
     }
+    return false;
 }
 
-/* Takes the steps of the call under way, from this access on, to its answer, or to so many blocked readings and one more. From
- * RME_LOAD on the machine tells the place of a lock word. */
-static inline __attribute__((always_inline)) uint64_t finish(struct rme_seat *s, struct rme_access *access, uint64_t turns,
-                                                             uint64_t longest)
+/* Takes the steps of the call under way, from this access on, to its answer, or as long as it may wait. From RME_LOAD on the machine
+ * tells the place of a lock word. */
+static inline __attribute__((always_inline)) uint64_t finish(struct rme_seat *s, struct rme_access *access, struct patience may_wait)
 {
     uint64_t told, seen;
-    for (;; rest(s, access->place, seen, longest)) {
+    for (;;) {
         do {
             told = rme_feed(&s->machine, seen = take(s, access), access);
             while (told >= RME_LOAD)
                 told = rme_feed(&s->machine, seen = load(lock_word(s, told - RME_LOAD)), access);
         } while (told == 0);
-        if (told != RME_BLOCKED || turns-- == 0)
-            break;
+        if (told != RME_BLOCKED || may_wait.turns-- == 0)
+            return told;
+        if (rest(s, access->place, seen, may_wait.longest) && may_wait.once)
+            may_wait.turns = 0;
     }
-    stop_sleeping(s);
-    if (told != RME_BLOCKED)
-        s->turn = s->yields = s->naps = 0;
-    return told;
 }
 
 int rme_error_of(uint64_t told)
@@ -163,6 +154,7 @@ int rme_end_call(struct rme_seat *s, int error)
     if (s->astray)
         error = EBADMSG;
     s->astray = false;
+    rme_stop_sleeping(s);
     __atomic_store_n(s->state, FREE, __ATOMIC_RELEASE);
     return error;
 }
@@ -176,7 +168,7 @@ static int call(struct rme_seat *s, const struct rme_call *asked, uint64_t *got)
         return error;
     uint64_t told = rme_start(&s->machine, asked, &access);
     if (told == 0)
-        told = finish(s, &access, 0, 0);
+        told = finish(s, &access, (struct patience){0});
     if (got)
         *got = told == RME_WORD ? access.value : told;
     return rme_end_call(s, rme_error_of(told));
@@ -189,23 +181,29 @@ static const struct rme_call plain[] = {
 };
 
 /* A lock that was left after ETIMEDOUT is under way still: it goes on where it waited. */
-uint64_t rme_take_lock(struct rme_seat *s, uint64_t turns, uint64_t longest)
+uint64_t rme_take_lock(struct rme_seat *s, struct patience may_wait)
 {
     struct rme_access access;
     uint64_t told = rme_start(&s->machine, &plain[RME_LOCK], &access);
     if (told == RME_CALL_UNDER_WAY)
         told = rme_next(&s->machine, &access);
-    return told ? told : finish(s, &access, turns, longest);
+    if (told == 0)
+        told = finish(s, &access, may_wait);
+    if (told != RME_BLOCKED) {
+        rme_stop_sleeping(s);
+        s->blocked_at = NULL;
+    }
+    return told;
 }
 
-static int lock(struct rme_seat *s, uint64_t turns, uint64_t longest)
+static int lock(struct rme_seat *s, struct patience may_wait)
 {
     int error = rme_begin_call(s);
-    return error ? error : rme_end_call(s, rme_error_of(rme_take_lock(s, turns, longest)));
+    return error ? error : rme_end_call(s, rme_error_of(rme_take_lock(s, may_wait)));
 }
 
-int rme_lock(struct rme_seat *s) { return lock(s, UINT64_MAX, 100); }
-int rme_lock_within(struct rme_seat *s, uint64_t turns) { return lock(s, turns, 1); }
+int rme_lock(struct rme_seat *s) { return lock(s, (struct patience){.turns = UINT64_MAX, .longest = 100}); }
+int rme_lock_within(struct rme_seat *s, uint64_t turns) { return lock(s, (struct patience){.turns = turns, .longest = 1}); }
 int rme_unlock(struct rme_seat *s) { return call(s, &plain[RME_UNLOCK], NULL); }
 int rme_consistent(struct rme_seat *s) { return call(s, &plain[RME_CONSISTENT], NULL); }
 int rme_withdraw(struct rme_seat *s) { return call(s, &plain[RME_WITHDRAW], NULL); }

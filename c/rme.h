@@ -39,10 +39,10 @@ struct rme_seat {
     struct rme_process machine;
     struct rme_header *header; /* null: not attached */
     uint64_t *lines, *words, *state; /* of each process eight words; the data words; whether a call is under way */
-    uint64_t *asleep_at;
+    uint64_t *blocked_at; /* the set of those who sleep where it waited last */
     uint64_t count, length, data_bytes, turn, yields, naps, pauses;
     int file, reaped;
-    bool crashed, astray;
+    bool crashed, astray, asleep;
 };
 
 struct rme_message {
@@ -132,7 +132,7 @@ int rme_lock(struct rme_seat *seat);
  *     and those of rme_lock */
 int rme_lock_within(struct rme_seat *seat, uint64_t turns);
 
-/* rme_lock that reaps the dead who block it: after so many blocked readings, and where it sleeps every 100 milliseconds at the
+/* rme_lock that reaps the dead who block it: after so many blocked readings, and where it sleeps every 20 milliseconds at the
  * latest, it looks whether the process that blocks it lives. After an error of the reaping it keeps its place, as after ETIMEDOUT.
  * Errors: those of rme_lock, and of fcntl */
 int rme_lock_reaping(struct rme_seat *seat, uint64_t turns, rme_repair *repair, void *context);

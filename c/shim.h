@@ -28,11 +28,16 @@ static inline int disable_cancellation(void)
 
 #pragma GCC visibility push(hidden)
 
-/* rme.c: a call with a seat begins and ends with these. Between them a lock, to its answer or so many blocked readings and one
- * more, where no sleep is longer than so many milliseconds. */
+/* rme.c: a call with a seat begins and ends with these. Between them a lock, to its answer or to so many blocked readings and one
+ * more, or to one after the first sleep; no sleep is longer than so many milliseconds. */
+struct patience {
+    uint64_t turns, longest;
+    bool once;
+};
 int rme_begin_call(struct rme_seat *s);
 int rme_end_call(struct rme_seat *s, int error);
-uint64_t rme_take_lock(struct rme_seat *s, uint64_t turns, uint64_t longest);
+uint64_t rme_take_lock(struct rme_seat *s, struct patience may_wait);
+void rme_stop_sleeping(struct rme_seat *s);
 int rme_error_of(uint64_t told);
 bool rme_rests(struct rme_seat *s);
 

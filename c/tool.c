@@ -66,7 +66,7 @@ static int look_once(struct view *v, uint64_t *words)
 static int look(struct view *v, const char *path)
 {
     enum { READINGS = 100 };
-    memset(v, 0, sizeof *v);
+    *v = (struct view){.words = NULL};
     int error = rme_inspect(&v->seat, path);
     if (!error)
         error = rme_file_status(&v->seat, &v->file);
@@ -80,7 +80,9 @@ static int look(struct view *v, const char *path)
     for (int reading = 0; !error && !same && reading < READINGS; reading++) {
         error = look_once(v, v->words);
         same = !error && memcmp(before, v->words, bytes) == 0;
-        memcpy(before, v->words, bytes);
+        uint64_t *now = v->words;
+        v->words = before;
+        before = now;
     }
     if (!error && !same)
         fprintf(stderr, "rme: %s: its words change while they are read, so they may be of no one moment\n", path);
@@ -108,7 +110,10 @@ static bool waits_for(const struct view *v, uint64_t p, uint64_t q)
 
 /* ---- commands ---- */
 
-static const char *stands(int found) { return found == 0 ? "its words are none" : STANDS[found]; }
+static const char *stands(int found)
+{
+    return found < RME_FOUND_IDLE || found > RME_FOUND_INSIDE ? "its words are none" : STANDS[found];
+}
 
 /* Who is dead and waited for, or stands inside. */
 static bool is_in_the_way(const struct view *v, uint64_t q)

@@ -201,6 +201,66 @@ static void create_says_its_limits(void)
     EXPECT(rme_create(NULL, 2, 4, 1, 0), EINVAL);
 }
 
+static bool no_unnamed_files;
+
+/* In place of the C library's: a file system that has no files without a name. */
+int open(const char *name, int flags, ...)
+{
+    va_list rest;
+    va_start(rest, flags);
+    unsigned mode = va_arg(rest, unsigned);
+    va_end(rest);
+    if ((flags & O_TMPFILE) == O_TMPFILE && no_unnamed_files)
+        return errno = EOPNOTSUPP, -1;
+    return (int)syscall(SYS_openat, AT_FDCWD, name, flags, mode);
+}
+
+static void create_without_unnamed_files(void)
+{
+    struct rme_seat seat;
+    no_unnamed_files = true;
+    make(2, 4);
+    EXPECT(names(), 1);
+    EXPECT(rme_create(path, 2, 4, 1, 0), EEXIST);
+    EXPECT(names(), 1);
+    EXPECT(rme_attach(&seat, path, 0), 0);
+    EXPECT(rme_lock(&seat), 0);
+}
+
+/* ---- looking ---- */
+
+static void looking_changes_nothing(void)
+{
+    struct rme_seat looks, seat;
+    struct rme_index status;
+    struct rme_file whole;
+    static uint64_t before[4096], after[4096];
+    make(2, 4);
+    die(0, INSIDE);
+    int file = open(path, O_RDONLY);
+    ssize_t bytes = pread(file, before, sizeof before, 0);
+    EXPECT(rme_inspect(&looks, path), 0);
+    EXPECT(rme_lock(&looks), EINVAL);
+    EXPECT(rme_recover(&looks, NULL), EINVAL);
+    EXPECT(rme_index_status(&looks, 0, &status), 0);
+    EXPECT(status.life == RME_DEAD && status.found == RME_FOUND_INSIDE, true);
+    EXPECT(rme_index_status(&looks, 2, &status), EINVAL);
+    EXPECT(rme_file_status(&looks, &whole), 0);
+    EXPECT(whole.procs == 2 && whole.cap == 4 && whole.width == 1 && whole.words == looks.count && whole.count == 0, true);
+    EXPECT(pread(file, after, sizeof after, 0), bytes);
+    EXPECT(memcmp(before, after, (size_t)bytes), 0);
+    EXPECT(rme_attach(&seat, path, 1), 0);
+    EXPECT(rme_index_status(&looks, 1, &status), 0);
+    EXPECT(status.life == RME_ALIVE && status.found == RME_FOUND_IDLE, true);
+    EXPECT(rme_index_status(&seat, 1, &status), 0);
+    EXPECT(status.life, RME_ALIVE);
+    EXPECT(rme_detach(&seat), 0);
+    EXPECT(rme_index_status(&looks, 1, &status), 0);
+    EXPECT(status.life, RME_ABSENT);
+    EXPECT(rme_detach(&looks), 0);
+    EXPECT(rme_detach(&looks), EINVAL);
+}
+
 /* ---- a seat that is used twice at a time ---- */
 
 static struct rme_seat shared;
@@ -528,7 +588,8 @@ static const struct {
 #define TEST(name) {#name, name}
     TEST(detach_after_a_death_inside), TEST(detach_after_a_death_in_line), TEST(detach_after_a_failed_attach),
     TEST(calls_without_an_attach), TEST(create_where_nothing_can_be_written), TEST(create_that_is_killed),
-    TEST(create_says_its_limits), TEST(lock_in_a_signal_handler), TEST(cancel_a_thread_that_waits),
+    TEST(create_says_its_limits), TEST(create_without_unnamed_files), TEST(looking_changes_nothing),
+    TEST(lock_in_a_signal_handler), TEST(cancel_a_thread_that_waits),
     TEST(cancel_a_thread_that_attaches), TEST(two_threads_on_one_seat), TEST(seat_in_a_child_of_fork), TEST(count_above_cap),
     TEST(record_past_the_end), TEST(shorten_while_it_is_mapped), TEST(attach_to_a_file_that_is_replaced),
     TEST(calls_after_a_timeout), TEST(recover_that_finds_inside), TEST(mailbox_that_is_full), TEST(attach_twice_into_one_struct),

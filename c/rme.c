@@ -43,7 +43,7 @@ static inline uint64_t take(struct rme_seat *s, const struct rme_access *access)
 
 /* ---- waiting ---- */
 
-enum { LEAST_PAUSES = 64, MOST_PAUSES = 2000, YIELDS = 64, AT_ONCE = 2000 };
+enum { LEAST_PAUSES = 16, MOST_PAUSES = 2000, YIELDS = 100, AT_ONCE = 1000 };
 
 static uint64_t nanoseconds(void)
 {
@@ -202,7 +202,7 @@ static int lock(struct rme_seat *s, struct patience may_wait)
     return error ? error : rme_end_call(s, rme_error_of(rme_take_lock(s, may_wait)));
 }
 
-int rme_lock(struct rme_seat *s) { return lock(s, (struct patience){.turns = UINT64_MAX, .longest = 100}); }
+int rme_lock(struct rme_seat *s) { return lock(s, (struct patience){.turns = UINT64_MAX, .longest = 200}); }
 int rme_lock_within(struct rme_seat *s, uint64_t turns) { return lock(s, (struct patience){.turns = turns, .longest = 1}); }
 int rme_unlock(struct rme_seat *s) { return call(s, &plain[RME_UNLOCK], NULL); }
 int rme_consistent(struct rme_seat *s) { return call(s, &plain[RME_CONSISTENT], NULL); }

@@ -1,8 +1,9 @@
 /* A recoverable first-come first-served lock with a mailbox, between processes that may really die. docs/c.md says what is
  * proved of it, what is trusted, and how a supervisor starts a process again.
  *
- * Two layers. The machine (proved): which shared word a process loads or stores next, and what that was. The shim (rme.c, not
- * proved): makes each access that the machine names, waits, and keeps the file. Both are in librme. */
+ * Two layers, both in librme. The machine (proved): which shared word a process loads or stores next, and what that was. The shim
+ * (not proved): makes each access that the machine names and waits (rme.c), keeps the file (file.c), and recovers for the dead
+ * (reap.c). */
 #ifndef RME_H
 #define RME_H
 
@@ -70,7 +71,7 @@ struct rme_index {
 typedef int rme_repair(struct rme_seat *dead, uint64_t index, void *data, size_t data_bytes, void *context);
 
 /* Each call answers 0 or one of its errors, unless it says `Answers`. Each call with a seat has these errors too:
- *     EINVAL  the seat is not attached in this process (a child of fork has no seat), or a pointer that is needed is null
+ *     EINVAL  the seat is not attached in this process (in a child of fork it can only look), or a pointer that is needed is null
  *     EBUSY   a call with this seat is under way: in another thread, or in the one that this signal handler has interrupted; or,
  *             but for locks, rme_blocker, rme_withdraw, rme_read_from and rme_detach: its lock was left after ETIMEDOUT
  *     EBADMSG the words are none that this library leaves, and the call named one that is not there; nothing is stored there

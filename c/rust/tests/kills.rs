@@ -86,10 +86,31 @@ fn send(path: &Path, index: u64, reaps: bool, lingers: bool) {
 
 // ---- who starts and kills them
 
-fn start(path: &Path, index: u64, reaps: bool, lingers: bool) -> Child {
+/// A sender, which is killed at the latest where this is dropped.
+struct Sender(Child);
+
+impl Drop for Sender {
+    fn drop(&mut self) {
+        let _ = self.0.kill();
+        let _ = self.0.wait();
+    }
+}
+
+impl Sender {
+    fn kill(&mut self) -> ExitStatus {
+        self.0.kill().expect("kill");
+        self.0.wait().expect("wait")
+    }
+
+    fn ended(&mut self) -> Option<ExitStatus> {
+        self.0.try_wait().expect("wait")
+    }
+}
+
+fn start(path: &Path, index: u64, reaps: bool, lingers: bool) -> Sender {
     let program = env::current_exe().expect("this program");
     let words = [index.to_string(), reaps.to_string(), lingers.to_string()];
-    Command::new(program).arg("send").arg(path).args(words).spawn().expect("start")
+    Sender(Command::new(program).arg("send").arg(path).args(words).spawn().expect("start"))
 }
 
 fn fresh(name: &str) -> PathBuf {
@@ -137,11 +158,8 @@ fn started_again() {
         draw ^= draw << 17;
         let index = draw % SENDERS;
         let Some(child) = &mut children[index as usize] else { continue };
-        let ended = match child.try_wait().expect("wait") {
-            None if kills < 300 => {
-                child.kill().expect("kill");
-                child.wait().expect("wait")
-            }
+        let ended = match child.ended() {
+            None if kills < 300 => child.kill(),
             None => continue,
             Some(status) => status,
         };
@@ -174,19 +192,21 @@ fn never_started_again() {
             if lingers {
                 // It has just come in, or stays: in a moment it has counted the first number.
                 thread::sleep(Duration::from_millis(20));
-                child.kill().expect("kill");
-                assert!(killed(child.wait().expect("wait")));
+                assert!(killed(child.kill()));
             }
             !lingers
         });
     }
     for child in &mut living {
         let begin = Instant::now();
-        while child.try_wait().expect("wait").is_none() {
+        let ended = loop {
+            if let Some(status) = child.ended() {
+                break status;
+            }
             assert!(begin.elapsed() < LONGEST, "the living do not go on");
             thread::sleep(Duration::from_millis(1));
-        }
-        assert!(child.wait().expect("wait").success());
+        };
+        assert!(ended.success());
     }
     assert_eq!(counts(&path), [MESSAGES / 2 - 1, MESSAGES / 2 - 1, MESSAGES, MESSAGES]);
     for index in 0..2 {

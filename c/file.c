@@ -17,7 +17,10 @@ _Static_assert(sizeof(struct rme_header) <= PAGE && 64 * LINE * 8 <= PAGE, "the 
 
 /* ---- making it ---- */
 
-static uint64_t data_offset(uint64_t words, uint64_t procs) { return (2 * PAGE + 8 * (words - 3 * procs) + 63) / 64 * 64; }
+static uint64_t data_offset(uint64_t words, uint64_t procs)
+{
+    return (UINT64_C(2) * PAGE + 8 * (words - 3 * procs) + 63) / 64 * 64;
+}
 
 /* A file in the path's folder that has no name yet; or, where the file system has none without, under the name that is left. */
 static int open_unnamed(const char *path, char name[PATH_MAX])

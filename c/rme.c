@@ -11,8 +11,9 @@
 #include <time.h>
 #include <unistd.h>
 
-_Static_assert(sizeof(struct rme_process) == 20 * 8, "the machine's numbers are u64, one after the other");
-_Static_assert(sizeof(struct rme_call) == 10 * 8 && sizeof(struct rme_access) == 3 * 8, "so are those of a call");
+_Static_assert(sizeof(struct rme_process) == 20 * sizeof(uint64_t), "the machine's numbers are u64, one after the other");
+_Static_assert(sizeof(struct rme_call) == 10 * sizeof(uint64_t), "so are those of a call");
+_Static_assert(sizeof(struct rme_access) == 3 * sizeof(uint64_t), "and those of an access");
 _Static_assert(__atomic_always_lock_free(8, 0), "a word is one atomic u64");
 
 /* ---- accesses ---- */
@@ -98,9 +99,10 @@ static bool rest(struct rme_seat *s, uint64_t place, uint64_t seen, uint64_t lon
     return false;
 }
 
-/* Takes the steps of the call under way, from this access on, to its answer, or as long as it may wait. From RME_LOAD on the machine
- * tells the place of a lock word. */
-static inline __attribute__((always_inline)) uint64_t finish(struct rme_seat *s, struct rme_access *access, struct patience may_wait)
+/* Takes the steps of the call under way, from this access on, to its answer, or as long as it may wait. From RME_LOAD on the
+ * machine tells the place of a lock word. */
+static inline __attribute__((always_inline)) uint64_t finish(struct rme_seat *s, struct rme_access *access,
+                                                             struct patience may_wait)
 {
     uint64_t told, seen;
     for (;;) {

@@ -24,7 +24,8 @@ static inline int disable_cancellation(void)
     pthread_setcancelstate(PTHREAD_CANCEL_DISABLE, &state);
     return state;
 }
-#define WITHOUT_CANCELLATION __attribute__((cleanup(restore_cancellation))) const int cancellation = disable_cancellation()
+#define WITHOUT_CANCELLATION \
+    __attribute__((cleanup(restore_cancellation), unused)) const int cancellation = disable_cancellation()
 
 #pragma GCC visibility push(hidden)
 

@@ -234,7 +234,7 @@ class Seat(_Open):
     """One living process at its index of the file. OSError with EBUSY: another living process has it."""
 
     def __init__(self, path, index, milliseconds=0):
-        """Waits for a reaper that acts for the index, for so many milliseconds."""
+        """Waits for a reaper that acts for the index, at most `milliseconds`."""
         super().__init__(lambda at: _check(_rme.rme_attach_within(at, os.fsencode(path), index, milliseconds), path))
 
     @property
@@ -254,7 +254,8 @@ class Seat(_Open):
         return Inside(self, False)
 
     def lock(self, turns=None):
-        """Waits for its turn and enters. With `turns` TimeoutError after so many blocked readings: it keeps its place."""
+        """Waits for its turn and enters. With `turns`, TimeoutError after that number of blocked readings: it
+        keeps its place."""
         return self._entered(_rme.rme_lock(self._at) if turns is None else _rme.rme_lock_within(self._at, turns))
 
     def lock_reaping(self, turns, repair=None):

@@ -257,7 +257,7 @@ static int wrong_words(void)
     return 2;
 }
 
-/* Reads so many numbers, at most four. */
+/* Reads `count` numbers, at most four. */
 static bool read_numbers(char **word, int count, uint64_t *number)
 {
     if (count > 4)

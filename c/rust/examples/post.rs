@@ -17,10 +17,10 @@ fn main() -> Result<(), Box<dyn Error>> {
         guard.mended()?; // an earlier process of this index died inside: its append is ended
     }
     let number = 1 + guard.read_from(0).filter(|message| message.sender == index).count() as u64;
-    let told = match guard.append(number, &[77])? {
+    let outcome = match guard.append(number, &[77])? {
         Appended::Stored => "stored",
         Appended::Already => "already there",
     };
-    println!("message {number}: {told}");
+    println!("message {number}: {outcome}");
     Ok(guard.unlock()?)
 }

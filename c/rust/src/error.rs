@@ -14,7 +14,7 @@ pub enum LockError {
     NotRecoverable,
     /// This process is inside already.
     AlreadyInside,
-    /// So many readings were blocked. The seat keeps its place: the next lock waits on there.
+    /// The readings that it was given were all blocked. The seat keeps its place: the next lock waits on there.
     TimedOut,
     /// Another call of this seat is under way: a lock that has timed out, which waits on or is withdrawn.
     Busy,

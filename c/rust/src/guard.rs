@@ -10,7 +10,7 @@ use crate::seat::Seat;
 
 /// A lock that is held. Dropping it leaves, but for a thread that panics: what it did inside may be half done then, so it
 /// stays inside until the [`Seat`] is dropped, and that counts as a death inside. Whoever attaches next under this index, or
-/// reaps it, is told so.
+/// reaps it, learns of it.
 #[must_use = "a guard that is dropped leaves the lock"]
 pub struct Guard<'a> {
     seat: &'a mut Seat,
@@ -184,7 +184,7 @@ impl<'a> Data<'a> {
     ///
     /// # Panics
     ///
-    /// Where there are not so many.
+    /// Where the data end before.
     pub fn read(&self, from: usize, into: &mut [u8]) {
         let shared = &self.bytes[from..][..into.len()];
         for (byte, shared) in into.iter_mut().zip(shared) {
@@ -196,7 +196,7 @@ impl<'a> Data<'a> {
     ///
     /// # Panics
     ///
-    /// Where there are not so many.
+    /// Where the data end before.
     pub fn write(&self, from: usize, bytes: &[u8]) {
         for (byte, shared) in bytes.iter().zip(&self.bytes[from..][..bytes.len()]) {
             shared.store(*byte, Ordering::Relaxed);

@@ -95,7 +95,7 @@ impl Seat {
         self.enter(|seat| unsafe { ffi::rme_lock(seat) })
     }
 
-    /// The same, for so many blocked readings: short ones at first, then sleeps of at most a millisecond.
+    /// The same, for `turns` blocked readings: short ones at first, then sleeps of at most a millisecond.
     ///
     /// # Errors
     ///
@@ -106,7 +106,7 @@ impl Seat {
         self.enter(|seat| unsafe { ffi::rme_lock_within(seat, turns) })
     }
 
-    /// A [`lock`](Seat::lock) that looks after so many blocked readings whether the process that blocks it lives, and gives up
+    /// A [`lock`](Seat::lock) that looks after `turns` blocked readings whether the process that blocks it lives, and gives up
     /// its place where it does not, as [`reap`](crate::reap()) does.
     ///
     /// # Errors

@@ -124,7 +124,7 @@ impl Inspection {
         self.handle.file_status()
     }
 
-    /// How an index stands. Who lives is told by its lease.
+    /// How an index stands. Its lease says whether a process lives.
     pub fn index_status(&self, index: u64) -> io::Result<IndexStatus> {
         self.handle.index_status(index)
     }

@@ -1,7 +1,7 @@
 //! Real processes that are killed: this program starts itself again as each of them.
 //!
 //! Whoever is inside counts two numbers of the caller's data, one after the other. Whoever finds them apart has met somebody
-//! else inside, unless it was told of a death.
+//! else inside, unless its lock said that its owner died.
 
 use std::env;
 use std::path::{Path, PathBuf};
@@ -169,7 +169,7 @@ fn started_again() {
     }
     assert_eq!(counts(&path), [MESSAGES; SENDERS as usize]);
     let (owner_died, _, overlaps) = tallies(&path);
-    println!("started again: {kills} kills, {owner_died} deaths inside were told, {overlaps} overlaps");
+    println!("started again: {kills} kills, {owner_died} deaths inside were found, {overlaps} overlaps");
     assert!(kills >= 20 && owner_died > 0 && overlaps == 0);
     std::fs::remove_dir_all(path.parent().expect("folder")).expect("remove");
 }

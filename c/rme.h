@@ -100,7 +100,7 @@ int rme_create(const char *path, uint64_t procs, uint64_t cap, uint64_t width, u
  *     and those of open, fstat, pread, fcntl and mmap */
 int rme_attach(struct rme_seat *seat, const char *path, uint64_t index);
 
-/* The same, and waits for a reaper that acts for the index to be done, for so many milliseconds.
+/* The same, and waits for a reaper that acts for the index to be done, for at most `milliseconds`.
  * Errors:
  *     EBUSY     a living process has this index
  *     ETIMEDOUT a reaper still acts for it
@@ -127,13 +127,13 @@ int rme_detach(struct rme_seat *seat);
  *     EOVERFLOW       the numbers are spent; not inside */
 int rme_lock(struct rme_seat *seat);
 
-/* The same, for so many blocked readings: short ones at first, then sleeps of at most a millisecond.
+/* The same, for `turns` blocked readings: short ones at first, then sleeps of at most a millisecond.
  * Errors:
  *     ETIMEDOUT still not inside: it keeps its place in line; rme_lock.. goes on, rme_withdraw gives the place up
  *     and those of rme_lock */
 int rme_lock_within(struct rme_seat *seat, uint64_t turns);
 
-/* rme_lock that reaps the dead who block it: after so many blocked readings, and where it sleeps every 20 milliseconds at the
+/* rme_lock that reaps the dead who block it: after `turns` blocked readings, and where it sleeps every 20 milliseconds at the
  * latest, it looks whether the process that blocks it lives. After an error of the reaping it keeps its place, as after ETIMEDOUT.
  * Errors: those of rme_lock, and of fcntl */
 int rme_lock_reaping(struct rme_seat *seat, uint64_t turns, rme_repair *repair, void *context);
@@ -230,7 +230,7 @@ int rme_reaped(const struct rme_seat *seat);
 /* How the file stands. */
 int rme_file_status(const struct rme_seat *seat, struct rme_file *status);
 
-/* How an index stands: who is alive is told by its lease, which is not taken for that.
+/* How an index stands: its lease says who is alive, and is not taken for that.
  * Errors:
  *     EINVAL no such index
  *     and those of fcntl */

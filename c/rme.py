@@ -1,0 +1,343 @@
+"""A recoverable first-come first-served lock with a mailbox, between processes that may die: librme from Python.
+
+    import rme
+
+    rme.create("box", procs=2, cap=1024, width=1)
+    with rme.Seat("box", 0) as seat:
+        with seat.lock() as inside:
+            if inside.owner_died:        # an earlier process with this index died inside
+                ...                      # repair what the lock guards
+                inside.mended()
+            inside.append(1, 77)
+        print(seat.messages())
+
+The shared library is the one that RME_LIBRARY names, else the one beside or above this file, else the system's. Each refusal is
+an OSError with its error number. A block `with seat.lock()` leaves the lock at its end, by an exception too; where the owner had
+died and `mended` was not called, this ruins the lock for all. A seat is used by one thread at a time, and not by a child of
+fork."""
+
+import ctypes
+import ctypes.util
+import enum
+import errno
+import os
+from collections import namedtuple
+
+__all__ = ["Found", "Inside", "Life", "Message", "Seat", "create", "inspect", "reap", "reap_all", "version"]
+
+_WORD = ctypes.c_uint64
+_SEAT = ctypes.c_void_p
+_INT = ctypes.c_int
+
+Message = namedtuple("Message", "place sender number value")
+FileStatus = namedtuple("FileStatus", "procs cap width limit words data_bytes count closed ruined")
+IndexStatus = namedtuple("IndexStatus", "choosing number inside found life reaped")
+
+
+class Found(enum.IntEnum):
+    """Where an earlier process of an index stood."""
+
+    NOTHING = 0
+    IDLE = 23
+    LEFT = 24
+    DOORWAY = 25
+    WAITING = 26
+    INSIDE = 27
+
+
+class Life(enum.IntEnum):
+    """Whether a process has an index."""
+
+    ABSENT = 0
+    ALIVE = 1
+    DEAD = 2
+    IN_REAPING = 3
+
+
+class _Message(ctypes.Structure):
+    _fields_ = [("sender", _WORD), ("number", _WORD), ("value", _WORD * 8)]
+
+
+class _File(ctypes.Structure):
+    _fields_ = [(name, _WORD) for name in FileStatus._fields]
+
+
+class _Index(ctypes.Structure):
+    _fields_ = [("choosing", _WORD), ("number", _WORD), ("inside", _WORD), ("found", _INT), ("life", _INT), ("reaped", _INT)]
+
+
+_REPAIR = ctypes.CFUNCTYPE(_INT, _SEAT, _WORD, ctypes.c_void_p, ctypes.c_size_t, ctypes.c_void_p)
+
+_CALLS = {
+    "rme_create": (_INT, [ctypes.c_char_p, _WORD, _WORD, _WORD, _WORD]),
+    "rme_attach_within": (_INT, [_SEAT, ctypes.c_char_p, _WORD, _WORD]),
+    "rme_inspect": (_INT, [_SEAT, ctypes.c_char_p]),
+    "rme_detach": (_INT, [_SEAT]),
+    "rme_lock": (_INT, [_SEAT]),
+    "rme_lock_within": (_INT, [_SEAT, _WORD]),
+    "rme_lock_reaping": (_INT, [_SEAT, _WORD, _REPAIR, ctypes.c_void_p]),
+    "rme_blocker": (_INT, [_SEAT, ctypes.POINTER(_WORD), ctypes.POINTER(ctypes.c_bool)]),
+    "rme_withdraw": (_INT, [_SEAT]),
+    "rme_unlock": (_INT, [_SEAT]),
+    "rme_consistent": (_INT, [_SEAT]),
+    "rme_recover": (_INT, [_SEAT, ctypes.POINTER(_INT)]),
+    "rme_append": (_INT, [_SEAT, _WORD, ctypes.POINTER(_WORD)]),
+    "rme_close": (_INT, [_SEAT]),
+    "rme_get": (_INT, [_SEAT, _WORD, ctypes.POINTER(_WORD)]),
+    "rme_put": (_INT, [_SEAT, _WORD, _WORD]),
+    "rme_read_from": (_WORD, [_SEAT, _WORD, ctypes.POINTER(_Message), _WORD]),
+    "rme_data": (ctypes.c_void_p, [_SEAT, ctypes.POINTER(ctypes.c_size_t)]),
+    "rme_reap": (_INT, [ctypes.c_char_p, _WORD, _REPAIR, ctypes.c_void_p]),
+    "rme_reap_all": (_INT, [ctypes.c_char_p, _REPAIR, ctypes.c_void_p, ctypes.POINTER(_WORD)]),
+    "rme_crashed": (ctypes.c_bool, [_SEAT]),
+    "rme_reaped": (_INT, [_SEAT]),
+    "rme_file_status": (_INT, [_SEAT, ctypes.POINTER(_File)]),
+    "rme_index_status": (_INT, [_SEAT, _WORD, ctypes.POINTER(_Index)]),
+    "rme_seat_size": (ctypes.c_size_t, []),
+    "rme_version": (ctypes.c_char_p, []),
+    "rme_strerror": (ctypes.c_char_p, [_INT]),
+}
+
+
+def _library():
+    here = os.path.dirname(os.path.realpath(__file__))
+    beside = [os.path.join(here, *above, "librme.so.1") for above in [(), ("out",), ("..", ".."), ("..", "..", "..")]]
+    named = os.environ.get("RME_LIBRARY") or next((path for path in beside if os.path.exists(path)), None)
+    library = ctypes.CDLL(named or ctypes.util.find_library("rme") or "librme.so.1")
+    for name, (answer, arguments) in _CALLS.items():
+        call = getattr(library, name)
+        call.restype, call.argtypes = answer, arguments
+    return library
+
+
+_rme = _library()
+
+
+def _check(error, path=None):
+    if error:
+        raise OSError(error, _rme.rme_strerror(error).decode(), path)
+
+
+def version():
+    """The library's version."""
+    return _rme.rme_version().decode()
+
+
+def create(path, procs, cap, width=1, data_bytes=0):
+    """Makes the file; FileExistsError where there is one of this name."""
+    _check(_rme.rme_create(os.fsencode(path), procs, cap, width, data_bytes), path)
+
+
+def _repairing(repair, raised):
+    """`repair` for C: what it raises is kept in `raised`, and says that the data are lost."""
+
+    def call(dead, index, data, length, _context):
+        try:
+            shared = (ctypes.c_char * length).from_address(data) if data else bytearray()
+            with memoryview(shared).cast("B") as memory:
+                return 1 if repair(index, memory) is False else 0
+        except BaseException as error:  # goes on in the caller: nothing may pass through C
+            raised.append(error)
+            return 1
+
+    return _REPAIR(call) if repair else _REPAIR()
+
+
+def reap(path, index, repair=None):
+    """Gives up the place of the dead process with this index. Where it died inside, `repair(index, data)` is called first; where
+    that answers False or raises, the lock is ruined. ProcessLookupError: there is no dead one."""
+    raised = []
+    error = _rme.rme_reap(os.fsencode(path), index, _repairing(repair, raised), None)
+    if raised:
+        raise raised[0]
+    _check(error, path)
+
+
+def reap_all(path, repair=None):
+    """The same for each index; answers how many places were given up."""
+    raised, reaped = [], _WORD()
+    error = _rme.rme_reap_all(os.fsencode(path), _repairing(repair, raised), None, ctypes.byref(reaped))
+    if raised:
+        raise raised[0]
+    _check(error, path)
+    return reaped.value
+
+
+class _Open:
+    """A file that is open, as a process at its index or to be looked at."""
+
+    def __init__(self, opening):
+        self._seat = ctypes.create_string_buffer(_rme.rme_seat_size() + 64)
+        self._at = (ctypes.addressof(self._seat) + 63) // 64 * 64
+        self._open = False
+        opening(self._at)
+        self._open = True
+        self._width = self.file_status().width
+
+    def close(self):
+        """Closes the file. OSError with EBUSY: it was inside or in line, which counts as a crash."""
+        if self._open:
+            self._open = False
+            _check(_rme.rme_detach(self._at))
+
+    def __enter__(self):
+        return self
+
+    def __exit__(self, *_raised):
+        self.close()
+
+    def __del__(self):
+        if self._open:
+            self._open = False
+            _rme.rme_detach(self._at)
+
+    def messages(self, place=0):
+        """The messages from this place on. It needs no lock."""
+        room, found = (_Message * 256)(), []
+        while count := _rme.rme_read_from(self._at, place, room, len(room)):
+            found += [Message(place + k, m.sender, m.number, tuple(m.value[: self._width])) for k, m in enumerate(room[:count])]
+            place += count
+        return found
+
+    def data(self, start=0, length=None):
+        """Bytes of the caller's own data, as they stand. Who writes them is inside, so read them inside."""
+        at, whole = self._data()
+        end = whole if length is None else start + length
+        if not 0 <= start <= end <= whole:
+            raise IndexError(f"the data of this file have {whole} bytes")
+        return ctypes.string_at(at + start, end - start) if end > start else b""
+
+    def _data(self):
+        length = ctypes.c_size_t()
+        return _rme.rme_data(self._at, ctypes.byref(length)), length.value
+
+    def file_status(self):
+        """How the file stands."""
+        status = _File()
+        _check(_rme.rme_file_status(self._at, status))
+        *sizes, closed, ruined = (getattr(status, name) for name in FileStatus._fields)
+        return FileStatus(*sizes, closed != 0, ruined != 0)
+
+    def index_status(self, index):
+        """How an index stands: its lock words, where they stand, and whether a process has it."""
+        s = _Index()
+        _check(_rme.rme_index_status(self._at, index, s))
+        return IndexStatus(s.choosing, s.number, s.inside, Found(s.found), Life(s.life), Found(s.reaped))
+
+
+def inspect(path):
+    """Opens the file to look at it: `messages`, `file_status`, `index_status`. Nothing in it is changed."""
+    return _Open(lambda at: _check(_rme.rme_inspect(at, os.fsencode(path)), path))
+
+
+class Seat(_Open):
+    """One living process at its index of the file. OSError with EBUSY: another living process has it."""
+
+    def __init__(self, path, index, milliseconds=0):
+        """Waits for a reaper that acts for the index, at most `milliseconds`."""
+        super().__init__(lambda at: _check(_rme.rme_attach_within(at, os.fsencode(path), index, milliseconds), path))
+
+    @property
+    def crashed(self):
+        """Whether an earlier process of this index died, and nobody has given up its place."""
+        return _rme.rme_crashed(self._at)
+
+    @property
+    def reaped(self):
+        """Where a reaper found an earlier process of this index that had died."""
+        return Found(_rme.rme_reaped(self._at))
+
+    def _entered(self, error):
+        if error == errno.EOWNERDEAD:
+            return Inside(self, True)
+        _check(error)
+        return Inside(self, False)
+
+    def lock(self, turns=None):
+        """Waits for its turn and enters. With `turns`, TimeoutError after that number of blocked readings: it
+        keeps its place."""
+        return self._entered(_rme.rme_lock(self._at) if turns is None else _rme.rme_lock_within(self._at, turns))
+
+    def lock_reaping(self, turns, repair=None):
+        """`lock` that gives up the places of the dead who block it, as `reap` does."""
+        raised = []
+        error = _rme.rme_lock_reaping(self._at, turns, _repairing(repair, raised), None)
+        if error in (0, errno.EOWNERDEAD) and raised:
+            _rme.rme_unlock(self._at)
+        if raised:
+            raise raised[0]
+        return self._entered(error)
+
+    def blocker(self):
+        """After TimeoutError: the index that was waited for at last, and whether its process lives."""
+        index, alive = _WORD(), ctypes.c_bool()
+        _check(_rme.rme_blocker(self._at, ctypes.byref(index), ctypes.byref(alive)))
+        return index.value, alive.value
+
+    def withdraw(self):
+        """Gives up the place in line after TimeoutError."""
+        _check(_rme.rme_withdraw(self._at))
+
+    def recover(self):
+        """Answers where an earlier process of this index stood, and after Found.INSIDE the lock that is held again, else None."""
+        found = _INT()
+        _check(_rme.rme_recover(self._at, ctypes.byref(found)))
+        return Found(found.value), Inside(self, True) if found.value == Found.INSIDE else None
+
+
+class Inside:
+    """A lock that is held: by `with` it is left at the end."""
+
+    def __init__(self, seat, owner_died):
+        self._seat, self._at = seat, seat._at
+        self.owner_died = owner_died
+
+    def __enter__(self):
+        return self
+
+    def __exit__(self, *_raised):
+        self.unlock()
+
+    def mended(self):
+        """After owner_died: what the dead one left half done in the mailbox is ended, and the lock counts as mended."""
+        _check(_rme.rme_consistent(self._at))
+
+    def append(self, number, *value):
+        """Stores a message as this process's next: True. False: the message with this number is there already."""
+        if len(value) != self._seat._width:
+            raise ValueError(f"a message of this file has {self._seat._width} words")
+        error = _rme.rme_append(self._at, number, (_WORD * 8)(*value))
+        if error == errno.EALREADY:
+            return False
+        _check(error)
+        return True
+
+    def write(self, start, data):
+        """Writes the caller's own data from this byte on."""
+        at, whole = self._seat._data()
+        if not 0 <= start <= start + len(data) <= whole:
+            raise IndexError(f"the data of this file have {whole} bytes")
+        if data:
+            ctypes.memmove(at + start, bytes(data), len(data))
+
+    def close_mailbox(self):
+        """Nothing is appended any more. False: it was closed already."""
+        error = _rme.rme_close(self._at)
+        if error == errno.EALREADY:
+            return False
+        _check(error)
+        return True
+
+    def get(self, i):
+        """Word i of the board, 0 to 3."""
+        word = _WORD()
+        _check(_rme.rme_get(self._at, i, ctypes.byref(word)))
+        return word.value
+
+    def put(self, i, word):
+        """Writes word i of the board, 0 to 3."""
+        _check(_rme.rme_put(self._at, i, word))
+
+    def unlock(self):
+        """Leaves. Where the owner had died and `mended` was not called, the lock is ruined for all."""
+        _check(_rme.rme_unlock(self._at))

@@ -1,0 +1,109 @@
+//! Why a call was refused.
+
+use std::error::Error;
+use std::fmt;
+use std::io;
+
+use crate::ffi;
+
+/// Why a lock was not entered.
+#[derive(Clone, Copy, Debug, PartialEq, Eq)]
+#[non_exhaustive]
+pub enum LockError {
+    /// A holder whose owner had died left without [`mended`](crate::Guard::mended): the lock is of no use any more.
+    NotRecoverable,
+    /// This process is inside already.
+    AlreadyInside,
+    /// The readings that it was given were all blocked. The seat keeps its place: the next lock waits on there.
+    TimedOut,
+    /// Another call of this seat is under way: a lock that has timed out, which waits on or is withdrawn.
+    Busy,
+    /// All numbers of this lock are spent.
+    NumbersSpent,
+    /// It does not wait in line.
+    NotWaiting,
+    /// The owner had not died, or it is mended already.
+    NothingToMend,
+    /// The error number of another cause.
+    Other(i32),
+}
+
+/// Why a message was not stored, a board word not read or written, or the mailbox not closed.
+#[derive(Clone, Copy, Debug, PartialEq, Eq)]
+#[non_exhaustive]
+pub enum MailError {
+    /// Neither the sender's next number nor an earlier one, a value of another width, or no such board word.
+    Invalid,
+    /// The mailbox has no room left.
+    Full,
+    /// The mailbox is closed.
+    Closed,
+    /// The owner had died: [`mended`](crate::Guard::mended) comes first.
+    OwnerDied,
+    /// The error number of another cause.
+    Other(i32),
+}
+
+impl LockError {
+    pub(crate) fn of(number: i32) -> LockError {
+        match number {
+            ffi::ENOTRECOVERABLE => LockError::NotRecoverable,
+            ffi::EDEADLK => LockError::AlreadyInside,
+            ffi::ETIMEDOUT => LockError::TimedOut,
+            ffi::EBUSY => LockError::Busy,
+            ffi::EOVERFLOW => LockError::NumbersSpent,
+            other => LockError::Other(other),
+        }
+    }
+}
+
+impl MailError {
+    pub(crate) fn of(number: i32) -> MailError {
+        match number {
+            ffi::EINVAL => MailError::Invalid,
+            ffi::ENOSPC => MailError::Full,
+            ffi::EPIPE => MailError::Closed,
+            ffi::EOWNERDEAD => MailError::OwnerDied,
+            other => MailError::Other(other),
+        }
+    }
+}
+
+impl fmt::Display for LockError {
+    fn fmt(&self, out: &mut fmt::Formatter<'_>) -> fmt::Result {
+        match self {
+            LockError::NotRecoverable => out.write_str("the lock is not recoverable"),
+            LockError::AlreadyInside => out.write_str("this process is inside already"),
+            LockError::TimedOut => out.write_str("timed out; the place in the line is kept"),
+            LockError::Busy => out.write_str("another call of this seat is under way"),
+            LockError::NumbersSpent => out.write_str("the numbers of this lock are spent"),
+            LockError::NotWaiting => out.write_str("this process does not wait in line"),
+            LockError::NothingToMend => out.write_str("there is nothing to mend"),
+            LockError::Other(number) => io::Error::from_raw_os_error(*number).fmt(out),
+        }
+    }
+}
+
+impl fmt::Display for MailError {
+    fn fmt(&self, out: &mut fmt::Formatter<'_>) -> fmt::Result {
+        match self {
+            MailError::Invalid => out.write_str("not the next number, another width, or no such word"),
+            MailError::Full => out.write_str("the mailbox is full"),
+            MailError::Closed => out.write_str("the mailbox is closed"),
+            MailError::OwnerDied => out.write_str("the owner died, and what it left is not mended"),
+            MailError::Other(number) => io::Error::from_raw_os_error(*number).fmt(out),
+        }
+    }
+}
+
+impl Error for LockError {}
+impl Error for MailError {}
+
+/// 0 is fine, any other number an error of the system.
+pub(crate) fn io_result(number: i32) -> io::Result<()> {
+    if number == 0 {
+        Ok(())
+    } else {
+        Err(io::Error::from_raw_os_error(number))
+    }
+}

@@ -39,7 +39,7 @@ static int append(struct rme_seat *seat, uint64_t sender, uint64_t number)
     uint64_t value[8] = {0};
     for (uint64_t j = 0; j < width; j++)
         value[j] = value_of(sender, number, j);
-    return rme_append(seat, number, value);
+    return TRACED(rme_append(seat, number, value));
 }
 
 /* How many messages of the sender stand below count. Each has to stand in its order and with its value. */
@@ -111,6 +111,7 @@ void examine_end(enum role role, uint64_t index, bool began_inside)
 static int repair(struct rme_seat *dead, uint64_t index, void *own_data, size_t bytes, void *context)
 {
     struct rme_message read[CAP];
+    in_test();
     if (index >= VICTIMS || context != shared || bytes != 64 || !own_data || !is_inside(index))
         fail("repair is called with other arguments", (int64_t)index);
     if (rme_read_from(dead, 0, read, CAP) != data(2))
@@ -118,6 +119,7 @@ static int repair(struct rme_seat *dead, uint64_t index, void *own_data, size_t 
     *(uint64_t *)own_data = 0;
     shared->duty[index].inside = 0;
     shared->repaired++;
+    in_library();
     return 0;
 }
 
@@ -138,7 +140,7 @@ static void work(struct rme_seat *seat, uint64_t index)
     }
     if (index == 0) {
         const bool closed = data(1) != 0;
-        expect("close", rme_close(seat), closed ? EALREADY : 0);
+        expect("close", TRACED(rme_close(seat)), closed ? EALREADY : 0);
         duty->closed = 1;
     }
     *dirty() = 0;
@@ -149,14 +151,14 @@ static void leave(struct rme_seat *seat, uint64_t index)
 {
     shared->leased[index] = 0;
     shared->duty[index].attached = 0;
-    expect("detach", rme_detach(seat), 0);
+    expect("detach", TRACED(rme_detach(seat)), 0);
 }
 
 static void arrive(struct rme_seat *seat, uint64_t index)
 {
     struct duty *duty = &shared->duty[index];
     const struct duty owed = *duty;
-    expect("attach", rme_attach(seat, path, index), 0);
+    expect("attach", TRACED(rme_attach(seat, path, index)), 0);
     shared->leased[index] = 1;
     duty->attached = 1;
     duty->reaped = 0;
@@ -172,14 +174,14 @@ static int enter(struct rme_seat *seat, enum role role, uint64_t index)
 {
     int found = 0;
     if (role == LOCK_REAPING)
-        return rme_lock_reaping(seat, TURNS, repair, shared);
+        return TRACED(rme_lock_reaping(seat, TURNS, repair, shared));
     if (role == RECOVER) {
         const bool inside = is_inside(index);
-        expect("recover", rme_recover(seat, &found), 0);
+        expect("recover", TRACED(rme_recover(seat, &found)), 0);
         if ((found == RME_FOUND_INSIDE) != inside)
             fail("recover finds another place", found);
     }
-    return found == RME_FOUND_INSIDE ? EOWNERDEAD : rme_lock_within(seat, TURNS);
+    return found == RME_FOUND_INSIDE ? EOWNERDEAD : TRACED(rme_lock_within(seat, TURNS));
 }
 
 static void session(enum role role, uint64_t index)
@@ -192,7 +194,7 @@ static void session(enum role role, uint64_t index)
     const bool other_blocks = !is_out(other);
     const int entered = enter(&seat, role, index);
     if (entered == ETIMEDOUT && other_blocks && !died_inside && role != LOCK_REAPING) {
-        expect("withdraw", rme_withdraw(&seat), 0);
+        expect("withdraw", TRACED(rme_withdraw(&seat)), 0);
         leave(&seat, index);
         return;
     }
@@ -202,18 +204,18 @@ static void session(enum role role, uint64_t index)
     duty->inside = 1;
     if (died_inside) {
         *dirty() = 0;
-        expect("consistent", rme_consistent(&seat), 0);
+        expect("consistent", TRACED(rme_consistent(&seat)), 0);
     }
     work(&seat, index);
     duty->inside = 0;
-    expect("unlock", rme_unlock(&seat), 0);
+    expect("unlock", TRACED(rme_unlock(&seat)), 0);
     leave(&seat, index);
 }
 
 static void reap(uint64_t index)
 {
     const bool marked = (*mark(index) & RME_ATTACHED) != 0;
-    expect("reap", rme_reap(path, index, repair, shared), marked ? 0 : ESRCH);
+    expect("reap", TRACED(rme_reap(path, index, repair, shared)), marked ? 0 : ESRCH);
     if (marked)
         shared->duty[index].reaped = 1;
     shared->duty[index].attached = 0;

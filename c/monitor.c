@@ -28,6 +28,20 @@ void monitor_begins(void)
         monitor->named[i] = (struct named){0};
 }
 
+void in_library(void)
+{
+    if (!monitor || !monitor->traced)
+        return;
+    monitor->quiet = 0;
+    __asm__ volatile("int3" ::: "memory");
+}
+
+void in_test(void)
+{
+    if (monitor)
+        monitor->quiet = 1;
+}
+
 static struct named *slot_of(const struct rme_process *process)
 {
     unsigned i = 0;
@@ -39,33 +53,41 @@ static struct named *slot_of(const struct rme_process *process)
 }
 
 /* What the machine has answered: 0 or RME_BLOCKED, the access is shown; RME_LOAD or more, a load of that place; else none. */
-static uint64_t note(const struct rme_process *process, uint64_t told, const struct rme_access *access)
+static void note(const struct rme_process *process, uint64_t told, const struct rme_access *access)
 {
     if (!monitor || !monitor->file)
-        return told;
+        return;
     struct named *slot = slot_of(process);
     slot->pending = told == 0 || told == RME_BLOCKED || told >= RME_LOAD;
     if (told >= RME_LOAD)
         slot->access = (struct rme_access){.place = told - RME_LOAD};
     else if (slot->pending)
         slot->access = *access;
-    return told;
 }
 
 uint64_t __wrap_rme_start(struct rme_process *p, const struct rme_call *call, struct rme_access *access)
 {
+    in_test();
     const uint64_t refused = __real_rme_start(p, call, access);
-    return refused ? refused : note(p, refused, access);
+    if (!refused)
+        note(p, refused, access);
+    in_library();
+    return refused;
 }
 
 uint64_t __wrap_rme_next(const struct rme_process *p, struct rme_access *access)
 {
+    in_test();
     const uint64_t refused = __real_rme_next(p, access);
-    return refused ? refused : note(p, refused, access);
+    if (!refused)
+        note(p, refused, access);
+    in_library();
+    return refused;
 }
 
 uint64_t __wrap_rme_feed(struct rme_process *p, uint64_t value, struct rme_access *access)
 {
+    in_test();
     if (monitor && monitor->file) {
         const struct named *slot = slot_of(p);
         const struct rme_access *named = &slot->access;
@@ -77,5 +99,8 @@ uint64_t __wrap_rme_feed(struct rme_process *p, uint64_t value, struct rme_acces
             monitor_refuses("the value fed is not that of the word named", named, value);
         monitor->compared++;
     }
-    return note(p, __real_rme_feed(p, value, access), access);
+    const uint64_t told = __real_rme_feed(p, value, access);
+    note(p, told, access);
+    in_library();
+    return told;
 }

@@ -21,6 +21,7 @@ struct monitor {
     uint64_t procs, words;
     struct named named[4];
     uint64_t last, compared;
+    uint64_t traced, quiet; /* whether a tracer goes on by single steps, but where this is quiet */
 };
 
 extern struct monitor *monitor;
@@ -31,5 +32,12 @@ uint64_t offset_of(uint64_t place, uint64_t procs);
 _Noreturn void monitor_refuses(const char *what, const struct rme_access *named, uint64_t found);
 /* Forgets what was named: a new process begins. */
 void monitor_begins(void);
+
+/* Around each call of the library: a tracer goes on by single instructions from in_library on, and lets run what in_test says is
+ * the test's own. The machine's calls are quiet too: none is handed anything that leads to the file. */
+void in_library(void);
+void in_test(void);
+static inline int in_test_again(int answer) { return in_test(), answer; }
+#define TRACED(call) (in_library(), in_test_again(call))
 
 #endif

@@ -27,7 +27,7 @@ void every_call(void);
 /* Every call of the seat, which may be attached or not. */
 void every_seat_call(struct rme_seat *seat);
 
-/* Runs one case in a process of its own: it ends with 0, or by this signal where one is named. */
-void run_case(const char *name, void (*body)(uint64_t), uint64_t argument, int allowed_signal);
+/* Runs one case in a process of its own: it has to end with 0, or by this signal where one is named. Answers whether it did. */
+bool run_case(const char *name, void (*body)(uint64_t), uint64_t argument, int allowed_signal);
 
 #endif

@@ -4,7 +4,7 @@
  *
  * Each case runs in a process of its own. It has to end by itself, each call with an answer that rme.h names for it, and,
  * compiled with the sanitizers of addresses and undefined behaviour, without a report. The file is mapped between two pages that
- * may not be touched (linked with --wrap=mmap,--wrap=munmap), and its words end where its last page ends, so that an access
+ * may not be touched (linked with --wrap=mmap), and its words end where its last page ends, so that an access
  * beside it ends the process. ROUNDS files get drawn words. The cases of a full and of a read-only disk mount a small file
  * system in FOLDER, seen by themselves alone; --no-mount leaves them out. */
 #define _GNU_SOURCE
@@ -27,14 +27,14 @@
 #include <unistd.h>
 
 static const char *folder;
-static unsigned cases;
+static unsigned cases, failed;
 
 static const uint64_t odd[] = {0, 1, 2, UINT64_C(1) << 32, UINT64_C(1) << 63, UINT64_MAX - 4095, UINT64_MAX};
 enum { ODD = sizeof odd / sizeof *odd };
 
 static void go(const char *name, void (*body)(uint64_t), uint64_t argument)
 {
-    run_case(name, body, argument, 0);
+    failed += !run_case(name, body, argument, 0);
     cases++;
 }
 
@@ -159,7 +159,7 @@ static const struct breach breaches[] = {
     {8, {{ENTRY, UINT64_MAX}}}, {8, {{LAST, UINT64_MAX}}}, {8, {{LAST, UINT64_MAX - 1}}}, {8, {{DATA + 2, CAP}}},
     {9, {{DATA + 3, 1}}}, {9, {{1, 1}, {2, 1}, {DATA + 3, 1}, {DATA + 4, CAP}}},
     {9, {{1, 1}, {2, 1}, {DATA + 3, 1}, {DATA + 4, UINT64_MAX}}}, {9, {{1, 1}, {2, 1}, {DATA + 3, 1}, {DATA + 5, UINT64_MAX}}},
-    {9, {{DATA, 1}, {DATA + 3, 1}, {DATA + 4, 1}}},
+    {9, {{DATA, 1}, {DATA + 3, 1}, {DATA + 4, CAP - 1}}},
 };
 
 static void breach(uint64_t which)
@@ -248,12 +248,12 @@ static void sizes(uint64_t which)
 {
     uint64_t size[4] = {PROCS, 4, 1, 0};
     struct rme_seat seat;
-    size[which / ODD] = odd[which % ODD];
+    size[which / ODD] = which % ODD == 3 ? 65537 : odd[which % ODD];
     unlink(path);
     const int answer = rme_create(path, size[0], size[1], size[2], size[3]);
     expect_one_of("create", answer, (const int[]){EINVAL, EFBIG, ENOSPC, 0});
     const bool right = size[0] >= 1 && size[0] <= 64 && size[1] >= 1 && size[1] <= 65536 && size[2] >= 1 && size[2] <= 8;
-    if (right && size[3] < 4096)
+    if (right && size[3] < UINT64_C(1) << 32)
         expect("create of sizes in range", answer, 0);
     if (!right)
         expect("create of sizes out of range", answer, EINVAL);
@@ -325,20 +325,17 @@ static void linked(uint64_t which)
 
 /* ---- disks ---- */
 
-static void mounted(const char *options, unsigned long flags)
+/* A small file system, which this process alone sees. */
+static void mount_small(void)
 {
-    static bool own;
-    if (!own && (unshare(CLONE_NEWNS) || mount(NULL, "/", NULL, MS_REC | MS_PRIVATE, NULL)))
-        fail("a mount space of its own (--no-mount leaves this case out)", errno);
-    own = true;
-    if (mount("none", folder, "tmpfs", flags, options))
+    if (unshare(CLONE_NEWNS) || mount(NULL, "/", NULL, MS_REC | MS_PRIVATE, NULL) || mount("none", folder, "tmpfs", 0, "size=64k"))
         fail("mount (--no-mount leaves this case out)", errno);
 }
 
 static void full_disk(uint64_t which)
 {
     (void)which;
-    mounted("size=64k", 0);
+    mount_small();
     new_file(0);
     expect("create of too much", rme_create(path, PROCS, 65536, 8, 0), EEXIST);
     char name[sizeof path];
@@ -362,9 +359,10 @@ static void read_only(uint64_t which)
 {
     struct rme_seat seat;
     (void)which;
-    mounted("size=64k", 0);
+    mount_small();
     new_file(0);
-    mounted("size=64k,remount,ro", MS_REMOUNT | MS_RDONLY);
+    if (mount(NULL, folder, NULL, MS_REMOUNT | MS_RDONLY, NULL))
+        fail("remount (--no-mount leaves this case out)", errno);
     expect("attach", rme_attach(&seat, path, 0), EROFS);
     expect("create where a file is", rme_create(path, PROCS, CAP, WIDTH, 0), EEXIST);
     expect("inspect", rme_inspect(&seat, path), 0);
@@ -523,7 +521,7 @@ static void of_files(void)
     for (uint64_t k = 0; k < sizeof lengths / sizeof *lengths; k++)
         go("a file of another length", cut_short, k);
     for (uint64_t k = 0; k < 6; k++) {
-        run_case("a file that is shortened while it is mapped", shortened, k, SIGBUS);
+        failed += !run_case("a file that is shortened while it is mapped", shortened, k, SIGBUS);
         cases++;
     }
     for (uint64_t k = 0; k < sizeof breaches / sizeof *breaches; k++)
@@ -567,6 +565,6 @@ int main(int argc, char **argv)
         go("a full disk", full_disk, 0);
         go("a read-only disk", read_only, 0);
     }
-    printf("hostile_test cases %u%s\n", cases, argc < 5 ? "" : ", but for a full and a read-only disk");
-    return 0;
+    printf("hostile_test cases %u failed %u%s\n", cases, failed, argc < 5 ? "" : ", without a full and a read-only disk");
+    return failed != 0;
 }

@@ -138,7 +138,7 @@ static void work(struct rme_seat *seat, uint64_t index)
         if (duty->stored < number && stored_of(index) >= number)
             duty->stored = number;
     }
-    if (index == 0) {
+    if (index == 0 && messages[0] > 1) {
         const bool closed = data(1) != 0;
         expect("close", TRACED(rme_close(seat)), closed ? EALREADY : 0);
         duty->closed = 1;

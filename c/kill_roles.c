@@ -8,6 +8,7 @@
 #include <string.h>
 #include <sys/mman.h>
 #include <sys/stat.h>
+#include <sys/wait.h>
 #include <unistd.h>
 
 const char *path;
@@ -90,15 +91,17 @@ void examine_words(void)
         fail("data left half done, and nobody inside", (int64_t)*dirty());
 }
 
-void examine_end(enum role role, uint64_t index, bool began_inside)
+void examine_end(enum role role, uint64_t index, bool began_idle, bool began_inside)
 {
     examine_words();
+    if (role == GLANCE && !began_idle)
+        return;
     if (!stands(index, 0, false, 0))
         fail("a whole run leaves words", (int64_t)index);
     if (*mark(index) & RME_ATTACHED)
         fail("a whole run leaves its mark", (int64_t)*mark(index));
     const bool alone = !still && is_out(0) && is_out(1);
-    if (alone && role != REAP && !shared->sent)
+    if (alone && role != REAP && role != GLANCE && !shared->sent)
         fail("a whole run has not sent", (int64_t)index);
     if (role == REAP && began_inside && *mark(index) != (uint64_t)RME_FOUND_INSIDE * RME_REAPED)
         fail("the mark does not say that one who died inside was reaped", (int64_t)*mark(index));
@@ -112,12 +115,13 @@ static int repair(struct rme_seat *dead, uint64_t index, void *own_data, size_t 
 {
     struct rme_message read[CAP];
     in_test();
-    if (index >= VICTIMS || context != shared || bytes != 64 || !own_data || !is_inside(index))
+    if (index >= PROCS || context != shared || bytes != 64 || !own_data || !is_inside(index))
         fail("repair is called with other arguments", (int64_t)index);
     if (rme_read_from(dead, 0, read, CAP) != data(2))
         fail("repair reads other messages", (int64_t)data(2));
     *(uint64_t *)own_data = 0;
-    shared->duty[index].inside = 0;
+    if (index < VICTIMS)
+        shared->duty[index].inside = 0;
     shared->repaired++;
     in_library();
     return 0;
@@ -168,6 +172,21 @@ static void arrive(struct rme_seat *seat, uint64_t index)
         fail("attach does not tell that an earlier process was reaped", (int64_t)index);
     if (owed.inside && !rme_crashed(seat))
         fail("attach does not tell that an earlier process died inside", (int64_t)index);
+}
+
+/* Attaches, reads and leaves: where an earlier process died in the words, its death must not be hidden. */
+static void glance(uint64_t index)
+{
+    struct rme_seat seat;
+    struct rme_message read[CAP];
+    const bool idle = stands(index, 0, false, 0);
+    arrive(&seat, index);
+    if (TRACED((int)rme_read_from(&seat, 0, read, CAP)) != (int)data(2))
+        fail("other messages are read", (int64_t)data(2));
+    shared->leased[index] = 0;
+    if (idle)
+        shared->duty[index].attached = 0;
+    expect("detach of one who has only read", TRACED(rme_detach(&seat)), idle ? 0 : EBUSY);
 }
 
 static int enter(struct rme_seat *seat, enum role role, uint64_t index)
@@ -225,11 +244,13 @@ void play(enum role role, uint64_t index)
 {
     if (role == REAP)
         reap(index);
+    else if (role == GLANCE)
+        glance(index);
     else
         session(role, index);
 }
 
-void come_by(bool reaping)
+static void come_by(bool reaping)
 {
     struct rme_seat seat;
     const bool inside = is_inside(0) || is_inside(1);
@@ -261,6 +282,39 @@ void come_by(bool reaping)
     }
     expect("detach of index 2", rme_detach(&seat), 0);
     examine_words();
+}
+
+/* Index 2 gets inside or into the line and ends; then all places are given up at once, but that of one who lives. */
+static void die_and_reap_all(void)
+{
+    struct rme_seat seat;
+    uint64_t dead = 0, reaped = 0;
+    int status;
+    const pid_t child = fork();
+    if (child == 0) {
+        expect("attach of index 2", rme_attach(&seat, path, 2), 0);
+        const int entered = rme_lock_within(&seat, TURNS);
+        _exit(entered != 0 && entered != ETIMEDOUT);
+    }
+    if (child < 0 || waitpid(child, &status, 0) != child || status)
+        fail("one who dies has failed", status);
+    for (uint64_t index = 0; index < PROCS; index++)
+        dead += (*mark(index) & RME_ATTACHED) && !(still && index == 1);
+    expect("reap all", rme_reap_all(path, repair, shared, &reaped), 0);
+    if (reaped != dead)
+        fail("another number of dead is reaped", (int64_t)reaped);
+    for (uint64_t index = 0; index < PROCS; index++)
+        if (!(still && index == 1) && (!stands(index, 0, false, 0) || (*mark(index) & RME_ATTACHED)))
+            fail("one who died is not reaped with all", (int64_t)index);
+    examine_words();
+}
+
+void visit(enum visitor visitor)
+{
+    if (visitor == DIES)
+        die_and_reap_all();
+    else
+        come_by(visitor == REAPS);
 }
 
 /* ---- the file ---- */

@@ -22,7 +22,7 @@ struct shared {
     struct monitor monitor;
 };
 
-enum role { RESTART, RECOVER, REAP, LOCK_REAPING, ROLES };
+enum role { RESTART, RECOVER, GLANCE, REAP, LOCK_REAPING, ROLES };
 
 extern const char *path;
 extern uint64_t width, length, words, messages[VICTIMS];
@@ -39,11 +39,13 @@ bool is_inside(uint64_t index);
 
 /* Plays a role at an index, to its end. */
 void play(enum role, uint64_t index);
-/* Another process, at index 2, goes inside where nobody stands in its way, or by rme_lock_reaping where one does. */
-void come_by(bool reaping);
+/* Others, beside those who are dead: one at index 2 goes inside where nobody stands in its way; one at index 2 by
+ * rme_lock_reaping; one at index 2 dies too, and a last one without an index reaps all. */
+enum visitor { LOCKS, REAPS, DIES, VISITORS };
+void visit(enum visitor);
 /* What has to hold at every instant, whoever is dead; and after a whole run. */
 void examine_words(void);
-void examine_end(enum role, uint64_t index, bool began_inside);
+void examine_end(enum role, uint64_t index, bool began_idle, bool began_inside);
 /* Makes the file, with a message of index 1. */
 void begin_file(const char *name);
 

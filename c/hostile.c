@@ -222,7 +222,7 @@ void every_seat_call(struct rme_seat *seat)
         expect_one_of("consistent", rme_consistent(seat), of_consistent);
         expect_one_of("withdraw", rme_withdraw(seat), of_seat);
         if (turn == 1)
-            expect_one_of("recover", rme_recover(seat, turn ? &found : NULL), of_recover);
+            expect_one_of("recover", rme_recover(seat, &found), of_recover);
         expect_one_of("lock", rme_lock_within(seat, (uint64_t)turn), of_lock);
         looks(seat);
         appends(seat);

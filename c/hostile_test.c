@@ -425,7 +425,7 @@ static _Atomic bool over;
 static void *hammer(void *seed)
 {
     struct rme_message read[8];
-    for (uint64_t k = (uint64_t)(uintptr_t)seed; !over; k = k * 6364136223846793005u + 1442695040888963407u) {
+    for (uint64_t k = *(const uint64_t *)seed; !over; k = k * 6364136223846793005u + 1442695040888963407u) {
         uint64_t word = 0;
         switch (k >> 60) {
         case 0: case 1: case 2: case 3: rme_lock_within(&shared_seat, 1); break;
@@ -445,13 +445,14 @@ static void *hammer(void *seed)
 /* Two threads use one seat, which rme.h forbids. The file stays whole, and the others go on. */
 static void two_threads(uint64_t which)
 {
+    static uint64_t seeds[2] = {1, 2};
     pthread_t thread[2];
     struct rme_seat seat;
     (void)which;
     new_file(0);
     expect("attach", rme_attach(&shared_seat, path, 0), 0);
-    for (uintptr_t k = 0; k < 2; k++)
-        if (pthread_create(&thread[k], NULL, hammer, (void *)(k + 1)))
+    for (int k = 0; k < 2; k++)
+        if (pthread_create(&thread[k], NULL, hammer, &seeds[k]))
             fail("thread", errno);
     usleep(500000);
     over = true;
@@ -472,7 +473,7 @@ static void two_threads(uint64_t which)
 static void forked(uint64_t which)
 {
     struct rme_seat seat, other;
-    int status, ready[2];
+    int status = 0, ready[2];
     new_file(0);
     expect("attach", rme_attach(&seat, path, 0), 0);
     if (which)

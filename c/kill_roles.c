@@ -289,7 +289,7 @@ static void die_and_reap_all(void)
 {
     struct rme_seat seat;
     uint64_t dead = 0, reaped = 0;
-    int status;
+    int status = 0;
     const pid_t child = fork();
     if (child == 0) {
         expect("attach of index 2", rme_attach(&seat, path, 2), 0);

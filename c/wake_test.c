@@ -48,7 +48,7 @@ static void nap(long milliseconds)
 
 static pid_t begin_waiter(uint64_t index)
 {
-    int status;
+    int status = 0;
     const pid_t child = fork();
     if (child == 0) {
         struct rme_seat seat;
@@ -56,7 +56,7 @@ static pid_t begin_waiter(uint64_t index)
         expect("attach of a waiter", rme_attach(&seat, path, index), 0);
         if (ptrace(PTRACE_TRACEME, 0, NULL, NULL))
             fail("trace", errno);
-        raise(SIGSTOP);
+        kill(getpid(), SIGSTOP);
         expect("lock of a waiter", rme_lock(&seat), 0);
         expect("unlock of a waiter", rme_unlock(&seat), 0);
         expect("detach of a waiter", rme_detach(&seat), 0);
@@ -69,17 +69,24 @@ static pid_t begin_waiter(uint64_t index)
     return child;
 }
 
+/* The system call at which the waiter has stopped. */
+static long stopped_call(pid_t child, struct __ptrace_syscall_info *info)
+{
+    const size_t bytes = sizeof *info;
+    return ptrace(PTRACE_GET_SYSCALL_INFO, child, (void *)bytes, info); /* NOLINT(performance-no-int-to-ptr): as ptrace asks */
+}
+
 /* Lets the waiter run to the begin or the end of its next system call; false where it has ended instead. */
 static bool next_call(pid_t child, struct __ptrace_syscall_info *info)
 {
-    int status;
+    int status = 0;
     if (ptrace(PTRACE_SYSCALL, child, NULL, NULL) || waitpid(child, &status, 0) != child)
         fail("trace of a waiter", errno);
     if (WIFEXITED(status) && WEXITSTATUS(status) == 0)
         return false;
     if (!WIFSTOPPED(status) || WSTOPSIG(status) != (SIGTRAP | 0x80))
         fail("a waiter has failed, status", status);
-    if (ptrace(PTRACE_GET_SYSCALL_INFO, child, (void *)sizeof *info, info) <= 0)
+    if (stopped_call(child, info) <= 0)
         fail("what a waiter calls", errno);
     return true;
 }
@@ -99,9 +106,9 @@ static void run_to_sleep(pid_t child, int times)
 static long end_of_sleep(pid_t child)
 {
     struct __ptrace_syscall_info info;
-    int status;
+    int status = 0;
     if (waitpid(child, &status, 0) != child || !WIFSTOPPED(status) ||
-        ptrace(PTRACE_GET_SYSCALL_INFO, child, (void *)sizeof info, &info) <= 0 || info.op != PTRACE_SYSCALL_INFO_EXIT)
+        stopped_call(child, &info) <= 0 || info.op != PTRACE_SYSCALL_INFO_EXIT)
         fail("the end of a sleep", status);
     const long ended = info.exit.rval;
     while (next_call(child, &info))

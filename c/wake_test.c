@@ -3,7 +3,8 @@
  *     wake_test FILE
  *
  * Waiters are traced from system call to system call: what ended their sleeps in the futex is what the kernel answers them. A
- * store that comes before the sleep, or later than a whole nap, says nothing, so each case is tried until it says something. */
+ * store that comes before the sleep, or after the end of the nap, says nothing, so each case is tried until three tries say that
+ * all were woken, at most 20 times. */
 #define _GNU_SOURCE
 #include "rme.h"
 
@@ -20,7 +21,7 @@
 #include <time.h>
 #include <unistd.h>
 
-enum { PROCS = 4, TRIES = 40, WOKEN = 5, MOST_SLEEPS = 200 };
+enum { PROCS = 4, TRIES = 20, WOKEN = 3 };
 
 static const char *path;
 

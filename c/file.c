@@ -189,6 +189,13 @@ void rme_become(struct rme_seat *s, uint64_t index, bool crashed)
             __atomic_fetch_and(sleepers_on(s, place), ~(UINT64_C(1) << index), __ATOMIC_SEQ_CST);
 }
 
+/* What a reaper left in the mark; a mark that none leaves says nothing. */
+static int reaped_of(uint64_t mark)
+{
+    const uint64_t found = mark / RME_REAPED;
+    return found >= RME_FOUND_IDLE && found <= RME_FOUND_INSIDE ? (int)found : 0;
+}
+
 /* The lease of the index in the file that has this name now, and the seat's state, which reads 0 in a child of fork. */
 static int take(struct rme_seat *s, const char *path, uint64_t index, uint64_t milliseconds)
 {
@@ -223,7 +230,7 @@ int rme_attach_within(struct rme_seat *s, const char *path, uint64_t index, uint
     }
     uint64_t mark = __atomic_exchange_n(&s->header->marks[index], RME_ATTACHED, __ATOMIC_SEQ_CST);
     rme_become(s, index, mark & RME_ATTACHED);
-    s->reaped = (int)(mark / RME_REAPED);
+    s->reaped = reaped_of(mark);
     return 0;
 }
 
@@ -317,7 +324,7 @@ int rme_index_status(const struct rme_seat *s, uint64_t index, struct rme_index 
     *status = (struct rme_index){.choosing = load(line), .number = load(line + 1), .inside = load(line + 2)};
     status->found = row_of(status->choosing, status->number, status->inside);
     status->life = life == RME_ABSENT && mark & RME_ATTACHED ? RME_DEAD : life;
-    status->reaped = (int)(mark / RME_REAPED);
+    status->reaped = reaped_of(mark);
     return error;
 }
 

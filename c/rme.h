@@ -1,4 +1,4 @@
-/* A recoverable first-come first-served lock with a mailbox, between processes that may really die. docs/c.md says what is
+/* A recoverable first-come first-served lock with a mailbox, between processes that may really die. docs/use/c.md says what is
  * proved of it, what is trusted, and how a supervisor starts a process again.
  *
  * Two layers, both in librme. The machine (proved): which shared word a process loads or stores next, and what that was. The shim

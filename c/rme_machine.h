@@ -58,7 +58,7 @@ uint64_t rme_next(const struct rme_process *, struct rme_access *);
 uint64_t rme_feed(struct rme_process *, uint64_t value, struct rme_access *);
 uint64_t rme_step_count(const struct rme_process *);
 
-/* The rule that copied words break first, from 2 to 9 (docs/texts.md); or one of these. It alone takes memory. */
+/* The rule that copied words break first, from 2 to 9 (docs/dev/texts.md); or one of these. It alone takes memory. */
 enum rme_rule { RME_LAWFUL = 0, RME_NO_BLOCK = 1, RME_NO_MEMORY = 16 };
 uint64_t rme_content_rule(const uint64_t *words, size_t count, uint64_t procs, uint64_t cap, uint64_t width, uint64_t limit);
 

@@ -28,7 +28,7 @@ enum { WIDTH = 2, MOST = 64 };
  * one who finds them apart has met another, unless it died between them itself. */
 struct tally {
     volatile uint64_t first, second;
-    _Atomic uint64_t entries, owner_died, mended, already, overlaps, lingers, inside;
+    _Atomic uint64_t entries, owner_died, already, overlaps, lingers, inside;
 };
 
 static char path[4096];
@@ -274,7 +274,7 @@ static void stop_inside(pid_t child, uint64_t p)
 
 static uint64_t torment(double rate)
 {
-    pid_t child[MOST];
+    pid_t child[MOST] = {0};
     uint64_t kills = 0, live = senders;
     for (uint64_t p = 0; p < senders; p++)
         child[p] = begin(p);

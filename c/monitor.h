@@ -1,0 +1,43 @@
+/* Watches the shim between two calls of the machine: each access that the machine names must be the one that the shim makes.
+ *
+ * monitor.c takes the place of rme_start, rme_next and rme_feed (linked with -Wl,--wrap=rme_start and so on) and passes each
+ * call on. Before it passes a value on, it compares: the word named for a store holds the value named, and the value fed for a
+ * load is that of the word named. This holds where one process alone steps; a difference is a fault of the shim. */
+#ifndef MONITOR_H
+#define MONITOR_H
+#include "rme.h"
+#include <stdbool.h>
+
+/* The access that the machine has named last for a process. */
+struct named {
+    const struct rme_process *process;
+    struct rme_access access;
+    uint64_t pending;
+};
+
+/* In memory that outlives a kill, where the test asks what was named. Without `file` nothing is watched. */
+struct monitor {
+    const unsigned char *file; /* the file, mapped by the test itself */
+    uint64_t procs, words;
+    struct named named[4];
+    uint64_t last, compared;
+    uint64_t traced, quiet; /* whether a tracer goes on by single steps, but where this is quiet */
+};
+
+extern struct monitor *monitor;
+
+/* Where the word at a place of the block lies in the file, in bytes. */
+uint64_t offset_of(uint64_t place, uint64_t procs);
+/* The test's own answer to an access that differs. */
+_Noreturn void monitor_refuses(const char *what, const struct rme_access *named, uint64_t found);
+/* Forgets what was named: a new process begins. */
+void monitor_begins(void);
+
+/* Around each call of the library: a tracer goes on by single instructions from in_library on, and lets run what in_test says is
+ * the test's own. The machine's calls are quiet too: none is handed anything that leads to the file. */
+void in_library(void);
+void in_test(void);
+static inline int in_test_again(int answer) { return in_test(), answer; }
+#define TRACED(call) (in_library(), in_test_again(call))
+
+#endif

@@ -155,7 +155,7 @@ fn store(port: &mut Port, entry: &NewEntry)
     ensures of { IsOf port.new entry.now }
 {
     // For the proof alone: its value is read.
-    let _by = port.by();
+    let _seat_view = port.by();
     let layout = entry.setup.layout;
     let row = 2 + entry.value.width();
     put_row(port, entry, 0, RECORD, entry.at);

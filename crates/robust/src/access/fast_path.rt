@@ -125,7 +125,7 @@ fn reread_own(port: &mut Port) -> Option<(Stage, u64)>
     ensures rests { result ≡ None → Way port.old 3 port.new Opening }
 {
     // For the proof alone: its value is read.
-    let _by = port.by();
+    let _seat_view = port.by();
     let call = CoreCall::Lock;
     let choosing = read_choosing(port);
     if choosing != 0 {
@@ -206,7 +206,7 @@ fn check(port: &mut Port) -> u64
     ensures at { process_state_now port.new ≡ checked_process_state (result == 1) }
 {
     // For the proof alone: its value is read.
-    let _by = port.by();
+    let _seat_view = port.by();
     port.load(Kind::Get, Word::Data(0))
 }
 
@@ -257,7 +257,7 @@ fn enter_from_line(port: &mut Port, number: u64, next: u64, looked: bool) -> (Re
     ensures few { result.1 ≤ 133 }
 {
     // For the proof alone: its value is read.
-    let _by = port.by();
+    let _seat_view = port.by();
     let passed = wait_on(port, number, next, looked);
     if passed.is_blocked {
         let there = Stage::Wait {

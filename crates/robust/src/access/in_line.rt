@@ -35,7 +35,7 @@ fn look(port: &mut Port, number: u64, j: u64) -> bool
     ensures same { IsSame port.old port.new }
 {
     // For the proof alone: its value is read.
-    let _by = port.by();
+    let _seat_view = port.by();
     let value = port.load(Kind::Look, Word::Choosing(j));
     value == 0
 }
@@ -115,7 +115,7 @@ pub fn wait_on(port: &mut Port, number: u64, next: u64, looked: bool) -> Passed
     ensures same { IsSame port.old port.new }
 {
     // For the proof alone: its value is read.
-    let _by = port.by();
+    let _seat_view = port.by();
     if !looked {
         return pass_others(port, number, next);
     }

@@ -88,16 +88,16 @@ const WRONG_VARIANTS: [&str; 6] = [
 #[test]
 fn variants_beside_an_image(rt: HostRuntime) -> Result<(), Fail> {
     let alloc = rt.alloc();
-    for args in ["replay", "draw"] {
+    for name in ["replay", "draw"] {
         for variant in &WRONG_VARIANTS {
-            let alone = format!(in alloc; "rmelab {order} --variant {variant}")?;
+            let alone = format!(in alloc; "rmelab {name} --variant {variant}")?;
             assert_eq!(rt; answered(alloc, &alone)?, "a command", "{alone}");
             for rest in ["--image a.json", "--image a.json s.rme"] {
-                let beside = format!(in alloc; "rmelab {order} --variant {variant} {rest}")?;
+                let beside = format!(in alloc; "rmelab {name} --variant {variant} {rest}")?;
                 assert_eq!(rt; answered(alloc, &beside)?, "bad variant", "{beside}");
             }
         }
-        let unknown = format!(in alloc; "rmelab {order} --variant wrong")?;
+        let unknown = format!(in alloc; "rmelab {name} --variant wrong")?;
         assert_eq!(rt; answered(alloc, &unknown)?, "bad variant", "{unknown}");
     }
     Ok(())
@@ -121,78 +121,79 @@ fn right_beside_an_image(rt: HostRuntime) -> Result<(), Fail> {
     Ok(())
 }
 
+const ANSWERS: [(&str, &str); 17] = [
+    (
+        "rmelab run --procs 0 --messages 1 --crash 0 --seed 1",
+        "bad size",
+    ),
+    (
+        "rmelab run --procs 17 --messages 1 --crash 0 --seed 1",
+        "bad size",
+    ),
+    (
+        "rmelab run --procs 1 --messages 0 --crash 0 --seed 1",
+        "bad size",
+    ),
+    (
+        "rmelab run --procs 1 --messages 4097 --crash 0 --seed 1",
+        "bad size",
+    ),
+    (
+        "rmelab run --procs 1 --messages 1 --crash 51 --seed 1",
+        "bad size",
+    ),
+    (
+        "rmelab run --procs 1 --messages 1 --crash 0 --seed 1 --width 0",
+        "bad size",
+    ),
+    (
+        "rmelab run --procs 1 --messages 1 --crash 0 --seed 1 --width 9",
+        "bad size",
+    ),
+    (
+        "rmelab hunt --variant right --seed 1 --rounds 0 --steps 1",
+        "bad size",
+    ),
+    (
+        "rmelab hunt --variant right --seed 1 --rounds 10001 --steps 1",
+        "bad size",
+    ),
+    (
+        "rmelab hunt --variant right --seed 1 --rounds 1 --steps 0",
+        "bad size",
+    ),
+    (
+        "rmelab hunt --variant right --seed 1 --rounds 1 --steps 10001",
+        "bad size",
+    ),
+    (
+        "rmelab hunt --variant wrong --seed 1 --rounds 0 --steps 1",
+        "bad variant",
+    ),
+    (
+        "rmelab explore --variant right --procs 1 --calls lock,wait",
+        "bad size",
+    ),
+    (
+        "rmelab explore --variant wrong --procs 1 --calls lock,wait",
+        "bad variant",
+    ),
+    ("rmelab shrink --variant wrong", "bad variant"),
+    (
+        "rmelab hunt --variant right --seed 1 --rounds 1 --steps 1",
+        "a command",
+    ),
+    (
+        "rmelab run --procs 1 --messages 1 --crash 0 --seed 1",
+        "a command",
+    ),
+];
+
 /// The first cause is answered: a bad variant before a bad size.
 #[test]
-fn refused_orders(rt: HostRuntime) -> Result<(), Fail> {
-    let rows = [
-        (
-            "rmelab run --procs 0 --messages 1 --crash 0 --seed 1",
-            "bad size",
-        ),
-        (
-            "rmelab run --procs 17 --messages 1 --crash 0 --seed 1",
-            "bad size",
-        ),
-        (
-            "rmelab run --procs 1 --messages 0 --crash 0 --seed 1",
-            "bad size",
-        ),
-        (
-            "rmelab run --procs 1 --messages 4097 --crash 0 --seed 1",
-            "bad size",
-        ),
-        (
-            "rmelab run --procs 1 --messages 1 --crash 51 --seed 1",
-            "bad size",
-        ),
-        (
-            "rmelab run --procs 1 --messages 1 --crash 0 --seed 1 --width 0",
-            "bad size",
-        ),
-        (
-            "rmelab run --procs 1 --messages 1 --crash 0 --seed 1 --width 9",
-            "bad size",
-        ),
-        (
-            "rmelab hunt --variant right --seed 1 --rounds 0 --steps 1",
-            "bad size",
-        ),
-        (
-            "rmelab hunt --variant right --seed 1 --rounds 10001 --steps 1",
-            "bad size",
-        ),
-        (
-            "rmelab hunt --variant right --seed 1 --rounds 1 --steps 0",
-            "bad size",
-        ),
-        (
-            "rmelab hunt --variant right --seed 1 --rounds 1 --steps 10001",
-            "bad size",
-        ),
-        (
-            "rmelab hunt --variant wrong --seed 1 --rounds 0 --steps 1",
-            "bad variant",
-        ),
-        (
-            "rmelab explore --variant right --procs 1 --calls lock,wait",
-            "bad size",
-        ),
-        (
-            "rmelab explore --variant wrong --procs 1 --calls lock,wait",
-            "bad variant",
-        ),
-        ("rmelab shrink --variant wrong", "bad variant"),
-        (
-            "rmelab hunt --variant right --seed 1 --rounds 1 --steps 1",
-            "a command",
-        ),
-        (
-            "rmelab run --procs 1 --messages 1 --crash 0 --seed 1",
-            "a command",
-        ),
-    ];
-    for (line, told) in rows {
-        assert_eq!(rt; answered(rt.alloc(), line)?, told, "{line}");
+fn refused_arguments(rt: HostRuntime) -> Result<(), Fail> {
+    for (line, answer) in ANSWERS {
+        assert_eq!(rt; answered(rt.alloc(), line)?, answer, "{line}");
     }
     Ok(())
 }

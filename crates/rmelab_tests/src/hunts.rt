@@ -2,8 +2,6 @@
 //! turn. Tests alone: each names public functions of `commands` and of the crates below it.
 
 #[cfg(test)]
-mod drawn;
-#[cfg(test)]
 mod explores;
 #[cfg(test)]
 mod hunts;

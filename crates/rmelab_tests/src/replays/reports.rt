@@ -1,8 +1,11 @@
 //! Replays and traces as whole invocations: the words, standard input and files; then what is printed on both outputs, the
 //! exit status and the file that is saved.
 
-use crate::support::invocation::{all_come_to, comes_to_alone};
+use crate::support::invocation::all_come_to;
 use crate::support::row::invoked;
+use cli::arguments::args::Command;
+use commands::command::command;
+use schedule::{Page, Text};
 use std::test::Fail;
 
 /// One process that locks and enters.
@@ -182,45 +185,19 @@ fn lines_of_faults(rt: HostRuntime) -> Result<(), Fail> {
 /// A command over a reader and two writers in memory prints the same.
 #[test]
 fn a_command_alone(rt: HostRuntime) -> Result<(), Fail> {
-    let rows = [
-        invoked("rmelab judge", OVERTAKEN, AGAINST).ends(1, ""),
-        invoked("rmelab judge", TWO_NUMBERS, "").ends(2, "rmelab: line 2: fault 6\n"),
-        invoked("rmelab replay", SMALLEST, REPORT),
-    ];
-    for row in &rows {
-        comes_to_alone(&rt, rt.alloc(), row)?;
-    }
-    Ok(())
-}
-
-/// What it hands out to be saved is the last image; after a fault there is none.
-#[test]
-fn a_command_alone_that_saves(rt: HostRuntime) -> Result<(), Fail> {
-    let rows = [
-        invoked("rmelab replay --save a.json", SMALLEST, REPORT).saves("a.json", IMAGE),
-        invoked("rmelab replay --json --save a.json", SMALLEST, OBJECT).saves("a.json", IMAGE),
-        invoked(
-            "rmelab replay --variant no-look --save a.json",
-            UNLOOKED,
-            UNLOOKED_REPORT,
-        )
-        .saves("a.json", UNLOOKED_IMAGE)
-        .ends(1, ""),
-        invoked(
-            "rmelab replay --image a.json --save b.json",
-            AGAIN,
-            AGAIN_REPORT,
-        )
-        .beside(("a.json", IMAGE))
-        .saves("b.json", IMAGE),
-        invoked("rmelab replay --save a.json", MENDED_FIRST, ENTERED).ends(
-            2,
-            "rmelab: line 4: refused 10\n",
-        ),
-        invoked("rmelab replay --save a.json", ZERO_FIRST, "").ends(2, "rmelab: line 2: fault 3\n"),
-    ];
-    for row in &rows {
-        comes_to_alone(&rt, rt.alloc(), row)?;
+    let alloc = rt.alloc();
+    for (trace, printed, told, status) in [
+        (OVERTAKEN, AGAINST, "", 1),
+        (TWO_NUMBERS, "", "rmelab: line 2: fault 6\n", 2),
+    ] {
+        let mut source = Text::new(trace.as_bytes(), 64);
+        let mut out = Page::new(alloc);
+        let mut err = Page::new(alloc);
+        let judging = Command::Judge(None);
+        let ending = command(&rt, alloc, &judging, None, &mut source, &mut out, &mut err);
+        assert_eq!(rt; str::from_utf8(out.as_slice()), Ok(printed));
+        assert_eq!(rt; str::from_utf8(err.as_slice()), Ok(told));
+        assert!(rt; ending.status == status && ending.save.is_none());
     }
     Ok(())
 }

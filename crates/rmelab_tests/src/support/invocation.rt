@@ -3,11 +3,9 @@
 use crate::support::devices::{Feed, Paper, Ticking};
 use crate::support::fake::{Failing, Fake};
 use crate::support::row::{ProgramRow, invoked};
-use cli::arguments::words::{WordsFault, read_words};
+use cli::arguments::words::WordsFault;
 use commands::Terminal;
-use commands::command::command;
 use commands::program::run_program;
-use schedule::{Page, Text};
 use std::alloc::{AllocError, Global};
 use std::process::ExitCode;
 use std::sync::Wait;
@@ -128,43 +126,6 @@ pub fn all_come_to(
 ) -> Result<(), Fail> {
     for row in rows {
         comes_to(rt, alloc, Ok(words_of(alloc, row.line)?), row)?;
-    }
-    Ok(())
-}
-
-/// Carries out the command alone that the row's words spell, over a reader and two writers in memory, and compares what it
-/// prints, its status and what it hands out to be saved. The text of the row's first file is that of the image.
-pub fn comes_to_alone(
-    rt: &(impl Threads + Wait + Sync),
-    alloc: Global,
-    row: &ProgramRow<'_>,
-) -> Result<(), Fail> {
-    let line = row.line;
-    let words = words_of(alloc, line)?;
-    let Ok(args) = read_words(alloc, &words) else {
-        return Err(Fail::new(format_args!("{line}: no command")));
-    };
-    let (name, text) = row.files[0];
-    let image = if name.is_empty() {
-        None
-    } else {
-        Some(text.as_bytes())
-    };
-    let mut source = Text::new(row.input.as_bytes(), 64);
-    let mut out = Page::new(alloc);
-    let mut err = Page::new(alloc);
-    let ending = command(rt, alloc, &args, image, &mut source, &mut out, &mut err);
-    wrote(line, "the writer", out.as_slice(), row.printed)?;
-    wrote(line, "the second writer", err.as_slice(), row.told)?;
-    let (asked, saved) = row.saved;
-    if ending.save.is_some() == asked.is_empty() {
-        return Err(Fail::new(format_args!("{line}: whether there is an image")));
-    }
-    if let Some(found) = &ending.save {
-        wrote(line, "the image to be saved", found, saved)?;
-    }
-    if ending.status != row.status {
-        return Err(Fail::new(format_args!("{line}: {}", ending.status)));
     }
     Ok(())
 }

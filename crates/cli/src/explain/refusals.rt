@@ -71,7 +71,7 @@ fn of_call(name: &'static str, text: &'static str) -> Meaning
 }
 
 /// The meaning of a refusal.
-#[tactic(auto, unfolding(crate::proofs::Common::digits))]
+#[tactic(auto, unfolding(crate::proofs::ExplainCommon::digits))]
 pub fn of_refusal(refusal: Refusal) -> Meaning
     ensures { result.name.now ≡ name_of (OfRefused refusal) }
 {

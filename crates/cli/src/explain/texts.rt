@@ -124,7 +124,7 @@ fn of_judge(name: &'static str, text: &'static str) -> Meaning
 }
 
 /// The meaning of a fault of a line of a schedule or a trace.
-#[tactic(auto, unfolding(crate::proofs::Common::digits))]
+#[tactic(auto, unfolding(crate::proofs::ExplainCommon::digits))]
 pub fn of_line_fault(fault: LineFault) -> Meaning
     ensures { result.name.now ≡ name_of (OfFault fault) }
 {
@@ -139,7 +139,7 @@ pub fn of_line_fault(fault: LineFault) -> Meaning
 }
 
 /// The meaning of a rule of an image.
-#[tactic(auto, unfolding(crate::proofs::Common::digits))]
+#[tactic(auto, unfolding(crate::proofs::ExplainCommon::digits))]
 pub fn of_rule(rule: Rule) -> Meaning
     ensures { result.name.now ≡ name_of (OfRule rule) }
 {
@@ -157,7 +157,7 @@ pub fn of_rule(rule: Rule) -> Meaning
 }
 
 /// The meaning of the fault for which a judge refuses a deed.
-#[tactic(auto, unfolding(crate::proofs::Common::digits))]
+#[tactic(auto, unfolding(crate::proofs::ExplainCommon::digits))]
 pub fn of_judge_fault(fault: Fault) -> Meaning
     ensures { result.name.now ≡ name_of (OfAgainst fault) }
 {

@@ -6,8 +6,6 @@ mod cuts;
 #[cfg(test)]
 mod devices;
 #[cfg(test)]
-mod drawing_rule;
-#[cfg(test)]
 mod everything;
 #[cfg(test)]
 mod hunts;

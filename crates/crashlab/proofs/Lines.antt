@@ -7,7 +7,7 @@ use Rattle.judge.specs.Legal.{judged_all}
 use Rattle.judge.specs.Kept.{Kept}
 use Rattle.schedule.specs.declared.lines.line.Line.{Line}
 use Rattle.schedule.specs.declared.lines.line.Line.TheVariants.{Step, Crash}
-use Rattle.crashlab.specs.Hunts.{hunt_layout, is_answered, after_steps, after_line, after_lines, deeds_of_steps, deeds_of_line, Unless, MaySteps, MayLine, MayLines, IsOfHunt, IsFound}
+use Rattle.crashlab.specs.Hunts.{hunt_layout, is_answered, after_steps, after_line, after_lines, deeds_of_steps, deeds_of_line, Unless, MaySteps, MayLine, MayLines, IsOfHunt, IsFound, IsOneMove, EndsAtRefusal}
 use Rattle.crashlab.specs.declared.moves.MoveOutcome.{MoveOutcome}
 use Rattle.crashlab.specs.declared.moves.MoveOutcome.TheVariants.{Caught}
 use Rattle.crashlab.specs.Found.{IsCaught, IsRefused}
@@ -76,6 +76,10 @@ module _ (variant : Variant) (schedule : Scheduled) (world : VariantState) (judg
         refused = refused;
       }
 
+  -- its deed is the last line's
+  pub is_last : IsOneMove line → EndsAtRefusal variant (with_line schedule line)
+  is_last one = record { front = schedule.lines; last = line; lines = refl; one = one; legal = (played.stands.state, played.stands.legal) }
+
 -- the lock's world after lines that it does not refuse
 
 steps_lock : (l : Layout) (s : VariantState) (h : List Deed) (p k : ℕ) → IsLock l s h → MaySteps s p k → IsLock l (after_steps s p k) (h ++ deeds_of_steps s p k)
@@ -110,16 +114,16 @@ never_found law schedule found =
 
 -- a move whose deed was given to the judge
 told_ends :
-    (variant : Variant) (schedule : Scheduled) (world : VariantState) (judge : Kept) → IsPlayed variant schedule world judge → (line : Line) → MayLine world line
+    (variant : Variant) (schedule : Scheduled) (world : VariantState) (judge : Kept) → IsPlayed variant schedule world judge → (line : Line) → IsOneMove line → MayLine world line
     → (next : VariantState) → next ≡ after_line world line → (deed : Option Deed) → deeds_of_line world line ≡ list_of deed
     → (made : MoveOutcome) (written : Scheduled) (later : Kept)
     → written ≡ with_line schedule line → Told (deeds_of_lines (first_world variant) schedule.lines) deed later made → Ends variant written next later made
-told_ends variant schedule world judge played line may next to deed done On written later is told =
+told_ends variant schedule world judge played line one may next to deed done On written later is told =
     subst (λ s. IsPlayed variant s next later) (sym is) (goes_on variant schedule world judge played line may next (list_of deed) later to done told)
-told_ends variant schedule world judge played line may next to deed done Caught written later is told =
+told_ends variant schedule world judge played line one may next to deed done Caught written later is told =
     let h = deeds_of_lines (first_world variant) schedule.lines in
     let found = is_caught variant schedule world judge played line may told.last told.fault (done ∙ ap list_of told.is) told.refused in
-    subst (IsCaught variant) (sym is) (record { found = found; wrong = λ law right. never_found law (with_line schedule line) (subst (λ v. IsFound v (with_line schedule line)) right found) })
+    subst (IsCaught variant) (sym is) (record { found = found; ends = is_last variant schedule world judge played line may one; wrong = λ law right. never_found law (with_line schedule line) (subst (λ v. IsFound v (with_line schedule line)) right found) })
 
 pub step_ends :
     (variant : Variant) (schedule : Scheduled) (world : VariantState) (judge : Kept) → IsPlayed variant schedule world judge → (p : ℕ) → advance_refusal world p ≡ None
@@ -127,7 +131,7 @@ pub step_ends :
     → (made : MoveOutcome) (written : Scheduled) (later : Kept) → written ≡ with_line schedule (Step p 1) → Told (deeds_of_lines (first_world variant) schedule.lines) deed later made
     → Ends variant written next later made
 step_ends variant schedule world judge played p may next to deed is made written later writes told =
-    told_ends variant schedule world judge played (Step p 1) (may_one world p may) next (to ∙ sym (after_one world p)) deed
+    told_ends variant schedule world judge played (Step p 1) refl (may_one world p may) next (to ∙ sym (after_one world p)) deed
     (deeds_one world p ∙ ap list_of (sym is)) made written later writes told
 
 pub crash_ends :
@@ -135,14 +139,14 @@ pub crash_ends :
     → (next : VariantState) → next ≡ crashed world p → (made : MoveOutcome) (written : Scheduled) (later : Kept)
     → written ≡ with_line schedule (Crash p) → Told (deeds_of_lines (first_world variant) schedule.lines) (Some (crash_deed p)) later made → Ends variant written next later made
 crash_ends variant schedule world judge played p may next to made written later is told =
-    told_ends variant schedule world judge played (Crash p) may next to (Some (crash_deed p)) refl made written later is told
+    told_ends variant schedule world judge played (Crash p) tt may next to (Some (crash_deed p)) refl made written later is told
 
 pub start_ends :
     (variant : Variant) (schedule : Scheduled) (world : VariantState) (judge : Kept) → IsPlayed variant schedule world judge → (p : ℕ) (call : Call) → start_refusal world p call ≡ None
     → (next : VariantState) → next ≡ started world p call → (made : MoveOutcome) (written : Scheduled) (later : Kept)
     → written ≡ with_line schedule (Start p call) → Told (deeds_of_lines (first_world variant) schedule.lines) None later made → Ends variant written next later made
 start_ends variant schedule world judge played p call may next to made written later is told =
-    told_ends variant schedule world judge played (Start p call) may next to None refl made written later is
+    told_ends variant schedule world judge played (Start p call) tt may next to None refl made written later is
     told
 
 -- what a move ends with, where the world took it

@@ -21,12 +21,13 @@ use Rattle.crashlab.specs.declared.moves.DrawnMove.TheVariants.{Start, Step, Cra
 use Rattle.schedule.specs.Schedules.{Scheduled}
 use Rattle.rmeworld.specs.Law.{EveryExecutionIsLegal}
 use Rattle.crashlab.specs.declared.variant.Variant.TheVariants.{Right}
-use Rattle.crashlab.specs.Hunts.{IsFound, IsPlayed}
+use Rattle.crashlab.specs.Hunts.{IsFound, EndsAtRefusal, IsPlayed}
 use Rattle.crashlab.specs.VariantWorlds.{VariantState}
 
--- a schedule that is found; none is found of Right, by the lock theorem
+-- a schedule that is found, up to the deed that is refused; none is found of Right, by the lock theorem
 pub record IsCaught (variant : Variant) (schedule : Scheduled) : Type 0 where
   pub found : IsFound variant schedule
+  pub ends : EndsAtRefusal variant schedule
   pub wrong : EveryExecutionIsLegal → variant ≡ Right → ⊥
 
 -- the round goes on, or its schedule is found

@@ -98,6 +98,21 @@ pub record IsFound (variant : Variant) (schedule : Scheduled) : Type 0 where
   pub legal : IsLegal 3 64 before
   pub refused : judged_all (empty 3 64) (before ++ last ∷ []) ≡ Err fault
 
+-- a line of one move
+abbrev pub IsOneMove : Line → Type 0
+IsOneMove (Start p call) = Unit {0}
+IsOneMove (Step p k) = k ≡ 1
+IsOneMove (Crash p) = Unit {0}
+
+-- the last line is one move, and the deeds of the lines before it are legal: so the deed that is refused is that of the last
+-- line, and nothing follows it
+pub record EndsAtRefusal (variant : Variant) (schedule : Scheduled) : Type 0 where
+  pub front : List Line
+  pub last : Line
+  pub lines : schedule.lines ≡ front ++ last ∷ []
+  pub one : IsOneMove last
+  pub legal : IsLegal 3 64 (deeds_of_lines (first_world variant) front)
+
 -- a round so far: the world is the one after the schedule, and the judge was given the schedule's deeds
 pub record IsPlayed (variant : Variant) (schedule : Scheduled) (world : VariantState) (judge : Kept) : Type 0 where
   pub size : IsOfHunt schedule

@@ -14,7 +14,9 @@ pub mod Lines
 pub mod Scans
 pub mod Answered
 pub mod Found
+pub mod MadeOf
 pub mod Sizes
+pub mod Shrunk
 pub mod Needed
 pub mod PlaceBack
 pub mod JobBack

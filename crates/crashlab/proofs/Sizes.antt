@@ -7,6 +7,7 @@ use Rattle.schedule.specs.declared.lines.line.Line.{Line}
 use Rattle.schedule.specs.declared.lines.line.Line.TheVariants.{Step, Crash}
 use Rattle.schedule.specs.Schedules.{Scheduled}
 use Rattle.crashlab.specs.Shrunk.{steps_of, steps_asked, replaced, IsLowered, IsShorter}
+use Rattle.crashlab.proofs.MadeOf.{made_without, made_lowered}
 
 steps_append : (xs ys : List Line) → steps_asked (xs ++ ys) ≡ steps_asked xs + steps_asked ys
 steps_append [] ys = omega arith
@@ -39,6 +40,7 @@ without_line schedule i within =
     let steps = steps_one i schedule.lines [] (get_or schedule.lines i (Crash 0)) is in
     record {
       no_longer = record { head = refl; lines = omega (arith, fewer); steps = omega (arith, steps) };
+      made = made_without schedule i within;
       smaller = omega (arith, fewer, steps);
     }
 
@@ -50,6 +52,7 @@ with_lowered schedule i less low =
     let left : steps_of less ≡ low.count = ap steps_of low.is in
     record {
       no_longer = record { head = refl; lines = omega (arith, fewer); steps = omega (arith, steps, left) };
+      made = made_lowered schedule i less low;
       smaller = omega (arith, fewer, steps, left);
     }
 

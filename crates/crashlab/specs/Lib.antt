@@ -10,6 +10,7 @@ pub mod LockWorlds
 pub mod Hunts
 pub mod Found
 -- The definitions that the contracts cite.
+pub mod MadeOf
 pub mod Shrunk
 pub mod PlaceWords
 pub mod JobWords

@@ -17,6 +17,7 @@ use Rattle.schedule.specs.Verdicts.{number_of_fault, verdict_on}
 use Rattle.schedule.specs.Runs.{Part, deeds_of, run_on}
 use Rattle.crashlab.specs.declared.variant.Variant.{Variant}
 use Rattle.crashlab.specs.VariantWorlds.{VariantState, new_world, variant_behaviour}
+use Rattle.crashlab.specs.MadeOf.{IsMadeOf}
 
 -- ---- the run of a schedule and its verdict
 
@@ -92,6 +93,7 @@ pub record IsNoLonger (before now : Scheduled) : Type 0 where
 -- the result of minimizing a schedule that goes wrong
 pub record IsShrunk (variant : Variant) (number : ℕ) (before now : Scheduled) : Type 0 where
   pub shorter : IsNoLonger before now
+  pub made : IsMadeOf before now
   pub wrong : GoesWrong variant number now
   pub least : IsLeast variant number now
 
@@ -121,9 +123,16 @@ with_lines schedule lines = record schedule { lines = lines }
 abbrev pub size : Scheduled → ℕ
 size schedule = length schedule.lines + steps_asked schedule.lines
 
--- shorter by a line or a step
+-- no longer, made of the same moves, and it goes wrong by this number
+pub record IsLike (variant : Variant) (number : ℕ) (before now : Scheduled) : Type 0 where
+  pub shorter : IsNoLonger before now
+  pub made : IsMadeOf before now
+  pub wrong : GoesWrong variant number now
+
+-- shorter by a line or a step, and made of the same moves
 pub record IsShorter (before now : Scheduled) : Type 0 where
   pub no_longer : IsNoLonger before now
+  pub made : IsMadeOf before now
   pub smaller : size now < size before
 
 -- shorter, and it goes wrong by the same number

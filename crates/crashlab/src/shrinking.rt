@@ -3,6 +3,7 @@
 mod change;
 mod large_steps;
 mod least;
+mod made_of;
 mod played;
 mod replaced;
 mod size;

@@ -1,5 +1,8 @@
 //! A large change of a schedule.
 
+ghost use Rattle.std.specs.Prelude.{◌≡◌};
+ghost use Rattle.crashlab.specs.MadeOf.{process_in};
+
 use schedule::{Count, Line};
 
 /// Which lines go, and which take their place. A range of lines ends before `to`.
@@ -31,7 +34,9 @@ pub enum Removal {
 }
 
 /// The process of a line.
-pub fn process_of(line: &Line) -> u64 {
+pub fn process_of(line: &Line) -> u64
+    ensures { result ≡ process_in line.now }
+{
     match *line {
         Line::Start(p, _) | Line::Step(p, _) | Line::Crash(p) => p,
     }

@@ -2,10 +2,11 @@
 
 ghost use Rattle.std.specs.Prelude.{IfOk, MatchResult, Some};
 ghost use Rattle.crashlab.specs.Hunts.{IsFound};
-ghost use Rattle.crashlab.specs.Shrunk.{GoesWrong, IsNoLonger, IsShrunk, IsReason, Shrinks};
+ghost use Rattle.crashlab.specs.Shrunk.{GoesWrong, IsLike, IsShrunk, IsReason, Shrinks};
 
 use crate::shrinking::large_steps::shorten;
 use crate::shrinking::least::least;
+use crate::shrinking::made_of::is_made_of;
 use crate::shrinking::played::{Wanted, goes_wrong, played};
 use crate::shrinking::replaced::copied;
 use crate::shrinking::size::is_no_longer;
@@ -14,13 +15,17 @@ use schedule::replays::verdict::fault_number;
 use schedule::{OutOfMemory, ReplayFault, Schedule, Verdict};
 use std::alloc::Global;
 
-/// The schedule with large changes made, if it still goes wrong and is no longer; else a copy of the schedule.
+/// The schedule with large changes made, if it still goes wrong, is no longer and has no other moves; else a copy of the
+/// schedule.
 fn shortened(wanted: &Wanted, schedule: &Schedule) -> Result<Schedule, OutOfMemory>
     requires { GoesWrong wanted.now.variant wanted.now.number schedule.now }
-    ensures { IfOk result (λ short. IsNoLonger schedule.now short × GoesWrong wanted.now.variant wanted.now.number short) }
+    ensures { IfOk result (IsLike wanted.now.variant wanted.now.number schedule.now) }
 {
     let short = shorten(wanted, schedule)?;
-    if is_no_longer(&short, schedule) && goes_wrong(wanted, &short)? {
+    if is_no_longer(&short, schedule)
+        && is_made_of(&short, schedule)
+        && goes_wrong(wanted, &short)?
+    {
         return Ok(short);
     }
     copied(wanted.alloc, schedule)

@@ -1,8 +1,8 @@
 -- How the workers ended that were looked at so far.
 use Rattle.std.proofs.Common.{◌≡◌, ◌≢◌, ℕ, ◌+◌, ◌<◌, ◌≤◌, inl, inr, true, List, map, length, take, get_or, slice_get, All, Contains, Option, Some, None, option_map, refl, sym, ap, ◌∙◌, subst, arith}
-use Rattle.one_lock.proofs.LabCommon.{true≢false, cases_lt, get_or-map, length-map, take_all, All-more, All-contains, All-get_or, Contains-get_or, Layout, Crashed, OutOfMemory, NotRecoverable, NotYet}
+use Rattle.one_lock.proofs.LabCommon.{true≢false, cases_lt, get_or-map, get_or-take, length-map, length-take-le, take_all, All-more, All-contains, All-get_or, Contains-get_or, Layout, Crashed, OutOfMemory, NotRecoverable, NotYet}
 use Rattle.one_lock.proofs.LabCommon.{AlreadyIn, NotOwner, NotInconsistent, BadIndex, BadWidth, Setup, AllSent, Fault, Refused, LabFault, BadSpec, Member, Spec, HaveAllSent, WantedMemory, fault_by}
-use Rattle.one_lock.proofs.LabCommon.{IsOfLeast, IsReplyTo, WasSent, WereSent, MayEnd, MayEndLab, setup_of, words_sent, Seat, Goes, of_wait, new_seats, place_of}
+use Rattle.one_lock.proofs.LabCommon.{IsOfLeast, IsReplyTo, WasSent, WereSent, MayEnd, HaveSentBelow, MayEndLab, setup_of, words_sent, Seat, Goes, of_wait, new_seats, place_of}
 use Rattle.std.proofs.lemmas.Option.{slice_get-get_or, slice_get_within, slice_get-map, get_or_from_slice_get}
 use Rattle.one_lock.specs.declared.lab.ending.WorkerEnd.{WorkerEnd}
 use Rattle.one_lock.specs.declared.lab.lab_fault.LabFault.TheVariants.{OutOfMemory as WantsMemory, Reply}
@@ -93,25 +93,39 @@ ended_by named m new to NotInconsistent goes wait crash told s = absurd (true≢
 ended_by named m new to BadIndex goes wait crash told s = absurd (true≢false (sym wait))
 ended_by named m new to BadWidth goes wait crash told s = absurd (true≢false (sym wait))
 
--- the fault of worker p, if it has ended this way and not out of memory
-told_early : (s : Spec) (p : ℕ) (e : WorkerEnd) (fault : LabFault) → p < s.procs → MayEnd (Some (setup_of s)) s p e → (e ≡ Fault OutOfMemory → ⊥) → fault_by p e ≡ Some fault → MayEndLab s fault
-told_early s p AllSent fault below may unwanted told = absurd (let none : Option LabFault = None in let e : none ≡ Some fault = told in cc)
-told_early s p (Fault purpose) fault below (inl spent) unwanted told =
+-- the fault of worker p, if it has ended this way and not out of memory, and those below it have sent all
+told_early : (s : Spec) (p : ℕ) (e : WorkerEnd) (fault : LabFault) → p < s.procs → MayEnd (Some (setup_of s)) s p e → HaveSentBelow s p → (e ≡ Fault OutOfMemory → ⊥) → fault_by p e ≡ Some fault → MayEndLab s fault
+told_early s p AllSent fault below may sent unwanted told = absurd (let none : Option LabFault = None in let e : none ≡ Some fault = told in cc)
+told_early s p (Fault purpose) fault below (inl spent) sent unwanted told =
     let e : Member p purpose ≡ fault = cc in
-    subst (MayEndLab s) e (below, inl spent)
-told_early s p (Fault purpose) fault below (inr (inl ruined)) unwanted told =
+    subst (MayEndLab s) e (below, inl spent, sent)
+told_early s p (Fault purpose) fault below (inr (inl ruined)) sent unwanted told =
     let e : Member p purpose ≡ fault = cc in
-    subst (MayEndLab s) e (below, inr ruined)
-told_early s p (Fault purpose) fault below (inr (inr wants)) unwanted told = absurd (unwanted (ap Fault wants))
-told_early s p (Refused reply) fault below may unwanted told =
+    subst (MayEndLab s) e (below, inr ruined, sent)
+told_early s p (Fault purpose) fault below (inr (inr wants)) sent unwanted told = absurd (unwanted (ap Fault wants))
+told_early s p (Refused reply) fault below may sent unwanted told =
     let e : Reply p reply ≡ fault = cc in
-    subst (MayEndLab s) e (below, may)
+    subst (MayEndLab s) e (below, may, sent)
+
+-- a worker that has sent all, of those that have ended
+was_sent : (named : Option Setup) (s : Spec) (es : List WorkerEnd) (q : ℕ) → EachMay named s es → q < length es → get_or es q AllSent ≡ AllSent → WereSent named s.width q s.messages
+was_sent named s es q may within is =
+    let ends : MayEnd named s q (get_or es q AllSent) = may q (get_or es q AllSent) (slice_get-get_or es q AllSent within) in
+    subst (MayEnd named s q) is ends
+
+-- those with a number below p, if they have sent all
+sent_below : (s : Spec) (es : List WorkerEnd) (p : ℕ) → EachMay (Some (setup_of s)) s es → p < length es → HaveAllSent (take p es) → HaveSentBelow s p
+sent_below s es p may within before q below =
+    let long : length (take p es) ≡ p = length-take-le p es (omega (arith, within)) in
+    let low : q < length (take p es) = subst (λ (k : ℕ). q < k) (sym long) below in
+    let is : get_or es q AllSent ≡ AllSent = sym (get_or-take p es q AllSent below) ∙ All-get_or (λ (e : WorkerEnd). e ≡ AllSent) (take p es) q AllSent low before in
+    was_sent (Some (setup_of s)) s es q may (omega (arith, below, within)) is
 
 of_least : (es : List WorkerEnd) (s : Spec) (fault : LabFault) → length es ≡ s.procs → EachMay (Some (setup_of s)) s es → (WantedMemory es → ⊥) → IsOfLeast es fault → MayEndLab s fault
 of_least es s fault count may none least =
     let within = slice_get_within es least.p least.ending least.at in
     let is : get_or es least.p least.ending ≡ least.ending = get_or_from_slice_get es least.p least.ending least.ending least.at in
-    told_early s least.p least.ending fault (subst (λ (k : ℕ). least.p < k) count within) (may least.p least.ending least.at)
+    told_early s least.p least.ending fault (subst (λ (k : ℕ). least.p < k) count within) (may least.p least.ending least.at) (sent_below s es least.p may within least.before)
     (λ wants. none (subst (Contains es) (is ∙ wants) (Contains-get_or es least.p least.ending within))) least.told
 
 -- the faults that the workers of a lab may end it with
@@ -137,6 +151,4 @@ sent_more named width p k before here seq some below =
 pub all_sent : (named : Option Setup) (s : Spec) (es : List WorkerEnd) → length es ≡ s.procs → EachMay named s es → HaveAllSent es → (p : ℕ) → p < s.procs → WereSent named s.width p s.messages
 all_sent named s es count may sent p below =
     let within : p < length es = subst (λ (k : ℕ). p < k) (sym count) below in
-    let is : get_or es p AllSent ≡ AllSent = All-get_or (λ (e : WorkerEnd). e ≡ AllSent) es p AllSent within sent in
-    let ends : MayEnd named s p (get_or es p AllSent) = may p (get_or es p AllSent) (slice_get-get_or es p AllSent within) in
-    subst (MayEnd named s p) is ends
+    was_sent named s es p may within (All-get_or (λ (e : WorkerEnd). e ≡ AllSent) es p AllSent within sent)

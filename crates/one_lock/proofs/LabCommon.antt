@@ -1,6 +1,6 @@
 -- Names that two or more proof files of the laboratory cite, passed on from one place. Declares nothing.
 pub use Rattle.std.proofs.lemmas.Bool.{true≢false, cases_lt}
-pub use Rattle.std.proofs.lemmas.List.{get_or-map, length-map, take_all, map-append, get_or_append_left}
+pub use Rattle.std.proofs.lemmas.List.{get_or-map, get_or-take, length-map, length-take-le, take_all, map-append, get_or_append_left}
 pub use Rattle.std.proofs.lemmas.List.Elements.{All-more, All-contains, All-get_or, Contains-get_or, All-nil, All-cons, All-head, All-tail, All-push}
 pub use Rattle.std.specs.Vec.Iter.{into_iter_items, into_iter_len}
 pub use Rattle.redomail.specs.declared.layout.Layout.{Layout}
@@ -11,7 +11,7 @@ pub use Rattle.one_lock.specs.declared.lab.lab_fault.LabFault.{LabFault}
 pub use Rattle.one_lock.specs.declared.lab.lab_fault.LabFault.TheVariants.{BadSpec, Member}
 pub use Rattle.one_lock.specs.declared.lab.spec.Spec.{Spec}
 pub use Rattle.one_lock.specs.Endings.{fault_by}
-pub use Rattle.one_lock.specs.LabEndings.{HaveAllSent, WantedMemory, IsOfLeast, IsReplyTo, WasSent, WereSent, MayEnd, MayEndLab, WasRefused}
+pub use Rattle.one_lock.specs.LabEndings.{HaveAllSent, WantedMemory, IsOfLeast, IsReplyTo, WasSent, WereSent, MayEnd, HaveSentBelow, MayEndLab, WasRefused}
 pub use Rattle.one_lock.specs.Lab.{setup_of, words_sent}
 pub use Rattle.one_lock.specs.Member.{Seat, Goes, of_wait, new_seats, steps_taken}
 pub use Rattle.one_lock.specs.Shown.{place_of, CanSend, AreShown}

@@ -68,9 +68,13 @@ MayEnd named s p AllSent = WereSent named s.width p s.messages
 MayEnd named s p (Fault purpose) = ((purpose ≡ NumbersSpent) × WasSpent named p) ⊎ (purpose ≡ NotRecoverable) ⊎ (purpose ≡ OutOfMemory)
 MayEnd named s p (Refused reply) = WasRefused named s.width p reply
 
--- what may end a lab with these sizes early
+-- each message of each worker with a number below p was sent
+abbrev pub HaveSentBelow : Spec → ℕ → Type 0
+HaveSentBelow s p = (q : ℕ) → q < p → WereSent (Some (setup_of s)) s.width q s.messages
+
+-- what may end a lab with these sizes early: the fault of the worker with the least number of those that ended early
 abbrev pub MayEndLab : Spec → LabFault → Type 0
 MayEndLab s BadSpec = ⊥
 MayEndLab s WantsMemory = Unit {0}
-MayEndLab s (Member p purpose) = (p < s.procs) × (((purpose ≡ NumbersSpent) × WasSpent (Some (setup_of s)) p) ⊎ (purpose ≡ NotRecoverable))
-MayEndLab s (Reply p reply) = (p < s.procs) × WasRefused (Some (setup_of s)) s.width p reply
+MayEndLab s (Member p purpose) = (p < s.procs) × (((purpose ≡ NumbersSpent) × WasSpent (Some (setup_of s)) p) ⊎ (purpose ≡ NotRecoverable)) × HaveSentBelow s p
+MayEndLab s (Reply p reply) = (p < s.procs) × WasRefused (Some (setup_of s)) s.width p reply × HaveSentBelow s p

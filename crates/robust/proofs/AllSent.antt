@@ -96,21 +96,21 @@ module _ (s : Spec) (run : List TakenStep) (w : Words) (n : ℕ) (layout : IsLay
   pub at_most : (p : ℕ) → count_of p ms ≤ s.messages
   at_most p = few z.layout w p s.messages n numbered (All-weaker Fits (λ (m : Message). m.sender ≡ p → m.seq ≤ s.messages) (λ m h e. h.0) ms all_fit)
 
-  -- each sender's messages are what it sent, if its last message is shown
-  module _ (last : (p : ℕ) → p < s.procs → IsAmong p s.messages (shown_by z run)) where
-    counted : (p : ℕ) → p < s.procs → count_of p ms ≡ s.messages
-    counted p below =
+  -- a sender's messages are what it sent, if its last message is shown
+  module _ (p : ℕ) (last : IsAmong p s.messages (shown_by z run)) where
+    counted : count_of p ms ≡ s.messages
+    counted =
         let most = at_most p in
-        let least = many z.layout w n p s.messages numbered (subst (IsAmong p s.messages) shown (last p below)) in
+        let least = many z.layout w n p s.messages numbered (subst (IsAmong p s.messages) shown last) in
         omega (arith, most, least)
 
-    its : (p : ℕ) → p < s.procs → messages_by p ms ≡ messages_sent s.width p s.messages
-    its p below =
+    pub its : messages_by p ms ≡ messages_sent s.width p s.messages
+    its =
         let values = All-weaker Fits (λ (m : Message). m.sender ≡ p → m.value ≡ words_sent p m.seq s.width) (λ m h e. h.1 ∙ ap (λ (q : ℕ). words_sent q m.seq s.width) e) ms all_fit in
-        sent_by z.layout w p n numbered values ∙ ap (messages_sent s.width p) (counted p below)
+        sent_by z.layout w p n numbered values ∙ ap (messages_sent s.width p) counted
 
-    pub are_all_sent : AreAllSent s ms
-    are_all_sent = record { each = its; total = counted_all s.procs s.messages ms (senders z.layout w n numbered) counted }
+  pub are_all_sent : ((p : ℕ) → p < s.procs → IsAmong p s.messages (shown_by z run)) → AreAllSent s ms
+  are_all_sent last = record { each = λ p below. its p (last p below); total = counted_all s.procs s.messages ms (senders z.layout w n numbered) (λ p below. counted p (last p below)) }
 
 -- glances start nothing
 glance_starts : (P : Call → Type 0) (e : TakenStep) → IsGlance e → OfStart P e.step.start

@@ -64,7 +64,7 @@ pub use Rattle.one_lock.specs.Endings.{fault_by}
 pub use Rattle.one_lock.specs.Lab.{AreAllSent, words_sent, messages_sent, messages_by, message_sent, IsBadSpec}
 pub use Rattle.one_lock.proofs.Seats.{moved_on}
 pub use Rattle.robust.specs.declared.lab.worker.Done.{Done}
-pub use Rattle.robust.specs.LabFaults.{RefusedAt, IsFirstFault, EndsSo, EndsLab, WasSpent}
+pub use Rattle.robust.specs.LabFaults.{RefusedAt, IsFirstFault, EndsSo, EndsLab, HaveSentBelow, WasSpent}
 pub use Rattle.robust.specs.LabRuns.{AreShownByRun, IsLabRun}
 pub use Rattle.robust.specs.Making.{fresh_member, fresh_members}
 pub use Rattle.robust.specs.Sending.{OfStart, IsSending, AreSending, HasSent, HasShown, SendsOnly, IsNew}

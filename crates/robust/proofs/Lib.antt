@@ -14,6 +14,7 @@ pub mod Sending
 pub mod Failing
 pub mod Numbered
 pub mod AllSent
+pub mod Below
 pub mod LabEnds
 pub mod Spent
 pub mod Unruined

@@ -16,9 +16,9 @@ use Rattle.robust.specs.declared.lab.worker.Done.{Done}
 use Rattle.one_lock.specs.declared.lab.ending.WorkerEnd.{WorkerEnd}
 use Rattle.one_lock.specs.declared.lab.ending.WorkerEnd.TheVariants.{AllSent, Fault, Refused}
 use Rattle.one_lock.specs.Endings.{fault_by}
-use Rattle.one_lock.specs.Lab.{setup_of}
+use Rattle.one_lock.specs.Lab.{setup_of, messages_by, messages_sent}
 use Rattle.execution.specs.Calls.{answers_from}
-use Rattle.execution.specs.Headline.{judged_by}
+use Rattle.execution.specs.Headline.{judged_by, shown_by}
 use Rattle.execution.specs.SeatView.{own_of}
 use Rattle.execution.specs.Ruins.{HasReadRuin}
 use Rattle.execution.specs.Running.{Seated}
@@ -54,12 +54,19 @@ EndsSo s x AllSent = HasShown s.messages x
 EndsSo s x (Fault purpose) = ((purpose ≡ fault.NumbersSpent) × WasSpent x.seat_view.setup (own_of x.seat_view)) ⊎ ((purpose ≡ fault.NotRecoverable) × HasReadRuin (own_of x.seat_view))
 EndsSo s x (Refused reply) = ((reply ≡ Full) ⊎ (reply ≡ Closed)) × ((seq : ℕ) × (1 ≤ seq) × (seq ≤ s.messages) × RefusedAt x seq reply)
 
+-- this run shows the messages of each worker with a number below p: all that it sends, once and in order
+abbrev pub HaveSentBelow : Spec → ℕ → List TakenStep → Type 0
+HaveSentBelow s p es = (q : ℕ) → q < p → messages_by q (shown_by (setup_of s) es) ≡ messages_sent s.width q s.messages
+
 -- What may end a lab early: out of memory; a worker that was answered NumbersSpent in a run of such workers; or a mailbox
--- that was full when one of the messages was to be stored, in such a run, with less room than there are messages.
+-- that was full when one of the messages was to be stored, in such a run, with less room than there are messages. It is the
+-- worker with the least number of those that ended early: that run shows all messages of those below it.
 abbrev pub EndsLab : Spec → LabFault → Type 0
 EndsLab s BadSpec = ⊥
 EndsLab s OutOfMemory = Unit {0}
-EndsLab s (Member p purpose) = (p < s.procs) × (purpose ≡ fault.NumbersSpent) × ((es : List TakenStep) × IsLabRun s es × WasSpent (setup_of s) (own p es))
+EndsLab s (Member p purpose) =
+    (p < s.procs) × (purpose ≡ fault.NumbersSpent)
+    × ((es : List TakenStep) × IsLabRun s es × HaveSentBelow s p es × WasSpent (setup_of s) (own p es))
 EndsLab s (Replied p reply) =
     (p < s.procs) × (reply ≡ Full) × (s.cap < s.procs * s.messages)
-    × ((es : List TakenStep) × IsLabRun s es × ((seq : ℕ) × (1 ≤ seq) × (seq ≤ s.messages) × ReplyTells (setup_of s).layout p seq reply (judged_by (setup_of s) es).mail))
+    × ((es : List TakenStep) × IsLabRun s es × HaveSentBelow s p es × ((seq : ℕ) × (1 ≤ seq) × (seq ≤ s.messages) × ReplyTells (setup_of s).layout p seq reply (judged_by (setup_of s) es).mail))

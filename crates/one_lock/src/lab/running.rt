@@ -22,7 +22,8 @@ use std::thread::Threads;
 /// Runs a worker for each process of a new arena, all at the same time, each on a thread of its own. Worker p appends its
 /// messages with the numbers from 1 on. It calls again after each crash of its gate's plan, and reports each answer to its
 /// gate. It returns when all workers have ended, with the messages in the mailbox then. A step whose deed could not be
-/// stored ends its worker out of memory.
+/// stored ends its worker out of memory. `Member` and `Reply` name the worker with the least number of those that ended
+/// early.
 pub fn run_lab<G: Gate + Send + Drop, R: Threads + Wait + Sync>(
     rt: &R,
     alloc: Global,

@@ -37,7 +37,8 @@ use std::thread::{PromisedHandle, Scope, Threads};
 /// order, and no others.
 ///
 /// `BadSpec`: a size is outside its limits, or the number of gates isn't that of the processes. `OutOfMemory`: memory or a
-/// thread was refused. `Member` and `Reply`: that worker ended early, with this fault or this reply.
+/// thread was refused. `Member` and `Reply`: that worker ended early, with this fault or this reply, and each worker with a
+/// lower number has sent all its messages.
 pub fn run_lab<G: Gate + Send + Drop, R: Threads + Wait + Sync>(
     rt: &R,
     alloc: Global,

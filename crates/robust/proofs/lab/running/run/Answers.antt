@@ -3,7 +3,8 @@ use Rattle.robust.proofs.Common.{words_of, entries, IsNumbered, Gathers, Seated,
 use Rattle.std.specs.Prelude.{vec_len}
 use Rattle.execution.proofs.Glanced.{both_ok}
 use Rattle.robust.proofs.AllSent.{lab_sent, lab_shown, gathered_layout}
-use Rattle.robust.proofs.LabEnds.{member_of, lab_ends}
+use Rattle.robust.proofs.Below.{member_of, by_number}
+use Rattle.robust.proofs.LabEnds.{lab_ends}
 use Rattle.robust.proofs.Worked.{one_arena, none_missing, all_setups, good_sizes, good_messages, good_layout, members_seats, members_sent}
 use Rattle.robust.proofs.lab.running.run.Goals as goal
 
@@ -77,4 +78,4 @@ returns-in-Ok-gather-clause-ends g c =
     let setups = subst (All (λ (x : Seated). x.seat_view.setup ≡ z)) members (all_setups s.0 z xs seats) in
     let first = subst (λ (ds : List Done). IsFirstFault ds c.in-Some.fault) c.as_slice.ensures.value c.in-Some.ensures.first in
     let gathered = subst (λ (ys : List Seated). Gathers ys c.in-Ok-gather.image) members c.in-Ok-gather.ensures.gathered in
-    lab_ends spec ended c.in-Ok-gather.image c.in-Some.fault (good_layout spec (vec_len c.args.gates) c.requires) setups c.in-Ok.ensures.worked first gathered c.in-Ok-gather.ensures.lawful c.messages_were_sent.ensures.sent c.messages_were_sent.ensures.closed c.runs_show.ensures c.loads_tell.ensures c.nobody_ruins.ensures
+    lab_ends spec ended c.in-Ok-gather.image c.in-Some.fault (good_layout spec (vec_len c.args.gates) c.requires) setups c.in-Ok.ensures.worked (by_number s.0 z ended (c.in-Ok.ensures.seats ∙ s.1)) first gathered c.in-Ok-gather.ensures.lawful c.messages_were_sent.ensures.sent c.messages_were_sent.ensures.closed c.runs_show.ensures c.loads_tell.ensures c.nobody_ruins.ensures

@@ -14,14 +14,14 @@ pub use Rattle.schedule.specs.declared.lines.line.Line.TheVariants.{Start, Step,
 pub use Rattle.schedule.specs.declared.replays.replay_fault.ReplayFault.{ReplayFault}
 pub use Rattle.schedule.specs.declared.replays.verdict.Verdict.{Verdict}
 pub use Rattle.schedule.specs.RunningVerdicts.{RunningJudge, Hears, opened, running_judge}
-pub use Rattle.schedule.specs.Tapes.{WritesFront, Tape, Writes, Begins}
+pub use Rattle.schedule.specs.Tapes.{WritesFront, Tape, Writes, Begins, BreaksOff}
 pub use Rattle.schedule.specs.Plays.{halted}
 pub use Rattle.schedule.specs.Runs.{Part, deeds_of, did, told_of, Told, unless, Did}
 pub use Rattle.rmeworld.specs.Behaviours.{Behaviour}
 unfoldable pub use Rattle.schedule.specs.Runs.{steps, line_on, run_on}
 pub use Rattle.schedule.specs.Verdicts.{verdict_on}
 pub use Rattle.schedule.proofs.Heard.{hears_both, hears_none}
-pub use Rattle.schedule.proofs.Playing.{begins_further, begins_wider, begins_nothing, deeds_append, deeds_told, start_part, step_part, crash_part, is_refused}
+pub use Rattle.schedule.proofs.Playing.{append_none, begins_further, begins_wider, breaks_further, breaks_nothing, breaks_wider, none_behind, deeds_append, deeds_told, start_part, step_part, crash_part, is_refused}
 pub use Rattle.diagram.specs.declared.act.Act.{Act}
 pub use Rattle.diagram.specs.declared.act.DiagramRow.{DiagramRow}
 pub use Rattle.diagram.specs.declared.drawing.End.{End}

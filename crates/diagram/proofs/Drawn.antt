@@ -18,3 +18,8 @@ drawn now events run s verdict (Err (line, stops.Refused number)) (ends.Refused 
     record { shows = played.0; stands = λ judged. absurd judged; ends_so = λ start ruled. (rw (is.0, is.1) played.1, is.2 ∙ ruled) }
 drawn now events run s verdict (Err (line, stops.OutOfMemory)) (ends.Judged said) played is = absurd is
 drawn now events run s verdict (Err (line, stops.OutOfMemory)) (ends.Refused at purpose said) played is = absurd is
+
+-- out of memory comes only where there is something to show
+pub starved : {S A : Type 0} (before now : List DiagramRow) (events : List Event) (run : Part S (ℕ × Refusal)) (s : S) (r : Result A (ℕ × DiagramStop)) (line : ℕ) → r ≡ Err (line, stops.OutOfMemory)
+    → PlaysOn before now events run s r → events ≡ [] → ⊥
+starved before now events run s r line is played = rw is at played

@@ -5,5 +5,6 @@ pub mod Heard
 pub mod Written
 pub mod Drawn
 pub mod Joined
+pub mod NotEmpty
 pub mod Steps
 pub mod Ended

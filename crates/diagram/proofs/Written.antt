@@ -1,6 +1,6 @@
 -- Texts that are written a part at a time.
 use Rattle.std.proofs.Common.{◌≡◌, ℕ, ◌+◌, ◌-◌, ◌^◌, min, List, [], ◌++◌, Result, Ok, Err, refl, sym, ap, ◌∙◌, append_assoc}
-use Rattle.diagram.proofs.Common.{append-nil, ReplayFault, WritesFront, Tape, Writes, begins_further, begins_wider, begins_nothing, Spells}
+use Rattle.diagram.proofs.Common.{append-nil, ReplayFault, WritesFront, Tape, Writes, begins_further, begins_wider, breaks_further, breaks_wider, breaks_nothing, Spells}
 use Rattle.schedule.specs.declared.replays.replay_fault.ReplayFault.TheVariants.{OutOfMemory, Read, Refused, Text, Write}
 
 -- a part after what was written, and no more
@@ -10,7 +10,7 @@ spells_last t u v text part whole (Ok x) written e h =
 spells_last t u v text part whole (Err Write) written e h =
     (rw e (begins_further t.taken u.taken v.taken text part written.taken h.0), rw (← written.fine) h.1)
 spells_last t u v text part whole (Err OutOfMemory) written e h =
-    (rw e (begins_further t.taken u.taken v.taken text part written.taken h.0), h.1 ∙ written.fine)
+    (rw e (breaks_further t.taken u.taken v.taken text part written.taken h.0), h.1 ∙ written.fine)
 spells_last t u v text part whole _ written e h = absurd h
 
 -- nothing is written yet
@@ -37,11 +37,16 @@ pub stops_within : (t u v : Tape) (whole part after : List ℕ) (fault : ReplayF
 stops_within t u v whole part after Write so_far fine h =
     (rw so_far.left (begins_further t.taken u.taken v.taken so_far.front (part ++ after) so_far.written (begins_wider u.taken v.taken part after h.0)), rw (← fine) h.1)
 stops_within t u v whole part after OutOfMemory so_far fine h =
-    (rw so_far.left (begins_further t.taken u.taken v.taken so_far.front (part ++ after) so_far.written (begins_wider u.taken v.taken part after h.0)), h.1 ∙ fine)
+    (rw so_far.left (breaks_further t.taken u.taken v.taken so_far.front (part ++ after) so_far.written (breaks_wider u.taken v.taken part after h.0)), h.1 ∙ fine)
 stops_within t u v whole part after _ so_far fine h = absurd h
 
-pub wants_memory : (t : Tape) (text : List ℕ) → Spells {A = Unit {0}} t t text (Err OutOfMemory)
-wants_memory t text = (begins_nothing t.taken text, refl)
+-- nothing is written of an empty text
+pub writes_none : (t : Tape) (text : List ℕ) → text ≡ [] → Writes t t text
+writes_none t text none = record { taken = sym (append-nil t.taken) ∙ ap (λ (xs : List ℕ). t.taken ++ xs) (sym none); fine = refl }
+
+-- out of memory before anything of a text is written
+pub wants_memory : (t : Tape) (text : List ℕ) → (text ≡ [] → ⊥) → Spells {A = Unit {0}} t t text (Err OutOfMemory)
+wants_memory t text some = (breaks_nothing t.taken text some, refl)
 
 -- a text was written, and then the sink failed
 pub fails_behind : (t u v : Tape) (text : List ℕ) → Writes t u text → v.taken ≡ u.taken → v.failures ≡ min (u.failures + 1) (2 ^ 64 - 1) → Spells {A = Unit {0}} t v text (Err Write)

@@ -4,7 +4,7 @@ use Rattle.std.proofs.Math.ListN.{replicate}
 use Rattle.schedule.specs.declared.texts.head.Head.{Head}
 use Rattle.schedule.specs.declared.replays.replay_fault.ReplayFault.{ReplayFault}
 use Rattle.schedule.specs.declared.replays.replay_fault.ReplayFault.TheVariants.{Write, OutOfMemory}
-use Rattle.schedule.specs.Tapes.{Tape, Writes, Begins}
+use Rattle.schedule.specs.Tapes.{Tape, Writes, Begins, BreaksOff}
 use Rattle.diagram.specs.declared.act.DiagramRow.{DiagramRow}
 use Rattle.diagram.specs.declared.drawing.End.{End}
 use Rattle.diagram.specs.declared.phase.LifelinePhase.{LifelinePhase}
@@ -51,9 +51,9 @@ spelled_from diagram_layout lifeline_state rows end = top_in diagram_layout.styl
 abbrev pub spelled : DiagramLayout → LifelinePhase → List DiagramRow → End → List ℕ
 spelled diagram_layout first rows end = spelled_from diagram_layout (record { phases = replicate diagram_layout.layout.procs first; deeds = 0; rows = 0 }) rows end
 
--- all of a text is written, or a beginning of it and the reason why not the rest
+-- all of a text is written, or a beginning of it and the reason why not the rest. Out of memory leaves some of it unwritten
 abbrev pub Spells : {A : Type 0} → Tape → Tape → List ℕ → Result A ReplayFault → Type 0
 Spells before now text (Ok x) = Writes before now text
 Spells before now text (Err Write) = Begins before.taken now.taken text × (now.failures ≡ min (before.failures + 1) (2 ^ 64 - 1))
-Spells before now text (Err OutOfMemory) = Begins before.taken now.taken text × (now.failures ≡ before.failures)
+Spells before now text (Err OutOfMemory) = BreaksOff before.taken now.taken text × (now.failures ≡ before.failures)
 Spells before now text (Err fault) = ⊥

@@ -12,7 +12,7 @@ use Rattle.rmeworld.specs.declared.stepped.Stepped.{Stepped}
 use Rattle.schedule.specs.declared.replays.replay_fault.ReplayFault.{ReplayFault}
 use Rattle.schedule.specs.declared.replays.replay_fault.ReplayFault.TheVariants.{Refused, Write, OutOfMemory}
 use Rattle.schedule.specs.declared.replays.verdict.Verdict.{Verdict}
-use Rattle.schedule.specs.Tapes.{Tape, Writes, Begins}
+use Rattle.schedule.specs.Tapes.{Tape, Writes, Begins, BreaksOff}
 use Rattle.schedule.specs.Reports.{IsEnd}
 use Rattle.schedule.specs.Runs.{Part, deeds_of}
 use Rattle.schedule.specs.Verdicts.{verdict_on}
@@ -88,7 +88,7 @@ Ending before now image (Judged verdict) (Ok said) = (said ≡ verdict) × ((end
 Ending before now image (Judged verdict) (Err Write) =
     ((end : List ℕ) → IsEnd image verdict end → Begins before.taken now.taken end) × (now.failures ≡ min (before.failures + 1) (2 ^ 64 - 1))
 Ending before now image (Judged verdict) (Err OutOfMemory) =
-    ((end : List ℕ) → IsEnd image verdict end → Begins before.taken now.taken end) × (now.failures ≡ before.failures)
+    ((end : List ℕ) → IsEnd image verdict end → BreaksOff before.taken now.taken end) × (now.failures ≡ before.failures)
 Ending before now image (ends.Refused line number verdict) (Err (Refused at purpose)) = (at ≡ line) × (purpose ≡ number) × Writes before now []
 Ending before now image (ends.Refused line number verdict) (Err Write) =
     (now.taken ≡ before.taken) × (now.failures ≡ min (before.failures + 1) (2 ^ 64 - 1))
@@ -108,7 +108,8 @@ pub record IsFollowed {S : Type 0} (before now : Tape) (start : State) (image_of
   pub all : IsAllFollowed start image_of run None steps text
   pub writes : Writes before now text
 
--- or why there is no verdict, as a replay answers it; where a device or memory fails, a beginning was written
+-- or why there is no verdict, as a replay answers it; where a device or memory fails, a beginning was written. Out of memory
+-- leaves some of the text unwritten: so where all steps before a refused line were written, the answer is the refusal
 abbrev pub Follows : {S : Type 0} → Tape → Tape → State → (S → Image) → Part S (ℕ × Refusal) → List ℕ → Result Verdict ReplayFault → Type 0
 Follows before now start image_of run steps (Ok verdict) = IsFollowed before now start image_of run steps verdict
 Follows before now start image_of run steps (Err (Refused line number)) =
@@ -117,6 +118,6 @@ Follows before now start image_of run steps (Err Write) =
     ((text : List ℕ) → IsAllFollowed start image_of run run.refused steps text → Begins before.taken now.taken text)
     × (now.failures ≡ min (before.failures + 1) (2 ^ 64 - 1))
 Follows before now start image_of run steps (Err OutOfMemory) =
-    ((text : List ℕ) → IsAllFollowed start image_of run run.refused steps text → Begins before.taken now.taken text)
+    ((text : List ℕ) → IsAllFollowed start image_of run run.refused steps text → BreaksOff before.taken now.taken text)
     × (now.failures ≡ before.failures)
 Follows before now start image_of run steps (Err fault) = ⊥

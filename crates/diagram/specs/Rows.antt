@@ -53,19 +53,19 @@ abbrev pub stopped : Option ℕ → DiagramStop
 stopped None = stops.OutOfMemory
 stopped (Some number) = stops.Refused number
 
--- how a part of a run was played: all of it, or up to a refusal. Of out of memory nothing is said
+-- how a part of a run was played: all of it, or up to a refusal. Out of memory comes only where there is something to show
 abbrev pub Plays : {S A : Type 0} → List DiagramRow → List DiagramRow → List Event → Option Refusal → S → S → Result A DiagramStop → Type 0
 Plays before now events refused left s (Ok x) = (events_in now ≡ events_in before ++ events) × (refused ≡ None) × (s ≡ left)
 Plays before now events refused left s (Err (stops.Refused number)) =
     (events_in now ≡ events_in before ++ events) × ((refusal : Refusal) × (refused ≡ Some refusal) × (number_of refusal ≡ Some number))
-Plays before now events refused left s (Err stops.OutOfMemory) = Unit {0}
+Plays before now events refused left s (Err stops.OutOfMemory) = events ≡ [] → ⊥
 
 -- how the lines of a run were played, and the machine after all of them
 abbrev pub PlaysOn : {S A : Type 0} → List DiagramRow → List DiagramRow → List Event → Part S (ℕ × Refusal) → S → Result A (ℕ × DiagramStop) → Type 0
 PlaysOn before now events run s (Ok x) = (events_in now ≡ events_in before ++ events) × (run.refused ≡ None) × (s ≡ run.left)
 PlaysOn before now events run s (Err (line, stops.Refused number)) =
     (events_in now ≡ events_in before ++ events) × ((refusal : Refusal) × (run.refused ≡ Some (line, refusal)) × (number_of refusal ≡ Some number))
-PlaysOn before now events run s (Err (line, stops.OutOfMemory)) = Unit {0}
+PlaysOn before now events run s (Err (line, stops.OutOfMemory)) = events ≡ [] → ⊥
 
 -- how a run ends: with the verdict on its deeds, and at the refused line, if there is one
 abbrev pub EndsAs : {S : Type 0} → State → Part S (ℕ × Refusal) → End → Type 0

@@ -1,6 +1,6 @@
 //! The drawing of a schedule's run.
 
-ghost use Rattle.std.specs.Prelude.{◌≡◌, IfOk};
+ghost use Rattle.std.specs.Prelude.{◌≡◌, ℕ, [], Err, IfOk, OnErr};
 ghost use Rattle.judge.specs.Stands.{Keeps};
 ghost use Rattle.judge.specs.Table.{State};
 ghost use Rattle.schedule.specs.Runs.{run_on};
@@ -45,7 +45,8 @@ pub struct Drawing {
 
 /// How a run ends, by how its lines were played and the verdict on its deeds.
 fn end_of(played: Result<(), (u64, DiagramStop)>, verdict: Verdict) -> Result<End, OutOfMemory>
-    ensures { IfOk result (λ end. IsEndOf played verdict end) }
+    ensures ends { IfOk result (λ end. IsEndOf played verdict end) }
+    ensures memory { OnErr result ((line : ℕ) × (played ≡ Err (line, DiagramStop.OutOfMemory))) }
 {
     match played {
         Ok(()) => Ok(End::Judged(verdict)),
@@ -80,6 +81,8 @@ pub fn draw<M: Machine>(
     ensures left { IfOk result (λ drawing. IsJudged drawing.end
         → machine.new ≡ (run_on M.behaviour 2 machine.old schedule.now.lines).left) }
     ensures sizes { IfOk result (λ drawing. (drawing.head ≡ head_of schedule.now) × (drawing.first ≡ first)) }
+    // Out of memory comes only where there is a step or a crash to draw.
+    ensures memory { OnErr result (events_on M.behaviour machine.old schedule.now.lines ≡ [] → ⊥) }
 {
     let mut rows = Vec::new(alloc);
     let played = take_lines(machine, &mut rows, schedule.lines());

@@ -1,6 +1,6 @@
 //! Writes a run step by step.
 
-ghost use Rattle.std.specs.Prelude.{◌≡◌, ◌++◌, OnOk, get_or, map};
+ghost use Rattle.std.specs.Prelude.{◌≡◌, ◌++◌, [], true, false, OnOk, get_or, map};
 ghost use Rattle.std.proofs.Math.ListN.{replicate};
 ghost use Rattle.judge.specs.Stands.{Keeps};
 ghost use Rattle.judge.specs.Table.{State};
@@ -185,8 +185,33 @@ fn write_rows<W: Sink>(
     Ok(())
 }
 
-/// Writes the steps and crashes of a run, from its drawing.
-fn write_steps<W: Sink>(alloc: Global, drawing: &Drawing, w: &mut W) -> Result<(), ReplayFault>
+/// Whether a row shows a step or a crash.
+fn shows(row: &DiagramRow) -> bool
+    ensures some { result ≡ true → events_shown row.now.p row.now.act ≡ [] → ⊥ }
+    ensures none { result ≡ false → events_shown row.now.p row.now.act ≡ [] }
+{
+    match row.act {
+        Act::Silent(_, times) => times > 0,
+        Act::Telling(_) | Act::Fell(_) => true,
+    }
+}
+
+/// Whether rows show a step or a crash.
+fn show_any(rows: &[DiagramRow]) -> bool
+    ensures some { result ≡ true → events_in rows.now ≡ [] → ⊥ }
+    ensures none { result ≡ false → events_in rows.now ≡ [] }
+{
+    for row in rows {
+        if shows(row) {
+            return true;
+        }
+    }
+    false
+}
+
+/// Writes the steps and crashes of a run, from its drawing. There is one.
+fn write_some<W: Sink>(alloc: Global, drawing: &Drawing, w: &mut W) -> Result<(), ReplayFault>
+    requires { events_in drawing.now.rows.items ≡ [] → ⊥ }
     ensures { Spells (W.tape w.old) (W.tape w.new) (followed (layout_in drawing.now.head)
         (replicate drawing.now.head.procs drawing.now.first) (events_in drawing.now.rows.items)) result }
 {
@@ -200,6 +225,18 @@ fn write_steps<W: Sink>(alloc: Global, drawing: &Drawing, w: &mut W) -> Result<(
         drawing.rows.as_slice(),
         w,
     )
+}
+
+/// Writes the steps and crashes of a run, from its drawing. It takes memory only where there is something to write.
+#[tactic(auto, using(crate::proofs::Written::writes_none, crate::proofs::NotEmpty::followed_none))]
+fn write_steps<W: Sink>(alloc: Global, drawing: &Drawing, w: &mut W) -> Result<(), ReplayFault>
+    ensures { Spells (W.tape w.old) (W.tape w.new) (followed (layout_in drawing.now.head)
+        (replicate drawing.now.head.procs drawing.now.first) (events_in drawing.now.rows.items)) result }
+{
+    if show_any(drawing.rows.as_slice()) {
+        return write_some(alloc, drawing, w);
+    }
+    Ok(())
 }
 
 /// Writes the end of a machine's report after the steps. A run that was refused has no such end.

@@ -1,6 +1,7 @@
 //! What the tests of whole invocations share: the program is run over a folder in memory and devices that may fail, its
 //! whole output is compared, and each of its requests for memory is refused in turn.
 
+pub mod alone;
 pub mod devices;
 pub mod fake;
 pub mod invocation;

@@ -2,7 +2,7 @@
 
 use crate::arguments::kit::words_of;
 use cli::arguments::args::{Command, HuntArgs, ReplayArgs, RunArgs};
-use cli::arguments::words::read_words;
+use cli::arguments::words::{WordsFault, read_words};
 use crashlab::Variant;
 use std::test::Fail;
 
@@ -59,6 +59,47 @@ fn runs(rt: HostRuntime) -> Result<(), Fail> {
             width,
         };
         assert_eq!(rt; args, greatest);
+    }
+    Ok(())
+}
+
+/// Only the right lock goes with an image.
+#[test]
+fn variants_beside_an_image(rt: HostRuntime) -> Result<(), Fail> {
+    let alloc = rt.alloc();
+    for name in [
+        "no-look",
+        "no-ties",
+        "renumber",
+        "exit-on-crash",
+        "count-up",
+        "last-skipped",
+        "wrong",
+    ] {
+        for command in ["replay", "draw"] {
+            let line = format!(in alloc; "rmelab {command} --variant {name} --image a.json")?;
+            let words = words_of(alloc, &line)?;
+            let is_bad = matches!(read_words(alloc, &words), Err(WordsFault::BadVariant));
+            assert!(rt; is_bad, "{line}");
+        }
+    }
+    Ok(())
+}
+
+#[test]
+fn the_right_lock_beside_an_image(rt: HostRuntime) -> Result<(), Fail> {
+    for line in [
+        "rmelab replay --image a.json",
+        "rmelab replay --variant right --image a.json",
+        "rmelab replay --image a.json --variant right",
+    ] {
+        let words = words_of(rt.alloc(), line)?;
+        let Ok(Command::Replay(args)) = read_words(rt.alloc(), &words) else {
+            panic!(&rt; "no replay: {line}");
+        };
+        assert!(rt; args.variant == Variant::Right, "{line}");
+        let image = args.image.as_deref();
+        assert!(rt; image == Some("a.json"), "{line}");
     }
     Ok(())
 }

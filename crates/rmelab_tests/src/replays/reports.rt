@@ -1,9 +1,10 @@
 //! Replays and traces as whole invocations: the words, standard input and files; then what is printed on both outputs, the
 //! exit status and the file that is saved.
 
-use crate::support::invocation::all_come_to;
+use crate::support::invocation::{all_come_to, words_of};
 use crate::support::row::invoked;
 use cli::arguments::args::Command;
+use cli::arguments::words::read_words;
 use commands::command::command;
 use schedule::{Page, Text};
 use std::test::Fail;
@@ -198,6 +199,51 @@ fn a_command_alone(rt: HostRuntime) -> Result<(), Fail> {
         assert_eq!(rt; str::from_utf8(out.as_slice()), Ok(printed));
         assert_eq!(rt; str::from_utf8(err.as_slice()), Ok(told));
         assert!(rt; ending.status == status && ending.save.is_none());
+    }
+    Ok(())
+}
+
+/// The image that `--save` asks for is in the ending of the command, and none is after a fault.
+#[test]
+fn saves_of_a_command(rt: HostRuntime) -> Result<(), Fail> {
+    let alloc = rt.alloc();
+    for (line, schedule, told, status, save) in [
+        ("rmelab replay --save b.json", SMALLEST, "", 0, Some(IMAGE)),
+        (
+            "rmelab replay --json --save b.json",
+            SMALLEST,
+            "",
+            0,
+            Some(IMAGE),
+        ),
+        ("rmelab replay --each", SMALLEST, "", 0, None),
+        (
+            "rmelab replay --save b.json",
+            MENDED_FIRST,
+            "rmelab: line 4: refused 10\n",
+            2,
+            None,
+        ),
+        (
+            "rmelab replay --save b.json",
+            ZERO_FIRST,
+            "rmelab: line 2: fault 3\n",
+            2,
+            None,
+        ),
+    ] {
+        let words = words_of(alloc, line)?;
+        let Ok(order) = read_words(alloc, &words) else {
+            panic!(&rt; "no command: {line}");
+        };
+        let mut source = Text::new(schedule.as_bytes(), 64);
+        let mut out = Page::new(alloc);
+        let mut err = Page::new(alloc);
+        let ending = command(&rt, alloc, &order, None, &mut source, &mut out, &mut err);
+        assert_eq!(rt; str::from_utf8(err.as_slice()), Ok(told), "{line}");
+        assert!(rt; ending.status == status, "{line}");
+        let wanted = save.map(|text: &str| text.as_bytes());
+        assert!(rt; ending.save.as_deref() == wanted, "{line}");
     }
     Ok(())
 }

@@ -1,5 +1,6 @@
 //! Runs the program as a row says, over a folder in memory and devices that may fail, and compares its whole output.
 
+use crate::support::alone::comes_to_alone;
 use crate::support::devices::{Feed, Paper, Ticking};
 use crate::support::fake::{Failing, Fake};
 use crate::support::row::{ProgramRow, invoked};
@@ -85,7 +86,7 @@ pub fn printed_by(
 }
 
 /// Fails the test, unless the invocation has written this to this place.
-fn wrote(line: &str, place: &str, found: &[u8], wanted: &str) -> Result<(), Fail> {
+pub(crate) fn wrote(line: &str, place: &str, found: &[u8], wanted: &str) -> Result<(), Fail> {
     if found == wanted.as_bytes() {
         return Ok(());
     }
@@ -118,7 +119,7 @@ pub fn comes_to(
     Ok(())
 }
 
-/// Runs the program as each of the rows says, and compares its whole output.
+/// Runs the program as each of the rows says, and compares its whole output; and so `read_words` and `command` alone.
 pub fn all_come_to(
     rt: &(impl Threads + Wait + Sync),
     alloc: Global,
@@ -126,6 +127,7 @@ pub fn all_come_to(
 ) -> Result<(), Fail> {
     for row in rows {
         comes_to(rt, alloc, Ok(words_of(alloc, row.line)?), row)?;
+        comes_to_alone(rt, alloc, row)?;
     }
     Ok(())
 }

@@ -1,4 +1,4 @@
-use Rattle.std.proofs.Common.{◌++◌, [], ◌∷◌, refl, sym, ap, ◌∙◌, inr}
+use Rattle.std.proofs.Common.{◌++◌, [], ◌∷◌, Err, refl, sym, ap, ◌∙◌, inr}
 use Rattle.diagram.proofs.Common.{append-nil, err_from_is_err_and, Crash, Did, steps, line_on, start_part, step_part, crash_part, steps_of, events_of, events_in}
 use Rattle.diagram.proofs.Shown.{refused_plays, refused_of, left_of, start_shows, step_shows, plays_line}
 use Rattle.diagram.proofs.collecting.take_line.Goals as goal
@@ -14,7 +14,7 @@ returns-in_err-start-in-Start g c =
     let p = err_from_is_err_and c.from_residual.result c.from_residual.ensures.1 in
     rw (p.1, p.2)
     (refused_plays c.args.rows.now.items c.args.rows.now.items (events_of b s line) (line_on b s line).refused (line_on b s line).left c.start.new.self c.in_err-start-in-Start.field-0.0 (inr refused)
-    (λ purpose. start_shows b s line c.in-Start.p call c.in-Start.is) refl)
+    (λ purpose. start_shows b s line c.in-Start.p call c.in-Start.is) (λ memory. absurd (c.in_err-start-in-Start.ensures.memory (ap (λ e. Err e) memory))) refl)
 
 pub returns-in_ok-start-in-Start : goal.returns-in_ok-start-in-Start
 returns-in_ok-start-in-Start g c =

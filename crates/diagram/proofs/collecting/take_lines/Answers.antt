@@ -1,10 +1,10 @@
 use Rattle.std.proofs.Common.{◌≡◌, ◌+◌, ◌∷◌, drop, [], refl, sym, ap, ◌∙◌, arith}
 use Rattle.diagram.proofs.Common.{drop_more, length-drop, nil_from_length, run_on, events_on}
-use Rattle.diagram.proofs.Shown.{shown_none, shown_some, lines_none, line_goes_on, stops}
+use Rattle.diagram.proofs.Shown.{shown_none, shown_some, shown_grows, lines_none, line_goes_on, stops}
 use Rattle.diagram.proofs.collecting.take_lines.Goals as goal
 
 pub loop-line-init : goal.loop-line-init
-loop-line-init g c = (refl, refl, refl, refl)
+loop-line-init g c = (refl, refl, refl, refl, omega arith)
 
 pub returns-in-Err : goal.returns-in-Err
 returns-in-Err g c =
@@ -14,7 +14,7 @@ returns-in-Err g c =
     let item = c.line-item.result in
     let e : drop i lines ≡ item ∷ drop (i + 1) lines = drop_more lines i item c.loop-line-test.true ∙ ap (λ x. x ∷ drop (i + 1) lines) (sym c.line-item.is) in
     stops b c.args.rows.now.items c.loop-line.rows.items c.take_line.new.rows.items (events_on b c.args.machine.now lines) (run_on b 2 c.args.machine.now lines) c.loop-line.number c.loop-line.machine c.take_line.new.machine item (drop i lines) (drop (i + 1) lines) c.in-Err.stop
-    c.loop-line.invariant.0 c.loop-line.invariant.1 e c.in-Err.ensures
+    c.loop-line.invariant.4 c.loop-line.invariant.0 c.loop-line.invariant.1 e c.in-Err.ensures
 
 pub loop-line-preserved : goal.loop-line-preserved
 loop-line-preserved g c =
@@ -28,6 +28,7 @@ loop-line-preserved g c =
       sym more.1 ∙ c.loop-line.invariant.1,
       sym more.2 ∙ c.loop-line.invariant.2,
       omega (arith, c.loop-line.invariant.3),
+      shown_grows c.args.rows.now.items c.loop-line.rows.items c.take_line.new.rows.items _ c.loop-line.invariant.4 played.0,
     )
 
 pub returns : goal.returns

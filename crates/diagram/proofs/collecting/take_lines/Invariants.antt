@@ -1,4 +1,4 @@
-use Rattle.std.proofs.Common.{◌≡◌, ◌+◌, ◌++◌, drop}
+use Rattle.std.proofs.Common.{◌≡◌, ◌≤◌, ◌+◌, ◌++◌, drop, length}
 use Rattle.diagram.proofs.Common.{run_on, events_on, events_in}
 use Rattle.diagram.proofs.collecting.take_lines.Given as goal
 
@@ -9,3 +9,4 @@ invariant-loop-line g l =
     × ((run_on b l.number l.machine (drop l.line-index l.lines)).refused ≡ (run_on b 2 l.fn.machine l.lines).refused)
     × ((run_on b l.number l.machine (drop l.line-index l.lines)).left ≡ (run_on b 2 l.fn.machine l.lines).left)
     × (l.number ≡ l.line-index + 2)
+    × (length (events_in l.fn.rows.items) ≤ length (events_in l.rows.items))

@@ -1,6 +1,6 @@
-use Rattle.std.proofs.Common.{◌≡◌, suc, ◌-◌, refl, sym, arith}
+use Rattle.std.proofs.Common.{◌≡◌, suc, ◌-◌, Err, refl, sym, ap, arith}
 use Rattle.diagram.proofs.Common.{err_from_is_err_and, steps, steps_of}
-use Rattle.diagram.proofs.Shown.{refused_plays, plays_then, steps_refused, steps_ended, steps_go_on}
+use Rattle.diagram.proofs.Shown.{refused_plays, plays_then, steps_refused, steps_some, steps_ended, steps_go_on}
 use Rattle.diagram.proofs.collecting.take_steps.Goals as goal
 
 pub returns-in_err-stepped : goal.returns-in_err-stepped
@@ -9,7 +9,15 @@ returns-in_err-stepped g c =
     let count : c.args.n ≡ suc (c.args.n - 1) = omega (arith, c.requires) in
     let p = err_from_is_err_and c.from_residual.result c.from_residual.ensures.1 in
     rw (p.1, p.2) (refused_plays c.args.rows.now.items c.args.rows.now.items (steps_of b c.args.p c.args.n c.args.machine.now) (g.M.Machine.behaviour.advance_refusal c.args.machine.now c.args.p) (steps b c.args.p c.args.n c.args.machine.now).1 c.advance.new.self c.in_err-stepped.field-0.0 c.in_err-stepped.ensures.refused
-    (λ refused. (steps_refused b c.args.p _ _ c.args.machine.now _ count refused).0) refl)
+    (λ refused. (steps_refused b c.args.p _ _ c.args.machine.now _ count refused).0)
+    (λ memory. steps_some b c.args.p _ _ c.args.machine.now count (c.in_err-stepped.ensures.memory (ap (λ e. Err e) memory)).0) refl)
+
+pub returns-in_err-note : goal.returns-in_err-note
+returns-in_err-note g c =
+    let b = g.M.Machine.behaviour in
+    let count : c.args.n ≡ suc (c.args.n - 1) = omega (arith, c.requires) in
+    let p = err_from_is_err_and c.from_residual-in_err-note.result c.from_residual-in_err-note.ensures.1 in
+    rw (p.1, p.2, c.in_err-note.ensures) (steps_some b c.args.p _ _ c.args.machine.now count c.in_ok-stepped.ensures.accepted)
 
 pub returns-then-is_some : goal.returns-then-is_some
 returns-then-is_some g c =

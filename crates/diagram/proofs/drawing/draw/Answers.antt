@@ -15,7 +15,7 @@ returns g c =
     let s = c.take_lines-played.new.machine in
     let played = subst (λ (before : List DiagramRow). PlaysOn before now (events_on b m lines) run s r) c.new-rows.ensures.items
     (subst (λ (ls : List Line). PlaysOn c.new-rows.result.items now (events_on b m ls) (run_on b 2 m ls) s r) c.lines.ensures c.take_lines-played.ensures) in
-    let all = drawn now (events_on b m lines) run s c.verdict_on-verdict.result r c.in_ok-end.end played c.in_ok-end.ensures in
+    let all = drawn now (events_on b m lines) run s c.verdict_on-verdict.result r c.in_ok-end.end played c.in_ok-end.ensures.ends in
     let told = ap told_in all.shows ∙ run_tells b 2 m lines in
     record {
       events = all.shows;
@@ -23,4 +23,5 @@ returns g c =
       end = λ start keeps. all.ends_so start (c.verdict_on-verdict.ensures start keeps ∙ ap (λ rows. verdict_on start (deeds_of (told_in (events_in rows)))) c.deref.ensures.value ∙ ap (λ says. verdict_on start (deeds_of says)) told);
       left = all.stands;
       sizes = search rules;
+      memory = tt;
     }

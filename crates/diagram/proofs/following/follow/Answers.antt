@@ -1,13 +1,19 @@
 use Rattle.std.proofs.Common.{◌≡◌, List, Err, refl, ap, subst, ◌∙◌, ℕ}
-use Rattle.diagram.proofs.Common.{replicate, err_from_is_err_and, Writes, run_on, begins_nothing, LifelinePhase, Spells, Event, events_on, followed, events_in, layout_of}
+use Rattle.diagram.proofs.Common.{replicate, err_from_is_err_and, Writes, run_on, LifelinePhase, Spells, Event, events_on, followed, events_in, layout_of}
 use Rattle.schedule.specs.declared.texts.head.Head.{Head}
 use Rattle.schedule.specs.Schedules.{head_of}
-use Rattle.diagram.proofs.Ended.{steps_end, steps_fail}
+use Rattle.diagram.proofs.Ended.{none_followed, steps_end, steps_fail}
+use Rattle.diagram.proofs.NotEmpty.{followed_some}
 use Rattle.diagram.proofs.following.follow.Goals as goal
 
 pub returns-in_default-clause-follows : goal.returns-in_default-clause-follows
 returns-in_default-clause-follows g c start keeps =
-    (λ text all. begins_nothing (g.W.Sink.tape c.args.w.now).taken text, refl)
+    let b = g.M.Machine.behaviour in
+    let schedule = c.args.schedule.now in
+    let events = events_on b c.args.machine.now schedule.lines in
+    let phases = replicate schedule.procs c.args.first in
+    none_followed (g.W.Sink.tape c.args.w.now) start b.image_of (run_on b 2 c.args.machine.now schedule.lines)
+    (followed (layout_of (head_of schedule)) phases events) (followed_some (layout_of (head_of schedule)) phases events c.in_default.ensures.memory)
 
 pub returns-in_err-write_steps-clause-follows : goal.returns-in_err-write_steps-clause-follows
 returns-in_err-write_steps-clause-follows g c start keeps =

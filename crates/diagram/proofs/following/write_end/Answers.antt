@@ -1,11 +1,12 @@
 use Rattle.std.proofs.Common.{refl, subst, Err}
-use Rattle.diagram.proofs.Common.{err_from_is_err_and, Image, begins_nothing, Judged, Ending}
+use Rattle.diagram.proofs.Common.{err_from_is_err_and, Image, Judged, Ending}
+use Rattle.schedule.proofs.Closing.{closes_nothing}
 use Rattle.diagram.proofs.Ended.{not_closed}
 use Rattle.diagram.proofs.following.write_end.Goals as goal
 
 pub returns-in_default : goal.returns-in_default
 returns-in_default g c =
-    rw c.in-Judged.is (λ end is. begins_nothing (g.W.Sink.tape c.args.w.now).taken end, refl)
+    rw c.in-Judged.is (closes_nothing (g.W.Sink.tape c.args.w.now) (g.M.Machine.behaviour.image_of c.args.machine.now) c.in-Judged.verdict)
 
 pub returns-in_err-close-in-Judged : goal.returns-in_err-close-in-Judged
 returns-in_err-close-in-Judged g c =

@@ -1,0 +1,87 @@
+-- Texts that are not empty. Out of memory before such a text leaves some of it to write.
+use Rattle.std.proofs.Common.{◌≡◌, ℕ, ◌+◌, ◌-◌, Bool, List, [], ◌∷◌, ◌++◌, map, codes, get_or, refl}
+use Rattle.diagram.proofs.Common.{append_none, none_behind, DiagramRow, LifelinePhase, Rest, End, Event, row_of, phases_with, rows_told, followed, row_spelled, rows_spelled, top_in, end_in, LifelineStateState}
+use Rattle.redomail.specs.declared.layout.Layout.{Layout}
+use Rattle.diagram.specs.declared.diagram_layout.DiagramLayout.{DiagramLayout}
+use Rattle.diagram.specs.declared.diagram_layout.Style.{Style}
+use Rattle.diagram.specs.declared.diagram_layout.Style.TheVariants.{Text, Svg}
+use Rattle.diagram.specs.Columns.{end_line}
+use Rattle.diagram.specs.Drawings.{row_spelled_in, spelled_from}
+use Rattle.diagram.specs.Followed.{access_of, place_line, row_told}
+use Rattle.diagram.specs.Pictures.{around, bottom_of, class_of, far_from, group_at, group_end, head_picture, held, last_picture, left_of, lifeline_tops, mailbox_top, right_of, row_picture, told_by, top_picture, x_of}
+
+pub cons_some : {A : Type 0} (x : A) (xs : List A) → x ∷ xs ≡ [] → ⊥
+cons_some x xs e = absurd cc
+
+pub front_none : {A : Type 0} (xs ys : List A) → xs ++ ys ≡ [] → xs ≡ []
+front_none [] ys e = refl
+front_none (x ∷ xs) ys e = absurd cc
+
+-- ---- a picture
+
+group_end_some : group_end ≡ [] → ⊥
+group_end_some e = cons_some 10 [] (none_behind (codes "</g>") (10 ∷ []) e)
+
+last_some : (y : ℕ) (end : End) → last_picture y end ≡ [] → ⊥
+last_some y end e =
+    cons_some 10 []
+    (none_behind (codes "</text></svg>") (10 ∷ [])
+    (none_behind (around (codes "<text x='20' y='") y (codes "'>") ++ end_line end) (codes "</text></svg>" ++ 10 ∷ []) e))
+
+picture_some : (l : Layout) (y below : ℕ) (marked : Bool) (row : DiagramRow) → row_picture l y below marked row ≡ [] → ⊥
+picture_some l y below marked row e =
+    group_end_some (none_behind (group_at (x_of row.p) y ++ left_of l row below ++ right_of row (far_from l.procs row.p) marked) group_end e)
+
+mailbox_some : (x long : ℕ) → mailbox_top x long ≡ [] → ⊥
+unfolding mailbox_top
+mailbox_some x long e =
+    group_end_some
+    (none_behind
+    (group_at x 80 ++ around (codes "<title>mailbox</title><text class='p' text-anchor='middle' y='-8'>mailbox</text><path class='mailbox' d='M0 0V") long (codes "'/>")) group_end e)
+
+top_picture_some : (procs bottom : ℕ) (phases : List LifelinePhase) → top_picture procs bottom phases ≡ [] → ⊥
+top_picture_some procs bottom phases e =
+    let head = head_picture (x_of procs + 300) (held (bottom + 40)) in
+    let mailbox = mailbox_top (x_of procs) (bottom - 80) in
+    mailbox_some (x_of procs) (bottom - 80) (none_behind head mailbox (append_none (head ++ mailbox) (lifeline_tops (bottom - 80) 0 phases) e))
+
+-- ---- a drawing
+
+pub end_some : (style : Style) (d : DiagramLayout) (end : End) → end_in style d end ≡ [] → ⊥
+end_some Text d end e = cons_some _ _ (none_behind _ _ e)
+end_some Svg d end e = last_some (held (bottom_of d.rows + 24)) end e
+
+row_in_some : (style : Style) (d : DiagramLayout) (state : LifelineStateState) (row : DiagramRow) → row_spelled_in style d state row ≡ [] → ⊥
+row_in_some Text d state row e = cons_some _ _ (none_behind _ _ e)
+row_in_some Svg d state row e = picture_some _ _ _ _ row e
+
+pub row_some : (d : DiagramLayout) (state : LifelineStateState) (row : DiagramRow) → row_spelled d state row ≡ [] → ⊥
+row_some d state row e = row_in_some d.style d state row e
+
+-- the part above the rows
+pub top_some : (style : Style) (d : DiagramLayout) (phases : List LifelinePhase) → top_in style d phases ≡ [] → ⊥
+top_some Text d phases e = cons_some _ _ (none_behind _ _ e)
+top_some Svg d phases e = top_picture_some d.layout.procs (bottom_of d.rows) phases e
+
+pub drawing_some : (d : DiagramLayout) (state : LifelineStateState) (rows : List DiagramRow) (end : End) → spelled_from d state rows end ≡ [] → ⊥
+unfolding spelled_from
+drawing_some d state rows end e =
+    top_some d.style d state.phases (append_none (top_in d.style d state.phases) (rows_spelled d state rows ++ end_in d.style d end) e)
+
+-- ---- a run step by step
+
+pub told_some : (l : Layout) (phases : List LifelinePhase) (row : DiagramRow) → row_told l phases row ≡ [] → ⊥
+unfolding row_told place_line
+told_some l phases row e =
+    cons_some 10 []
+    (none_behind (around (codes "at ") row.p (codes " ") ++ class_of (get_or phases row.p Rest) ++ access_of l row.p row.act) (10 ∷ [])
+    (append_none (place_line l phases row) (told_by row.p row.act) e))
+
+pub followed_some : (l : Layout) (phases : List LifelinePhase) (events : List Event) → (events ≡ [] → ⊥) → followed l phases events ≡ [] → ⊥
+followed_some l phases [] some e = some refl
+followed_some l phases (x ∷ xs) some e =
+    let next = phases_with phases (row_of x) in
+    told_some l next (row_of x) (append_none (row_told l next (row_of x)) (rows_told l next (map row_of xs)) e)
+
+pub followed_none : (l : Layout) (phases : List LifelinePhase) (events : List Event) → events ≡ [] → followed l phases events ≡ []
+followed_none l phases events none = rw none refl

@@ -42,6 +42,79 @@ static inline uint64_t take(struct rme_seat *s, const struct rme_access *access)
     return 0;
 }
 
+/* A store of 0 into an own lock word. */
+static inline void release(uint64_t *own, uint64_t k)
+{
+    store(own + k, 0);
+    if (load(own + SLEEPERS) != 0)
+        futex(own + k, FUTEX_WAKE, INT_MAX, NULL);
+}
+
+/* The rest of a scan, from this line on, up to the first word that is not 0, which it answers. */
+static inline uint64_t peek(const uint64_t *line, const uint64_t *end, const uint64_t *own, uint64_t *made)
+{
+    for (uint64_t seen; line < end; line += LINE)
+        if (line != own) {
+            if ((seen = load(line + 1)) != 0)
+                return seen;
+            ++*made;
+        }
+    return 0;
+}
+
+static inline uint64_t look(const uint64_t *line, const uint64_t *end, const uint64_t *own, uint64_t *made)
+{
+    for (uint64_t seen; line < end; line += LINE)
+        if (line != own) {
+            if ((seen = load(line)) != 0)
+                return seen;
+            ++*made;
+            if ((seen = load(line + 1)) != 0)
+                return seen;
+            ++*made;
+        }
+    return 0;
+}
+
+/* Makes the accesses of a run (rme_machine.h), and feeds them. */
+static inline uint64_t run(struct rme_seat *s, uint64_t told, struct rme_access *access, uint64_t *seen)
+{
+    uint64_t *lines = s->lines, *own = lines + s->machine.index * LINE, *end = lines + s->machine.procs * LINE;
+    uint64_t made = 0, read = 0;
+    switch (told) {
+    case RME_REREADS:
+        while (made < 3 && (read = load(own + made)) == 0)
+            made++;
+        break;
+    case RME_OPENS:
+        store(own, 1);
+        made = 1;
+        read = peek(lines, end, own, &made);
+        break;
+    case RME_TAKES:
+        store(own + 1, access->value);
+        release(own, 0);
+        made = 2;
+        read = look(lines, end, own, &made);
+        break;
+    case RME_MARKS:
+        store(own + 2, 1);
+        read = load(s->words);
+        made = read == 0 ? 2 : 1;
+        break;
+    case RME_LEAVES:
+        release(own, 1);
+        release(own, 2);
+        made = 2;
+        break;
+    default:
+        read = told < RME_LOOKS ? peek(lines + (told - RME_PEEKS) * LINE, end, own, &made)
+                                : look(lines + (told - RME_LOOKS) * LINE, end, own, &made);
+    }
+    *seen = read;
+    return rme_feed_run(&s->machine, made - (read == 0), read, access);
+}
+
 /* ---- waiting ---- */
 
 enum { LEAST_PAUSES = 16, MOST_PAUSES = 2000, YIELDS = 100, AT_ONCE = 1000 };
@@ -99,22 +172,24 @@ static bool rest(struct rme_seat *s, uint64_t place, uint64_t seen, uint64_t lon
     return false;
 }
 
-/* Takes the steps of the call under way, from this access on, to its answer, or as long as it may wait. From RME_LOAD on the
- * machine tells the place of a lock word. */
-static inline __attribute__((always_inline)) uint64_t finish(struct rme_seat *s, struct rme_access *access,
+/* Takes the steps of the call under way, from what the machine has told on, to its answer, or as long as it may wait. */
+static inline __attribute__((always_inline)) uint64_t finish(struct rme_seat *s, uint64_t told, struct rme_access *access,
                                                              struct patience may_wait)
 {
-    uint64_t told, seen;
+    uint64_t seen = 0;
     for (;;) {
-        do {
-            told = rme_feed(&s->machine, seen = take(s, access), access);
-            while (told >= RME_LOAD)
-                told = rme_feed(&s->machine, seen = load(lock_word(s, told - RME_LOAD)), access);
-        } while (told == 0);
-        if (told != RME_BLOCKED || may_wait.turns-- == 0)
+        while (told >= RME_RUN)
+            told = run(s, told, access, &seen);
+        if (told == RME_BLOCKED) {
+            if (may_wait.turns-- == 0)
+                return told;
+            if (rest(s, access->place, seen, may_wait.longest) && may_wait.once)
+                may_wait.turns = 0;
+        } else if (told != 0 && told < RME_LOAD) {
             return told;
-        if (rest(s, access->place, seen, may_wait.longest) && may_wait.once)
-            may_wait.turns = 0;
+        }
+        seen = told >= RME_LOAD ? load(lock_word(s, told - RME_LOAD)) : take(s, access);
+        told = rme_feed_run(&s->machine, 0, seen, access);
     }
 }
 
@@ -168,9 +243,9 @@ static int call(struct rme_seat *s, const struct rme_call *asked, uint64_t *got)
     int error = rme_begin_call(s);
     if (error)
         return error;
-    uint64_t told = rme_start(&s->machine, asked, &access);
-    if (told == 0)
-        told = finish(s, &access, (struct patience){0});
+    uint64_t told = rme_start_run(&s->machine, asked, &access);
+    if (told == 0 || told >= RME_RUN)
+        told = finish(s, told, &access, (struct patience){0});
     if (got)
         *got = told == RME_WORD ? access.value : told;
     return rme_end_call(s, rme_error_of(told));
@@ -186,11 +261,11 @@ static const struct rme_call plain[] = {
 uint64_t rme_take_lock(struct rme_seat *s, struct patience may_wait)
 {
     struct rme_access access;
-    uint64_t told = rme_start(&s->machine, &plain[RME_LOCK], &access);
+    uint64_t told = rme_start_run(&s->machine, &plain[RME_LOCK], &access);
     if (told == RME_CALL_UNDER_WAY)
         told = rme_next(&s->machine, &access);
-    if (told == 0)
-        told = finish(s, &access, may_wait);
+    if (told == 0 || told >= RME_RUN)
+        told = finish(s, told, &access, may_wait);
     if (told != RME_BLOCKED) {
         rme_stop_sleeping(s);
         s->blocked_at = NULL;

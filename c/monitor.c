@@ -74,9 +74,12 @@ static void name_run(struct named *slot, const struct rme_process *p, uint64_t t
 {
     const uint64_t own = 3 * p->index;
     switch (told) {
-    case RME_REREADS:
+    case RME_LOCKS:
         for (uint64_t k = 0; k < 3; k++)
             name(slot, 0, own + k, 0);
+        name_run(slot, p, RME_OPENS, 0);
+        name_run(slot, p, RME_TAKES, 1);
+        name_run(slot, p, RME_MARKS, 0);
         break;
     case RME_OPENS:
         name(slot, 1, own, 1);

@@ -9,7 +9,7 @@
 #include <stdbool.h>
 
 /* The accesses that the machine has named last for a process: one, or those of a run. */
-enum { MOST_NAMED = 2 + 2 * 64 };
+enum { MOST_NAMED = 8 + 3 * 64 };
 struct named {
     const struct rme_process *process;
     struct rme_access accesses[MOST_NAMED];

@@ -46,73 +46,62 @@ static inline uint64_t take(struct rme_seat *s, const struct rme_access *access)
 static inline void release(uint64_t *own, uint64_t k)
 {
     store(own + k, 0);
-    if (load(own + SLEEPERS) != 0)
+    if (__builtin_expect(load(own + SLEEPERS) != 0, 0))
         futex(own + k, FUTEX_WAKE, INT_MAX, NULL);
 }
 
-/* The rest of a scan, from this line on, up to the first word that is not 0, which it answers. */
-static inline uint64_t peek(const uint64_t *line, const uint64_t *end, const uint64_t *own, uint64_t *made)
+/* The rest of a scan, from this line on: of each other process word k to number, up to the first that is not 0, which it answers. */
+static inline uint64_t scan(const uint64_t *line, const uint64_t *end, const uint64_t *own, const uint64_t k, uint64_t *made)
 {
-    for (uint64_t seen; line < end; line += LINE)
-        if (line != own) {
-            if ((seen = load(line + 1)) != 0)
-                return seen;
-            ++*made;
-        }
+    for (uint64_t read; line < end; line += LINE)
+        for (uint64_t i = k; line != own && i < 2; i++, ++*made)
+            if ((read = load(line + i)) != 0)
+                return read;
     return 0;
 }
 
-static inline uint64_t look(const uint64_t *line, const uint64_t *end, const uint64_t *own, uint64_t *made)
-{
-    for (uint64_t seen; line < end; line += LINE)
-        if (line != own) {
-            if ((seen = load(line)) != 0)
-                return seen;
-            ++*made;
-            if ((seen = load(line + 1)) != 0)
-                return seen;
-            ++*made;
-        }
-    return 0;
-}
-
-/* Makes the accesses of a run (rme_machine.h), and feeds them. */
-static inline uint64_t run(struct rme_seat *s, uint64_t told, struct rme_access *access, uint64_t *seen)
+/* Makes the accesses of a run (rme_machine.h) up to the first word that is not 0, which it answers; *made: how many read 0. */
+static inline __attribute__((always_inline)) uint64_t run(const struct rme_seat *s, uint64_t told, uint64_t number, uint64_t *made)
 {
     uint64_t *lines = s->lines, *own = lines + s->machine.index * LINE, *end = lines + s->machine.procs * LINE;
-    uint64_t made = 0, read = 0;
+    uint64_t read;
+    *made = 0;
     switch (told) {
-    case RME_REREADS:
-        while (made < 3 && (read = load(own + made)) == 0)
-            made++;
-        break;
+    case RME_LOCKS:
+        for (; *made < 3; ++*made)
+            if ((read = load(own + *made)) != 0)
+                return read;
+        number = 1;
+        /* fallthrough */
     case RME_OPENS:
         store(own, 1);
-        made = 1;
-        read = peek(lines, end, own, &made);
-        break;
+        ++*made;
+        read = scan(lines, end, own, 1, made);
+        if (read != 0 || told == RME_OPENS)
+            return read;
+        /* fallthrough */
     case RME_TAKES:
-        store(own + 1, access->value);
+        store(own + 1, number);
         release(own, 0);
-        made = 2;
-        read = look(lines, end, own, &made);
-        break;
+        *made += 2;
+        read = scan(lines, end, own, 0, made);
+        if (read != 0 || told == RME_TAKES)
+            return read;
+        /* fallthrough */
     case RME_MARKS:
         store(own + 2, 1);
         read = load(s->words);
-        made = read == 0 ? 2 : 1;
-        break;
+        *made += read == 0 ? 2 : 1;
+        return read;
     case RME_LEAVES:
         release(own, 1);
         release(own, 2);
-        made = 2;
-        break;
+        *made = 2;
+        return 0;
     default:
-        read = told < RME_LOOKS ? peek(lines + (told - RME_PEEKS) * LINE, end, own, &made)
-                                : look(lines + (told - RME_LOOKS) * LINE, end, own, &made);
+        return told < RME_LOOKS ? scan(lines + (told - RME_PEEKS) * LINE, end, own, 1, made)
+                                : scan(lines + (told - RME_LOOKS) * LINE, end, own, 0, made);
     }
-    *seen = read;
-    return rme_feed_run(&s->machine, made - (read == 0), read, access);
 }
 
 /* ---- waiting ---- */
@@ -178,8 +167,11 @@ static inline __attribute__((always_inline)) uint64_t finish(struct rme_seat *s,
 {
     uint64_t seen = 0;
     for (;;) {
-        while (told >= RME_RUN)
-            told = run(s, told, access, &seen);
+        while (told >= RME_RUN) {
+            uint64_t made;
+            seen = run(s, told, access->value, &made);
+            told = rme_feed_run(&s->machine, made - (seen == 0), seen, access);
+        }
         if (told == RME_BLOCKED) {
             if (may_wait.turns-- == 0)
                 return told;

@@ -56,13 +56,13 @@ enum rme_answer {
  * rme_feed_run answer a run. What else rme_feed_run answers is as rme_feed says, and what rme_start_run does, as rme_start. */
 enum rme_run {
     RME_RUN = 256,
-    RME_PEEKS = RME_RUN,  /* and a process: loads the number of each other process, from this one on */
-    RME_LOOKS = 320,      /* and a process: loads choosing and then number of each other process, from this one on */
-    RME_REREADS = 384,    /* loads own choosing, number and inside */
-    RME_OPENS,            /* stores own choosing 1; then as RME_PEEKS and process 0 */
-    RME_TAKES,            /* stores own number, the value of the access shown, and own choosing 0; then as RME_LOOKS and process 0 */
-    RME_MARKS,            /* stores own inside 1; loads the first data word */
-    RME_LEAVES            /* stores own number 0 and own inside 0 */
+    RME_PEEKS = RME_RUN, /* and a process: loads number of each other process, from this one on */
+    RME_LOOKS = 320,     /* and a process: loads choosing and number of each other process, from this one on */
+    RME_LOCKS = 384,     /* loads own choosing, number and inside; then as RME_OPENS, RME_TAKES with number 1, RME_MARKS */
+    RME_OPENS,           /* stores own choosing 1; then as RME_PEEKS and process 0 */
+    RME_TAKES,           /* stores own number, the value of the access shown, and own choosing 0; then as RME_LOOKS and process 0 */
+    RME_MARKS,           /* stores own inside 1; loads the first data word */
+    RME_LEAVES           /* stores own number 0 and own inside 0 */
 };
 
 uint64_t rme_words(uint64_t procs, uint64_t cap, uint64_t width);

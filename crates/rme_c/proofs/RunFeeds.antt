@@ -1,8 +1,8 @@
 -- A run that is fed, and the run that comes next.
-use Rattle.std.proofs.Common.{◌≡◌, ℕ, zero, suc, min, ◌+◌, ◌*◌, ◌<◌, ◌≤◌, ◌==◌, true, false, List, [], ◌∷◌, length, Option, Some, None, refl, sym, ap, ◌∙◌, subst, eq-eqb, arith}
+use Rattle.std.proofs.Common.{◌≡◌, ℕ, zero, suc, min, ◌+◌, ◌*◌, ◌<◌, ◌≤◌, ◌==◌, true, false, List, [], ◌∷◌, ◌++◌, length, Option, Some, None, refl, sym, ap, ◌∙◌, subst, eq-eqb, arith}
 use Rattle.rme_c.proofs.Common.{lt-ltb, Access, Stage, place_of, above, above_past, first, Check, begun, Doing as Does, Checking, Position, Lock, Within, RmeProcess, layout_of, machine_state_at, machine_state_of, position_of, stage_of, IsFed, stepped}
 use Rattle.rme_c.proofs.Numbers.{stands}
-use Rattle.rme_c.proofs.RunSteps.{place_at, reached, zeros_first, goes_goes, length_others, length_waits, reread_choosing, reread_number, reread_inside, opened, taken, shuts, drops, peeks_all, waits_all, peeks_run, waits_run, told_goes, peeks_go, waits_go}
+use Rattle.rme_c.proofs.RunSteps.{place_at, reached, zeros_first, goes_goes, length_others, length_waits, reread_choosing, reread_number, reread_inside, opened, taken, shuts, drops, peeks_all, waits_all, peeks_run, waits_run, peeks_then, waits_then, zeros_sum, told_goes, peeks_go, waits_go}
 use Rattle.rmecore.specs.Place.{Reread, Opening, Door, Shutting, Wait, Inside, Leaving, Unmarking}
 use Rattle.rmecore.specs.declared.access.Access.TheVariants.{Load, Store}
 use Rattle.rmecore.specs.declared.core_call.CoreCall.{CoreCall}
@@ -30,17 +30,6 @@ module _ (p : RmeProcess) where
 
   abbrev own : ℕ
   own = p.index
-
-  pub rereads_next : (which : CoreCall) → IsNextRun (place_at p (Reread which [])) n own run.Rereads
-  rereads_next which =
-      record {
-        some = omega arith;
-        each = (
-          refl,
-          more p (reached p (Reread which []) 0) (reached p (Reread which (0 ∷ [])) 1) (Load kind.Reread (word.Choosing own)) (Load kind.Reread (word.Number own) ∷ Load kind.Reread (word.Inside own) ∷ []) (reread_choosing p which 0 0 (omega arith))
-              (refl, more p (reached p (Reread which (0 ∷ [])) 0) (reached p (Reread which (0 ∷ 0 ∷ [])) 1) (Load kind.Reread (word.Number own)) (Load kind.Reread (word.Inside own) ∷ []) (reread_number p which 0 0 0 (omega arith)) (refl, tt)),
-        );
-      }
 
   pub opens_next : IsNextRun (place_at p Opening) n own run.Opens
   opens_next =
@@ -81,6 +70,45 @@ module _ (p : RmeProcess) where
   marks_next js k none =
       subst (λ l. IsNextRun (place_at p (Wait k l None)) n own run.Marks) (sym none)
       (record { some = omega arith; each = (refl, (rw (eq-eqb own own refl) refl, tt)) })
+
+  abbrev ends : List Access
+  ends = Store kind.Mark (word.Inside own) 1 ∷ Load kind.Get (word.Data 0) ∷ []
+
+  abbrev takes : List Access
+  takes = Store kind.Take (word.Number own) 1 ∷ Store kind.Shut (word.Choosing own) 0 ∷ (waits (above n own 0) ++ ends)
+
+  takes_run : 0 < p.limit → IsRun (place_at p (Door [] 0)) takes
+  takes_run some = (
+    rw (lt-ltb 0 p.limit some) refl,
+    more p (reached p (Door [] 0) 0) (reached p (Shutting call.Lock 1) 1) (Store kind.Take (word.Number own) 1) (Store kind.Shut (word.Choosing own) 0 ∷ (waits (above n own 0) ++ ends)) (taken p 0 0 0 some (omega arith)) (
+      refl,
+      more p (reached p (Shutting call.Lock 1) 0) (reached p (Wait 1 (above n own 0) None) 1) (Store kind.Shut (word.Choosing own) 0) (waits (above n own 0) ++ ends) (shuts p 1 0 0 (omega arith))
+          (waits_then p (above n own 0) 0 1 ends refl (marks_next [] 1 refl).each),
+    ),
+  )
+
+  pub locks_next : 0 < p.limit → IsNextRun (place_at p (Reread call.Lock [])) n own run.Locks
+  locks_next some =
+      let opens : List Access = Store kind.Open (word.Choosing own) 1 ∷ (peeks (above n own 0) ++ takes) in
+      let inside : Access = Load kind.Reread (word.Inside own) in
+      let number : Access = Load kind.Reread (word.Number own) in
+      record {
+        some = omega arith;
+        each = (
+          refl,
+          more p (reached p (Reread call.Lock []) 0) (reached p (Reread call.Lock (0 ∷ [])) 1) number (number ∷ inside ∷ opens) (reread_choosing p call.Lock 0 0 (omega arith)) (
+            refl,
+            more p (reached p (Reread call.Lock (0 ∷ [])) 0) (reached p (Reread call.Lock (0 ∷ 0 ∷ [])) 1) number (inside ∷ opens) (reread_number p call.Lock 0 0 0 (omega arith)) (
+              refl,
+              more p (reached p (Reread call.Lock (0 ∷ 0 ∷ [])) 0) (reached p Opening 1) inside opens (reread_inside p 0 (omega arith)) (
+                refl,
+                more p (reached p Opening 0) (reached p (Door (above n own 0) 0) 1) inside (peeks (above n own 0) ++ takes) (opened p 0 0 (omega arith))
+                    (peeks_then p (above n own 0) 0 0 takes refl (takes_run some)),
+              ),
+            ),
+          ),
+        );
+      }
 
   pub leaves_next : IsNextRun (place_at p Leaving) n own run.Leaves
   leaves_next =
@@ -158,20 +186,6 @@ module _ (p : RmeProcess) (x : RmePosition) (steps : ℕ) (a : RmeAccess) (r : �
 
   abbrev others : List ℕ
   others = above p.procs p.index 0
-
-  pub rereads_fed : position_of p ≡ Lock (stage.ReadingChoosing call.Lock) → stage_of x ≡ Some stage.Opening → steps ≡ p.steps + 3 → run_by r a.value ≡ run.Opens → IsFedRun (fed_zeros 2 (counted_of p)) 0 q a r
-  rereads_fed here there counts back =
-      let c : ℕ = p.steps in
-      let one = reread_choosing p call.Lock 0 c (omega (arith, counts, small)) in
-      let two = reread_number p call.Lock 0 0 (c + 1) (omega (arith, counts, small)) in
-      let two_zeros : fed_zeros 2 (counted_of p) ≡ reached p (Reread call.Lock (0 ∷ 0 ∷ [])) (c + 1 + 1) =
-      ap (λ y. fed_once (fed_once y 0) 0) (here_at p _ here) ∙ ap (λ y. fed_once y 0) one ∙ two in
-      let three : fed_once (fed_zeros 2 (counted_of p)) 0 ≡ reached p Opening (c + 1 + 1 + 1) = ap (λ y. fed_once y 0) two_zeros ∙ reread_inside p (c + 1 + 1) (omega (arith, counts, small)) in
-      let lands : counted_of q ≡ reached p Opening steps = lands_at p stage.Opening x steps below few there in
-      fed_on q _ 0 a r run.Opens
-      (lands ∙ ap (reached p Opening) (omega (arith, counts)) ∙ sym three)
-      (subst (λ (y : Counted). GoesOn (told y.machine 0)) (sym two_zeros) (told_goes p (Reread call.Lock (0 ∷ 0 ∷ [])) (Load kind.Reread (word.Inside p.index)) 0 refl refl refl))
-      (subst (λ (y : Counted). IsNextRun y.machine p.procs p.index run.Opens) (sym lands) (opens_next p)) back big
 
   opened_go : (k c : ℕ) → k + 1 ≡ p.procs → c + k + 1 ≤ 18446744073709551615 → GoesOn (told (fed_zeros k (reached p Opening c)).machine 0)
   opened_go zero c all most = told_goes p Opening (Store kind.Open (word.Choosing p.index) 1) 0 refl refl refl
@@ -251,6 +265,51 @@ module _ (p : RmeProcess) (x : RmePosition) (steps : ℕ) (below : p.index < p.p
   -- after the mark the ruin check comes next
   pub checks_at : x.at ≡ 16 → position_of (record p { unmended = 0; position = x; steps = steps }) ≡ Within script_position.Checking
   checks_at e = stands (record p { position = x }) (Within script_position.Checking) (below, (few, tt)) (λ l fits. rw e refl)
+
+  abbrev mark_left : RmeProcess
+  mark_left = record p { unmended = 0; position = x; steps = steps }
+
+  marks : (k d : ℕ) → d + 1 ≡ steps → d < 18446744073709551615 → fed_once (reached p (Wait k [] None) d) 0 ≡ counted_at mark_left steps (Within script_position.Checking)
+  marks k d counts less =
+      let c : min (d + 1) 18446744073709551615 ≡ steps = omega (arith, counts, less) in
+      rw (eq-eqb p.index p.index refl) (λ i. record { machine = machine_state_at mark_left (Within script_position.Checking); steps = c i })
+
+  locked_all : (zeros c d : ℕ) → 0 < p.limit → zeros ≡ 3 * p.procs + 4 → d + 1 ≡ c + zeros → c + zeros ≤ 18446744073709551615
+      → fed_zeros zeros (reached p (Reread call.Lock []) c) ≡ fed_once (reached p (Wait 1 [] None) d) 0
+  locked_all zeros c d some all counts most =
+      let others : List ℕ = above p.procs p.index 0 in
+      let l : length others + 1 ≡ p.procs = length_others p.procs p.index below in
+      let w : length (waits others) ≡ 2 * length others = length_waits others in
+      let x : Counted = reached p (Reread call.Lock []) c in
+      let r3 : ℕ = length (waits others) + 1 in
+      let r2 : ℕ = 2 + r3 in
+      let r1 : ℕ = length others + r2 in
+      let doors : Counted = reached p (Door others 0) (c + 1 + 1 + 1 + 1) in
+      let four : fed_zeros 4 x ≡ doors =
+      ap (λ y. fed_once (fed_once (fed_once y 0) 0) 0) (reread_choosing p call.Lock 0 c (omega (arith, all, most)))
+      ∙ ap (λ y. fed_once (fed_once y 0) 0) (reread_number p call.Lock 0 0 (c + 1) (omega (arith, all, most)))
+      ∙ ap (λ y. fed_once y 0) (reread_inside p (c + 1 + 1) (omega (arith, all, most)))
+      ∙ opened p 0 (c + 1 + 1 + 1) (omega (arith, all, most)) in
+      let e : ℕ = c + 1 + 1 + 1 + 1 + length others in
+      let two : fed_zeros 2 (reached p (Door [] 0) e) ≡ reached p (Wait 1 others None) (e + 1 + 1) =
+      ap (λ y. fed_once y 0) (taken p 0 0 e some (omega (arith, l, w, all, most))) ∙ shuts p 1 0 (e + 1) (omega (arith, l, w, all, most)) in
+      let last : e + 1 + 1 + length (waits others) ≡ d = omega (arith, l, w, all, counts) in
+      zeros_sum 4 r1 zeros x (omega (arith, l, w, all))
+      ∙ ap (fed_zeros r1) four
+      ∙ zeros_sum (length others) r2 r1 doors refl
+      ∙ ap (fed_zeros r2) (peeks_all p others 0 0 (c + 1 + 1 + 1 + 1) refl (omega (arith, l, w, all, most)))
+      ∙ zeros_sum 2 r3 r2 (reached p (Door [] 0) e) refl
+      ∙ ap (fed_zeros r3) two
+      ∙ zeros_sum (length (waits others)) 1 r3 (reached p (Wait 1 others None) (e + 1 + 1)) refl
+      ∙ ap (λ y. fed_once y 0) (waits_all p others 0 1 (e + 1 + 1) refl (omega (arith, l, w, all, most)))
+      ∙ ap (λ k. fed_once (reached p (Wait 1 [] None) k) 0) last
+
+  pub locked_at : (zeros d : ℕ) → position_of p ≡ Lock (stage.ReadingChoosing call.Lock) → 0 < p.limit → zeros ≡ 3 * p.procs + 4 → x.at ≡ 16 → steps ≡ p.steps + zeros → d + 1 ≡ steps → steps ≤ 18446744073709551615
+      → counted_of (record p { unmended = 0; position = x; steps = steps }) ≡ fed_zeros zeros (counted_of p)
+  locked_at zeros d here some all e counts one most =
+      let fed : fed_zeros zeros (counted_of p) ≡ counted_at mark_left steps (Within script_position.Checking) =
+      ap (fed_zeros zeros) (here_at p _ here) ∙ locked_all zeros p.steps d some all (omega (arith, counts, one)) (omega (arith, counts, most)) ∙ marks 1 d one (omega (arith, one, most)) in
+      ap (counted_at mark_left steps) (checks_at e) ∙ sym fed
 
   pub marked_at : (k from : ℕ) → position_of p ≡ Lock (stage.Wait k from false) → above p.procs p.index from ≡ [] → x.at ≡ 16 → steps ≡ p.steps + 1
       → counted_of (record p { unmended = 0; position = x; steps = steps }) ≡ fed_zeros 1 (counted_of p)

@@ -1,5 +1,5 @@
 -- The steps of runs: each load reads 0.
-use Rattle.std.proofs.Common.{◌≡◌, ℕ, zero, suc, ◌+◌, ◌-◌, ◌*◌, ◌<◌, ◌≤◌, ◌≢◌, min, max, ◌==◌, not, Bool, true, false, nat_lt, is_none, List, [], ◌∷◌, length, Option, Some, None, refl, sym, ap, ◌∙◌, subst, inl, inr, eq-eqb, eqb-true, arith}
+use Rattle.std.proofs.Common.{◌≡◌, ℕ, zero, suc, ◌+◌, ◌-◌, ◌*◌, ◌<◌, ◌≤◌, ◌≢◌, min, max, ◌==◌, not, Bool, true, false, nat_lt, is_none, List, [], ◌∷◌, ◌++◌, length, Option, Some, None, refl, sym, ap, ◌∙◌, subst, inl, inr, eq-eqb, eqb-true, arith}
 use Rattle.std.proofs.lemmas.Bool.{eqb-false}
 use Rattle.rme_c.proofs.Common.{lt-ltb, cases_Bool, Access, Place, access, first, kind_of, word_of, carried, above, is_entry, mended_entered, MachineState, next_access, stepped, RmeProcess, layout_of, Free as IsFree}
 use Rattle.rmecore.proofs.Scans.{above_first, without-first, without-next, has-first}
@@ -19,6 +19,13 @@ use Rattle.rme_c.specs.Runs.{Counted, fed_once, fed_zeros, IsRun, peeks, waits, 
 pub zeros_first : (k : ℕ) (c : Counted) → fed_zeros (suc k) c ≡ fed_zeros k (fed_once c 0)
 zeros_first zero c = refl
 zeros_first (suc k) c = ap (λ x. fed_once x 0) (zeros_first k c)
+
+-- zeros that are fed in two parts
+pub zeros_sum : (a b s : ℕ) (c : Counted) → s ≡ a + b → fed_zeros s c ≡ fed_zeros b (fed_zeros a c)
+zeros_sum a zero s c e = let same : s ≡ a = omega (arith, e) in ap (λ k. fed_zeros k c) same
+zeros_sum a (suc b) s c e =
+    let more : s ≡ suc (a + b) = omega (arith, e) in
+    ap (λ k. fed_zeros k c) more ∙ ap (λ x. fed_once x 0) (zeros_sum a b (a + b) c refl)
 
 pub goes_goes : (o : Option Access) → GoesOn (goes_as o)
 goes_goes None = inl refl
@@ -169,6 +176,23 @@ module _ (p : RmeProcess) where
         refl,
         subst (λ s. IsRun s (weigh ∷ waits js)) (sym (ap (λ (x : Counted). x.machine) (looks k j js 0 (omega arith))))
             (refl, subst (λ s. IsRun s (waits js)) (sym (ap (λ (x : Counted). x.machine) (weighs k j js 0 t (omega arith)))) (waits_run js (j + 1) k t)),
+      )
+
+  -- a scan, and what follows it
+  pub peeks_then : (js : List ℕ) (i m : ℕ) (rest : List Access) → js ≡ above n own i → IsRun (place_at (Door [] m)) rest → IsRun (place_at (Door js m)) (peeks js ++ rest)
+  peeks_then [] i m rest e r = r
+  peeks_then (j ∷ js) i m rest e r =
+      let t = tail_is n own j js i e in
+      (refl, subst (λ s. IsRun s (peeks js ++ rest)) (sym (ap (λ (x : Counted). x.machine) (peeked j js m 0 t (omega arith)))) (peeks_then js (j + 1) m rest t r))
+
+  pub waits_then : (js : List ℕ) (i k : ℕ) (rest : List Access) → js ≡ above n own i → IsRun (place_at (Wait k [] None)) rest → IsRun (place_at (Wait k js None)) (waits js ++ rest)
+  waits_then [] i k rest e r = r
+  waits_then (j ∷ js) i k rest e r =
+      let t = tail_is n own j js i e in
+      let weigh : Access = Load kind.Weigh (word.Number j) in (
+        refl,
+        subst (λ s. IsRun s (weigh ∷ (waits js ++ rest))) (sym (ap (λ (x : Counted). x.machine) (looks k j js 0 (omega arith))))
+            (refl, subst (λ s. IsRun s (waits js ++ rest)) (sym (ap (λ (x : Counted). x.machine) (weighs k j js 0 t (omega arith)))) (waits_then js (j + 1) k rest t r)),
       )
 
   -- a step that neither ends its call nor is blocked

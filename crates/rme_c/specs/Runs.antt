@@ -1,6 +1,6 @@
 -- A run: accesses that follow one another as long as each load reads 0. C makes them in order, up to the first word that is not
 -- 0, and feeds them at once: that many zeros, and then the last word that it has read.
-use Rattle.std.specs.Prelude.{◌≡◌, ℕ, zero, suc, ◌+◌, ◌-◌, ◌<◌, ◌≤◌, ◌==◌, nat_lt, is_none, if◌then◌else◌, List, [], ◌∷◌, length, Some, ◌⊎◌}
+use Rattle.std.specs.Prelude.{◌≡◌, ℕ, zero, suc, ◌+◌, ◌-◌, ◌<◌, ◌≤◌, ◌==◌, nat_lt, is_none, if◌then◌else◌, List, [], ◌∷◌, ◌++◌, length, Some, ◌⊎◌}
 use Rattle.redomail.specs.Layout.{held}
 use Rattle.rmecore.specs.Place.{above}
 use Rattle.rmecore.specs.declared.access.Access.{Access}
@@ -49,7 +49,10 @@ waits (j ∷ js) = Load Looks (Choosing j) ∷ Load Weighs (Number j) ∷ waits 
 
 -- the accesses of a run of process p of n
 abbrev pub accesses_of : ℕ → ℕ → Run → List Access
-accesses_of n p run.Rereads = Load Rereads (Choosing p) ∷ Load Rereads (Number p) ∷ Load Rereads (Inside p) ∷ []
+accesses_of n p run.Locks =
+    Load Rereads (Choosing p) ∷ Load Rereads (Number p) ∷ Load Rereads (Inside p)
+    ∷ Store Opens (Choosing p) 1 ∷ (peeks (above n p 0) ++ (Store Takes (Number p) 1
+    ∷ Store Shuts (Choosing p) 0 ∷ (waits (above n p 0) ++ (Store Marks (Inside p) 1 ∷ Load Gets (Data 0) ∷ []))))
 accesses_of n p run.Opens = Store Opens (Choosing p) 1 ∷ peeks (above n p 0)
 accesses_of n p (run.Peeks j) = peeks (above n p j)
 accesses_of n p (run.Takes number) = Store Takes (Number p) number ∷ Store Shuts (Choosing p) 0 ∷ waits (above n p 0)
@@ -59,7 +62,7 @@ accesses_of n p run.Leaves = Store Drops (Number p) 0 ∷ Store Marks (Inside p)
 
 -- the code of a run, from 256 on
 abbrev pub run_code : Run → ℕ
-run_code run.Rereads = 384
+run_code run.Locks = 384
 run_code run.Opens = 385
 run_code (run.Takes number) = 386
 run_code run.Marks = 387
@@ -72,7 +75,7 @@ abbrev pub run_by : ℕ → ℕ → Run
 run_by code v =
     if nat_lt code 320 then run.Peeks (code - 256)
     else if nat_lt code 384 then run.Looks (code - 320)
-    else if code == 384 then run.Rereads
+    else if code == 384 then run.Locks
     else if code == 385 then run.Opens
     else if code == 386 then run.Takes v
     else if code == 387 then run.Marks

@@ -115,10 +115,10 @@ fn any_start(p: &mut RmeProcess, call: &RmeCall, next: &mut RmeAccess) -> u64
     refusal_code(start(p, call, next))
 }
 
-/// Starts a call, names its first access in `next`, and answers 0. Or it answers the number of the refusal of the sizes, of
-/// the call's code (13) or of the start, and changes nothing.
-#[unsafe(no_mangle)]
-pub extern "C" fn rme_start(p: &mut RmeProcess, call: &RmeCall, next: &mut RmeAccess) -> u64
+/// Starts a call, by the short way if it has one.
+// Inline: once in each C start.
+#[inline(always)]
+fn start_code(p: &mut RmeProcess, call: &RmeCall, next: &mut RmeAccess) -> u64
     ensures status { result ≡ code_of_refusal (start_cause (machine_state_of p.old) call.now) }
     ensures started { result ≡ 0 → IfSome (call_by p.old.width call.now)
         (λ c. machine_state_of p.new ≡ started (machine_state_of p.old) c) }
@@ -130,6 +130,20 @@ pub extern "C" fn rme_start(p: &mut RmeProcess, call: &RmeCall, next: &mut RmeAc
         Some(refused) => refusal_code(refused),
         None => any_start(p, call, next),
     }
+}
+
+/// Starts a call, names its first access in `next`, and answers 0. Or it answers the number of the refusal of the sizes, of
+/// the call's code (13) or of the start, and changes nothing.
+#[unsafe(no_mangle)]
+pub extern "C" fn rme_start(p: &mut RmeProcess, call: &RmeCall, next: &mut RmeAccess) -> u64
+    ensures status { result ≡ code_of_refusal (start_cause (machine_state_of p.old) call.now) }
+    ensures started { result ≡ 0 → IfSome (call_by p.old.width call.now)
+        (λ c. machine_state_of p.new ≡ started (machine_state_of p.old) c) }
+    ensures next { result ≡ 0 → next.new ≡ shown_of p.old.procs None (next_access (machine_state_of p.new)) }
+    ensures steps { result ≡ 0 → p.new.steps ≡ 0 }
+    ensures refused { result ≢ 0 → (p.new ≡ p.old) × (next.new ≡ next.old) }
+{
+    start_code(p, call, next)
 }
 
 /// Takes a step of a script on the data words.
@@ -371,7 +385,7 @@ pub extern "C" fn rme_start_run(p: &mut RmeProcess, call: &RmeCall, next: &mut R
     ensures next { result ≡ 0 → next.new ≡ shown_of p.old.procs None (next_access (machine_state_of p.new)) }
     ensures refused { 0 < result → result < 256 → (p.new ≡ p.old) × (next.new ≡ next.old) }
 {
-    let refused = rme_start(p, call, next);
+    let refused = start_code(p, call, next);
     if refused != 0 {
         return refused;
     }

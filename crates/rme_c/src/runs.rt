@@ -22,8 +22,8 @@ const MANY: u64 = 1 << 62;
 /// Accesses that come one after another as long as each load reads 0.
 #[derive(Clone, Copy)]
 pub enum Run {
-    /// Reads the three own words.
-    Rereads,
+    /// All of a lock that reads nothing but zeros, up to its ruin check.
+    Locks,
     /// Opens the doorway, and reads the numbers of all others.
     Opens,
     /// Reads the numbers of the others from this process on.
@@ -36,6 +36,21 @@ pub enum Run {
     Marks,
     /// Gives up its number and its mark.
     Leaves,
+}
+
+/// The run that begins a call, if one does.
+// Inline: once in each run.
+#[inline(always)]
+fn first_run(p: &RmeProcess, call: CoreCall) -> Option<Run>
+    requires { Fits p.now (Position.Lock (StageOf.ReadingChoosing call)) }
+    ensures is { IfSome result (λ r. IsNextRun (machine_state_at p.now (Position.Lock (StageOf.ReadingChoosing call)))
+        p.now.procs p.now.index r) }
+    ensures below { IfSome result BeginsBelow }
+{
+    match call {
+        CoreCall::Lock if p.limit > 0 => Some(Run::Locks),
+        _ => None,
+    }
 }
 
 /// The run that begins in a doorway, if one does.
@@ -79,7 +94,7 @@ fn run_at(p: &RmeProcess, stage: Stage) -> Option<Run>
     ensures below { IfSome result BeginsBelow }
 {
     match stage {
-        Stage::ReadingChoosing { .. } => Some(Run::Rereads),
+        Stage::ReadingChoosing { call } => first_run(p, call),
         Stage::Opening => Some(Run::Opens),
         Stage::Door { next, greatest } => door_run(p, next, greatest),
         Stage::Wait {
@@ -112,7 +127,7 @@ fn code(run: Run, next: &mut RmeAccess) -> u64
     ensures beyond { 256 ≤ result }
 {
     match run {
-        Run::Rereads => 384,
+        Run::Locks => 384,
         Run::Opens => 385,
         Run::Takes(number) => {
             next.value = number;
@@ -125,24 +140,24 @@ fn code(run: Run, next: &mut RmeAccess) -> u64
     }
 }
 
-/// After the rereads of a lock that read three zeros: the doorway comes next.
+/// After all of a lock that read nothing but zeros, with what its ruin check read.
 // Inline: once in each lock.
 #[inline(always)]
-fn reread(p: &mut RmeProcess, zeros: u64, value: u64, steps: u64, next: &mut RmeAccess) -> u64
+fn locked(p: &mut RmeProcess, zeros: u64, value: u64, steps: u64, next: &mut RmeAccess) -> u64
     requires here { position_of p.old ≡ Position.Lock (StageOf.ReadingChoosing CallOf.Lock) }
     requires below { p.old.index < p.old.procs }
     requires few { p.old.procs ≤ 64 }
-    requires two { zeros ≡ 2 }
-    requires zero { value ≡ 0 }
+    requires eight { length p.old.value ≡ 8 }
+    requires some { 0 < p.old.limit }
+    requires whole { zeros ≡ 3 * p.old.procs + 4 }
     requires steps { steps ≡ p.old.steps + zeros + 1 }
     ensures { IsFedRun (fed_zeros zeros (counted_of p.old)) value p.new next.new result }
 {
-    // For the proof alone: their values are read.
-    let _ = (zeros, value);
     let q = p.position;
-    p.position = at(5, q.first, q.second, q.third);
-    p.steps = steps;
-    code(Run::Opens, next)
+    p.unmended = 0;
+    p.position = at(16, q.first, q.second, q.third);
+    p.steps += zeros;
+    check_feed(p, value, steps, next)
 }
 
 /// After a doorway that read nothing but zeros: the least number is taken.
@@ -269,7 +284,9 @@ fn whole_run(
     match stage {
         Stage::ReadingChoosing {
             call: CoreCall::Lock,
-        } if zeros == 2 && value == 0 => Some(reread(p, zeros, value, steps, next)),
+        } if zeros == 3 * p.procs + 4 && p.limit > 0 => {
+            Some(locked(p, zeros, value, steps, next))
+        }
         Stage::Opening if zeros + 1 == p.procs && value == 0 && p.limit > 0 => {
             Some(peeked(p, zeros, value, steps, next))
         }

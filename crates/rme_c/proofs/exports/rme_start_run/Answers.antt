@@ -7,9 +7,9 @@ use Rattle.rme_c.proofs.exports.rme_start_run.Goals as goal
 pub returns-then-refused-ne0-clause-allowed : goal.returns-then-refused-ne0-clause-allowed
 returns-then-refused-ne0-clause-allowed c =
     let small = refusal_small (start_cause (machine_state_of c.args.p.now) c.args.call.now) in
-    λ h. absurd (omega (arith, h, small, c.rme_start-refused.ensures.status))
+    λ h. absurd (omega (arith, h, small, c.start_code-refused.ensures.status))
 
 pub returns-then-refused-ne0-clause-run : goal.returns-then-refused-ne0-clause-run
 returns-then-refused-ne0-clause-run c =
     let small = refusal_small (start_cause (machine_state_of c.args.p.now) c.args.call.now) in
-    λ h. absurd (omega (arith, h, small, c.rme_start-refused.ensures.status))
+    λ h. absurd (omega (arith, h, small, c.start_code-refused.ensures.status))

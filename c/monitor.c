@@ -5,6 +5,10 @@ struct monitor *monitor;
 uint64_t __real_rme_start(struct rme_process *, const struct rme_call *, struct rme_access *);
 uint64_t __real_rme_next(const struct rme_process *, struct rme_access *);
 uint64_t __real_rme_feed(struct rme_process *, uint64_t, struct rme_access *);
+uint64_t __real_rme_start_run(struct rme_process *, const struct rme_call *, struct rme_access *);
+uint64_t __real_rme_feed_run(struct rme_process *, uint64_t, uint64_t, struct rme_access *);
+uint64_t __wrap_rme_start_run(struct rme_process *, const struct rme_call *, struct rme_access *);
+uint64_t __wrap_rme_feed_run(struct rme_process *, uint64_t, uint64_t, struct rme_access *);
 uint64_t __wrap_rme_start(struct rme_process *, const struct rme_call *, struct rme_access *);
 uint64_t __wrap_rme_next(const struct rme_process *, struct rme_access *);
 uint64_t __wrap_rme_feed(struct rme_process *, uint64_t, struct rme_access *);
@@ -52,17 +56,111 @@ static struct named *slot_of(const struct rme_process *process)
     return &monitor->named[i];
 }
 
-/* What the machine has answered: 0 or RME_BLOCKED, the access is shown; RME_LOAD or more, a load of that place; else none. */
+static void name(struct named *slot, uint64_t store, uint64_t place, uint64_t value)
+{
+    slot->accesses[slot->count++] = (struct rme_access){store, place, value};
+}
+
+/* The loads of a scan, from process j on: of choosing, where looks is 1, and of number. */
+static void name_scan(struct named *slot, const struct rme_process *p, uint64_t j, uint64_t looks)
+{
+    for (; j < p->procs; j++)
+        for (uint64_t k = 1 - looks; j != p->index && k < 2; k++)
+            name(slot, 0, 3 * j + k, 0);
+}
+
+/* The accesses of a run, as rme_machine.h says. */
+static void name_run(struct named *slot, const struct rme_process *p, uint64_t told, uint64_t number)
+{
+    const uint64_t own = 3 * p->index;
+    switch (told) {
+    case RME_LOCKS:
+        for (uint64_t k = 0; k < 3; k++)
+            name(slot, 0, own + k, 0);
+        name_run(slot, p, RME_OPENS, 0);
+        name_run(slot, p, RME_TAKES, 1);
+        name_run(slot, p, RME_MARKS, 0);
+        break;
+    case RME_OPENS:
+        name(slot, 1, own, 1);
+        name_scan(slot, p, 0, 0);
+        break;
+    case RME_TAKES:
+        name(slot, 1, own + 1, number);
+        name(slot, 1, own, 0);
+        name_scan(slot, p, 0, 1);
+        break;
+    case RME_MARKS:
+        name(slot, 1, own + 2, 1);
+        name(slot, 0, 3 * p->procs, 0);
+        break;
+    case RME_LEAVES:
+        name(slot, 1, own + 1, 0);
+        name(slot, 1, own + 2, 0);
+        break;
+    default:
+        if (told < RME_LOOKS)
+            name_scan(slot, p, told - RME_PEEKS, 0);
+        else
+            name_scan(slot, p, told - RME_LOOKS, 1);
+    }
+}
+
+/* What the machine has answered: 0 or RME_BLOCKED, the access is shown; RME_LOAD or more, a load of that place; RME_RUN or more, a
+ * run; else none. */
 static void note(const struct rme_process *process, uint64_t told, const struct rme_access *access)
 {
     if (!monitor || !monitor->file)
         return;
     struct named *slot = slot_of(process);
-    slot->pending = told == 0 || told == RME_BLOCKED || told >= RME_LOAD;
-    if (told >= RME_LOAD)
-        slot->access = (struct rme_access){.place = told - RME_LOAD};
-    else if (slot->pending)
-        slot->access = *access;
+    slot->count = 0;
+    if (told >= RME_RUN)
+        name_run(slot, process, told, access->value);
+    else if (told >= RME_LOAD)
+        name(slot, 0, told - RME_LOAD, 0);
+    else if (told == 0 || told == RME_BLOCKED)
+        name(slot, access->store, access->place, access->value);
+}
+
+/* The accesses that were named are made, this many of them before the last, which reads this value; the others read 0. */
+static void compare(const struct rme_process *p, uint64_t before, uint64_t value)
+{
+    if (!monitor || !monitor->file)
+        return;
+    const struct named *slot = slot_of(p);
+    if (slot->count <= before)
+        monitor_refuses("a value is fed where no access was named", &slot->accesses[0], value);
+    if (value == 0 && before + 1 != slot->count)
+        monitor_refuses("a run is not made to its end", &slot->accesses[before], value);
+    for (uint64_t i = 0; i <= before; i++) {
+        const struct rme_access *named = &slot->accesses[i];
+        const uint64_t read = i == before ? value : 0;
+        if (named->store && named->place < monitor->words && word_of(named->place) != named->value)
+            monitor_refuses("a store that was named is not made", named, word_of(named->place));
+        if (!named->store && word_of(named->place) != read)
+            monitor_refuses("the value fed is not that of the word named", named, read);
+        monitor->compared++;
+    }
+}
+
+uint64_t __wrap_rme_start_run(struct rme_process *p, const struct rme_call *call, struct rme_access *access)
+{
+    in_test();
+    const uint64_t told = __real_rme_start_run(p, call, access);
+    if (told == 0 || told >= RME_RUN)
+        note(p, told, access);
+    in_library();
+    return told;
+}
+
+uint64_t __wrap_rme_feed_run(struct rme_process *p, uint64_t zeros, uint64_t value, struct rme_access *access)
+{
+    in_test();
+    compare(p, zeros, value);
+    const uint64_t told = __real_rme_feed_run(p, zeros, value, access);
+    note(p, told, access);
+    in_library();
+    return told;
 }
 
 uint64_t __wrap_rme_start(struct rme_process *p, const struct rme_call *call, struct rme_access *access)
@@ -88,17 +186,7 @@ uint64_t __wrap_rme_next(const struct rme_process *p, struct rme_access *access)
 uint64_t __wrap_rme_feed(struct rme_process *p, uint64_t value, struct rme_access *access)
 {
     in_test();
-    if (monitor && monitor->file) {
-        const struct named *slot = slot_of(p);
-        const struct rme_access *named = &slot->access;
-        if (!slot->pending)
-            monitor_refuses("a value is fed where no access was named", named, value);
-        if (named->store && named->place < monitor->words && word_of(named->place) != named->value)
-            monitor_refuses("a store that was named is not made", named, word_of(named->place));
-        if (!named->store && word_of(named->place) != value)
-            monitor_refuses("the value fed is not that of the word named", named, value);
-        monitor->compared++;
-    }
+    compare(p, 0, value);
     const uint64_t told = __real_rme_feed(p, value, access);
     note(p, told, access);
     in_library();

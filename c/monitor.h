@@ -1,18 +1,19 @@
 /* Watches the shim between two calls of the machine: each access that the machine names must be the one that the shim makes.
  *
- * monitor.c takes the place of rme_start, rme_next and rme_feed (linked with -Wl,--wrap=rme_start and so on) and passes each
- * call on. Before it passes a value on, it compares: the word named for a store holds the value named, and the value fed for a
+ * monitor.c takes the place of rme_start_run, rme_start, rme_next, rme_feed and rme_feed_run (linked with -Wl,--wrap=rme_start
+ * and so on) and passes each call on. Before it passes a value on, it compares: the word named for a store holds the value named, and the value fed for a
  * load is that of the word named. This holds where one process alone steps; a difference is a fault of the shim. */
 #ifndef MONITOR_H
 #define MONITOR_H
 #include "rme.h"
 #include <stdbool.h>
 
-/* The access that the machine has named last for a process. */
+/* The accesses that the machine has named last for a process: one, or those of a run. */
+enum { MOST_NAMED = 8 + 3 * 64 };
 struct named {
     const struct rme_process *process;
-    struct rme_access access;
-    uint64_t pending;
+    struct rme_access accesses[MOST_NAMED];
+    uint64_t count;
 };
 
 /* In memory that outlives a kill, where the test asks what was named. Without `file` nothing is watched. */

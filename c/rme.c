@@ -42,6 +42,68 @@ static inline uint64_t take(struct rme_seat *s, const struct rme_access *access)
     return 0;
 }
 
+/* A store of 0 into an own lock word. */
+static inline void release(uint64_t *own, uint64_t k)
+{
+    store(own + k, 0);
+    if (__builtin_expect(load(own + SLEEPERS) != 0, 0))
+        futex(own + k, FUTEX_WAKE, INT_MAX, NULL);
+}
+
+/* The rest of a scan, from this line on: of each other process word k to number, up to the first that is not 0, which it answers. */
+static inline uint64_t scan(const uint64_t *line, const uint64_t *end, const uint64_t *own, const uint64_t k, uint64_t *made)
+{
+    for (uint64_t read; line < end; line += LINE)
+        for (uint64_t i = k; line != own && i < 2; i++, ++*made)
+            if ((read = load(line + i)) != 0)
+                return read;
+    return 0;
+}
+
+/* Makes the accesses of a run (rme_machine.h) up to the first word that is not 0, which it answers; *made: how many read 0. */
+static inline __attribute__((always_inline)) uint64_t run(const struct rme_seat *s, uint64_t told, uint64_t number, uint64_t *made)
+{
+    uint64_t *lines = s->lines, *own = lines + s->machine.index * LINE, *end = lines + s->machine.procs * LINE;
+    uint64_t read;
+    *made = 0;
+    switch (told) {
+    case RME_LOCKS:
+        for (; *made < 3; ++*made)
+            if ((read = load(own + *made)) != 0)
+                return read;
+        number = 1;
+        /* fallthrough */
+    case RME_OPENS:
+        store(own, 1);
+        ++*made;
+        read = scan(lines, end, own, 1, made);
+        if (read != 0 || told == RME_OPENS)
+            return read;
+        /* fallthrough */
+    case RME_TAKES:
+        store(own + 1, number);
+        release(own, 0);
+        *made += 2;
+        read = scan(lines, end, own, 0, made);
+        if (read != 0 || told == RME_TAKES)
+            return read;
+        /* fallthrough */
+    case RME_MARKS:
+        store(own + 2, 1);
+        read = load(s->words);
+        *made += read == 0 ? 2 : 1;
+        return read;
+    case RME_LEAVES:
+        release(own, 1);
+        release(own, 2);
+        *made = 2;
+        return 0;
+    default:
+        return told < RME_LOOKS ? scan(lines + (told - RME_PEEKS) * LINE, end, own, 1, made)
+                                : scan(lines + (told - RME_LOOKS) * LINE, end, own, 0, made);
+    }
+}
+
 /* ---- waiting ---- */
 
 enum { LEAST_PAUSES = 16, MOST_PAUSES = 2000, YIELDS = 100, AT_ONCE = 1000 };
@@ -99,22 +161,27 @@ static bool rest(struct rme_seat *s, uint64_t place, uint64_t seen, uint64_t lon
     return false;
 }
 
-/* Takes the steps of the call under way, from this access on, to its answer, or as long as it may wait. From RME_LOAD on the
- * machine tells the place of a lock word. */
-static inline __attribute__((always_inline)) uint64_t finish(struct rme_seat *s, struct rme_access *access,
+/* Takes the steps of the call under way, from what the machine has told on, to its answer, or as long as it may wait. */
+static inline __attribute__((always_inline)) uint64_t finish(struct rme_seat *s, uint64_t told, struct rme_access *access,
                                                              struct patience may_wait)
 {
-    uint64_t told, seen;
+    uint64_t seen = 0;
     for (;;) {
-        do {
-            told = rme_feed(&s->machine, seen = take(s, access), access);
-            while (told >= RME_LOAD)
-                told = rme_feed(&s->machine, seen = load(lock_word(s, told - RME_LOAD)), access);
-        } while (told == 0);
-        if (told != RME_BLOCKED || may_wait.turns-- == 0)
+        while (told >= RME_RUN) {
+            uint64_t made;
+            seen = run(s, told, access->value, &made);
+            told = rme_feed_run(&s->machine, made - (seen == 0), seen, access);
+        }
+        if (told == RME_BLOCKED) {
+            if (may_wait.turns-- == 0)
+                return told;
+            if (rest(s, access->place, seen, may_wait.longest) && may_wait.once)
+                may_wait.turns = 0;
+        } else if (told != 0 && told < RME_LOAD) {
             return told;
-        if (rest(s, access->place, seen, may_wait.longest) && may_wait.once)
-            may_wait.turns = 0;
+        }
+        seen = told >= RME_LOAD ? load(lock_word(s, told - RME_LOAD)) : take(s, access);
+        told = rme_feed_run(&s->machine, 0, seen, access);
     }
 }
 
@@ -168,9 +235,9 @@ static int call(struct rme_seat *s, const struct rme_call *asked, uint64_t *got)
     int error = rme_begin_call(s);
     if (error)
         return error;
-    uint64_t told = rme_start(&s->machine, asked, &access);
-    if (told == 0)
-        told = finish(s, &access, (struct patience){0});
+    uint64_t told = rme_start_run(&s->machine, asked, &access);
+    if (told == 0 || told >= RME_RUN)
+        told = finish(s, told, &access, (struct patience){0});
     if (got)
         *got = told == RME_WORD ? access.value : told;
     return rme_end_call(s, rme_error_of(told));
@@ -186,11 +253,11 @@ static const struct rme_call plain[] = {
 uint64_t rme_take_lock(struct rme_seat *s, struct patience may_wait)
 {
     struct rme_access access;
-    uint64_t told = rme_start(&s->machine, &plain[RME_LOCK], &access);
+    uint64_t told = rme_start_run(&s->machine, &plain[RME_LOCK], &access);
     if (told == RME_CALL_UNDER_WAY)
         told = rme_next(&s->machine, &access);
-    if (told == 0)
-        told = finish(s, &access, may_wait);
+    if (told == 0 || told >= RME_RUN)
+        told = finish(s, told, &access, may_wait);
     if (told != RME_BLOCKED) {
         rme_stop_sleeping(s);
         s->blocked_at = NULL;

@@ -50,12 +50,29 @@ enum rme_answer {
     RME_LOAD = 64
 };
 
+/* A run: accesses that follow one another as long as each load reads 0. `line` is a process's three lock words: choosing, number
+ * and inside; `own` is that of this process. The accesses of a run are made in order, up to the first word that is not 0; then
+ * rme_feed_run is given how many came before the last one, and what that read (0 for a store). From RME_RUN on rme_start_run and
+ * rme_feed_run answer a run. What else rme_feed_run answers is as rme_feed says, and what rme_start_run does, as rme_start. */
+enum rme_run {
+    RME_RUN = 256,
+    RME_PEEKS = RME_RUN, /* and a process: loads number of each other process, from this one on */
+    RME_LOOKS = 320,     /* and a process: loads choosing and number of each other process, from this one on */
+    RME_LOCKS = 384,     /* loads own choosing, number and inside; then as RME_OPENS, RME_TAKES with number 1, RME_MARKS */
+    RME_OPENS,           /* stores own choosing 1; then as RME_PEEKS and process 0 */
+    RME_TAKES,           /* stores own number, the value of the access shown, and own choosing 0; then as RME_LOOKS and process 0 */
+    RME_MARKS,           /* stores own inside 1; loads the first data word */
+    RME_LEAVES           /* stores own number 0 and own inside 0 */
+};
+
 uint64_t rme_words(uint64_t procs, uint64_t cap, uint64_t width);
 uint64_t rme_init(struct rme_process *, uint64_t procs, uint64_t cap, uint64_t width, uint64_t limit, uint64_t index);
 void rme_crash(struct rme_process *);
 uint64_t rme_start(struct rme_process *, const struct rme_call *, struct rme_access *);
 uint64_t rme_next(const struct rme_process *, struct rme_access *);
 uint64_t rme_feed(struct rme_process *, uint64_t value, struct rme_access *);
+uint64_t rme_start_run(struct rme_process *, const struct rme_call *, struct rme_access *);
+uint64_t rme_feed_run(struct rme_process *, uint64_t zeros, uint64_t value, struct rme_access *);
 uint64_t rme_step_count(const struct rme_process *);
 
 /* The rule that copied words break first, from 2 to 9 (docs/dev/texts.md); or one of these. It alone takes memory. */

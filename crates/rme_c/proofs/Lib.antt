@@ -5,3 +5,5 @@ pub mod ScriptPositions
 pub mod Arms
 pub mod Numbers
 pub mod Feeds
+pub mod RunSteps
+pub mod RunFeeds

@@ -4,3 +4,4 @@ pub mod Codes
 pub mod Positions
 pub mod Starts
 pub mod Steps
+pub mod Runs

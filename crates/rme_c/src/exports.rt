@@ -7,6 +7,7 @@ ghost use Rattle.rmeworld.specs.MachineState.{resting, crashed, started, stepped
 ghost use Rattle.rme_c.specs.Blocks.{is_block as is_block_of, image_of};
 ghost use Rattle.rme_c.specs.Codes.{refusal_code as code_of_refusal, told as told_of, wanted as wanted_of, shown as shown_of};
 ghost use Rattle.rme_c.specs.Positions.{machine_state_at, machine_state_of, position_of, stage_now, Fits};
+ghost use Rattle.rme_c.specs.Runs.{counted_of, fed_zeros, run_by, IsNextRun, IsFedRun};
 ghost use Rattle.rme_c.specs.Starts.{size_cause, call_by, start_cause};
 ghost use Rattle.rme_c.specs.Steps.{IsFed};
 ghost use Rattle.rme_c.specs.declared.script_position.ScriptPosition.TheVariants as ScriptPositionOf;
@@ -18,9 +19,11 @@ use crate::blocks::{block_words, image, is_block};
 use crate::clean_steps::quick_feed;
 use crate::lock_arms::{lock_feed, scan_feed};
 use crate::position::{
-    Position, is_checking, is_idle, lock_stage, machine_state, position_now, scan_stage,
+    Position, append_position, is_checking, is_idle, lock_stage, machine_state, position_now,
+    scan_stage,
 };
 use crate::process::{RmeAccess, RmeCall, RmePosition, RmeProcess};
+use crate::runs::{begun, feed_run};
 use crate::script_position::ScriptPosition;
 use crate::starts::{quick_start, size_refusal, start};
 use crate::steps::{checked, script_position_step};
@@ -112,10 +115,10 @@ fn any_start(p: &mut RmeProcess, call: &RmeCall, next: &mut RmeAccess) -> u64
     refusal_code(start(p, call, next))
 }
 
-/// Starts a call, names its first access in `next`, and answers 0. Or it answers the number of the refusal of the sizes, of
-/// the call's code (13) or of the start, and changes nothing.
-#[unsafe(no_mangle)]
-pub extern "C" fn rme_start(p: &mut RmeProcess, call: &RmeCall, next: &mut RmeAccess) -> u64
+/// Starts a call, by the short way if it has one.
+// Inline: once in each C start.
+#[inline(always)]
+fn start_code(p: &mut RmeProcess, call: &RmeCall, next: &mut RmeAccess) -> u64
     ensures status { result ≡ code_of_refusal (start_cause (machine_state_of p.old) call.now) }
     ensures started { result ≡ 0 → IfSome (call_by p.old.width call.now)
         (λ c. machine_state_of p.new ≡ started (machine_state_of p.old) c) }
@@ -127,6 +130,20 @@ pub extern "C" fn rme_start(p: &mut RmeProcess, call: &RmeCall, next: &mut RmeAc
         Some(refused) => refusal_code(refused),
         None => any_start(p, call, next),
     }
+}
+
+/// Starts a call, names its first access in `next`, and answers 0. Or it answers the number of the refusal of the sizes, of
+/// the call's code (13) or of the start, and changes nothing.
+#[unsafe(no_mangle)]
+pub extern "C" fn rme_start(p: &mut RmeProcess, call: &RmeCall, next: &mut RmeAccess) -> u64
+    ensures status { result ≡ code_of_refusal (start_cause (machine_state_of p.old) call.now) }
+    ensures started { result ≡ 0 → IfSome (call_by p.old.width call.now)
+        (λ c. machine_state_of p.new ≡ started (machine_state_of p.old) c) }
+    ensures next { result ≡ 0 → next.new ≡ shown_of p.old.procs None (next_access (machine_state_of p.new)) }
+    ensures steps { result ≡ 0 → p.new.steps ≡ 0 }
+    ensures refused { result ≢ 0 → (p.new ≡ p.old) × (next.new ≡ next.old) }
+{
+    start_code(p, call, next)
 }
 
 /// Takes a step of a script on the data words.
@@ -154,7 +171,7 @@ fn script_position_feed(
 /// Takes the step of the ruin check.
 // Inline: once in each entry.
 #[inline(always)]
-fn check_feed(p: &mut RmeProcess, value: u64, steps: u64, next: &mut RmeAccess) -> u64
+pub(crate) fn check_feed(p: &mut RmeProcess, value: u64, steps: u64, next: &mut RmeAccess) -> u64
     requires here { position_of p.old ≡ PositionOf.Within ScriptPositionOf.Checking }
     requires fits { Fits p.old (PositionOf.Within ScriptPositionOf.Checking) }
     requires eight { length p.old.value ≡ 8 }
@@ -242,7 +259,13 @@ fn scan_on(p: &mut RmeProcess, stage: Stage, value: u64, steps: u64, next: &mut 
 /// Takes the next step at a stage of the lock's part, by the short way if it has one.
 // Inline: once in each C step.
 #[inline(always)]
-fn stage_feed(p: &mut RmeProcess, stage: Stage, value: u64, steps: u64, next: &mut RmeAccess) -> u64
+pub(crate) fn stage_feed(
+    p: &mut RmeProcess,
+    stage: Stage,
+    value: u64,
+    steps: u64,
+    next: &mut RmeAccess,
+) -> u64
     requires here { position_of p.old ≡ PositionOf.Lock stage }
     requires fits { Fits p.old (PositionOf.Lock stage) }
     requires eight { length p.old.value ≡ 8 }
@@ -270,6 +293,21 @@ fn short_feed(p: &mut RmeProcess, value: u64, steps: u64, next: &mut RmeAccess) 
     match lock_stage(p) {
         Some(stage) => stage_feed(p, stage, value, steps, next),
         None if value != 1 && is_checking(p) => check_feed(p, value, steps, next),
+        None => append_feed(p, value, next),
+    }
+}
+
+/// Takes the next step, by the short way if it is one of an append.
+// Inline: each step of an append.
+#[inline(always)]
+fn append_feed(p: &mut RmeProcess, value: u64, next: &mut RmeAccess) -> u64
+    requires eight { length p.old.value ≡ 8 }
+    ensures { IsFed p.old value p.new next.old next.new result }
+{
+    // For the proof alone: its value is read.
+    let _whole = *p;
+    match append_position(p) {
+        Some(script_position) => script_position_feed(p, script_position, value, next),
         None => any_feed(p, value, next),
     }
 }
@@ -333,6 +371,41 @@ pub extern "C" fn rme_feed(p: &mut RmeProcess, value: u64, next: &mut RmeAccess)
         Some(steps) => counted_feed(p, value, steps, next),
         None => any_feed(p, value, next),
     }
+}
+
+/// Starts a call as `rme_start` does. 256 or more: it is started, and the run with this code comes next.
+#[unsafe(no_mangle)]
+pub extern "C" fn rme_start_run(p: &mut RmeProcess, call: &RmeCall, next: &mut RmeAccess) -> u64
+    ensures status { result < 256 → result ≡ code_of_refusal (start_cause (machine_state_of p.old) call.now) }
+    ensures allowed { 256 ≤ result → code_of_refusal (start_cause (machine_state_of p.old) call.now) ≡ 0 }
+    ensures started { code_of_refusal (start_cause (machine_state_of p.old) call.now) ≡ 0 → IfSome (call_by p.old.width call.now)
+        (λ c. machine_state_of p.new ≡ started (machine_state_of p.old) c) }
+    ensures steps { code_of_refusal (start_cause (machine_state_of p.old) call.now) ≡ 0 → p.new.steps ≡ 0 }
+    ensures run { 256 ≤ result → IsNextRun (machine_state_of p.new) p.new.procs p.new.index (run_by result next.new.value) }
+    ensures next { result ≡ 0 → next.new ≡ shown_of p.old.procs None (next_access (machine_state_of p.new)) }
+    ensures refused { 0 < result → result < 256 → (p.new ≡ p.old) × (next.new ≡ next.old) }
+{
+    let refused = start_code(p, call, next);
+    if refused != 0 {
+        return refused;
+    }
+    begun(p, next)
+}
+
+/// Feeds a run: this many zeros, and then the value. It leads where as many calls of `rme_feed` lead, and answers what the last one
+/// answers; or, where the call goes on with a run, the code of that, from 256 on.
+#[unsafe(no_mangle)]
+pub extern "C" fn rme_feed_run(
+    p: &mut RmeProcess,
+    zeros: u64,
+    value: u64,
+    next: &mut RmeAccess,
+) -> u64
+    ensures { IsFedRun (fed_zeros zeros (counted_of p.old)) value p.new next.new result }
+{
+    // For the proof alone: its value is read.
+    let _whole = *p;
+    feed_run(p, zeros, value, next)
 }
 
 /// The own steps of the last call that was started, at most the greatest u64.

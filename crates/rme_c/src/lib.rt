@@ -13,6 +13,7 @@ mod lock_part;
 mod position;
 mod process;
 mod record;
+mod runs;
 mod script_position;
 mod starts;
 mod steps;

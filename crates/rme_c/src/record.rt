@@ -23,6 +23,8 @@ fn word(first: u64, seq: u64, words: &[u64; 8], width: u64, j: u64) -> u64
 }
 
 /// The put of this step of storing: the index of a data word, and its new value.
+// Inline: each step of an append.
+#[inline(always)]
 pub fn put(
     layout: Layout,
     sender: u64,

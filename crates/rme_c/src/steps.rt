@@ -46,6 +46,8 @@ pub fn check_next(p: &RmeProcess) -> Access
 }
 
 /// The next access of a script.
+// Inline: each step of an append.
+#[inline(always)]
 pub fn script_position_next(p: &RmeProcess, script_position: ScriptPosition) -> Access
     requires { Fits p.now (Position.Within script_position) }
     ensures next { next_access (machine_state_at p.now (Position.Within script_position)) ≡ Some result }
@@ -213,6 +215,8 @@ fn redone(p: &mut RmeProcess, at: u64, seq: u64, step: u64, value: u64) -> (Posi
 }
 
 /// What an append does once it has read the three words.
+// Inline: each step of an append.
+#[inline(always)]
 fn decided(p: &mut RmeProcess, seq: u64, closed: u64, count: u64, last: u64) -> (Position, Told)
     requires { Fits p.old (Position.Within (ScriptPosition.Last seq closed count)) }
     ensures step { IsStep p.old (Position.Within (ScriptPosition.Last seq closed count)) last p.new result.0 result.1 }
@@ -238,6 +242,8 @@ fn decided(p: &mut RmeProcess, seq: u64, closed: u64, count: u64, last: u64) -> 
 }
 
 /// After a put of a message that is stored.
+// Inline: each step of an append.
+#[inline(always)]
 fn stored(p: &mut RmeProcess, at: u64, seq: u64, step: u64, value: u64) -> (Position, Told)
     requires fits { Fits p.old (Position.Within (ScriptPosition.Store at seq step)) }
     requires eight { length p.old.value ≡ 8 }
@@ -258,6 +264,8 @@ fn stored(p: &mut RmeProcess, at: u64, seq: u64, step: u64, value: u64) -> (Posi
 }
 
 /// Takes a step of a script.
+// Inline: each step of an append.
+#[inline(always)]
 pub fn script_position_step(
     p: &mut RmeProcess,
     script_position: ScriptPosition,

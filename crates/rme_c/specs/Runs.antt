@@ -1,0 +1,106 @@
+-- A run: accesses that follow one another as long as each load reads 0. C makes them in order, up to the first word that is not
+-- 0, and feeds them at once: that many zeros, and then the last word that it has read.
+use Rattle.std.specs.Prelude.{◌≡◌, ℕ, zero, suc, ◌+◌, ◌-◌, ◌<◌, ◌≤◌, ◌==◌, nat_lt, is_none, if◌then◌else◌, List, [], ◌∷◌, ◌++◌, length, Some, ◌⊎◌}
+use Rattle.redomail.specs.Layout.{held}
+use Rattle.rmecore.specs.Place.{above}
+use Rattle.rmecore.specs.declared.access.Access.{Access}
+use Rattle.rmecore.specs.declared.access.Access.TheVariants.{Load, Store}
+use Rattle.rmecore.specs.declared.kind.Kind.TheVariants.{Reread as Rereads, Open as Opens, Peek as Peeks, Take as Takes, Shut as Shuts, Look as Looks, Weigh as Weighs, Mark as Marks, Drop as Drops, Get as Gets}
+use Rattle.rmecore.specs.declared.word.Word.TheVariants.{Choosing, Number, Inside, Data}
+use Rattle.rmeworld.specs.MachineState.{MachineState, stepped, next_access, outcome}
+use Rattle.rme_c.specs.declared.process.RmeAccess.{RmeAccess}
+use Rattle.rme_c.specs.declared.process.RmeProcess.{RmeProcess}
+use Rattle.rme_c.specs.declared.runs.Run.{Run}
+use Rattle.rme_c.specs.declared.runs.Run.TheVariants as run
+use Rattle.rme_c.specs.Codes.{told, shown}
+use Rattle.rme_c.specs.Positions.{machine_state_of}
+
+-- the machine of a process, and the own steps of its last call
+pub record Counted : Type 0 where
+  pub machine : MachineState
+  pub steps : ℕ
+
+abbrev pub counted_of : RmeProcess → Counted
+counted_of p = record { machine = machine_state_of p; steps = p.steps }
+
+-- after `rme_feed` with this value
+abbrev pub fed_once : Counted → ℕ → Counted
+fed_once c v = record { machine = stepped c.machine v; steps = if is_none (next_access c.machine) then c.steps else held (c.steps + 1) }
+
+-- after this many feeds of 0
+abbrev pub fed_zeros : ℕ → Counted → Counted
+fed_zeros zero c = c
+fed_zeros (suc k) c = fed_once (fed_zeros k c) 0
+
+-- these accesses are the machine's next ones, as long as each load reads 0
+abbrev pub IsRun : MachineState → List Access → Type 0
+IsRun s [] = Unit {0}
+IsRun s (a ∷ rest) = (next_access s ≡ Some a) × IsRun (stepped s 0) rest
+
+-- the numbers of these processes
+abbrev pub peeks : List ℕ → List Access
+peeks [] = []
+peeks (j ∷ js) = Load Peeks (Number j) ∷ peeks js
+
+-- choosing and then the number of each of these processes
+abbrev pub waits : List ℕ → List Access
+waits [] = []
+waits (j ∷ js) = Load Looks (Choosing j) ∷ Load Weighs (Number j) ∷ waits js
+
+-- the accesses of a run of process p of n
+abbrev pub accesses_of : ℕ → ℕ → Run → List Access
+accesses_of n p run.Locks =
+    Load Rereads (Choosing p) ∷ Load Rereads (Number p) ∷ Load Rereads (Inside p)
+    ∷ Store Opens (Choosing p) 1 ∷ (peeks (above n p 0) ++ (Store Takes (Number p) 1
+    ∷ Store Shuts (Choosing p) 0 ∷ (waits (above n p 0) ++ (Store Marks (Inside p) 1 ∷ Load Gets (Data 0) ∷ []))))
+accesses_of n p run.Opens = Store Opens (Choosing p) 1 ∷ peeks (above n p 0)
+accesses_of n p (run.Peeks j) = peeks (above n p j)
+accesses_of n p (run.Takes number) = Store Takes (Number p) number ∷ Store Shuts (Choosing p) 0 ∷ waits (above n p 0)
+accesses_of n p (run.Looks j) = waits (above n p j)
+accesses_of n p run.Marks = Store Marks (Inside p) 1 ∷ Load Gets (Data 0) ∷ []
+accesses_of n p run.Leaves = Store Drops (Number p) 0 ∷ Store Marks (Inside p) 0 ∷ []
+
+-- the code of a run, from 256 on
+abbrev pub run_code : Run → ℕ
+run_code run.Locks = 384
+run_code run.Opens = 385
+run_code (run.Takes number) = 386
+run_code run.Marks = 387
+run_code run.Leaves = 388
+run_code (run.Peeks j) = 256 + j
+run_code (run.Looks j) = 320 + j
+
+-- the run of a code. The number that a doorway takes is the value beside it
+abbrev pub run_by : ℕ → ℕ → Run
+run_by code v =
+    if nat_lt code 320 then run.Peeks (code - 256)
+    else if nat_lt code 384 then run.Looks (code - 320)
+    else if code == 384 then run.Locks
+    else if code == 385 then run.Opens
+    else if code == 386 then run.Takes v
+    else if code == 387 then run.Marks
+    else run.Leaves
+
+-- a run that begins with another process: one of 64
+abbrev pub BeginsBelow : Run → Type 0
+BeginsBelow (run.Peeks j) = j < 64
+BeginsBelow (run.Looks j) = j < 64
+BeginsBelow _ = Unit {0}
+
+-- the accesses of this run come next, and it has one at least
+pub record IsNextRun (s : MachineState) (n p : ℕ) (r : Run) : Type 0 where
+  pub some : 0 < length (accesses_of n p r)
+  pub each : IsRun s (accesses_of n p r)
+
+-- `rme_feed` has answered that the call goes on
+abbrev pub GoesOn : ℕ → Type 0
+GoesOn code = (code ≡ 0) ⊎ (64 ≤ code)
+
+-- from this machine on, after the zeros of a run, the process was fed this value: its new state, the code of the feed or of the
+-- run that comes next, and `next`
+pub record IsFedRun (c : Counted) (v : ℕ) (q : RmeProcess) (a : RmeAccess) (r : ℕ) : Type 0 where
+  pub exact : counted_of q ≡ fed_once c v
+  pub code : r < 256 → r ≡ told c.machine v
+  pub goes : 256 ≤ r → GoesOn (told c.machine v)
+  pub run : 256 ≤ r → IsNextRun (machine_state_of q) q.procs q.index (run_by r a.value)
+  pub next : r < 64 → a ≡ shown c.machine.layout.procs (outcome c.machine (next_access c.machine) v).answer (next_access (machine_state_of q))

@@ -355,6 +355,14 @@ def headline_repeated():
         yield f"{THEOREM}:1: the headline belongs here and in README.md"
 
 
+def unproved_said_elsewhere():
+    """What is not proved has one page. Of the shim in C its own page says it, which no proof speaks of."""
+    for page in pages():
+        for heading in re.finditer(r"^#+ .*\b(?:not (?:claimed|proved)|only tested|trusted|neither a clause)\b.*$", text_of(page), re.M):
+            if page not in (THEOREM, "docs/use/c.md"):
+                yield f"{page}:{line_at(text_of(page), heading.start())}: what is not proved is said in {THEOREM}"
+
+
 def anchors_of(text):
     found = set()
     for heading in re.findall(r"^#+ (.*)$", FENCE.sub("", text), re.M):
@@ -399,6 +407,7 @@ RULES = [
     crates_listed,
     glossary_too_long,
     headline_repeated,
+    unproved_said_elsewhere,
     links_that_lead_nowhere,
     mentions_of_no_page,
 ]

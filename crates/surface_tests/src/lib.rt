@@ -11,3 +11,4 @@ pub mod of_rmecore;
 pub mod of_rmeworld;
 pub mod of_robust;
 pub mod of_schedule;
+pub mod of_searches;

@@ -13,7 +13,7 @@ THEOREM = "docs/theory/theorem.md"
 MOST_CRATES = 27
 MOST_LINES_OF_A_FILE = 500
 MOST_LINES_OF_A_BODY = 40
-WIDEST_CLAUSE = 140
+WIDEST_CLAUSE = 140  # Bytes.
 MOST_NOUNS = 40
 MOST_DOUBLE_NAMES = 4
 MOST_HEADLINES = 2
@@ -251,16 +251,44 @@ def long_functions():
 
 
 def wide_clauses():
+    """Each line of a clause, in bytes: what `awk length` counts where it knows no UTF-8."""
     for name in sources(".rt"):
         text = text_of(name)
         code, wide = code_of(text), set()
-        lines = text.split("\n")
+        widths = [len(line.encode()) for line in text.split("\n")]
         for clause in CLAUSE.finditer(code):
             if code[code.rfind("\n", 0, clause.start()) + 1 : clause.start()].strip() in ("", "pub"):
                 first, last = line_at(code, clause.start()), line_at(code, clause_end(code, clause.start()))
-                wide |= {at for at in range(first, last + 1) if len(lines[at - 1]) > WIDEST_CLAUSE}
+                wide |= {at for at in range(first, last + 1) if widths[at - 1] > WIDEST_CLAUSE}
         for at in sorted(wide):
-            yield f"{name}:{at}: a clause of {len(lines[at - 1])} characters"
+            yield f"{name}:{at}: a clause of {widths[at - 1]} bytes"
+
+
+SPEED = re.compile(r"\s*#\[(?:inline|cold)\b")
+WHY_SPEED = re.compile(r"\s*// (?:Inline|Apart): \S")
+# A value that is read for the proof alone.
+NUDGE = re.compile(r"\s*let _\w* = (?:[&*]?[a-z_.]+|\([a-z_, ]+\)|[a-z_.]+\.(?:by|setup)\(\));$")
+WHY_NUDGE = "// For the proof alone: its value is read."
+# A default body that has no use for a parameter.
+UNUSED = [("crates/rmeworld/src/machine.rt", "let _ = p;")]
+
+
+def code_without_its_reason():
+    """An `#[inline]` or `#[cold]` says what it saves, and a line that moves the prover alone says so."""
+    for name in sources(".rt"):
+        lines = text_of(name).split("\n")
+        for at, line in enumerate(lines):
+            above = at - 1
+            if SPEED.match(line):
+                while lines[above].strip().startswith("#["):
+                    above -= 1
+                if not WHY_SPEED.match(lines[above]):
+                    yield f"{name}:{at + 1}: no comment `// Inline:` or `// Apart:` says what this saves"
+            elif NUDGE.match(line) and (name, line.strip()) not in UNUSED:
+                while NUDGE.match(lines[above]):
+                    above -= 1
+                if lines[above].strip() != WHY_NUDGE:
+                    yield f"{name}:{at + 1}: no comment `{WHY_NUDGE}`"
 
 
 def long_files():
@@ -327,6 +355,14 @@ def headline_repeated():
         yield f"{THEOREM}:1: the headline belongs here and in README.md"
 
 
+def unproved_said_elsewhere():
+    """What is not proved has one page. Of the shim in C its own page says it, which no proof speaks of."""
+    for page in pages():
+        for heading in re.finditer(r"^#+ .*\b(?:not (?:claimed|proved)|only tested|trusted|neither a clause)\b.*$", text_of(page), re.M):
+            if page not in (THEOREM, "docs/use/c.md"):
+                yield f"{page}:{line_at(text_of(page), heading.start())}: what is not proved is said in {THEOREM}"
+
+
 def anchors_of(text):
     found = set()
     for heading in re.findall(r"^#+ (.*)$", FENCE.sub("", text), re.M):
@@ -366,10 +402,12 @@ RULES = [
     retired_names,
     long_functions,
     wide_clauses,
+    code_without_its_reason,
     long_files,
     crates_listed,
     glossary_too_long,
     headline_repeated,
+    unproved_said_elsewhere,
     links_that_lead_nowhere,
     mentions_of_no_page,
 ]

@@ -249,7 +249,8 @@ impl VariantProcess {
     // Inline: one call a start.
     #[inline(always)]
     pub fn start(&mut self, call: Call) -> Result<(), Refusal>
-        ensures accepted { OnOk result (start_refusal self.old.machine_state.layout (process_state_of self.old.machine_state) call ≡ None) }
+        ensures accepted { OnOk result (start_refusal self.old.machine_state.layout (process_state_of self.old.machine_state) call
+            ≡ None) }
         ensures refused { IfErr result (λ e. start_refusal self.old.machine_state.layout
             (process_state_of self.old.machine_state) call ≡ Some e) }
         ensures memory { IsErrOf result Refusal.OutOfMemory → ⊥ }

@@ -211,7 +211,8 @@ impl Judge {
     fn lock_fault(&self, p: u64, deed: Outer) -> Option<Fault>
         requires below { p < self.now.procs }
         requires own { p ≡ lock_doer deed }
-        ensures { (s : State) → Keeps self.now s → result ≡ fault_of (lock_needs s (Deed.Outer deed) ++ mail_needs s (Deed.Outer deed)) }
+        ensures { (s : State) → Keeps self.now s
+            → result ≡ fault_of (lock_needs s (Deed.Outer deed) ++ mail_needs s (Deed.Outer deed)) }
     {
         let phase = self.phase(p);
         match deed {
@@ -287,7 +288,8 @@ impl Judge {
     /// Sets the phase of p.
     fn move_to(&mut self, p: u64, phase: Phase)
         requires { p < self.old.procs }
-        ensures { (s : State) → Keeps self.old s → Keeps self.new (record s { lock = record s.lock { phase = put s.lock.phase p phase } }) }
+        ensures { (s : State) → Keeps self.old s
+            → Keeps self.new (record s { lock = record s.lock { phase = put s.lock.phase p phase } }) }
     {
         self.phases[p as usize] = phase;
     }

@@ -52,7 +52,8 @@ pub(crate) fn flag(holds: bool, q: u64) -> u64
 /// The row of the processes that are ready.
 pub(crate) fn ready_row(phases: &[Phase]) -> u64
     requires { length phases.now ≤ 64 }
-    ensures { (n : ℕ) (f : ℕ → Phase) → length phases.now ≡ n → Lists phases.now n f → HasBits result n (λ q. is_ready (f q)) }
+    ensures { (n : ℕ) (f : ℕ → Phase) → length phases.now ≡ n
+        → Lists phases.now n f → HasBits result n (λ q. is_ready (f q)) }
 {
     let mut row = 0u64;
     for q in 0..phases.len() {
@@ -92,7 +93,8 @@ pub(crate) fn rows_of(alloc: Global, sets: &[Vec<u64>]) -> Result<Vec<u64>, Refu
 pub(crate) fn clear_column(rows: &mut [u64], p: u64)
     requires few { length rows.old ≤ 64 }
     requires below { p < length rows.old }
-    ensures { (n : ℕ) (a : ℕ → ℕ → Bool) → length rows.old ≡ n → HasRows rows.old n a → HasRows rows.new n (λ q. put (a q) p false) }
+    ensures { (n : ℕ) (a : ℕ → ℕ → Bool) → length rows.old ≡ n
+        → HasRows rows.old n a → HasRows rows.new n (λ q. put (a q) p false) }
 {
     for row in rows.iter_mut() {
         *row &= !(1 << p);

@@ -178,8 +178,10 @@ impl<L: Ledger, S: Sizes> Member<L, S> {
         plan: &mut P,
     ) -> Result<bool, LockFault>
         ensures refused { IsErrOf result LockFault.NotInconsistent ↔ (self.old.standing ≢ MemberState.Unmended) }
-        ensures unasked { self.old.standing ≢ MemberState.Unmended → (self.new ≡ self.old) × (P.asked plan.new ≡ P.asked plan.old) }
-        ensures asked { self.old.standing ≡ MemberState.Unmended → AskedOnceMore self.old self.new (P.asked plan.old) (P.asked plan.new) }
+        ensures unasked { self.old.standing ≢ MemberState.Unmended
+            → (self.new ≡ self.old) × (P.asked plan.new ≡ P.asked plan.old) }
+        ensures asked { self.old.standing ≡ MemberState.Unmended
+            → AskedOnceMore self.old self.new (P.asked plan.old) (P.asked plan.new) }
         ensures counted { self.old.standing ≡ MemberState.Unmended → Counts self.old self.new }
         ensures fallen { P.fallen plan.new ≡ falls_by result (P.fallen plan.old) }
         ensures goes { Goes self.old self.new }
@@ -229,13 +231,15 @@ impl<L: Ledger, S: Sizes> Member<L, S> {
         ensures past { IsErrOf result LockFault.BadIndex ↔ ((is_in self.old.standing ≡ true) × (4 ≤ i)) }
         ensures unasked { is_in self.old.standing ≡ false → (self.new ≡ self.old) × (P.asked plan.new ≡ P.asked plan.old) }
         ensures untaken { 4 ≤ i → (self.new ≡ self.old) × (P.asked plan.new ≡ P.asked plan.old) }
-        ensures asked { is_in self.old.standing ≡ true → i < 4 → AskedOnceMore self.old self.new (P.asked plan.old) (P.asked plan.new) }
+        ensures asked { is_in self.old.standing ≡ true → i < 4
+            → AskedOnceMore self.old self.new (P.asked plan.old) (P.asked plan.new) }
         ensures counted { is_in self.old.standing ≡ true → i < 4 → Counts self.old self.new }
         ensures fallen { P.fallen plan.new ≡ falls_by result (P.fallen plan.old) }
         ensures goes { Goes self.old self.new }
         ensures stands { is_in self.old.standing ≡ true → i < 4 → self.new.standing ≡ stands_still self.old.standing result }
         ensures faults { is_in self.old.standing ≡ true → i < 4 → IfErr result (λ e. of_steps e ≡ true) }
-        ensures answered { is_in self.old.standing ≡ true → i < 4 → Answered S.named word_by self.old (Call.Get i) None self.new result }
+        ensures answered { is_in self.old.standing ≡ true → i < 4
+            → Answered S.named word_by self.old (Call.Get i) None self.new result }
     {
         if !self.standing.is_in() {
             return Err(LockFault::NotOwner);
@@ -262,7 +266,8 @@ impl<L: Ledger, S: Sizes> Member<L, S> {
         ensures past { IsErrOf result LockFault.BadIndex ↔ ((is_in self.old.standing ≡ true) × (4 ≤ i)) }
         ensures unasked { is_in self.old.standing ≡ false → (self.new ≡ self.old) × (P.asked plan.new ≡ P.asked plan.old) }
         ensures untaken { 4 ≤ i → (self.new ≡ self.old) × (P.asked plan.new ≡ P.asked plan.old) }
-        ensures asked { is_in self.old.standing ≡ true → i < 4 → AskedOnceMore self.old self.new (P.asked plan.old) (P.asked plan.new) }
+        ensures asked { is_in self.old.standing ≡ true → i < 4
+            → AskedOnceMore self.old self.new (P.asked plan.old) (P.asked plan.new) }
         ensures counted { is_in self.old.standing ≡ true → i < 4 → Counts self.old self.new }
         ensures fallen { P.fallen plan.new ≡ falls_by result (P.fallen plan.old) }
         ensures goes { Goes self.old self.new }

@@ -39,7 +39,8 @@ impl<L: Ledger, S: Sizes> Member<L, S> {
         turns: u64,
     ) -> Result<Reply, LockFault>
         ensures narrow { IsErrOf result LockFault.BadWidth ↔ (length value ≢ self.old.layout.width) }
-        ensures refused { IsErrOf result LockFault.AlreadyIn ↔ ((length value ≡ self.old.layout.width) × (is_in self.old.standing ≡ true)) }
+        ensures refused { IsErrOf result LockFault.AlreadyIn
+            ↔ ((length value ≡ self.old.layout.width) × (is_in self.old.standing ≡ true)) }
         ensures unasked { is_in self.old.standing ≡ true → (self.new ≡ self.old) × (P.asked plan.new ≡ P.asked plan.old) }
         ensures untaken { length value ≢ self.old.layout.width → (self.new ≡ self.old) × (P.asked plan.new ≡ P.asked plan.old) }
         ensures asked { is_in self.old.standing ≡ false → length value ≡ self.old.layout.width
@@ -47,8 +48,10 @@ impl<L: Ledger, S: Sizes> Member<L, S> {
         ensures counted { is_in self.old.standing ≡ false → length value ≡ self.old.layout.width → Counts self.old self.new }
         ensures fallen { P.fallen plan.new ≡ falls_by result (P.fallen plan.old) }
         ensures goes { Goes self.old self.new }
-        ensures stands { is_in self.old.standing ≡ false → length value ≡ self.old.layout.width → self.new.standing ≡ stands_out result }
-        ensures faults { is_in self.old.standing ≡ false → length value ≡ self.old.layout.width → IfErr result (λ e. of_lock e ≡ true) }
+        ensures stands { is_in self.old.standing ≡ false
+            → length value ≡ self.old.layout.width → self.new.standing ≡ stands_out result }
+        ensures faults { is_in self.old.standing ≡ false
+            → length value ≡ self.old.layout.width → IfErr result (λ e. of_lock e ≡ true) }
         ensures at_lock { IfErr result (EndsAtLock S.named self.old (Some turns) self.new.steps) }
         ensures answered { IfOk result (λ reply. IsReply S.named self.old.process (Call.Append seq value) reply) }
     {
@@ -65,7 +68,8 @@ impl<L: Ledger, S: Sizes> Member<L, S> {
         plan: &mut P,
     ) -> Result<Reply, LockFault>
         ensures narrow { IsErrOf result LockFault.BadWidth ↔ (length value ≢ self.old.layout.width) }
-        ensures refused { IsErrOf result LockFault.AlreadyIn ↔ ((length value ≡ self.old.layout.width) × (is_in self.old.standing ≡ true)) }
+        ensures refused { IsErrOf result LockFault.AlreadyIn
+            ↔ ((length value ≡ self.old.layout.width) × (is_in self.old.standing ≡ true)) }
         ensures unasked { is_in self.old.standing ≡ true → (self.new ≡ self.old) × (P.asked plan.new ≡ P.asked plan.old) }
         ensures untaken { length value ≢ self.old.layout.width → (self.new ≡ self.old) × (P.asked plan.new ≡ P.asked plan.old) }
         ensures asked { is_in self.old.standing ≡ false → length value ≡ self.old.layout.width
@@ -73,8 +77,10 @@ impl<L: Ledger, S: Sizes> Member<L, S> {
         ensures counted { is_in self.old.standing ≡ false → length value ≡ self.old.layout.width → Counts self.old self.new }
         ensures fallen { P.fallen plan.new ≡ falls_by result (P.fallen plan.old) }
         ensures goes { Goes self.old self.new }
-        ensures stands { is_in self.old.standing ≡ false → length value ≡ self.old.layout.width → self.new.standing ≡ stands_out result }
-        ensures faults { is_in self.old.standing ≡ false → length value ≡ self.old.layout.width → IfErr result (λ e. of_wait e ≡ true) }
+        ensures stands { is_in self.old.standing ≡ false
+            → length value ≡ self.old.layout.width → self.new.standing ≡ stands_out result }
+        ensures faults { is_in self.old.standing ≡ false
+            → length value ≡ self.old.layout.width → IfErr result (λ e. of_wait e ≡ true) }
         ensures at_lock { IfErr result (EndsAtLock S.named self.old None self.new.steps) }
         ensures answered { IfOk result (λ reply. IsReply S.named self.old.process (Call.Append seq value) reply) }
     {
@@ -91,7 +97,8 @@ impl<L: Ledger, S: Sizes> Member<L, S> {
         turns: Option<u64>,
     ) -> Result<Reply, LockFault>
         ensures narrow { IsErrOf result LockFault.BadWidth ↔ (length value ≢ self.old.layout.width) }
-        ensures refused { IsErrOf result LockFault.AlreadyIn ↔ ((length value ≡ self.old.layout.width) × (is_in self.old.standing ≡ true)) }
+        ensures refused { IsErrOf result LockFault.AlreadyIn
+            ↔ ((length value ≡ self.old.layout.width) × (is_in self.old.standing ≡ true)) }
         ensures unasked { is_in self.old.standing ≡ true → (self.new ≡ self.old) × (P.asked plan.new ≡ P.asked plan.old) }
         ensures untaken { length value ≢ self.old.layout.width → (self.new ≡ self.old) × (P.asked plan.new ≡ P.asked plan.old) }
         ensures patient { IsErrOf result LockFault.NotYet → IsSome turns }
@@ -100,8 +107,10 @@ impl<L: Ledger, S: Sizes> Member<L, S> {
         ensures counted { is_in self.old.standing ≡ false → length value ≡ self.old.layout.width → Counts self.old self.new }
         ensures fallen { P.fallen plan.new ≡ falls_by result (P.fallen plan.old) }
         ensures goes { Goes self.old self.new }
-        ensures stands { is_in self.old.standing ≡ false → length value ≡ self.old.layout.width → self.new.standing ≡ stands_out result }
-        ensures faults { is_in self.old.standing ≡ false → length value ≡ self.old.layout.width → IfErr result (λ e. of_lock e ≡ true) }
+        ensures stands { is_in self.old.standing ≡ false
+            → length value ≡ self.old.layout.width → self.new.standing ≡ stands_out result }
+        ensures faults { is_in self.old.standing ≡ false
+            → length value ≡ self.old.layout.width → IfErr result (λ e. of_lock e ≡ true) }
         ensures at_lock { IfErr result (EndsAtLock S.named self.old turns self.new.steps) }
         ensures answered { IfOk result (λ reply. IsReply S.named self.old.process (Call.Append seq value) reply) }
     {

@@ -204,7 +204,8 @@ pub fn lasts_are(layout: Layout, words: &[u64], counts: &[u64], but: u64) -> boo
 fn is_recorded(layout: Layout, words: &[u64], p: u64) -> bool
     requires heads { HeadsHold layout words.now }
     requires room { slice_index words.now 4 < layout.cap }
-    ensures { IsTrue result ↔ (entry_of layout (words_of words.now) (slice_index words.now 4) ≡ recorded layout p (words_of words.now)) }
+    ensures { IsTrue result
+        ↔ (entry_of layout (words_of words.now) (slice_index words.now 4) ≡ recorded layout p (words_of words.now)) }
 {
     let at = place(layout, words, word(words, RECORD));
     word(words, at) == p

@@ -122,7 +122,8 @@ fn clean_step(
     requires steps { steps ≡ p.old.steps + 1 }
     ensures place { IfSome result (λ r. place_of p.old.procs p.old.index r.to
         ≡ after_access (standing_at p.old stage) (next_access (standing_at p.old stage)) value) }
-    ensures done { IfSome result (λ r. r.done ≡ (progress (standing_at p.old stage) (next_access (standing_at p.old stage)) value).done) }
+    ensures done { IfSome result (λ r. r.done
+        ≡ (progress (standing_at p.old stage) (next_access (standing_at p.old stage)) value).done) }
     ensures blocked { IfSome result (λ r. r.blocked ≡ (progress (standing_at p.old stage)
         (next_access (standing_at p.old stage)) value).blocked) }
     ensures numbers { IfSome result (λ r. IsLanding p.old r p.new next.old next.new) }

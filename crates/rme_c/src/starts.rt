@@ -162,7 +162,8 @@ fn at_board(seen: ObservedAnswer, i: u64) -> Result<(), Refusal>
 // Inline: once in each C start.
 #[inline(always)]
 fn check(p: &RmeProcess, position: Position, call: &Call) -> Result<(), Refusal>
-    ensures accepted { OnOk result (start_refusal (layout_of p.now) (process_state_of (machine_state_at p.now position)) call.now ≡ None) }
+    ensures accepted { OnOk result (start_refusal (layout_of p.now) (process_state_of (machine_state_at p.now position)) call.now
+        ≡ None) }
     ensures refused { IfErr result (λ e. start_refusal (layout_of p.now) (process_state_of (machine_state_at p.now position))
         call.now ≡ Some e) }
 {

@@ -29,7 +29,8 @@ pub fn every_run_is_legal()
 
 /// After every run the words are lawful: the process inside, alive or crashed, has the least pair of all that hold a number.
 pub fn every_run_ends_lawful()
-    ensures { (n limit : ℕ) (events : List Event) → Run n limit at_rest events → IsLawful n limit (final n limit at_rest events).words }
+    ensures { (n limit : ℕ) (events : List Event) → Run n limit at_rest events
+        → IsLawful n limit (final n limit at_rest events).words }
 {}
 
 /// The same two laws for runs that start from any lawful words with every process crashed.
@@ -77,13 +78,15 @@ pub fn refused()
         ∷ Outer.Crash 0 ∷ Outer.Enter 1 ∷ []) → ⊥ }
     ensures overtaken_from_behind { Legal 2 nobody (Outer.Begin 0 ∷ Outer.Ready 0 ∷ Outer.Begin 1 ∷ Outer.Ready 1
         ∷ Outer.Quit 1 ∷ Outer.Begin 1 ∷ Outer.Ready 1 ∷ Outer.Enter 1 ∷ []) → ⊥ }
-    ensures overtaken { Legal 2 nobody (Outer.Begin 0 ∷ Outer.Ready 0 ∷ Outer.Begin 1 ∷ Outer.Ready 1 ∷ Outer.Enter 1 ∷ []) → ⊥ }
+    ensures overtaken { Legal 2 nobody (Outer.Begin 0 ∷ Outer.Ready 0 ∷ Outer.Begin 1 ∷ Outer.Ready 1 ∷ Outer.Enter 1 ∷ [])
+        → ⊥ }
 {}
 
 /// The definitions are total, but a run uses only the cases of the specification's tables. No number read is above the
 /// limit. A process's words are always a row of the restart table.
 pub fn tables_are_kept()
-    ensures greatest { (n limit p m : ℕ) (w : World) (unread : List ℕ) → IsReached n limit w → w.places p ≡ Door unread m → m ≤ limit }
+    ensures greatest { (n limit p m : ℕ) (w : World) (unread : List ℕ)
+        → IsReached n limit w → w.places p ≡ Door unread m → m ≤ limit }
     ensures rows { (n limit p : ℕ) (w : World) → IsReached n limit w → IsRow limit (w.words p) }
 {}
 

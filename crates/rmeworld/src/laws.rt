@@ -85,7 +85,8 @@ pub fn worlds_keep_to_the_definition()
         → Takes s (Begins p call) (started s p call) }
     ensures steps { (s : WorldState) (p : ℕ) → IsRun s → advance_refusal s p ≡ None
         → Takes s (world_event_of p (stepped s p).happened) (advanced s p) }
-    ensures kind { (s : WorldState) (p : ℕ) → IsRun s → advance_refusal s p ≡ None → is_glance (stepped s p).happened.kind ≡ false }
+    ensures kind { (s : WorldState) (p : ℕ) → IsRun s → advance_refusal s p ≡ None
+        → is_glance (stepped s p).happened.kind ≡ false }
     ensures least { (s : WorldState) (p : ℕ) → IsRun s → advance_refusal s p ≡ None → ChoosesLeast s p (stepped s p).happened }
     ensures outer { (s : WorldState) (p : ℕ) → IsRun s → advance_refusal s p ≡ None
         → (stepped s p).happened.outer ≡ outer (process_state_at s.processes p) (world_event_of p (stepped s p).happened) }

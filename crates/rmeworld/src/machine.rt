@@ -38,7 +38,8 @@ pub trait Machine {
     /// step. True: the step was taken. False: nothing changed, and `advance` has to take it.
     fn step_silently(&mut self, p: u64) -> bool
         ensures accepted { IsTrue result → behaviour.advance_refusal self.old p ≡ None }
-        ensures silent { IsTrue result → ((behaviour.stepped self.old p).deed ≡ None) × ((behaviour.stepped self.old p).answer ≡ None) }
+        ensures silent { IsTrue result
+            → ((behaviour.stepped self.old p).deed ≡ None) × ((behaviour.stepped self.old p).answer ≡ None) }
         ensures ok { IsTrue result → self.new ≡ behaviour.advanced self.old p }
         ensures same { result ≡ false → self.new ≡ self.old }
     {

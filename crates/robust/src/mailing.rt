@@ -52,7 +52,8 @@ impl Member {
         ensures tells { IfOk result (λ reply. ToldIn self.old seq reply self.new) }
         ensures shown { IfOk result (λ reply. (reply ≡ Reply.Stored) ⊎ (reply ≡ Reply.Already)
             → IsAmong self.old.seat_view.by seq (shown_by self.new.seat_view.setup self.new.seat_view.seen)) }
-        ensures out { result ≢ Err LockFault.AlreadyIn → result ≢ Err LockFault.BadWidth → refusal_now (ready self.new) Call.Lock ≡ None }
+        ensures out { result ≢ Err LockFault.AlreadyIn → result ≢ Err LockFault.BadWidth
+            → refusal_now (ready self.new) Call.Lock ≡ None }
         ensures waits { result ≡ Err LockFault.NotYet → refusal_now self.new Call.Withdraw ≡ None }
         ensures seat { seat_of self.new ≡ seat_of self.old }
     {
@@ -117,7 +118,8 @@ impl Member {
         ensures tells { IfOk result (λ reply. ToldIn self.old seq reply self.new) }
         ensures shown { IfOk result (λ reply. (reply ≡ Reply.Stored) ⊎ (reply ≡ Reply.Already)
             → IsAmong self.old.seat_view.by seq (shown_by self.new.seat_view.setup self.new.seat_view.seen)) }
-        ensures out { result ≢ Err LockFault.AlreadyIn → result ≢ Err LockFault.BadWidth → refusal_now (ready self.new) Call.Lock ≡ None }
+        ensures out { result ≢ Err LockFault.AlreadyIn → result ≢ Err LockFault.BadWidth
+            → refusal_now (ready self.new) Call.Lock ≡ None }
         ensures seat { seat_of self.new ≡ seat_of self.old }
     {
         laws::every_run_is_sound();

@@ -122,7 +122,8 @@ impl Member {
             (C.fallen plan.old) (C.fallen plan.new)) }
         ensures seat { seat_of self.new ≡ seat_of self.old }
         ensures table { OnOk result (table_steps self.old.seat_view Call.Unlock Answer.Unlocked ≡ Some self.new.steps) }
-        ensures few { refusal_now self.old Call.Unlock ≡ None → self.new.steps ≤ most_steps self.old.seat_view.setup.layout Call.Unlock }
+        ensures few { refusal_now self.old Call.Unlock ≡ None
+            → self.new.steps ≤ most_steps self.old.seat_view.setup.layout Call.Unlock }
     {
         if self.call_driver.is_clean() && plan.never_crashes() {
             self.call_driver.fast_unlock(plan);
@@ -173,8 +174,10 @@ impl Member {
         ensures fails { IfErr result (Fails self.old (Call.Get i) self.new (C.asked plan.old) (C.asked plan.new)
             (C.fallen plan.old) (C.fallen plan.new)) }
         ensures seat { seat_of self.new ≡ seat_of self.old }
-        ensures table { IfOk result (λ v. table_steps self.old.seat_view (Call.Get i) (Answer.Mail (Reply.Word v)) ≡ Some self.new.steps) }
-        ensures few { refusal_now self.old (Call.Get i) ≡ None → self.new.steps ≤ most_steps self.old.seat_view.setup.layout (Call.Get i) }
+        ensures table { IfOk result (λ v. table_steps self.old.seat_view (Call.Get i) (Answer.Mail (Reply.Word v))
+            ≡ Some self.new.steps) }
+        ensures few { refusal_now self.old (Call.Get i) ≡ None
+            → self.new.steps ≤ most_steps self.old.seat_view.setup.layout (Call.Get i) }
     {
         // For the proof alone: its value is read.
         let _by = self.call_driver.by();

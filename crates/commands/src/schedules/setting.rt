@@ -70,7 +70,8 @@ pub fn image_read(alloc: Global, text: Option<&[u8]>) -> Result<Option<Image>, C
 pub fn schedule_read<R: Source>(alloc: Global, r: &mut R) -> Result<Schedule, CommandFault>
     ensures read { IfOk result (λ schedule. (text : List ℕ) × WasRead (R.reading r.old) (R.reading r.new) text
         × (schedule_at text ≡ Ok schedule)) }
-    ensures unread { IfErr result (λ fault. ((R.reading r.new).failures ≡ (R.reading r.old).failures) ⊎ (fault ≡ CommandFault.Read)) }
+    ensures unread { IfErr result (λ fault. ((R.reading r.new).failures ≡ (R.reading r.old).failures)
+        ⊎ (fault ≡ CommandFault.Read)) }
     ensures wrong { IfErr result (λ fault. (status_of fault ≡ 3) ⊎ IsWrongText (R.reading r.old) (R.reading r.new) fault) }
     ensures status { IfErr result (λ fault. 2 ≤ status_of fault) }
 {

@@ -192,7 +192,8 @@ fn join_all<L: Ledger, S: Sizes, R: Threads>(
     alloc: Global,
     threads: Vec<PromisedHandle<Done<L, S>, HandsBack<L, S>>>,
 ) -> Result<Vec<Done<L, S>>, AllocError>
-    ensures places { IfOk result (λ all. map (λ d. place_of d.member) all.items ≡ map (λ h. place_of h.promise.0.value) threads.items) }
+    ensures places { IfOk result (λ all. map (λ d. place_of d.member) all.items
+        ≡ map (λ h. place_of h.promise.0.value) threads.items) }
     ensures ends { (spec : SpecOf) → All (λ h. h.promise.1 ≡ spec) threads.items
         → IfOk result (λ all. All (λ d. MayEnd S.named spec d.member.process d.ending) all.items) }
 {

@@ -44,7 +44,8 @@ fn whole(value: &Value) -> Result<u64, Refusal>
 // The value as a list of whole numbers.
 fn numbers(alloc: Global, value: &Value) -> Result<Vec<u64>, Refusal>
     ensures ok { IfOk result (λ ns. view value.now ≡ list_data ns.items) }
-    ensures err { IfErr result (λ e. (e ≡ OutOfMemory) ⊎ ((e ≡ BadImage 1) × ((ns : List ℕ) → view value.now ≡ list_data ns → ⊥))) }
+    ensures err { IfErr result (λ e. (e ≡ OutOfMemory)
+        ⊎ ((e ≡ BadImage 1) × ((ns : List ℕ) → view value.now ≡ list_data ns → ⊥))) }
 {
     let Some(items) = value.as_array() else {
         return Err(MISSHAPEN);
@@ -77,7 +78,8 @@ fn own(value: &Value) -> Result<Own, Refusal>
 // The value as a list of lock words.
 fn owns(alloc: Global, value: &Value) -> Result<Vec<Own>, Refusal>
     ensures ok { IfOk result (λ xs. view value.now ≡ lock_data xs.items) }
-    ensures err { IfErr result (λ e. (e ≡ OutOfMemory) ⊎ ((e ≡ BadImage 1) × ((xs : List OwnOf) → view value.now ≡ lock_data xs → ⊥))) }
+    ensures err { IfErr result (λ e. (e ≡ OutOfMemory)
+        ⊎ ((e ≡ BadImage 1) × ((xs : List OwnOf) → view value.now ≡ lock_data xs → ⊥))) }
 {
     let Some(items) = value.as_array() else {
         return Err(MISSHAPEN);
@@ -91,7 +93,8 @@ fn owns(alloc: Global, value: &Value) -> Result<Vec<Own>, Refusal>
 
 // Takes the first member, a whole number.
 fn take_whole(members: &mut Map<String, Value>, name: &str) -> Result<u64, Refusal>
-    ensures ok { IfOk result (λ n. members_view members.old.entries ≡ member name.now (whole_data n) (members_view members.new.entries)) }
+    ensures ok { IfOk result (λ n. members_view members.old.entries
+        ≡ member name.now (whole_data n) (members_view members.new.entries)) }
     ensures err { IfErr result (λ e. (e ≡ BadImage 1) × ((n : ℕ) (ms : Members)
         → members_view members.old.entries ≡ member name.now (whole_data n) ms → ⊥)) }
 {

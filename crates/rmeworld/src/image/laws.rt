@@ -28,7 +28,8 @@ pub fn images_are_starts()
 
 /// A text has at most one image, in one form.
 pub fn texts_spell_one_image()
-    ensures { (text : List ℕ) (wide also : Bool) (i j : ImageOf) → Spells text wide i → Spells text also j → (wide ≡ also) × (i ≡ j) }
+    ensures { (text : List ℕ) (wide also : Bool) (i j : ImageOf)
+        → Spells text wide i → Spells text also j → (wide ≡ also) × (i ≡ j) }
 {}
 
 /// Writes an image and reads the text back. The result is the same image with version 2. For a lawful image the only refusal

@@ -198,7 +198,8 @@ fn is_recorded(image: &Image) -> bool
 /// The process that is inside, alive or crashed there.
 pub fn find_in(lock: &[Own]) -> Option<u64>
     ensures some { IfSome result (λ p. (p < length lock.now) × (0 < (own_at lock.now p).number) × (0 < (own_at lock.now p).inside)) }
-    ensures none { IsNone result → (p : ℕ) → p < length lock.now → 0 < (own_at lock.now p).number → 0 < (own_at lock.now p).inside → ⊥ }
+    ensures none { IsNone result → (p : ℕ) → p < length lock.now
+        → 0 < (own_at lock.now p).number → 0 < (own_at lock.now p).inside → ⊥ }
 {
     for p in 0..lock.len() as u64 {
         let own = lock[p as usize];

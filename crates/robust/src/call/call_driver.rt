@@ -199,7 +199,8 @@ impl CallDriver {
         ensures still { IfSome (told_by result) (Still Lock self.new) }
         ensures on { told_by result ≡ None → (mine : List TakenStep) × Going self.old mine self.new
             × NeverCrashes (length mine) (C.asked plan.old) (C.asked plan.new) (C.fallen plan.old) (C.fallen plan.new) }
-        ensures begun { told_by result ≡ None → Begun Lock self.new.seat_view.setup.layout.procs (process_state_now self.new.seat_view) }
+        ensures begun { told_by result ≡ None
+            → Begun Lock self.new.seat_view.setup.layout.procs (process_state_now self.new.seat_view) }
     {
         if !plan.never_crashes() {
             return Led::Further;
@@ -265,7 +266,8 @@ impl CallDriver {
         ensures still { IfSome (told_by result) (Still Lock self.new) }
         ensures on { told_by result ≡ None → (mine : List TakenStep) × Going self.old mine self.new
             × NeverCrashes (length mine) (C.asked plan.old) (C.asked plan.new) (C.fallen plan.old) (C.fallen plan.new) }
-        ensures begun { told_by result ≡ None → Begun Lock self.new.seat_view.setup.layout.procs (process_state_now self.new.seat_view) }
+        ensures begun { told_by result ≡ None
+            → Begun Lock self.new.seat_view.setup.layout.procs (process_state_now self.new.seat_view) }
     {
         self.fast_lock(plan)
     }

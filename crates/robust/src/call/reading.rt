@@ -51,7 +51,8 @@ impl CallDriver {
     /// The message at a place below count.
     fn entry(&mut self, a: u64) -> Message
         requires { a < cells_of self.old.seat_view.setup self.old.seat_view.seen 2 }
-        ensures message { result ≡ entry_of self.old.seat_view.setup.layout (cells_of self.old.seat_view.setup self.old.seat_view.seen) a }
+        ensures message { result
+            ≡ entry_of self.old.seat_view.setup.layout (cells_of self.old.seat_view.setup self.old.seat_view.seen) a }
         ensures glances { Glances self.old (row_words (place_at self.old.seat_view.setup.layout a)
             (2 + self.old.seat_view.setup.layout.width)) self.new }
     {

@@ -60,7 +60,8 @@ impl CallDriver {
         ensures crashed { IfErr result (λ e. e ≡ LockFault.Crashed) }
         ensures cut { OnErr result (CutBy self.old (λ order. IsFront order (task.now ∷ Unlock ∷ [])) self.new
             (C.asked plan.old) (C.asked plan.new) (C.fallen plan.old) (C.fallen plan.new)) }
-        ensures counts { IfOk result (λ reply. InsideCounts self.old true (task.now ∷ Unlock ∷ []) (Mail reply ∷ Unlocked ∷ []) self.new) }
+        ensures counts { IfOk result (λ reply. InsideCounts self.old true (task.now ∷ Unlock ∷ []) (Mail reply ∷ Unlocked ∷ [])
+            self.new) }
         ensures few { CountsAtMost
             (most_steps self.old.seat_view.setup.layout task.now + most_steps self.old.seat_view.setup.layout Unlock)
             self.old self.new }

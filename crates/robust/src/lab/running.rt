@@ -176,7 +176,8 @@ fn join_all<R: Threads>(
     threads: Vec<PromisedHandle<Done, HandsBack>>,
 ) -> Result<Vec<Done>, AllocError>
     ensures seats { IfOk result (λ all. map seat_done all.items ≡ map (λ h. seat_promised h.promise) threads.items) }
-    ensures worked { (spec : SpecOf) → All (λ h. h.promise.1 ≡ spec) threads.items → IfOk result (λ all. All (HasWorked spec) all.items) }
+    ensures worked { (spec : SpecOf) → All (λ h. h.promise.1 ≡ spec) threads.items
+        → IfOk result (λ all. All (HasWorked spec) all.items) }
 {
     let mut all = Vec::new(alloc);
     for thread in threads {

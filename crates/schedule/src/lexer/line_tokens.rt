@@ -101,7 +101,8 @@ fn board_word(text: &[u8]) -> Option<(Keyword, &[u8])>
 // Inline: one call a line.
 #[inline(always)]
 fn short_line(command: Keyword, p: u64) -> Option<Line>
-    ensures { IfSome result (λ line. (words_of_line line ≡ word_of command ∷ decimal p ∷ []) × ((width : ℕ) → IsLine width line)) }
+    ensures { IfSome result (λ line. (words_of_line line ≡ word_of command ∷ decimal p ∷ [])
+        × ((width : ℕ) → IsLine width line)) }
 {
     match command {
         Keyword::Lock => Some(Line::Start(p, Call::Lock)),

@@ -15,6 +15,8 @@ pub fn one_spelling()
 /// The same for traces.
 pub fn one_spelling_of_traces()
     ensures again { (trace : Traced) → IsTraced trace → trace_at (trace_spelling trace) ≡ Ok trace }
-    ensures takes { (text : List ℕ) (trace : Traced) → trace_at text ≡ Ok trace → (text ≡ trace_spelling trace) × IsTraced trace }
-    ensures only { (one other : Traced) → IsTraced one → IsTraced other → trace_spelling one ≡ trace_spelling other → one ≡ other }
+    ensures takes { (text : List ℕ) (trace : Traced) → trace_at text ≡ Ok trace
+        → (text ≡ trace_spelling trace) × IsTraced trace }
+    ensures only { (one other : Traced) → IsTraced one → IsTraced other
+        → trace_spelling one ≡ trace_spelling other → one ≡ other }
 {}

@@ -13,8 +13,8 @@ use crate::texts::schedule::Schedule;
 use std::alloc::{AllocError, Global};
 
 fn put_sizes(out: &mut Vec<u8>, head: &Head) -> Result<(), AllocError>
-    ensures { OnOk result (out.new.items ≡ out.old.items ++ 32 ∷ join_with_byte 32
-        (codes "procs" ∷ decimal head.now.procs ∷ codes "limit" ∷ decimal head.now.limit ∷ codes "cap" ∷ decimal head.now.cap ∷ [])) }
+    ensures { OnOk result (out.new.items ≡ out.old.items ++ 32 ∷ join_with_byte 32 (codes "procs" ∷ decimal head.now.procs
+        ∷ codes "limit" ∷ decimal head.now.limit ∷ codes "cap" ∷ decimal head.now.cap ∷ [])) }
 {
     put_named(out, b"procs", head.procs)?;
     put_named(out, b"limit", head.limit)?;

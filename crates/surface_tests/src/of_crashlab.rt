@@ -1,0 +1,118 @@
+//! The items of `crashlab`. A plan has counts of its own, so it is made by `new`.
+
+ghost use Rattle.crashlab.specs.Hunts.{IsFound};
+
+use crashlab::{
+    At, Both, CrashPlan, HuntFault, Never, Seeded, Variant, VariantWorld, hunt, hunt_watched,
+    shrink, shrink_found,
+};
+use explorer::Watch;
+use redomail::Layout;
+use rmecore::Refusal;
+use rmeworld::Machine;
+use schedule::{OutOfMemory, ReplayFault, Schedule};
+use std::alloc::Global;
+
+pub fn ask<P: CrashPlan>(plan: &mut P) -> bool {
+    plan.falls()
+}
+
+/// The plans of `crashlab` are those of `crash_plans`.
+pub fn ask_any<P: crash_plans::CrashPlan>(plan: &mut P) -> bool {
+    ask(plan)
+}
+
+pub fn count<P: CrashPlan>(plan: &mut P, askings: u64) -> bool {
+    plan.count_askings(askings);
+    plan.never_crashes()
+}
+
+pub fn ask_each(k: u64, m: u64, seed: u64, per_mille: u64) -> [bool; 4] {
+    [
+        ask(&mut Never::new()),
+        ask(&mut At::new(k)),
+        ask(&mut Both::new(k, m)),
+        ask(&mut Seeded::new(seed, per_mille)),
+    ]
+}
+
+pub fn is_right(variant: Variant) -> bool {
+    match variant {
+        Variant::Right => true,
+        Variant::NoLook
+        | Variant::NoTies
+        | Variant::Renumber
+        | Variant::ExitOnCrash
+        | Variant::CountUp
+        | Variant::LastSkipped => false,
+    }
+}
+
+pub fn new_world(
+    alloc: Global,
+    variant: Variant,
+    procs: u64,
+    limit: u64,
+    cap: u64,
+    width: u64,
+) -> Result<VariantWorld, Refusal> {
+    VariantWorld::new(alloc, variant, procs, limit, cap, width)
+}
+
+pub fn layout(world: &VariantWorld) -> Layout {
+    world.layout()
+}
+
+fn has_an_image<M: Machine>(machine: &M) -> bool {
+    machine.image().is_ok()
+}
+
+pub fn is_a_machine(world: &VariantWorld) -> bool {
+    has_an_image(world)
+}
+
+pub fn hunted(
+    alloc: Global,
+    variant: Variant,
+    seed: u64,
+    rounds: u64,
+    steps: u64,
+) -> Result<Option<Schedule>, HuntFault> {
+    hunt(alloc, variant, seed, rounds, steps)
+}
+
+pub fn hunted_watched<W: Watch>(
+    alloc: Global,
+    variant: Variant,
+    seed: u64,
+    rounds: u64,
+    steps: u64,
+    watch: &mut W,
+) -> Result<Option<Schedule>, HuntFault> {
+    hunt_watched(alloc, variant, seed, rounds, steps, watch)
+}
+
+pub fn is_of_memory(fault: HuntFault) -> bool {
+    match fault {
+        HuntFault::OutOfMemory => true,
+        HuntFault::BadRounds | HuntFault::BadSteps => false,
+    }
+}
+
+pub fn minimized(
+    alloc: Global,
+    variant: Variant,
+    schedule: &Schedule,
+) -> Result<Option<Schedule>, ReplayFault> {
+    shrink(alloc, variant, schedule)
+}
+
+pub fn found_minimized(
+    alloc: Global,
+    variant: Variant,
+    found: &Schedule,
+) -> Result<Schedule, OutOfMemory>
+    requires { IsFound variant found.now }
+{
+    shrink_found(alloc, variant, found)
+}

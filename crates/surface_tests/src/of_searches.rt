@@ -1,0 +1,102 @@
+//! The items of `explorer`, `lock_explorer` and `diagram`.
+
+use crashlab::Variant;
+use diagram::{Drawing, LifelinePhase, Style, draw, follow, write_drawing};
+use explorer::{MoveVerdict, SearchFault, SearchOutcome, Space, Unwatched, Watch, search};
+use judge::Judge;
+use lock_explorer::{Bounds, ExploreFault, Move, shortest_schedule};
+use redomail::Layout;
+use rmeworld::{Call, Machine};
+use schedule::{OutOfMemory, ReplayFault, Schedule, Sink, Verdict};
+use std::alloc::Global;
+
+pub fn searched<S: Space>(
+    alloc: Global,
+    start: S,
+    most_moves: u64,
+    most_states: u64,
+) -> Result<SearchOutcome<S::Move>, SearchFault> {
+    search(alloc, start, most_moves, most_states, &mut Unwatched)
+}
+
+pub fn length_of_path<M: Copy>(outcome: &SearchOutcome<M>) -> Option<usize> {
+    match outcome {
+        SearchOutcome::Path(moves) => Some(moves.len()),
+        SearchOutcome::NoneWithin | SearchOutcome::Nowhere(_) => None,
+    }
+}
+
+pub fn is_fault(verdict: MoveVerdict) -> bool {
+    match verdict {
+        MoveVerdict::Fault => true,
+        MoveVerdict::Silent => false,
+    }
+}
+
+pub fn watched<W: Watch>(watch: &mut W, moves: u64, states: u64) {
+    watch.see(moves, states);
+}
+
+pub fn searched_for_schedule<W: Watch>(
+    alloc: Global,
+    variant: Variant,
+    layout: Layout,
+    limit: u64,
+    calls: &[Call],
+    bounds: &Bounds,
+    watch: &mut W,
+) -> Result<SearchOutcome<Move>, ExploreFault> {
+    shortest_schedule(alloc, variant, layout, limit, calls, bounds, watch)
+}
+
+pub fn bounds_of(crashes: u64, moves: u64, states: u64) -> Bounds {
+    Bounds {
+        crashes,
+        moves,
+        states,
+    }
+}
+
+pub fn process_of(made: Move) -> u64 {
+    match made {
+        Move::Start(p, _) | Move::Step(p) | Move::Crash(p) => p,
+    }
+}
+
+pub fn has_given_up(fault: ExploreFault) -> bool {
+    match fault {
+        ExploreFault::TooManyStates => true,
+        ExploreFault::Refused(_) | ExploreFault::OutOfMemory => false,
+    }
+}
+
+pub fn drawn<M: Machine>(
+    alloc: Global,
+    machine: &mut M,
+    judge: &mut Judge,
+    schedule: &Schedule,
+    first: LifelinePhase,
+) -> Result<Drawing, OutOfMemory> {
+    draw(alloc, machine, judge, schedule, first)
+}
+
+pub fn written<W: Sink>(
+    alloc: Global,
+    drawing: &Drawing,
+    svg: bool,
+    w: &mut W,
+) -> Result<(), ReplayFault> {
+    let style = if svg { Style::Svg } else { Style::Text };
+    write_drawing(alloc, drawing, style, w)
+}
+
+pub fn followed<M: Machine, W: Sink>(
+    alloc: Global,
+    machine: &mut M,
+    judge: &mut Judge,
+    schedule: &Schedule,
+    first: LifelinePhase,
+    w: &mut W,
+) -> Result<Verdict, ReplayFault> {
+    follow(alloc, machine, judge, schedule, first, w)
+}

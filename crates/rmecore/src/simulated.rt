@@ -123,6 +123,7 @@ impl Core {
         ensures accepted { OnOk result (refusal_at self.old p CoreCall.Lock ≡ None) }
         ensures refused { IfErr result (λ e. refusal_at self.old p CoreCall.Lock ≡ Some e) }
         ensures start { OnOk result (Takes self.old (Starts p CoreCall.Lock) self.new) }
+        ensures reached { OnOk result (IsReached self.new.procs self.new.limit (world_of self.new)) }
         ensures tally { OnOk result (self.new.tallies ≡ slice_set self.old.tallies p (fresh (own_at self.old.words p))) }
         ensures err { OnErr result (self.new ≡ self.old) }
     {
@@ -136,6 +137,7 @@ impl Core {
         ensures accepted { OnOk result (refusal_at self.old p CoreCall.Recover ≡ None) }
         ensures refused { IfErr result (λ e. refusal_at self.old p CoreCall.Recover ≡ Some e) }
         ensures start { OnOk result (Takes self.old (Starts p CoreCall.Recover) self.new) }
+        ensures reached { OnOk result (IsReached self.new.procs self.new.limit (world_of self.new)) }
         ensures tally { OnOk result (self.new.tallies ≡ slice_set self.old.tallies p (fresh (own_at self.old.words p))) }
         ensures err { OnErr result (self.new ≡ self.old) }
     {
@@ -149,6 +151,7 @@ impl Core {
         ensures accepted { OnOk result (refusal_at self.old p CoreCall.Unlock ≡ None) }
         ensures refused { IfErr result (λ e. refusal_at self.old p CoreCall.Unlock ≡ Some e) }
         ensures start { OnOk result (Takes self.old (Starts p CoreCall.Unlock) self.new) }
+        ensures reached { OnOk result (IsReached self.new.procs self.new.limit (world_of self.new)) }
         ensures tally { OnOk result (self.new.tallies ≡ slice_set self.old.tallies p (fresh (own_at self.old.words p))) }
         ensures err { OnErr result (self.new ≡ self.old) }
     {
@@ -162,6 +165,7 @@ impl Core {
         ensures accepted { OnOk result (refusal_at self.old p CoreCall.Withdraw ≡ None) }
         ensures refused { IfErr result (λ e. refusal_at self.old p CoreCall.Withdraw ≡ Some e) }
         ensures start { OnOk result (Takes self.old (Starts p CoreCall.Withdraw) self.new) }
+        ensures reached { OnOk result (IsReached self.new.procs self.new.limit (world_of self.new)) }
         ensures tally { OnOk result (self.new.tallies ≡ slice_set self.old.tallies p (fresh (own_at self.old.words p))) }
         ensures err { OnErr result (self.new ≡ self.old) }
     {
@@ -223,6 +227,7 @@ impl Core {
         ensures accepted { OnOk result (refusal_at self.old p call ≡ None) }
         ensures refused { IfErr result (λ e. refusal_at self.old p call ≡ Some e) }
         ensures start { OnOk result (Takes self.old (Starts p call) self.new) }
+        ensures reached { OnOk result (IsReached self.new.procs self.new.limit (world_of self.new)) }
         ensures tally { OnOk result (self.new.tallies ≡ slice_set self.old.tallies p (fresh (own_at self.old.words p))) }
         ensures err { OnErr result (self.new ≡ self.old) }
     {
@@ -244,6 +249,7 @@ impl Core {
     pub fn crash(&mut self, p: u64) -> Result<Outer, Refusal>
         ensures refused { IfErr result (λ e. (self.old.procs ≤ p) × (e ≡ Refusal.NoSuchProcess)) }
         ensures crash { OnOk result (Takes self.old (Crashes p) self.new) }
+        ensures reached { OnOk result (IsReached self.new.procs self.new.limit (world_of self.new)) }
         ensures outer { IfOk result (λ outer. deed (place_at self.old.processes p) (Crashes p) ≡ Some outer) }
         ensures tallies { self.new.tallies ≡ self.old.tallies }
         ensures err { OnErr result (self.new ≡ self.old) }

@@ -2,10 +2,12 @@
 use Rattle.std.proofs.Common.{◌≡◌, ℕ, ◌+◌, ◌<◌, ◌≤◌, ◌^◌, Bool, true, false, ◌&&◌, nat_lt, nat_le, if◌then◌else◌, List, [], length, Option, Some, None, refl, sym, subst, inr, arith, ltb-true, leb-true}
 use Rattle.rmeworld.proofs.Common.{and_parts, Refusal, own_at, Deed, Layout, words_of, Start, Leads, state_of, State, Image, layout_of, IsLawfulImage, IsStartOf, crashed_global_state, IsOrigin, IsSize}
 use Rattle.rmeworld.proofs.Common.{resting, GlobalState, at_first, WorldState, new_world, new_refusal, image_world}
+use Rattle.rmeworld.specs.Reached.{EveryLaterExecutionIsSound}
+use Rattle.rmeworld.specs.WorldState.{global_state_of}
 use Rattle.rmeworld.proofs.Following.{Follows}
 use Rattle.rmeworld.proofs.FromImages.{image_world_is, image_global_state, crashed-at, started_later}
 use Rattle.rmeworld.proofs.Ordered.{IsOrdered, ordered_rest, ordered_crashed}
-use Rattle.rmeworld.proofs.Reaching.{arrives, origin}
+use Rattle.rmeworld.proofs.Reaching.{arrives, origin, sound_from}
 use Rattle.rmeworld.proofs.Worlds.{world_new, new_global_state, rest-at}
 
 held_to : (b : Bool) (o : Option Refusal) (r : Refusal) → (if b then o else Some r) ≡ None → (b ≡ true) × (o ≡ None)
@@ -56,3 +58,13 @@ follows_legal first state s history begins h =
 
 pub image_origin : (i : Image) (s : Start) → IsLawfulImage i → IsStartOf i s → IsOrigin (layout_of i) i.limit (crashed_global_state (length i.lock) (own_at i.lock) (words_of i.cells)) (state_of s)
 image_origin i s lawful start = inr (refl, started_later i s lawful start)
+
+-- every execution of a lawful image's world is sound
+pub later_is_sound : EveryLaterExecutionIsSound
+later_is_sound i s execution lawful start told =
+    let l : Layout = layout_of i in
+    let w : GlobalState = global_state_of (image_world i) in
+    let layout = (image_world_is i lawful).sized.layout in
+    let o = origin l i.limit w (state_of s) layout (inr (image_global_state i, started_later i s lawful start)) in
+    let a = arrives l i.limit w (state_of s) execution layout o told in
+    (sound_from l i.limit w (state_of s) execution layout o told, a.lawful, (a.now, a.leads))

@@ -4,7 +4,7 @@ use Rattle.rmeworld.proofs.Common.{cases_Bool, cases_eq, and_parts, Kind, Gets, 
 use Rattle.rmeworld.proofs.Common.{is_before, IsIn, is_store, step_deed, and_then, put_same, put_other, after_deed as done_by, sole_nobody, not_data, Layout, deeds_of_put, NewWords, Words, IsLayout}
 use Rattle.rmeworld.proofs.Common.{size, Mailbox, nothing_shown, Get, Put, Leads, State, judged_all-append, Sits, IsLater, ScriptStateTells, Sound, outer_by, ScriptState, Free, Doing, ProcessState, dead, WorldEvent}
 use Rattle.rmeworld.proofs.Common.{Begins, Falls, Moves, Glances, who, settled, moved_by, next_process_state, outer, reading, event_deeds, GlobalState, at_first, Reads as GlobalState-Reads, put_cell, cells_after, Execution}
-use Rattle.rmeworld.proofs.Common.{onward, mail_deeds, deeds, all_dead}
+use Rattle.rmeworld.proofs.Common.{onward, mail_deeds, deeds}
 use Rattle.rmeworld.specs.Law.{Tells}
 use Rattle.rmeworld.proofs.Projection.{at_lock_some, only_some, some_of, outers}
 use Rattle.rmeworld.proofs.Knowing.{Post, PostAt}
@@ -161,6 +161,3 @@ module _ (l : Layout) (limit : ℕ) (layout : IsLayout l) where
         shape = sat.shape;
         rest = sat.rest;
       }
-
-  pub later_posts : (words : ℕ → Own) (cells : Words) (s : State) → AllPosts (start_of words) cells s.mail (all_dead words cells).process_states
-  later_posts words cells s q lt = tt

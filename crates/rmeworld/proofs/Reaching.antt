@@ -145,14 +145,18 @@ pub record Arrived (l : Layout) (limit : ℕ) (s : State) (w : GlobalState) (his
   pub lawful : IsLawful l.procs limit w.words
   pub who_is_in : (p : ℕ) → p < l.procs → IsIn (now.lock.phase p) → (0 < (w.words p).number) × (0 < (w.words p).inside)
 
+-- every execution from there is sound
+pub sound_from : (l : Layout) (limit : ℕ) (w : GlobalState) (s : State) (execution : List WorldEvent) → IsLayout l → Origin l limit w s → Execution l limit w execution → Sound l limit w s execution
+sound_from l limit w s execution layout o told =
+    let r = projected l limit w execution o.held told in
+    let allowed = subst (λ ds. Legal l.procs s.lock ds) r.same (legal l.procs limit (core_of w) s.lock r.events o.tied r.run) in
+    subst (λ x. Sound l limit w x execution) (sym o.state) (sound l limit layout w s.lock s.mail execution o.kept o.posts told allowed)
+
 pub arrives : (l : Layout) (limit : ℕ) (w : GlobalState) (s : State) (execution : List WorldEvent) → IsLayout l → Origin l limit w s → Execution l limit w execution → Arrived l limit s (last_global_state l limit w execution) (deeds l limit w execution)
 arrives l limit w s execution layout o told =
     let n : ℕ = l.procs in
     let r = projected l limit w execution o.held told in
-    let allowed = subst (λ ds. Legal n s.lock ds) r.same (legal n limit (core_of w) s.lock r.events o.tied r.run) in
-    let all = sound l limit layout w s.lock s.mail execution o.kept o.posts told allowed in
-    let back : Sound l limit w s execution = subst (λ x. Sound l limit w x execution) (sym o.state) all in
-    let ends = sound_ends l limit w s execution back in
+    let ends = sound_ends l limit w s execution (sound_from l limit w s execution layout o told) in
     let lock : ends.0.lock ≡ all_done s.lock (outers l limit w execution) = ap (λ (x : State). x.lock) (state_led s ends.0 (deeds l limit w execution) ends.1) ∙ lock_led l limit w execution s in
     let tied = tied_after n limit (core_of w) s.lock r.events o.tied r.run in
     record {

@@ -17,7 +17,7 @@ use Rattle.judge.specs.Legal.{Leads, IsLegal}
 use Rattle.rmeworld.specs.declared.purpose.Purpose.{Purpose}
 use Rattle.rmeworld.specs.declared.purpose.Purpose.TheVariants.{Working}
 use Rattle.rmeworld.specs.ProcessState.{ScriptState, Free, Doing, WorldEvent, Moves}
-use Rattle.rmeworld.specs.World.{GlobalState, at_first, all_dead, onward, last_global_state, Execution, event_deeds, deeds}
+use Rattle.rmeworld.specs.World.{GlobalState, at_first, onward, last_global_state, Execution, event_deeds, deeds}
 
 -- The data words have the shape for the process inside. If no process is inside, they have it for every process.
 abbrev pub HasShape : Layout → Words → State → Type 0
@@ -79,10 +79,3 @@ pub record IsLater (l : Layout) (limit : ℕ) (words : ℕ → Own) (cells : Wor
   pub procs : s.procs ≡ l.procs
   pub cap : s.cap ≡ l.cap
   pub sits : Sits l cells s
-
--- the same from such words: they stay lawful, and the list of all deeds is legal from there
-abbrev pub EveryLaterExecutionIsSound : Type 0
-EveryLaterExecutionIsSound =
-    (l : Layout) (limit : ℕ) (words : ℕ → Own) (cells : Words) (s : State) (execution : List WorldEvent) → IsLayout l → IsLater l limit words cells s
-    → Execution l limit (all_dead words cells) execution → Sound l limit (all_dead words cells) s execution
-    × IsLawful l.procs limit (last_global_state l limit (all_dead words cells) execution).words × ((t : State) × Leads s (deeds l limit (all_dead words cells) execution) t)

@@ -7,13 +7,17 @@ use Rattle.redomail.specs.declared.layout.Layout.{Layout}
 use Rattle.redomail.specs.Layout.{Words, words_of, size}
 use Rattle.judge.specs.Legal.{Leads}
 use Rattle.judge.specs.Table.{State, empty}
+use Rattle.judge.specs.Starts.{state_of}
+use Rattle.judge.specs.declared.start.Start.{Start}
+use Rattle.rmecore.specs.Lawful.{IsLawful}
 use Rattle.rmeworld.specs.ImageRules.{layout_of, IsLawfulImage}
-use Rattle.rmeworld.specs.Law.{IsLater}
+use Rattle.rmeworld.specs.ImageStart.{IsStartOf}
+use Rattle.rmeworld.specs.Law.{IsLater, Sound}
 use Rattle.rmeworld.specs.ProcessState.{WorldEvent, at_rest, dead}
 use Rattle.rmeworld.specs.MachineState.{IsSize}
 use Rattle.rmeworld.specs.Tallied.{AllTallied}
 use Rattle.rmeworld.specs.World.{GlobalState, at_first, Execution, last_global_state, deeds}
-use Rattle.rmeworld.specs.WorldState.{WorldState, IsConfigured, global_state_of}
+use Rattle.rmeworld.specs.WorldState.{WorldState, IsConfigured, global_state_of, image_world}
 use Rattle.rmeworld.specs.declared.image.Image.{Image}
 
 -- these words, with each of the n processes crashed
@@ -25,6 +29,16 @@ crashed_global_state n words cells = record { words = words; cells = cells; proc
 abbrev pub IsOrigin : Layout → ℕ → GlobalState → State → Type 0
 IsOrigin l limit w s =
     ((w ≡ at_first) × (s ≡ empty l.procs l.cap)) ⊎ ((w ≡ crashed_global_state l.procs w.words w.cells) × IsLater l limit w.words w.cells s)
+
+-- Every execution of a lawful image's world is sound, with a judge that begins at the image's start. Its lock words stay
+-- lawful, and all its deeds are legal.
+abbrev pub EveryLaterExecutionIsSound : Type 0
+EveryLaterExecutionIsSound =
+    (i : Image) (s : Start) (execution : List WorldEvent) → IsLawfulImage i → IsStartOf i s
+    → let l = layout_of i in
+    let first = global_state_of (image_world i) in
+    Execution l i.limit first execution → Sound l i.limit first (state_of s) execution
+    × IsLawful l.procs i.limit (last_global_state l i.limit first execution).words × ((t : State) × Leads (state_of s) (deeds l i.limit first execution) t)
 
 -- The image has the words of this global state, and its sizes.
 pub record IsImageOf (l : Layout) (limit : ℕ) (w : GlobalState) (i : Image) : Type 0 where

@@ -12,7 +12,7 @@ use Rattle.redomail.specs.declared.deed.Deed.TheVariants.{Outer as OuterDeed}
 use Rattle.redomail.specs.declared.layout.Layout.{Layout}
 use Rattle.redomail.specs.Layout.{Words, size}
 use Rattle.redomail.specs.Deeds.{deeds_of_put}
-use Rattle.rmeworld.specs.ProcessState.{ProcessState, at_rest, dead, WorldEvent, Moves, Glances, who, next_process_state, outer}
+use Rattle.rmeworld.specs.ProcessState.{ProcessState, at_rest, WorldEvent, Moves, Glances, who, next_process_state, outer}
 
 -- a global state: the lock words, the data words and the states of all processes
 pub record GlobalState : Type 0 where
@@ -23,10 +23,6 @@ pub record GlobalState : Type 0 where
 -- all words are 0, and every process is at rest
 abbrev pub at_first : GlobalState
 at_first = record { words = λ p. record { choosing = 0; number = 0; inside = 0 }; cells = λ i. 0; process_states = λ p. at_rest }
-
--- these words, with every process crashed
-abbrev pub all_dead : (ℕ → Own) → Words → GlobalState
-all_dead words cells = record { words = words; cells = cells; process_states = λ p. dead }
 
 abbrev pub reading_of : (ℕ → Own) → Words → Word → ℕ
 reading_of words cells (DataAt i) = cells i

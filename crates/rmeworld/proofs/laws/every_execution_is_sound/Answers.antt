@@ -1,8 +1,9 @@
-use Rattle.std.proofs.Common.{sym, subst}
-use Rattle.rmeworld.proofs.Common.{Legal, nobody, start_of, IsLawful, nothing_shown, empty, Sound, EveryExecutionIsSound, at_first, all_dead}
+use Rattle.std.proofs.Common.{subst}
+use Rattle.rmeworld.proofs.Common.{Legal, nobody, IsLawful, nothing_shown, empty, EveryExecutionIsSound, at_first}
+use Rattle.rmeworld.proofs.Beginning.{later_is_sound}
 use Rattle.rmeworld.proofs.LawfulNow.{every_execution_leaves_an_image}
 use Rattle.rmeworld.proofs.Projection.{projected}
-use Rattle.rmeworld.proofs.Executions.{sound, legal_by, first, first_posts, state_is, later, later_posts}
+use Rattle.rmeworld.proofs.Executions.{sound, legal_by, first, first_posts}
 use Rattle.rmeworld.proofs.laws.every_execution_is_sound.Goals as goal
 
 every : goal.After-every_run_ends_lawful → EveryExecutionIsSound
@@ -18,12 +19,7 @@ pub returns-clause-legal : goal.returns-clause-legal
 returns-clause-legal c = λ l limit execution layout h. legal_by l limit layout at_first (empty l.procs l.cap) execution (every c l limit execution layout h)
 
 pub returns-clause-later : goal.returns-clause-later
-returns-clause-later c = λ l limit words cells s execution layout start h.
-    let r = projected l limit (all_dead words cells) execution (λ p. tt) h in
-    let legal = subst (λ ds. Legal l.procs (start_of words) ds) r.same (c.every_later_run_is_legal.ensures.legal l.procs limit words r.events start.lawful r.run) in
-    let all = sound l limit layout (all_dead words cells) (start_of words) s.mail execution (later l limit layout words cells s start) (later_posts l limit layout words cells s) h legal in
-    let back : Sound l limit (all_dead words cells) s execution = subst (λ x. Sound l limit (all_dead words cells) x execution) (sym (state_is l limit layout words cells s start)) all in
-    (back, subst (IsLawful l.procs limit) r.ends (c.every_later_run_is_legal.ensures.lawful l.procs limit words r.events start.lawful r.run), legal_by l limit layout (all_dead words cells) s execution back)
+returns-clause-later c = later_is_sound
 
 pub returns-clause-lawful : goal.returns-clause-lawful
 returns-clause-lawful c = λ l limit execution h.

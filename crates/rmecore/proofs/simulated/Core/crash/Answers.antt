@@ -17,3 +17,8 @@ invariant_of-self c =
 
 pub returns-clause-crash : goal.returns-clause-crash
 returns-clause-crash c = rw (← c.self.view_is) (crash_takes _ _ _ _ _ _ _ _ c.if-p-self.false c.self.invariant.configured.processes_each (ap (λ (s : Standing). s.place) c.crash.ensures))
+
+pub returns-clause-reached : goal.returns-clause-reached
+returns-clause-reached c =
+    let configured = c.self.invariant.configured in
+    reached_more (crash_takes _ _ _ _ _ c.self.inside.tallies.items c.self.inside.tallies.items _ c.if-p-self.false configured.processes_each (ap (λ (s : Standing). s.place) c.crash.ensures)) c.self.invariant.reached

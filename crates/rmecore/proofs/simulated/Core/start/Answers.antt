@@ -20,3 +20,9 @@ pub returns-clause-start : goal.returns-clause-start
 returns-clause-start c =
     let here = found_here _ c.args.p _ _ c.index_mut-process.ensures.value c.if-p-self.false c.self.invariant.configured.processes_each in
     rw (← c.self.view_is) (starts_takes _ _ _ _ _ _ _ _ _ _ here c.if-p-self.false c.self.invariant.configured.processes_each c.in_ok-start.ensures.ok)
+
+pub returns-clause-reached : goal.returns-clause-reached
+returns-clause-reached c =
+    let configured = c.self.invariant.configured in
+    let here = found_here _ c.args.p _ _ c.index_mut-process.ensures.value c.if-p-self.false configured.processes_each in
+    reached_more (starts_takes _ _ _ _ _ c.self.inside.tallies.items c.self.inside.tallies.items _ _ _ here c.if-p-self.false configured.processes_each c.in_ok-start.ensures.ok) c.self.invariant.reached

@@ -40,3 +40,4 @@ pub mod LineFeeds
 pub mod ImageSpelt
 pub mod ImageWidens
 pub mod WideWords
+pub mod ReplyEvents

@@ -28,3 +28,4 @@ pub mod InPlace
 pub mod ImageText
 pub mod ImageWiden
 pub mod WideWords
+pub mod ReplyEvents

@@ -18,6 +18,7 @@ ghost use Rattle.rmeworld.specs.Holders.{OnlyHoldersPut};
 ghost use Rattle.rmeworld.specs.Law.{IsLater, EveryExecutionIsSound, EveryExecutionIsLegal, EveryExecutionEndsLawful};
 ghost use Rattle.rmeworld.specs.Reached.{crashed_global_state, EveryLaterExecutionIsSound, EveryExecutionLeavesAnImage};
 ghost use Rattle.rmeworld.specs.Replayed.{start_refusal, started, advance_refusal, stepped, advanced, crash_refusal, crash_deed, crashed, list_of};
+ghost use Rattle.rmeworld.specs.ReplyEvents.{AnswersHaveTheirEvents};
 ghost use Rattle.rmeworld.specs.Sent.{EveryDeedWasAsked, EveryMessageWasSent, EveryCloseWasAsked, EveryRuinWasAsked, RepliesTell, StoredIsShown};
 ghost use Rattle.rmeworld.specs.ProcessState.{WorldEvent, Begins, Falls, outer};
 ghost use Rattle.rmeworld.specs.World.{GlobalState, at_first, Can, onward, Execution, last_global_state, event_deeds, deeds, own_world_events, process_state_after};
@@ -122,6 +123,12 @@ pub fn only_holders_put()
 pub fn calls_take_their_steps()
     ensures told { CallsTakeTheirSteps }
     ensures most { NoCallTakesMore }
+{}
+
+/// Each answer has its events in the call, in their order, as the table of replies says: of any process, from any process state
+/// in which the call may begin, whatever its loads read.
+pub fn answers_have_their_events()
+    ensures { AnswersHaveTheirEvents }
 {}
 
 /// Where the mailbox's contents come from, in an execution from all words 0. Each message shown is one that its sender began

@@ -373,10 +373,11 @@ static void sender(uint64_t p, bool doomed, long seed)
 {
     static struct rme_seat seat;
     srand48(seed);
+    const uint64_t last = doomed ? UINT64_MAX : MESSAGES;
     alarm(120);
     EXPECT(rme_attach(&seat, path, p), 0);
     struct counted *counted = rme_data(&seat, NULL);
-    for (uint64_t number = 1; doomed || number <= MESSAGES; number++) {
+    for (uint64_t number = 1; number <= last; number++) {
         const uint64_t value[3] = {p * 1000003 + number * 7, p, number};
         EXPECT(rme_lock_reaping(&seat, 50, repair, NULL), 0);
         if (atomic_exchange(&tally->owner, p + 1) != 0 || counted->first != counted->second)

@@ -307,7 +307,7 @@ static void waiting_behind_a_long_holder(void)
             EXPECT(rme_detach(&seat), 0);
             _exit(0);
         }
-        nap(i == 0 ? 1 : 0.3);
+        nap(i == 0 ? 1.02 : 0.32); /* a sleep is 50 ms: its end would come 30 ms late */
         double left = now(), entered;
         EXPECT(rme_unlock(&holder), 0);
         EXPECT(read(ends[0], &entered, sizeof entered), sizeof entered);
@@ -317,7 +317,7 @@ static void waiting_behind_a_long_holder(void)
         close(ends[0]), close(ends[1]);
     }
     printf("  woken after %.3f ms\n", late / 8 * 1000);
-    EXPECT(late / 8 < 0.02, true);
+    EXPECT(late / 8 < 0.015, true);
 }
 
 static const struct test tests[] = {

@@ -75,24 +75,20 @@ static int check(const struct rme_header *h, uint64_t length)
 {
     if (length < sizeof *h || h->magic != RME_MAGIC)
         return EBADMSG;
-    if (h->format != RME_FORMAT || h->header != RME_HEADER || h->limit != RME_LIMIT || h->data_bytes > RME_LIMIT)
-        return EPROTO;
-    if (h->words == 0 || h->words != rme_words(h->procs, h->cap, h->width))
-        return EPROTO;
-    return length == data_offset(h->words, h->procs) + h->data_bytes ? 0 : EPROTO;
+    bool fits = h->format == RME_FORMAT && h->header == RME_HEADER && h->limit == RME_LIMIT && h->data_bytes <= RME_LIMIT &&
+                h->words != 0 && h->words == rme_words(h->procs, h->cap, h->width) &&
+                length == data_offset(h->words, h->procs) + h->data_bytes;
+    return fits ? 0 : EPROTO;
 }
 
 static int map(struct rme_seat *s, int protection)
 {
     struct rme_header h = {0};
     struct stat status;
-    if (fstat(s->file, &status))
-        return errno;
-    ssize_t got = S_ISREG(status.st_mode) ? pread(s->file, &h, sizeof h, 0) : 0;
-    if (got < 0)
+    if (fstat(s->file, &status) || (S_ISREG(status.st_mode) && pread(s->file, &h, sizeof h, 0) < 0))
         return errno;
     s->length = (uint64_t)status.st_size;
-    int error = check(&h, (size_t)got < sizeof h ? 0 : s->length);
+    int error = check(&h, s->length);
     if (error)
         return error;
     void *start = mmap(NULL, s->length, protection, MAP_SHARED, s->file, 0);
@@ -114,16 +110,14 @@ void rme_close_seat(struct rme_seat *s)
         munmap(s->state, PAGE);
     if (s->file >= 0)
         close(s->file);
-    memset(s, 0, sizeof *s);
-    s->file = -1;
+    *s = (struct rme_seat){.file = -1};
 }
 
 int rme_open_seat(struct rme_seat *s, const char *path, int access)
 {
     if (!s || !path)
         return EINVAL;
-    memset(s, 0, sizeof *s);
-    s->file = open(path, access | O_CLOEXEC | O_NONBLOCK | O_NOCTTY);
+    *s = (struct rme_seat){.file = open(path, access | O_CLOEXEC | O_NONBLOCK | O_NOCTTY)};
     int error = s->file < 0 ? errno : map(s, access == O_RDWR ? PROT_READ | PROT_WRITE : PROT_READ);
     if (error)
         rme_close_seat(s);
@@ -134,25 +128,24 @@ int rme_open_seat(struct rme_seat *s, const char *path, int access)
 
 /* Locks of the open file on two bytes for each index. They end with the last process that has this open file, however that ends. A
  * living process has both bytes of its index, a reaper the first of them. */
-static struct flock bytes_of(uint64_t index, short type, int from, int bytes)
+static struct flock lease_of(uint64_t index, short type, int bytes)
 {
-    return (struct flock){.l_type = type, .l_whence = SEEK_SET, .l_start = (off_t)(2 * index) + from, .l_len = bytes};
+    return (struct flock){.l_type = type, .l_whence = SEEK_SET, .l_start = (off_t)(2 * index), .l_len = bytes};
 }
 
 int rme_lease(const struct rme_seat *s, uint64_t index, short type, int bytes)
 {
-    struct flock wanted = bytes_of(index, type, 0, bytes);
-    if (fcntl(s->file, F_OFD_SETLK, &wanted) == 0)
-        return 0;
-    return errno == EACCES || errno == EAGAIN ? EBUSY : errno;
+    struct flock wanted = lease_of(index, type, bytes);
+    return fcntl(s->file, F_OFD_SETLK, &wanted) == 0 ? 0 : errno == EAGAIN ? EBUSY : errno;
 }
 
 int rme_life_of(const struct rme_seat *s, uint64_t index, int *life)
 {
-    struct flock first = bytes_of(index, F_WRLCK, 0, 1), second = bytes_of(index, F_WRLCK, 1, 1);
-    if (fcntl(s->file, F_OFD_GETLK, &second) || fcntl(s->file, F_OFD_GETLK, &first))
+    struct flock other = lease_of(index, F_WRLCK, BOTH_BYTES);
+    if (fcntl(s->file, F_OFD_GETLK, &other))
         return errno;
-    *life = second.l_type != F_UNLCK ? RME_ALIVE : first.l_type != F_UNLCK ? RME_IN_REAPING : RME_ABSENT;
+    const bool both = other.l_start + other.l_len > (off_t)(2 * index + 1);
+    *life = other.l_type == F_UNLCK ? RME_ABSENT : both ? RME_ALIVE : RME_IN_REAPING;
     return 0;
 }
 
@@ -160,17 +153,16 @@ int rme_life_of(const struct rme_seat *s, uint64_t index, int *life)
 static int lease_within(const struct rme_seat *s, uint64_t index, uint64_t milliseconds)
 {
     const struct timespec nap = {0, 1000000};
-    for (uint64_t passed = 0;; passed++) {
-        int life = RME_ALIVE, error = rme_lease(s, index, F_WRLCK, BOTH_BYTES);
-        if (error != EBUSY || milliseconds == 0)
-            return error;
+    int life, error;
+    for (uint64_t passed = 0; (error = rme_lease(s, index, F_WRLCK, BOTH_BYTES)) == EBUSY && milliseconds > 0; passed++) {
         error = rme_life_of(s, index, &life);
         if (error || life == RME_ALIVE)
             return error ? error : EBUSY;
-        if (passed >= milliseconds)
+        if (passed == milliseconds)
             return ETIMEDOUT;
         nanosleep(&nap, NULL);
     }
+    return error;
 }
 
 void rme_become(struct rme_seat *s, uint64_t index, bool crashed)
@@ -178,25 +170,22 @@ void rme_become(struct rme_seat *s, uint64_t index, bool crashed)
     const struct rme_process m = s->machine;
     rme_init(&s->machine, m.procs, m.cap, m.width, m.limit, index);
     s->crashed = crashed;
-    s->asleep = false;
     s->blocked_at = NULL;
     if (!crashed)
         return;
     rme_crash(&s->machine);
-    /* The bits of one that was killed asleep. */
-    for (uint64_t place = 0; place < 3 * m.procs; place += 3)
-        if (load(sleepers_on(s, place)) & UINT64_C(1) << index)
-            __atomic_fetch_and(sleepers_on(s, place), ~(UINT64_C(1) << index), __ATOMIC_SEQ_CST);
+    for (uint64_t place = 0; place < 3 * m.procs; place += 3) /* it may have been killed asleep */
+        __atomic_fetch_and(sleepers_on(s, place), ~own_bit(s), __ATOMIC_SEQ_CST);
 }
 
-/* What a reaper left in the mark; a mark that none leaves says nothing. */
-static int reaped_of(uint64_t mark)
+/* A mark that no reaper leaves says nothing. */
+int rme_reaped_of(uint64_t mark)
 {
     const uint64_t found = mark / RME_REAPED;
     return found >= RME_FOUND_IDLE && found <= RME_FOUND_INSIDE ? (int)found : 0;
 }
 
-/* The lease of the index in the file that has this name now, and the seat's state, which reads 0 in a child of fork. */
+/* The index in the file that has this name now, and the seat's state, which reads 0 in a child of fork. */
 static int take(struct rme_seat *s, const char *path, uint64_t index, uint64_t milliseconds)
 {
     struct stat ours, named;
@@ -214,7 +203,12 @@ static int take(struct rme_seat *s, const char *path, uint64_t index, uint64_t m
         return errno;
     s->state = state;
     *s->state = FREE;
-    return madvise(state, PAGE, MADV_WIPEONFORK) ? errno : 0;
+    if (madvise(state, PAGE, MADV_WIPEONFORK))
+        return errno;
+    const uint64_t mark = __atomic_exchange_n(&s->header->marks[index], RME_ATTACHED, __ATOMIC_SEQ_CST);
+    rme_become(s, index, mark & RME_ATTACHED);
+    s->reaped = rme_reaped_of(mark);
+    return 0;
 }
 
 int rme_attach_within(struct rme_seat *s, const char *path, uint64_t index, uint64_t milliseconds)
@@ -224,50 +218,34 @@ int rme_attach_within(struct rme_seat *s, const char *path, uint64_t index, uint
     if (error)
         return error;
     error = take(s, path, index, milliseconds);
-    if (error) {
+    if (error)
         rme_close_seat(s);
-        return error;
-    }
-    uint64_t mark = __atomic_exchange_n(&s->header->marks[index], RME_ATTACHED, __ATOMIC_SEQ_CST);
-    rme_become(s, index, mark & RME_ATTACHED);
-    s->reaped = reaped_of(mark);
-    return 0;
+    return error;
 }
 
 int rme_attach(struct rme_seat *s, const char *path, uint64_t index) { return rme_attach_within(s, path, index, 0); }
-
-int rme_inspect(struct rme_seat *s, const char *path)
-{
-    WITHOUT_CANCELLATION;
-    return rme_open_seat(s, path, O_RDONLY);
-}
 
 /* At rest the index is given back; otherwise this is a crash, as any other end of the process is. */
 int rme_detach(struct rme_seat *s)
 {
     WITHOUT_CANCELLATION;
-    int error = 0;
     if (!s || !s->header)
         return EINVAL;
-    if (s->state) {
-        error = rme_begin_call(s);
-        if (error == EBUSY)
-            return error;
-        if (!error && rme_rests(s))
-            store(&s->header->marks[s->machine.index], 0);
-        else if (!error)
-            error = EBUSY;
-    }
+    int error = s->state ? rme_begin_call(s) : 0;
+    if (error == EBUSY)
+        return error;
+    if (!error && s->state && rests(s))
+        store(&s->header->marks[s->machine.index], 0);
+    else if (!error && s->state)
+        error = EBUSY;
     rme_close_seat(s);
     return error;
 }
 
-/* ---- how it stands ---- */
+/* ---- what it holds ---- */
 
 bool rme_crashed(const struct rme_seat *s) { return s && s->crashed; }
 int rme_reaped(const struct rme_seat *s) { return s ? s->reaped : 0; }
-size_t rme_seat_size(void) { return sizeof(struct rme_seat); }
-const char *rme_version(void) { return RME_VERSION; }
 
 /* Count first, then entries below it: they never change once count has passed them. */
 uint64_t rme_read_from(const struct rme_seat *s, uint64_t place, struct rme_message *messages, uint64_t room)
@@ -291,70 +269,4 @@ void *rme_data(const struct rme_seat *s, size_t *bytes)
     if (bytes)
         *bytes = some ? s->data_bytes : 0;
     return some ? (char *)s->header + data_offset(s->count, s->machine.procs) : NULL;
-}
-
-int rme_file_status(const struct rme_seat *s, struct rme_file *status)
-{
-    if (!s || !s->header || !status)
-        return EINVAL;
-    *status = (struct rme_file){
-        .procs = s->machine.procs, .cap = s->machine.cap, .width = s->machine.width, .limit = s->machine.limit,
-        .words = s->count, .data_bytes = s->data_bytes,
-        .count = load(s->words + 2), .closed = load(s->words + 1), .ruined = load(s->words),
-    };
-    return 0;
-}
-
-/* The restart table. */
-static int row_of(uint64_t choosing, uint64_t number, uint64_t inside)
-{
-    if (choosing > 1 || inside > 1 || (choosing && inside))
-        return 0;
-    if (inside)
-        return number ? RME_FOUND_INSIDE : RME_FOUND_LEFT;
-    return number ? RME_FOUND_WAITING : choosing ? RME_FOUND_DOORWAY : RME_FOUND_IDLE;
-}
-
-int rme_index_status(const struct rme_seat *s, uint64_t index, struct rme_index *status)
-{
-    if (!s || !s->header || !status || index >= s->machine.procs)
-        return EINVAL;
-    const uint64_t *line = s->lines + index * LINE, mark = load(&s->header->marks[index]);
-    int life = RME_ALIVE, error = s->state && index == s->machine.index ? 0 : rme_life_of(s, index, &life);
-    *status = (struct rme_index){.choosing = load(line), .number = load(line + 1), .inside = load(line + 2)};
-    status->found = row_of(status->choosing, status->number, status->inside);
-    status->life = life == RME_ABSENT && mark & RME_ATTACHED ? RME_DEAD : life;
-    status->reaped = reaped_of(mark);
-    return error;
-}
-
-uint64_t rme_copy_words(const struct rme_seat *s, uint64_t *words, uint64_t room)
-{
-    if (!s || !s->header || !words)
-        return 0;
-    const uint64_t locks = 3 * s->machine.procs, count = room < s->count ? room : s->count;
-    for (uint64_t i = 0; i < count; i++)
-        words[i] = load(i < locks ? lock_word(s, i) : s->words + (i - locks));
-    return count;
-}
-
-const char *rme_strerror(int error)
-{
-    switch (error) {
-    case 0: return "done";
-    case EOWNERDEAD: return "the owner died inside: mend, then call rme_consistent";
-    case ENOTRECOVERABLE: return "the lock is ruined";
-    case EOVERFLOW: return "the numbers of the lock are spent";
-    case ETIMEDOUT: return "still blocked";
-    case EDEADLK: return "inside already";
-    case EPERM: return "not inside";
-    case EBUSY: return "another process has the index, or another call the seat";
-    case EALREADY: return "it is stored, or closed, already";
-    case EPIPE: return "the mailbox is closed";
-    case EBADMSG: return "no file of this library, or words that break its rules";
-    case EPROTO: return "a file of another format or size";
-    case ESTALE: return "another file has taken the name";
-    case ESRCH: return "no dead process has the index";
-    default: return strerror(error);
-    }
 }

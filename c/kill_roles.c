@@ -162,6 +162,7 @@ static void arrive(struct rme_seat *seat, uint64_t index)
 {
     struct duty *duty = &shared->duty[index];
     const struct duty owed = *duty;
+    duty->found = 0;
     expect("attach", TRACED(rme_attach(seat, path, index)), 0);
     shared->leased[index] = 1;
     duty->attached = 1;
@@ -172,6 +173,8 @@ static void arrive(struct rme_seat *seat, uint64_t index)
         fail("attach does not tell that an earlier process was reaped", (int64_t)index);
     if (owed.inside && !rme_crashed(seat))
         fail("attach does not tell that an earlier process died inside", (int64_t)index);
+    if (owed.found && !rme_crashed(seat) && rme_reaped(seat) != RME_FOUND_INSIDE)
+        fail("attach does not tell that one who died inside was reaped", (int64_t)index);
 }
 
 /* Attaches, reads and leaves: where an earlier process died in the words, its death must not be hidden. */
@@ -234,10 +237,13 @@ static void session(enum role role, uint64_t index)
 static void reap(uint64_t index)
 {
     const bool marked = (*mark(index) & RME_ATTACHED) != 0;
+    shared->duty[index].found |= is_inside(index);
     expect("reap", TRACED(rme_reap(path, index, repair, shared)), marked ? 0 : ESRCH);
     if (marked)
         shared->duty[index].reaped = 1;
     shared->duty[index].attached = 0;
+    if (shared->duty[index].found && *mark(index) / RME_REAPED != RME_FOUND_INSIDE)
+        fail("the mark does not say that one who died inside was reaped", (int64_t)*mark(index));
 }
 
 void play(enum role role, uint64_t index)

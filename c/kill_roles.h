@@ -12,6 +12,7 @@ struct duty {
     uint64_t stored;   /* the number of the last append that was answered */
     uint64_t closed;   /* a close was answered */
     uint64_t reaped;   /* a reaping was answered, and no attach after it */
+    uint64_t found;    /* a reaper began where it stood inside, and no attach after it */
 };
 
 /* Shared by the tracer and its children. */

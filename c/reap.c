@@ -11,24 +11,16 @@ static int give_up(struct rme_seat *dead, int found, rme_repair *repair, void *c
 {
     size_t bytes;
     void *data = rme_data(dead, &bytes);
-    int error;
-    switch (found) {
-    case RME_FOUND_INSIDE:
-        if (repair && repair(dead, dead->machine.index, data, bytes, context))
-            error = ENOTRECOVERABLE; /* by the unlock, as with POSIX */
-        else
-            error = rme_consistent(dead);
+    int error = 0;
+    if (found == RME_FOUND_INSIDE) {
+        bool lost = repair && repair(dead, dead->machine.index, data, bytes, context);
+        error = lost ? ENOTRECOVERABLE : rme_consistent(dead); /* unmended, the unlock ruins the lock, as with POSIX */
         rme_unlock(dead);
-        return error;
-    case RME_FOUND_DOORWAY:
-    case RME_FOUND_WAITING:
+    } else if (found == RME_FOUND_DOORWAY || found == RME_FOUND_WAITING) {
         error = rme_lock_within(dead, 0);
-        if (error == 0)
-            return rme_unlock(dead);
-        return error == ETIMEDOUT ? rme_withdraw(dead) : error == EOVERFLOW ? 0 : error;
-    default:
-        return 0;
+        error = error == 0 ? rme_unlock(dead) : error == ETIMEDOUT ? rme_withdraw(dead) : error;
     }
+    return error == EOVERFLOW ? 0 : error; /* no number was left to take: it is out of the line */
 }
 
 /* With the lease of the dead. Whoever is killed in here leaves the mark RME_ATTACHED, and with it what was found. */
@@ -44,7 +36,7 @@ static int act_for(struct rme_seat *dead, rme_repair *repair, void *context)
     most = most > (uint64_t)found ? most : (uint64_t)found;
     store(mark, RME_ATTACHED + RME_REAPED * most);
     error = give_up(dead, found, repair, context);
-    if (rme_rests(dead))
+    if (rests(dead))
         store(mark, RME_REAPED * most);
     return error;
 }
@@ -82,45 +74,32 @@ int rme_reap(const char *path, uint64_t index, rme_repair *repair, void *context
 
 int rme_reap_all(const char *path, rme_repair *repair, void *context, uint64_t *reaped)
 {
-    WITHOUT_CANCELLATION;
-    struct rme_seat s;
     uint64_t done = 0;
-    int first = rme_open_seat(&s, path, O_RDWR);
-    if (first)
-        return first;
-    for (uint64_t j = 0; j < s.machine.procs; j++) {
-        int error = reap(&s, j, repair, context);
+    int first = 0;
+    for (uint64_t j = 0; j < MOST_PROCS; j++) {
+        int error = rme_reap(path, j, repair, context);
+        if (error == EINVAL && j > 0) /* no such index */
+            break;
         done += error == 0 || error == ENOTRECOVERABLE;
         if (!first && error != EBUSY && error != ESRCH)
             first = error;
     }
-    rme_close_seat(&s);
     if (reaped)
         *reaped = done;
     return first;
 }
 
-/* The process whose word a lock that was left waits for. */
-static int blocker(const struct rme_seat *s, uint64_t *index)
-{
-    struct rme_access access;
-    if (rme_next(&s->machine, &access) || access.store || access.place >= 3 * s->machine.procs)
-        return EINVAL;
-    *index = access.place / 3;
-    return 0;
-}
-
 int rme_lock_reaping(struct rme_seat *s, uint64_t turns, rme_repair *repair, void *context)
 {
     WITHOUT_CANCELLATION;
-    uint64_t j, told;
+    const struct patience may_wait = {.turns = turns, .longest = 20, .once = true};
+    struct rme_access blocked;
+    uint64_t told;
     int error = rme_begin_call(s);
     if (error)
         return error;
-    while ((told = rme_take_lock(s, (struct patience){.turns = turns, .longest = 20, .once = true})) == RME_BLOCKED) {
-        error = blocker(s, &j);
-        if (!error)
-            error = reap(s, j, repair, context);
+    while ((told = rme_make_call(s, &(struct rme_call){.code = RME_LOCK}, may_wait, &blocked)) == RME_BLOCKED) {
+        error = reap(s, blocked.place / 3, repair, context);
         if (error && error != EBUSY && error != ESRCH && error != ENOTRECOVERABLE)
             return rme_end_call(s, error);
     }
@@ -129,16 +108,14 @@ int rme_lock_reaping(struct rme_seat *s, uint64_t turns, rme_repair *repair, voi
 
 int rme_blocker(struct rme_seat *s, uint64_t *index, bool *alive)
 {
-    uint64_t j;
+    struct rme_access blocked;
     int life = RME_ABSENT, error = rme_begin_call(s);
     if (error)
         return error;
-    error = blocker(s, &j);
-    if (!error)
-        error = rme_life_of(s, j, &life);
+    error = rme_next(&s->machine, &blocked) ? EINVAL : rme_life_of(s, blocked.place / 3, &life);
     if (!error && alive)
         *alive = life != RME_ABSENT;
     if (!error && index)
-        *index = j;
+        *index = blocked.place / 3;
     return rme_end_call(s, error);
 }

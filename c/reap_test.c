@@ -3,9 +3,9 @@
  *     reap_test FOLDER ROUNDS SEED
  *
  * First a process that dies after each number of accesses, in turn, and is reaped. Then reapers that are killed, and restarts beside
- * reapers. Then ROUNDS rounds each of 2, 4 and 16 senders of which some are killed for good, in half of the rounds at times all of
- * them: those that are left send all their messages, each stands once and in its sender's order, no two were inside, and what those
- * who died inside left half done in the caller's data was repaired. */
+ * reapers. Then ROUNDS rounds of four senders of which two are killed for good, and rounds of 2, 16 and 64 of which half are, or as
+ * many as are drawn, at most all: those that are left send all their messages, each stands once and in its sender's order, no two
+ * were inside, and what those who died inside left half done in the caller's data was repaired. */
 #define _GNU_SOURCE
 #include "rme.h"
 
@@ -22,7 +22,7 @@
 #include <time.h>
 #include <unistd.h>
 
-enum { MOST = 64, MESSAGES = 40 };
+enum { MOST = 64, MESSAGES = 40, MOST_WORDS = 3 * MOST + 13 + MOST + 5 * MOST * MESSAGES };
 
 /* The caller's data: both are counted by whoever is inside, one after the other. */
 struct counted {
@@ -368,14 +368,16 @@ static void restarts_beside_reapers(void)
 
 /* ---- senders of which some die for good ---- */
 
-static void sender(uint64_t p, long seed)
+/* One that is doomed goes in and out after its messages too, until it is killed. */
+static void sender(uint64_t p, bool doomed, long seed)
 {
     static struct rme_seat seat;
     srand48(seed);
-    alarm(60);
+    const uint64_t last = doomed ? UINT64_MAX : MESSAGES;
+    alarm(120);
     EXPECT(rme_attach(&seat, path, p), 0);
     struct counted *counted = rme_data(&seat, NULL);
-    for (uint64_t number = 1; number <= MESSAGES; number++) {
+    for (uint64_t number = 1; number <= last; number++) {
         const uint64_t value[3] = {p * 1000003 + number * 7, p, number};
         EXPECT(rme_lock_reaping(&seat, 50, repair, NULL), 0);
         if (atomic_exchange(&tally->owner, p + 1) != 0 || counted->first != counted->second)
@@ -383,8 +385,10 @@ static void sender(uint64_t p, long seed)
         counted->first++;
         if (number % 4 == 0)
             nap(drand48() * 0.0003);
-        EXPECT(rme_append(&seat, number, value), 0);
-        tally->answered[p] = number;
+        if (number <= MESSAGES) {
+            EXPECT(rme_append(&seat, number, value), 0);
+            tally->answered[p] = number;
+        }
         counted->second++;
         tally->owner = 0;
         EXPECT(rme_unlock(&seat), 0);
@@ -393,27 +397,25 @@ static void sender(uint64_t p, long seed)
     _exit(0);
 }
 
-/* Kills so many of them, mostly inside. */
-static void kill_some(const pid_t *child, bool *killed, uint64_t wanted)
+/* Kills the doomed one after the other, mostly inside. */
+static void kill_doomed(const pid_t *child, const bool *doomed)
 {
-    while (wanted > 0) {
-        uint64_t p = (uint64_t)(drand48() * (double)senders);
-        if (killed[p])
+    for (uint64_t p = 0; p < senders; p++) {
+        if (!doomed[p])
             continue;
         nap(drand48() * 0.002);
         if (drand48() < 0.7)
             for (double end = now() + 0.02; tally->owner != p + 1 && now() < end;)
                 sched_yield();
         kill(child[p], SIGKILL);
-        killed[p] = true;
-        wanted--;
     }
 }
 
-static void check_end(const bool *killed)
+static void check_end(const bool *doomed)
 {
     struct rme_seat seat;
-    uint64_t next[MOST] = {0}, words[6000], reaped;
+    static uint64_t words[MOST_WORDS];
+    uint64_t next[MOST] = {0}, reaped;
     struct rme_message m;
     EXPECT(rme_reap_all(path, repair, NULL, &reaped), 0);
     EXPECT(rme_inspect(&seat, path), 0);
@@ -424,10 +426,10 @@ static void check_end(const bool *killed)
     }
     for (uint64_t p = 0; p < senders; p++) {
         EXPECT(next[p] == tally->answered[p] || next[p] == tally->answered[p] + 1, true);
-        if (!killed[p])
+        if (!doomed[p])
             EXPECT(next[p], MESSAGES);
     }
-    EXPECT(rme_copy_words(&seat, words, 6000), seat.count);
+    EXPECT(rme_copy_words(&seat, words, MOST_WORDS), seat.count);
     for (uint64_t i = 0; i < 3 * senders; i++)
         EXPECT(words[i], 0);
     EXPECT(rme_content_rule(words, seat.count, senders, senders * MESSAGES, 3, RME_LIMIT), RME_LAWFUL);
@@ -439,36 +441,43 @@ static void check_end(const bool *killed)
 static void round_of(uint64_t procs, uint64_t deaths, long seed)
 {
     pid_t child[MOST];
-    bool killed[MOST] = {false};
+    bool doomed[MOST] = {false};
     make(procs, procs * MESSAGES);
+    while (deaths > 0) {
+        const uint64_t p = (uint64_t)(drand48() * (double)procs);
+        deaths -= !doomed[p];
+        doomed[p] = true;
+    }
     for (uint64_t p = 0; p < procs; p++) {
         child[p] = fork();
         if (child[p] == 0)
-            sender(p, seed + (long)p);
+            sender(p, doomed[p], seed + (long)p);
     }
-    kill_some(child, killed, deaths);
+    kill_doomed(child, doomed);
     for (uint64_t p = 0; p < procs; p++) {
-        int status = 0;
-        waitpid(child[p], &status, 0);
-        if (status == 0)
-            killed[p] = false; /* it had ended before */
-        EXPECT(status == 0 || (killed[p] && WIFSIGNALED(status) && WTERMSIG(status) == SIGKILL), true);
+        if (doomed[p])
+            expect_killed(child[p]);
+        else
+            expect_ended(child[p]);
     }
     EXPECT(tally->overlaps, 0);
     EXPECT(tally->strangers, 0);
-    check_end(killed);
+    check_end(doomed);
 }
 
-static void rounds_of(uint64_t procs, long rounds, long seed)
+/* Where it is drawn, in each second round another number dies, at most all. */
+static void rounds_of(uint64_t procs, uint64_t deaths, bool drawn, long rounds, long seed)
 {
-    uint64_t repairs = 0;
+    uint64_t repairs = 0, dead = 0;
     double from = now();
     for (long round = 0; round < rounds; round++) {
-        uint64_t deaths = round % 2 == 0 ? (procs + 1) / 2 : 1 + (uint64_t)(drand48() * (double)procs);
-        round_of(procs, deaths, seed + 100 * round);
+        const uint64_t some = drawn && round % 2 ? 1 + (uint64_t)(drand48() * (double)procs) : deaths;
+        round_of(procs, some, seed + 100 * round);
         repairs += tally->repairs;
+        dead += some;
     }
-    printf("%" PRIu64 " senders: %ld rounds, %" PRIu64 " repairs, %.1f s\n", procs, rounds, repairs, now() - from);
+    printf("%" PRIu64 " senders%s: %ld rounds, killed for good %" PRIu64 ", repairs %" PRIu64 ", %.1f s\n", procs,
+           drawn ? "" : " of which two die", rounds, dead, repairs, now() - from);
 }
 
 int main(int count, char **word)
@@ -489,9 +498,10 @@ int main(int count, char **word)
     killed_in_repair(true);
     killed_anywhere();
     restarts_beside_reapers();
-    rounds_of(4, rounds, seed);
-    rounds_of(2, rounds, seed);
-    rounds_of(16, rounds, seed);
+    rounds_of(4, 2, false, rounds, seed);
+    rounds_of(2, 1, true, rounds, seed);
+    rounds_of(16, 8, true, rounds, seed);
+    rounds_of(64, 32, true, (rounds + 3) / 4, seed);
     unlink(path);
     return 0;
 }

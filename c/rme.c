@@ -4,16 +4,14 @@
 #include "shim.h"
 
 #include <errno.h>
-#include <limits.h>
 #include <linux/futex.h>
 #include <sched.h>
 #include <sys/syscall.h>
 #include <time.h>
 #include <unistd.h>
 
-_Static_assert(sizeof(struct rme_process) == 20 * sizeof(uint64_t), "the machine's numbers are u64, one after the other");
-_Static_assert(sizeof(struct rme_call) == 10 * sizeof(uint64_t), "so are those of a call");
-_Static_assert(sizeof(struct rme_access) == 3 * sizeof(uint64_t), "and those of an access");
+_Static_assert(sizeof(struct rme_process) == 20 * 8 && sizeof(struct rme_call) == 10 * 8 && sizeof(struct rme_access) == 3 * 8,
+               "the machine's numbers are u64, one after the other");
 _Static_assert(__atomic_always_lock_free(8, 0), "a word is one atomic u64");
 
 /* ---- accesses ---- */
@@ -22,6 +20,13 @@ _Static_assert(__atomic_always_lock_free(8, 0), "a word is one atomic u64");
 static void futex(uint64_t *word, int operation, uint32_t value, const struct timespec *most)
 {
     syscall(SYS_futex, (uint32_t *)word + (__BYTE_ORDER__ == __ORDER_BIG_ENDIAN__), operation, value, most, NULL, 0);
+}
+
+/* After a store of 0 into a lock word. */
+static inline void wake(uint64_t *word, const uint64_t *sleepers)
+{
+    if (__builtin_expect(load(sleepers) != 0, 0))
+        futex(word, FUTEX_WAKE, MOST_PROCS, NULL);
 }
 
 /* The access that the machine has named. A word that the block does not have reads 0, and no store goes there: only words that no
@@ -37,8 +42,8 @@ static inline uint64_t take(struct rme_seat *s, const struct rme_access *access)
     if (access->store == 0)
         return load(word);
     store(word, access->value);
-    if (access->value == 0 && place < locks && load(sleepers_on(s, place)) != 0)
-        futex(word, FUTEX_WAKE, INT_MAX, NULL);
+    if (access->value == 0 && place < locks)
+        wake(word, sleepers_on(s, place));
     return 0;
 }
 
@@ -46,8 +51,7 @@ static inline uint64_t take(struct rme_seat *s, const struct rme_access *access)
 static inline void release(uint64_t *own, uint64_t k)
 {
     store(own + k, 0);
-    if (__builtin_expect(load(own + SLEEPERS) != 0, 0))
-        futex(own + k, FUTEX_WAKE, INT_MAX, NULL);
+    wake(own + k, own + SLEEPERS);
 }
 
 /* The rest of a scan, from this line on: of each other process word k to number, up to the first that is not 0, which it answers. */
@@ -106,59 +110,40 @@ static inline __attribute__((always_inline)) uint64_t run(const struct rme_seat 
 
 /* ---- waiting ---- */
 
-enum { LEAST_PAUSES = 16, MOST_PAUSES = 2000, YIELDS = 100, AT_ONCE = 1000 };
-
-static uint64_t nanoseconds(void)
-{
-    struct timespec now;
-    clock_gettime(CLOCK_MONOTONIC, &now);
-    return (uint64_t)now.tv_sec * 1000000000 + (uint64_t)now.tv_nsec;
-}
-
-void rme_stop_sleeping(struct rme_seat *s)
-{
-    if (s->asleep)
-        __atomic_fetch_and(s->blocked_at, ~(UINT64_C(1) << s->machine.index), __ATOMIC_SEQ_CST);
-    s->asleep = false;
-}
+enum { LEAST_PAUSES = 16, MOST_PAUSES = 2000, YIELDS = 100, AT_ONCE = 3000 /* ticks: about a microsecond */ };
 
 /* Who stores 0 sees the bit, or else the kernel sees the 0 here and does not sleep. The time is for those who die between their
  * store and their waking. */
-static void sleep_on(struct rme_seat *s, uint64_t *word, uint64_t seen, uint64_t milliseconds)
+static void sleep_on(struct rme_seat *s, uint64_t place, uint64_t seen, uint64_t milliseconds)
 {
     const struct timespec most = {0, (long)milliseconds * 1000000};
-    if (!s->asleep)
-        __atomic_fetch_or(s->blocked_at, UINT64_C(1) << s->machine.index, __ATOMIC_SEQ_CST);
-    s->asleep = true;
-    futex(word, FUTEX_WAIT, (uint32_t)seen, &most);
+    __atomic_fetch_or(sleepers_on(s, place), own_bit(s), __ATOMIC_SEQ_CST);
+    futex(lock_word(s, place), FUTEX_WAIT, (uint32_t)seen, &most);
+    __atomic_fetch_and(sleepers_on(s, place), ~own_bit(s), __ATOMIC_SEQ_CST);
 }
 
-/* After a blocked reading, whether it slept: behind each process it pauses at first, then lets others run, then sleeps longer and
- * longer. A yield that comes back at once says that a processor is free: then more pauses cost nothing. */
-static bool rest(struct rme_seat *s, uint64_t place, uint64_t seen, uint64_t longest)
+/* After a blocked reading: behind each process it pauses at first, then lets others run, then sleeps. A yield that comes back at
+ * once says that a processor is free: then more pauses cost nothing. */
+static void rest(struct rme_seat *s, uint64_t place, uint64_t seen, struct patience *may_wait)
 {
     if (s->blocked_at != sleepers_on(s, place)) {
-        rme_stop_sleeping(s);
         s->blocked_at = sleepers_on(s, place);
-        s->turn = s->yields = s->naps = 0;
+        s->turn = s->yields = 0;
     }
     if (s->turn++ < s->pauses + LEAST_PAUSES) {
-#if defined(__x86_64__) || defined(__i386__)
         __builtin_ia32_pause();
-#endif
     } else if (s->yields++ < YIELDS) {
-        uint64_t before = nanoseconds();
+        uint64_t before = __builtin_ia32_rdtsc();
         sched_yield();
-        if (nanoseconds() - before > AT_ONCE)
+        if (__builtin_ia32_rdtsc() - before > AT_ONCE)
             s->pauses /= 2;
         else if (s->pauses < MOST_PAUSES)
             s->pauses = 2 * s->pauses + LEAST_PAUSES;
     } else {
-        uint64_t next = UINT64_C(1) << (s->naps < 10 ? s->naps++ : 10);
-        sleep_on(s, lock_word(s, place), seen, next < longest ? next : longest);
-        return true;
+        sleep_on(s, place, seen, may_wait->longest);
+        if (may_wait->once)
+            may_wait->turns = 0;
     }
-    return false;
 }
 
 /* Takes the steps of the call under way, from what the machine has told on, to its answer, or as long as it may wait. */
@@ -175,8 +160,7 @@ static inline __attribute__((always_inline)) uint64_t finish(struct rme_seat *s,
         if (told == RME_BLOCKED) {
             if (may_wait.turns-- == 0)
                 return told;
-            if (rest(s, access->place, seen, may_wait.longest) && may_wait.once)
-                may_wait.turns = 0;
+            rest(s, access->place, seen, &may_wait);
         } else if (told != 0 && told < RME_LOAD) {
             return told;
         }
@@ -187,23 +171,14 @@ static inline __attribute__((always_inline)) uint64_t finish(struct rme_seat *s,
 
 int rme_error_of(uint64_t told)
 {
-    switch (told) {
-    case RME_CLEAN: case RME_UNLOCKED: case RME_WITHDRAWN: case RME_STORED: case RME_CLOSED_NOW: case RME_MENDED:
-    case RME_NOTHING_TO_MEND: case RME_WORD: case RME_DONE: case RME_FOUND_IDLE: case RME_FOUND_LEFT:
-    case RME_FOUND_DOORWAY: case RME_FOUND_WAITING: case RME_FOUND_INSIDE:
-        return 0;
-    case RME_OWNER_DIED: case RME_UNMENDED: return EOWNERDEAD;
-    case RME_NOT_RECOVERABLE: return ENOTRECOVERABLE;
-    case RME_NUMBERS_SPENT: return EOVERFLOW;
-    case RME_BLOCKED: return ETIMEDOUT;
-    case RME_ALREADY: case RME_ALREADY_CLOSED: return EALREADY;
-    case RME_FULL: return ENOSPC;
-    case RME_CLOSED: return EPIPE;
-    case RME_ALREADY_IN: return EDEADLK;
-    case RME_NOT_OWNER: return EPERM;
-    case RME_CALL_UNDER_WAY: return EBUSY;
-    default: return EINVAL;
-    }
+    static const int errors[RME_DONE + 1] = {
+        [RME_CALL_UNDER_WAY] = EBUSY, [RME_NOT_OWNER] = EPERM, [RME_ALREADY_IN] = EDEADLK, [RME_UNMENDED] = EOWNERDEAD,
+        [RME_BLOCKED] = ETIMEDOUT, [RME_OWNER_DIED] = EOWNERDEAD, [RME_NUMBERS_SPENT] = EOVERFLOW,
+        [RME_NOT_RECOVERABLE] = ENOTRECOVERABLE, [RME_ALREADY] = EALREADY, [RME_OUT_OF_ORDER] = EINVAL, [RME_FULL] = ENOSPC,
+        [RME_CLOSED] = EPIPE, [RME_ALREADY_CLOSED] = EALREADY,
+    };
+    int error = told <= RME_DONE ? errors[told] : EINVAL;
+    return error == 0 && told < RME_BLOCKED ? EINVAL : error; /* the other refusals */
 }
 
 /* ---- calls ---- */
@@ -211,9 +186,7 @@ int rme_error_of(uint64_t told)
 int rme_begin_call(struct rme_seat *s)
 {
     uint64_t was = FREE;
-    if (!s || !s->header || !s->state)
-        return EINVAL;
-    if (__atomic_compare_exchange_n(s->state, &was, BUSY, false, __ATOMIC_ACQUIRE, __ATOMIC_RELAXED))
+    if (s && s->state && __atomic_compare_exchange_n(s->state, &was, BUSY, false, __ATOMIC_ACQUIRE, __ATOMIC_RELAXED))
         return 0;
     return was == BUSY ? EBUSY : EINVAL;
 }
@@ -223,65 +196,55 @@ int rme_end_call(struct rme_seat *s, int error)
     if (s->astray)
         error = EBADMSG;
     s->astray = false;
-    rme_stop_sleeping(s);
     __atomic_store_n(s->state, FREE, __ATOMIC_RELEASE);
     return error;
 }
 
-/* A call that is never blocked; *got (may be null) is the board word that it has read, or else what the machine told. */
-static int call(struct rme_seat *s, const struct rme_call *asked, uint64_t *got)
+/* Takes the call to its answer, or as long as it may wait. A lock that was left after ETIMEDOUT is under way still: it goes on where
+ * it waited. */
+uint64_t rme_make_call(struct rme_seat *s, const struct rme_call *asked, struct patience may_wait, struct rme_access *access)
+{
+    uint64_t told = rme_start_run(&s->machine, asked, access);
+    if (told == RME_CALL_UNDER_WAY && asked->code == RME_LOCK)
+        told = rme_next(&s->machine, access);
+    else
+        s->blocked_at = NULL;
+    return told == 0 || told >= RME_RUN ? finish(s, told, access, may_wait) : told;
+}
+
+/* Where it has succeeded, *got (may be null) is the board word that it has read, or else what the machine told. */
+static int call(struct rme_seat *s, const struct rme_call *asked, struct patience may_wait, uint64_t *got)
 {
     struct rme_access access;
     int error = rme_begin_call(s);
     if (error)
         return error;
-    uint64_t told = rme_start_run(&s->machine, asked, &access);
-    if (told == 0 || told >= RME_RUN)
-        told = finish(s, told, &access, (struct patience){0});
-    if (got)
+    uint64_t told = rme_make_call(s, asked, may_wait, &access);
+    error = rme_end_call(s, rme_error_of(told));
+    if (got && !error)
         *got = told == RME_WORD ? access.value : told;
-    return rme_end_call(s, rme_error_of(told));
+    return error;
 }
 
-/* The calls that have a code alone. */
+/* The calls that have a code alone; and all but lock are never blocked. */
 static const struct rme_call plain[] = {
     [RME_LOCK] = {.code = RME_LOCK}, [RME_UNLOCK] = {.code = RME_UNLOCK}, [RME_CONSISTENT] = {.code = RME_CONSISTENT},
     [RME_RECOVER] = {.code = RME_RECOVER}, [RME_CLOSE] = {.code = RME_CLOSE}, [RME_WITHDRAW] = {.code = RME_WITHDRAW},
 };
+static const struct patience at_once = {0};
 
-/* A lock that was left after ETIMEDOUT is under way still: it goes on where it waited. */
-uint64_t rme_take_lock(struct rme_seat *s, struct patience may_wait)
-{
-    struct rme_access access;
-    uint64_t told = rme_start_run(&s->machine, &plain[RME_LOCK], &access);
-    if (told == RME_CALL_UNDER_WAY)
-        told = rme_next(&s->machine, &access);
-    if (told == 0 || told >= RME_RUN)
-        told = finish(s, told, &access, may_wait);
-    if (told != RME_BLOCKED) {
-        rme_stop_sleeping(s);
-        s->blocked_at = NULL;
-    }
-    return told;
-}
-
-static int lock(struct rme_seat *s, struct patience may_wait)
-{
-    int error = rme_begin_call(s);
-    return error ? error : rme_end_call(s, rme_error_of(rme_take_lock(s, may_wait)));
-}
-
-int rme_lock(struct rme_seat *s) { return lock(s, (struct patience){.turns = UINT64_MAX, .longest = 200}); }
+static int lock(struct rme_seat *s, struct patience may_wait) { return call(s, &plain[RME_LOCK], may_wait, NULL); }
+int rme_lock(struct rme_seat *s) { return lock(s, (struct patience){.turns = UINT64_MAX, .longest = 50}); }
 int rme_lock_within(struct rme_seat *s, uint64_t turns) { return lock(s, (struct patience){.turns = turns, .longest = 1}); }
-int rme_unlock(struct rme_seat *s) { return call(s, &plain[RME_UNLOCK], NULL); }
-int rme_consistent(struct rme_seat *s) { return call(s, &plain[RME_CONSISTENT], NULL); }
-int rme_withdraw(struct rme_seat *s) { return call(s, &plain[RME_WITHDRAW], NULL); }
-int rme_close(struct rme_seat *s) { return call(s, &plain[RME_CLOSE], NULL); }
+int rme_unlock(struct rme_seat *s) { return call(s, &plain[RME_UNLOCK], at_once, NULL); }
+int rme_consistent(struct rme_seat *s) { return call(s, &plain[RME_CONSISTENT], at_once, NULL); }
+int rme_withdraw(struct rme_seat *s) { return call(s, &plain[RME_WITHDRAW], at_once, NULL); }
+int rme_close(struct rme_seat *s) { return call(s, &plain[RME_CLOSE], at_once, NULL); }
 
 int rme_recover(struct rme_seat *s, int *found)
 {
     uint64_t told = 0;
-    int error = call(s, &plain[RME_RECOVER], &told);
+    int error = call(s, &plain[RME_RECOVER], at_once, &told);
     if (found && !error)
         *found = (int)told;
     return error;
@@ -294,29 +257,15 @@ int rme_append(struct rme_seat *s, uint64_t number, const uint64_t *value)
         return EINVAL;
     for (uint64_t j = 0; j < s->machine.width && j < 8; j++)
         asked.value[j] = value[j];
-    return call(s, &asked, NULL);
+    return call(s, &asked, at_once, NULL);
 }
 
 int rme_get(struct rme_seat *s, uint64_t i, uint64_t *word)
 {
-    uint64_t got = 0;
-    int error = word ? call(s, &(struct rme_call){.code = RME_GET, .number = i}, &got) : EINVAL;
-    if (!error)
-        *word = got;
-    return error;
+    return word ? call(s, &(struct rme_call){.code = RME_GET, .number = i}, at_once, word) : EINVAL;
 }
 
 int rme_put(struct rme_seat *s, uint64_t i, uint64_t word)
 {
-    return call(s, &(struct rme_call){.code = RME_PUT, .number = i, .value = {word}}, NULL);
-}
-
-/* Whether nothing of this process stands in the words: neither of what it does, nor of what an earlier process of its index did. */
-bool rme_rests(struct rme_seat *s)
-{
-    struct rme_access access;
-    bool rests = rme_start(&s->machine, &plain[RME_UNLOCK], &access) == RME_NOT_OWNER;
-    for (uint64_t k = 0; rests && k < 3; k++)
-        rests = load(s->lines + s->machine.index * LINE + k) == 0;
-    return rests;
+    return call(s, &(struct rme_call){.code = RME_PUT, .number = i, .value = {word}}, at_once, NULL);
 }

@@ -3,7 +3,7 @@
  *
  * Two layers, both in librme. The machine (proved): which shared word a process loads or stores next, and what that was. The shim
  * (not proved): makes each access that the machine names and waits (rme.c), keeps the file (file.c), and recovers for the dead
- * (reap.c). */
+ * (reap.c). Beside it status.c says how a file stands. */
 #ifndef RME_H
 #define RME_H
 
@@ -39,30 +39,15 @@ struct rme_header {
 struct rme_seat {
     struct rme_process machine;
     struct rme_header *header; /* null: not attached */
-    uint64_t *lines, *words, *state; /* of each process eight words; the data words; whether a call is under way */
-    uint64_t *blocked_at; /* the set of those who sleep where it waited last */
-    uint64_t count, length, data_bytes, turn, yields, naps, pauses;
+    /* Of each process eight words; the data words; whether a call is under way; the set of those who sleep where it waited last. */
+    uint64_t *lines, *words, *state, *blocked_at;
+    uint64_t count, length, data_bytes, turn, yields, pauses;
     int file, reaped;
-    bool crashed, astray, asleep;
+    bool crashed, astray;
 };
 
 struct rme_message {
     uint64_t sender, number, value[8];
-};
-
-/* How a file stands, each number read by itself: they are of one moment only where all processes have stopped. */
-struct rme_file {
-    uint64_t procs, cap, width, limit, words, data_bytes;
-    uint64_t count, closed, ruined;
-};
-
-/* How an index stands: its lock words, and what rme_recover would find of them (RME_FOUND_.., 0 none of them). */
-enum rme_life { RME_ABSENT = 0, RME_ALIVE, RME_DEAD, RME_IN_REAPING };
-struct rme_index {
-    uint64_t choosing, number, inside;
-    int found;
-    int life;   /* no process is attached; one is; one died and nobody has its place; a reaper acts for it */
-    int reaped; /* as rme_reaped answers after the next attach */
 };
 
 /* What the caller's own data need after the process `index` died inside: it acts as that process, inside, with the lock's data
@@ -106,11 +91,6 @@ int rme_attach(struct rme_seat *seat, const char *path, uint64_t index);
  *     ETIMEDOUT a reaper still acts for it
  *     and the others of rme_attach */
 int rme_attach_within(struct rme_seat *seat, const char *path, uint64_t index, uint64_t milliseconds);
-
-/* Opens the file for looking: nothing in it is changed, and read permission is enough. Such a seat has no index; it can
- * rme_read_from, rme_data (which must not be written), rme_file_status, rme_index_status, rme_copy_words and rme_detach.
- * Errors: those of rme_attach but EBUSY */
-int rme_inspect(struct rme_seat *seat, const char *path);
 
 /* Gives the index back and closes the file. The seat is not attached any more, but after EINVAL of a null pointer and EBUSY of a
  * call under way. In a child of fork it closes the child's share of the file, and answers EINVAL.
@@ -227,29 +207,9 @@ bool rme_crashed(const struct rme_seat *seat);
  * the last attach: RME_FOUND_INSIDE says that what it was doing inside was ended or repaired by another. */
 int rme_reaped(const struct rme_seat *seat);
 
-/* How the file stands. */
-int rme_file_status(const struct rme_seat *seat, struct rme_file *status);
-
-/* How an index stands: its lease says who is alive, and is not taken for that.
- * Errors:
- *     EINVAL no such index
- *     and those of fcntl */
-int rme_index_status(const struct rme_seat *seat, uint64_t index, struct rme_index *status);
-
-/* Answers how many words it has copied, at most room: the block as rme_content_rule and rmelab's images have it, the lock words
- * of each process and then the data words. They are of one moment only where all processes have stopped. */
-uint64_t rme_copy_words(const struct rme_seat *seat, uint64_t *words, uint64_t room);
-
-/* Answers sizeof (struct rme_seat), for callers that do not read this file. */
-size_t rme_seat_size(void);
-
-/* Answers the library's version, as RME_VERSION. */
-const char *rme_version(void);
-
-/* Answers what an error of these calls says, in words of the lock; else what strerror says. */
-const char *rme_strerror(int error);
-
 #ifdef __cplusplus
 }
 #endif
+
+#include "rme_status.h"
 #endif

@@ -7,7 +7,7 @@
 #include <pthread.h>
 
 /* A process's line in the file: its three lock words, and a bit for each process that sleeps on one of them. */
-enum { SLEEPERS = 3, LINE = 8, PAGE = RME_HEADER };
+enum { SLEEPERS = 3, LINE = 8, PAGE = RME_HEADER, MOST_PROCS = 64 };
 enum state { ELSEWHERE, FREE, BUSY }; /* of a seat; in a child of fork it reads ELSEWHERE */
 
 static inline uint64_t load(const uint64_t *word) { return __atomic_load_n(word, __ATOMIC_SEQ_CST); }
@@ -15,6 +15,15 @@ static inline void store(uint64_t *word, uint64_t value) { __atomic_store_n(word
 
 static inline uint64_t *lock_word(const struct rme_seat *s, uint64_t place) { return s->lines + place / 3 * LINE + place % 3; }
 static inline uint64_t *sleepers_on(const struct rme_seat *s, uint64_t place) { return s->lines + place / 3 * LINE + SLEEPERS; }
+
+static inline uint64_t own_bit(const struct rme_seat *s) { return UINT64_C(1) << s->machine.index; }
+
+/* Whether nothing of this process stands in the words: neither of what it does, nor of what an earlier process of its index did. */
+static inline bool rests(const struct rme_seat *s)
+{
+    const uint64_t index = s->machine.index, *own = lock_word(s, 3 * index);
+    return index < MOST_PROCS && !load(own) && !load(own + 1) && !load(own + 2);
+}
 
 /* Opening and closing are points of cancellation, after which a seat would keep its index for good. */
 static inline void restore_cancellation(const int *state) { pthread_setcancelstate(*state, NULL); }
@@ -29,25 +38,25 @@ static inline int disable_cancellation(void)
 
 #pragma GCC visibility push(hidden)
 
-/* rme.c: a call with a seat begins and ends with these. Between them a lock, to its answer or to so many blocked readings and one
- * more, or to one after the first sleep; no sleep is longer than so many milliseconds. */
+/* rme.c: a call with a seat begins and ends with these. Between them a call goes to its answer, or to so many blocked
+ * readings and one more, or to one after the first sleep; no sleep is longer than so many milliseconds. */
 struct patience {
     uint64_t turns, longest;
     bool once;
 };
 int rme_begin_call(struct rme_seat *s);
 int rme_end_call(struct rme_seat *s, int error);
-uint64_t rme_take_lock(struct rme_seat *s, struct patience may_wait);
-void rme_stop_sleeping(struct rme_seat *s);
+uint64_t rme_make_call(struct rme_seat *s, const struct rme_call *asked, struct patience may_wait, struct rme_access *access);
 int rme_error_of(uint64_t told);
-bool rme_rests(struct rme_seat *s);
 
-/* file.c: a seat without an index; the bytes of an index's lease (F_WRLCK, F_UNLCK); what others have of them. */
+/* file.c: a seat without an index; the bytes of an index's lease (F_WRLCK, F_UNLCK); what others have of them; what a reaper left
+ * in a mark. */
 enum { REAPERS_BYTE = 1, BOTH_BYTES = 2 };
 int rme_open_seat(struct rme_seat *s, const char *path, int access);
 void rme_close_seat(struct rme_seat *s);
 int rme_lease(const struct rme_seat *s, uint64_t index, short type, int bytes);
 int rme_life_of(const struct rme_seat *s, uint64_t index, int *life);
+int rme_reaped_of(uint64_t mark);
 void rme_become(struct rme_seat *s, uint64_t index, bool crashed);
 
 #pragma GCC visibility pop

@@ -24,7 +24,7 @@ fn made() -> Option<PathBuf> {
     if !sources.join("Makefile").exists() || !sources.join("rme.c").exists() {
         return None;
     }
-    let shim = ["Makefile", "rme.c", "file.c", "reap.c", "shim.h", "rme.h", "rme_machine.h"];
+    let shim = ["Makefile", "rme.c", "file.c", "reap.c", "status.c", "shim.h", "rme.h", "rme_status.h", "rme_machine.h"];
     let machine = ["librme_machine.a", "../crates/rme_c/out/librme_c.a"];
     for name in shim.iter().chain(&machine) {
         let path = sources.join(name);

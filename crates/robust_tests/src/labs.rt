@@ -10,7 +10,7 @@ use one_lock::lab::{Gate, LabFault, LabResult, Spec};
 use redomail::{Message, Reply};
 use std::alloc::Global;
 use std::process::Abort;
-use std::sync::Wait;
+use std::sync::{Arc, Wait};
 use std::test::Fail;
 use std::thread::Threads;
 
@@ -196,6 +196,82 @@ fn the_least_of_two_that_are_refused(rt: HostRuntime) -> Result<(), Fail> {
             assert!(rt;
                 fault == Some(LabFault::Reply { p, reply }),
                 "{lab:?}, {waits_on:?}"
+            );
+        }
+    }
+    Ok(())
+}
+
+/// Gates of three workers. The first of this order is held at its asking 15, until the others have come after one another,
+/// each up to its asking 8.
+fn one_after_another(
+    alloc: Global,
+    all: &[Arc<WorkerProgress>],
+    order: [usize; 3],
+) -> Result<Vec<Gated>, Fail> {
+    let [holder, second, third] = order;
+    let mut gates = Vec::new(alloc);
+    for p in 0..3 {
+        let (at, until, on) = if p == holder {
+            (15, Until::Asking(8), third)
+        } else if p == second {
+            (1, Until::Asking(15), holder)
+        } else {
+            (1, Until::Asking(8), second)
+        };
+        let mine = all.get(p).ok_or("a worker")?;
+        let other = all.get(on).ok_or("another")?;
+        gates.push(Gated::new(at, until, mine, other)?)?;
+    }
+    Ok(gates)
+}
+
+/// Three workers, and the limit 1. The first of this order is inside while the others find the limit reached. It answers
+/// what the lab answers.
+fn two_without_numbers<R: Abort + Threads + Wait + Sync>(
+    rt: &R,
+    alloc: Global,
+    lab: Lab,
+    order: [usize; 3],
+) -> Result<Option<LabFault>, Fail> {
+    let spec = Spec {
+        procs: 3,
+        messages: 1,
+        limit: 1,
+        cap: 3,
+        width: 1,
+    };
+    let mut all = Vec::new(alloc);
+    for _ in 0..3 {
+        all.push(WorkerProgress::new(alloc)?)?;
+    }
+    let gates = one_after_another(alloc, all.as_slice(), order)?;
+    let fault = run(rt, alloc, lab, spec, gates).err();
+    for (p, progress) in all.iter().enumerate() {
+        assert!(rt; !progress.has_given_up(), "{lab:?}, {order:?}");
+        let stored = order[0] == p && progress.has_told(1, 15);
+        assert!(rt; stored || progress.has_told_at(0, 8), "{lab:?}, {order:?}");
+    }
+    Ok(fault)
+}
+
+#[test]
+fn the_least_of_two_without_numbers(rt: HostRuntime) -> Result<(), Fail> {
+    let rows = [
+        ([0, 1, 2], 1),
+        ([0, 2, 1], 1),
+        ([1, 0, 2], 0),
+        ([1, 2, 0], 0),
+        ([2, 0, 1], 0),
+        ([2, 1, 0], 0),
+    ];
+    for lab in BOTH {
+        for (order, p) in rows {
+            let fault = LockFault::NumbersSpent;
+            let answer = two_without_numbers(&rt, rt.alloc(), lab, order)?;
+            assert!(rt;
+                answer == Some(LabFault::Member { p, fault }),
+                "{lab:?}, {order:?}"
             );
         }
     }

@@ -77,19 +77,21 @@ static void name_run(struct named *slot, const struct rme_process *p, uint64_t t
     case RME_LOCKS:
         for (uint64_t k = 0; k < 3; k++)
             name(slot, 0, own + k, 0);
-        name_run(slot, p, RME_OPENS, 0);
-        name_run(slot, p, RME_TAKES, 1);
-        name_run(slot, p, RME_MARKS, 0);
-        break;
+        number = 1;
+        /* fallthrough */
     case RME_OPENS:
         name(slot, 1, own, 1);
         name_scan(slot, p, 0, 0);
-        break;
+        if (told == RME_OPENS)
+            break;
+        /* fallthrough */
     case RME_TAKES:
         name(slot, 1, own + 1, number);
         name(slot, 1, own, 0);
         name_scan(slot, p, 0, 1);
-        break;
+        if (told == RME_TAKES)
+            break;
+        /* fallthrough */
     case RME_MARKS:
         name(slot, 1, own + 2, 1);
         name(slot, 0, 3 * p->procs, 0);

@@ -285,6 +285,38 @@ static void stopped_inside(void)
     expect_ended(waiter);
 }
 
+/* Whoever sleeps in rme_lock_reaping looks again and again: one who dies meanwhile is reaped soon, not after all the readings. */
+static void killed_while_another_sleeps(void)
+{
+    struct rme_seat seat;
+    make(2, 4);
+    pid_t child = fork();
+    if (child == 0) {
+        static struct rme_seat own;
+        EXPECT(rme_attach(&own, path, 0), 0);
+        EXPECT(rme_lock(&own), 0);
+        raise(SIGSTOP);
+        _exit(1);
+    }
+    waitpid(child, NULL, WUNTRACED);
+    EXPECT(rme_attach(&seat, path, 1), 0);
+    pid_t killer = fork();
+    if (killer == 0) {
+        rme_detach(&seat);
+        nap(0.3);
+        kill(child, SIGKILL);
+        _exit(0);
+    }
+    double from = now();
+    EXPECT(rme_lock_reaping(&seat, 1000, repair, NULL), 0);
+    EXPECT(now() - from < 3, true);
+    EXPECT(tally->repairs, 1);
+    EXPECT(rme_unlock(&seat), 0);
+    EXPECT(rme_detach(&seat), 0);
+    expect_killed(child);
+    expect_ended(killer);
+}
+
 /* ---- reapers that are killed, and restarts beside them ---- */
 
 static void killed_in_repair(bool in_lock)
@@ -494,6 +526,7 @@ int main(int count, char **word)
     deaths_at_each_access(true);
     answers();
     stopped_inside();
+    killed_while_another_sleeps();
     killed_in_repair(false);
     killed_in_repair(true);
     killed_anywhere();

@@ -29,6 +29,10 @@ fn hunt_seeds(rt: HostRuntime) -> Result<(), Fail> {
         let line = format!(in alloc; "rmelab replay --variant {variant}")?;
         let wrong = ran(&rt, alloc, &line, "", schedule)?;
         assert!(rt; wrong.code == ExitCode::from(1), "{variant}");
+        let Ok(report) = str::from_utf8(&wrong.out) else {
+            panic!(&rt; "no text");
+        };
+        assert!(rt; report.contains("verdict against"), "{variant}");
         let right = ran(&rt, alloc, "rmelab replay", "", schedule)?;
         let fine = right.code == ExitCode::from(0) || right.code == ExitCode::from(2);
         assert!(rt; fine, "{variant}");

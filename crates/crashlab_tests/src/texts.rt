@@ -6,6 +6,10 @@ mod cuts;
 #[cfg(test)]
 mod devices;
 #[cfg(test)]
+mod drawing_rule;
+#[cfg(test)]
+mod drawn;
+#[cfg(test)]
 mod everything;
 #[cfg(test)]
 mod hunts;

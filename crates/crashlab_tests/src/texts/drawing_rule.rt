@@ -1,0 +1,232 @@
+//! Hunts draw the schedules that a plain program draws by the same rule, and each case of the rule is met in them.
+
+use crate::texts::drawn::DRAWN;
+use crate::texts::kit::check;
+use crashlab::VariantWorld;
+use crashlab::hunting::hunt;
+use redomail::Reply;
+use rmecore::{Body, Refusal};
+use rmeworld::{Answer, Call, Machine};
+use schedule::{Line, Schedule, write_schedule};
+use std::alloc::Global;
+use std::test::Fail;
+
+const CRASH_AT_REST: u64 = 1;
+
+const CRASH_IN_A_CALL: u64 = 2;
+
+const CRASH_INSIDE: u64 = 4;
+
+const STEP: u64 = 8;
+
+const LOCK_AT_REST: u64 = 16;
+
+const LOCK_AFTER_A_CRASH: u64 = 32;
+
+const CONSISTENT: u64 = 64;
+
+const FIRST_APPEND: u64 = 128;
+
+const APPEND_AFTER_STORED: u64 = 256;
+
+const APPEND_AFTER_ALREADY: u64 = 512;
+
+const UNLOCK: u64 = 1024;
+
+/// All cases.
+const ALL: u64 = 2047;
+
+/// Where a process is.
+#[derive(Clone, Copy, PartialEq, Eq)]
+enum Position {
+    AtRest,
+    Dead,
+    InACall,
+    Inside,
+}
+
+/// What the rule asks of a process.
+#[derive(Clone, Copy)]
+struct Seen {
+    position: Position,
+    mended: bool,
+    /// Whether an append was answered since it entered.
+    appended: bool,
+    /// How many appends were answered stored or already, and whether the last of these was answered already.
+    counted: u64,
+    already: bool,
+}
+
+const UNSEEN: Seen = Seen {
+    position: Position::AtRest,
+    mended: true,
+    appended: false,
+    counted: 0,
+    already: false,
+};
+
+impl Seen {
+    /// The call that the rule asks for next, and its case.
+    fn next(&self) -> Result<(Call, u64), Refusal> {
+        if self.position == Position::AtRest {
+            return Ok((Call::Lock, LOCK_AT_REST));
+        }
+        if self.position == Position::Dead {
+            return Ok((Call::Lock, LOCK_AFTER_A_CRASH));
+        }
+        if !self.mended {
+            return Ok((Call::Consistent, CONSISTENT));
+        }
+        if self.appended {
+            return Ok((Call::Unlock, UNLOCK));
+        }
+        let seq = self.counted.saturating_add(1);
+        let value = Body::new(&[seq])?;
+        let case = if self.counted == 0 {
+            FIRST_APPEND
+        } else if self.already {
+            APPEND_AFTER_ALREADY
+        } else {
+            APPEND_AFTER_STORED
+        };
+        Ok((Call::Append { seq, value }, case))
+    }
+
+    /// The case of a crash.
+    fn crash(&self) -> u64 {
+        match self.position {
+            Position::AtRest | Position::Dead => CRASH_AT_REST,
+            Position::InACall => CRASH_IN_A_CALL,
+            Position::Inside => CRASH_INSIDE,
+        }
+    }
+
+    /// Notes an answer.
+    fn answered(&mut self, answer: Answer) {
+        self.position = Position::Inside;
+        match answer {
+            Answer::Clean => {
+                self.mended = true;
+                self.appended = false;
+            }
+            Answer::OwnerDied => {
+                self.mended = false;
+                self.appended = false;
+            }
+            Answer::Mail(Reply::Mended(_)) => self.mended = true,
+            Answer::Mail(reply) => {
+                self.appended = true;
+                if reply == Reply::Stored || reply == Reply::Already {
+                    self.counted = self.counted.saturating_add(1);
+                    self.already = reply == Reply::Already;
+                }
+            }
+            _ => self.position = Position::AtRest,
+        }
+    }
+}
+
+/// Makes the move of a line, and notes what it does. The case of the rule; 0 where the rule asks for another move.
+fn made(world: &mut VariantWorld, seen: &mut Seen, line: Line) -> Result<u64, Refusal> {
+    match line {
+        Line::Crash(p) => {
+            world.crash(p)?;
+            let case = seen.crash();
+            seen.position = Position::Dead;
+            Ok(case)
+        }
+        Line::Step(p, count) => {
+            if count.get() != 1 || seen.position != Position::InACall {
+                return Ok(0);
+            }
+            if let Some(answer) = world.advance(p)?.answer {
+                seen.answered(answer);
+            }
+            Ok(STEP)
+        }
+        Line::Start(p, call) => {
+            let (asked, case) = seen.next()?;
+            if call != asked || seen.position == Position::InACall {
+                return Ok(0);
+            }
+            world.start(p, call)?;
+            seen.position = Position::InACall;
+            Ok(case)
+        }
+    }
+}
+
+/// The process of a line.
+fn process_of(line: Line) -> u64 {
+    match line {
+        Line::Crash(p) => p,
+        Line::Step(p, _) => p,
+        Line::Start(p, _) => p,
+    }
+}
+
+/// The cases of the rule in a schedule that was found, each of whose moves the rule must ask for.
+fn cases(mut world: VariantWorld, found: &Schedule) -> Result<u64, Fail> {
+    let mut seen = [UNSEEN; 3];
+    let mut cases = 0;
+    for line in found.lines() {
+        let p = process_of(*line) as usize;
+        let here = seen.get_mut(p).ok_or("a process")?;
+        let case = made(&mut world, here, *line)?;
+        check(case > 0, "a move of the rule")?;
+        cases |= case;
+    }
+    Ok(cases)
+}
+
+/// The line of a move, or a part of it.
+fn spelled(letter: u8) -> &'static [u8] {
+    match letter {
+        b'0' => b"step 0\n",
+        b'1' => b"step 1\n",
+        b'2' => b"step 2\n",
+        b'x' => b"crash 0\n",
+        b'y' => b"crash 1\n",
+        b'z' => b"crash 2\n",
+        b'l' => b"lock 0\n",
+        b'm' => b"lock 1\n",
+        b'n' => b"lock 2\n",
+        b'f' => b"consistent 0\n",
+        b'g' => b"consistent 1\n",
+        b'h' => b"consistent 2\n",
+        b'u' => b"unlock 0\n",
+        b'v' => b"unlock 1\n",
+        b'w' => b"unlock 2\n",
+        b'a' => b"append 0 ",
+        b'b' => b"append 1 ",
+        b'c' => b"append 2 ",
+        b'A' => b"1 1\n",
+        b'B' => b"2 2\n",
+        b'C' => b"3 3\n",
+        _ => b"",
+    }
+}
+
+/// The schedule of these moves, as a text.
+fn text_of(alloc: Global, moves: &str) -> Result<Vec<u8>, Fail> {
+    let mut text = Vec::new(alloc);
+    text.extend_from_slice(b"rme 1 procs 3 limit 1000000 cap 64\n")?;
+    for letter in moves.as_bytes() {
+        text.extend_from_slice(spelled(*letter))?;
+    }
+    Ok(text)
+}
+
+#[test]
+fn hunts_draw_by_the_rule(rt: HostRuntime) -> Result<(), Fail> {
+    let mut all = 0;
+    for (variant, seed, moves) in DRAWN {
+        let found = hunt(rt.alloc(), variant, seed, 10_000, 1_000)?;
+        let found = found.ok_or("a schedule")?;
+        let text = write_schedule(rt.alloc(), &found)?;
+        assert!(rt; text == text_of(rt.alloc(), moves)?, "{variant:?} {seed}");
+        let world = VariantWorld::new(rt.alloc(), variant, 3, 1_000_000, 64, 1)?;
+        all |= cases(world, &found)?;
+    }
+    check(all == ALL, "each case")
+}

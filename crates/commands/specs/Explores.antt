@@ -8,7 +8,7 @@ use Rattle.rmeworld.specs.WorldState.{new_refusal}
 use Rattle.schedule.specs.Tapes.{Tape, Writes}
 use Rattle.schedule.specs.Schedules.{Scheduled, spelling}
 use Rattle.schedule.specs.Wholes.{Silent}
-use Rattle.explorer.specs.Paths.{HasMoreStates, IsNumberOfStates}
+use Rattle.explorer.specs.Paths.{HasMoreStatesWithin, IsNumberOfStates}
 use Rattle.schedule.specs.Words.{line_of}
 use Rattle.crashlab.specs.declared.variant.Variant.TheVariants.{Right}
 use Rattle.crashlab.specs.declared.space.moves.Move.{Move}
@@ -84,9 +84,9 @@ pub record TellsNone (args : ExploreArgs) (before now : Tape) : Type 0 where
 abbrev pub IsNoSize : ExploreArgs → Type 0
 IsNoSize args = (new_refusal (layout_of args) args.limit ≡ None → ⊥) ⊎ ((1 ≤ args.width) × (args.width ≤ 8) → ⊥)
 
--- there are more states than may be kept, and nothing was written
+-- within the bound of moves there are more states than may be kept, and nothing was written
 pub record HasTooMany (args : ExploreArgs) (before now : Tape) : Type 0 where
-  pub more : HasMoreStates (rules search_state_words) (first_search_state args.variant (layout_of args) args.limit args.crashes (calls_of args)) args.states
+  pub more : HasMoreStatesWithin (rules search_state_words) (first_search_state args.variant (layout_of args) args.limit args.crashes (calls_of args)) args.moves args.states
   pub silent : Silent before now
 
 -- how `explore` ends

@@ -1,5 +1,5 @@
 -- What the program does with files, and when it writes to standard error.
-use Rattle.std.specs.Prelude.{◌≡◌, ◌≤◌, ◌⊎◌, ℕ, List, ◌++◌, [], true, false, String, string_bytes, Vec, Option, None, is_some, option_to_list, Result, Ok, Err, OnOk}
+use Rattle.std.specs.Prelude.{◌≡◌, ◌≤◌, ◌⊎◌, ℕ, List, ◌++◌, [], true, false, String, string_bytes, Vec, Option, None, is_some, option_to_list, Result, Ok, Err, IfOk, OnOk}
 use Rattle.std.specs.declared.alloc.Global.{Global}
 use Rattle.commands.specs.declared.schedules.ending.Ending.{Ending}
 use Rattle.commands.specs.declared.schedules.fault.CommandFault.{CommandFault}
@@ -9,11 +9,11 @@ use Rattle.cli.specs.declared.arguments.args.Command.{Command}
 use Rattle.cli.specs.declared.arguments.words.WordsFault.{WordsFault}
 use Rattle.cli.specs.declared.arguments.words.WordsFault.TheVariants as words
 use Rattle.commands.specs.Commands.{CommandEnds}
-use Rattle.commands.specs.Endings.{IsBroken}
+use Rattle.commands.specs.Endings.{IsBroken, IsEnded}
 use Rattle.cli.specs.FilesNamed.{image_of, input_of, save_of}
 use Rattle.commands.specs.Lines.{fault_line, IsTold}
 use Rattle.cli.specs.Sizes.{IsSized}
-use Rattle.commands.specs.Statuses.{status_ended, status_of}
+use Rattle.commands.specs.Statuses.{save_ended, status_ended, status_of}
 
 -- ---- files
 
@@ -91,6 +91,14 @@ Tells said says (Err fault) = IsTold said says (fault_line fault)
 pub record Closes (said says : Tape) (end : Result Ending CommandFault) (status : ℕ) : Type 0 where
   pub status_is : status ≡ status_ended end
   pub tells : Tells said says end
+
+-- a command is carried out over a reader and two writers, and its fault reported. What is to be saved is the save of its end
+pub record CarriesOut (command : Command) (image : Option (List ℕ)) (old new : Reading) (blank written said says : Tape) (ending : Ending) : Type 0 where
+  pub end : Result Ending CommandFault
+  pub ends : CommandEnds command image old new blank written end
+  pub ended : IfOk end (IsEnded (is_some (save_of command)) blank.failures written.failures)
+  pub closes : Closes said says end ending.status
+  pub save_is : ending.save ≡ save_ended end
 
 -- a command is carried out, and its fault reported
 abbrev pub Obeys : Command → Used → Used → Reading → Reading → Tape → Tape → Tape → Tape → ℕ → Type 0

@@ -1,5 +1,5 @@
 -- How a replay ends.
-use Rattle.std.specs.Prelude.{◌≡◌, ◌≢◌, ℕ, Bool, false, List, Option, None, IfSome, Vec, Result, Ok, IfOk}
+use Rattle.std.specs.Prelude.{◌≡◌, ◌≢◌, ℕ, Bool, false, List, Option, None, is_some, IfSome, Vec, Result, Ok, IfOk}
 use Rattle.std.specs.declared.alloc.Global.{Global}
 use Rattle.crashlab.specs.declared.variant.Variant.TheVariants.{Right}
 use Rattle.rmeworld.specs.declared.image.Image.{Image}
@@ -67,4 +67,4 @@ abbrev pub ReplayEnds : ReplayArgs → Option (List ℕ) → Reading → Reading
 ReplayEnds args image old new before now end =
     (status_ended end ≡ 1 → args.variant ≢ Right) × (IsPlainReplay args image → TellsReplay old new before now end)
     × (IsNew args image → IfOk end (λ ending. SavesLast old new ending.save))
-    × (IsTold args image → TellsRead args.variant (Replayed args.each) image old new before now end) × TellsReads old new end
+    × (IsTold args image → TellsRead args.variant (Replayed args.each (is_some args.save)) image old new before now end) × TellsReads old new end

@@ -1,6 +1,7 @@
 -- Exit statuses: 0 is fine, 1 a verdict against, 2 a fault of the input, 3 a fault of a device, of memory or of a member, or
 -- too many states in a search.
-use Rattle.std.specs.Prelude.{ℕ, Option, Some, None, Result, Ok, Err}
+use Rattle.std.specs.Prelude.{ℕ, Vec, Option, Some, None, Result, Ok, Err}
+use Rattle.std.specs.declared.alloc.Global.{Global}
 use Rattle.schedule.specs.declared.texts.fault.TextFault.{TextFault}
 use Rattle.schedule.specs.declared.texts.fault.TextFault.TheVariants as of_text
 use Rattle.schedule.specs.declared.replays.replay_fault.ReplayFault.{ReplayFault}
@@ -59,6 +60,11 @@ fault_of_text of_text.OutOfMemory = OutOfMemory
 abbrev pub status_ended : Result Ending CommandFault → ℕ
 status_ended (Ok ending) = ending.status
 status_ended (Err fault) = status_of fault
+
+-- the image to be saved. After a fault there is none
+abbrev pub save_ended : Result Ending CommandFault → Option (Vec ℕ Global)
+save_ended (Ok ending) = ending.save
+save_ended (Err fault) = None
 
 -- the program's result for the result of a replay
 abbrev pub answer_told : Result Verdict ReplayFault → Result Verdict CommandFault

@@ -1,5 +1,5 @@
 -- What is written of a schedule's run, on the machine that is asked for: a drawing, the run step by step, or its report.
-use Rattle.std.specs.Prelude.{◌≡◌, ◌≢◌, ◌⊎◌, ℕ, ◌+◌, ◌-◌, ◌^◌, min, Bool, true, false, List, Option, Some, None, Result, Ok, Err}
+use Rattle.std.specs.Prelude.{◌≡◌, ◌≢◌, ◌⊎◌, ℕ, ◌+◌, ◌-◌, ◌^◌, min, Bool, true, false, List, Option, Some, None, Result, Ok, Err, IfOk, IfSome, IsOk}
 use Rattle.std.proofs.Math.ListN.{replicate}
 use Rattle.crashlab.specs.declared.variant.Variant.{Variant}
 use Rattle.crashlab.specs.declared.variant.Variant.TheVariants.{Right}
@@ -20,12 +20,13 @@ use Rattle.judge.specs.Table.{State, empty}
 use Rattle.judge.specs.declared.start.Start.{Start}
 use Rattle.rmeworld.specs.declared.image.Image.{Image}
 use Rattle.rmeworld.specs.ImageRules.{IsLawfulImage}
+use Rattle.rmeworld.specs.ImageText.{image_line}
 use Rattle.rmeworld.specs.ImageStart.{IsStartOf}
 use Rattle.rmeworld.specs.Replayed.{image_of, world_behaviour}
 use Rattle.rmeworld.specs.WorldState.{image_world, new_world}
 use Rattle.schedule.specs.declared.replays.replay_fault.ReplayFault.{ReplayFault}
 use Rattle.schedule.specs.declared.replays.verdict.Verdict.{Verdict}
-use Rattle.schedule.specs.Tapes.{Tape, Writes, Begins, Reading}
+use Rattle.schedule.specs.Tapes.{Tape, Writes, Begins, BreaksOff, Reading}
 use Rattle.schedule.specs.Runs.{run_on}
 use Rattle.rmeworld.specs.Behaviours.{Behaviour}
 use Rattle.schedule.specs.Replays.{Replays}
@@ -39,20 +40,21 @@ use Rattle.schedule.specs.Wholes.{Silent, WasRead, layout_of}
 
 -- ---- one run
 
--- a drawing, or a replay: with a line for each step, or the report alone
+-- a drawing, or a replay: with a line for each step, or the report alone; and whether its last image is to be saved
 pub data Manner : Type 0 where
   Drawn : Style → Manner
-  Replayed : Bool → Manner
+  Replayed : Bool → Bool → Manner
 
 -- the status of a run that is drawn to its end is that of its verdict; if a line was refused, that is the fault
 abbrev pub ending_of : End → Result Ending CommandFault
 ending_of (ends.Judged verdict) = Ok (record { status = status_after verdict; save = None })
 ending_of (ends.Refused line number verdict) = Err (faults.Refused line number)
 
--- the text of a drawing was written, or a prefix of it if the device or memory has failed
+-- the text of a drawing was written, or a prefix of it if the device or memory has failed. Out of memory leaves some of it
+-- unwritten
 abbrev pub IsWritten : Tape → Tape → List ℕ → End → Result Ending CommandFault → Type 0
 IsWritten before now text last (Err faults.Write) = Begins before.taken now.taken text × (now.failures ≡ min (before.failures + 1) (2 ^ 64 - 1))
-IsWritten before now text last (Err faults.OutOfMemory) = Begins before.taken now.taken text × (now.failures ≡ before.failures)
+IsWritten before now text last (Err faults.OutOfMemory) = BreaksOff before.taken now.taken text × (now.failures ≡ before.failures)
 IsWritten before now text last end = Writes before now text × (end ≡ ending_of last)
 
 -- the rows of the drawing show exactly the steps and crashes of the schedule's run on a machine, and how it ends
@@ -69,11 +71,17 @@ AnswersRun true b picture_of start s first schedule before now answer =
     Follows before now start picture_of (run_on b 2 s schedule.lines) (followed (sizes_of (head_of schedule)) (replicate schedule.procs first) (events_on b s schedule.lines)) answer
 AnswersRun false b picture_of start s first schedule before now answer = Replays before now start picture_of (run_on b 2 s schedule.lines) answer
 
--- the run was written, and the command has that result; or there was no memory for the image to be saved
-pub record ReplaysRun {S : Type 0} (each : Bool) (b : Behaviour S) (picture_of : S → Image) (start : State) (s : S) (first : LifelinePhase) (schedule : Scheduled) (before now : Tape) (end : Result Ending CommandFault) : Type 0 where
+-- out of memory for the image that is to be saved, after a verdict
+abbrev pub WantsImage : Bool → Result Verdict ReplayFault → Result Ending CommandFault → Type 0
+WantsImage saves answer end = (saves ≡ true) × IsOk answer × (end ≡ Err faults.OutOfMemory)
+
+-- the run was written, and the command has that result; or it was out of memory for the image to be saved. The image is
+-- the one after the run
+pub record ReplaysRun {S : Type 0} (each saves : Bool) (b : Behaviour S) (picture_of : S → Image) (start : State) (s : S) (first : LifelinePhase) (schedule : Scheduled) (before now : Tape) (end : Result Ending CommandFault) : Type 0 where
   pub answer : Result Verdict ReplayFault
   pub answers : AnswersRun each b picture_of start s first schedule before now answer
-  pub ends_so : (outcome end ≡ outcome_told answer) ⊎ (end ≡ Err faults.OutOfMemory)
+  pub ends_so : (outcome end ≡ outcome_told answer) ⊎ WantsImage saves answer end
+  pub last : IfOk end (λ ending. IfSome ending.save (λ text. text.items ≡ image_line (picture_of (run_on b 2 s schedule.lines).left)))
 
 -- nothing is written: out of memory
 pub record Wants (before now : Tape) (end : Result Ending CommandFault) : Type 0 where
@@ -83,7 +91,7 @@ pub record Wants (before now : Tape) (end : Result Ending CommandFault) : Type 0
 -- the run is written in this manner, or there was no memory
 abbrev pub Tells : {S : Type 0} → Manner → Behaviour S → (S → Image) → State → S → LifelinePhase → Scheduled → Tape → Tape → Result Ending CommandFault → Type 0
 Tells (Drawn style) b picture_of start s first schedule before now end = DrawsRun b start s first style schedule before now end ⊎ Wants before now end
-Tells (Replayed each) b picture_of start s first schedule before now end = ReplaysRun each b picture_of start s first schedule before now end ⊎ Wants before now end
+Tells (Replayed each saves) b picture_of start s first schedule before now end = ReplaysRun each saves b picture_of start s first schedule before now end ⊎ Wants before now end
 
 -- ---- the machine that is asked for
 

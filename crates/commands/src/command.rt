@@ -1,11 +1,11 @@
 //! The commands, over a reader and two writers.
 
-ghost use Rattle.std.specs.Prelude.{◌≡◌, Result, IfErr, IfOk, OnOk, is_some, option_copied, true, false};
+ghost use Rattle.std.specs.Prelude.{◌≡◌, IfErr, IfOk, OnOk, is_some, option_copied, true, false};
 ghost use Rattle.crashlab.specs.Hunts.{IsFound};
 ghost use Rattle.commands.specs.Commands.{CommandEnds, ExplainEnds, HuntEnds, JudgeEnds, TellsFound};
 ghost use Rattle.commands.specs.Endings.{IsEnded};
 ghost use Rattle.cli.specs.FilesNamed.{save_of};
-ghost use Rattle.commands.specs.Programs.{Closes};
+ghost use Rattle.commands.specs.Programs.{CarriesOut};
 ghost use Rattle.commands.specs.Statuses.{status_of};
 
 use crate::exploring::explore_command;
@@ -182,8 +182,8 @@ pub fn command_shown<T: Threads + Wait + Sync, S: Screen, R: Source, W: Sink, E:
     w: &mut W,
     e: &mut E,
 ) -> Ending
-    ensures ends { (end : Result Ending CommandFault) × CommandEnds command.now (option_copied image.entry) (R.reading r.old)
-        (R.reading r.new) (W.tape w.old) (W.tape w.new) end × Closes (E.tape e.old) (E.tape e.new) end result.status }
+    ensures ends { CarriesOut command.now (option_copied image.entry) (R.reading r.old) (R.reading r.new) (W.tape w.old)
+        (W.tape w.new) (E.tape e.old) (E.tape e.new) result }
     ensures unsaved { is_some (save_of command.now) ≡ false → is_some result.save ≡ false }
 {
     match ended(rt, alloc, command, image, screen, r, w) {
@@ -205,8 +205,8 @@ pub fn command<T: Threads + Wait + Sync, R: Source, W: Sink, E: Sink>(
     w: &mut W,
     e: &mut E,
 ) -> Ending
-    ensures ends { (end : Result Ending CommandFault) × CommandEnds command.now (option_copied image.entry) (R.reading r.old)
-        (R.reading r.new) (W.tape w.old) (W.tape w.new) end × Closes (E.tape e.old) (E.tape e.new) end result.status }
+    ensures ends { CarriesOut command.now (option_copied image.entry) (R.reading r.old) (R.reading r.new) (W.tape w.old)
+        (W.tape w.new) (E.tape e.old) (E.tape e.new) result }
     ensures unsaved { is_some (save_of command.now) ≡ false → is_some result.save ≡ false }
 {
     command_shown(rt, alloc, command, image, &mut NoScreen, r, w, e)

@@ -1,6 +1,6 @@
 //! The command `replay`.
 
-ghost use Rattle.std.specs.Prelude.{◌≡◌, ◌≤◌, IfErr, IfOk, IfSome, None, Result, is_some, option_copied, false};
+ghost use Rattle.std.specs.Prelude.{◌≡◌, ◌≤◌, IfErr, IfOk, IfSome, None, Result, is_some, option_copied, false, true};
 ghost use Rattle.judge.specs.Stands.{Keeps};
 ghost use Rattle.judge.specs.Starts.{IsStart, state_of};
 ghost use Rattle.judge.specs.Table.{State};
@@ -122,7 +122,7 @@ fn saved<M: Machine>(
     save: bool,
 ) -> Result<Option<Vec<u8>>, CommandFault>
     ensures asked { IfOk result (λ text. is_some text ≡ save) }
-    ensures memory { IfErr result (λ fault. fault ≡ CommandFault.OutOfMemory) }
+    ensures memory { IfErr result (λ fault. (fault ≡ CommandFault.OutOfMemory) × (save ≡ true)) }
     ensures last { IfOk result (λ text. IfSome text (λ image. image.items ≡ image_line (M.behaviour.image_of machine.now))) }
 {
     if !save {
@@ -151,7 +151,7 @@ fn replay_machine<M: Machine, W: Sink>(
         → IfOk result (IsReplayed start (run_on M.behaviour 2 machine.old schedule.now.lines) M.behaviour.image_of
         (is_some args.now.save) (W.tape w.old).failures (W.tape w.new).failures) }
     ensures told { args.now.json ≡ false → (start : State) → Keeps judge.old start
-        → Tells (Replayed args.now.each) M.behaviour M.behaviour.image_of start machine.old first schedule.now
+        → Tells (Replayed args.now.each (is_some args.now.save)) M.behaviour M.behaviour.image_of start machine.old first schedule.now
         (W.tape w.old) (W.tape w.new) result }
 {
     let verdict = play(alloc, machine, judge, schedule, first, args, w)?;
@@ -171,7 +171,8 @@ fn replay_new<W: Sink>(
 ) -> Result<Ending, CommandFault>
     ensures fine { IfOk result (λ ending. ending.status ≡ 0) }
     ensures last { IfOk result (λ ending. IfSome ending.save (λ image. IsLast schedule.now image.items)) }
-    ensures told { args.now.json ≡ false → TellsNew (Replayed args.now.each) schedule.now (W.tape w.old) (W.tape w.new) result }
+    ensures told { args.now.json ≡ false → TellsNew (Replayed args.now.each (is_some args.now.save)) schedule.now
+        (W.tape w.old) (W.tape w.new) result }
     ensures ended { IfOk result (IsEnded (is_some args.now.save) (W.tape w.old).failures (W.tape w.new).failures) }
 {
     worlds_are_never_found_out();
@@ -198,7 +199,8 @@ fn replay_image<W: Sink>(
 ) -> Result<Ending, CommandFault>
     requires { IsLawfulImage image }
     ensures fine { IfOk result (λ ending. ending.status ≡ 0) }
-    ensures told { args.now.json ≡ false → TellsImage image (Replayed args.now.each) schedule.now (W.tape w.old) (W.tape w.new) result }
+    ensures told { args.now.json ≡ false → TellsImage image (Replayed args.now.each (is_some args.now.save)) schedule.now
+        (W.tape w.old) (W.tape w.new) result }
     ensures ended { IfOk result (IsEnded (is_some args.now.save) (W.tape w.old).failures (W.tape w.new).failures) }
 {
     let image = fitting(alloc, image, schedule)?;
@@ -219,8 +221,8 @@ fn replay_started<W: Sink>(
     requires begins { IsStartOf image.now start.now }
     requires judged { IsStart start.now }
     ensures fine { IfOk result (λ ending. ending.status ≡ 0) }
-    ensures told { args.now.json ≡ false → Tells (Replayed args.now.each) world_behaviour image_of (state_of start.now)
-        (world_of_image image.now) LifelinePhase.Dead schedule.now (W.tape w.old) (W.tape w.new) result }
+    ensures told { args.now.json ≡ false → Tells (Replayed args.now.each (is_some args.now.save)) world_behaviour image_of
+        (state_of start.now) (world_of_image image.now) LifelinePhase.Dead schedule.now (W.tape w.old) (W.tape w.new) result }
     ensures ended { IfOk result (IsEnded (is_some args.now.save) (W.tape w.old).failures (W.tape w.new).failures) }
 {
     worlds_are_never_found_out();
@@ -244,7 +246,7 @@ fn replay_variant<W: Sink>(
     args: &ReplayArgs,
     w: &mut W,
 ) -> Result<Ending, CommandFault>
-    ensures told { args.now.json ≡ false → TellsVariant args.now.variant (Replayed args.now.each) schedule.now
+    ensures told { args.now.json ≡ false → TellsVariant args.now.variant (Replayed args.now.each (is_some args.now.save)) schedule.now
         (W.tape w.old) (W.tape w.new) result }
     ensures ended { IfOk result (IsEnded (is_some args.now.save) (W.tape w.old).failures (W.tape w.new).failures) }
 {
@@ -273,8 +275,8 @@ fn replay_schedule<W: Sink>(
     ensures fine { args.now.variant ≡ Variant.Right → IfOk result (λ ending. ending.status ≡ 0) }
     ensures last { args.now.variant ≡ Variant.Right → is_some image ≡ false
         → IfOk result (λ ending. IfSome ending.save (λ image. IsLast schedule.now image.items)) }
-    ensures told { args.now.json ≡ false → TellsSchedule args.now.variant image (Replayed args.now.each) schedule.now
-        (W.tape w.old) (W.tape w.new) result }
+    ensures told { args.now.json ≡ false → TellsSchedule args.now.variant image
+        (Replayed args.now.each (is_some args.now.save)) schedule.now (W.tape w.old) (W.tape w.new) result }
     ensures ended { IfOk result (IsEnded (is_some args.now.save) (W.tape w.old).failures (W.tape w.new).failures) }
 {
     match (image, args.variant) {

@@ -124,6 +124,15 @@ static void note(const struct rme_process *process, uint64_t told, const struct 
         name(slot, access->store, access->place, access->value);
 }
 
+/* Whether the run stores into this word once more: then what it holds now says nothing of this access. */
+static bool is_overwritten(const struct named *slot, uint64_t i, uint64_t before)
+{
+    for (uint64_t j = i + 1; j <= before; j++)
+        if (slot->accesses[j].store && slot->accesses[j].place == slot->accesses[i].place)
+            return true;
+    return false;
+}
+
 /* The accesses that were named are made, this many of them before the last, which reads this value; the others read 0. */
 static void compare(const struct rme_process *p, uint64_t before, uint64_t value)
 {
@@ -137,6 +146,8 @@ static void compare(const struct rme_process *p, uint64_t before, uint64_t value
     for (uint64_t i = 0; i <= before; i++) {
         const struct rme_access *named = &slot->accesses[i];
         const uint64_t read = i == before ? value : 0;
+        if (is_overwritten(slot, i, before))
+            continue;
         if (named->store && named->place < monitor->words && word_of(named->place) != named->value)
             monitor_refuses("a store that was named is not made", named, word_of(named->place));
         if (!named->store && word_of(named->place) != read)

@@ -13,7 +13,7 @@
 
 const char *path;
 uint64_t width, length, words, messages[VICTIMS];
-bool still;
+bool still, pair;
 struct shared *shared;
 unsigned char *file;
 
@@ -237,7 +237,7 @@ static void session(enum role role, uint64_t index)
 static void reap(uint64_t index)
 {
     const bool marked = (*mark(index) & RME_ATTACHED) != 0;
-    shared->duty[index].found |= is_inside(index);
+    shared->duty[index].found |= !pair && is_inside(index);
     expect("reap", TRACED(rme_reap(path, index, repair, shared)), marked ? 0 : ESRCH);
     if (marked)
         shared->duty[index].reaped = 1;

@@ -12,7 +12,7 @@ struct duty {
     uint64_t stored;   /* the number of the last append that was answered */
     uint64_t closed;   /* a close was answered */
     uint64_t reaped;   /* a reaping was answered, and no attach after it */
-    uint64_t found;    /* a reaper began where it stood inside, and no attach after it */
+    uint64_t found;    /* a reaper began where it stood inside, and no attach after it; of a pair it is not asked */
 };
 
 /* Shared by the tracer and its children. */
@@ -27,7 +27,7 @@ enum role { RESTART, RECOVER, GLANCE, REAP, LOCK_REAPING, ROLES };
 
 extern const char *path;
 extern uint64_t width, length, words, messages[VICTIMS];
-extern bool still; /* index 1 lives, and stands where it stands */
+extern bool still, pair; /* index 1 lives, and stands where it stands; it dies too */
 extern struct shared *shared;
 extern unsigned char *file;
 

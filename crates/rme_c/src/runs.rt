@@ -173,7 +173,7 @@ fn peeked(p: &mut RmeProcess, zeros: u64, value: u64, steps: u64, next: &mut Rme
     requires steps { steps ≡ p.old.steps + zeros + 1 }
     ensures { IsFedRun (fed_zeros zeros (counted_of p.old)) value p.new next.new result }
 {
-    // For the proof alone: their values are read.
+    // For the proof alone: its value is read.
     let _ = (zeros, value);
     p.position = at(256, 0, p.position.second, p.procs);
     p.steps = steps;
@@ -202,7 +202,7 @@ fn passed(
     requires steps { steps ≡ p.old.steps + zeros + 1 }
     ensures { IsFedRun (fed_zeros zeros (counted_of p.old)) value p.new next.new result }
 {
-    // For the proof alone: their values are read.
+    // For the proof alone: its value is read.
     let _ = (zeros, value, from);
     p.position = at(257, greatest + 1, p.position.second, p.procs);
     p.steps = steps;
@@ -230,7 +230,7 @@ fn marked(
     requires steps { steps ≡ p.old.steps + zeros + 1 }
     ensures { IsFedRun (fed_zeros zeros (counted_of p.old)) value p.new next.new result }
 {
-    // For the proof alone: their values are read.
+    // For the proof alone: its value is read.
     let _ = (number, from, zeros);
     let q = p.position;
     p.unmended = 0;

@@ -56,9 +56,9 @@ AnsweredIsShown s es =
     (front : List TakenStep) (e : TakenStep) (back : List TakenStep) (seq : ℕ) (reply : Reply) → es ≡ (front ++ e ∷ []) ++ back → EndsAppend s front e seq reply
     → (reply ≡ Stored) ⊎ (reply ≡ Already) → IsAmong e.by seq (shown_by s (front ++ e ∷ []))
 
--- `plain`: no two are inside; one that crashed inside is the next to enter; first come, first served; each sender's messages
--- once and in order. `legal`: the judge allows the deeds one after another. The words at the end are such as a crash of all
--- processes leaves.
+-- `plain`: no two are inside; nobody enters before one that crashed inside has entered again; first come, first served; each
+-- sender's messages once and in order. `legal`: the judge allows the deeds one after another. The words at the end are such as
+-- a crash of all processes leaves.
 pub record IsSoundRun (s : Setup) (es : List TakenStep) : Type 0 where
   pub legal : IsLegal s.layout.procs s.layout.cap (deeds_of s es)
   pub plain : IsPlain (deeds_of s es)

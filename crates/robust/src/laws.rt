@@ -7,8 +7,8 @@ ghost use Rattle.execution.specs.Tabled.{CallsKeepTheTable};
 ghost use Rattle.execution.specs.WholeSteps.{StoredAppendSteps};
 
 /// The headline. For any number of processes, any limit and room, and any list of entries that is a run, with or without
-/// crashes, the deeds are legal: the judge allows each of them. So no two processes are inside; one that crashed inside is
-/// the next to enter; one whose doorway was finished before another's super-passage began enters first unless it withdrew;
+/// crashes, the deeds are legal: the judge allows each of them. So no two processes are inside; nobody enters before one that
+/// crashed inside has entered again; one whose doorway was finished before another's super-passage began enters first unless it withdrew;
 /// and each sender's messages are in the mailbox once, in order, none after closing. The words at the end of the run are
 /// lawful, and each append that was answered Stored or Already is shown.
 pub fn every_run_is_sound()

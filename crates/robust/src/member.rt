@@ -75,8 +75,8 @@ impl Member {
         self.call_driver.setup()
     }
 
-    /// Which process it is, from 0. The run of which its view is a prefix is sound: no two are inside, one that crashed
-    /// inside is the next to enter, first come, first served, and each sender's messages are there once, in order.
+    /// Which process it is, from 0. The run of which its view is a prefix is sound: no two are inside, nobody enters
+    /// before one that crashed inside has entered again, first come, first served, and each sender's messages are there once, in order.
     pub fn number(&self) -> u64
         ensures is { result ≡ self.now.seat_view.by }
         ensures seat_view { IsSeatView self.now.seat_view }

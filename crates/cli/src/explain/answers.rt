@@ -65,7 +65,8 @@ const CLOSED_NOW: &str =
 
 const ALREADY_CLOSED: &str = "The mailbox was closed before. Nothing was written.";
 
-const WORD: &str = "A word of the board was read. It stands behind, as in `answer 0 word 7`.";
+const WORD: &str =
+    "A word of the board was read. It comes after the name, as in `answer 0 word 7`.";
 
 const DONE: &str = "A word of the board was written. The messages stay as they are.";
 
@@ -77,11 +78,11 @@ const NOTHING_TO_MEND: &str =
     "No message was committed and left. The process holds the lock as any other from here on.";
 
 const RUINED: &str =
-    "The task Check read that the lock is ruined. It is told to programs alone: in a report the lock answers \
+    "The task Check read that the lock is ruined. Only programs get this answer: in a report the lock answers \
 `not-recoverable`.";
 
 const NOT_RUINED: &str =
-    "The task Check read that the lock is not ruined. It is told to programs alone: in a report the lock answers `clean` \
+    "The task Check read that the lock is not ruined. Only programs get this answer: in a report the lock answers `clean` \
 or `owner-died`.";
 
 fn of_lock(name: &'static str, text: &'static str) -> Meaning

@@ -34,13 +34,13 @@ const BAD_CAP: &str =
 
 const BAD_IMAGE: &str =
     "The first line doesn't fit the image: its processes, limit and capacity have to be the image's, and its width not \
-below. An image that is wrong in itself is told by the rule that it breaks.";
+below. For an image that is wrong in itself the refusal is the rule that it breaks.";
 
 const NOT_INCONSISTENT: &str =
     "The process holds nothing that it has to mend: it came in by the line, or has mended already. POSIX says EINVAL.";
 
 const BAD_SHAPE: &str =
-    "The words are not those of a mailbox, or no judge can begin from such a start. It is told to programs alone: a \
+    "The words are not those of a mailbox, or no judge can begin from such a start. Only programs get this refusal: a \
 report says `mail broken`.";
 
 const UNMENDED: &str =

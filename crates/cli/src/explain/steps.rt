@@ -30,7 +30,7 @@ reads the same word.";
 
 const MARK: &str =
     "Stores inside := 1, which is the deed Enter, or inside := 0, the end of an exit. The one comes when all others are \
-passed, the other behind a drop.";
+passed, the other after a drop.";
 
 const DROP: &str = "Stores number := 0. That is the deed Leave, or in a withdraw the deed Quit.";
 

@@ -11,7 +11,7 @@ use schedule::LineFault;
 
 const NO_HEADER: &str =
     "The first line is no header, or there is no line at all. A schedule begins with `rme 1 procs N limit L cap C` and a \
-trace with `trace 1 procs N cap C`; where it reads 2 in place of 1, `width W` stands behind.";
+trace with `trace 1 procs N cap C`; where it reads 2 in place of 1, `width W` follows.";
 
 const BAD_WORD: &str =
     "The first word of the line is no command of a schedule, or no deed of a trace. An empty line has an empty first \

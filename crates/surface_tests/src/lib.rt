@@ -1,12 +1,12 @@
-//! Names each public item of the specification up to `robust` by the path and with the signature that the specification
-//! gives it, so that none of them can move, change or go without this crate failing to compile. What the items do is tested
-//! elsewhere.
+//! Names each public item of the specification by the path and with the signature that the specification gives it, so that
+//! none of them can move, change or go without this crate failing to compile. What the items do is tested elsewhere.
 #![tactic(auto)]
 
 pub mod four_methods;
 pub mod of_crashlab;
 pub mod of_judge;
 pub mod of_one_lock;
+pub mod of_program;
 pub mod of_redomail;
 pub mod of_rmecore;
 pub mod of_rmeworld;

@@ -1,0 +1,143 @@
+//! The items of `rmelab`. No crate can use a program, so they are named here as `cli` and `commands` have them; the program's
+//! `main.rt` hands the same five on.
+
+use cli::{
+    Command, DictionaryEntry, ENTRIES, Meaning, Rule, WordsFault, dictionary_entry_named,
+    meaning_of, read_words, tell_all_names, tell_dictionary_entry,
+};
+use commands::command::{command, command_shown};
+use commands::folder::Folder;
+use commands::program::{obey, program, run_program};
+use commands::{Ending, NoScreen, Screen};
+use schedule::{Failed, Sink, Source};
+use std::alloc::Global;
+use std::io::{Read, Write};
+use std::process::ExitCode;
+use std::sync::Wait;
+use std::thread::Threads;
+
+pub fn read(alloc: Global, words: &[String]) -> Result<Command, WordsFault> {
+    read_words(alloc, words)
+}
+
+pub fn carry_out<T: Threads + Wait + Sync, R: Source, W: Sink, E: Sink>(
+    rt: &T,
+    alloc: Global,
+    read: &Command,
+    image: Option<&[u8]>,
+    r: &mut R,
+    w: &mut W,
+    e: &mut E,
+) -> Ending {
+    command(rt, alloc, read, image, r, w, e)
+}
+
+/// The same, with its progress on a screen.
+pub fn carry_out_shown<T: Threads + Wait + Sync, S: Screen, R: Source, W: Sink, E: Sink>(
+    rt: &T,
+    alloc: Global,
+    read: &Command,
+    image: Option<&[u8]>,
+    screen: &mut S,
+    r: &mut R,
+    w: &mut W,
+    e: &mut E,
+) -> Ending {
+    command_shown(rt, alloc, read, image, screen, r, w, e)
+}
+
+pub fn fields_of_ending(ending: Ending) -> (u8, Option<Vec<u8>>) {
+    (ending.status, ending.save)
+}
+
+pub fn is_of_clap(fault: &WordsFault) -> bool {
+    match fault {
+        WordsFault::Help { text: _ } | WordsFault::Refused { text: _ } => true,
+        WordsFault::BadVariant
+        | WordsFault::BadSize
+        | WordsFault::Unreadable
+        | WordsFault::OutOfMemory => false,
+    }
+}
+
+pub fn runs_threads(read: &Command) -> bool {
+    match read {
+        Command::Run(_) => true,
+        Command::Replay(_)
+        | Command::Hunt(_)
+        | Command::Explore(_)
+        | Command::Judge(_)
+        | Command::Draw(_)
+        | Command::Shrink(_)
+        | Command::Explain(_) => false,
+    }
+}
+
+pub fn obeyed<T: Threads + Wait + Sync, F: Folder, R: Source, W: Sink, E: Sink>(
+    rt: &T,
+    alloc: Global,
+    read: &Command,
+    folder: &mut F,
+    r: &mut R,
+    w: &mut W,
+    e: &mut E,
+) -> u8 {
+    obey(rt, alloc, read, folder, &mut NoScreen, r, w, e)
+}
+
+pub fn run<T: Threads + Wait + Sync, F: Folder, R: Source, W: Sink, E: Sink>(
+    rt: &T,
+    alloc: Global,
+    words: Vec<String>,
+    folder: &mut F,
+    r: &mut R,
+    w: &mut W,
+    e: &mut E,
+) -> u8 {
+    program(rt, alloc, Ok(words), folder, &mut NoScreen, r, w, e)
+}
+
+/// What `main` of the program calls.
+pub fn run_devices<T: Threads + Wait + Sync, F: Folder, S: Screen>(
+    rt: &T,
+    alloc: Global,
+    words: Result<Vec<String>, WordsFault>,
+    folder: &mut F,
+    screen: &mut S,
+    input: impl Read + Drop,
+    output: impl Write + Drop,
+    errors: impl Write + Drop,
+) -> ExitCode {
+    run_program(rt, alloc, words, folder, screen, input, output, errors)
+}
+
+pub fn entry_named(name: &str) -> Option<DictionaryEntry> {
+    dictionary_entry_named(name)
+}
+
+pub fn rule_in(entry: DictionaryEntry) -> Option<Rule> {
+    match entry {
+        DictionaryEntry::Rule(rule) => Some(rule),
+        DictionaryEntry::Fault(_)
+        | DictionaryEntry::Refused(_)
+        | DictionaryEntry::Against(_)
+        | DictionaryEntry::Answer(_)
+        | DictionaryEntry::Step(_) => None,
+    }
+}
+
+pub fn explained(entry: DictionaryEntry) -> Meaning {
+    meaning_of(entry)
+}
+
+pub fn write_meaning<W: Sink>(entry: DictionaryEntry, w: &mut W) -> Result<(), Failed> {
+    tell_dictionary_entry(entry, w)
+}
+
+pub fn write_names<W: Sink>(w: &mut W) -> Result<(), Failed> {
+    tell_all_names(w)
+}
+
+pub fn how_many_entries() -> usize {
+    ENTRIES.len()
+}

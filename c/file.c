@@ -1,17 +1,12 @@
 /* The file that processes share: making and opening it, who has which index of it, and how it stands. */
-#define _GNU_SOURCE
 #include "shim.h"
 
-#include <errno.h>
-#include <fcntl.h>
 #include <limits.h>
 #include <stdio.h>
 #include <stdlib.h>
 #include <string.h>
 #include <sys/mman.h>
 #include <sys/stat.h>
-#include <time.h>
-#include <unistd.h>
 
 _Static_assert(sizeof(struct rme_header) <= PAGE && 64 * LINE * 8 <= PAGE, "the header lies in a page, and so do all lines");
 
@@ -171,9 +166,8 @@ void rme_become(struct rme_seat *s, uint64_t index, bool crashed)
     rme_init(&s->machine, m.procs, m.cap, m.width, m.limit, index);
     s->crashed = crashed;
     s->blocked_at = NULL;
-    if (!crashed)
-        return;
-    rme_crash(&s->machine);
+    if (crashed)
+        rme_crash(&s->machine);
     for (uint64_t place = 0; place < 3 * m.procs; place += 3) /* it may have been killed asleep */
         __atomic_fetch_and(sleepers_on(s, place), ~own_bit(s), __ATOMIC_SEQ_CST);
 }

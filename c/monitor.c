@@ -1,5 +1,7 @@
 #include "monitor.h"
 
+#include <string.h>
+
 struct monitor *monitor;
 
 uint64_t __real_rme_start(struct rme_process *, const struct rme_call *, struct rme_access *);
@@ -116,6 +118,9 @@ static void note(const struct rme_process *process, uint64_t told, const struct 
         return;
     struct named *slot = slot_of(process);
     slot->count = 0;
+    memset(slot->seen, 0, sizeof slot->seen);
+    for (uint64_t k = 0; k < 3; k++)
+        slot->own[k] = word_of(3 * process->index + k);
     if (told >= RME_RUN)
         name_run(slot, process, told, access->value);
     else if (told >= RME_LOAD)
@@ -124,7 +129,7 @@ static void note(const struct rme_process *process, uint64_t told, const struct 
         name(slot, access->store, access->place, access->value);
 }
 
-/* Whether the run stores into this word once more: then what it holds now says nothing of this access. */
+/* Whether the run stores into this word once more. It is an own word then, which nobody else stores into. */
 static bool is_overwritten(const struct named *slot, uint64_t i, uint64_t before)
 {
     for (uint64_t j = i + 1; j <= before; j++)
@@ -146,11 +151,12 @@ static void compare(const struct rme_process *p, uint64_t before, uint64_t value
     for (uint64_t i = 0; i <= before; i++) {
         const struct rme_access *named = &slot->accesses[i];
         const uint64_t read = i == before ? value : 0;
-        if (is_overwritten(slot, i, before))
-            continue;
-        if (named->store && named->place < monitor->words && word_of(named->place) != named->value)
-            monitor_refuses("a store that was named is not made", named, word_of(named->place));
-        if (!named->store && word_of(named->place) != read)
+        const bool overwritten = is_overwritten(slot, i, before);
+        const uint64_t holds = overwritten ? slot->own[named->place % 3] : word_of(named->place);
+        const bool passed = overwritten && (!monitor->traced || !monitor->stepped || slot->seen[i]);
+        if (named->store && !passed && named->place < monitor->words && holds != named->value)
+            monitor_refuses("a store that was named is not made", named, holds);
+        if (!named->store && holds != read)
             monitor_refuses("the value fed is not that of the word named", named, read);
         monitor->compared++;
     }

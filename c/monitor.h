@@ -1,8 +1,8 @@
 /* Watches the shim between two calls of the machine: each access that the machine names must be the one that the shim makes.
  *
  * monitor.c takes the place of rme_start_run, rme_start, rme_next, rme_feed and rme_feed_run (linked with -Wl,--wrap=rme_start
- * and so on) and passes each call on. Before it passes a value on, it compares: the word named for a store holds the value named, and the value fed for a
- * load is that of the word named. This holds where one process alone steps; a difference is a fault of the shim. */
+ * and so on) and passes each call on. Before it passes a value on, it compares: the word named for a store holds the value named,
+ * and the value fed for a load is that of the word named. This holds where one process alone steps; a difference is a fault of the shim. */
 #ifndef MONITOR_H
 #define MONITOR_H
 #include "rme.h"
@@ -13,7 +13,8 @@ enum { MOST_NAMED = 8 + 3 * 64 };
 struct named {
     const struct rme_process *process;
     struct rme_access accesses[MOST_NAMED];
-    uint64_t count;
+    bool seen[MOST_NAMED]; /* whether a tracer that goes on by single steps has seen the word change so */
+    uint64_t count, own[3]; /* the process's own lock words when they were named */
 };
 
 /* In memory that outlives a kill, where the test asks what was named. Without `file` nothing is watched. */
@@ -22,6 +23,7 @@ struct monitor {
     uint64_t procs, words;
     struct named named[4];
     uint64_t last, compared;
+    uint64_t stepped; /* whether a tracer goes on by single steps at all */
     uint64_t traced, quiet; /* whether a tracer goes on by single steps, but where this is quiet */
 };
 

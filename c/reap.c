@@ -1,10 +1,6 @@
 /* Recovery on behalf of the dead: the place of a process that nobody starts again is given up by another one, which acts as it by
  * the calls of its seat. */
-#define _GNU_SOURCE
 #include "shim.h"
-
-#include <errno.h>
-#include <fcntl.h>
 
 /* Leaves the place that was found. */
 static int give_up(struct rme_seat *dead, int found, rme_repair *repair, void *context)

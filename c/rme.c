@@ -1,14 +1,10 @@
 /* The shim: makes each access that the machine names, as one sequentially consistent load or store, and waits. Nothing here is
  * proved. */
-#define _GNU_SOURCE
 #include "shim.h"
 
-#include <errno.h>
 #include <linux/futex.h>
 #include <sched.h>
 #include <sys/syscall.h>
-#include <time.h>
-#include <unistd.h>
 
 _Static_assert(sizeof(struct rme_process) == 20 * 8 && sizeof(struct rme_call) == 10 * 8 && sizeof(struct rme_access) == 3 * 8,
                "the machine's numbers are u64, one after the other");
@@ -22,89 +18,83 @@ static void futex(uint64_t *word, int operation, uint32_t value, const struct ti
     syscall(SYS_futex, (uint32_t *)word + (__BYTE_ORDER__ == __ORDER_BIG_ENDIAN__), operation, value, most, NULL, 0);
 }
 
-/* After a store of 0 into a lock word. */
-static inline void wake(uint64_t *word, const uint64_t *sleepers)
+/* How many accesses are made, and what the last one read (0 for a store); those before it read 0. */
+struct made {
+    uint64_t count, seen;
+};
+
+static inline bool reads_zero(const uint64_t *word, struct made *made)
 {
-    if (__builtin_expect(load(sleepers) != 0, 0))
-        futex(word, FUTEX_WAKE, MOST_PROCS, NULL);
+    made->count++;
+    return (made->seen = load(word)) == 0;
+}
+
+/* Stores lock word k of a line. All waiting is for lock words to become 0: who sleeps on one is woken then. */
+static inline void put(uint64_t *line, uint64_t k, uint64_t value, struct made *made)
+{
+    store(line + k, value);
+    made->count++;
+    if (value == 0 && __builtin_expect(load(line + SLEEPERS) != 0, 0))
+        futex(line + k, FUTEX_WAKE, MOST_PROCS, NULL);
 }
 
 /* The access that the machine has named. A word that the block does not have reads 0, and no store goes there: only words that no
- * call leaves lead the machine to it. All waiting is for lock words to become 0: who sleeps on one is woken then. */
-static inline uint64_t take(struct rme_seat *s, const struct rme_access *access)
+ * call leaves lead the machine to it. */
+static inline void take(struct rme_seat *s, const struct rme_access *access, struct made *made)
 {
     const uint64_t locks = 3 * s->machine.procs, place = access->place;
-    if (place >= s->count) {
+    if (place >= s->count)
         s->astray = true;
-        return 0;
-    }
-    uint64_t *word = place < locks ? lock_word(s, place) : s->words + (place - locks);
-    if (access->store == 0)
-        return load(word);
-    store(word, access->value);
-    if (access->value == 0 && place < locks)
-        wake(word, sleepers_on(s, place));
-    return 0;
+    else if (access->store && place < locks)
+        put(s->lines + place / 3 * LINE, place % 3, access->value, made);
+    else if (access->store)
+        store(s->words + (place - locks), access->value);
+    else
+        made->seen = load(place < locks ? lock_word(s, place) : s->words + (place - locks));
+    made->count = 1;
 }
 
-/* A store of 0 into an own lock word. */
-static inline void release(uint64_t *own, uint64_t k)
+/* The rest of a scan, from process j on: of each other process word k to number, up to the first that is not 0. */
+static inline bool scan(const struct rme_seat *s, uint64_t j, const uint64_t k, struct made *made)
 {
-    store(own + k, 0);
-    wake(own + k, own + SLEEPERS);
+    const uint64_t *own = s->lines + s->machine.index * LINE, *end = s->lines + s->machine.procs * LINE;
+    for (const uint64_t *line = s->lines + j * LINE; line < end; line += LINE)
+        if (line != own && ((k == 0 && !reads_zero(line, made)) || !reads_zero(line + 1, made)))
+            return false;
+    return true;
 }
 
-/* The rest of a scan, from this line on: of each other process word k to number, up to the first that is not 0, which it answers. */
-static inline uint64_t scan(const uint64_t *line, const uint64_t *end, const uint64_t *own, const uint64_t k, uint64_t *made)
+/* Makes the accesses of a run (rme_machine.h) up to the first word that is not 0. */
+static inline __attribute__((always_inline)) void run(const struct rme_seat *s, uint64_t told, uint64_t number, struct made *made)
 {
-    for (uint64_t read; line < end; line += LINE)
-        for (uint64_t i = k; line != own && i < 2; i++, ++*made)
-            if ((read = load(line + i)) != 0)
-                return read;
-    return 0;
-}
-
-/* Makes the accesses of a run (rme_machine.h) up to the first word that is not 0, which it answers; *made: how many read 0. */
-static inline __attribute__((always_inline)) uint64_t run(const struct rme_seat *s, uint64_t told, uint64_t number, uint64_t *made)
-{
-    uint64_t *lines = s->lines, *own = lines + s->machine.index * LINE, *end = lines + s->machine.procs * LINE;
-    uint64_t read;
-    *made = 0;
+    uint64_t *own = s->lines + s->machine.index * LINE;
     switch (told) {
     case RME_LOCKS:
-        for (; *made < 3; ++*made)
-            if ((read = load(own + *made)) != 0)
-                return read;
+        if (!reads_zero(own, made) || !reads_zero(own + 1, made) || !reads_zero(own + 2, made))
+            return;
         number = 1;
         /* fallthrough */
     case RME_OPENS:
-        store(own, 1);
-        ++*made;
-        read = scan(lines, end, own, 1, made);
-        if (read != 0 || told == RME_OPENS)
-            return read;
+        put(own, 0, 1, made);
+        if (!scan(s, 0, 1, made) || told == RME_OPENS)
+            return;
         /* fallthrough */
     case RME_TAKES:
-        store(own + 1, number);
-        release(own, 0);
-        *made += 2;
-        read = scan(lines, end, own, 0, made);
-        if (read != 0 || told == RME_TAKES)
-            return read;
+        put(own, 1, number, made);
+        put(own, 0, 0, made);
+        if (!scan(s, 0, 0, made) || told == RME_TAKES)
+            return;
         /* fallthrough */
     case RME_MARKS:
-        store(own + 2, 1);
-        read = load(s->words);
-        *made += read == 0 ? 2 : 1;
-        return read;
+        put(own, 2, 1, made);
+        reads_zero(s->words, made);
+        return;
     case RME_LEAVES:
-        release(own, 1);
-        release(own, 2);
-        *made = 2;
-        return 0;
+        put(own, 1, 0, made);
+        put(own, 2, 0, made);
+        return;
     default:
-        return told < RME_LOOKS ? scan(lines + (told - RME_PEEKS) * LINE, end, own, 1, made)
-                                : scan(lines + (told - RME_LOOKS) * LINE, end, own, 0, made);
+        scan(s, told % MOST_PROCS, told < RME_LOOKS, made);
     }
 }
 
@@ -150,22 +140,19 @@ static void rest(struct rme_seat *s, uint64_t place, uint64_t seen, struct patie
 static inline __attribute__((always_inline)) uint64_t finish(struct rme_seat *s, uint64_t told, struct rme_access *access,
                                                              struct patience may_wait)
 {
-    uint64_t seen = 0;
     for (;;) {
-        while (told >= RME_RUN) {
-            uint64_t made;
-            seen = run(s, told, access->value, &made);
-            told = rme_feed_run(&s->machine, made - (seen == 0), seen, access);
-        }
-        if (told == RME_BLOCKED) {
-            if (may_wait.turns-- == 0)
-                return told;
-            rest(s, access->place, seen, &may_wait);
-        } else if (told != 0 && told < RME_LOAD) {
+        struct made made = {0, 0};
+        if (told >= RME_RUN)
+            run(s, told, access->value, &made);
+        else if (told >= RME_LOAD)
+            reads_zero(lock_word(s, told - RME_LOAD), &made);
+        else
+            take(s, access, &made);
+        told = rme_feed_run(&s->machine, made.count - 1, made.seen, access);
+        if (told == RME_BLOCKED && may_wait.turns-- > 0)
+            rest(s, access->place, made.seen, &may_wait);
+        else if (told != 0 && told < RME_LOAD)
             return told;
-        }
-        seen = told >= RME_LOAD ? load(lock_word(s, told - RME_LOAD)) : take(s, access);
-        told = rme_feed_run(&s->machine, 0, seen, access);
     }
 }
 

@@ -2,9 +2,14 @@
 #ifndef RME_SHIM_H
 #define RME_SHIM_H
 
+#define _GNU_SOURCE
 #include "rme.h"
 
+#include <errno.h>
+#include <fcntl.h>
 #include <pthread.h>
+#include <time.h>
+#include <unistd.h>
 
 /* A process's line in the file: its three lock words, and a bit for each process that sleeps on one of them. */
 enum { SLEEPERS = 3, LINE = 8, PAGE = RME_HEADER, MOST_PROCS = 64 };

@@ -4,8 +4,6 @@
  *     speed rme|ticket|mutex PROCESSES ROUNDS [SEATS]
  *         PROCESSES lock and unlock ROUNDS times each, in a file of SEATS (PROCESSES where nothing is said). It prints the ns of one
  *         entry, the processor time of one, and the share of entries at which the lock changed hands.
- *     speed rme SEATS alone ROUNDS
- *         This process locks and unlocks ROUNDS times: to count its instructions.
  *     speed rme|ticket|mutex PROCESSES hold SECONDS
  *         One is inside for SECONDS. It prints how often the others were woken meanwhile, all together. */
 #define _GNU_SOURCE
@@ -104,17 +102,6 @@ static void process(const char *path, uint64_t p, bool holds, long rounds)
     _exit(0);
 }
 
-static int alone(const char *path, long rounds)
-{
-    if (rme_attach(&seat, path, 0))
-        return 3;
-    unlink(path);
-    for (long i = 0; i < rounds; i++)
-        if (rme_lock(&seat) || rme_unlock(&seat))
-            return 1;
-    return rme_detach(&seat);
-}
-
 static double seconds_of(struct timeval time) { return (double)time.tv_sec + (double)time.tv_usec * 1e-6; }
 
 static void share(void)
@@ -133,18 +120,16 @@ int main(int count, char **word)
 {
     if (count < 4)
         return 2;
-    const bool holds = count > 4 && strcmp(word[3], "hold") == 0, is_alone = count > 4 && strcmp(word[3], "alone") == 0;
+    const bool holds = count > 4 && strcmp(word[3], "hold") == 0;
     const uint64_t processes = strtoull(word[2], NULL, 10);
-    const uint64_t seats = count > 4 && !holds && !is_alone ? strtoull(word[4], NULL, 10) : processes;
-    const long rounds = atol(word[holds || is_alone ? 4 : 3]);
+    const uint64_t seats = count > 4 && !holds ? strtoull(word[4], NULL, 10) : processes;
+    const long rounds = atol(word[holds ? 4 : 3]);
     int status, bad = 0;
     char path[64];
     kind = strcmp(word[1], "rme") == 0 ? RME : strcmp(word[1], "ticket") == 0 ? TICKET : MUTEX;
     snprintf(path, sizeof path, "/dev/shm/rme-speed-%d", getpid());
     if (rme_create(path, seats, 1, 1, 0))
         return 3;
-    if (is_alone)
-        return alone(path, rounds);
     share();
     for (uint64_t p = 0; p < processes; p++)
         if (fork() == 0)

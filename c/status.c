@@ -1,9 +1,6 @@
 /* How a file stands, and texts: no call here changes a word, and no process needs one to go on. */
-#define _GNU_SOURCE
 #include "shim.h"
 
-#include <errno.h>
-#include <fcntl.h>
 #include <string.h>
 
 int rme_inspect(struct rme_seat *s, const char *path)

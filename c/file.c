@@ -1,4 +1,4 @@
-/* The file that processes share: making and opening it, who has which index of it, and how it stands. */
+/* The file that processes share: making and opening it, and who has which index of it. */
 #include "shim.h"
 
 #include <limits.h>
@@ -11,11 +11,6 @@
 _Static_assert(sizeof(struct rme_header) <= PAGE && 64 * LINE * 8 <= PAGE, "the header lies in a page, and so do all lines");
 
 /* ---- making it ---- */
-
-static uint64_t data_offset(uint64_t words, uint64_t procs)
-{
-    return (UINT64_C(2) * PAGE + 8 * (words - 3 * procs) + 63) / 64 * 64;
-}
 
 /* A file in the path's folder that has no name yet; or, where the file system has none without, under the name that is left. */
 static int open_unnamed(const char *path, char name[PATH_MAX])
@@ -172,13 +167,6 @@ void rme_become(struct rme_seat *s, uint64_t index, bool crashed)
         __atomic_fetch_and(sleepers_on(s, place), ~own_bit(s), __ATOMIC_SEQ_CST);
 }
 
-/* A mark that no reaper leaves says nothing. */
-int rme_reaped_of(uint64_t mark)
-{
-    const uint64_t found = mark / RME_REAPED;
-    return found >= RME_FOUND_IDLE && found <= RME_FOUND_INSIDE ? (int)found : 0;
-}
-
 /* The index in the file that has this name now, and the seat's state, which reads 0 in a child of fork. */
 static int take(struct rme_seat *s, const char *path, uint64_t index, uint64_t milliseconds)
 {
@@ -234,33 +222,4 @@ int rme_detach(struct rme_seat *s)
         error = EBUSY;
     rme_close_seat(s);
     return error;
-}
-
-/* ---- what it holds ---- */
-
-bool rme_crashed(const struct rme_seat *s) { return s && s->crashed; }
-int rme_reaped(const struct rme_seat *s) { return s ? s->reaped : 0; }
-
-/* Count first, then entries below it: they never change once count has passed them. */
-uint64_t rme_read_from(const struct rme_seat *s, uint64_t place, struct rme_message *messages, uint64_t room)
-{
-    if (!s || !s->header || !messages)
-        return 0;
-    const struct rme_process *m = &s->machine;
-    uint64_t count = load(s->words + 2), copied = 0;
-    for (; place < count && place < m->cap && copied < room; place++, copied++) {
-        const uint64_t *entry = s->words + 10 + m->width + m->procs + (2 + m->width) * place;
-        messages[copied] = (struct rme_message){.sender = load(entry), .number = load(entry + 1)};
-        for (uint64_t j = 0; j < m->width; j++)
-            messages[copied].value[j] = load(entry + 2 + j);
-    }
-    return copied;
-}
-
-void *rme_data(const struct rme_seat *s, size_t *bytes)
-{
-    bool some = s && s->header && s->data_bytes;
-    if (bytes)
-        *bytes = some ? s->data_bytes : 0;
-    return some ? (char *)s->header + data_offset(s->count, s->machine.procs) : NULL;
 }

@@ -101,17 +101,3 @@ int rme_lock_reaping(struct rme_seat *s, uint64_t turns, rme_repair *repair, voi
     }
     return rme_end_call(s, rme_error_of(told));
 }
-
-int rme_blocker(struct rme_seat *s, uint64_t *index, bool *alive)
-{
-    struct rme_access blocked;
-    int life = RME_ABSENT, error = rme_begin_call(s);
-    if (error)
-        return error;
-    error = rme_next(&s->machine, &blocked) ? EINVAL : rme_life_of(s, blocked.place / 3, &life);
-    if (!error && alive)
-        *alive = life != RME_ABSENT;
-    if (!error && index)
-        *index = blocked.place / 3;
-    return rme_end_call(s, error);
-}

@@ -21,6 +21,9 @@ static inline void store(uint64_t *word, uint64_t value) { __atomic_store_n(word
 static inline uint64_t *lock_word(const struct rme_seat *s, uint64_t place) { return s->lines + place / 3 * LINE + place % 3; }
 static inline uint64_t *sleepers_on(const struct rme_seat *s, uint64_t place) { return s->lines + place / 3 * LINE + SLEEPERS; }
 
+/* Where the caller's data begin in the file. */
+static inline uint64_t data_offset(uint64_t words, uint64_t procs) { return (2 * PAGE + 8 * (words - 3 * procs) + 63) / 64 * 64; }
+
 static inline uint64_t own_bit(const struct rme_seat *s) { return UINT64_C(1) << s->machine.index; }
 
 /* Whether nothing of this process stands in the words: neither of what it does, nor of what an earlier process of its index did. */
@@ -54,8 +57,8 @@ int rme_end_call(struct rme_seat *s, int error);
 uint64_t rme_make_call(struct rme_seat *s, const struct rme_call *asked, struct patience may_wait, struct rme_access *access);
 int rme_error_of(uint64_t told);
 
-/* file.c: a seat without an index; the bytes of an index's lease (F_WRLCK, F_UNLCK); what others have of them; what a reaper left
- * in a mark. */
+/* file.c: a seat without an index; the bytes of an index's lease (F_WRLCK, F_UNLCK); what others have of them. status.c: what a
+ * reaper left in a mark. */
 enum { REAPERS_BYTE = 1, BOTH_BYTES = 2 };
 int rme_open_seat(struct rme_seat *s, const char *path, int access);
 void rme_close_seat(struct rme_seat *s);

@@ -3,6 +3,13 @@
 
 #include <string.h>
 
+/* A mark that no reaper leaves says nothing. */
+int rme_reaped_of(uint64_t mark)
+{
+    const uint64_t found = mark / RME_REAPED;
+    return found >= RME_FOUND_IDLE && found <= RME_FOUND_INSIDE ? (int)found : 0;
+}
+
 int rme_inspect(struct rme_seat *s, const char *path)
 {
     WITHOUT_CANCELLATION;
@@ -52,6 +59,47 @@ uint64_t rme_copy_words(const struct rme_seat *s, uint64_t *words, uint64_t room
     for (uint64_t i = 0; i < count; i++)
         words[i] = load(i < locks ? lock_word(s, i) : s->words + (i - locks));
     return count;
+}
+
+bool rme_crashed(const struct rme_seat *s) { return s && s->crashed; }
+int rme_reaped(const struct rme_seat *s) { return s ? s->reaped : 0; }
+
+/* Count first, then entries below it: they never change once count has passed them. */
+uint64_t rme_read_from(const struct rme_seat *s, uint64_t place, struct rme_message *messages, uint64_t room)
+{
+    if (!s || !s->header || !messages)
+        return 0;
+    const struct rme_process *m = &s->machine;
+    uint64_t count = load(s->words + 2), copied = 0;
+    for (; place < count && place < m->cap && copied < room; place++, copied++) {
+        const uint64_t *entry = s->words + 10 + m->width + m->procs + (2 + m->width) * place;
+        messages[copied] = (struct rme_message){.sender = load(entry), .number = load(entry + 1)};
+        for (uint64_t j = 0; j < m->width; j++)
+            messages[copied].value[j] = load(entry + 2 + j);
+    }
+    return copied;
+}
+
+void *rme_data(const struct rme_seat *s, size_t *bytes)
+{
+    bool some = s && s->header && s->data_bytes;
+    if (bytes)
+        *bytes = some ? s->data_bytes : 0;
+    return some ? (char *)s->header + data_offset(s->count, s->machine.procs) : NULL;
+}
+
+int rme_blocker(struct rme_seat *s, uint64_t *index, bool *alive)
+{
+    struct rme_access blocked;
+    int life = RME_ABSENT, error = rme_begin_call(s);
+    if (error)
+        return error;
+    error = rme_next(&s->machine, &blocked) ? EINVAL : rme_life_of(s, blocked.place / 3, &life);
+    if (!error && alive)
+        *alive = life != RME_ABSENT;
+    if (!error && index)
+        *index = blocked.place / 3;
+    return rme_end_call(s, error);
 }
 
 const char *rme_strerror(int error)

@@ -382,7 +382,8 @@ static void restarts_beside_reapers(void)
             int error = rme_reap(path, 0, sleep_long, &shortly);
             _exit(error && error != EBUSY && error != ESRCH);
         }
-        nap(drand48() * 0.004);
+        if (round % 2) /* else the restart is the first, as a rule */
+            nap(drand48() * 0.004);
         EXPECT(rme_attach_within(&seat, path, 0, 10000), 0);
         EXPECT(rme_crashed(&seat) || rme_reaped(&seat) == RME_FOUND_INSIDE, true);
         crashed += rme_crashed(&seat);

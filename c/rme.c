@@ -112,7 +112,7 @@ static void sleep_on(struct rme_seat *s, uint64_t place, uint64_t seen, uint64_t
     __atomic_fetch_and(sleepers_on(s, place), ~own_bit(s), __ATOMIC_SEQ_CST);
 }
 
-/* After a blocked reading: behind each process it pauses at first, then lets others run, then sleeps. A yield that comes back at
+/* After a blocked reading: for each process it pauses at first, then lets others run, then sleeps. A yield that comes back at
  * once says that a processor is free: then more pauses cost nothing. */
 static void rest(struct rme_seat *s, uint64_t place, uint64_t seen, struct patience *may_wait)
 {

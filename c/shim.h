@@ -46,8 +46,8 @@ static inline int disable_cancellation(void)
 
 #pragma GCC visibility push(hidden)
 
-/* rme.c: a call with a seat begins and ends with these. Between them a call goes to its answer, or to so many blocked
- * readings and one more, or to one after the first sleep; no sleep is longer than so many milliseconds. */
+/* rme.c: a call with a seat begins and ends with these. Between them a call goes to its answer, or to
+ * `turns` blocked readings and one more, or to one after the first sleep; no sleep is longer than `longest` milliseconds. */
 struct patience {
     uint64_t turns, longest;
     bool once;

@@ -9,7 +9,7 @@ use Rattle.rmecore.proofs.Invariant.{Before, Stands, Tied, put_same, put_other, 
 use Rattle.rmecore.proofs.Runs.{guard, kept}
 use Rattle.rmecore.proofs.Accesses.{passed}
 
-before_test : (k p v i : ℕ) → Before k p v i → is_before k p v i ≡ true
+pub before_test : (k p v i : ℕ) → Before k p v i → is_before k p v i ≡ true
 before_test k p v i h = elim h [ inl less ↦ or_left _ _ (lt-ltb k v less) | inr both ↦ or_right _ _ (and_from _ _ (eq-eqb k v both.0) (lt-ltb p i both.1)) ]
 
 last : (b c : Bool) (t : Place) → IsSome (only (b && c) t) → c ≡ true

@@ -18,6 +18,7 @@ pub use Rattle.rmecore.specs.declared.tally.Tally.{Tally}
 pub use Rattle.rmecore.specs.declared.word.Word.{Word}
 pub use Rattle.rmecore.specs.declared.word.Word.TheVariants.{Choosing, Number, Inside as InsideOf, Data}
 pub use Rattle.rmecore.specs.AbstractLock.{Abstract, is_out, is_door, is_ready, is_inside, is_dead_in, needs, nobody, crashed, done, Legal, doer}
+pub use Rattle.rmecore.specs.HomeState.{IsUninterrupted, IsHome, IsWaiting, entries, IsLess, EnterInLine, CanComeHome, IsFirst, Counts, IsStepOf, IsOfDoorway, CanEnter}
 pub use Rattle.rmecore.specs.Lawful.{IsRow, IsLawful, all_dead, dead_phase, phase_by, is_ahead, start_of}
 pub use Rattle.rmecore.specs.Machine.{first, place_of, access, kind_of, word_of, carried, Standing, next_access, owner, InLock, IsLeast, IsAllowed, StoresOwn, absent, after_access, performed, progress, is_blocked, answer, at_door, at_wait, reread_answer, shut_answer, unmark_answer}
 pub use Rattle.rmecore.specs.Needs.{AllHold, least, none_below, put}
@@ -28,4 +29,4 @@ pub use Rattle.rmecore.specs.Refused.{is_idle}
 pub use Rattle.rmecore.specs.Simulated.{Simulated, zeros, own_at, standing_at, place_at, world_of, HasConfiguration, IsConfigured, Takes, fresh, tally_at, counted}
 pub use Rattle.rmecore.specs.Sole.{all_done, IsIn, IsEnter, IsLeave, Sole}
 pub use Rattle.rmecore.specs.Tallied.{IsExact, HasTaken, IsTallied, AllTallied, IsRereading}
-pub use Rattle.rmecore.specs.World.{World, at_rest, is_store, read, write, May, after, Run, final, IsReached, Reads, stored, deeds, own_events, place_after, deed, and_then, step_deed}
+pub use Rattle.rmecore.specs.World.{World, at_rest, is_store, read, write, May, after, Run, final, IsReached, Reads, stored, deeds, own_events, place_after, deed, and_then, step_deed, reentry}

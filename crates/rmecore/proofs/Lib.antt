@@ -4,6 +4,10 @@ pub mod Allowing
 pub mod Changes
 pub mod Rows
 pub mod Runs
+pub mod Continuations
+pub mod SoundWorlds
+pub mod Settling
+pub mod Entering
 pub mod Soles
 pub mod Phases
 pub mod Turns

@@ -3,6 +3,7 @@ pub mod World
 pub mod Needs
 pub mod AbstractLock
 pub mod Sole
+pub mod HomeState
 pub mod Turn
 pub mod Body
 pub mod Samples

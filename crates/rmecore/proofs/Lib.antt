@@ -8,6 +8,8 @@ pub mod Continuations
 pub mod SoundWorlds
 pub mod Settling
 pub mod Entering
+pub mod HomeStates
+pub mod LeastPairs
 pub mod Soles
 pub mod Phases
 pub mod Turns

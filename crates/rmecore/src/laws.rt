@@ -17,6 +17,7 @@ ghost use Rattle.rmecore.specs.Needs.{AllHold};
 ghost use Rattle.rmecore.specs.AbstractLock.{Abstract, nobody, needs, done, doer, Legal};
 ghost use Rattle.rmecore.specs.Sole.{IsIn, IsEnter, IsLeave, Sole, all_done};
 ghost use Rattle.rmecore.specs.Turn.{Turn};
+ghost use Rattle.rmecore.specs.HomeState.{CanComeHome, CanEnterIfFirst};
 
 use crate::outer::Outer;
 use crate::own::Own;
@@ -141,4 +142,23 @@ pub fn who_stands_inside_is_in()
         → Run n limit (all_dead words) events → ((final n limit (all_dead words) events).places p ≡ Inside)
         ⊎ ((final n limit (all_dead words) events).places p ≡ Leaving)
         → (all_done (start_of words) (deeds n limit (all_dead words) events)).phase p ≡ Phase.Inside }
+{}
+
+/// After every run, some continuation without crash and withdraw answers each call that is under way and leads to the world
+/// in which all rest and all words are 0. In it all that wait enter, in the order of their pairs. That it is taken is not said.
+pub fn every_run_can_come_home()
+    ensures from_rest { (n limit : ℕ) (events : List Event) → Run n limit at_rest events
+        → CanComeHome n limit (final n limit at_rest events) }
+    ensures later { (n limit : ℕ) (words : ℕ → Own) (events : List Event) → IsLawful n limit words
+        → Run n limit (all_dead words) events → CanComeHome n limit (final n limit (all_dead words) events) }
+{}
+
+/// Forward first come, first served. A process waits with the least pair of all that hold a number, so nobody is inside, alive
+/// or crashed. No doorway that is under way has read its number too early. Once these doorways are finished, its own steps
+/// alone lead to its entry. If there is no doorway, they are all of the continuation.
+pub fn the_least_pair_can_enter()
+    ensures from_rest { (n limit p : ℕ) (events : List Event) → p < n → Run n limit at_rest events
+        → CanEnterIfFirst n limit (final n limit at_rest events) p }
+    ensures later { (n limit p : ℕ) (words : ℕ → Own) (events : List Event) → p < n → IsLawful n limit words
+        → Run n limit (all_dead words) events → CanEnterIfFirst n limit (final n limit (all_dead words) events) p }
 {}

@@ -1,0 +1,10 @@
+use Rattle.rmecore.proofs.Common.{at_rest, all_dead}
+use Rattle.rmecore.proofs.SoundWorlds.{sound_final, sound_rest, sound_image}
+use Rattle.rmecore.proofs.LeastPairs.{can_enter}
+use Rattle.rmecore.proofs.laws.the_least_pair_can_enter.Goals as goal
+
+pub returns-clause-from_rest : goal.returns-clause-from_rest
+returns-clause-from_rest c = λ n limit p events below run waits first counts. can_enter n limit p below (sound_final n limit at_rest events (sound_rest n) run) waits first counts
+
+pub returns-clause-later : goal.returns-clause-later
+returns-clause-later c = λ n limit p words events below lawful run waits first counts. can_enter n limit p below (sound_final n limit (all_dead words) events (sound_image n limit words lawful) run) waits first counts

@@ -1,7 +1,7 @@
 //! Laws over every run of the definitions. Each law is the contract of a function with an empty body.
 
 ghost use Rattle.std.specs.Prelude.{◌≡◌, ◌≢◌, ◌≤◌, ◌<◌, ◌+◌, false, if◌then◌else◌, IsSome, IfSome, Some, None, unwrap_or, ℕ, List, [], ◌∷◌, ◌++◌, ◌⊎◌};
-ghost use Rattle.rmecore.specs.Samples.{two, giving_up};
+ghost use Rattle.rmecore.specs.Samples.{two, giving_up, missed_in_a_doorway};
 ghost use Rattle.rmecore.specs.Place.{Event, process, Place, Door, Reread, Wait, Inside, Leaving, Withdrawing, others, next};
 ghost use Rattle.rmecore.specs.Machine.{is_blocked, answer};
 ghost use Rattle.rmecore.specs.OwnSteps.{own_steps, most_steps};
@@ -60,12 +60,16 @@ pub fn runs_grow()
         → final n limit w (events ++ e ∷ []) ≡ after n limit (final n limit w events) e }
 {}
 
-/// Two runs written out, with their deeds.
+/// Three runs written out, with their deeds. In the third 1 waits with the least pair and nobody is inside, and yet 0 enters
+/// first: its doorway had read the word of 1 before.
 pub fn a_run()
     ensures runs { Run 2 10 at_rest two }
     ensures gives_up { Run 2 10 at_rest giving_up }
     ensures given_up { deeds 2 10 at_rest giving_up ≡ Outer.Begin 0 ∷ Outer.Ready 0 ∷ Outer.Begin 1 ∷ Outer.Ready 1
         ∷ Outer.Quit 0 ∷ Outer.Enter 1 ∷ [] }
+    ensures misses { Run 3 10 at_rest missed_in_a_doorway }
+    ensures missed { deeds 3 10 at_rest missed_in_a_doorway ≡ Outer.Begin 2 ∷ Outer.Ready 2 ∷ Outer.Begin 0 ∷ Outer.Begin 1
+        ∷ Outer.Ready 1 ∷ Outer.Enter 2 ∷ Outer.Leave 2 ∷ Outer.Ready 0 ∷ Outer.Enter 0 ∷ [] }
     ensures deeds { deeds 2 10 at_rest two ≡ Outer.Begin 0 ∷ Outer.Begin 1 ∷ Outer.Ready 1 ∷ Outer.Ready 0 ∷ Outer.Enter 0
         ∷ Outer.Crash 0 ∷ Outer.Reenter 0 ∷ Outer.Leave 0 ∷ Outer.Enter 1 ∷ [] }
 {}

@@ -2,9 +2,9 @@
 use Rattle.std.proofs.Common.{◌≡◌, ◌≢◌, ℕ, zero, suc, ◌<◌, ◌≤◌, Bool, true, false, not, ◌&&◌, ◌==◌, ◌⊎◌, List, [], ◌∷◌, All, Option, Some, None, IfSome, refl, sym, ap, ◌∙◌, subst, inl, inr, arith, eqb-true, eq-eqb, ne_eqb}
 use Rattle.std.proofs.lemmas.List.Elements.{All-head, All-tail}
 use Rattle.rmecore.proofs.Common.{cases_Bool, cases_eq, and_parts, or_left, or_right, Kind, Take as Takes, Shut as Shuts, Rereads, Open as Opens, Mark as Marks, Drop as Drops, Outer, Begin, Enter, Quit}
-use Rattle.rmecore.proofs.Common.{Ready as Waiting, Abstract, is_ready, done, doer, put, Place, Reread, Opening, Door, Wait, Leaving, Withdrawing, Event, Starts, Crashes, Steps, is_before, process, World, May, after, Run, final, deed, step_deed}
-use Rattle.rmecore.proofs.Common.{IsWaiting, IsFirst, Counts, IsOfDoorway, CanEnter, reentry}
-use Rattle.rmecore.proofs.Invariant.{Tied, Before, Counted, Stands, eqb_self, put_same, put_other, phase_waiting, is_lost}
+use Rattle.rmecore.proofs.Common.{Ready as Waiting, Abstract, is_door, is_ready, done, doer, put, Place, Reread, Opening, Door, Wait, Leaving, Withdrawing, Event, Starts, Crashes, Steps, is_before, process, World, May, after, Run, final, deed, step_deed}
+use Rattle.rmecore.proofs.Common.{IsWaiting, IsFirst, IsAheadOfDoorways, Counts, IsOfDoorway, CanEnter, reentry}
+use Rattle.rmecore.proofs.Invariant.{Tied, Before, Counted, Stands, eqb_self, put_same, put_other, phase_waiting, phase_door, is_lost, Fits}
 use Rattle.rmecore.proofs.Bounds.{before_test}
 use Rattle.rmecore.proofs.Rows.{after_deed, before_by}
 use Rattle.rmecore.proofs.Runs.{kept}
@@ -82,6 +82,17 @@ front_final n limit p w (e ∷ es) away run f =
 counted_as : (k p : ℕ) (t : Place) → Counts p k t → Counted k p t
 counted_as k p (Door unread m) h = h
 counted_as k p _ h = tt
+
+-- a doorway that p is ahead of counts p
+pub counts_of :
+    {n : ℕ} {w : World} {a : Abstract} → Tied n w a → (p q : ℕ) → p < n → q < n → IsWaiting (w.places p) → IsAheadOfDoorways n a p → (s : Place) → w.places q ≡ s → Counts p (w.words p).number s
+counts_of {w = w} {a = a} t p q hp hq waits ahead (Door unread m) at =
+    let f : Fits (w.words q) (Door unread m) = subst (Fits (w.words q)) at (t.fits q hq) in
+    let far : q ≢ p = λ is. subst IsWaiting at (subst (λ r. IsWaiting (w.places r)) (sym is) waits) in
+    let door : is_door (a.phase q) ≡ true = ap is_door (t.phase q hq ∙ phase_door (w.words q).choosing (w.words q).number (w.words q).inside (is_lost (w.places q)) f.0 f.1) in
+    let s = ((t.pairs p q hp hq (λ is. far (sym is))).ahead (ahead q hq far door)).2 in
+    subst (Counted (w.words p).number p) at s.counted
+counts_of t p q hp hq waits ahead _ at = tt
 
 module _ (n p : ℕ) (below : p < n) where
   -- the words of p while it waits
@@ -193,3 +204,6 @@ module _ (n limit : ℕ) where
         own_steps = e.each;
         entered = entered-append n limit w c.events e.events c.entered e.entered;
       }
+
+  pub can_enter_ahead : {w : World} {a : Abstract} (p : ℕ) → p < n → Sound n w → Tied n w a → IsWaiting (w.places p) → IsFirst n w p → IsAheadOfDoorways n a p → CanEnter n limit w p
+  can_enter_ahead {w = w} p below sound t waits first ahead = can_enter p below sound waits first (λ q low. counts_of t p q below low waits ahead (w.places q) refl)

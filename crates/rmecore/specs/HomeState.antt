@@ -1,6 +1,7 @@
 -- "Home state" of Petri nets: a state that some continuation of every run reaches. Here all processes rest and all words are
 -- 0. What a continuation answers, and in which order it lets those in that wait.
 use Rattle.std.specs.Prelude.{◌≡◌, ◌≢◌, ◌⊎◌, ◌++◌, ℕ, ◌<◌, ◌≤◌, true, List, [], ◌∷◌, All}
+use Rattle.rmecore.specs.AbstractLock.{Abstract, is_door}
 use Rattle.rmecore.specs.Place.{Event, Starts, Crashes, Steps, Place, Rest, Door, Wait, has, is_before, process}
 use Rattle.rmecore.specs.World.{World, Run, deeds, final}
 use Rattle.rmecore.specs.declared.core_call.CoreCall.TheVariants.{Withdraw}
@@ -81,3 +82,11 @@ pub record CanEnter (n limit : ℕ) (w : World) (p : ℕ) : Type 0 where
 abbrev pub CanEnterIfFirst : ℕ → ℕ → World → ℕ → Type 0
 CanEnterIfFirst n limit w p =
     IsWaiting (w.places p) → IsFirst n w p → ((q : ℕ) → q < n → Counts p (w.words p).number (w.places q)) → CanEnter n limit w p
+
+-- p is ahead of each process in its doorway: p finished its own doorway before that one began
+abbrev pub IsAheadOfDoorways : ℕ → Abstract → ℕ → Type 0
+IsAheadOfDoorways n a p = (q : ℕ) → q < n → q ≢ p → is_door (a.phase q) ≡ true → a.ahead q p ≡ true
+
+-- p waits with the least pair, and is ahead of all doorways
+abbrev pub CanEnterIfAhead : ℕ → ℕ → World → Abstract → ℕ → Type 0
+CanEnterIfAhead n limit w a p = IsWaiting (w.places p) → IsFirst n w p → IsAheadOfDoorways n a p → CanEnter n limit w p

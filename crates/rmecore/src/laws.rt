@@ -17,7 +17,7 @@ ghost use Rattle.rmecore.specs.Needs.{AllHold};
 ghost use Rattle.rmecore.specs.AbstractLock.{Abstract, nobody, needs, done, doer, Legal};
 ghost use Rattle.rmecore.specs.Sole.{IsIn, IsEnter, IsLeave, Sole, all_done};
 ghost use Rattle.rmecore.specs.Turn.{Turn};
-ghost use Rattle.rmecore.specs.HomeState.{CanComeHome, CanEnterIfFirst};
+ghost use Rattle.rmecore.specs.HomeState.{CanComeHome, CanEnterIfAhead, CanEnterIfFirst};
 
 use crate::outer::Outer;
 use crate::own::Own;
@@ -158,11 +158,17 @@ pub fn every_run_can_come_home()
 {}
 
 /// Forward first come, first served. A process waits with the least pair of all that hold a number, so nobody is inside, alive
-/// or crashed. No doorway that is under way has read its number too early. Once these doorways are finished, its own steps
-/// alone lead to its entry. If there is no doorway, they are all of the continuation.
+/// or crashed. No doorway that is under way has read its number too early: so it is where each of them began after its own was
+/// finished. Once these doorways are finished, its own steps alone lead to its entry. If there is no doorway, they are all of
+/// the continuation.
 pub fn the_least_pair_can_enter()
     ensures from_rest { (n limit p : ℕ) (events : List Event) → p < n → Run n limit at_rest events
         → CanEnterIfFirst n limit (final n limit at_rest events) p }
     ensures later { (n limit p : ℕ) (words : ℕ → Own) (events : List Event) → p < n → IsLawful n limit words
         → Run n limit (all_dead words) events → CanEnterIfFirst n limit (final n limit (all_dead words) events) p }
+    ensures ahead { (n limit p : ℕ) (events : List Event) → p < n → Run n limit at_rest events
+        → CanEnterIfAhead n limit (final n limit at_rest events) (all_done nobody (deeds n limit at_rest events)) p }
+    ensures ahead_later { (n limit p : ℕ) (words : ℕ → Own) (events : List Event) → p < n → IsLawful n limit words
+        → Run n limit (all_dead words) events → CanEnterIfAhead n limit (final n limit (all_dead words) events)
+        (all_done (start_of words) (deeds n limit (all_dead words) events)) p }
 {}

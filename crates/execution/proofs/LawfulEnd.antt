@@ -1,6 +1,6 @@
 -- The words at the end of a run are a lawful image.
 use Rattle.std.proofs.Common.{◌≡◌, ℕ, zero, suc, ◌+◌, ◌<◌, ◌≤◌, ◌^◌, List, [], ◌∷◌, length, map, refl, sym, ap, ◌∙◌, inl, inr, arith}
-use Rattle.execution.proofs.Common.{cases_lt, get_or_past, length-map, slice_index_or, Own, Data as DataAt, Event, zeros, own_at, World, after, Run, final, Tied, kept, size, words_of, empty, IsSize}
+use Rattle.execution.proofs.Common.{cases_lt, get_or_past, length-map, slice_index_or, Data as DataAt, Event, zeros, own_at, World, after, Run, final, Tied, kept, size, words_of, empty, IsSize}
 use Rattle.execution.proofs.Common.{at_first, every_execution_leaves_an_image, projected, TakenStep, Setup, image_at, count_from, spelled, IsRun, end_of}
 use Rattle.rmecore.specs.AbstractLock.{Abstract, nobody}
 use Rattle.rmecore.specs.World.{at_rest as core_rest}
@@ -40,7 +40,7 @@ beyond_same n limit w a (e ∷ es) t run p past =
 words_beyond : (s : Setup) (es : List TakenStep) → IsRun s es → (p : ℕ) → s.layout.procs ≤ p → (end_of s es).words p ≡ zeros
 words_beyond s es run p past =
     let r = projected s.layout s.limit at_first (spelled es) (λ q. tt) run in
-    ap (λ (f : ℕ → Own). f p) (sym r.ends) ∙ beyond_same s.layout.procs s.limit core_rest nobody r.events (core_first s.layout.procs) r.run p past
+    ap (λ (x : World). x.words p) (sym r.ends) ∙ beyond_same s.layout.procs s.limit core_rest nobody r.events (core_first s.layout.procs) r.run p past
 
 -- the words of the list are those of the global state
 pub cells_counted : (s : Setup) (es : List TakenStep) → IsRun s es → words_of (map (end_of s es).cells (count_from 0 (size s.layout))) ≡ (end_of s es).cells

@@ -85,6 +85,7 @@ pub use Rattle.rmeworld.specs.Answered.{answer_at, answer_by, by_lock, done_by, 
 pub use Rattle.rmeworld.specs.CallWalk.{next_or_same, Walks, blocked_in, and_answer, answers_in, last_process_state, Tells, CallsTakeTheirSteps}
 pub use Rattle.rmeworld.specs.Entered.{is_entry, checks_done, mended_done}
 pub use Rattle.rmeworld.specs.ScriptStates.{script_state_of, HasStep, Held}
+pub use Rattle.rmeworld.specs.HomeState.{core_of}
 pub use Rattle.rmeworld.specs.Holders.{puts_data, AllPutBy, NoEndOf, OnlyHoldersPut}
 pub use Rattle.rmeworld.specs.ImageRules.{layout_of, IsLawfulImage, IsRecorded, Keeps}
 pub use Rattle.rmeworld.specs.ImageStart.{IsStartOf, IsInAlone}

@@ -2,12 +2,12 @@
 use Rattle.std.proofs.Common.{◌≡◌, ℕ, ◌<◌, Bool, true, List, [], ◌∷◌, ◌++◌, Option, Some, None, IsSome, refl, sym, ap, ◌∙◌, subst, inl, inr}
 use Rattle.rmeworld.proofs.Common.{cases_eq, All-head, All-tail, Kind, Outer, Begin, Ready, Enter, Crash, Reenter, Leave, Quit, Within, Data as DataAt, Abstract, Legal, nobody, needs, done, put}
 use Rattle.rmeworld.proofs.Common.{AllHold, Place, next, IsIn, all_done, is_store, and_then, allows_from, put_same, put_other, after_deed as done_by, legal, in_after, not_data, Deed, Layout, Words}
-use Rattle.rmeworld.proofs.Common.{IsLayout, AreOwn, Mailbox, outers as lock_deeds, Leads, empty, judged_all-append, puts_data, AllPutBy, NoEndOf, OnlyHoldersPut, ScriptState, Free, Doing, WorldEvent}
+use Rattle.rmeworld.proofs.Common.{core_of, IsLayout, AreOwn, Mailbox, outers as lock_deeds, Leads, empty, judged_all-append, puts_data, AllPutBy, NoEndOf, OnlyHoldersPut, ScriptState, Free, Doing, WorldEvent}
 use Rattle.rmeworld.proofs.Common.{Moves, who, moved_by, next_process_state, outer, event_deeds, GlobalState, at_first, Execution, onward, last_global_state, outer_deeds, mail_deeds, deeds}
 use Rattle.rmecore.specs.declared.phase.Phase.TheVariants.{Out as IsOut}
 use Rattle.redomail.specs.declared.deed.Deed.TheVariants as deed
 use Rattle.judge.specs.Plain.{IsEndOf}
-use Rattle.rmeworld.proofs.Projection.{outers, projected, core_of, some_of}
+use Rattle.rmeworld.proofs.Projection.{outers, projected, some_of}
 use Rattle.rmeworld.proofs.WorldEvents.{judge_of, AllowsBy, Kept}
 use Rattle.rmeworld.proofs.Knowing.{Post, PostAt}
 use Rattle.rmeworld.proofs.Executions.{AllPosts, happens, head, posts}

@@ -14,6 +14,8 @@ pub mod Advancing
 pub mod Reaching
 pub mod Holders
 pub mod LawfulNow
+pub mod Carrying
+pub mod HomeState
 pub mod FromImages
 pub mod CallParts
 pub mod Costs

@@ -2,7 +2,7 @@
 use Rattle.std.proofs.Common.{◌≡◌, ℕ, ◌<◌, Bool, true, false, ◌&&◌, ◌==◌, nat_lt, length, List, [], ◌∷◌, Option, Some, None, IsSome, unwrap_or, refl, sym, ap, ◌∙◌, subst, inl, inr, ◌⊎◌, eqb-true}
 use Rattle.rmeworld.proofs.Common.{cases_Bool, CoreCall, Kind, Gets, Puts, Outer, Own, Word, Data as DataAt, put, Place, next, Leaving, Inside, Dead, Event, Starts, Crashes, Steps, process, moved}
 use Rattle.rmeworld.proofs.Common.{is_store, and_then, World, stored, Run, deed, final, not_data, Layout, Reply, Ruined, Script, Get as Asks, Put as Writes, Done, script, consistent, Call, Lock}
-use Rattle.rmeworld.proofs.Common.{Unlock, Consistent, Recover, Append, Close, Withdraw, Purpose, Ruining, Mending, Checking, is_entry, outer_by, ScriptState, Free, Doing, ProcessState, dead, WorldEvent, Begins, Falls}
+use Rattle.rmeworld.proofs.Common.{Unlock, Consistent, Recover, Append, Close, Withdraw, Purpose, Ruining, Mending, Checking, core_of, HasStep, Can, is_entry, outer_by, ScriptState, Free, Doing, ProcessState, dead, WorldEvent, Begins, Falls}
 use Rattle.rmeworld.proofs.Common.{Moves, Glances as Looks-at, who, settled, script_state_entered, at_lock, inside_only, begun_from, moved_by, next_process_state, outer, only_process_state, mended_entered, end_place}
 use Rattle.rmeworld.proofs.Common.{reading, GlobalState, Reads as GlobalState-Reads, Execution, onward, last_global_state, words_after}
 use Rattle.rmecore.specs.Place.{started}
@@ -11,20 +11,17 @@ use Rattle.rmecore.specs.declared.core_call.CoreCall.TheVariants as core
 use Rattle.redomail.specs.declared.task.Task.TheVariants as task
 use Rattle.rmeworld.specs.declared.call.Call.TheVariants.{Get, Put}
 
--- a process with a job is inside
+-- a process with a script is inside, and the script has a step left
 abbrev pub Held : ScriptState → Place → Type 0
 Held Free lock = Unit {0}
-Held (Doing purpose left) lock = lock ≡ Inside
-
-abbrev pub core_of : GlobalState → World
-core_of w = record { words = w.words; places = λ p. (w.process_states p).lock }
+Held (Doing purpose left) lock = (lock ≡ Inside) × HasStep left
 
 -- the deeds of the lock
 abbrev pub outers : Layout → ℕ → GlobalState → List WorldEvent → List Outer
 outers l limit w [] = []
 outers l limit w (e ∷ es) = and_then (outer (w.process_states (who e)) e) (outers l limit (onward l limit w e) es)
 
-abbrev AllHeld : GlobalState → Type 0
+abbrev pub AllHeld : GlobalState → Type 0
 AllHeld w = (p : ℕ) → Held (w.process_states p).script_state (w.process_states p).lock
 
 pub entry_inside : (s t : Place) → is_entry s t ≡ true → t ≡ Inside
@@ -32,7 +29,7 @@ entry_inside s Inside e = refl
 entry_inside s _ e = absurd (cc)
 
 held_at : (l : Layout) (p : ℕ) (s t : Place) → Held (script_state_entered l p s t) t
-held_at l p s t = elim (cases_Bool (is_entry s t)) [ inl e ↦ rw e (entry_inside s t e) | inr f ↦ rw f tt ]
+held_at l p s t = elim (cases_Bool (is_entry s t)) [ inl e ↦ rw e (entry_inside s t e, tt) | inr f ↦ rw f tt ]
 
 -- the process state after an event of the lock
 pub record AtLock (l : Layout) (p : ℕ) (s : Place) (b c : Bool) (o : Option Place) (s' : ProcessState) : Type 0 where
@@ -61,8 +58,8 @@ end_places Ruining a = inr refl
 end_places _ _ = inl refl
 
 settled_place : (b c : Bool) (purpose : Purpose) (e : Script Reply) → Held (settled b c purpose e).script_state (settled b c purpose e).lock × (((settled b c purpose e).lock ≡ Inside) ⊎ ((settled b c purpose e).lock ≡ Leaving))
-settled_place b c purpose (Asks i rest) = (refl, inl refl)
-settled_place b c purpose (Writes i v rest) = (refl, inl refl)
+settled_place b c purpose (Asks i rest) = ((refl, tt), inl refl)
+settled_place b c purpose (Writes i v rest) = ((refl, tt), inl refl)
 settled_place b c purpose (Done a) = (tt, end_places purpose a)
 
 -- p's event in the lock's run: none, or one event
@@ -97,8 +94,8 @@ module _ (l : Layout) (limit : ℕ) (w : GlobalState) (p : ℕ) where
       ]
 
   -- a script that begins inside
-  by_script : (lock : Place) (b fits : Bool) (purpose : Purpose) (left : Script Reply) (s' : ProcessState) → inside_only lock b fits purpose left ≡ Some s' → Meets lock s' w.words None
-  by_script lock b fits purpose left s' e = let r = inside_some lock b fits purpose left s' e in by_nothing lock (begun b purpose left) s' r.0 refl refl r.2
+  by_script : (lock : Place) (b fits : Bool) (purpose : Purpose) (left : Script Reply) (s' : ProcessState) → HasStep left → inside_only lock b fits purpose left ≡ Some s' → Meets lock s' w.words None
+  by_script lock b fits purpose left s' step e = let r = inside_some lock b fits purpose left s' e in by_nothing lock (begun b purpose left) s' r.0 refl (refl, step) r.2
 
   -- a start of the lock's part
   by_start : (lock : Place) (b : Bool) (call : CoreCall) (s' : ProcessState) → at_lock l p lock b false (started lock call) ≡ Some s' → Meets lock s' w.words None
@@ -109,12 +106,12 @@ module _ (l : Layout) (limit : ℕ) (w : GlobalState) (p : ℕ) where
   begins lock b Free Recover s' e = by_start lock b core.Recover s' e
   begins lock b Free Withdraw s' e = by_start lock b core.Withdraw s' e
   begins lock true Free Unlock s' e = by_start lock true core.Unlock s' e
-  begins lock false Free Unlock s' e = by_script lock false true Ruining (script l p task.Ruin) s' e
-  begins lock false Free Consistent s' e = by_script lock false true Mending (consistent l p) s' e
-  begins lock b Free (Append seq value) s' e = by_script lock b (b && (length value == l.width)) _ _ s' e
-  begins lock b Free Close s' e = by_script lock b b _ _ s' e
-  begins lock b Free (Get i) s' e = by_script lock b (nat_lt i 4) _ _ s' e
-  begins lock b Free (Put i v) s' e = by_script lock b (nat_lt i 4) _ _ s' e
+  begins lock false Free Unlock s' e = by_script lock false true Ruining (script l p task.Ruin) s' tt e
+  begins lock false Free Consistent s' e = by_script lock false true Mending (consistent l p) s' tt e
+  begins lock b Free (Append seq value) s' e = by_script lock b (b && (length value == l.width)) _ _ s' tt e
+  begins lock b Free Close s' e = by_script lock b b _ _ s' tt e
+  begins lock b Free (Get i) s' e = by_script lock b (nat_lt i 4) _ _ s' tt e
+  begins lock b Free (Put i v) s' e = by_script lock b (nat_lt i 4) _ _ s' tt e
   begins lock b _ _ s' e = absurd (cc)
 
   -- a read of a lock word
@@ -126,8 +123,8 @@ module _ (l : Layout) (limit : ℕ) (w : GlobalState) (p : ℕ) where
       → (is_store kind ≡ false → reading w word ≡ v) → Meets lock s' (words_after w.words (Moves p kind word v)) (outer_by p lock script_state kind v)
   moves lock b c Free kind word v s' e held told =
       by_lock lock b c (next l.procs limit p lock kind word v) s' _ _ (Steps p kind word v) e refl refl refl (λ some. λ load. shows lock kind word v some (told load)) refl
-  moves lock b c (Doing purpose (Asks j rest)) Gets (DataAt i) v s' e held told = by_script_state lock b c purpose (rest v) s' held (only_some _ _ s' e).1
-  moves lock b c (Doing purpose (Writes j x rest)) Puts (DataAt i) v s' e held told = by_script_state lock b c purpose rest s' held (only_some _ _ s' e).1
+  moves lock b c (Doing purpose (Asks j rest)) Gets (DataAt i) v s' e held told = by_script_state lock b c purpose (rest v) s' held.0 (only_some _ _ s' e).1
+  moves lock b c (Doing purpose (Writes j x rest)) Puts (DataAt i) v s' e held told = by_script_state lock b c purpose rest s' held.0 (only_some _ _ s' e).1
   moves lock b c _ _ _ v s' e held told = absurd (cc)
 
 module _ (l : Layout) (limit : ℕ) where
@@ -159,14 +156,14 @@ module _ (l : Layout) (limit : ℕ) where
   held_put : (process_states : ℕ → ProcessState) (p : ℕ) (s : ProcessState) → ((q : ℕ) → Held (process_states q).script_state (process_states q).lock) → Held s.script_state s.lock → (q : ℕ) → Held (put process_states p s q).script_state (put process_states p s q).lock
   held_put process_states p s h here q = elim (cases_Bool (q == p)) [ inl e ↦ rw e here | inr e ↦ rw e (h q) ]
 
-  -- a run of the lock from w, with these deeds
-  pub record Projected (w : World) (ds : List Outer) (end : ℕ → Own) : Type 0 where
+  -- a run of the lock from w to a world, with these deeds
+  pub record Projected (w : World) (ds : List Outer) (end : World) : Type 0 where
     pub events : List Event
     pub run : Run n limit w events
     pub same : deeds n limit w events ≡ ds
-    pub ends : (final n limit w events).words ≡ end
+    pub ends : final n limit w events ≡ end
 
-  go : (w : GlobalState) (p : ℕ) (s' : ProcessState) (words' : ℕ → Own) (d : Option Outer) (o : Option Event) (ds : List Outer) (end : ℕ → Own) → p < n → Tells n limit p w.words (w.process_states p).lock s'.lock words' d o
+  go : (w : GlobalState) (p : ℕ) (s' : ProcessState) (words' : ℕ → Own) (d : Option Outer) (o : Option Event) (ds : List Outer) (end : World) → p < n → Tells n limit p w.words (w.process_states p).lock s'.lock words' d o
       → Projected (record { words = words'; places = λ q. (put w.process_states p s' q).lock }) ds end → Projected (core_of w) (and_then d ds) end
   go w p s' words' d None ds end below t rest =
       let same : record { words = words'; places = λ q. (put w.process_states p s' q).lock } ≡ core_of w =
@@ -188,12 +185,21 @@ module _ (l : Layout) (limit : ℕ) where
         ends = on.ends;
       }
 
-  pub projected : (w : GlobalState) (es : List WorldEvent) → AllHeld w → Execution l limit w es → Projected (core_of w) (outers l limit w es) (last_global_state l limit w es).words
+  held_after : (w : GlobalState) (e : WorldEvent) → Can l limit w e → AllHeld w → AllHeld (onward l limit w e)
+  held_after w e can held =
+      let s = some_of (next_process_state l limit (w.process_states (who e)) e) (w.process_states (who e)) can.1 in
+      let t = tells w e s.0 s.1 (held (who e)) can.2 in
+      subst (λ r. (q : ℕ) → Held (put w.process_states (who e) r q).script_state (put w.process_states (who e) r q).lock) (sym s.2) (held_put w.process_states (who e) s.0 held t.1)
+
+  pub all_held : (w : GlobalState) (es : List WorldEvent) → AllHeld w → Execution l limit w es → AllHeld (last_global_state l limit w es)
+  all_held w [] held execution = held
+  all_held w (e ∷ es) held execution = all_held (onward l limit w e) es (held_after w e execution.0 held) execution.1
+
+  pub projected : (w : GlobalState) (es : List WorldEvent) → AllHeld w → Execution l limit w es → Projected (core_of w) (outers l limit w es) (core_of (last_global_state l limit w es))
   projected w [] held execution = record { events = []; run = tt; same = refl; ends = refl }
   projected w (e ∷ es) held execution =
       let s = some_of (next_process_state l limit (w.process_states (who e)) e) (w.process_states (who e)) execution.0.1 in
       let t = tells w e s.0 s.1 (held (who e)) execution.0.2 in
-      let still : AllHeld (onward l limit w e) = subst (λ r. (q : ℕ) → Held (put w.process_states (who e) r q).script_state (put w.process_states (who e) r q).lock) (sym s.2) (held_put w.process_states (who e) s.0 held t.1) in
-      let rest = projected (onward l limit w e) es still execution.1 in
-      go w (who e) s.0 (words_after w.words e) (outer (w.process_states (who e)) e) t.0.0 _ (last_global_state l limit (onward l limit w e) es).words execution.0.0 t.0.1
-      (subst (λ r. Projected (record { words = words_after w.words e; places = λ q. (put w.process_states (who e) r q).lock }) (outers l limit (onward l limit w e) es) (last_global_state l limit (onward l limit w e) es).words) s.2 rest)
+      let rest = projected (onward l limit w e) es (held_after w e execution.0 held) execution.1 in
+      go w (who e) s.0 (words_after w.words e) (outer (w.process_states (who e)) e) t.0.0 _ (core_of (last_global_state l limit (onward l limit w e) es)) execution.0.0 t.0.1
+      (subst (λ r. Projected (record { words = words_after w.words e; places = λ q. (put w.process_states (who e) r q).lock }) (outers l limit (onward l limit w e) es) (core_of (last_global_state l limit (onward l limit w e) es))) s.2 rest)

@@ -1,16 +1,16 @@
 -- The lock theorem for a world at the end of an execution: its history is legal, and its words are lawful.
 use Rattle.std.proofs.Common.{◌≡◌, ℕ, zero, suc, ◌<◌, ◌≤◌, nat_lt, Bool, if◌then◌else◌, List, [], ◌∷◌, ◌++◌, Option, Some, None, refl, sym, ap, ◌∙◌, subst, inl, inr, arith, lt-ltb}
-use Rattle.rmeworld.proofs.Common.{cases_Bool, Outer, Own, Word, Data as DataAt, Abstract, Legal, IsLawful, IsRow, Dead, IsIn, all_done, is_store, and_then, final, Tied, Fits, Pair, phase_at}
+use Rattle.rmeworld.proofs.Common.{cases_Bool, Outer, Own, Word, Data as DataAt, Abstract, Legal, IsLawful, IsRow, Dead, IsIn, all_done, is_store, and_then, World, final, Tied, Fits, Pair, phase_at}
 use Rattle.rmeworld.proofs.Common.{phase_of, after_deed as done_by, legal, Deed, OuterDeed, Commit, Show, Ruin, Layout, NewWords, Words, IsLayout, AreOwn, puts_are_own, all_after, Leads, empty, State}
-use Rattle.rmeworld.proofs.Common.{after, state_led, judged_all-append, Sits, IsLater, Sound, crashed_global_state, IsOrigin, IsReached, ProcessState, dead, WorldEvent, Moves, who, outer, at_rest, event_deeds, GlobalState}
+use Rattle.rmeworld.proofs.Common.{after, core_of, state_led, judged_all-append, Sits, IsLater, Sound, crashed_global_state, IsOrigin, IsReached, ProcessState, dead, WorldEvent, Moves, who, outer, at_rest, event_deeds, GlobalState}
 use Rattle.rmeworld.proofs.Common.{at_first, Execution, onward, last_global_state, outer_deeds, mail_deeds, deeds, put_deeds}
-use Rattle.rmecore.specs.Lawful.{all_dead as core_dead}
+use Rattle.rmecore.specs.Lawful.{all_dead as core_dead, start_of}
 use Rattle.rmecore.proofs.Bounds.{Bounded, Within, final_lawful, image_bounded, rest_bounded, rest_rows}
 use Rattle.rmecore.proofs.Images.{at_image}
 use Rattle.rmecore.proofs.Phases.{tied_after}
 use Rattle.rmecore.proofs.Runs.{at_first as core_first}
 use Rattle.redomail.specs.declared.deed.Deed.TheVariants.{Close}
-use Rattle.rmeworld.proofs.Projection.{Held, core_of, outers, projected}
+use Rattle.rmeworld.proofs.Projection.{Held, outers, projected}
 use Rattle.rmeworld.proofs.WorldEvents.{judge_of, Kept}
 use Rattle.rmeworld.proofs.Knowing.{PostAt}
 use Rattle.rmeworld.proofs.Executions.{sound, first, later}
@@ -106,25 +106,30 @@ new_origin l limit layout =
     }
 
 -- the process states of a global state in which each of n processes has crashed
-crashed_at : (P : ProcessState → Type 0) (n p : ℕ) → P dead → P at_rest → P (if nat_lt p n then dead else at_rest)
+pub crashed_at : (P : ProcessState → Type 0) (n p : ℕ) → P dead → P at_rest → P (if nat_lt p n then dead else at_rest)
 crashed_at P n p h k = elim (cases_Bool (nat_lt p n)) [ inl e ↦ rw e h | inr e ↦ rw e k ]
 
 crashed_below : (P : ProcessState → Type 0) (n p : ℕ) → p < n → P dead → P (if nat_lt p n then dead else at_rest)
 crashed_below P n p below h = rw (lt-ltb p n below) h
 
+-- the lock's invariant there
+pub crashed_tied : (n limit : ℕ) (words : ℕ → Own) (cells : Words) → IsLawful n limit words → Tied n (core_of (crashed_global_state n words cells)) (start_of words)
+crashed_tied n limit words cells h =
+    let tied : Tied n (core_dead words) (start_of words) = at_image n limit words h in
+    let place : (p : ℕ) → p < n → Dead ≡ (if nat_lt p n then dead else at_rest).lock = λ p below. crashed_below (λ x. Dead ≡ x.lock) n p below refl in
+    record {
+      fits = λ p below. subst (Fits (words p)) (place p below) (tied.fits p below);
+      phase = λ p below. tied.phase p below ∙ ap (phase_of (words p)) (place p below);
+      self = tied.self;
+      pairs = λ p i hp hi ne. subst (λ t. Pair ((start_of words).ahead i p) p (words p) t i (words i) ((if nat_lt i n then dead else at_rest).lock)) (place p hp) (subst (λ t. Pair ((start_of words).ahead i p) p (words p) Dead i (words i) t) (place i hi) (tied.pairs p i hp hi ne));
+    }
+
 later_origin : (l : Layout) (limit : ℕ) (words : ℕ → Own) (cells : Words) (s : State) → IsLayout l → IsLater l limit words cells s → Origin l limit (crashed_global_state l.procs words cells) s
 later_origin l limit words cells s layout h =
     let n : ℕ = l.procs in
-    let tied : Tied n (core_dead words) s.lock = subst (Tied n (core_dead words)) (sym h.lock) (at_image n limit words h.lawful) in
     let kept : Kept l s.lock cells s.mail = subst (λ a. Kept l a cells s.mail) (sym h.lock) (later l limit layout words cells s h) in
-    let place : (p : ℕ) → p < n → Dead ≡ (if nat_lt p n then dead else at_rest).lock = λ p below. crashed_below (λ x. Dead ≡ x.lock) n p below refl in
     record {
-      tied = record {
-        fits = λ p below. subst (Fits (words p)) (place p below) (tied.fits p below);
-        phase = λ p below. tied.phase p below ∙ ap (phase_of (words p)) (place p below);
-        self = tied.self;
-        pairs = λ p i hp hi ne. subst (λ t. Pair (s.lock.ahead i p) p (words p) t i (words i) ((if nat_lt i n then dead else at_rest).lock)) (place p hp) (subst (λ t. Pair (s.lock.ahead i p) p (words p) Dead i (words i) t) (place i hi) (tied.pairs p i hp hi ne));
-      };
+      tied = subst (Tied n (core_of (crashed_global_state n words cells))) (sym h.lock) (crashed_tied n limit words cells h.lawful);
       bounded = record { small = (image_bounded limit n words h.lawful).small; within = λ q. crashed_at (λ x. Within limit x.lock) n q tt tt };
       rows = λ p past. h.lawful.rows p;
       held = λ p. crashed_at (λ x. Held x.script_state x.lock) n p tt tt;
@@ -163,11 +168,11 @@ arrives l limit w s execution layout o told =
       now = ends.0;
       leads = ends.1;
       sits = ends.2;
-      lawful = subst (IsLawful n limit) r.ends (final_lawful limit n (core_of w) s.lock r.events o.tied o.bounded o.rows r.run);
+      lawful = subst (λ (x : World). IsLawful n limit x.words) r.ends (final_lawful limit n (core_of w) s.lock r.events o.tied o.bounded o.rows r.run);
       who_is_in = λ p below i.
           let phase : ends.0.lock.phase p ≡ phase_of ((final n limit (core_of w) r.events).words p) ((final n limit (core_of w) r.events).places p) = ap (λ a. a.phase p) (lock ∙ ap (all_done s.lock) (sym r.same)) ∙ tied.phase p below in
           let numbers = in_numbers _ _ _ _ (subst IsIn phase i) in
-          subst (λ (x : ℕ → Own). (0 < (x p).number) × (0 < (x p).inside)) r.ends numbers;
+          subst (λ (x : World). (0 < (x.words p).number) × (0 < (x.words p).inside)) r.ends numbers;
     }
 
 pub reached_arrives : {l : Layout} {limit : ℕ} {w : GlobalState} {history : List Deed} → IsLayout l → (r : IsReached l limit w history) → Arrived l limit r.state w history

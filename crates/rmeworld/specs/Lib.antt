@@ -19,6 +19,7 @@ pub mod WorldRuns
 pub mod Advancing
 pub mod Reached
 pub mod UnderWay
+pub mod HomeState
 pub mod OwnSteps
 pub mod Paid
 pub mod CallWalk

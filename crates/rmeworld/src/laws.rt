@@ -2,9 +2,11 @@
 //! after those before it. Each law is the contract of a function.
 
 ghost use Rattle.std.specs.Prelude.{◌≡◌, ℕ, false, List, [], ◌∷◌, ◌++◌, length, None};
+ghost use Rattle.rmecore.specs.Lawful.{IsLawful};
 ghost use Rattle.rmecore.specs.Paid.{is_glance};
 ghost use Rattle.rmecore.specs.Simulated.{own_at};
-ghost use Rattle.redomail.specs.Layout.{words_of};
+ghost use Rattle.rmecore.specs.declared.own.Own.{Own};
+ghost use Rattle.redomail.specs.Layout.{Words, words_of};
 ghost use Rattle.judge.specs.Legal.{Leads, IsLegal};
 ghost use Rattle.judge.specs.Starts.{state_of};
 ghost use Rattle.judge.specs.Table.{State};
@@ -15,6 +17,7 @@ ghost use Rattle.rmeworld.specs.ImageRules.{layout_of, IsLawfulImage};
 ghost use Rattle.rmeworld.specs.ImageStart.{IsStartOf};
 ghost use Rattle.rmeworld.specs.CallWalk.{CallsTakeTheirSteps, NoCallTakesMore};
 ghost use Rattle.rmeworld.specs.Holders.{OnlyHoldersPut};
+ghost use Rattle.rmeworld.specs.HomeState.{CanComeHome};
 ghost use Rattle.rmeworld.specs.Law.{IsLater, EveryExecutionIsSound, EveryExecutionIsLegal, EveryExecutionEndsLawful};
 ghost use Rattle.rmeworld.specs.Reached.{crashed_global_state, EveryLaterExecutionIsSound, EveryExecutionLeavesAnImage};
 ghost use Rattle.rmeworld.specs.Replayed.{start_refusal, started, advance_refusal, stepped, advanced, crash_refusal, crash_deed, crashed, list_of};
@@ -144,4 +147,19 @@ pub fn messages_were_sent()
     ensures replies { RepliesTell }
     ensures stored { StoredIsShown }
     ensures asked { EveryDeedWasAsked }
+{}
+
+/// After every execution, some continuation without crash and withdraw answers each call that is under way and leads to a
+/// global state in which all processes rest and all lock words are 0. In it all that wait enter, in the order of their
+/// pairs. Also from lawful lock words with all processes crashed, whatever the data words are (`later`), so from each lawful
+/// image (`image`). That it is taken is not said.
+pub fn every_execution_can_come_home()
+    ensures new { (l : Layout) (limit : ℕ) (execution : List WorldEvent) → Execution l limit at_first execution
+        → CanComeHome l limit (last_global_state l limit at_first execution) }
+    ensures later { (l : Layout) (limit : ℕ) (words : ℕ → Own) (cells : Words) (execution : List WorldEvent)
+        → IsLawful l.procs limit words → let first = crashed_global_state l.procs words cells in
+        Execution l limit first execution → CanComeHome l limit (last_global_state l limit first execution) }
+    ensures image { (i : Image) (execution : List WorldEvent) → IsLawfulImage i
+        → let first = global_state_of (image_world i) in Execution (layout_of i) i.limit first execution
+        → CanComeHome (layout_of i) i.limit (last_global_state (layout_of i) i.limit first execution) }
 {}

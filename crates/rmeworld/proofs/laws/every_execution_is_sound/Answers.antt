@@ -1,5 +1,5 @@
 use Rattle.std.proofs.Common.{subst}
-use Rattle.rmeworld.proofs.Common.{Legal, nobody, IsLawful, nothing_shown, empty, EveryExecutionIsSound, at_first}
+use Rattle.rmeworld.proofs.Common.{Legal, nobody, IsLawful, World, nothing_shown, empty, EveryExecutionIsSound, at_first}
 use Rattle.rmeworld.proofs.Beginning.{later_is_sound}
 use Rattle.rmeworld.proofs.LawfulNow.{every_execution_leaves_an_image}
 use Rattle.rmeworld.proofs.Projection.{projected}
@@ -24,7 +24,7 @@ returns-clause-later c = later_is_sound
 pub returns-clause-lawful : goal.returns-clause-lawful
 returns-clause-lawful c = λ l limit execution h.
     let r = projected l limit at_first execution (λ p. tt) h in
-    subst (IsLawful l.procs limit) r.ends (c.every_run_ends_lawful.ensures l.procs limit r.events r.run)
+    subst (λ (x : World). IsLawful l.procs limit x.words) r.ends (c.every_run_ends_lawful.ensures l.procs limit r.events r.run)
 
 pub returns-clause-image : goal.returns-clause-image
 returns-clause-image c = every_execution_leaves_an_image

@@ -1,13 +1,17 @@
 -- The ranges of the program's numbers (the specification's "Limits").
-use Rattle.std.specs.Prelude.{◌≤◌}
+use Rattle.std.specs.Prelude.{◌≤◌, ℕ}
 use Rattle.cli.specs.declared.arguments.args.Command.{Command}
 use Rattle.cli.specs.declared.arguments.args.Command.TheVariants.{Replay, Run, Hunt, Explore, Judge, Draw, Shrink, Explain}
 use Rattle.cli.specs.declared.arguments.args.HuntArgs.{HuntArgs}
 use Rattle.cli.specs.declared.arguments.args.RunArgs.{RunArgs}
 
+-- the rounds of a hunt, and the moves of a round
+abbrev pub IsHuntSize : ℕ → ℕ → Type 0
+IsHuntSize rounds steps = ((1 ≤ rounds) × (rounds ≤ 10000)) × (1 ≤ steps) × (steps ≤ 10000)
+
 -- the numbers of a hunt are in their ranges
 abbrev pub HuntFits : HuntArgs → Type 0
-HuntFits args = ((1 ≤ args.rounds) × (args.rounds ≤ 10000)) × (1 ≤ args.steps) × (args.steps ≤ 10000)
+HuntFits args = IsHuntSize args.rounds args.steps
 
 -- the processes, the messages of each, the crashes in 1,000 askings, and the words of a message
 abbrev pub RunFits : RunArgs → Type 0

@@ -1,5 +1,9 @@
 //! The arguments of a command line, as rows of a table.
 
+ghost use Rattle.std.specs.Prelude.{◌≡◌, false, codes};
+ghost use Rattle.clap.specs.Words.{rule_of};
+ghost use Rattle.cli.specs.CommandLine.{flag, option, number, word, variant, required, rule_of_argument, rule_of_form};
+
 use clap::{Arg, ArgAction, value_parser};
 use std::alloc::Global;
 
@@ -31,7 +35,9 @@ pub struct Argument<'a> {
 
 impl<'a> Argument<'a> {
     /// An argument that can be left out.
-    pub fn new(form: Form, name: &'a str, value: &'a str, help: &'a str) -> Argument<'a> {
+    pub fn new(form: Form, name: &'a str, value: &'a str, help: &'a str) -> Argument<'a>
+        ensures { rule_of_argument result ≡ record (rule_of_form form name.entry.now) { required = false } }
+    {
         Argument {
             form,
             name,
@@ -42,7 +48,9 @@ impl<'a> Argument<'a> {
     }
 
     /// The same argument, but it can't be left out.
-    pub fn required(self) -> Argument<'a> {
+    pub fn required(self) -> Argument<'a>
+        ensures { rule_of_argument result ≡ required (rule_of_argument self.entry) }
+    {
         Argument {
             required: true,
             ..self
@@ -50,49 +58,66 @@ impl<'a> Argument<'a> {
     }
 
     /// `--name`.
-    pub fn flag(name: &'a str, help: &'a str) -> Argument<'a> {
+    pub fn flag(name: &'a str, help: &'a str) -> Argument<'a>
+        ensures { rule_of_argument result ≡ flag name.entry.now }
+    {
         Argument::new(Form::Flag, name, "", help)
     }
 
     /// `--name VALUE`, the value a text.
-    pub fn text(name: &'a str, value: &'a str, help: &'a str) -> Argument<'a> {
+    pub fn text(name: &'a str, value: &'a str, help: &'a str) -> Argument<'a>
+        ensures { rule_of_argument result ≡ option name.entry.now }
+    {
         Argument::new(Form::Text, name, value, help)
     }
 
     /// `--name VALUE`, the value a number.
-    pub fn number(name: &'a str, value: &'a str, help: &'a str) -> Argument<'a> {
+    pub fn number(name: &'a str, value: &'a str, help: &'a str) -> Argument<'a>
+        ensures { rule_of_argument result ≡ number name.entry.now }
+    {
         Argument::new(Form::Number, name, value, help)
     }
 
     /// The file that is read.
-    pub fn file(help: &'a str) -> Argument<'a> {
+    pub fn file(help: &'a str) -> Argument<'a>
+        ensures { rule_of_argument result ≡ word (codes "FILE") }
+    {
         Argument::new(Form::Word, "FILE", "", help)
     }
 
     /// `--variant V`.
-    pub fn variant() -> Argument<'a> {
+    pub fn variant() -> Argument<'a>
+        ensures { rule_of_argument result ≡ variant }
+    {
         let names = "right, no-look, no-ties, renumber, exit-on-crash, count-up or last-skipped";
         Argument::text("variant", "V", names)
     }
 
     /// `--image FILE`.
-    pub fn image() -> Argument<'a> {
+    pub fn image() -> Argument<'a>
+        ensures { rule_of_argument result ≡ option (codes "image") }
+    {
         let help = "Begin with the words of this image, every process crashed";
         Argument::text("image", "FILE", help)
     }
 
     /// An option with a value, as a `clap` argument.
-    fn option(self, alloc: Global) -> Arg<'a> {
+    fn option(self, alloc: Global) -> Arg<'a>
+        ensures rule { rule_of result ≡ option self.entry.name.now }
+        ensures local { result.global ≡ false }
+    {
         Arg::new(alloc, self.name)
             .long(self.name)
             .value_name(self.value)
             .help(self.help)
-            .required(self.required)
             .action(ArgAction::Set)
     }
 
-    /// The `clap` argument.
-    pub fn arg(self, alloc: Global) -> Arg<'a> {
+    /// The `clap` argument, as one that can be left out.
+    fn optional(self, alloc: Global) -> Arg<'a>
+        ensures rule { rule_of result ≡ rule_of_form self.entry.form self.entry.name.now }
+        ensures local { result.global ≡ false }
+    {
         match self.form {
             Form::Flag => Arg::new(alloc, self.name)
                 .long(self.name)
@@ -107,5 +132,13 @@ impl<'a> Argument<'a> {
                 .help(self.help)
                 .action(ArgAction::Append),
         }
+    }
+
+    /// The `clap` argument.
+    pub fn arg(self, alloc: Global) -> Arg<'a>
+        ensures rule { rule_of result ≡ rule_of_argument self.entry }
+        ensures local { result.global ≡ false }
+    {
+        self.optional(alloc).required(self.required)
     }
 }

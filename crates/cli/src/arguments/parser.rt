@@ -1,5 +1,8 @@
 //! The command line for `clap`: its commands, their options and their help.
 
+ghost use Rattle.std.specs.Prelude.{map, IfOk};
+ghost use Rattle.cli.specs.CommandLine.{IsParser, AddsPart, alone, part, rule_of_argument, head, replay, run, hunt, explore, judge, draw, shrink, explain, rmelab};
+
 use crate::arguments::argument::{Argument, Form};
 use clap::Command as Parser;
 use std::alloc::{AllocError, Global};
@@ -68,7 +71,9 @@ fn command<'a>(
     about: &'a str,
     help: &'a str,
     arguments: &[Argument<'a>],
-) -> Result<Parser<'a>, AllocError> {
+) -> Result<Parser<'a>, AllocError>
+    ensures { IfOk result (IsParser (alone (part name.entry.now (map rule_of_argument arguments.now)))) }
+{
     let mut command = Parser::new(alloc, name).about(about).after_help(help);
     for argument in arguments {
         command = command.arg(argument.arg(alloc))?;
@@ -76,7 +81,9 @@ fn command<'a>(
     Ok(command)
 }
 
-fn replay<'a>(alloc: Global) -> Result<Parser<'a>, AllocError> {
+fn replay<'a>(alloc: Global) -> Result<Parser<'a>, AllocError>
+    ensures { IfOk result (IsParser (alone replay)) }
+{
     let about = "Runs a schedule of steps and crashes, and prints its report";
     let arguments = [
         Argument::flag("json", "Print one JSON object of the report's lines"),
@@ -92,7 +99,9 @@ fn replay<'a>(alloc: Global) -> Result<Parser<'a>, AllocError> {
     command(alloc, "replay", about, REPLAY_HELP, &arguments)
 }
 
-fn run<'a>(alloc: Global) -> Result<Parser<'a>, AllocError> {
+fn run<'a>(alloc: Global) -> Result<Parser<'a>, AllocError>
+    ensures { IfOk result (IsParser (alone run)) }
+{
     let about = "Runs senders on threads, with drawn crashes, and counts what came through";
     let arguments = [
         Argument::number("procs", "N", "1 to 16 senders").required(),
@@ -104,7 +113,9 @@ fn run<'a>(alloc: Global) -> Result<Parser<'a>, AllocError> {
     command(alloc, "run", about, RUN_HELP, &arguments)
 }
 
-fn hunt<'a>(alloc: Global) -> Result<Parser<'a>, AllocError> {
+fn hunt<'a>(alloc: Global) -> Result<Parser<'a>, AllocError>
+    ensures { IfOk result (IsParser (alone hunt)) }
+{
     let about = "Draws schedules until a variant of the lock goes wrong";
     let arguments = [
         Argument::variant().required(),
@@ -116,7 +127,9 @@ fn hunt<'a>(alloc: Global) -> Result<Parser<'a>, AllocError> {
     command(alloc, "hunt", about, HUNT_HELP, &arguments)
 }
 
-fn explore<'a>(alloc: Global) -> Result<Parser<'a>, AllocError> {
+fn explore<'a>(alloc: Global) -> Result<Parser<'a>, AllocError>
+    ensures { IfOk result (IsParser (alone explore)) }
+{
     let about = "Tries all schedules up to a bound, for the shortest that goes wrong";
     let calls =
         "lock, unlock, recover, consistent, withdraw, append and close, with commas; lock,unlock without it";
@@ -134,13 +147,17 @@ fn explore<'a>(alloc: Global) -> Result<Parser<'a>, AllocError> {
     command(alloc, "explore", about, EXPLORE_HELP, &arguments)
 }
 
-fn judge<'a>(alloc: Global) -> Result<Parser<'a>, AllocError> {
+fn judge<'a>(alloc: Global) -> Result<Parser<'a>, AllocError>
+    ensures { IfOk result (IsParser (alone judge)) }
+{
     let about = "Judges a trace of deeds, and prints the verdict";
     let arguments = [Argument::file("The trace; without it, standard input is read")];
     command(alloc, "judge", about, JUDGE_HELP, &arguments)
 }
 
-fn draw<'a>(alloc: Global) -> Result<Parser<'a>, AllocError> {
+fn draw<'a>(alloc: Global) -> Result<Parser<'a>, AllocError>
+    ensures { IfOk result (IsParser (alone draw)) }
+{
     let about = "Draws the run of a schedule as a space-time diagram";
     let arguments = [
         Argument::variant(),
@@ -151,7 +168,9 @@ fn draw<'a>(alloc: Global) -> Result<Parser<'a>, AllocError> {
     command(alloc, "draw", about, DRAW_HELP, &arguments)
 }
 
-fn shrink<'a>(alloc: Global) -> Result<Parser<'a>, AllocError> {
+fn shrink<'a>(alloc: Global) -> Result<Parser<'a>, AllocError>
+    ensures { IfOk result (IsParser (alone shrink)) }
+{
     let about = "Makes a schedule that goes wrong on a variant of the lock least";
     let arguments = [
         Argument::variant().required(),
@@ -160,7 +179,9 @@ fn shrink<'a>(alloc: Global) -> Result<Parser<'a>, AllocError> {
     command(alloc, "shrink", about, SHRINK_HELP, &arguments)
 }
 
-fn explain<'a>(alloc: Global) -> Result<Parser<'a>, AllocError> {
+fn explain<'a>(alloc: Global) -> Result<Parser<'a>, AllocError>
+    ensures { IfOk result (IsParser (alone explain)) }
+{
     let about = "Says what a number or a word of reports and faults means";
     let names =
         "The name, as `fault 5`, `refused 12`, `rule 7`, `against 4`, `answer clean` or `step look`";
@@ -168,7 +189,9 @@ fn explain<'a>(alloc: Global) -> Result<Parser<'a>, AllocError> {
     command(alloc, "explain", about, EXPLAIN_HELP, &arguments)
 }
 
-fn head<'a>(alloc: Global) -> Parser<'a> {
+fn head<'a>(alloc: Global) -> Parser<'a>
+    ensures { IsParser (alone head) result }
+{
     Parser::new(alloc, "rmelab")
         .about("A laboratory of recoverable first-come first-served locks")
         .after_help(STATUSES)
@@ -178,27 +201,24 @@ fn head<'a>(alloc: Global) -> Parser<'a> {
 
 /// The parser with one more command.
 fn with<'a>(
-    whole: Parser<'a>,
+    whole: Result<Parser<'a>, AllocError>,
     part: Result<Parser<'a>, AllocError>,
-) -> Result<Parser<'a>, AllocError> {
-    whole.subcommand(part?)
+) -> Result<Parser<'a>, AllocError>
+    ensures { AddsPart whole.entry part.entry result }
+{
+    whole?.subcommand(part?)
 }
 
 /// The whole command line. `AllocError`: out of memory.
-pub fn parser<'a>(alloc: Global) -> Result<Parser<'a>, AllocError> {
-    let parts = [
-        replay(alloc),
-        run(alloc),
-        hunt(alloc),
-        explore(alloc),
-        judge(alloc),
-        draw(alloc),
-        shrink(alloc),
-        explain(alloc),
-    ];
-    let mut whole = head(alloc);
-    for part in parts {
-        whole = with(whole, part)?;
-    }
-    Ok(whole)
+pub fn parser<'a>(alloc: Global) -> Result<Parser<'a>, AllocError>
+    ensures { IfOk result (IsParser rmelab) }
+{
+    let whole = with(Ok(head(alloc)), replay(alloc));
+    let whole = with(whole, run(alloc));
+    let whole = with(whole, hunt(alloc));
+    let whole = with(whole, explore(alloc));
+    let whole = with(whole, judge(alloc));
+    let whole = with(whole, draw(alloc));
+    let whole = with(whole, shrink(alloc));
+    with(whole, explain(alloc))
 }

@@ -1,8 +1,14 @@
 //! Reads the words of the command line.
 
-ghost use Rattle.std.specs.Prelude.{◌≡◌, ◌↔◌, IfOk, IsOk, OnErr, IsErrOf};
+ghost use Rattle.std.specs.Prelude.{◌≡◌, ◌≢◌, ◌↔◌, ◌==◌, true, map, option_map, IfOk, IfErr, IfSome, IsNone, IsSomeAnd, IsOk, OnOk, OnErr, IsErrOf, string_bytes, codes};
+ghost use Rattle.std.specs.List.{list_all, slice_split};
+ghost use Rattle.clap.specs.Words.{first_of, kind_of, subcommand_rows_of};
+ghost use Rattle.crashlab.specs.declared.variant.Variant.{Variant as AnyVariant};
 ghost use Rattle.cli.specs.declared.explain.dictionary_entry.DictionaryEntry.{DictionaryEntry as AnyDictionaryEntry};
+ghost use Rattle.cli.specs.Given.{given_in, is_set, number_or, word_of_variant, AsksFor, AsksForNone, style_of, has_call, is_call, alphabet_of, calls_of, entry_named};
 ghost use Rattle.cli.specs.Names.{name_of};
+ghost use Rattle.cli.specs.ReadWords.{GoesWithImage, IsBadBesideImage, IsFaultOfCalls, IsUnnamed, IsAnsweredBy};
+ghost use Rattle.cli.specs.ReadWords.{HasBadVariant, HasBadSize, IsCommand, Reads, IsName, Takes, IsRefusal, Refuses, texts_of};
 ghost use Rattle.cli.specs.Sizes.{IsSized, HuntFits, RunFits};
 
 use crate::arguments::args::{
@@ -31,7 +37,7 @@ pub enum WordsFault {
     /// There is no such variant, or it isn't `right` and an image is given; the exit status is 2.
     #[error("bad variant")]
     BadVariant,
-    /// A number of `run` or `hunt` is outside its range; the exit status is 2.
+    /// A number of `run` or `hunt` is outside its range, or a call of `explore` is none; the exit status is 2.
     #[error("bad size")]
     BadSize,
     /// A word isn't UTF-8 text.
@@ -42,6 +48,10 @@ pub enum WordsFault {
 }
 
 impl From<AllocError> for WordsFault {
+    ghost use Rattle.cli.specs.declared.arguments.words.WordsFault.TheVariants.{OutOfMemory};
+
+    ghost from_gives = { λ _ e. e ≡ OutOfMemory };
+
     fn from(_e: AllocError) -> WordsFault {
         WordsFault::OutOfMemory
     }
@@ -60,7 +70,10 @@ pub fn words_given<R: Env + Alloc<A = Global>>(rt: &R) -> Result<Vec<String>, Wo
 }
 
 /// The variant with this name.
-fn variant_named(name: &str) -> Option<Variant> {
+fn variant_named(name: &str) -> Option<Variant>
+    ensures some { IfSome result (λ variant. word_of_variant variant ≡ name.now) }
+    ensures none { IsNone result → (variant : AnyVariant) → word_of_variant variant ≢ name.now }
+{
     match name {
         "right" => Some(Variant::Right),
         "no-look" => Some(Variant::NoLook),
@@ -73,62 +86,98 @@ fn variant_named(name: &str) -> Option<Variant> {
     }
 }
 
+/// The text with this name.
+fn str_of<'a>(matches: &ArgMatches<'a>, name: &str) -> Option<&'a str>
+    ensures { option_map (λ text. text.now) result ≡ first_of name.now (given_in matches.now) }
+{
+    matches.get_str(name)
+}
+
 fn text_of(
     alloc: Global,
     matches: &ArgMatches<'_>,
     name: &str,
-) -> Result<Option<String>, AllocError> {
-    match matches.get_str(name) {
+) -> Result<Option<String>, AllocError>
+    ensures { IfOk result (λ text. option_map string_bytes text ≡ first_of name.now (given_in matches.now)) }
+{
+    match str_of(matches, name) {
         Some(text) => Ok(Some(String::from_str(alloc, text)?)),
         None => Ok(None),
     }
 }
 
-fn number_of(matches: &ArgMatches<'_>, name: &str) -> u64 {
-    matches.get_one::<u64>(name).unwrap_or(0)
+fn is_set(matches: &ArgMatches<'_>, name: &str) -> bool
+    ensures { result ≡ is_set name.now (given_in matches.now) }
+{
+    matches.get_one::<bool>(name).unwrap_or(false)
+}
+
+/// The number with this name, or `without` if it is left out.
+fn number_or(matches: &ArgMatches<'_>, name: &str, without: u64) -> u64
+    ensures { result ≡ number_or without name.now (given_in matches.now) }
+{
+    matches.get_one::<u64>(name).unwrap_or(without)
+}
+
+fn number_of(matches: &ArgMatches<'_>, name: &str) -> u64
+    ensures { result ≡ number_or 0 name.now (given_in matches.now) }
+{
+    number_or(matches, name, 0)
 }
 
 /// The variant that is asked for, or the one with the name `without`.
-fn variant_of(matches: &ArgMatches<'_>, without: &str) -> Result<Variant, WordsFault> {
-    let name = matches.get_str("variant").unwrap_or(without);
+fn variant_of(matches: &ArgMatches<'_>, without: &str) -> Result<Variant, WordsFault>
+    ensures found { IfOk result (AsksFor without.now (given_in matches.now)) }
+    ensures bad { OnErr result (IsErrOf result WordsFault.BadVariant × AsksForNone without.now (given_in matches.now)) }
+{
+    let name = str_of(matches, "variant").unwrap_or(without);
     variant_named(name).ok_or(WordsFault::BadVariant)
 }
 
 /// The variant that is asked for; without one, `right`. Only `right` goes with an image.
-fn variant_beside_image(matches: &ArgMatches<'_>) -> Result<Variant, WordsFault> {
+fn variant_beside_image(matches: &ArgMatches<'_>) -> Result<Variant, WordsFault>
+    ensures found { IfOk result (GoesWithImage (given_in matches.now)) }
+    ensures bad { OnErr result (IsErrOf result WordsFault.BadVariant × IsBadBesideImage (given_in matches.now)) }
+{
     let variant = variant_of(matches, "right")?;
-    if variant != Variant::Right && matches.get_str("image").is_some() {
+    if variant != Variant::Right && str_of(matches, "image").is_some() {
         return Err(WordsFault::BadVariant);
     }
     Ok(variant)
 }
 
-fn replay_words(alloc: Global, matches: &ArgMatches<'_>) -> Result<ReplayArgs, WordsFault> {
-    Ok(ReplayArgs {
-        json: matches.get_flag("json"),
-        each: matches.get_flag("each"),
+fn replay_words(alloc: Global, matches: &ArgMatches<'_>) -> Result<Command, WordsFault>
+    ensures { Reads (codes "replay") (given_in matches.now) result }
+{
+    Ok(Command::Replay(ReplayArgs {
+        json: is_set(matches, "json"),
+        each: is_set(matches, "each"),
         variant: variant_beside_image(matches)?,
         image: text_of(alloc, matches, "image")?,
         save: text_of(alloc, matches, "save")?,
         file: text_of(alloc, matches, "FILE")?,
-    })
+    }))
 }
 
-fn style_of(matches: &ArgMatches<'_>) -> Style {
-    if matches.get_flag("svg") {
+fn style_of(matches: &ArgMatches<'_>) -> Style
+    ensures { result ≡ style_of (given_in matches.now) }
+{
+    if is_set(matches, "svg") {
         Style::Svg
     } else {
         Style::Text
     }
 }
 
-fn draw_words(alloc: Global, matches: &ArgMatches<'_>) -> Result<DrawArgs, WordsFault> {
-    Ok(DrawArgs {
+fn draw_words(alloc: Global, matches: &ArgMatches<'_>) -> Result<Command, WordsFault>
+    ensures { Reads (codes "draw") (given_in matches.now) result }
+{
+    Ok(Command::Draw(DrawArgs {
         style: style_of(matches),
         variant: variant_beside_image(matches)?,
         image: text_of(alloc, matches, "image")?,
         file: text_of(alloc, matches, "FILE")?,
-    })
+    }))
 }
 
 /// The arguments of a hunt, if its numbers are in their ranges.
@@ -145,68 +194,98 @@ fn hunt_of(args: HuntArgs) -> Result<HuntArgs, WordsFault>
     }
 }
 
-fn hunt_words(matches: &ArgMatches<'_>) -> Result<HuntArgs, WordsFault>
-    ensures { IfOk result HuntFits }
+fn hunt_words(matches: &ArgMatches<'_>) -> Result<Command, WordsFault>
+    ensures sized { IfOk result IsSized }
+    ensures reads { Reads (codes "hunt") (given_in matches.now) result }
 {
-    hunt_of(HuntArgs {
+    let args = hunt_of(HuntArgs {
         variant: variant_of(matches, "")?,
         seed: number_of(matches, "seed"),
         rounds: number_of(matches, "rounds"),
         steps: number_of(matches, "steps"),
-        shrink: matches.get_flag("shrink"),
-    })
+        shrink: is_set(matches, "shrink"),
+    })?;
+    Ok(Command::Hunt(args))
 }
 
-fn shrink_words(alloc: Global, matches: &ArgMatches<'_>) -> Result<ShrinkArgs, WordsFault> {
-    Ok(ShrinkArgs {
+fn shrink_words(alloc: Global, matches: &ArgMatches<'_>) -> Result<Command, WordsFault>
+    ensures { Reads (codes "shrink") (given_in matches.now) result }
+{
+    Ok(Command::Shrink(ShrinkArgs {
         variant: variant_of(matches, "")?,
         file: text_of(alloc, matches, "FILE")?,
-    })
+    }))
+}
+
+/// Whether a search can start this call.
+fn is_call(name: &str) -> bool
+    ensures { result ≡ is_call name.now }
+{
+    matches!(
+        name,
+        "lock" | "unlock" | "recover" | "consistent" | "withdraw" | "append" | "close"
+    )
+}
+
+fn has_call(calls: &[&str], name: &str) -> bool
+    ensures { result ≡ has_call name.now (map (λ call. call.now) calls.now) }
+{
+    calls.contains(&name)
+}
+
+fn are_calls(calls: &[&str]) -> bool
+    ensures { result ≡ list_all (λ call. is_call call.now) calls.now }
+{
+    for call in calls {
+        if !is_call(call) {
+            return false;
+        }
+    }
+    true
 }
 
 /// The calls of this list, which has commas between them.
-fn alphabet_of(list: &str) -> Result<Alphabet, WordsFault> {
-    let mut calls = Alphabet {
-        lock: false,
-        unlock: false,
-        recover: false,
-        consistent: false,
-        withdraw: false,
-        append: false,
-        close: false,
-    };
-    for name in list.split(',') {
-        match name {
-            "lock" => calls.lock = true,
-            "unlock" => calls.unlock = true,
-            "recover" => calls.recover = true,
-            "consistent" => calls.consistent = true,
-            "withdraw" => calls.withdraw = true,
-            "append" => calls.append = true,
-            "close" => calls.close = true,
-            _ => return Err(WordsFault::BadSize),
-        }
+fn calls_in(alloc: Global, list: &str) -> Result<Vec<&str>, AllocError>
+    ensures { IfOk result (λ calls. map (λ call. call.now) calls.items ≡ slice_split (λ byte. byte == 44) list.now) }
+{
+    list.split(',').collect(alloc)
+}
+
+#[tactic(auto, using(crate::proofs::Reading::all_calls))]
+fn alphabet_of(alloc: Global, matches: &ArgMatches<'_>) -> Result<Alphabet, WordsFault>
+    ensures ok { IfOk result (λ calls. calls ≡ alphabet_of (calls_of (given_in matches.now))) }
+    ensures known { OnOk result (list_all is_call (calls_of (given_in matches.now)) ≡ true) }
+    ensures bad { IfErr result (IsFaultOfCalls (given_in matches.now)) }
+{
+    let calls = calls_in(alloc, str_of(matches, "calls").unwrap_or("lock,unlock"))?;
+    if !are_calls(&calls) {
+        return Err(WordsFault::BadSize);
     }
-    Ok(calls)
+    Ok(Alphabet {
+        lock: has_call(&calls, "lock"),
+        unlock: has_call(&calls, "unlock"),
+        recover: has_call(&calls, "recover"),
+        consistent: has_call(&calls, "consistent"),
+        withdraw: has_call(&calls, "withdraw"),
+        append: has_call(&calls, "append"),
+        close: has_call(&calls, "close"),
+    })
 }
 
-/// The number with this name, or `without` if it is left out.
-fn number_or(matches: &ArgMatches<'_>, name: &str, without: u64) -> u64 {
-    matches.get_one::<u64>(name).unwrap_or(without)
-}
-
-fn explore_words(matches: &ArgMatches<'_>) -> Result<ExploreArgs, WordsFault> {
-    Ok(ExploreArgs {
+fn explore_words(alloc: Global, matches: &ArgMatches<'_>) -> Result<Command, WordsFault>
+    ensures { Reads (codes "explore") (given_in matches.now) result }
+{
+    Ok(Command::Explore(ExploreArgs {
         variant: variant_of(matches, "")?,
         procs: number_of(matches, "procs"),
-        calls: alphabet_of(matches.get_str("calls").unwrap_or("lock,unlock"))?,
+        calls: alphabet_of(alloc, matches)?,
         crashes: number_of(matches, "crashes"),
         moves: number_or(matches, "moves", u64::MAX),
         states: number_or(matches, "states", 10_000_000),
         limit: number_or(matches, "limit", 4),
         cap: number_or(matches, "cap", 1),
         width: number_or(matches, "width", 1),
-    })
+    }))
 }
 
 /// The arguments of a run, if its numbers are in their ranges.
@@ -226,16 +305,24 @@ fn run_of(args: RunArgs) -> Result<RunArgs, WordsFault>
     }
 }
 
-fn run_words(matches: &ArgMatches<'_>) -> Result<RunArgs, WordsFault>
-    ensures { IfOk result RunFits }
+fn run_words(matches: &ArgMatches<'_>) -> Result<Command, WordsFault>
+    ensures sized { IfOk result IsSized }
+    ensures reads { Reads (codes "run") (given_in matches.now) result }
 {
-    run_of(RunArgs {
+    let args = run_of(RunArgs {
         procs: number_of(matches, "procs"),
         messages: number_of(matches, "messages"),
         crash: number_of(matches, "crash"),
         seed: number_of(matches, "seed"),
-        width: matches.get_one::<u64>("width").unwrap_or(1),
-    })
+        width: number_or(matches, "width", 1),
+    })?;
+    Ok(Command::Run(args))
+}
+
+fn judge_words(alloc: Global, matches: &ArgMatches<'_>) -> Result<Command, WordsFault>
+    ensures { Reads (codes "judge") (given_in matches.now) result }
+{
+    Ok(Command::Judge(text_of(alloc, matches, "FILE")?))
 }
 
 /// The error text for words that name no entry.
@@ -249,6 +336,7 @@ fn unnamed(alloc: Global, name: &str) -> Result<String, AllocError> {
 fn dictionary_entry_of(alloc: Global, name: &str) -> Result<DictionaryEntry, WordsFault>
     ensures named { IfOk result (λ dictionary_entry. name_of dictionary_entry ≡ name.now) }
     ensures found { (dictionary_entry : AnyDictionaryEntry) → name_of dictionary_entry ≡ name.now → IsOk result }
+    ensures refused { IfErr result IsUnnamed }
 {
     match dictionary_entry_named(name) {
         Some(dictionary_entry) => Ok(dictionary_entry),
@@ -258,45 +346,68 @@ fn dictionary_entry_of(alloc: Global, name: &str) -> Result<DictionaryEntry, Wor
     }
 }
 
-/// The entry that the words name, joined by spaces; none without words.
-fn explain_words(
-    alloc: Global,
-    matches: &ArgMatches<'_>,
-) -> Result<Option<DictionaryEntry>, WordsFault> {
+/// The words to be explained, joined by spaces.
+fn entry_name(alloc: Global, matches: &ArgMatches<'_>) -> Result<Option<String>, AllocError>
+    ensures { IfOk result (λ name. option_map string_bytes name ≡ entry_named (given_in matches.now)) }
+{
     match matches.get_strs("WORDS") {
-        Some(words) => {
-            let name = words.join(alloc, " ")?;
-            Ok(Some(dictionary_entry_of(alloc, &name)?))
-        }
+        Some(words) => Ok(Some(words.join(alloc, " ")?)),
         None => Ok(None),
     }
 }
 
-fn command_of(alloc: Global, matches: &ArgMatches<'_>) -> Result<Command, WordsFault>
-    ensures { IfOk result IsSized }
+/// The entry that the words name; none without words.
+fn explain_words(alloc: Global, matches: &ArgMatches<'_>) -> Result<Command, WordsFault>
+    ensures { Reads (codes "explain") (given_in matches.now) result }
 {
-    match matches.subcommand() {
-        Some(("replay", inner)) => Ok(Command::Replay(replay_words(alloc, inner)?)),
-        Some(("run", inner)) => Ok(Command::Run(run_words(inner)?)),
-        Some(("hunt", inner)) => Ok(Command::Hunt(hunt_words(inner)?)),
-        Some(("explore", inner)) => Ok(Command::Explore(explore_words(inner)?)),
-        Some(("draw", inner)) => Ok(Command::Draw(draw_words(alloc, inner)?)),
-        Some(("shrink", inner)) => Ok(Command::Shrink(shrink_words(alloc, inner)?)),
-        Some(("explain", inner)) => Ok(Command::Explain(explain_words(alloc, inner)?)),
-        Some((_, inner)) => Ok(Command::Judge(text_of(alloc, inner, "FILE")?)),
-        None => Err(WordsFault::BadVariant),
+    match entry_name(alloc, matches)? {
+        Some(name) => Ok(Command::Explain(Some(dictionary_entry_of(alloc, &name)?))),
+        None => Ok(Command::Explain(None)),
     }
 }
 
-fn refused(alloc: Global, error: &Error) -> Result<WordsFault, AllocError> {
-    if error.kind() == ErrorKind::OutOfMemory {
-        return Ok(WordsFault::OutOfMemory);
+/// The command with this name and what is given to it.
+fn command_of(alloc: Global, name: &str, matches: &ArgMatches<'_>) -> Result<Command, WordsFault>
+    requires { IsName name.now }
+    ensures sized { IfOk result IsSized }
+    ensures reads { Reads name.now (given_in matches.now) result }
+{
+    match name {
+        "replay" => replay_words(alloc, matches),
+        "run" => run_words(matches),
+        "hunt" => hunt_words(matches),
+        "explore" => explore_words(alloc, matches),
+        "draw" => draw_words(alloc, matches),
+        "shrink" => shrink_words(alloc, matches),
+        "explain" => explain_words(alloc, matches),
+        "judge" => judge_words(alloc, matches),
+        _ => unreachable!(),
     }
-    let text = format!(in alloc; "{error}")?;
-    if error.use_stderr() {
-        Ok(WordsFault::Refused { text })
-    } else {
-        Ok(WordsFault::Help { text })
+}
+
+/// The command that `clap` found in the words.
+fn command_in(alloc: Global, matches: &ArgMatches<'_>) -> Result<Command, WordsFault>
+    requires { IsSomeAnd (subcommand_rows_of matches.now) (λ command. IsName command.0) }
+    ensures sized { IfOk result IsSized }
+    ensures reads { IsSomeAnd (subcommand_rows_of matches.now) (λ command. Reads command.0 command.1 result) }
+{
+    match matches.subcommand() {
+        Some((name, given)) => command_of(alloc, name, given),
+        None => unreachable!(),
+    }
+}
+
+fn refused(alloc: Global, error: &Error) -> Result<WordsFault, AllocError>
+    ensures { IfOk result (IsAnsweredBy (kind_of error.now)) }
+{
+    match error.kind() {
+        ErrorKind::OutOfMemory => Ok(WordsFault::OutOfMemory),
+        ErrorKind::DisplayHelp | ErrorKind::DisplayVersion => Ok(WordsFault::Help {
+            text: format!(in alloc; "{error}")?,
+        }),
+        _ => Ok(WordsFault::Refused {
+            text: format!(in alloc; "{error}")?,
+        }),
     }
 }
 
@@ -304,9 +415,15 @@ fn refused(alloc: Global, error: &Error) -> Result<WordsFault, AllocError> {
 /// variant, then a bad size. Words of `explain` that name no entry are refused in the same way as by `clap`.
 pub fn read_words(alloc: Global, words: &[String]) -> Result<Command, WordsFault>
     ensures sized { IfOk result IsSized }
+    ensures command { IfOk result (λ command. Takes (texts_of words.now) (λ name given. IsCommand name given command)) }
+    ensures refused { IfErr result (IsRefusal (texts_of words.now)) }
+
+    // Of words with a bad variant or a bad size nothing else is answered, but that there is no memory.
+    ensures variant { Takes (texts_of words.now) HasBadVariant → Refuses result WordsFault.BadVariant }
+    ensures size { Takes (texts_of words.now) HasBadSize → Refuses result WordsFault.BadSize }
 {
     match parser(alloc)?.try_get_matches_from(words) {
-        Ok(matches) => command_of(alloc, &matches),
+        Ok(matches) => command_in(alloc, &matches),
         Err(error) => Err(refused(alloc, &error)?),
     }
 }

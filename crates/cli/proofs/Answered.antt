@@ -1,0 +1,139 @@
+-- Words with a bad variant or a bad size are answered with that alone.
+use Rattle.std.proofs.Common.{◌≡◌, ◌⊎◌, ◌∙◌, false, List, [], Option, Some, None, Result, Ok, Err, IfOk, IfErr, IsSomeAnd, inl, inr, refl, sym, subst, subst₂, codes}
+use Rattle.std.specs.Str.{bytes_eq}
+use Rattle.std.proofs.lemmas.Bool.{false≢true}
+use Rattle.clap.specs.Words.{Text, fault_of, subcommand_of, IsAmong}
+use Rattle.clap.specs.Kinds.{Kinds}
+use Rattle.clap.specs.declared.error.kind.ErrorKind.{ErrorKind}
+use Rattle.crashlab.specs.declared.variant.Variant.{Variant}
+use Rattle.crashlab.specs.declared.variant.Variant.TheVariants.{Right, NoLook, NoTies, Renumber, ExitOnCrash, CountUp, LastSkipped}
+use Rattle.cli.specs.declared.arguments.args.Command.{Command}
+use Rattle.cli.specs.declared.arguments.args.Command.TheVariants.{Replay, Run, Hunt, Explore, Judge, Draw, Shrink, Explain}
+use Rattle.cli.specs.declared.arguments.words.WordsFault.{WordsFault}
+use Rattle.cli.specs.declared.arguments.words.WordsFault.TheVariants.{Help, Refused, BadVariant, BadSize, Unreadable, OutOfMemory}
+use Rattle.cli.specs.CommandLine.{rmelab}
+use Rattle.cli.specs.Given.{Given, word_of_variant}
+use Rattle.cli.specs.ReadWords.{GoesWithImage, IsBadBesideImage, HasBadVariant, IsOutOfRange, HasBadSize, HasNoEntry, IsCommand, Takes, IsRefusal}
+use Rattle.cli.specs.Sizes.{IsSized, RunFits, IsHuntSize}
+use Rattle.cli.proofs.Texts.{differ}
+
+abbrev TakesImage : Text → Type 0
+TakesImage name = (name ≡ codes "replay") ⊎ (name ≡ codes "draw")
+
+abbrev NeedsVariant : Text → Type 0
+NeedsVariant name = (name ≡ codes "hunt") ⊎ ((name ≡ codes "explore") ⊎ (name ≡ codes "shrink"))
+
+-- a command of another name
+other_name : (a b name : Text) → name ≡ a → bytes_eq a b ≡ false → name ≡ b → ⊥
+other_name a b name is other e = differ a b other (sym is ∙ e)
+
+takes_no_image : (a name : Text) → name ≡ a → bytes_eq a (codes "replay") ≡ false → bytes_eq a (codes "draw") ≡ false → TakesImage name → ⊥
+takes_no_image a name is replay draw (inl e) = other_name a (codes "replay") name is replay e
+takes_no_image a name is replay draw (inr e) = other_name a (codes "draw") name is draw e
+
+needs_none : (a name : Text) → name ≡ a → bytes_eq a (codes "hunt") ≡ false → bytes_eq a (codes "explore") ≡ false → bytes_eq a (codes "shrink") ≡ false
+    → NeedsVariant name → ⊥
+needs_none a name is hunt explore shrink (inl e) = other_name a (codes "hunt") name is hunt e
+needs_none a name is hunt explore shrink (inr (inl e)) = other_name a (codes "explore") name is explore e
+needs_none a name is hunt explore shrink (inr (inr e)) = other_name a (codes "shrink") name is shrink e
+
+only_right : (variant : Variant) → word_of_variant variant ≡ codes "right" → variant ≡ Right
+only_right Right e = refl
+only_right NoLook e = absurd (differ (codes "no-look") (codes "right") refl e)
+only_right NoTies e = absurd (differ (codes "no-ties") (codes "right") refl e)
+only_right Renumber e = absurd (differ (codes "renumber") (codes "right") refl e)
+only_right ExitOnCrash e = absurd (differ (codes "exit-on-crash") (codes "right") refl e)
+only_right CountUp e = absurd (differ (codes "count-up") (codes "right") refl e)
+only_right LastSkipped e = absurd (differ (codes "last-skipped") (codes "right") refl e)
+
+goes : (given : Given) (variant : Variant) → GoesWithImage given variant → IsBadBesideImage given → ⊥
+goes given variant h (inl none) = none variant h.0
+goes given variant h (inr other) =
+    other.2 (only_right other.0 (other.1 ∙ sym h.0 ∙ subst (λ (v : Variant). word_of_variant v ≡ codes "right") (sym (h.1 other.3)) refl))
+
+neither : (a name : Text) (given : Given) → name ≡ a → bytes_eq a (codes "replay") ≡ false → bytes_eq a (codes "draw") ≡ false → bytes_eq a (codes "hunt") ≡ false
+    → bytes_eq a (codes "explore") ≡ false → bytes_eq a (codes "shrink") ≡ false → HasBadVariant name given → ⊥
+neither a name given is replay draw hunt explore shrink (inl bad) = takes_no_image a name is replay draw bad.0
+neither a name given is replay draw hunt explore shrink (inr bad) = needs_none a name is hunt explore shrink bad.0
+
+good_variant : (name : Text) (given : Given) (command : Command) → IsCommand name given command → HasBadVariant name given → ⊥
+good_variant name given (Replay args) h (inl bad) = goes given args.variant h.1.variant bad.1
+good_variant name given (Replay args) h (inr bad) = needs_none (codes "replay") name h.0 refl refl refl bad.0
+good_variant name given (Draw args) h (inl bad) = goes given args.variant h.1.variant bad.1
+good_variant name given (Draw args) h (inr bad) = needs_none (codes "draw") name h.0 refl refl refl bad.0
+good_variant name given (Hunt args) h (inl bad) = takes_no_image (codes "hunt") name h.0 refl refl bad.0
+good_variant name given (Hunt args) h (inr bad) = bad.1 args.variant h.1.variant
+good_variant name given (Explore args) h (inl bad) = takes_no_image (codes "explore") name h.0 refl refl bad.0
+good_variant name given (Explore args) h (inr bad) = bad.1 args.variant h.1.variant
+good_variant name given (Shrink args) h (inl bad) = takes_no_image (codes "shrink") name h.0 refl refl bad.0
+good_variant name given (Shrink args) h (inr bad) = bad.1 args.variant h.1.variant
+good_variant name given (Run args) h bad = neither (codes "run") name given h.0 refl refl refl refl refl bad
+good_variant name given (Judge file) h bad = neither (codes "judge") name given h.0 refl refl refl refl refl bad
+good_variant name given (Explain entry) h bad = neither (codes "explain") name given h.0 refl refl refl refl refl bad
+
+sizeless : (a name : Text) (given : Given) → name ≡ a → bytes_eq a (codes "run") ≡ false → bytes_eq a (codes "hunt") ≡ false → bytes_eq a (codes "explore") ≡ false
+    → IsOutOfRange name given → ⊥
+sizeless a name given is run hunt explore (inl bad) = other_name a (codes "run") name is run bad.0
+sizeless a name given is run hunt explore (inr (inl bad)) = other_name a (codes "hunt") name is hunt bad.0
+sizeless a name given is run hunt explore (inr (inr bad)) = other_name a (codes "explore") name is explore bad.0
+
+good_size : (name : Text) (given : Given) (command : Command) → IsSized command → IsCommand name given command → IsOutOfRange name given → ⊥
+good_size name given (Run args) sized h (inl bad) = bad.1 (subst RunFits h.1 sized)
+good_size name given (Run args) sized h (inr (inl bad)) = other_name (codes "run") (codes "hunt") name h.0 refl bad.0
+good_size name given (Run args) sized h (inr (inr bad)) = other_name (codes "run") (codes "explore") name h.0 refl bad.0
+good_size name given (Hunt args) sized h (inl bad) = other_name (codes "hunt") (codes "run") name h.0 refl bad.0
+good_size name given (Hunt args) sized h (inr (inl bad)) = bad.1 (subst₂ IsHuntSize h.1.rounds h.1.steps sized)
+good_size name given (Hunt args) sized h (inr (inr bad)) = other_name (codes "hunt") (codes "explore") name h.0 refl bad.0
+good_size name given (Explore args) sized h (inl bad) = other_name (codes "explore") (codes "run") name h.0 refl bad.0
+good_size name given (Explore args) sized h (inr (inl bad)) = other_name (codes "explore") (codes "hunt") name h.0 refl bad.0
+good_size name given (Explore args) sized h (inr (inr bad)) = false≢true (sym bad.1 ∙ h.1.known)
+good_size name given (Replay args) sized h bad = sizeless (codes "replay") name given h.0 refl refl refl bad
+good_size name given (Judge file) sized h bad = sizeless (codes "judge") name given h.0 refl refl refl bad
+good_size name given (Draw args) sized h bad = sizeless (codes "draw") name given h.0 refl refl refl bad
+good_size name given (Shrink args) sized h bad = sizeless (codes "shrink") name given h.0 refl refl refl bad
+good_size name given (Explain entry) sized h bad = sizeless (codes "explain") name given h.0 refl refl refl bad
+
+-- ---- the words
+
+both_of : (words : List Text) (P Q : Text → Given → Type 0) → Takes words P → Takes words Q → (name : Text) × (given : Given) × P name given × Q name given
+both_of words P Q p q = go (subcommand_of rmelab words) p.1 q.1
+  where
+    go : (o : Option (Text × Given)) → IsSomeAnd o (λ command. P command.0 command.1) → IsSomeAnd o (λ command. Q command.0 command.1)
+        → (name : Text) × (given : Given) × P name given × Q name given
+    go None p q = absurd p
+    go (Some command) p q = (command.0, command.1, p, q)
+
+no_kind : (kinds : Kinds) (kind : ErrorKind) → kinds ≡ [] → IsAmong kind kinds → ⊥
+no_kind kinds kind none among = subst (λ (ks : Kinds). IsAmong kind ks) none among
+
+pub variant_refused : (words : List Text) (result : Result Command WordsFault) → Takes words HasBadVariant
+    → IfOk result (λ command. Takes words (λ name given. IsCommand name given command)) → IfErr result (IsRefusal words)
+    → (result ≡ Err BadVariant) ⊎ (result ≡ Err OutOfMemory)
+variant_refused words (Ok command) bad ok err =
+    let h = both_of words HasBadVariant (λ name given. IsCommand name given command) bad ok in absurd (good_variant h.0 h.1 command h.3 h.2)
+variant_refused words (Err (Help text)) bad ok err = absurd (no_kind (fault_of rmelab words) err.0 bad.0 err.1)
+variant_refused words (Err (Refused text)) bad ok (inl entry) =
+    let h = both_of words HasBadVariant HasNoEntry bad entry in absurd (neither (codes "explain") h.0 h.1 h.3.0 refl refl refl refl refl h.2)
+variant_refused words (Err (Refused text)) bad ok (inr mistaken) = absurd (no_kind (fault_of rmelab words) mistaken.0 bad.0 mistaken.1)
+variant_refused words (Err BadVariant) bad ok err = inl refl
+variant_refused words (Err BadSize) bad ok err =
+    let h = both_of words HasBadVariant HasBadSize bad err in absurd (h.3.0 h.2)
+variant_refused words (Err Unreadable) bad ok err = absurd err
+variant_refused words (Err OutOfMemory) bad ok err = inr refl
+
+pub size_refused : (words : List Text) (result : Result Command WordsFault) → Takes words HasBadSize
+    → IfOk result IsSized → IfOk result (λ command. Takes words (λ name given. IsCommand name given command)) → IfErr result (IsRefusal words)
+    → (result ≡ Err BadSize) ⊎ (result ≡ Err OutOfMemory)
+size_refused words (Ok command) bad sized ok err =
+    let h = both_of words HasBadSize (λ name given. IsCommand name given command) bad ok in
+    absurd (good_size h.0 h.1 command sized h.3 h.2.1)
+size_refused words (Err (Help text)) bad sized ok err = absurd (no_kind (fault_of rmelab words) err.0 bad.0 err.1)
+size_refused words (Err (Refused text)) bad sized ok (inl entry) =
+    let h = both_of words HasBadSize HasNoEntry bad entry in
+    absurd (sizeless (codes "explain") h.0 h.1 h.3.0 refl refl refl h.2.1)
+size_refused words (Err (Refused text)) bad sized ok (inr mistaken) = absurd (no_kind (fault_of rmelab words) mistaken.0 bad.0 mistaken.1)
+size_refused words (Err BadVariant) bad sized ok err =
+    let h = both_of words HasBadSize HasBadVariant bad err in absurd (h.2.0 h.3)
+size_refused words (Err BadSize) bad sized ok err = inl refl
+size_refused words (Err Unreadable) bad sized ok err = absurd err
+size_refused words (Err OutOfMemory) bad sized ok err = inr refl

@@ -1,0 +1,101 @@
+-- The command line of `rmelab`, as `clap` reads it: the commands and the arguments of each (docs/dev/texts.md, "The program `rmelab`").
+use Rattle.std.specs.Prelude.{◌≡◌, List, [], ◌∷◌, true, false, Some, codes, Result, IfOk}
+use Rattle.clap.specs.Words.{App, Rule, Shape, Text, new_rule, app_of, with_subcommand}
+use Rattle.clap.specs.declared.builder.command.Command.{Command as Parser}
+use Rattle.clap.specs.declared.builder.command.Command.TheViews.{out-Command}
+use Rattle.clap.specs.Simple.{new_shape}
+use Rattle.clap.specs.declared.builder.action.ArgAction.TheVariants.{Set, SetTrue, Append}
+use Rattle.clap.specs.declared.builder.value_parser.ValueParser.TheVariants.{Unsigned}
+use Rattle.cli.specs.declared.arguments.argument.Argument.{Argument}
+use Rattle.cli.specs.declared.arguments.argument.Form.{Form}
+use Rattle.cli.specs.declared.arguments.argument.Form.TheVariants as forms
+
+-- `--name`
+abbrev pub flag : Text → Rule
+flag name = record (new_rule name) { long = Some name; action = Some SetTrue }
+
+-- `--name VALUE`
+abbrev pub option : Text → Rule
+option name = record (new_rule name) { long = Some name; action = Some Set; value_names = 1 }
+
+-- `--name VALUE`, the value a number from 0 to 2^64 - 1
+abbrev pub number : Text → Rule
+number name = record (option name) { parser = Some (Unsigned 0 18446744073709551615) }
+
+-- a word alone
+abbrev pub word : Text → Rule
+word name = record (new_rule name) { action = Some Set }
+
+-- all words that are left
+abbrev pub words : Text → Rule
+words name = record (new_rule name) { action = Some Append }
+
+-- the argument can't be left out
+abbrev pub required : Rule → Rule
+required rule = record rule { required = true }
+
+-- an argument of this form and name that can be left out
+abbrev pub rule_of_form : Form → Text → Rule
+rule_of_form forms.Flag = flag
+rule_of_form forms.Text = option
+rule_of_form forms.Number = number
+rule_of_form forms.Word = word
+rule_of_form forms.Words = words
+
+abbrev pub rule_of_argument : Argument → Rule
+rule_of_argument argument = record (rule_of_form argument.form argument.name.now) { required = argument.required }
+
+-- a command with these arguments, and no command below it
+abbrev pub part : Text → List Rule → Shape
+part name rules = record (new_shape name) { rules = rules }
+
+abbrev pub alone : Shape → App
+alone shape = record { top = shape; subs = [] }
+
+abbrev pub variant : Rule
+variant = option (codes "variant")
+
+abbrev pub replay : Shape
+replay = part (codes "replay") (flag (codes "json") ∷ flag (codes "each") ∷ variant ∷ option (codes "image") ∷ option (codes "save") ∷ word (codes "FILE") ∷ [])
+
+abbrev pub run : Shape
+run = part (codes "run") (required (number (codes "procs")) ∷ required (number (codes "messages")) ∷ required (number (codes "crash")) ∷ required (number (codes "seed")) ∷ number (codes "width") ∷ [])
+
+abbrev pub hunt : Shape
+hunt = part (codes "hunt") (required variant ∷ required (number (codes "seed")) ∷ required (number (codes "rounds")) ∷ required (number (codes "steps")) ∷ flag (codes "shrink") ∷ [])
+
+abbrev pub explore : Shape
+explore = part (codes "explore") (
+    required variant ∷ required (number (codes "procs")) ∷ option (codes "calls") ∷ number (codes "crashes") ∷ number (codes "moves")
+    ∷ number (codes "states") ∷ number (codes "limit") ∷ number (codes "cap") ∷ number (codes "width") ∷ [])
+
+abbrev pub judge : Shape
+judge = part (codes "judge") (word (codes "FILE") ∷ [])
+
+abbrev pub draw : Shape
+draw = part (codes "draw") (variant ∷ option (codes "image") ∷ flag (codes "svg") ∷ word (codes "FILE") ∷ [])
+
+abbrev pub shrink : Shape
+shrink = part (codes "shrink") (required variant ∷ word (codes "FILE") ∷ [])
+
+abbrev pub explain : Shape
+explain = part (codes "explain") (words (codes "WORDS") ∷ [])
+
+-- the program itself, before its commands
+abbrev pub head : Shape
+head = record (new_shape (codes "rmelab")) { has_version = true; subcommand_required = true }
+
+abbrev pub rmelab : App
+rmelab = record {
+  top = record head { is_leaf = false };
+  subs = replay ∷ run ∷ hunt ∷ explore ∷ judge ∷ draw ∷ shrink ∷ explain ∷ [];
+}
+
+-- the parser reads this command line, and no argument of a command is one of the others too
+abbrev pub IsParser : App → Parser → Type 0
+IsParser app parser = (app_of parser ≡ app) × ((out-Command parser).has_globals ≡ false)
+
+-- the result is the whole with one more command, where neither failed
+abbrev pub AddsPart : {E : Type 0} → Result Parser E → Result Parser E → Result Parser E → Type 0
+AddsPart whole added result = (app : App) (shape : Shape) → IfOk whole (IsParser app) → IfOk added (IsParser (alone shape))
+    → IfOk result (IsParser (with_subcommand app shape))

@@ -1,0 +1,78 @@
+-- What is given to a command: a row for each argument that has values, as `clap` reads the words.
+use Rattle.std.specs.Prelude.{◌≡◌, ◌==◌, ℕ, Bool, false, List, [], ◌∷◌, Option, unwrap_or, option_map, codes, if◌then◌else◌}
+use Rattle.std.specs.List.{join_by, list_any, slice_split}
+use Rattle.std.specs.Option.{option_map_or}
+use Rattle.std.specs.Str.{bytes_eq}
+use Rattle.std.specs.Str.Parse.{digits_value, without_leading_plus}
+use Rattle.clap.specs.ValueTests.{is_unsigned_in}
+use Rattle.clap.specs.Words.{Row, Text, first_of, one_of, all_of, found_of, rows_of}
+use Rattle.clap.specs.declared.parser.matches.ArgMatches.{ArgMatches}
+use Rattle.crashlab.specs.declared.variant.Variant.{Variant}
+use Rattle.crashlab.specs.declared.variant.Variant.TheVariants.{Right, NoLook, NoTies, Renumber, ExitOnCrash, CountUp, LastSkipped}
+use Rattle.diagram.specs.declared.diagram_layout.Style.{Style}
+use Rattle.diagram.specs.declared.diagram_layout.Style.TheVariants as styles
+use Rattle.cli.specs.declared.arguments.args.Alphabet.{Alphabet}
+
+abbrev pub Given : Type 0
+Given = List Row
+
+abbrev pub given_in : ArgMatches → Given
+given_in matches = rows_of (found_of matches)
+
+-- the flag is among the words
+abbrev pub is_set : Text → Given → Bool
+is_set name given = option_map_or (λ text. bytes_eq text (codes "true")) (one_of name given) false
+
+-- the number that the text spells; `without`, where it spells none below 2^64, which `clap` refuses
+abbrev pub number_in : ℕ → Text → ℕ
+number_in without text = if is_unsigned_in 0 18446744073709551615 text then digits_value 10 (without_leading_plus text) else without
+
+-- the number with this name; `without`, where it is left out
+abbrev pub number_or : ℕ → Text → Given → ℕ
+number_or without name given = option_map_or (number_in without) (one_of name given) without
+
+abbrev pub word_of_variant : Variant → Text
+word_of_variant Right = codes "right"
+word_of_variant NoLook = codes "no-look"
+word_of_variant NoTies = codes "no-ties"
+word_of_variant Renumber = codes "renumber"
+word_of_variant ExitOnCrash = codes "exit-on-crash"
+word_of_variant CountUp = codes "count-up"
+word_of_variant LastSkipped = codes "last-skipped"
+
+-- the variant is the one that is asked for; `without` is its name, where none is asked for
+abbrev pub AsksFor : Text → Given → Variant → Type 0
+AsksFor without given variant = word_of_variant variant ≡ unwrap_or (first_of (codes "variant") given) without
+
+-- there is no such variant
+abbrev pub AsksForNone : Text → Given → Type 0
+AsksForNone without given = (variant : Variant) → AsksFor without given variant → ⊥
+
+abbrev pub style_of : Given → Style
+style_of given = if is_set (codes "svg") given then styles.Svg else styles.Text
+
+-- the calls that a search starts, by name: `lock,unlock`, where they are left out
+abbrev pub calls_of : Given → List Text
+calls_of given = slice_split (λ byte. byte == 44) (unwrap_or (first_of (codes "calls") given) (codes "lock,unlock"))
+
+abbrev pub has_call : Text → List Text → Bool
+has_call name calls = list_any (λ call. bytes_eq call name) calls
+
+abbrev pub is_call : Text → Bool
+is_call name = list_any (λ call. bytes_eq name call)
+    (codes "lock" ∷ codes "unlock" ∷ codes "recover" ∷ codes "consistent" ∷ codes "withdraw" ∷ codes "append" ∷ codes "close" ∷ [])
+
+abbrev pub alphabet_of : List Text → Alphabet
+alphabet_of calls = record {
+  lock = has_call (codes "lock") calls;
+  unlock = has_call (codes "unlock") calls;
+  recover = has_call (codes "recover") calls;
+  consistent = has_call (codes "consistent") calls;
+  withdraw = has_call (codes "withdraw") calls;
+  append = has_call (codes "append") calls;
+  close = has_call (codes "close") calls;
+}
+
+-- the name of the entry that is to be explained: its words with a space between two
+abbrev pub entry_named : Given → Option Text
+entry_named given = option_map (join_by (λ word. word) (codes " ")) (all_of (codes "WORDS") given)

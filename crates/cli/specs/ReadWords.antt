@@ -1,0 +1,184 @@
+-- How the words of a command line are answered (docs/dev/texts.md, "The program `rmelab`"): what `clap` refuses first, then a bad variant, then
+-- a bad size.
+use Rattle.std.specs.Prelude.{◌≡◌, ◌≢◌, ◌⊎◌, true, false, List, [], map, Some, option_map, codes, Result, Err, MatchResult, IsSome, IsSomeAnd, String, string_bytes}
+use Rattle.std.specs.List.{list_all, list_any}
+use Rattle.std.specs.Str.{bytes_eq}
+use Rattle.std.specs.declared.alloc.Global.{Global}
+use Rattle.clap.specs.Words.{Text, first_of, subcommand_of, fault_of, IsAmong}
+use Rattle.clap.specs.declared.error.kind.ErrorKind.{ErrorKind}
+use Rattle.clap.specs.declared.error.kind.ErrorKind.TheVariants as kinds
+use Rattle.crashlab.specs.declared.variant.Variant.{Variant}
+use Rattle.crashlab.specs.declared.variant.Variant.TheVariants.{Right}
+use Rattle.cli.specs.declared.arguments.args.Command.{Command}
+use Rattle.cli.specs.declared.arguments.args.Command.TheVariants.{Replay, Run, Hunt, Explore, Judge, Draw, Shrink, Explain}
+use Rattle.cli.specs.declared.arguments.args.ReplayArgs.{ReplayArgs}
+use Rattle.cli.specs.declared.arguments.args.RunArgs.{RunArgs}
+use Rattle.cli.specs.declared.arguments.args.HuntArgs.{HuntArgs}
+use Rattle.cli.specs.declared.arguments.args.ExploreArgs.{ExploreArgs}
+use Rattle.cli.specs.declared.arguments.args.DrawArgs.{DrawArgs}
+use Rattle.cli.specs.declared.arguments.args.ShrinkArgs.{ShrinkArgs}
+use Rattle.cli.specs.declared.arguments.words.WordsFault.{WordsFault}
+use Rattle.cli.specs.declared.arguments.words.WordsFault.TheVariants.{Help, Refused, BadVariant, BadSize, Unreadable, OutOfMemory}
+use Rattle.cli.specs.declared.explain.dictionary_entry.DictionaryEntry.{DictionaryEntry}
+use Rattle.cli.specs.CommandLine.{rmelab}
+use Rattle.cli.specs.Given.{Given, AsksFor, AsksForNone, is_set, number_or, style_of, calls_of, alphabet_of, is_call, entry_named}
+use Rattle.cli.specs.Names.{name_of}
+use Rattle.cli.specs.Sizes.{RunFits, IsHuntSize}
+
+-- ---- the arguments of a command, by what is given to it
+
+-- the variant is asked for, and is `right` where an image is given
+abbrev pub GoesWithImage : Given → Variant → Type 0
+GoesWithImage given variant = AsksFor (codes "right") given variant × (IsSome (first_of (codes "image") given) → variant ≡ Right)
+
+pub record IsReplay (given : Given) (args : ReplayArgs) : Type 0 where
+  pub json : args.json ≡ is_set (codes "json") given
+  pub each : args.each ≡ is_set (codes "each") given
+  pub variant : GoesWithImage given args.variant
+  pub image : option_map string_bytes args.image ≡ first_of (codes "image") given
+  pub save : option_map string_bytes args.save ≡ first_of (codes "save") given
+  pub file : option_map string_bytes args.file ≡ first_of (codes "FILE") given
+
+abbrev pub run_of : Given → RunArgs
+run_of given = record {
+  procs = number_or 0 (codes "procs") given;
+  messages = number_or 0 (codes "messages") given;
+  crash = number_or 0 (codes "crash") given;
+  seed = number_or 0 (codes "seed") given;
+  width = number_or 1 (codes "width") given;
+}
+
+pub record IsHunt (given : Given) (args : HuntArgs) : Type 0 where
+  pub variant : AsksFor [] given args.variant
+  pub seed : args.seed ≡ number_or 0 (codes "seed") given
+  pub rounds : args.rounds ≡ number_or 0 (codes "rounds") given
+  pub steps : args.steps ≡ number_or 0 (codes "steps") given
+  pub shrink : args.shrink ≡ is_set (codes "shrink") given
+
+pub record IsExplore (given : Given) (args : ExploreArgs) : Type 0 where
+  pub variant : AsksFor [] given args.variant
+  pub procs : args.procs ≡ number_or 0 (codes "procs") given
+  pub calls : args.calls ≡ alphabet_of (calls_of given)
+  pub known : list_all is_call (calls_of given) ≡ true
+  pub crashes : args.crashes ≡ number_or 0 (codes "crashes") given
+  pub moves : args.moves ≡ number_or 18446744073709551615 (codes "moves") given
+  pub states : args.states ≡ number_or 10000000 (codes "states") given
+  pub limit : args.limit ≡ number_or 4 (codes "limit") given
+  pub cap : args.cap ≡ number_or 1 (codes "cap") given
+  pub width : args.width ≡ number_or 1 (codes "width") given
+
+pub record IsDraw (given : Given) (args : DrawArgs) : Type 0 where
+  pub style : args.style ≡ style_of given
+  pub variant : GoesWithImage given args.variant
+  pub image : option_map string_bytes args.image ≡ first_of (codes "image") given
+  pub file : option_map string_bytes args.file ≡ first_of (codes "FILE") given
+
+pub record IsShrink (given : Given) (args : ShrinkArgs) : Type 0 where
+  pub variant : AsksFor [] given args.variant
+  pub file : option_map string_bytes args.file ≡ first_of (codes "FILE") given
+
+-- the command has this name, and its arguments are those that are given
+abbrev pub IsCommand : Text → Given → Command → Type 0
+IsCommand name given (Replay args) = (name ≡ codes "replay") × IsReplay given args
+IsCommand name given (Run args) = (name ≡ codes "run") × (args ≡ run_of given)
+IsCommand name given (Hunt args) = (name ≡ codes "hunt") × IsHunt given args
+IsCommand name given (Explore args) = (name ≡ codes "explore") × IsExplore given args
+IsCommand name given (Judge file) = (name ≡ codes "judge") × (option_map string_bytes file ≡ first_of (codes "FILE") given)
+IsCommand name given (Draw args) = (name ≡ codes "draw") × IsDraw given args
+IsCommand name given (Shrink args) = (name ≡ codes "shrink") × IsShrink given args
+IsCommand name given (Explain entry) = (name ≡ codes "explain") × (option_map name_of entry ≡ entry_named given)
+
+-- ---- why what is given to a command is refused
+
+-- there is no such variant, or it isn't `right` and an image is given
+abbrev pub IsBadBesideImage : Given → Type 0
+IsBadBesideImage given = AsksForNone (codes "right") given
+    ⊎ ((variant : Variant) × AsksFor (codes "right") given variant × (variant ≢ Right) × IsSome (first_of (codes "image") given))
+
+abbrev pub HasBadVariant : Text → Given → Type 0
+HasBadVariant name given = (((name ≡ codes "replay") ⊎ (name ≡ codes "draw")) × IsBadBesideImage given)
+    ⊎ (((name ≡ codes "hunt") ⊎ ((name ≡ codes "explore") ⊎ (name ≡ codes "shrink"))) × AsksForNone [] given)
+
+-- a number is outside its range, or a call of a search is none
+abbrev pub IsOutOfRange : Text → Given → Type 0
+IsOutOfRange name given =
+    ((name ≡ codes "run") × (RunFits (run_of given) → ⊥))
+    ⊎ (((name ≡ codes "hunt") × (IsHuntSize (number_or 0 (codes "rounds") given) (number_or 0 (codes "steps") given) → ⊥))
+    ⊎ ((name ≡ codes "explore") × (list_all is_call (calls_of given) ≡ false)))
+
+-- the variant is good, and a size is bad
+abbrev pub HasBadSize : Text → Given → Type 0
+HasBadSize name given = (HasBadVariant name given → ⊥) × IsOutOfRange name given
+
+-- the words to be explained are the name of no entry
+abbrev pub HasNoEntry : Text → Given → Type 0
+HasNoEntry name given = (name ≡ codes "explain") × IsSome (entry_named given)
+    × ((entry : DictionaryEntry) → Some (name_of entry) ≢ entry_named given)
+
+-- out of memory comes at any time
+abbrev pub IsFault : Text → Given → WordsFault → Type 0
+IsFault name given (Help text) = ⊥
+IsFault name given (Refused text) = HasNoEntry name given
+IsFault name given BadVariant = HasBadVariant name given
+IsFault name given BadSize = HasBadSize name given
+IsFault name given Unreadable = ⊥
+IsFault name given OutOfMemory = Unit {0}
+
+-- what is given to the command of this name is answered with it, or refused
+abbrev pub Reads : Text → Given → Result Command WordsFault → Type 0
+Reads name given result = MatchResult result (IsCommand name given) (IsFault name given)
+
+-- ---- the words of a command line; the first one is the program's name
+
+abbrev pub texts_of : List (String Global) → List Text
+texts_of = map string_bytes
+
+-- the name of a command
+abbrev pub IsName : Text → Type 0
+IsName name = list_any (λ shape. bytes_eq shape.name name) rmelab.subs ≡ true
+
+-- `clap` takes the words, and P holds of the command's name and of what is given to it
+abbrev pub Takes : List Text → (Text → Given → Type 0) → Type 0
+Takes words P = (fault_of rmelab words ≡ []) × IsSomeAnd (subcommand_of rmelab words) (λ command. P command.0 command.1)
+
+-- the kinds of an answer of `clap` that is no error
+abbrev pub IsHelp : ErrorKind → Type 0
+IsHelp kind = (kind ≡ kinds.DisplayHelp) ⊎ (kind ≡ kinds.DisplayVersion)
+
+-- `clap` answers the words with its help or the version
+abbrev pub AsksForHelp : List Text → Type 0
+AsksForHelp words = (kind : ErrorKind) × IsAmong kind (fault_of rmelab words) × IsHelp kind
+
+-- `clap` refuses the words
+abbrev pub IsMistaken : List Text → Type 0
+IsMistaken words = (kind : ErrorKind) × IsAmong kind (fault_of rmelab words) × (IsHelp kind → ⊥)
+
+abbrev pub IsRefusal : List Text → WordsFault → Type 0
+IsRefusal words (Help text) = AsksForHelp words
+IsRefusal words (Refused text) = Takes words HasNoEntry ⊎ IsMistaken words
+IsRefusal words BadVariant = Takes words HasBadVariant
+IsRefusal words BadSize = Takes words HasBadSize
+IsRefusal words Unreadable = ⊥
+IsRefusal words OutOfMemory = Unit {0}
+
+-- ---- the parts of reading
+
+-- a list of calls is refused
+abbrev pub IsFaultOfCalls : Given → WordsFault → Type 0
+IsFaultOfCalls given BadSize = list_all is_call (calls_of given) ≡ false
+IsFaultOfCalls given fault = fault ≡ OutOfMemory
+
+-- an error of `clap` of this kind is answered
+abbrev pub IsAnsweredBy : ErrorKind → WordsFault → Type 0
+IsAnsweredBy kind (Help text) = IsHelp kind
+IsAnsweredBy kind (Refused text) = (kind ≢ kinds.OutOfMemory) × (IsHelp kind → ⊥)
+IsAnsweredBy kind fault = (fault ≡ OutOfMemory) × (kind ≡ kinds.OutOfMemory)
+
+-- a name that no entry has is refused
+abbrev pub IsUnnamed : WordsFault → Type 0
+IsUnnamed (Refused text) = Unit {0}
+IsUnnamed fault = fault ≡ OutOfMemory
+
+-- the fault is answered, or there is no memory
+abbrev pub Refuses : Result Command WordsFault → WordsFault → Type 0
+Refuses result fault = (result ≡ Err fault) ⊎ (result ≡ Err OutOfMemory)

@@ -1,7 +1,7 @@
 //! The command lines that spell a command.
 
 use crate::arguments::kit::words_of;
-use cli::arguments::args::{Command, HuntArgs, ReplayArgs, RunArgs};
+use cli::arguments::args::{Alphabet, Command, HuntArgs, ReplayArgs, RunArgs};
 use cli::arguments::words::{WordsFault, read_words};
 use crashlab::Variant;
 use std::test::Fail;
@@ -100,6 +100,102 @@ fn the_right_lock_beside_an_image(rt: HostRuntime) -> Result<(), Fail> {
         assert!(rt; args.variant == Variant::Right, "{line}");
         let image = args.image.as_deref();
         assert!(rt; image == Some("a.json"), "{line}");
+    }
+    for line in [
+        "rmelab draw --image a.json",
+        "rmelab draw --variant right --image a.json",
+    ] {
+        let words = words_of(rt.alloc(), line)?;
+        let Ok(Command::Draw(args)) = read_words(rt.alloc(), &words) else {
+            panic!(&rt; "no drawing: {line}");
+        };
+        assert!(rt; args.variant == Variant::Right, "{line}");
+        let image = args.image.as_deref();
+        assert!(rt; image == Some("a.json"), "{line}");
+    }
+    Ok(())
+}
+
+/// Any variant goes without an image.
+#[test]
+fn variants_without_an_image(rt: HostRuntime) -> Result<(), Fail> {
+    for (line, variant) in [
+        ("rmelab replay --variant no-look", Variant::NoLook),
+        ("rmelab replay --variant count-up a.rme", Variant::CountUp),
+        ("rmelab replay --save a.json --variant right", Variant::Right),
+    ] {
+        let words = words_of(rt.alloc(), line)?;
+        let Ok(Command::Replay(args)) = read_words(rt.alloc(), &words) else {
+            panic!(&rt; "no replay: {line}");
+        };
+        assert!(rt; args.variant == variant, "{line}");
+    }
+    Ok(())
+}
+
+#[test]
+fn sizes_of_hunts(rt: HostRuntime) -> Result<(), Fail> {
+    for (rounds, steps) in [("0", "1"), ("10001", "1"), ("1", "0"), ("1", "10001")] {
+        let alloc = rt.alloc();
+        let line =
+            format!(in alloc; "rmelab hunt --variant right --seed 0 --rounds {rounds} --steps {steps}")?;
+        let words = words_of(alloc, &line)?;
+        let is_bad = matches!(read_words(alloc, &words), Err(WordsFault::BadSize));
+        assert!(rt; is_bad, "{line}");
+    }
+    Ok(())
+}
+
+#[test]
+fn calls_of_a_search(rt: HostRuntime) -> Result<(), Fail> {
+    let none = Alphabet {
+        lock: false,
+        unlock: false,
+        recover: false,
+        consistent: false,
+        withdraw: false,
+        append: false,
+        close: false,
+    };
+    let plain = Alphabet {
+        lock: true,
+        unlock: true,
+        ..none
+    };
+    let mail = Alphabet {
+        append: true,
+        close: true,
+        ..none
+    };
+    for (line, calls) in [
+        ("rmelab explore --variant right --procs 2", plain),
+        (
+            "rmelab explore --variant right --procs 2 --calls unlock,lock,lock",
+            plain,
+        ),
+        (
+            "rmelab explore --variant right --procs 2 --calls close,append",
+            mail,
+        ),
+    ] {
+        let words = words_of(rt.alloc(), line)?;
+        let Ok(Command::Explore(args)) = read_words(rt.alloc(), &words) else {
+            panic!(&rt; "no search: {line}");
+        };
+        assert_eq!(rt; args.calls, calls, "{line}");
+    }
+    Ok(())
+}
+
+/// What is no call, and an empty name, is a bad size.
+#[test]
+fn names_that_are_no_call(rt: HostRuntime) -> Result<(), Fail> {
+    let alloc = rt.alloc();
+    for calls in ["look", "lock,", ",lock", "lock,,unlock", "Lock"] {
+        let line = format!(in alloc; "rmelab explore --variant right --procs 2 --calls {calls}")?;
+        let words = words_of(alloc, &line)?;
+        let is_bad = matches!(read_words(alloc, &words), Err(WordsFault::BadSize));
+        assert!(rt; is_bad, "{line}");
     }
     Ok(())
 }

@@ -40,7 +40,7 @@ beyond_same n limit w a (e ∷ es) t run p past =
 words_beyond : (s : Setup) (es : List TakenStep) → IsRun s es → (p : ℕ) → s.layout.procs ≤ p → (end_of s es).words p ≡ zeros
 words_beyond s es run p past =
     let r = projected s.layout s.limit at_first (spelled es) (λ q. tt) run in
-    ap (λ (x : World). x.words p) (sym r.ends) ∙ beyond_same s.layout.procs s.limit core_rest nobody r.events (core_first s.layout.procs) r.run p past
+    ap (λ (v : World). v.words p) (sym r.ends) ∙ beyond_same s.layout.procs s.limit core_rest nobody r.events (core_first s.layout.procs) r.run p past
 
 -- the words of the list are those of the global state
 pub cells_counted : (s : Setup) (es : List TakenStep) → IsRun s es → words_of (map (end_of s es).cells (count_from 0 (size s.layout))) ≡ (end_of s es).cells

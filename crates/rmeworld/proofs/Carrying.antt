@@ -18,7 +18,7 @@ use Rattle.rmeworld.proofs.Projection.{Held, AllHeld, outers, entry_inside}
 
 -- A process with no script under way, at the same place as the lock's process. Or it has found the lock ruined and leaves,
 -- while the lock's process is inside.
-pub record Follows (place : Place) (s : ProcessState) : Type 0 where
+pub record IsAt (place : Place) (s : ProcessState) : Type 0 where
   pub free : s.script_state ≡ Free
   pub at : (s.lock ≡ place) ⊎ ((place ≡ Inside) × (s.lock ≡ Leaving))
 
@@ -28,10 +28,10 @@ pub record Settles (p : ℕ) (Ends : ProcessState → Type 0) (w w' : GlobalStat
   pub others : (q : ℕ) → q ≢ p → w'.process_states q ≡ w.process_states q
   pub here : Ends (w'.process_states p)
 
-end_follows : (purpose : Purpose) (a : Reply) → (end_place purpose a ≡ Inside) ⊎ ((Inside ≡ Inside) × (end_place purpose a ≡ Leaving))
-end_follows Checking (Ruined true) = inr (refl, refl)
-end_follows Ruining a = inr (refl, refl)
-end_follows _ _ = inl refl
+end_at : (purpose : Purpose) (a : Reply) → (end_place purpose a ≡ Inside) ⊎ ((Inside ≡ Inside) × (end_place purpose a ≡ Leaving))
+end_at Checking (Ruined true) = inr (refl, refl)
+end_at Ruining a = inr (refl, refl)
+end_at _ _ = inl refl
 
 settles_after : (p : ℕ) (Ends : ProcessState → Type 0) (w w' : GlobalState) (cells : Words) (s : ProcessState) → Settles p Ends (record { words = w.words; cells = cells; process_states = put w.process_states p s }) w' → Settles p Ends w w'
 settles_after p Ends w w' cells s h = record { words = h.words; others = λ q ne. h.others q ne ∙ put_other w.process_states p s q ne; here = h.here }
@@ -122,15 +122,15 @@ module _ (l : Layout) (limit : ℕ) where
   -- the same lock words, and each process follows the lock's
   pub record Matches (v : World) (w : GlobalState) : Type 0 where
     pub words : w.words ≡ v.words
-    pub follows : (p : ℕ) → p < l.procs → Follows (v.places p) (w.process_states p)
+    pub follows : (p : ℕ) → p < l.procs → IsAt (v.places p) (w.process_states p)
 
-  matches_put : (v : World) (w w' : GlobalState) (p : ℕ) (t : Place) (words : ℕ → Own) → Matches v w → w'.words ≡ words → ((q : ℕ) → q ≢ p → w'.process_states q ≡ w.process_states q) → Follows t (w'.process_states p) → Matches (record { words = words; places = put v.places p t }) w'
+  matches_put : (v : World) (w w' : GlobalState) (p : ℕ) (t : Place) (words : ℕ → Own) → Matches v w → w'.words ≡ words → ((q : ℕ) → q ≢ p → w'.process_states q ≡ w.process_states q) → IsAt t (w'.process_states p) → Matches (record { words = words; places = put v.places p t }) w'
   matches_put v w w' p t words m is others here =
       record {
         words = is;
         follows = λ q below. elim (cases_eq q p) [
-          | inl e ↦ subst (λ r. Follows (put v.places p t r) (w'.process_states r)) (sym e) (subst (λ x. Follows x (w'.process_states p)) (sym (put_same v.places p t)) here)
-          | inr ne ↦ subst (λ x. Follows x (w'.process_states q)) (sym (put_other v.places p t q ne)) (subst (Follows (v.places q)) (sym (others q ne)) (m.follows q below))
+          | inl e ↦ subst (λ r. IsAt (put v.places p t r) (w'.process_states r)) (sym e) (subst (λ x. IsAt x (w'.process_states p)) (sym (put_same v.places p t)) here)
+          | inr ne ↦ subst (λ x. IsAt x (w'.process_states q)) (sym (put_other v.places p t q ne)) (subst (IsAt (v.places q)) (sym (others q ne)) (m.follows q below))
         ];
       }
 
@@ -139,7 +139,7 @@ module _ (l : Layout) (limit : ℕ) where
     abbrev Then : Place → (ℕ → Own) → Type 0
     Then t words = (w' : GlobalState) → Matches (record { words = words; places = put v.places p t }) w' → Continues w' ds P
 
-    stays : (t : Place) (words : ℕ → Own) → w.words ≡ words → Follows t (w.process_states p) → Then t words → Continues w ds P
+    stays : (t : Place) (words : ℕ → Own) → w.words ≡ words → IsAt t (w.process_states p) → Then t words → Continues w ds P
     stays t words is here k = k w (matches_put v w w p t words m is (λ q ne. refl) here)
 
     -- a start of the lock's part
@@ -149,9 +149,9 @@ module _ (l : Layout) (limit : ℕ) where
         let x : ProcessState = record { lock = t; mended = mended_entered b s t; barred = false; script_state = script_state_entered l p s t } in
         let w' : GlobalState = record { words = w.words; cells = w.cells; process_states = put w.process_states p x } in
         let free : script_state_entered l p s t ≡ Free = ap (λ (z : Bool). if z then Doing Checking (script l p task.Check) else Free) (no_entry s part t is) in
-        let here : Follows t x = record { free = free; at = inl refl } in
+        let here : IsAt t x = record { free = free; at = inl refl } in
         by_event w (Begins p call) x None ds P below (begun ∙ ap (at_lock l p s b false) is) tt whole refl
-        (k w' (matches_put v w w' p t v.words m m.words (put_other w.process_states p x) (subst (Follows t) (sym (put_same w.process_states p x)) here)))
+        (k w' (matches_put v w w' p t v.words m m.words (put_other w.process_states p x) (subst (IsAt t) (sym (put_same w.process_states p x)) here)))
 
     -- an unlock of a holder that is not mended
     ruins : begun_from l p (w.process_states p).lock (w.process_states p).mended (w.process_states p).script_state Unlock ≡ Some (settled false false Ruining (script l p task.Ruin)) → Then Leaving v.words → Continues w ds P
@@ -159,7 +159,7 @@ module _ (l : Layout) (limit : ℕ) where
         let x : ProcessState = settled false false Ruining (script l p task.Ruin) in
         let w' : GlobalState = record { words = w.words; cells = w.cells; process_states = put w.process_states p x } in
         by_event w (Begins p Unlock) x None ds P below begun tt tt refl
-        (finish (Follows Leaving) ds P p below false false Ruining (λ a. record { free = refl; at = inl refl }) (script l p task.Ruin) w' (put_same w.process_states p x)
+        (finish (IsAt Leaving) ds P p below false false Ruining (λ a. record { free = refl; at = inl refl }) (script l p task.Ruin) w' (put_same w.process_states p x)
         (λ w''. λ h. k w'' (matches_put v w w'' p Leaving v.words m (h.words ∙ m.words) (λ q ne. h.others q ne ∙ put_other w.process_states p x q ne) h.here)))
 
     abbrev s : ProcessState
@@ -206,12 +206,12 @@ module _ (l : Layout) (limit : ℕ) where
               (let inside : t ≡ Inside = entry_inside at t holds in
               let checks : script_state_entered l p at t ≡ Doing Checking (script l p task.Check) = ap (λ (z : Bool). if z then Doing Checking (script l p task.Check) else Free) holds in
               let started : put w.process_states p to p ≡ settled (mended_entered b at t) c Checking (script l p task.Check) = put_same w.process_states p to ∙ (λ i. record { lock = inside i; mended = mended_entered b at t; barred = c; script_state = checks i }) in
-              finish (Follows Inside) ds P p below (mended_entered b at t) c Checking (λ a. record { free = refl; at = end_follows Checking a }) (script l p task.Check) w' started
-              (λ w''. λ h. k w'' (matches_put v w w'' p t (stored v.words (Steps p kind word x)) m (h.words ∙ words) (λ q ne. h.others q ne ∙ put_other w.process_states p to q ne) (subst (λ z. Follows z (w''.process_states p)) (sym inside) h.here))))
+              finish (IsAt Inside) ds P p below (mended_entered b at t) c Checking (λ a. record { free = refl; at = end_at Checking a }) (script l p task.Check) w' started
+              (λ w''. λ h. k w'' (matches_put v w w'' p t (stored v.words (Steps p kind word x)) m (h.words ∙ words) (λ q ne. h.others q ne ∙ put_other w.process_states p to q ne) (subst (λ z. IsAt z (w''.process_states p)) (sym inside) h.here))))
           | inr fails ↦
               (let free : script_state_entered l p at t ≡ Free = ap (λ (z : Bool). if z then Doing Checking (script l p task.Check) else Free) fails in
-              let here : Follows t to = record { free = free; at = inl refl } in
-              k w' (matches_put v w w' p t (stored v.words (Steps p kind word x)) m words (put_other w.process_states p to) (subst (Follows t) (sym (put_same w.process_states p to)) here)))
+              let here : IsAt t to = record { free = free; at = inl refl } in
+              k w' (matches_put v w w' p t (stored v.words (Steps p kind word x)) m words (put_other w.process_states p to) (subst (IsAt t) (sym (put_same w.process_states p to)) here)))
         ]
         )
 
@@ -246,13 +246,13 @@ module _ (l : Layout) (limit : ℕ) where
 
   -- the script of one process, if it has one
   finish_doing : (ds : List Outer) (P : GlobalState → Type 0) (p : ℕ) → p < l.procs → (w : GlobalState) (purpose : Purpose) (left : Script Reply) → (w.process_states p).lock ≡ Inside → w.process_states p ≡ settled (w.process_states p).mended (w.process_states p).barred purpose left
-      → ((w' : GlobalState) → Settles p (Follows (w.process_states p).lock) w w' → Continues w' ds P) → Continues w ds P
+      → ((w' : GlobalState) → Settles p (IsAt (w.process_states p).lock) w w' → Continues w' ds P) → Continues w ds P
   finish_doing ds P p below w purpose left inside is k =
       let s : ProcessState = w.process_states p in
-      finish (Follows s.lock) ds P p below s.mended s.barred purpose (λ a. subst (λ z. Follows z (settled s.mended s.barred purpose (Done a))) (sym inside) (record { free = refl; at = end_follows purpose a })) left w is k
+      finish (IsAt s.lock) ds P p below s.mended s.barred purpose (λ a. subst (λ z. IsAt z (settled s.mended s.barred purpose (Done a))) (sym inside) (record { free = refl; at = end_at purpose a })) left w is k
 
   finish_one : (ds : List Outer) (P : GlobalState → Type 0) (p : ℕ) → p < l.procs → (w : GlobalState) (script_state : ScriptState) → (w.process_states p).script_state ≡ script_state → Held script_state (w.process_states p).lock
-      → ((w' : GlobalState) → Settles p (Follows (w.process_states p).lock) w w' → Continues w' ds P) → Continues w ds P
+      → ((w' : GlobalState) → Settles p (IsAt (w.process_states p).lock) w w' → Continues w' ds P) → Continues w ds P
   finish_one ds P p below w Free is held k = k w (record { words = refl; others = λ q ne. refl; here = record { free = is; at = inl refl } })
   finish_one ds P p below w (Doing purpose (Done a)) is held k = absurd held.1
   finish_one ds P p below w (Doing purpose (Asks i rest)) is held k = finish_doing ds P p below w purpose (Asks i rest) held.0 (λ j. record { lock = held.0 j; mended = (w.process_states p).mended; barred = (w.process_states p).barred; script_state = is j }) k
@@ -260,7 +260,7 @@ module _ (l : Layout) (limit : ℕ) where
 
   -- the scripts of all processes below i. The others follow the lock's already
   finish_all : (v : World) (ds : List Outer) (P : GlobalState → Type 0) → ((w' : GlobalState) → Matches v w' → Continues w' ds P) → (i : ℕ) (w : GlobalState) → i ≤ l.procs → w.words ≡ v.words
-      → ((q : ℕ) → q < i → Held (w.process_states q).script_state (w.process_states q).lock × ((w.process_states q).lock ≡ v.places q)) → ((q : ℕ) → i ≤ q → q < l.procs → Follows (v.places q) (w.process_states q)) → Continues w ds P
+      → ((q : ℕ) → q < i → Held (w.process_states q).script_state (w.process_states q).lock × ((w.process_states q).lock ≡ v.places q)) → ((q : ℕ) → i ≤ q → q < l.procs → IsAt (v.places q) (w.process_states q)) → Continues w ds P
   finish_all v ds P k zero w few words before since = k w (record { words = words; follows = λ q below. since q (omega arith) below })
   finish_all v ds P k (suc i) w few words before since =
       let here = before i (omega arith) in
@@ -269,8 +269,8 @@ module _ (l : Layout) (limit : ℕ) where
       (λ q low. let same : w'.process_states q ≡ w.process_states q = h.others q (λ e. omega arith) in
       subst (λ z. Held z.script_state z.lock × (z.lock ≡ v.places q)) (sym same) (before q (omega arith)))
       (λ q high below. elim (cases_eq q i) [
-        | inl e ↦ subst (λ r. Follows (v.places r) (w'.process_states r)) (sym e) (subst (λ z. Follows z (w'.process_states i)) here.1 h.here)
-        | inr ne ↦ subst (Follows (v.places q)) (sym (h.others q ne)) (since q (omega arith) below)
+        | inl e ↦ subst (λ r. IsAt (v.places r) (w'.process_states r)) (sym e) (subst (λ z. IsAt z (w'.process_states i)) here.1 h.here)
+        | inr ne ↦ subst (IsAt (v.places q)) (sym (h.others q ne)) (since q (omega arith) below)
       ]))
 
   -- a continuation of the lock's run, followed

@@ -7,3 +7,6 @@ pub mod Numbers
 pub mod Feeds
 pub mod RunSteps
 pub mod RunFeeds
+pub mod WholeCalls
+pub mod StoredAll
+pub mod AppendStarts

@@ -5,3 +5,4 @@ pub mod Positions
 pub mod Starts
 pub mod Steps
 pub mod Runs
+pub mod Stores

@@ -1,19 +1,22 @@
 -- A run: accesses that follow one another as long as each load reads 0. C makes them in order, up to the first word that is not
 -- 0, and feeds them at once: that many zeros, and then the last word that it has read.
-use Rattle.std.specs.Prelude.{◌≡◌, ℕ, zero, suc, ◌+◌, ◌-◌, ◌<◌, ◌≤◌, ◌==◌, nat_lt, is_none, if◌then◌else◌, List, [], ◌∷◌, ◌++◌, length, Some, ◌⊎◌}
+use Rattle.std.specs.Prelude.{◌≡◌, ℕ, zero, suc, ◌+◌, ◌-◌, ◌<◌, ◌≤◌, ◌==◌, nat_lt, is_none, if◌then◌else◌, List, [], ◌∷◌, ◌++◌, length, Some, None, IfSome, ◌⊎◌}
 use Rattle.redomail.specs.Layout.{held}
 use Rattle.rmecore.specs.Place.{above}
 use Rattle.rmecore.specs.declared.access.Access.{Access}
 use Rattle.rmecore.specs.declared.access.Access.TheVariants.{Load, Store}
 use Rattle.rmecore.specs.declared.kind.Kind.TheVariants.{Reread as Rereads, Open as Opens, Peek as Peeks, Take as Takes, Shut as Shuts, Look as Looks, Weigh as Weighs, Mark as Marks, Drop as Drops, Get as Gets}
 use Rattle.rmecore.specs.declared.word.Word.TheVariants.{Choosing, Number, Inside, Data}
-use Rattle.rmeworld.specs.MachineState.{MachineState, stepped, next_access, outcome}
+use Rattle.rmeworld.specs.declared.call.Call.{Call}
+use Rattle.rmeworld.specs.MachineState.{MachineState, started, stepped, next_access, outcome}
 use Rattle.rme_c.specs.declared.process.RmeAccess.{RmeAccess}
+use Rattle.rme_c.specs.declared.process.RmeCall.{RmeCall}
 use Rattle.rme_c.specs.declared.process.RmeProcess.{RmeProcess}
 use Rattle.rme_c.specs.declared.runs.Run.{Run}
 use Rattle.rme_c.specs.declared.runs.Run.TheVariants as run
-use Rattle.rme_c.specs.Codes.{told, shown}
+use Rattle.rme_c.specs.Codes.{told, shown, refusal_code}
 use Rattle.rme_c.specs.Positions.{machine_state_of}
+use Rattle.rme_c.specs.Starts.{call_by, call_cause, cause_behind, size_cause, start_cause}
 
 -- the machine of a process, and the own steps of its last call
 pub record Counted : Type 0 where
@@ -96,6 +99,16 @@ pub record IsNextRun (s : MachineState) (n p : ℕ) (r : Run) : Type 0 where
 abbrev pub GoesOn : ℕ → Type 0
 GoesOn code = (code ≡ 0) ⊎ (64 ≤ code)
 
+-- a call was started or refused: the code is that of the refusal, of the run that comes next, or 0 with its first access shown
+pub record IsStartedRun (p : RmeProcess) (c : RmeCall) (q : RmeProcess) (b a : RmeAccess) (r : ℕ) : Type 0 where
+  pub status : r < 256 → r ≡ refusal_code (start_cause (machine_state_of p) c)
+  pub allowed : 256 ≤ r → refusal_code (start_cause (machine_state_of p) c) ≡ 0
+  pub started : refusal_code (start_cause (machine_state_of p) c) ≡ 0 → IfSome (call_by p.width c) (λ d. machine_state_of q ≡ started (machine_state_of p) d)
+  pub steps : refusal_code (start_cause (machine_state_of p) c) ≡ 0 → q.steps ≡ 0
+  pub run : 256 ≤ r → IsNextRun (machine_state_of q) q.procs q.index (run_by r a.value)
+  pub next : r ≡ 0 → a ≡ shown p.procs None (next_access (machine_state_of q))
+  pub refused : 0 < r → r < 256 → (q ≡ p) × (a ≡ b)
+
 -- from this machine on, after the zeros of a run, the process was fed this value: its new state, the code of the feed or of the
 -- run that comes next, and `next`
 pub record IsFedRun (c : Counted) (v : ℕ) (q : RmeProcess) (a : RmeAccess) (r : ℕ) : Type 0 where
@@ -104,3 +117,15 @@ pub record IsFedRun (c : Counted) (v : ℕ) (q : RmeProcess) (a : RmeAccess) (r 
   pub goes : 256 ≤ r → GoesOn (told c.machine v)
   pub run : 256 ≤ r → IsNextRun (machine_state_of q) q.procs q.index (run_by r a.value)
   pub next : r < 64 → a ≡ shown c.machine.layout.procs (outcome c.machine (next_access c.machine) v).answer (next_access (machine_state_of q))
+
+-- right after the start of this call
+abbrev pub after_start : MachineState → Call → Counted
+after_start s call = record { machine = started s call; steps = 0 }
+
+-- this call may start, this run is what it does first, and the process has made all of it, which is this many feeds of 0 and one
+-- more: its new state, the code of the last feed, and `next`
+pub record IsWholeCall (s : MachineState) (call : Call) (r : Run) (zeros : ℕ) (q : RmeProcess) (a : RmeAccess) (code : ℕ) : Type 0 where
+  pub allowed : cause_behind (size_cause s.layout s.limit s.index) (call_cause s (Some call)) ≡ None
+  pub run : IsNextRun (started s call) s.layout.procs s.index r
+  pub all : zeros + 1 ≡ length (accesses_of s.layout.procs s.index r)
+  pub fed : IsFedRun (fed_zeros zeros (after_start s call)) 0 q a code

@@ -7,11 +7,13 @@ ghost use Rattle.rmeworld.specs.MachineState.{resting, crashed, started, stepped
 ghost use Rattle.rme_c.specs.Blocks.{is_block as is_block_of, image_of};
 ghost use Rattle.rme_c.specs.Codes.{refusal_code as code_of_refusal, told as told_of, wanted as wanted_of, shown as shown_of};
 ghost use Rattle.rme_c.specs.Positions.{machine_state_at, machine_state_of, position_of, stage_now, Fits};
-ghost use Rattle.rme_c.specs.Runs.{counted_of, fed_zeros, run_by, IsNextRun, IsFedRun};
+ghost use Rattle.rme_c.specs.Runs.{counted_of, fed_zeros, IsFedRun, IsStartedRun, IsWholeCall};
 ghost use Rattle.rme_c.specs.Starts.{size_cause, call_by, start_cause};
 ghost use Rattle.rme_c.specs.Steps.{IsFed};
 ghost use Rattle.rme_c.specs.declared.script_position.ScriptPosition.TheVariants as ScriptPositionOf;
 ghost use Rattle.rme_c.specs.declared.position.Position.TheVariants as PositionOf;
+ghost use Rattle.rme_c.specs.declared.runs.Run.TheVariants as RunOf;
+ghost use Rattle.rmeworld.specs.declared.call.Call.TheVariants as CallOf;
 
 use crate::accesses::next_at;
 use crate::answers::{NOTHING, refusal_code, tell, wanted};
@@ -19,13 +21,13 @@ use crate::blocks::{block_words, image, is_block};
 use crate::clean_steps::quick_feed;
 use crate::lock_arms::{lock_feed, scan_feed};
 use crate::position::{
-    Position, append_position, is_checking, is_idle, lock_stage, machine_state, position_now,
-    scan_stage,
+    Position, append_position, is_checking, is_idle, is_inside, lock_stage, machine_state,
+    position_now, scan_stage,
 };
 use crate::process::{RmeAccess, RmeCall, RmePosition, RmeProcess};
-use crate::runs::{begun, feed_run};
+use crate::runs::{begun, feed_run, leave};
 use crate::script_position::ScriptPosition;
-use crate::starts::{quick_start, size_refusal, start};
+use crate::starts::{is_sized, quick_start, size_refusal, start};
 use crate::steps::{checked, script_position_step};
 use redomail::Layout;
 use rmecore::Stage;
@@ -101,37 +103,6 @@ pub extern "C" fn rme_crash(p: &mut RmeProcess)
     };
 }
 
-/// Starts any call.
-// Apart: keeps a common start small.
-#[inline(never)]
-fn any_start(p: &mut RmeProcess, call: &RmeCall, next: &mut RmeAccess) -> u64
-    ensures status { result ≡ code_of_refusal (start_cause (machine_state_of p.old) call.now) }
-    ensures started { result ≡ 0 → IfSome (call_by p.old.width call.now)
-        (λ c. machine_state_of p.new ≡ started (machine_state_of p.old) c) }
-    ensures next { result ≡ 0 → next.new ≡ shown_of p.old.procs None (next_access (machine_state_of p.new)) }
-    ensures steps { result ≡ 0 → p.new.steps ≡ 0 }
-    ensures refused { result ≢ 0 → (p.new ≡ p.old) × (next.new ≡ next.old) }
-{
-    refusal_code(start(p, call, next))
-}
-
-/// Starts a call, by the short way if it has one.
-// Inline: once in each C start.
-#[inline(always)]
-fn start_code(p: &mut RmeProcess, call: &RmeCall, next: &mut RmeAccess) -> u64
-    ensures status { result ≡ code_of_refusal (start_cause (machine_state_of p.old) call.now) }
-    ensures started { result ≡ 0 → IfSome (call_by p.old.width call.now)
-        (λ c. machine_state_of p.new ≡ started (machine_state_of p.old) c) }
-    ensures next { result ≡ 0 → next.new ≡ shown_of p.old.procs None (next_access (machine_state_of p.new)) }
-    ensures steps { result ≡ 0 → p.new.steps ≡ 0 }
-    ensures refused { result ≢ 0 → (p.new ≡ p.old) × (next.new ≡ next.old) }
-{
-    match quick_start(p, call, next) {
-        Some(refused) => refusal_code(refused),
-        None => any_start(p, call, next),
-    }
-}
-
 /// Starts a call, names its first access in `next`, and answers 0. Or it answers the number of the refusal of the sizes, of
 /// the call's code (13) or of the start, and changes nothing.
 #[unsafe(no_mangle)]
@@ -143,13 +114,13 @@ pub extern "C" fn rme_start(p: &mut RmeProcess, call: &RmeCall, next: &mut RmeAc
     ensures steps { result ≡ 0 → p.new.steps ≡ 0 }
     ensures refused { result ≢ 0 → (p.new ≡ p.old) × (next.new ≡ next.old) }
 {
-    start_code(p, call, next)
+    refusal_code(start(p, call, next))
 }
 
 /// Takes a step of a script on the data words.
 // Inline: once in each script step.
 #[inline(always)]
-fn script_position_feed(
+pub(crate) fn script_position_feed(
     p: &mut RmeProcess,
     script_position: ScriptPosition,
     value: u64,
@@ -373,23 +344,58 @@ pub extern "C" fn rme_feed(p: &mut RmeProcess, value: u64, next: &mut RmeAccess)
     }
 }
 
-/// Starts a call as `rme_start` does. 256 or more: it is started, and the run with this code comes next.
-#[unsafe(no_mangle)]
-pub extern "C" fn rme_start_run(p: &mut RmeProcess, call: &RmeCall, next: &mut RmeAccess) -> u64
-    ensures status { result < 256 → result ≡ code_of_refusal (start_cause (machine_state_of p.old) call.now) }
-    ensures allowed { 256 ≤ result → code_of_refusal (start_cause (machine_state_of p.old) call.now) ≡ 0 }
-    ensures started { code_of_refusal (start_cause (machine_state_of p.old) call.now) ≡ 0 → IfSome (call_by p.old.width call.now)
-        (λ c. machine_state_of p.new ≡ started (machine_state_of p.old) c) }
-    ensures steps { code_of_refusal (start_cause (machine_state_of p.old) call.now) ≡ 0 → p.new.steps ≡ 0 }
-    ensures run { 256 ≤ result → IsNextRun (machine_state_of p.new) p.new.procs p.new.index (run_by result next.new.value) }
-    ensures next { result ≡ 0 → next.new ≡ shown_of p.old.procs None (next_access (machine_state_of p.new)) }
-    ensures refused { 0 < result → result < 256 → (p.new ≡ p.old) × (next.new ≡ next.old) }
+/// Starts any call, and answers the run that comes next.
+// Apart: keeps a common start small.
+#[inline(never)]
+fn any_start_run(p: &mut RmeProcess, call: &RmeCall, next: &mut RmeAccess) -> u64
+    ensures { IsStartedRun p.old call.now p.new next.old next.new result }
 {
-    let refused = start_code(p, call, next);
+    let refused = rme_start(p, call, next);
     if refused != 0 {
         return refused;
     }
     begun(p, next)
+}
+
+/// Starts a call by the short way, if it has one, and answers the run that comes next. None: it has none, and nothing changed.
+// Inline: once in each C start.
+#[inline(always)]
+fn quick_start_run(p: &mut RmeProcess, call: &RmeCall, next: &mut RmeAccess) -> Option<u64>
+    ensures started { IfSome result (IsStartedRun p.old call.now p.new next.old next.new) }
+    ensures none { result ≡ None → (p.new ≡ p.old) × (next.new ≡ next.old) }
+{
+    match quick_start(p, call, next) {
+        Some(Some(refusal)) => Some(refusal_code(Some(refusal))),
+        Some(None) => Some(begun(p, next)),
+        None => None,
+    }
+}
+
+/// Starts a call as `rme_start` does. 256 or more: it is started, and the run with this code comes next.
+#[unsafe(no_mangle)]
+pub extern "C" fn rme_start_run(p: &mut RmeProcess, call: &RmeCall, next: &mut RmeAccess) -> u64
+    ensures { IsStartedRun p.old call.now p.new next.old next.new result }
+{
+    match quick_start_run(p, call, next) {
+        Some(code) => code,
+        None => any_start_run(p, call, next),
+    }
+}
+
+/// Starts an unlock with nothing to mend, and takes both of its steps: it is one run, of stores alone (`RME_LEAVES`), which C makes
+/// after. 0: there is something to mend, or the unlock is refused, and nothing changed.
+#[unsafe(no_mangle)]
+pub extern "C" fn rme_leave(p: &mut RmeProcess, next: &mut RmeAccess) -> u64
+    ensures left { 0 < result → IsWholeCall (machine_state_of p.old) CallOf.Unlock RunOf.Leaves 1 p.new next.new result }
+    ensures other { result ≡ 0 → (p.new ≡ p.old) × (next.new ≡ next.old) }
+{
+    // For the proof alone: its value is read.
+    let _whole = *p;
+    if p.unmended == 0 && is_inside(p) && is_sized(p) {
+        leave(p, next)
+    } else {
+        0
+    }
 }
 
 /// Feeds a run: this many zeros, and then the value. It leads where as many calls of `rme_feed` lead, and answers what the last one

@@ -5,6 +5,7 @@
 
 mod accesses;
 mod answers;
+mod appends;
 mod blocks;
 mod clean_steps;
 mod exports;

@@ -6,9 +6,12 @@ ghost use Rattle.rmecore.specs.Machine.{first as first_of};
 ghost use Rattle.rmecore.specs.Place.{above};
 ghost use Rattle.rmecore.specs.declared.core_call.CoreCall.TheVariants as CallOf;
 ghost use Rattle.rmecore.specs.declared.stage.Stage.TheVariants as StageOf;
-ghost use Rattle.rme_c.specs.Positions.{machine_state_at, machine_state_of, position_of, Fits};
-ghost use Rattle.rme_c.specs.Runs.{counted_of, fed_zeros, run_code, run_by, BeginsBelow, GoesOn, IsNextRun, IsFedRun};
+ghost use Rattle.rme_c.specs.Positions.{layout_of, machine_state_at, machine_state_of, position_of, Fits};
+ghost use Rattle.rme_c.specs.Runs.{counted_of, fed_zeros, run_code, run_by, BeginsBelow, GoesOn, IsNextRun, IsFedRun, IsWholeCall};
+ghost use Rattle.rme_c.specs.Starts.{size_cause};
 ghost use Rattle.rme_c.specs.declared.position.Position.TheVariants as Position;
+ghost use Rattle.rme_c.specs.declared.runs.Run.TheVariants as RunOf;
+ghost use Rattle.rmeworld.specs.declared.call.Call.TheVariants as CallStart;
 
 use crate::accesses::first;
 use crate::exports::{check_feed, rme_feed, stage_feed};
@@ -17,7 +20,7 @@ use crate::process::{RmeAccess, RmeProcess};
 use rmecore::{CoreCall, Stage};
 
 /// Counts from here on take the long way, where they are added with care.
-const MANY: u64 = 1 << 62;
+pub(crate) const MANY: u64 = 1 << 62;
 
 /// Accesses that come one after another as long as each load reads 0.
 #[derive(Clone, Copy)]
@@ -260,6 +263,29 @@ fn left(p: &mut RmeProcess, zeros: u64, value: u64, steps: u64, next: &mut RmeAc
         call: CoreCall::Unlock,
     };
     stage_feed(p, stage, value, steps, next)
+}
+
+/// Takes both steps of an unlock with nothing to mend.
+// Inline: once in each unlock.
+#[inline(always)]
+pub fn leave(p: &mut RmeProcess, next: &mut RmeAccess) -> u64
+    requires here { position_of p.old ≡ Position.Lock StageOf.Inside }
+    requires below { p.old.index < p.old.procs }
+    requires few { p.old.procs ≤ 64 }
+    requires eight { length p.old.value ≡ 8 }
+    requires mended { p.old.unmended ≡ 0 }
+    requires sized { size_cause (layout_of p.old) p.old.limit p.old.index ≡ None }
+    ensures left { IsWholeCall (machine_state_of p.old) CallStart.Unlock RunOf.Leaves 1 p.new next.new result }
+    ensures unlocked { result ≡ 21 }
+{
+    let q = p.position;
+    p.barred = 0;
+    p.position = at(13, q.first, q.second, 2);
+    p.steps = 1;
+    let stage = Stage::Unmarking {
+        call: CoreCall::Unlock,
+    };
+    stage_feed(p, stage, 0, 2, next)
 }
 
 /// Takes the steps of a whole run of which each reads 0, or of one that ends its call. None: it is another feed, and nothing

@@ -5,12 +5,14 @@ ghost use Rattle.redomail.specs.Layout.{IsLayout};
 ghost use Rattle.rmeworld.specs.Refused.{Needs, is_idle, is_inside, is_waiting, first_cause, start_refusal};
 ghost use Rattle.rmeworld.specs.MachineState.{process_state_of, started, next_access, IsSize};
 ghost use Rattle.rme_c.specs.Codes.{shown as shown_of};
-ghost use Rattle.rme_c.specs.Positions.{machine_state_at, machine_state_of, layout_of, Fits};
+ghost use Rattle.rme_c.specs.Positions.{machine_state_at, machine_state_of, layout_of, position_of, Fits};
 ghost use Rattle.rme_c.specs.Starts.{size_cause, call_by, call_cause, start_cause};
+ghost use Rattle.rme_c.specs.declared.position.Position.TheVariants as PositionOf;
+ghost use Rattle.rmecore.specs.declared.stage.Stage.TheVariants as StageOf;
 
 use crate::accesses::next_at;
 use crate::answers::shown;
-use crate::position::{Position, layout, machine_state, position_now};
+use crate::position::{Position, is_inside, layout, machine_state, position_now};
 use crate::process::{RmeAccess, RmeCall, RmeProcess};
 use crate::script_position::ScriptPosition;
 use redomail::Layout;
@@ -269,6 +271,12 @@ fn start_any(p: &mut RmeProcess, call: &RmeCall, next: &mut RmeAccess) -> Option
     ensures next { result ≡ None → next.new ≡ shown_of p.old.procs None (next_access (machine_state_of p.new)) }
     ensures refused { IsSome result → (p.new ≡ p.old) × (next.new ≡ next.old) }
 {
+    // For the proof alone: its value is read.
+    let _whole = *call;
+    if call.code == 5 && p.unmended == 0 && is_inside(p) {
+        start_append(p, call, next);
+        return None;
+    }
     match call_of(p.width, call) {
         Some(call) => start_read(p, call, next).err(),
         None => Some(Refusal::BadIndex),
@@ -278,15 +286,38 @@ fn start_any(p: &mut RmeProcess, call: &RmeCall, next: &mut RmeAccess) -> Option
 /// Whether the sizes and the index are those of a process of a world.
 // Inline: once in each C start.
 #[inline(always)]
-fn is_sized(p: &RmeProcess) -> bool
+pub fn is_sized(p: &RmeProcess) -> bool
     ensures cause { IsTrue result → size_cause (layout_of p.now) p.now.limit p.now.index ≡ None }
     ensures sized { IsTrue result → IsSize (layout_of p.now) × (p.now.index < p.now.procs) }
 {
     size_refusal(layout(p), p.limit, p.index).is_none()
 }
 
-/// Starts a lock at rest, or an unlock with nothing to mend: the frequent cases. None: it is another start, and nothing
-/// changed.
+/// Starts an append of a holder with nothing to mend, and names its first access.
+// Inline: once in each C start.
+#[inline(always)]
+fn start_append(p: &mut RmeProcess, call: &RmeCall, next: &mut RmeAccess)
+    requires here { position_of p.old ≡ PositionOf.Lock StageOf.Inside }
+    requires sized { IsSize (layout_of p.old) }
+    requires below { p.old.index < p.old.procs }
+    requires mended { p.old.unmended ≡ 0 }
+    requires append { call.now.code ≡ 5 }
+    requires eight { length call.now.value ≡ 8 }
+    ensures cause { call_cause (machine_state_of p.old) (call_by p.old.width call.now) ≡ None }
+    ensures started { IfSome (call_by p.old.width call.now) (λ c. machine_state_of p.new ≡ started (machine_state_of p.old) c) }
+    ensures fresh { p.new.steps ≡ 0 }
+    ensures next { next.new ≡ shown_of p.old.procs None (next_access (machine_state_of p.new)) }
+{
+    let to = Position::Within(ScriptPosition::Closed { seq: call.number });
+    p.barred = 0;
+    p.value = call.value;
+    p.steps = 0;
+    machine_state(p, to);
+    let first = next_at(p, to);
+    *next = shown(p.procs, None, first);
+}
+
+/// Starts a lock at rest: the frequent case. None: it is another start, and nothing changed.
 // Inline: once in each C start.
 #[inline(always)]
 pub fn quick_start(
@@ -304,9 +335,6 @@ pub fn quick_start(
 {
     match call.code {
         1 if p.position.at == 0 && is_sized(p) => Some(start_read(p, Call::Lock, next).err()),
-        2 if p.position.at == 10 && p.unmended == 0 && is_sized(p) => {
-            Some(start_read(p, Call::Unlock, next).err())
-        }
         _ => None,
     }
 }

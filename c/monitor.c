@@ -9,6 +9,10 @@ uint64_t __real_rme_next(const struct rme_process *, struct rme_access *);
 uint64_t __real_rme_feed(struct rme_process *, uint64_t, struct rme_access *);
 uint64_t __real_rme_start_run(struct rme_process *, const struct rme_call *, struct rme_access *);
 uint64_t __real_rme_feed_run(struct rme_process *, uint64_t, uint64_t, struct rme_access *);
+uint64_t __real_rme_leave(struct rme_process *, struct rme_access *);
+uint64_t __real_rme_feed_append(struct rme_process *, uint64_t, uint64_t, uint64_t, struct rme_stores *, struct rme_access *);
+uint64_t __wrap_rme_leave(struct rme_process *, struct rme_access *);
+uint64_t __wrap_rme_feed_append(struct rme_process *, uint64_t, uint64_t, uint64_t, struct rme_stores *, struct rme_access *);
 uint64_t __wrap_rme_start_run(struct rme_process *, const struct rme_call *, struct rme_access *);
 uint64_t __wrap_rme_feed_run(struct rme_process *, uint64_t, uint64_t, struct rme_access *);
 uint64_t __wrap_rme_start(struct rme_process *, const struct rme_call *, struct rme_access *);
@@ -32,6 +36,7 @@ void monitor_begins(void)
 {
     for (unsigned i = 0; i < 4; i++)
         monitor->named[i] = (struct named){0};
+    monitor->owed = NULL;
 }
 
 void in_library(void)
@@ -40,12 +45,6 @@ void in_library(void)
         return;
     monitor->quiet = 0;
     __asm__ volatile("int3" ::: "memory");
-}
-
-void in_test(void)
-{
-    if (monitor)
-        monitor->quiet = 1;
 }
 
 static struct named *slot_of(const struct rme_process *process)
@@ -110,17 +109,24 @@ static void name_run(struct named *slot, const struct rme_process *p, uint64_t t
     }
 }
 
+/* A new slot of what the machine names for this process. */
+static struct named *named_anew(const struct rme_process *process)
+{
+    struct named *slot = slot_of(process);
+    slot->count = 0;
+    memset(slot->seen, 0, sizeof slot->seen);
+    for (uint64_t k = 0; k < 3; k++)
+        slot->own[k] = word_of(3 * process->index + k);
+    return slot;
+}
+
 /* What the machine has answered: 0 or RME_BLOCKED, the access is shown; RME_LOAD or more, a load of that place; RME_RUN or more, a
  * run; else none. */
 static void note(const struct rme_process *process, uint64_t told, const struct rme_access *access)
 {
     if (!monitor || !monitor->file)
         return;
-    struct named *slot = slot_of(process);
-    slot->count = 0;
-    memset(slot->seen, 0, sizeof slot->seen);
-    for (uint64_t k = 0; k < 3; k++)
-        slot->own[k] = word_of(3 * process->index + k);
+    struct named *slot = named_anew(process);
     if (told >= RME_RUN)
         name_run(slot, process, told, access->value);
     else if (told >= RME_LOAD)
@@ -160,6 +166,62 @@ static void compare(const struct rme_process *p, uint64_t before, uint64_t value
             monitor_refuses("the value fed is not that of the word named", named, read);
         monitor->compared++;
     }
+}
+
+/* What was fed before it was made is compared once the library makes no more accesses of it. */
+void in_test(void)
+{
+    if (!monitor)
+        return;
+    monitor->quiet = 1;
+    const struct rme_process *owed = monitor->owed;
+    monitor->owed = NULL;
+    if (owed && slot_of(owed)->count > 0)
+        compare(owed, slot_of(owed)->count - 1, 0);
+}
+
+/* Where kills are tried at each access the shim is to ask for each: then the machine has no short way. */
+static bool by_accesses(void) { return monitor && monitor->traced && !monitor->stepped; }
+
+uint64_t __wrap_rme_leave(struct rme_process *p, struct rme_access *access)
+{
+    in_test();
+    const uint64_t told = by_accesses() ? 0 : __real_rme_leave(p, access);
+    if (told && monitor && monitor->file) {
+        note(p, RME_LEAVES, access);
+        monitor->owed = p;
+    }
+    in_library();
+    return told;
+}
+
+/* The words that an append has loaded are those of these data words. */
+static void compare_loaded(const struct rme_process *p, const uint64_t loaded[3])
+{
+    const uint64_t place[3] = {1, 2, 10 + p->width + p->index};
+    for (unsigned i = 0; i < 3; i++) {
+        const struct rme_access named = {0, 3 * p->procs + place[i], 0};
+        if (word_of(named.place) != loaded[i])
+            monitor_refuses("the value fed is not that of the word named", &named, loaded[i]);
+        monitor->compared++;
+    }
+}
+
+uint64_t __wrap_rme_feed_append(struct rme_process *p, uint64_t closed, uint64_t count, uint64_t last, struct rme_stores *stores,
+                                struct rme_access *access)
+{
+    in_test();
+    const uint64_t done = by_accesses() ? 0 : __real_rme_feed_append(p, closed, count, last, stores, access);
+    if (done && monitor && monitor->file) {
+        compare_loaded(p, (const uint64_t[]){closed, count, last});
+        note(p, stores->told, access);
+        struct named *slot = stores->count > 0 ? named_anew(p) : NULL;
+        for (uint64_t k = 0; k < stores->count; k++)
+            name(slot, stores->each[k].store, stores->each[k].place, stores->each[k].value);
+        monitor->owed = slot ? p : NULL;
+    }
+    in_library();
+    return done;
 }
 
 uint64_t __wrap_rme_start_run(struct rme_process *p, const struct rme_call *call, struct rme_access *access)

@@ -1,8 +1,9 @@
 /* Watches the shim between two calls of the machine: each access that the machine names must be the one that the shim makes.
  *
- * monitor.c takes the place of rme_start_run, rme_start, rme_next, rme_feed and rme_feed_run (linked with -Wl,--wrap=rme_start
- * and so on) and passes each call on. Before it passes a value on, it compares: the word named for a store holds the value named,
- * and the value fed for a load is that of the word named. This holds where one process alone steps; a difference is a fault of the shim. */
+ * monitor.c takes the place of the machine's calls (linked with -Wl,--wrap=rme_start and so on) and passes each on. Before it passes a
+ * value on, it compares: the word named for a store holds the value named, and the value fed for a load is that of the word named.
+ * Stores that the machine was fed before they are made, by rme_leave and rme_feed_append, are compared at the next call, or at the
+ * library's return. This holds where one process alone steps; a difference is a fault of the shim. */
 #ifndef MONITOR_H
 #define MONITOR_H
 #include "rme.h"
@@ -22,6 +23,7 @@ struct monitor {
     const unsigned char *file; /* the file, mapped by the test itself */
     uint64_t procs, words;
     struct named named[4];
+    const struct rme_process *owed; /* whose named stores are fed, and still to be made */
     uint64_t last, compared;
     uint64_t stepped; /* whether a tracer goes on by single steps at all */
     uint64_t traced, quiet; /* whether a tracer goes on by single steps, but where this is quiet */

@@ -9,19 +9,18 @@
 _Static_assert(sizeof(struct rme_process) == 20 * 8 && sizeof(struct rme_call) == 10 * 8 && sizeof(struct rme_access) == 3 * 8,
                "the machine's numbers are u64, one after the other");
 _Static_assert(__atomic_always_lock_free(8, 0), "a word is one atomic u64");
+#define INLINED inline __attribute__((always_inline))
 
 /* ---- accesses ---- */
 
 /* A futex has 32 bits: the lower half of a word. */
-static void futex(uint64_t *word, int operation, uint32_t value, const struct timespec *most)
+static __attribute__((noinline)) void futex(uint64_t *word, int operation, uint32_t value, const struct timespec *most)
 {
     syscall(SYS_futex, (uint32_t *)word + (__BYTE_ORDER__ == __ORDER_BIG_ENDIAN__), operation, value, most, NULL, 0);
 }
 
 /* How many accesses are made, and what the last one read (0 for a store); those before it read 0. */
-struct made {
-    uint64_t count, seen;
-};
+struct made { uint64_t count, seen; };
 
 static inline bool reads_zero(const uint64_t *word, struct made *made)
 {
@@ -34,7 +33,7 @@ static inline void put(uint64_t *line, uint64_t k, uint64_t value, struct made *
 {
     store(line + k, value);
     made->count++;
-    if (value == 0 && __builtin_expect(load(line + SLEEPERS) != 0, 0))
+    if (value == 0 && k < 2 && __builtin_expect(load(line + SLEEPERS) != 0, 0))
         futex(line + k, FUTEX_WAKE, MOST_PROCS, NULL);
 }
 
@@ -54,35 +53,33 @@ static inline void take(struct rme_seat *s, const struct rme_access *access, str
     made->count = 1;
 }
 
-/* The rest of a scan, from process j on: of each other process word k to number, up to the first that is not 0. */
-static inline bool scan(const struct rme_seat *s, uint64_t j, const uint64_t k, struct made *made)
+/* The rest of a scan, from a line on: of each other process word k to number, up to the first that is not 0. */
+static inline bool scan(const uint64_t *own, const uint64_t *line, const uint64_t *end, const uint64_t k, struct made *made)
 {
-    const uint64_t *own = s->lines + s->machine.index * LINE, *end = s->lines + s->machine.procs * LINE;
-    for (const uint64_t *line = s->lines + j * LINE; line < end; line += LINE)
+    for (; line < end; line += LINE)
         if (line != own && ((k == 0 && !reads_zero(line, made)) || !reads_zero(line + 1, made)))
             return false;
     return true;
 }
 
 /* Makes the accesses of a run (rme_machine.h) up to the first word that is not 0. */
-static inline __attribute__((always_inline)) void run(const struct rme_seat *s, uint64_t told, uint64_t number, struct made *made)
+static INLINED void run(const struct rme_seat *s, uint64_t told, uint64_t number, struct made *made)
 {
-    uint64_t *own = s->lines + s->machine.index * LINE;
+    uint64_t *lines = s->lines, *own = lines + s->machine.index * LINE, *end = lines + s->machine.procs * LINE;
     switch (told) {
     case RME_LOCKS:
         if (!reads_zero(own, made) || !reads_zero(own + 1, made) || !reads_zero(own + 2, made))
             return;
-        number = 1;
         /* fallthrough */
     case RME_OPENS:
         put(own, 0, 1, made);
-        if (!scan(s, 0, 1, made) || told == RME_OPENS)
+        if (!scan(own, lines, end, 1, made) || told == RME_OPENS)
             return;
         /* fallthrough */
     case RME_TAKES:
         put(own, 1, number, made);
         put(own, 0, 0, made);
-        if (!scan(s, 0, 0, made) || told == RME_TAKES)
+        if (!scan(own, lines, end, 0, made) || told == RME_TAKES)
             return;
         /* fallthrough */
     case RME_MARKS:
@@ -94,7 +91,7 @@ static inline __attribute__((always_inline)) void run(const struct rme_seat *s, 
         put(own, 2, 0, made);
         return;
     default:
-        scan(s, told % MOST_PROCS, told < RME_LOOKS, made);
+        scan(own, lines + told % MOST_PROCS * LINE, end, told < RME_LOOKS, made);
     }
 }
 
@@ -102,58 +99,48 @@ static inline __attribute__((always_inline)) void run(const struct rme_seat *s, 
 
 enum { LEAST_PAUSES = 16, MOST_PAUSES = 2000, YIELDS = 100, AT_ONCE = 3000 /* ticks: about a microsecond */ };
 
-/* Who stores 0 sees the bit, or else the kernel sees the 0 here and does not sleep. The time is for those who die between their
- * store and their waking. */
-static void sleep_on(struct rme_seat *s, uint64_t place, uint64_t seen, uint64_t milliseconds)
-{
-    const struct timespec most = {0, (long)milliseconds * 1000000};
-    __atomic_fetch_or(sleepers_on(s, place), own_bit(s), __ATOMIC_SEQ_CST);
-    futex(lock_word(s, place), FUTEX_WAIT, (uint32_t)seen, &most);
-    __atomic_fetch_and(sleepers_on(s, place), ~own_bit(s), __ATOMIC_SEQ_CST);
-}
-
 /* After a blocked reading: for each process it pauses at first, then lets others run, then sleeps. A yield that comes back at
- * once says that a processor is free: then more pauses cost nothing. */
-static void rest(struct rme_seat *s, uint64_t place, uint64_t seen, struct patience *may_wait)
+ * once says that a processor is free: then more pauses cost nothing. Who stores 0 sees the sleeper's bit, or else the kernel sees
+ * the 0 here and does not sleep. The time is for those who die between their store and their waking. */
+static __attribute__((noinline)) void rest(struct rme_seat *s, uint64_t place, uint64_t seen, struct patience *may_wait)
 {
-    if (s->blocked_at != sleepers_on(s, place)) {
-        s->blocked_at = sleepers_on(s, place);
+    uint64_t *sleepers = sleepers_on(s, place);
+    const struct timespec most = {0, (long)may_wait->longest * 1000000};
+    if (s->blocked_at != sleepers)
         s->turn = s->yields = 0;
-    }
+    s->blocked_at = sleepers;
     if (s->turn++ < s->pauses + LEAST_PAUSES) {
         __builtin_ia32_pause();
     } else if (s->yields++ < YIELDS) {
-        uint64_t before = __builtin_ia32_rdtsc();
+        const uint64_t before = __builtin_ia32_rdtsc();
         sched_yield();
-        if (__builtin_ia32_rdtsc() - before > AT_ONCE)
-            s->pauses /= 2;
-        else if (s->pauses < MOST_PAUSES)
-            s->pauses = 2 * s->pauses + LEAST_PAUSES;
+        const uint64_t more = s->pauses < MOST_PAUSES ? 2 * s->pauses + LEAST_PAUSES : s->pauses;
+        s->pauses = __builtin_ia32_rdtsc() - before > AT_ONCE ? s->pauses / 2 : more;
     } else {
-        sleep_on(s, place, seen, may_wait->longest);
+        __atomic_fetch_or(sleepers, own_bit(s), __ATOMIC_SEQ_CST);
+        futex(lock_word(s, place), FUTEX_WAIT, (uint32_t)seen, &most);
+        __atomic_fetch_and(sleepers, ~own_bit(s), __ATOMIC_SEQ_CST);
         if (may_wait->once)
             may_wait->turns = 0;
     }
 }
 
-/* Takes the steps of the call under way, from what the machine has told on, to its answer, or as long as it may wait. */
-static inline __attribute__((always_inline)) uint64_t finish(struct rme_seat *s, uint64_t told, struct rme_access *access,
-                                                             struct patience may_wait)
+/* Takes the call to its answer, or as long as it may wait, from what the machine has told and the last access has read on. */
+static uint64_t finish(struct rme_seat *s, uint64_t told, struct made made, struct rme_access *access, struct patience may_wait)
 {
-    for (;;) {
-        struct made made = {0, 0};
+    while (told == 0 || told >= RME_LOAD || (told == RME_BLOCKED && may_wait.turns-- > 0)) {
+        if (told == RME_BLOCKED)
+            rest(s, access->place, made.seen, &may_wait);
+        made = (struct made){0, 0};
         if (told >= RME_RUN)
-            run(s, told, access->value, &made);
+            run(s, told, told == RME_LOCKS ? 1 : access->value, &made);
         else if (told >= RME_LOAD)
             reads_zero(lock_word(s, told - RME_LOAD), &made);
         else
             take(s, access, &made);
         told = rme_feed_run(&s->machine, made.count - 1, made.seen, access);
-        if (told == RME_BLOCKED && may_wait.turns-- > 0)
-            rest(s, access->place, made.seen, &may_wait);
-        else if (told != 0 && told < RME_LOAD)
-            return told;
     }
+    return told;
 }
 
 int rme_error_of(uint64_t told)
@@ -164,8 +151,7 @@ int rme_error_of(uint64_t told)
         [RME_NOT_RECOVERABLE] = ENOTRECOVERABLE, [RME_ALREADY] = EALREADY, [RME_OUT_OF_ORDER] = EINVAL, [RME_FULL] = ENOSPC,
         [RME_CLOSED] = EPIPE, [RME_ALREADY_CLOSED] = EALREADY,
     };
-    int error = told <= RME_DONE ? errors[told] : EINVAL;
-    return error == 0 && told < RME_BLOCKED ? EINVAL : error; /* the other refusals */
+    return told > RME_DONE || (told < RME_BLOCKED && errors[told] == 0) ? EINVAL : errors[told]; /* the other refusals */
 }
 
 /* ---- calls ---- */
@@ -180,27 +166,47 @@ int rme_begin_call(struct rme_seat *s)
 
 int rme_end_call(struct rme_seat *s, int error)
 {
-    if (s->astray)
-        error = EBADMSG;
+    error = s->astray ? EBADMSG : error;
     s->astray = false;
     __atomic_store_n(s->state, FREE, __ATOMIC_RELEASE);
     return error;
 }
 
-/* Takes the call to its answer, or as long as it may wait. A lock that was left after ETIMEDOUT is under way still: it goes on where
- * it waited. */
-uint64_t rme_make_call(struct rme_seat *s, const struct rme_call *asked, struct patience may_wait, struct rme_access *access)
+/* An append, by one feed of the words that it loads first. */
+static uint64_t append(struct rme_seat *s, struct rme_access *access, struct made *made)
 {
+    const uint64_t closed = load(s->words + 1), count = load(s->words + 2);
+    const uint64_t last = load(s->words + 10 + s->machine.width + s->machine.index);
+    struct rme_stores stores;
+    if (!rme_feed_append(&s->machine, closed, count, last, &stores, access))
+        return 0;
+    for (uint64_t k = 0; k < stores.count; k++)
+        take(s, &stores.each[k], made);
+    return stores.told;
+}
+
+/* Takes the call to its answer, or as long as it may wait. Mostly a lock is one run, and so is an unlock. A lock that was left
+ * after ETIMEDOUT is under way still: it goes on where it waited. */
+INLINED uint64_t rme_make_call(struct rme_seat *s, const struct rme_call *asked, struct patience may_wait, struct rme_access *access)
+{
+    struct made made = {0, 0};
+    if (asked->code == RME_UNLOCK && rme_leave(&s->machine, access) == RME_UNLOCKED)
+        return run(s, RME_LEAVES, 0, &made), RME_UNLOCKED;
     uint64_t told = rme_start_run(&s->machine, asked, access);
-    if (told == RME_CALL_UNDER_WAY && asked->code == RME_LOCK)
-        told = rme_next(&s->machine, access);
-    else
+    if (asked->code == RME_LOCK && told == RME_LOCKS) {
         s->blocked_at = NULL;
-    return told == 0 || told >= RME_RUN ? finish(s, told, access, may_wait) : told;
+        run(s, RME_LOCKS, 1, &made);
+        told = rme_feed_run(&s->machine, made.count - 1, made.seen, access);
+    } else if (asked->code == RME_LOCK && told == RME_CALL_UNDER_WAY) {
+        told = rme_next(&s->machine, access);
+    } else if (asked->code == RME_APPEND && told == 0) {
+        told = append(s, access, &made);
+    }
+    return told > RME_BLOCKED && told < RME_LOAD ? told : finish(s, told, made, access, may_wait);
 }
 
 /* Where it has succeeded, *got (may be null) is the board word that it has read, or else what the machine told. */
-static int call(struct rme_seat *s, const struct rme_call *asked, struct patience may_wait, uint64_t *got)
+static INLINED int call(struct rme_seat *s, const struct rme_call *asked, struct patience may_wait, uint64_t *got)
 {
     struct rme_access access;
     int error = rme_begin_call(s);
@@ -213,25 +219,21 @@ static int call(struct rme_seat *s, const struct rme_call *asked, struct patienc
     return error;
 }
 
-/* The calls that have a code alone; and all but lock are never blocked. */
-static const struct rme_call plain[] = {
-    [RME_LOCK] = {.code = RME_LOCK}, [RME_UNLOCK] = {.code = RME_UNLOCK}, [RME_CONSISTENT] = {.code = RME_CONSISTENT},
-    [RME_RECOVER] = {.code = RME_RECOVER}, [RME_CLOSE] = {.code = RME_CLOSE}, [RME_WITHDRAW] = {.code = RME_WITHDRAW},
-};
+/* All but lock are never blocked. */
 static const struct patience at_once = {0};
+static const struct rme_call lock_call = {.code = RME_LOCK}, unlock_call = {.code = RME_UNLOCK};
 
-static int lock(struct rme_seat *s, struct patience may_wait) { return call(s, &plain[RME_LOCK], may_wait, NULL); }
-int rme_lock(struct rme_seat *s) { return lock(s, (struct patience){.turns = UINT64_MAX, .longest = 50}); }
-int rme_lock_within(struct rme_seat *s, uint64_t turns) { return lock(s, (struct patience){.turns = turns, .longest = 1}); }
-int rme_unlock(struct rme_seat *s) { return call(s, &plain[RME_UNLOCK], at_once, NULL); }
-int rme_consistent(struct rme_seat *s) { return call(s, &plain[RME_CONSISTENT], at_once, NULL); }
-int rme_withdraw(struct rme_seat *s) { return call(s, &plain[RME_WITHDRAW], at_once, NULL); }
-int rme_close(struct rme_seat *s) { return call(s, &plain[RME_CLOSE], at_once, NULL); }
+int rme_lock(struct rme_seat *s) { return call(s, &lock_call, (struct patience){.turns = UINT64_MAX, .longest = 50}, NULL); }
+int rme_lock_within(struct rme_seat *s, uint64_t turns) { return call(s, &lock_call, (struct patience){turns, .longest = 1}, NULL); }
+int rme_unlock(struct rme_seat *s) { return call(s, &unlock_call, at_once, NULL); }
+int rme_consistent(struct rme_seat *s) { return call(s, &(struct rme_call){.code = RME_CONSISTENT}, at_once, NULL); }
+int rme_withdraw(struct rme_seat *s) { return call(s, &(struct rme_call){.code = RME_WITHDRAW}, at_once, NULL); }
+int rme_close(struct rme_seat *s) { return call(s, &(struct rme_call){.code = RME_CLOSE}, at_once, NULL); }
 
 int rme_recover(struct rme_seat *s, int *found)
 {
     uint64_t told = 0;
-    int error = call(s, &plain[RME_RECOVER], at_once, &told);
+    int error = call(s, &(struct rme_call){.code = RME_RECOVER}, at_once, &told);
     if (found && !error)
         *found = (int)told;
     return error;

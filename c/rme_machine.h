@@ -53,7 +53,12 @@ enum rme_answer {
 /* A run: accesses that follow one another as long as each load reads 0. `line` is a process's three lock words: choosing, number
  * and inside; `own` is that of this process. The accesses of a run are made in order, up to the first word that is not 0; then
  * rme_feed_run is given how many came before the last one, and what that read (0 for a store). From RME_RUN on rme_start_run and
- * rme_feed_run answer a run. What else rme_feed_run answers is as rme_feed says, and what rme_start_run does, as rme_start. */
+ * rme_feed_run answer a run. What else rme_feed_run answers is as rme_feed says, and what rme_start_run does, as rme_start.
+ *
+ * Two more take the steps of stores before these are made. rme_leave starts an unlock with nothing to mend: it answers RME_UNLOCKED,
+ * and the accesses of RME_LEAVES are made then; or 0, and has done nothing. rme_feed_append is called where an append has been
+ * started, with the three words that it loads first: data words 1 and 2, and the process's last number, data word 10 + width + index.
+ * It answers 1, and the stores that it names are made then, in order; or 0, and has done nothing. */
 enum rme_run {
     RME_RUN = 256,
     RME_PEEKS = RME_RUN, /* and a process: loads number of each other process, from this one on */
@@ -65,6 +70,12 @@ enum rme_run {
     RME_LEAVES           /* stores own number 0 and own inside 0 */
 };
 
+/* What rme_feed_append hands out: what rme_feed would answer, and the stores of the append in order, of which `count` are named. */
+struct rme_stores {
+    uint64_t told, count;
+    struct rme_access each[24];
+};
+
 uint64_t rme_words(uint64_t procs, uint64_t cap, uint64_t width);
 uint64_t rme_init(struct rme_process *, uint64_t procs, uint64_t cap, uint64_t width, uint64_t limit, uint64_t index);
 void rme_crash(struct rme_process *);
@@ -73,6 +84,8 @@ uint64_t rme_next(const struct rme_process *, struct rme_access *);
 uint64_t rme_feed(struct rme_process *, uint64_t value, struct rme_access *);
 uint64_t rme_start_run(struct rme_process *, const struct rme_call *, struct rme_access *);
 uint64_t rme_feed_run(struct rme_process *, uint64_t zeros, uint64_t value, struct rme_access *);
+uint64_t rme_leave(struct rme_process *, struct rme_access *);
+uint64_t rme_feed_append(struct rme_process *, uint64_t closed, uint64_t count, uint64_t last, struct rme_stores *, struct rme_access *);
 uint64_t rme_step_count(const struct rme_process *);
 
 /* The rule that copied words break first, from 2 to 9 (docs/dev/texts.md); or one of these. It alone takes memory. */

@@ -59,6 +59,10 @@ impl VariantProcess {
         VariantProcess { process: Process::new(), detour: Detour::Straight, change: Change::Nothing }
     }
 
+    pub fn is_at_rest(&self) -> bool {
+        self.process.stage == Stage::Rest
+    }
+
     pub fn crash(&mut self) {
         self.process.crash();
         self.detour = Detour::Straight;

@@ -27,6 +27,12 @@ impl World {
         World { choosing: [0; 3], number: [0; 3], inside: [0; 3], cells: [0; 24], processes: [VariantProcess::new(); 3] }
     }
 
+    /// All processes are at rest, and all lock words are 0.
+    pub fn is_home(&self) -> bool {
+        let zeros = [self.choosing, self.number, self.inside] == [[0; 3]; 3];
+        zeros && self.processes.iter().all(|process| process.is_at_rest())
+    }
+
     pub fn start(&mut self, _layout: Layout, p: u8, call: Call, variant: Variant) -> bool {
         self.processes[p as usize].start(call, variant)
     }

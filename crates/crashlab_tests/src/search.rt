@@ -5,3 +5,5 @@ pub mod jugs;
 mod schedules;
 #[cfg(test)]
 mod searches;
+#[cfg(test)]
+mod stuck;

@@ -16,6 +16,7 @@ fn pour_until(
         small: 0,
         big: 0,
         wanted,
+        spills: 0,
     };
     search(alloc, start, most_moves, most_states, &mut Unwatched)
 }
@@ -122,6 +123,7 @@ fn each_state_is_told_once(rt: HostRuntime) -> Result<(), Fail> {
         small: 0,
         big: 0,
         wanted: 7,
+        spills: 0,
     };
     let found = search(rt.alloc(), start, 100, 16, &mut told);
     assert_eq!(rt; found, Ok(SearchOutcome::Nowhere(16)));

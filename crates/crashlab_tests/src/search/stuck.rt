@@ -90,7 +90,15 @@ fn stuck_worlds(
         cap: 1,
         width: 1,
     };
-    stuck_schedule(alloc, Variant::Right, layout, limit, &LOCKING, &bounds, &mut Unwatched)
+    stuck_schedule(
+        alloc,
+        Variant::Right,
+        layout,
+        limit,
+        &LOCKING,
+        &bounds,
+        &mut Unwatched,
+    )
 }
 
 #[test]

@@ -24,17 +24,15 @@ struct Interrupting {
     other: Member,
     act: Act,
     at: u64,
-    askings: u64,
+    count: u64,
 }
 
 impl CrashPlan for Interrupting {
-    ghost asked = { λ t. t.never.asked };
-
-    ghost fallen = { λ t. t.never.fallen };
+    ghost askings = { λ t. t.never };
 
     fn falls(&mut self) -> bool {
-        self.askings = self.askings.saturating_add(1);
-        if self.askings == self.at {
+        self.count = self.count.saturating_add(1);
+        if self.count == self.at {
             perform(&mut self.other, self.act);
         }
         self.never.falls()
@@ -60,7 +58,7 @@ fn locked(rt: &impl Abort, alloc: Global, act: Act, at: u64) -> Result<Entry, Lo
         other,
         act,
         at,
-        askings: 0,
+        count: 0,
     };
     one.lock_within(&mut plan, 0)
 }

@@ -5,3 +5,4 @@ pub mod Accesses
 pub mod Steps
 pub mod Worlds
 pub mod Faults
+pub mod Ranked

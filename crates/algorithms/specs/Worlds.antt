@@ -1,5 +1,5 @@
 -- The worlds of an algorithm, and what a start, a step and a crash of a process make of them.
-use Rattle.std.specs.Prelude.{ℕ, ◌^◌, nat_lt, nat_le, Bool, true, false, ◌&&◌, if◌then◌else◌, List, [], length, replicate, slice_get, slice_index_or, slice_set, Option, Some, None, Result, Ok, Err, ok_or}
+use Rattle.std.specs.Prelude.{ℕ, ◌^◌, nat_lt, nat_le, Bool, true, false, ◌&&◌, if◌then◌else◌, List, length, replicate, slice_get, slice_set, Option, Some, None, Result, Ok, Err, ok_or}
 use Rattle.algorithms.specs.Arrivals.{arrives, line_at, ◌>>=◌}
 use Rattle.algorithms.specs.LocalRuns.{nothing_noted}
 use Rattle.algorithms.specs.Steps.{kept, acted}
@@ -92,11 +92,15 @@ taken w p = do
   process ← process_of w p
   taken_by w.algorithm (constants_of w p) w.words process
 
--- the words after a store
+abbrev pub stored_in : List (List ℕ) → Address → ℕ → Option (List ℕ) → List (List ℕ)
+stored_in words address v None = words
+stored_in words address v (Some row) = slice_set words address.declaration (slice_set row address.index v)
+
+-- the words after an access, which may store a value. An address outside of the rows stores nothing
 abbrev pub stored : List (List ℕ) → Address → Option ℕ → List (List ℕ)
 stored words address None = words
 stored words address (Some v) =
-    slice_set words address.declaration (slice_set (slice_index_or words address.declaration []) address.index v)
+    if nat_lt address.index 64 then stored_in words address v (slice_get words address.declaration) else words
 
 abbrev pub with_process : WorldState → ℕ → Process → WorldState
 with_process w p process = record w { processes = slice_set w.processes p process }

@@ -11,6 +11,7 @@ pub mod line;
 mod local;
 pub mod noted;
 pub mod process;
+mod ranks;
 pub mod reading;
 pub mod refusal;
 pub mod world;

@@ -31,9 +31,14 @@ pub struct World {
 
 impl Model for World {
     ghost use Rattle.std.specs.Prelude.{◌≡◌, vec_len};
+    ghost use Rattle.std.specs.Coded.{codes};
+    ghost use Rattle.algorithms.specs.contracts.condition.Condition as condition;
+    ghost use Rattle.algorithms.specs.contracts.expression.Expression as expression;
     ghost use Rattle.algorithms.specs.Worlds.{WorldState};
 
     ghost Value = { WorldState };
+
+    ghost coded = { Prim.hlevel (codes, expression.the_row.coded, condition.the_row.coded) };
 
     ghost view = { λ w. record { algorithm = w.algorithm; procs = w.procs; limit = w.limit; words = w.words.items; processes = w.processes.items } };
 
@@ -94,10 +99,9 @@ fn store(words: &mut [[u64; MOST_PROCS]], access: Access)
     let Some(value) = access.stores else {
         return;
     };
-    if let Some(row) = words.get_mut(declaration) {
-        if let Some(word) = row.get_mut(index as usize) {
-            *word = value;
-        }
+    if index < MOST_PROCS as u64 && declaration < words.len() {
+        let row = &mut words[declaration];
+        row[index as usize] = value;
     }
 }
 

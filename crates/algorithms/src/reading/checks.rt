@@ -84,9 +84,10 @@ impl Draft {
 
     /// Lets the gotos of a call lead to their labels.
     fn resolve(&mut self, call: CallRead) -> Result<(), AlgorithmFault> {
-        let mut at = 0;
-        while let Some(jump) = self.jumps.as_slice().get(at).copied() {
-            at += 1;
+        for at in 0..self.jumps.len() {
+            let Some(jump) = self.jumps.as_slice().get(at).copied() else {
+                continue;
+            };
             if jump.place < call.from || call.to <= jump.place {
                 continue;
             }

@@ -1,7 +1,8 @@
 //! What the runs of a call may do: which lines they come to, which names they have set, and where they go round.
 
 use crate::fault::{AlgorithmFault, LineFault};
-use crate::line::{Form, Line, LocalLine, Members};
+use crate::line::{Form, Line, LocalLine};
+use crate::ranks::has_round;
 use crate::reading::lines::{CallRead, Jump};
 use crate::reading::usage::{bit, loop_name, names_read, names_set};
 use std::alloc::{AllocError, Global};
@@ -34,15 +35,6 @@ impl<'a> Flow<'a> {
         Flow { lines, call, least }
     }
 
-    /// Whether a loop over these processes may have no round.
-    fn may_be_empty(&self, members: Members) -> bool {
-        match members {
-            Members::All => false,
-            Members::Others => self.least < 2,
-            Members::Lower | Members::Higher => true,
-        }
-    }
-
     fn ways(&self, place: usize) -> Ways {
         let next = place.saturating_add(1);
         let Some(line) = self.lines.get(place) else {
@@ -65,10 +57,10 @@ impl<'a> Flow<'a> {
                 second: Some(*otherwise),
             },
             Form::Local(LocalLine::First { members, after, .. }) => {
-                let second = if self.may_be_empty(*members) {
-                    Some(*after)
-                } else {
+                let second = if has_round(self.least, *members) {
                     None
+                } else {
+                    Some(*after)
                 };
                 Ways {
                     first: Some(next),
@@ -79,6 +71,31 @@ impl<'a> Flow<'a> {
                 first: Some(*body),
                 second: Some(next),
             },
+        }
+    }
+
+    /// The longest way over local lines from each line of the call, once each line was taken as often as there are lines.
+    pub fn rank(&self, ranks: &mut [u64]) {
+        for _ in self.call.from..self.call.to {
+            for place in self.call.from..self.call.to {
+                if self.is_local(place) {
+                    let ways = self.ways(place);
+                    let longest = rank_after(ranks, ways.first).max(rank_after(ranks, ways.second));
+                    if let Some(rank) = ranks.get_mut(place) {
+                        *rank = longest.saturating_add(1);
+                    }
+                }
+            }
+        }
+    }
+
+    fn is_local(&self, place: usize) -> bool {
+        match self.lines.get(place) {
+            Some(line) => match &line.form {
+                Form::Local(_) => true,
+                _ => false,
+            },
+            None => false,
         }
     }
 
@@ -285,6 +302,13 @@ impl<'a> Flow<'a> {
         self.check_set(alloc, reached, names)?;
         self.check_ends(alloc, reached)?;
         self.check_steps(alloc)
+    }
+}
+
+fn rank_after(ranks: &[u64], way: Option<usize>) -> u64 {
+    match way {
+        Some(place) => ranks.get(place).copied().unwrap_or(0),
+        None => 0,
     }
 }
 

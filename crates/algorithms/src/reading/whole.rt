@@ -1,7 +1,11 @@
 //! A whole text.
 
+ghost use Rattle.std.specs.Prelude.{IfOk, OnOk};
+ghost use Rattle.algorithms.specs.Ranked.{LocalLinesEnd};
+
 use crate::algorithm::{Algorithm, Call};
 use crate::fault::{AlgorithmFault, LineFault};
+use crate::ranks::all_fall;
 use crate::reading::calls::{head, promises};
 use crate::reading::flow::Flow;
 use crate::reading::lines::{CallRead, Draft};
@@ -127,11 +131,35 @@ fn entries(draft: &mut Draft) -> Result<(), AlgorithmFault> {
 /// The calls that a text has, in the order in which they are checked.
 const CALLS: [Call; 4] = [Call::Lock, Call::Unlock, Call::Recover, Call::Withdraw];
 
+#[tactic(auto, using(crate::proofs::Ranked::all_end))]
+/// Checks what the runs of all calls may do, and that their local lines end.
+fn check_flow(alloc: Global, draft: &Draft) -> Result<(), AlgorithmFault>
+    ensures { OnOk result (LocalLinesEnd draft.now.algorithm) }
+{
+    let lines = draft.algorithm.lines.as_slice();
+    let least = draft.algorithm.least;
+    let mut ranks = vec![in alloc; 0; lines.len()]?;
+    for call in CALLS {
+        if let Some(call) = call_of(draft, call) {
+            let flow = Flow::of(lines, call, least);
+            flow.check(alloc, draft.jumps.as_slice(), draft.algorithm.lasting)?;
+            flow.rank(ranks.as_mut_slice());
+        }
+    }
+    if all_fall(lines, least, ranks.as_slice()) {
+        Ok(())
+    } else {
+        Err(LineFault::Endless.at(draft.number))
+    }
+}
+
 /// Reads an algorithm from a text.
 ///
 /// The faults of all characters come first, then those of forms, then those of labels, names and deeds, and at last those of
 /// what runs may do. Of the first kind that there is, the first line is named.
-pub fn read_algorithm(alloc: Global, text: &[u8]) -> Result<Algorithm, AlgorithmFault> {
+pub fn read_algorithm(alloc: Global, text: &[u8]) -> Result<Algorithm, AlgorithmFault>
+    ensures { IfOk result LocalLinesEnd }
+{
     if text.is_empty() {
         return Err(LineFault::NoHeader.at(1));
     }
@@ -144,15 +172,6 @@ pub fn read_algorithm(alloc: Global, text: &[u8]) -> Result<Algorithm, Algorithm
         }
     }
     draft.check_withdraw()?;
-    for call in CALLS {
-        if let Some(call) = call_of(&draft, call) {
-            let flow = Flow::of(
-                draft.algorithm.lines.as_slice(),
-                call,
-                draft.algorithm.least,
-            );
-            flow.check(alloc, draft.jumps.as_slice(), draft.algorithm.lasting)?;
-        }
-    }
+    check_flow(alloc, &draft)?;
     Ok(draft.algorithm)
 }

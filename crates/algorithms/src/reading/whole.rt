@@ -131,22 +131,32 @@ fn entries(draft: &mut Draft) -> Result<(), AlgorithmFault> {
 /// The calls that a text has, in the order in which they are checked.
 const CALLS: [Call; 4] = [Call::Lock, Call::Unlock, Call::Recover, Call::Withdraw];
 
+/// Checks what the runs of all calls may do, and answers a rank for each line.
+fn ranks(alloc: Global, draft: &Draft) -> Result<Vec<u64>, AlgorithmFault> {
+    let lines = draft.algorithm.lines.as_slice();
+    let mut ranks = vec![in alloc; 0; lines.len()]?;
+    for call in CALLS {
+        if let Some(call) = call_of(draft, call) {
+            let flow = Flow::of(lines, call, draft.algorithm.least);
+            flow.check(alloc, draft.jumps.as_slice(), draft.algorithm.lasting)?;
+            flow.rank(ranks.as_mut_slice());
+        }
+    }
+    Ok(ranks)
+}
+
 #[tactic(auto, using(crate::proofs::Ranked::all_end))]
 /// Checks what the runs of all calls may do, and that their local lines end.
 fn check_flow(alloc: Global, draft: &Draft) -> Result<(), AlgorithmFault>
     ensures { OnOk result (LocalLinesEnd draft.now.algorithm) }
 {
-    let lines = draft.algorithm.lines.as_slice();
-    let least = draft.algorithm.least;
-    let mut ranks = vec![in alloc; 0; lines.len()]?;
-    for call in CALLS {
-        if let Some(call) = call_of(draft, call) {
-            let flow = Flow::of(lines, call, least);
-            flow.check(alloc, draft.jumps.as_slice(), draft.algorithm.lasting)?;
-            flow.rank(ranks.as_mut_slice());
-        }
-    }
-    if all_fall(lines, least, ranks.as_slice()) {
+    let ranks = ranks(alloc, draft)?;
+    let algorithm = &draft.algorithm;
+    if all_fall(
+        algorithm.lines.as_slice(),
+        algorithm.least,
+        ranks.as_slice(),
+    ) {
         Ok(())
     } else {
         Err(LineFault::Endless.at(draft.number))

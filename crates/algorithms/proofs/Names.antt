@@ -1,7 +1,6 @@
 -- Names that are set to 0, one after the other.
-use Rattle.std.proofs.Common.{ℕ, ◌+◌, ◌-◌, ◌<◌, ◌≤◌, ◌≡◌, List, [], ◌++◌, length, take, drop, replicate, slice_set, inl, inr, sym, ◌∙◌, ap, arith}
+use Rattle.std.proofs.Common.{ℕ, ◌+◌, ◌-◌, ◌<◌, ◌≤◌, ◌≡◌, List, [], ◌++◌, length, take, replicate, slice_set, sym, ◌∙◌, ap, arith}
 use Rattle.std.proofs.Math.Seq.{paste}
-use Rattle.std.proofs.lemmas.Bool.{cases_lt}
 use Rattle.std.proofs.lemmas.List.{append-nil, drop_all, take_all, length-replicate}
 use Rattle.std.proofs.lemmas.List.Edits.{fill_from_more, paste_all, paste_none}
 use Rattle.algorithms.specs.Steps.{kept}

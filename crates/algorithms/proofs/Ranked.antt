@@ -1,13 +1,14 @@
 -- Lines that fall: a run of local lines ends.
-use Rattle.std.proofs.Common.{ℕ, zero, suc, ◌+◌, ◌^◌, ◌<◌, ◌≤◌, ◌≡◌, Bool, true, false, cond, ◌&&◌, ◌||◌, nat_lt, nat_le, nat_eq, max, refl, sym, ◌∙◌, ap, subst, List, [], ◌∷◌, length, Option, Some, None, Result, Ok, Err, ok_or, slice_get, slice_index, option_and_then, arith, ◌⊎◌, inl, inr}
+use Rattle.std.proofs.Common.{ℕ, zero, suc, ◌+◌, ◌^◌, ◌<◌, ◌≤◌, ◌≡◌, Bool, true, false, cond, ◌&&◌, ◌||◌, nat_lt, nat_eq, refl, sym, ◌∙◌, ap, List, length, Option, Some, None, Ok, Err, ok_or, slice_get, slice_index, option_and_then, arith}
 use Rattle.std.proofs.lemmas.Bool.{leb-true, lt-ltb, ltb-true}
 use Rattle.std.proofs.lemmas.Option.{slice_get_within}
 use Rattle.algorithms.specs.Values.{evaluated, holds, fitting}
-use Rattle.algorithms.specs.LocalRuns.{at_place, with_value, with_deed, least_from, member_from, end_of, round_at, local_line_done}
-use Rattle.algorithms.specs.Arrivals.{arrives, arrives_after, line_at, local_step_at, local_step_of, ◌>>=◌}
-use Rattle.algorithms.specs.Ranked.{rank_of, is_line_below, is_below, has_round, ways_pass, form_falls, AllFall, LocalLinesEnd}
+use Rattle.algorithms.specs.LocalRuns.{at_place, with_value, with_deed, least_from, member_from, round_at, local_line_done}
+use Rattle.algorithms.specs.Arrivals.{arrives, arrives_after, local_step_of, ◌>>=◌}
+use Rattle.algorithms.specs.Ranked.{rank_of, is_line_below, is_below, has_round, ways_pass, is_line, form_falls, AllFall, LocalLinesEnd, AccessesLeadOn}
 use Rattle.algorithms.specs.declared.algorithm.Algorithm.{Algorithm}
 use Rattle.algorithms.specs.declared.constants.Constants.{Constants}
+use Rattle.algorithms.specs.declared.line.AccessLine.{AccessLine}
 use Rattle.algorithms.specs.declared.line.Form.{Form}
 use Rattle.algorithms.specs.declared.line.Form.TheVariants.{Access, Local, Done}
 use Rattle.algorithms.specs.declared.line.Line.{Line}
@@ -16,10 +17,7 @@ use Rattle.algorithms.specs.declared.line.LocalLine.TheVariants.{Assign, Note, G
 use Rattle.algorithms.specs.declared.line.Members.{Members}
 use Rattle.algorithms.specs.declared.line.Members.TheVariants.{All, Others, Lower, Higher}
 use Rattle.algorithms.specs.declared.local.LocalState.{LocalState}
-use Rattle.algorithms.specs.declared.local.LocalStep.{LocalStep}
-use Rattle.algorithms.specs.declared.local.LocalStep.TheVariants.{GoesOn, Stops}
-use Rattle.algorithms.specs.declared.local.Landing.{Landing}
-use Rattle.algorithms.specs.declared.refusal.AlgorithmRefusal.{AlgorithmRefusal}
+use Rattle.algorithms.specs.declared.local.LocalStep.TheVariants.{GoesOn}
 use Rattle.algorithms.specs.declared.refusal.AlgorithmRefusal.TheVariants.{OutOfRange, Malformed}
 
 -- both parts of a test that passes
@@ -135,3 +133,13 @@ pub all_end : (a : Algorithm) (ranks : List ℕ) → AllFall a.lines.items a.lea
 all_end a ranks all c s line p own many here e =
     falls_end a.lines.items a.least ranks c all own many (length a.lines.items) p s line here
     (rank_low a.lines.items a.least ranks s.at line.form (omega (arith, slice_get_within a.lines.items s.at line here)) (all s.at line here)) e
+
+is_there : (lines : List Line) (place : ℕ) (o : Option Line) → slice_get lines place ≡ o → is_line o ≡ true → place < length lines
+is_there lines place None e h = absurd (cc)
+is_there lines place (Some line) e h = slice_get_within lines place line e
+
+-- after an access there is a line
+pub all_lead : (a : Algorithm) (ranks : List ℕ) → AllFall a.lines.items a.least ranks → AccessesLeadOn a
+all_lead a ranks all place line access here form =
+    is_there a.lines.items (place + 1) (slice_get a.lines.items (place + 1)) refl
+    (ap (form_falls a.lines.items a.least ranks place) (sym form) ∙ all place line here)

@@ -1,5 +1,5 @@
 -- Where the local lines of a process lead it: to its next access, or to the end of its call.
-use Rattle.std.specs.Prelude.{ℕ, zero, suc, ◌+◌, List, slice_get, Option, Some, None, Result, Ok, Err, ok_or}
+use Rattle.std.specs.Prelude.{ℕ, zero, suc, ◌+◌, List, slice_get, Some, None, Result, Ok, Err, ok_or}
 use Rattle.algorithms.specs.LocalRuns.{local_line_done}
 use Rattle.algorithms.specs.declared.constants.Constants.{Constants}
 use Rattle.algorithms.specs.declared.line.Line.{Line}

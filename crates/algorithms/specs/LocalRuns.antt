@@ -1,22 +1,14 @@
 -- The local lines of a process: what it does between two accesses, as a function of its names and its place.
-use Rattle.std.specs.Prelude.{ℕ, ◌+◌, ◌^◌, max, nat_lt, nat_eq, if◌then◌else◌, List, slice_get, slice_set, Option, Some, None, Result, Ok, Err, ok_or}
+use Rattle.std.specs.Prelude.{ℕ, ◌+◌, ◌^◌, max, nat_lt, nat_eq, if◌then◌else◌, slice_get, slice_set, Option, Some, None}
 use Rattle.algorithms.specs.Values.{evaluated, holds, fitting, ◌>>=◌}
 use Rattle.algorithms.specs.declared.constants.Constants.{Constants}
 use Rattle.algorithms.specs.declared.line.Deed.{Deed}
 use Rattle.algorithms.specs.declared.line.Members.{Members}
 use Rattle.algorithms.specs.declared.line.Members.TheVariants.{All, Others, Lower, Higher}
-use Rattle.algorithms.specs.declared.line.Line.{Line}
-use Rattle.algorithms.specs.declared.line.Form.{Form}
-use Rattle.algorithms.specs.declared.line.Form.TheVariants.{Access, Local, Done}
 use Rattle.algorithms.specs.declared.line.LocalLine.{LocalLine}
 use Rattle.algorithms.specs.declared.line.LocalLine.TheVariants.{Assign, Note, Goto, Branch, First, Next}
 use Rattle.algorithms.specs.declared.noted.Noted.{Noted}
 use Rattle.algorithms.specs.declared.local.LocalState.{LocalState}
-use Rattle.algorithms.specs.declared.local.LocalStep.{LocalStep}
-use Rattle.algorithms.specs.declared.local.LocalStep.TheVariants.{GoesOn, Stops}
-use Rattle.algorithms.specs.declared.local.Landing.{Landing}
-use Rattle.algorithms.specs.declared.refusal.AlgorithmRefusal.{AlgorithmRefusal}
-use Rattle.algorithms.specs.declared.refusal.AlgorithmRefusal.TheVariants.{OutOfRange, Malformed}
 
 abbrev pub nothing_noted : Noted
 nothing_noted = record { first = None; second = None; third = None }

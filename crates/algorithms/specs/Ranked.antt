@@ -3,6 +3,7 @@ use Rattle.std.specs.Prelude.{◌≡◌, ℕ, ◌+◌, ◌<◌, ◌≤◌, nat_l
 use Rattle.algorithms.specs.Arrivals.{arrives}
 use Rattle.algorithms.specs.declared.algorithm.Algorithm.{Algorithm}
 use Rattle.algorithms.specs.declared.constants.Constants.{Constants}
+use Rattle.algorithms.specs.declared.line.AccessLine.{AccessLine}
 use Rattle.algorithms.specs.declared.line.Form.{Form}
 use Rattle.algorithms.specs.declared.line.Form.TheVariants.{Access, Local, Done}
 use Rattle.algorithms.specs.declared.line.Line.{Line}
@@ -43,9 +44,13 @@ ways_pass test least next (Branch condition otherwise) = test next && test other
 ways_pass test least next (First name members after) = test next && (has_round least members || test after)
 ways_pass test least next (Next name members body) = test body && test next
 
--- whether a line of this form falls
+abbrev pub is_line : Option Line → Bool
+is_line None = false
+is_line (Some line) = true
+
+-- whether a line of this form falls. After an access there is a line
 abbrev pub form_falls : List Line → ℕ → List ℕ → ℕ → Form → Bool
-form_falls lines least ranks place (Access line) = true
+form_falls lines least ranks place (Access line) = is_line (slice_get lines (place + 1))
 form_falls lines least ranks place (Done answer) = true
 form_falls lines least ranks place (Local line) =
     ways_pass (is_below lines ranks (slice_index ranks place)) least (place + 1) line && nat_lt (slice_index ranks place) (length lines)
@@ -58,3 +63,8 @@ AllFall lines least ranks = (place : ℕ) (line : Line) → slice_get lines plac
 abbrev pub LocalLinesEnd : Algorithm → Type 0
 LocalLinesEnd a = (c : Constants) (s : LocalState) (line : Line) (place : ℕ) → c.me < c.procs → a.least ≤ c.procs
     → slice_get a.lines.items s.at ≡ Some line → arrives a.lines.items c (length a.lines.items) s ≡ Err (Malformed place) → ⊥
+
+-- after each access there is a line, from which the step goes on
+abbrev pub AccessesLeadOn : Algorithm → Type 0
+AccessesLeadOn a = (place : ℕ) (line : Line) (access : AccessLine) → slice_get a.lines.items place ≡ Some line → line.form ≡ Access access
+    → place + 1 < length a.lines.items

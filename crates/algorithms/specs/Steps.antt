@@ -1,5 +1,5 @@
 -- One step of a process: one access, and the local lines after it.
-use Rattle.std.specs.Prelude.{ℕ, ◌+◌, ◌-◌, Bool, true, false, if◌then◌else◌, List, ◌++◌, length, take, replicate, slice_get, Option, Some, None, option_and_then, Result, Ok, Err, ok_or}
+use Rattle.std.specs.Prelude.{ℕ, ◌+◌, ◌-◌, true, false, if◌then◌else◌, List, ◌++◌, length, take, replicate, slice_get, Option, Some, None, option_and_then, Result, Ok, ok_or}
 use Rattle.std.specs.Option.{option_or}
 use Rattle.algorithms.specs.Accesses.{access_of, received, passes}
 use Rattle.algorithms.specs.Arrivals.{arrives, ◌>>=◌}
@@ -13,8 +13,7 @@ use Rattle.algorithms.specs.declared.constants.Constants.{Constants}
 use Rattle.algorithms.specs.declared.line.AccessLine.{AccessLine}
 use Rattle.algorithms.specs.declared.local.LocalState.{LocalState}
 use Rattle.algorithms.specs.declared.local.Landing.{Landing}
-use Rattle.algorithms.specs.declared.process.Place.{Place}
-use Rattle.algorithms.specs.declared.process.Place.TheVariants.{Rest, Dead, At}
+use Rattle.algorithms.specs.declared.process.Place.TheVariants.{Rest, At}
 use Rattle.algorithms.specs.declared.process.Process.{Process}
 use Rattle.algorithms.specs.declared.refusal.AlgorithmRefusal.{AlgorithmRefusal}
 use Rattle.algorithms.specs.declared.refusal.AlgorithmRefusal.TheVariants.{OutOfRange, Malformed}

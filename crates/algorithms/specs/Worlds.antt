@@ -1,5 +1,5 @@
 -- The worlds of an algorithm, and what a start, a step and a crash of a process make of them.
-use Rattle.std.specs.Prelude.{ℕ, ◌^◌, nat_lt, nat_le, Bool, true, false, ◌&&◌, if◌then◌else◌, List, length, replicate, slice_get, slice_set, Option, Some, None, Result, Ok, Err, ok_or}
+use Rattle.std.specs.Prelude.{ℕ, ◌^◌, nat_lt, nat_le, Bool, false, ◌&&◌, if◌then◌else◌, List, length, replicate, slice_get, slice_set, Option, Some, None, Result, Ok, Err, ok_or}
 use Rattle.algorithms.specs.Arrivals.{arrives, line_at, ◌>>=◌}
 use Rattle.algorithms.specs.LocalRuns.{nothing_noted}
 use Rattle.algorithms.specs.Steps.{kept, acted}
@@ -13,8 +13,6 @@ use Rattle.algorithms.specs.declared.constants.Constants.{Constants}
 use Rattle.algorithms.specs.declared.line.AccessLine.{AccessLine}
 use Rattle.algorithms.specs.declared.line.Form.{Form}
 use Rattle.algorithms.specs.declared.line.Form.TheVariants.{Access, Local, Done}
-use Rattle.algorithms.specs.declared.line.Line.{Line}
-use Rattle.algorithms.specs.declared.local.Landing.{Landing}
 use Rattle.algorithms.specs.declared.local.LocalState.{LocalState}
 use Rattle.algorithms.specs.declared.process.Place.{Place}
 use Rattle.algorithms.specs.declared.process.Place.TheVariants.{Rest, Dead, At}

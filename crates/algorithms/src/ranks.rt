@@ -1,7 +1,7 @@
 //! Ranks of lines, which show that local lines end.
 
-ghost use Rattle.std.specs.Prelude.{◌≡◌, ◌-◌, ◌^◌, ◌<◌, IsTrue, slice_index};
-ghost use Rattle.algorithms.specs.Ranked.{rank_of, is_below, has_round, ways_pass, form_falls, AllFall};
+ghost use Rattle.std.specs.Prelude.{◌≡◌, ◌+◌, ◌-◌, ◌^◌, ◌<◌, IsTrue, slice_get, slice_index};
+ghost use Rattle.algorithms.specs.Ranked.{rank_of, is_below, has_round, ways_pass, is_line, form_falls, AllFall};
 
 use crate::line::{Form, Line, LocalLine, Members};
 
@@ -68,12 +68,22 @@ fn ways_fall(
     }
 }
 
+fn is_line(lines: &[Line], place: usize) -> bool
+    ensures { result ≡ is_line (slice_get lines.now place) }
+{
+    match lines.get(place) {
+        None => false,
+        Some(_) => true,
+    }
+}
+
 fn falls(lines: &[Line], least: u64, ranks: &[u64], place: usize, form: &Form) -> bool
     requires { place < 2 ^ 64 - 1 }
     ensures { result ≡ form_falls lines.now least ranks.now place form.now }
 {
     match form {
-        Form::Access(_) | Form::Done(_) => true,
+        Form::Access(_) => is_line(lines, place + 1),
+        Form::Done(_) => true,
         Form::Local(local) => {
             let rank = rank_at(ranks, place);
             ways_fall(lines, least, ranks, rank, place + 1, local) && rank < lines.len() as u64
@@ -81,7 +91,7 @@ fn falls(lines: &[Line], least: u64, ranks: &[u64], place: usize, form: &Form) -
     }
 }
 
-/// Whether with these ranks each local line leads to lower ones alone.
+/// Whether with these ranks each local line leads to lower ones alone, and each access to some line.
 pub fn all_fall(lines: &[Line], least: u64, ranks: &[u64]) -> bool
     ensures { IsTrue result → AllFall lines.now least ranks.now }
 {

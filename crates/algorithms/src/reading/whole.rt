@@ -1,7 +1,7 @@
 //! A whole text.
 
 ghost use Rattle.std.specs.Prelude.{IfOk, OnOk};
-ghost use Rattle.algorithms.specs.Ranked.{LocalLinesEnd};
+ghost use Rattle.algorithms.specs.Ranked.{LocalLinesEnd, AccessesLeadOn};
 
 use crate::algorithm::{Algorithm, Call};
 use crate::fault::{AlgorithmFault, LineFault};
@@ -145,10 +145,11 @@ fn ranks(alloc: Global, draft: &Draft) -> Result<Vec<u64>, AlgorithmFault> {
     Ok(ranks)
 }
 
-#[tactic(auto, using(crate::proofs::Ranked::all_end))]
-/// Checks what the runs of all calls may do, and that their local lines end.
+#[tactic(auto, using(crate::proofs::Ranked::all_end, crate::proofs::Ranked::all_lead))]
+/// Checks what the runs of all calls may do, and that the local lines after each access end.
 fn check_flow(alloc: Global, draft: &Draft) -> Result<(), AlgorithmFault>
-    ensures { OnOk result (LocalLinesEnd draft.now.algorithm) }
+    ensures ends { OnOk result (LocalLinesEnd draft.now.algorithm) }
+    ensures leads { OnOk result (AccessesLeadOn draft.now.algorithm) }
 {
     let ranks = ranks(alloc, draft)?;
     let algorithm = &draft.algorithm;
@@ -168,7 +169,8 @@ fn check_flow(alloc: Global, draft: &Draft) -> Result<(), AlgorithmFault>
 /// The faults of all characters come first, then those of forms, then those of labels, names and deeds, and at last those of
 /// what runs may do. Of the first kind that there is, the first line is named.
 pub fn read_algorithm(alloc: Global, text: &[u8]) -> Result<Algorithm, AlgorithmFault>
-    ensures { IfOk result LocalLinesEnd }
+    ensures ends { IfOk result LocalLinesEnd }
+    ensures leads { IfOk result AccessesLeadOn }
 {
     if text.is_empty() {
         return Err(LineFault::NoHeader.at(1));

@@ -1,4 +1,4 @@
-use Rattle.std.proofs.Common.{ℕ, ◌+◌, ◌<◌, ◌≤◌, ◌≡◌, length, inl, inr, arith, rules, replicate}
+use Rattle.std.proofs.Common.{inl, inr, arith, rules}
 use Rattle.std.proofs.lemmas.Bool.{cases_lt}
 use Rattle.algorithms.proofs.Names.{zeros_more, zeros_all, zeros_none}
 use Rattle.algorithms.proofs.process.kept.Goals as goal

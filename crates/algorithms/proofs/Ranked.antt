@@ -130,9 +130,11 @@ rank_low lines least ranks place (Local local) some f =
 
 -- local lines that fall end
 pub all_end : (a : Algorithm) (ranks : List ℕ) → AllFall a.lines.items a.least ranks → LocalLinesEnd a
-all_end a ranks all c s line p own many here e =
-    falls_end a.lines.items a.least ranks c all own many (length a.lines.items) p s line here
-    (rank_low a.lines.items a.least ranks s.at line.form (omega (arith, slice_get_within a.lines.items s.at line here)) (all s.at line here)) e
+all_end a ranks all = record {
+  each = λ c s line p own many here e.
+      falls_end a.lines.items a.least ranks c all own many (length a.lines.items) p s line here
+      (rank_low a.lines.items a.least ranks s.at line.form (omega (arith, slice_get_within a.lines.items s.at line here)) (all s.at line here)) e;
+}
 
 is_there : (lines : List Line) (place : ℕ) (o : Option Line) → slice_get lines place ≡ o → is_line o ≡ true → place < length lines
 is_there lines place None e h = absurd (cc)
@@ -140,6 +142,8 @@ is_there lines place (Some line) e h = slice_get_within lines place line e
 
 -- after an access there is a line
 pub all_lead : (a : Algorithm) (ranks : List ℕ) → AllFall a.lines.items a.least ranks → AccessesLeadOn a
-all_lead a ranks all place line access here form =
-    is_there a.lines.items (place + 1) (slice_get a.lines.items (place + 1)) refl
-    (ap (form_falls a.lines.items a.least ranks place) (sym form) ∙ all place line here)
+all_lead a ranks all = record {
+  each = λ place line access here form.
+      is_there a.lines.items (place + 1) (slice_get a.lines.items (place + 1)) refl
+      (ap (form_falls a.lines.items a.least ranks place) (sym form) ∙ all place line here);
+}

@@ -1,12 +1,8 @@
 -- The first world of an algorithm.
 use Rattle.std.proofs.Common.{ℕ, ◌≡◌, ◌∙◌, ap, List, length, replicate}
-use Rattle.algorithms.specs.Worlds.{WorldState, first_world, no_names}
+use Rattle.algorithms.specs.Worlds.{WorldState, first_world, resting}
 use Rattle.algorithms.specs.declared.algorithm.Algorithm.{Algorithm}
-use Rattle.algorithms.specs.declared.process.Place.TheVariants.{Rest}
 use Rattle.algorithms.specs.declared.process.Process.{Process}
-
-abbrev pub resting : Process
-resting = record { place = Rest; store = no_names }
 
 abbrev pub world_with : Algorithm → ℕ → ℕ → List (List ℕ) → List Process → WorldState
 world_with a procs limit words processes = record { algorithm = a; procs = procs; limit = limit; words = words; processes = processes }

@@ -60,11 +60,11 @@ abbrev pub AllFall : List Line → ℕ → List ℕ → Type 0
 AllFall lines least ranks = (place : ℕ) (line : Line) → slice_get lines place ≡ Some line → form_falls lines least ranks place line.form ≡ true
 
 -- a run of local lines ends, from every line, with all names, in each world of the algorithm
-abbrev pub LocalLinesEnd : Algorithm → Type 0
-LocalLinesEnd a = (c : Constants) (s : LocalState) (line : Line) (place : ℕ) → c.me < c.procs → a.least ≤ c.procs
-    → slice_get a.lines.items s.at ≡ Some line → arrives a.lines.items c (length a.lines.items) s ≡ Err (Malformed place) → ⊥
+pub record LocalLinesEnd (a : Algorithm) : Type 0 where
+  pub each : (c : Constants) (s : LocalState) (line : Line) (place : ℕ) → c.me < c.procs → a.least ≤ c.procs
+      → slice_get a.lines.items s.at ≡ Some line → arrives a.lines.items c (length a.lines.items) s ≡ Err (Malformed place) → ⊥
 
 -- after each access there is a line, from which the step goes on
-abbrev pub AccessesLeadOn : Algorithm → Type 0
-AccessesLeadOn a = (place : ℕ) (line : Line) (access : AccessLine) → slice_get a.lines.items place ≡ Some line → line.form ≡ Access access
-    → place + 1 < length a.lines.items
+pub record AccessesLeadOn (a : Algorithm) : Type 0 where
+  pub each : (place : ℕ) (line : Line) (access : AccessLine) → slice_get a.lines.items place ≡ Some line → line.form ≡ Access access
+      → place + 1 < length a.lines.items

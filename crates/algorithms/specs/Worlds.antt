@@ -31,6 +31,9 @@ pub record WorldState : Type 0 where
 abbrev pub no_names : List ℕ
 no_names = replicate 32 0
 
+abbrev pub resting : Process
+resting = record { place = Rest; store = no_names }
+
 -- at the beginning all words are 0 and all processes at rest
 abbrev pub first_world : Algorithm → ℕ → ℕ → WorldState
 first_world a procs limit = record {
@@ -38,7 +41,7 @@ first_world a procs limit = record {
   procs = procs;
   limit = limit;
   words = replicate (length a.declarations.items) (replicate 64 0);
-  processes = replicate procs (record { place = Rest; store = no_names });
+  processes = replicate procs resting;
 }
 
 -- the refusal of a world of this size. Out of memory is not among them

@@ -1,7 +1,7 @@
 //! The worlds of an algorithm.
 
-ghost use Rattle.std.specs.Prelude.{◌≡◌, ◌<◌, Some, None, Ok, Err, IfOk, IfErr, OnOk, OnErr, length};
-ghost use Rattle.algorithms.specs.Worlds.{access_at, start_refusal, entry_of, stored, begun, taken_by};
+ghost use Rattle.std.specs.Prelude.{◌≡◌, ◌<◌, Some, None, Ok, Err, IfOk, IfErr, OnOk, OnErr, length, replicate};
+ghost use Rattle.algorithms.specs.Worlds.{access_at, start_refusal, entry_of, stored, begun, taken_by, resting};
 
 use crate::access::{Access, Address, Taken, act};
 use crate::algorithm::{Algorithm, Call, Entries};
@@ -155,6 +155,33 @@ fn take(
     act(algorithm, constants, words, at, line, process.store)
 }
 
+#[tactic(auto, using(std::proofs::lemmas::List::replicate_more))]
+fn all_zero(alloc: Global, count: usize) -> Result<Vec<[u64; MOST_PROCS]>, AlgorithmRefusal>
+    ensures rows { IfOk result (λ rows. rows.items ≡ replicate count (replicate 64 0)) }
+    ensures memory { IfErr result (λ e. e ≡ AlgorithmRefusal.OutOfMemory) }
+{
+    let mut rows = Vec::with_capacity(alloc, count)?;
+    for row in 0..count {
+        rows.push([0; MOST_PROCS])?;
+    }
+    Ok(rows)
+}
+
+#[tactic(auto, using(std::proofs::lemmas::List::replicate_more))]
+fn all_at_rest(alloc: Global, count: usize) -> Result<Vec<Process>, AlgorithmRefusal>
+    ensures rows { IfOk result (λ processes. processes.items ≡ replicate count resting) }
+    ensures memory { IfErr result (λ e. e ≡ AlgorithmRefusal.OutOfMemory) }
+{
+    let mut processes = Vec::with_capacity(alloc, count)?;
+    for process in 0..count {
+        processes.push(Process {
+            place: Place::Rest,
+            store: [0; NAMES],
+        })?;
+    }
+    Ok(processes)
+}
+
 impl World {
     ghost use Rattle.algorithms.specs.Worlds.{first_world, new_refusal, cause, constants_of, process_of, start, started, step, taken, crash};
 
@@ -181,12 +208,8 @@ impl World {
         if limit == 0 || limit > MOST_LIMIT {
             return Err(AlgorithmRefusal::BadLimit);
         }
-        let words = vec![in alloc; [0; MOST_PROCS]; algorithm.declarations.len()]?;
-        let resting = Process {
-            place: Place::Rest,
-            store: [0; NAMES],
-        };
-        let processes = vec![in alloc; resting; procs as usize]?;
+        let words = all_zero(alloc, algorithm.declarations.len())?;
+        let processes = all_at_rest(alloc, procs as usize)?;
         Ok(World {
             algorithm,
             procs,

@@ -5,7 +5,7 @@ ghost use Rattle.algorithms.specs.Ranked.{LocalLinesEnd, AccessesLeadOn};
 
 use crate::algorithm::{Algorithm, Call};
 use crate::fault::{AlgorithmFault, LineFault};
-use crate::ranks::all_fall;
+use crate::ranks::lines_end;
 use crate::reading::calls::{head, promises};
 use crate::reading::flow::Flow;
 use crate::reading::lines::{CallRead, Draft};
@@ -145,19 +145,13 @@ fn ranks(alloc: Global, draft: &Draft) -> Result<Vec<u64>, AlgorithmFault> {
     Ok(ranks)
 }
 
-#[tactic(auto, using(crate::proofs::Ranked::all_end, crate::proofs::Ranked::all_lead))]
 /// Checks what the runs of all calls may do, and that the local lines after each access end.
 fn check_flow(alloc: Global, draft: &Draft) -> Result<(), AlgorithmFault>
     ensures ends { OnOk result (LocalLinesEnd draft.now.algorithm) }
     ensures leads { OnOk result (AccessesLeadOn draft.now.algorithm) }
 {
     let ranks = ranks(alloc, draft)?;
-    let algorithm = &draft.algorithm;
-    if all_fall(
-        algorithm.lines.as_slice(),
-        algorithm.least,
-        ranks.as_slice(),
-    ) {
+    if lines_end(&draft.algorithm, ranks.as_slice()) {
         Ok(())
     } else {
         Err(LineFault::Endless.at(draft.number))

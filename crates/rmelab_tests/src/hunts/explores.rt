@@ -62,6 +62,46 @@ fn explores(rt: HostRuntime) -> Result<(), Fail> {
     all_come_to(&rt, rt.alloc(), &rows)
 }
 
+/// The counts are those of the plain program, whose search back goes over lists of the states before each.
+#[test]
+fn explores_stuck(rt: HostRuntime) -> Result<(), Fail> {
+    let rows = [
+        invoked(
+            "rmelab explore --variant right --procs 2 --crashes 1 --stuck",
+            "",
+            "never stuck: all 7729 states\n",
+        ),
+        invoked(
+            "rmelab explore --variant right --procs 2 --crashes 2 --stuck",
+            "",
+            "never stuck: all 24774 states\n",
+        ),
+        invoked(
+            "rmelab explore --variant right --procs 2 --crashes 3 --limit 20 --stuck",
+            "",
+            "never stuck: all 234227 states\n",
+        ),
+        invoked(
+            "rmelab explore --variant right --procs 3 --crashes 1 --limit 3 --stuck",
+            "",
+            "never stuck: all 463323 states\n",
+        ),
+        invoked(
+            "rmelab explore --variant right --procs 1 --calls lock --limit 1 --stuck",
+            "",
+            "rme 1 procs 1 limit 1 cap 1\nlock 0\n",
+        )
+        .ends(1, ""),
+        invoked(
+            "rmelab explore --variant no-look --procs 2 --limit 1 --stuck",
+            "",
+            SHORTEST,
+        )
+        .ends(1, ""),
+    ];
+    all_come_to(&rt, rt.alloc(), &rows)
+}
+
 #[test]
 fn explores_refused(rt: HostRuntime) -> Result<(), Fail> {
     let bad_size = "rmelab: bad size\n";
@@ -72,7 +112,20 @@ fn explores_refused(rt: HostRuntime) -> Result<(), Fail> {
             "",
         )
         .ends(3, "rmelab: too many states\n"),
+        invoked(
+            "rmelab explore --variant right --procs 2 --limit 1 --states 258 --stuck",
+            "",
+            "",
+        )
+        .ends(3, "rmelab: too many states\n"),
+        invoked(
+            "rmelab explore --variant right --procs 2 --moves 9 --stuck",
+            "",
+            "",
+        )
+        .ends(2, bad_size),
         invoked("rmelab explore --variant right --procs 65", "", "").ends(2, bad_size),
+        invoked("rmelab explore --variant right --procs 65 --stuck", "", "").ends(2, bad_size),
         invoked("rmelab explore --variant right --procs 1 --limit 0", "", "").ends(2, bad_size),
         invoked("rmelab explore --variant right --procs 1 --width 9", "", "").ends(2, bad_size),
         invoked(

@@ -1,9 +1,8 @@
 //! A plan with a crash at one asking.
 
-ghost use Rattle.std.specs.Prelude.{◌≡◌, ◌↔◌, Some, if◌then◌else◌, IsTrue};
-ghost use Rattle.rmecore.specs.Simulated.{one_more};
+ghost use Rattle.std.specs.Prelude.{◌≡◌, ◌↔◌, Some, IsTrue};
 
-use crate::askings::Askings;
+use crate::asking_counter::AskingCounter;
 use crate::crash_plan::CrashPlan;
 use std::marker::Model;
 
@@ -11,7 +10,7 @@ use std::marker::Model;
 #[derive(Debug, Drop)]
 pub struct At {
     place: u64,
-    askings: Askings,
+    askings: AskingCounter,
 }
 
 impl Model for At {
@@ -19,7 +18,7 @@ impl Model for At {
 
     ghost Value = { One };
 
-    ghost view = { λ a. record { place = a.place; count = a.askings } };
+    ghost view = { λ a. record { place = a.place; askings = a.askings } };
 }
 
 impl At {
@@ -27,26 +26,23 @@ impl At {
 
     /// A plan that falls at asking `place`, counted from 1. With 0 it never falls.
     pub fn new(place: u64) -> At
-        ensures { result ≡ record { place = place; count = unasked } }
+        ensures { result ≡ record { place = place; askings = unasked } }
     {
         At {
             place,
-            askings: Askings::new(),
+            askings: AskingCounter::new(),
         }
     }
 }
 
 impl CrashPlan for At {
-    ghost use Rattle.crash_plans.specs.Plans.{next_asking};
+    ghost use Rattle.crash_plans.specs.Plans.{asked_once, next_asking};
 
-    ghost asked = { λ a. a.count.asked };
-
-    ghost fallen = { λ a. a.count.fallen };
+    ghost askings = { λ a. a.askings };
 
     fn falls(&mut self) -> bool
-        ensures asked { self.new.count.asked ≡ one_more self.old.count.asked }
-        ensures fallen { self.new.count.fallen ≡ (if result then one_more self.old.count.fallen else self.old.count.fallen) }
-        ensures falls { IsTrue result ↔ (next_asking self.old.count ≡ Some self.old.place) }
+        ensures askings { self.new.askings ≡ asked_once result self.old.askings }
+        ensures falls { IsTrue result ↔ (next_asking self.old.askings ≡ Some self.old.place) }
         ensures place { self.new.place ≡ self.old.place }
     {
         let falls = self.askings.next() == Some(self.place);

@@ -1,9 +1,8 @@
 //! A plan with crashes at two askings.
 
-ghost use Rattle.std.specs.Prelude.{◌≡◌, ◌+◌, ◌⊎◌, ◌↔◌, Some, if◌then◌else◌, IsTrue};
-ghost use Rattle.rmecore.specs.Simulated.{one_more};
+ghost use Rattle.std.specs.Prelude.{◌≡◌, ◌+◌, ◌⊎◌, ◌↔◌, Some, IsTrue};
 
-use crate::askings::Askings;
+use crate::asking_counter::AskingCounter;
 use crate::crash_plan::CrashPlan;
 use std::marker::Model;
 
@@ -12,7 +11,7 @@ use std::marker::Model;
 pub struct Both {
     place: u64,
     later: u64,
-    askings: Askings,
+    askings: AskingCounter,
 }
 
 impl Model for Both {
@@ -20,7 +19,7 @@ impl Model for Both {
 
     ghost Value = { Two };
 
-    ghost view = { λ b. record { place = b.place; later = b.later; count = b.askings } };
+    ghost view = { λ b. record { place = b.place; later = b.later; askings = b.askings } };
 }
 
 impl Both {
@@ -29,28 +28,25 @@ impl Both {
     /// A plan that falls at the askings `place` and `place + later`, counted from 1. With `place` 0 it falls at asking
     /// `later` alone. With `later` 0 it falls at asking `place` alone. A sum above 2^64 - 1 is never reached.
     pub fn new(place: u64, later: u64) -> Both
-        ensures { result ≡ record { place = place; later = later; count = unasked } }
+        ensures { result ≡ record { place = place; later = later; askings = unasked } }
     {
         Both {
             place,
             later,
-            askings: Askings::new(),
+            askings: AskingCounter::new(),
         }
     }
 }
 
 impl CrashPlan for Both {
-    ghost use Rattle.crash_plans.specs.Plans.{next_asking};
+    ghost use Rattle.crash_plans.specs.Plans.{asked_once, next_asking};
 
-    ghost asked = { λ b. b.count.asked };
-
-    ghost fallen = { λ b. b.count.fallen };
+    ghost askings = { λ b. b.askings };
 
     fn falls(&mut self) -> bool
-        ensures asked { self.new.count.asked ≡ one_more self.old.count.asked }
-        ensures fallen { self.new.count.fallen ≡ (if result then one_more self.old.count.fallen else self.old.count.fallen) }
-        ensures falls { IsTrue result ↔ ((next_asking self.old.count ≡ Some self.old.place)
-            ⊎ (next_asking self.old.count ≡ Some (self.old.place + self.old.later))) }
+        ensures askings { self.new.askings ≡ asked_once result self.old.askings }
+        ensures falls { IsTrue result ↔ ((next_asking self.old.askings ≡ Some self.old.place)
+            ⊎ (next_asking self.old.askings ≡ Some (self.old.place + self.old.later))) }
         ensures place { self.new.place ≡ self.old.place }
         ensures later { self.new.later ≡ self.old.later }
     {

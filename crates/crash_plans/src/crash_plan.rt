@@ -1,17 +1,13 @@
 //! The interface of crash plans.
 
-ghost use Rattle.std.specs.Prelude.{◌≡◌, ℕ, Bool, true, false, if◌then◌else◌};
-ghost use Rattle.rmecore.specs.Simulated.{one_more};
-ghost use Rattle.crash_plans.specs.Plans.{so_many_more};
+ghost use Rattle.std.specs.Prelude.{◌≡◌, Bool, true, false};
+ghost use Rattle.crash_plans.specs.Plans.{Askings, asked_once, many_more};
 
 /// A plan that decides where a process crashes. The process asks it before each of its steps, and once before it answers its
 /// call. It crashes where the plan falls.
 pub trait CrashPlan {
-    /// The number of askings, saturating at 2^64 - 1.
-    ghost asked: { Self → ℕ };
-
-    /// The number of askings at which the plan fell, saturating at 2^64 - 1.
-    ghost fallen: { Self → ℕ };
+    /// The askings so far, and those at which the plan fell.
+    ghost askings: { Self → Askings };
 
     /// Whether the plan never falls. Its type decides that.
     ghost never_crashes: { Self → Bool } = { λ _. false };
@@ -26,19 +22,18 @@ pub trait CrashPlan {
 
     /// Counts several askings at once, as if `falls` were called that often. Where it fell is not reported, so a process
     /// calls it only on a plan that never falls.
-    fn count_askings(&mut self, askings: u64)
-        ensures asked { asked self.new ≡ so_many_more askings (asked self.old) }
-        ensures fallen { never_crashes self.old ≡ true → fallen self.new ≡ fallen self.old }
+    fn count_askings(&mut self, times: u64)
+        ensures asked { (askings self.new).asked ≡ many_more times (askings self.old).asked }
+        ensures fallen { never_crashes self.old ≡ true → (askings self.new).fallen ≡ (askings self.old).fallen }
         ensures never_crashes { never_crashes self.old ≡ true → never_crashes self.new ≡ true }
     {
-        for _ in 0..askings {
+        for _ in 0..times {
             self.falls();
         }
     }
 
     /// Counts one asking. True: the process that asks crashes here.
     fn falls(&mut self) -> bool
-        ensures asked { asked self.new ≡ one_more (asked self.old) }
-        ensures fallen { fallen self.new ≡ (if result then one_more (fallen self.old) else fallen self.old) }
+        ensures askings { askings self.new ≡ asked_once result (askings self.old) }
         ensures never_crashes { never_crashes self.old ≡ true → (result ≡ false) × (never_crashes self.new ≡ true) };
 }

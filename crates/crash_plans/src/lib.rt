@@ -1,7 +1,7 @@
 //! Crash plans: at each asking a plan decides whether its process crashes there.
 #![tactic(auto)]
 
-mod askings;
+mod asking_counter;
 mod at;
 mod both;
 mod crash_plan;

@@ -1,22 +1,21 @@
 //! A plan without crashes.
 
-ghost use Rattle.std.specs.Prelude.{◌≡◌, if◌then◌else◌, true, false};
-ghost use Rattle.rmecore.specs.Simulated.{one_more};
+ghost use Rattle.std.specs.Prelude.{◌≡◌, true, false};
 
-use crate::askings::Askings;
+use crate::asking_counter::AskingCounter;
 use crate::crash_plan::CrashPlan;
 use std::marker::Model;
 
 /// A plan that never falls.
 #[derive(Debug, Drop)]
 pub struct Never {
-    askings: Askings,
+    askings: AskingCounter,
 }
 
 impl Model for Never {
-    ghost use Rattle.crash_plans.specs.Plans.{Count};
+    ghost use Rattle.crash_plans.specs.Plans.{Askings};
 
-    ghost Value = { Count };
+    ghost Value = { Askings };
 
     ghost view = { λ n. n.askings };
 }
@@ -29,15 +28,15 @@ impl Never {
         ensures { result ≡ unasked }
     {
         Never {
-            askings: Askings::new(),
+            askings: AskingCounter::new(),
         }
     }
 }
 
 impl CrashPlan for Never {
-    ghost asked = { λ n. n.asked };
+    ghost use Rattle.crash_plans.specs.Plans.{asked_once};
 
-    ghost fallen = { λ n. n.fallen };
+    ghost askings = { λ n. n };
 
     ghost never_crashes = { λ _. true };
 
@@ -45,13 +44,12 @@ impl CrashPlan for Never {
         true
     }
 
-    fn count_askings(&mut self, askings: u64) {
-        self.askings.count_without_crash(askings);
+    fn count_askings(&mut self, times: u64) {
+        self.askings.count_without_crash(times);
     }
 
     fn falls(&mut self) -> bool
-        ensures asked { self.new.asked ≡ one_more self.old.asked }
-        ensures fallen { self.new.fallen ≡ (if result then one_more self.old.fallen else self.old.fallen) }
+        ensures askings { self.new ≡ asked_once false self.old }
         ensures falls { result ≡ false }
     {
         self.askings.count(false);

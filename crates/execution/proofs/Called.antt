@@ -1,6 +1,6 @@
 -- Steps of a call are a call.
-use Rattle.std.proofs.Common.{◌≡◌, ℕ, suc, ◌+◌, ◌⊎◌, true, false, List, [], ◌∷◌, ◌++◌, length, Option, Some, None, Result, Ok, Err, OnErr, All, refl, sym, ap, ◌∙◌, subst, inl, inr, arith, append-nil, append_assoc}
-use Rattle.execution.proofs.Common.{All-nil, All-cons, is_glance, one_more, Answer, Call, TakenStep, Served, and_call, starts, FirstStart, AreMoves, FirstCrash, answers_of, blocked_of, Takes, blocks, Ran}
+use Rattle.std.proofs.Common.{◌≡◌, ℕ, ◌+◌, ◌⊎◌, true, false, List, [], ◌∷◌, ◌++◌, length, Option, Some, None, Result, Ok, Err, OnErr, All, refl, sym, ap, ◌∙◌, subst, inl, inr, append-nil, append_assoc}
+use Rattle.execution.proofs.Common.{All-nil, All-cons, is_glance, Answer, Call, TakenStep, Served, and_call, starts, FirstStart, AreMoves, FirstCrash, answers_of, blocked_of, Takes, blocks, Ran}
 use Rattle.execution.proofs.Common.{CutOff, Crashes, SeatView, IsSeatView, EndsWith, Adds, Calls, Seated, many_more, fell, own, IsRun}
 use Rattle.execution.proofs.Runs.{own-append, own_mine}
 
@@ -138,10 +138,6 @@ cut_ran x y z o mine r e = record { last = y; takes = r.takes; steps = r.steps; 
 pub on_err : {T E : Type 0} (P : Type 0) (r : Result T E) → P → OnErr r P
 on_err P (Ok x) p = tt
 on_err P (Err e) p = p
-
--- one more asking than steps
-pub fell_more : (mine : List TakenStep) (asked before now : ℕ) → now ≡ one_more before → before ≡ many_more (length mine) asked → now ≡ many_more (length mine + 1) asked
-fell_more mine asked before now e f = e ∙ ap one_more f ∙ ap (λ (k : ℕ). many_more k asked) (let s : suc (length mine) ≡ length mine + 1 = omega arith in s)
 
 pub served_as : (x y z : Seated) (call : Call) (a : Answer) (mine : List TakenStep) → IsSeatView x.seat_view → x.seat_view.start ≡ Some call → {o : Option Answer} → o ≡ Some a → Ran x o y mine → z ≡ y → Served x call (a ∷ []) 0 z mine
 served_as x y z call a mine seat_view start {o} is r e = subst (λ (s : Seated). Served x call (a ∷ []) 0 s mine) (sym e) (served_ran x y call a mine seat_view start (subst (λ (t : Option Answer). Ran x t y mine) is r))

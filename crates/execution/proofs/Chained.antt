@@ -1,12 +1,13 @@
 -- Calls in a row are calls.
-use Rattle.std.proofs.Common.{◌≡◌, ℕ, suc, ◌+◌, ◌⊎◌, Bool, false, List, [], ◌∷◌, ◌++◌, length, Option, Some, None, All, refl, sym, ap, ◌∙◌, subst, inl, inr, arith, append-nil, append_assoc, length-append}
-use Rattle.execution.proofs.Common.{All-nil, All-cons, All-append, is_glance, one_more, Answer, Call, Lock, ProcessState, at_rest, TakenStep, Setup, and_call, starts, FirstStart, FirstCrash, answers_of}
-use Rattle.execution.proofs.Common.{blocked_of, Ran, CutOff, Crashes, StartsWith, FirstStarts, answers_from, blocked_from, ServedAll, CrashesIn, NeverCrashes, Fell, CutBy, CutIn, AnsweredBy, LockBy, LockEnds}
+use Rattle.std.proofs.Common.{◌≡◌, ℕ, ◌+◌, ◌⊎◌, Bool, false, List, [], ◌∷◌, ◌++◌, length, Option, Some, None, All, refl, sym, ap, ◌∙◌, subst, inl, inr, arith, append-nil, append_assoc, length-append}
+use Rattle.execution.proofs.Common.{All-nil, All-cons, All-append, is_glance, Answer, Call, Lock, ProcessState, at_rest, TakenStep, Setup, and_call, starts, FirstStart, FirstCrash, answers_of}
+use Rattle.execution.proofs.Common.{blocked_of, Ran, CutOff, Crashes, StartsWith, FirstStarts, answers_from, blocked_from, ServedAll, CrashesIn, Askings, NeverCrashes, Fell, CutBy, CutIn, AnsweredBy, LockBy, LockEnds}
 use Rattle.execution.proofs.Common.{SeatView, IsSeatView, EndsWith, Calls, Seated, many_more, fell, behind, spelled, own, gone, process_state_of}
 use Rattle.execution.proofs.Runs.{own-append, spelled-append}
 use Rattle.execution.proofs.Leads.{gone-append}
 use Rattle.execution.proofs.Called.{ends_cons, calls_fell, served_ran, crashes_of}
-use Rattle.execution.proofs.Turned.{answers-append, blocked-append, many_append, many_add}
+use Rattle.execution.proofs.Turned.{answers-append, blocked-append, many_append}
+use Rattle.crash_plans.proofs.Counted.{asked_on, fell_on}
 
 -- the state after some own entries
 pub calls_process_state : (x y : SeatView) (mine : List TakenStep) → Calls x mine y → process_state_of y.setup y.by y.seen ≡ gone x.setup (process_state_of x.setup x.by x.seen) (spelled mine)
@@ -138,37 +139,29 @@ module _ (x y z : Seated) (c : Call) (cs : List Call) (told : List Answer) (j : 
     idle = ap (λ (u : Seated). u.seat_view.start) e;
   }
 
-pub none_more : (m : List TakenStep) (c : ℕ) → many_more (length m) c ≡ many_more (length m + 0) c
-none_more m c = ap (λ (t : ℕ). many_more t c) (let e : length m ≡ length m + 0 = omega arith in e)
+pub none_more : (m : List TakenStep) {a b : Askings} → NeverCrashes (length m) a b → NeverCrashes (length m + 0) a b
+none_more m {a} {b} h = subst (λ (t : ℕ). NeverCrashes t a b) (let e : length m ≡ length m + 0 = omega arith in e) h
 
-never_crashes-append : (m n : List TakenStep) (more a0 a1 a2 f0 f1 f2 : ℕ) → NeverCrashes (length m + 0) a0 a1 f0 f1 → NeverCrashes (length n + more) a1 a2 f1 f2 → NeverCrashes (length (m ++ n) + more) a0 a2 f0 f2
-never_crashes-append m n more a0 a1 a2 f0 f1 f2 h k =
-    let l = length-append m n in
-    let sum : (length m + 0) + (length n + more) ≡ length (m ++ n) + more = omega arith in
-    (k.0 ∙ ap (many_more (length n + more)) h.0 ∙ many_add (length m + 0) (length n + more) a0 ∙ ap (λ (t : ℕ). many_more t a0) sum, k.1 ∙ h.1)
+-- the askings before the calls after others
+lengths : (m n : List TakenStep) (more : ℕ) → (length m + 0) + (length n + more) ≡ length (m ++ n) + more
+lengths m n more = let l = length-append m n in omega arith
 
-fell-append : (m n : List TakenStep) (a0 a1 a2 f0 f1 f2 : ℕ) → NeverCrashes (length m + 0) a0 a1 f0 f1 → Fell (length n + 1) a1 a2 f1 f2 → Fell (length (m ++ n) + 1) a0 a2 f0 f2
-fell-append m n a0 a1 a2 f0 f1 f2 h k =
-    let l = length-append m n in
-    let sum : (length m + 0) + (length n + 1) ≡ length (m ++ n) + 1 = omega arith in
-    (k.0 ∙ ap (many_more (length n + 1)) h.0 ∙ many_add (length m + 0) (length n + 1) a0 ∙ ap (λ (t : ℕ). many_more t a0) sum, k.1 ∙ ap one_more h.1)
-
-one_asking : (m : List TakenStep) (a0 a1 a2 : ℕ) → a1 ≡ many_more (length m + 0) a0 → a2 ≡ one_more a1 → a2 ≡ many_more (length m + 1) a0
-one_asking m a0 a1 a2 h k = k ∙ ap one_more h ∙ ap (λ (t : ℕ). many_more t a0) (let e : suc (length m + 0) ≡ length m + 1 = omega arith in e)
+one_asking : (m : List TakenStep) → (length m + 0) + 1 ≡ length m + 1
+one_asking m = omega arith
 
 -- the asking before the answer
-pub asked_behind : (x y z : Seated) (order : List Call) (told : List Answer) (j a0 a1 a2 f0 f1 f2 : ℕ) → AnsweredBy 0 x order told j y a0 a1 f0 f1 → z ≡ y → a2 ≡ one_more a1 → f2 ≡ f1 → AnsweredBy 1 x order told j z a0 a2 f0 f2
-asked_behind x y z order told j a0 a1 a2 f0 f1 f2 h e a f = (h.0, subst (λ (u : Seated). ServedAll x order told j u h.0) (sym e) h.1, (one_asking h.0 a0 a1 a2 h.2.0 a, f ∙ h.2.1))
+pub asked_behind : (x y z : Seated) (order : List Call) (told : List Answer) (j : ℕ) (a0 a1 a2 : Askings) → AnsweredBy 0 x order told j y a0 a1 → z ≡ y → NeverCrashes 1 a1 a2 → AnsweredBy 1 x order told j z a0 a2
+asked_behind x y z order told j a0 a1 a2 h e k = (h.0, subst (λ (u : Seated). ServedAll x order told j u h.0) (sym e) h.1, asked_on h.2 k (one_asking h.0))
 
-pub cut_asked : (x y z : Seated) (c : Call) (cs : List Call) (told : List Answer) (j a0 a1 a2 f0 f1 f2 : ℕ) (Q : List Call → Type 0) → AnsweredBy 0 x (c ∷ cs) told j y a0 a1 f0 f1 → z ≡ fell y → a2 ≡ one_more a1 → f2 ≡ one_more f1 → Q (c ∷ cs) → CutBy x Q z a0 a2 f0 f2
-cut_asked x y z c cs told j a0 a1 a2 f0 f1 f2 Q h e a f q = (h.0, crashes_behind x y z c cs told j h.0 h.1 Q e q, (one_asking h.0 a0 a1 a2 h.2.0 a, f ∙ ap one_more h.2.1))
+pub cut_asked : (x y z : Seated) (c : Call) (cs : List Call) (told : List Answer) (j : ℕ) (a0 a1 a2 : Askings) (Q : List Call → Type 0) → AnsweredBy 0 x (c ∷ cs) told j y a0 a1 → z ≡ fell y → Fell 1 a1 a2 → Q (c ∷ cs) → CutBy x Q z a0 a2
+cut_asked x y z c cs told j a0 a1 a2 Q h e k q = (h.0, crashes_behind x y z c cs told j h.0 h.1 Q e q, fell_on h.2 k (one_asking h.0))
 
-pub answered-append : (x y z : Seated) (c d : Call) (cs ds : List Call) (told bs : List Answer) (j k more a0 a1 a2 f0 f1 f2 : ℕ) → AnsweredBy 0 x (c ∷ cs) told j y a0 a1 f0 f1 → AnsweredBy more y (d ∷ ds) bs k z a1 a2 f1 f2
-    → AnsweredBy more x (c ∷ cs ++ d ∷ ds) (told ++ bs) (j + k) z a0 a2 f0 f2
-answered-append x y z c d cs ds told bs j k more a0 a1 a2 f0 f1 f2 h t = (h.0 ++ t.0, served-append x y z c cs told j h.0 h.1 d ds bs k t.0 t.1, never_crashes-append h.0 t.0 more a0 a1 a2 f0 f1 f2 h.2 t.2)
+pub answered-append : (x y z : Seated) (c d : Call) (cs ds : List Call) (told bs : List Answer) (j k more : ℕ) (a0 a1 a2 : Askings) → AnsweredBy 0 x (c ∷ cs) told j y a0 a1 → AnsweredBy more y (d ∷ ds) bs k z a1 a2
+    → AnsweredBy more x (c ∷ cs ++ d ∷ ds) (told ++ bs) (j + k) z a0 a2
+answered-append x y z c d cs ds told bs j k more a0 a1 a2 h t = (h.0 ++ t.0, served-append x y z c cs told j h.0 h.1 d ds bs k t.0 t.1, asked_on h.2 t.2 (lengths h.0 t.0 more))
 
-pub cut_after : (x y z : Seated) (c : Call) (cs : List Call) (told : List Answer) (j a0 a1 a2 f0 f1 f2 : ℕ) (P Q : List Call → Type 0) → AnsweredBy 0 x (c ∷ cs) told j y a0 a1 f0 f1 → CutBy y P z a1 a2 f1 f2 → Q (c ∷ cs) → ((ds : List Call) → P ds → Q (c ∷ cs ++ ds)) → CutBy x Q z a0 a2 f0 f2
-cut_after x y z c cs told j a0 a1 a2 f0 f1 f2 P Q h t first more = (h.0 ++ t.0, crashes_after x y z c cs told j h.0 h.1 P Q t.0 t.1 first more, fell-append h.0 t.0 a0 a1 a2 f0 f1 f2 h.2 t.2)
+pub cut_after : (x y z : Seated) (c : Call) (cs : List Call) (told : List Answer) (j : ℕ) (a0 a1 a2 : Askings) (P Q : List Call → Type 0) → AnsweredBy 0 x (c ∷ cs) told j y a0 a1 → CutBy y P z a1 a2 → Q (c ∷ cs) → ((ds : List Call) → P ds → Q (c ∷ cs ++ ds)) → CutBy x Q z a0 a2
+cut_after x y z c cs told j a0 a1 a2 P Q h t first more = (h.0 ++ t.0, crashes_after x y z c cs told j h.0 h.1 P Q t.0 t.1 first more, fell_on h.2 t.2 (lengths h.0 t.0 1))
 
 -- a call after another one
 pub ran_behind : (y z : Seated) (call : Call) (a : Answer) (n : List TakenStep) → IsSeatView (behind y call).seat_view → Ran (behind y call) (Some a) z n → ServedAll y (call ∷ []) (a ∷ []) 0 z n
@@ -178,18 +171,18 @@ pub cut_behind : (y z : Seated) (call : Call) (n : List TakenStep) → IsSeatVie
 cut_behind y z call n seat_view h = crashes_from y z call (λ (order : List Call). order ≡ call ∷ []) n (crashes_of (behind y call) z call n seat_view refl h)
 
 -- a lock and the asking before its answer
-pub lock_asked : (x y z : Seated) (turns : ℕ) (o : Option Answer) (a0 a1 a2 f0 f1 f2 : ℕ) → LockBy 0 x turns o y a0 a1 f0 f1 → z ≡ y → a2 ≡ one_more a1 → f2 ≡ f1 → LockEnds x turns o z a0 a2 f0 f2
-lock_asked x y z turns (Some a) a0 a1 a2 f0 f1 f2 h e k f = (h.0, h.1, asked_behind x y z (Lock ∷ []) (a ∷ []) h.0 a0 a1 a2 f0 f1 f2 h.2 e k f)
-lock_asked x y z turns None a0 a1 a2 f0 f1 f2 h e k f = asked_behind x y z (Lock ∷ []) [] (turns + 1) a0 a1 a2 f0 f1 f2 h e k f
+pub lock_asked : (x y z : Seated) (turns : ℕ) (o : Option Answer) (a0 a1 a2 : Askings) → LockBy 0 x turns o y a0 a1 → z ≡ y → NeverCrashes 1 a1 a2 → LockEnds x turns o z a0 a2
+lock_asked x y z turns (Some a) a0 a1 a2 h e k = (h.0, h.1, asked_behind x y z (Lock ∷ []) (a ∷ []) h.0 a0 a1 a2 h.2 e k)
+lock_asked x y z turns None a0 a1 a2 h e k = asked_behind x y z (Lock ∷ []) [] (turns + 1) a0 a1 a2 h e k
 
-pub lock_cut : (x y z : Seated) (turns : ℕ) (o : Option Answer) (a0 a1 a2 f0 f1 f2 : ℕ) → LockBy 0 x turns o y a0 a1 f0 f1 → z ≡ fell y → a2 ≡ one_more a1 → f2 ≡ one_more f1 → CutIn x Lock z a0 a2 f0 f2
-lock_cut x y z turns (Some a) a0 a1 a2 f0 f1 f2 h e k f = cut_asked x y z Lock [] (a ∷ []) h.0 a0 a1 a2 f0 f1 f2 (λ (order : List Call). order ≡ Lock ∷ []) h.2 e k f refl
-lock_cut x y z turns None a0 a1 a2 f0 f1 f2 h e k f = cut_asked x y z Lock [] [] (turns + 1) a0 a1 a2 f0 f1 f2 (λ (order : List Call). order ≡ Lock ∷ []) h e k f refl
+pub lock_cut : (x y z : Seated) (turns : ℕ) (o : Option Answer) (a0 a1 a2 : Askings) → LockBy 0 x turns o y a0 a1 → z ≡ fell y → Fell 1 a1 a2 → CutIn x Lock z a0 a2
+lock_cut x y z turns (Some a) a0 a1 a2 h e k = cut_asked x y z Lock [] (a ∷ []) h.0 a0 a1 a2 (λ (order : List Call). order ≡ Lock ∷ []) h.2 e k refl
+lock_cut x y z turns None a0 a1 a2 h e k = cut_asked x y z Lock [] [] (turns + 1) a0 a1 a2 (λ (order : List Call). order ≡ Lock ∷ []) h e k refl
 
-pub lock_idle : (x y : Seated) (turns : ℕ) (o : Option Answer) (a0 a1 f0 f1 : ℕ) → LockBy 0 x turns o y a0 a1 f0 f1 → y.seat_view.start ≡ None
-lock_idle x y turns (Some a) a0 a1 f0 f1 h = h.2.1.idle
-lock_idle x y turns None a0 a1 f0 f1 h = h.1.idle
+pub lock_idle : (x y : Seated) (turns : ℕ) (o : Option Answer) (a0 a1 : Askings) → LockBy 0 x turns o y a0 a1 → y.seat_view.start ≡ None
+lock_idle x y turns (Some a) a0 a1 h = h.2.1.idle
+lock_idle x y turns None a0 a1 h = h.1.idle
 
-pub lock_setup : (x y : Seated) (turns : ℕ) (o : Option Answer) (a0 a1 f0 f1 : ℕ) → LockBy 0 x turns o y a0 a1 f0 f1 → y.seat_view.setup ≡ x.seat_view.setup
-lock_setup x y turns (Some a) a0 a1 f0 f1 h = h.2.1.calls.setup
-lock_setup x y turns None a0 a1 f0 f1 h = h.1.calls.setup
+pub lock_setup : (x y : Seated) (turns : ℕ) (o : Option Answer) (a0 a1 : Askings) → LockBy 0 x turns o y a0 a1 → y.seat_view.setup ≡ x.seat_view.setup
+lock_setup x y turns (Some a) a0 a1 h = h.2.1.calls.setup
+lock_setup x y turns None a0 a1 h = h.1.calls.setup

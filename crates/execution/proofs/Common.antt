@@ -60,7 +60,8 @@ pub use Rattle.execution.specs.declared.entry_kind.Entry.{Entry}
 pub use Rattle.execution.specs.declared.lock_fault.LockFault.{LockFault}
 pub use Rattle.execution.specs.declared.setup.Setup.{Setup}
 pub use Rattle.execution.specs.Board.{is_data, or_earlier, last_put, value_or, LastIsOwn}
-pub use Rattle.execution.specs.Calls.{Served, and_call, starts, FirstStart, AreMoves, FirstCrash, answers_of, blocked_of, Takes, blocks, Ran, CutOff, Crashes, StartsWith, FirstStarts, answers_from, blocked_from, ServedAll, CrashesIn, NeverCrashes, Fell, Turning, process_state_before, is_blocked_at, Going, Still}
+pub use Rattle.crash_plans.specs.Plans.{Askings, many_more, NeverCrashes, Fell}
+pub use Rattle.execution.specs.Calls.{Served, and_call, starts, FirstStart, AreMoves, FirstCrash, answers_of, blocked_of, Takes, blocks, Ran, CutOff, Crashes, StartsWith, FirstStarts, answers_from, blocked_from, ServedAll, CrashesIn, Turning, process_state_before, is_blocked_at, Going, Still}
 pub use Rattle.execution.specs.Faults.{CutBy, CutIn, AnsweredBy, LockBy, LockEnds, ready, refusal_now, answer_of}
 pub use Rattle.execution.specs.Gathering.{OneArena, has_member, image_at, IsGlance, IsWhole, IsTold, Gathers, Knows, Absorbs, AnswersAll, Looked, Stays}
 pub use Rattle.execution.specs.Headline.{deeds_of, judged_by, shown_by, process_state_at, AnsweredIsShown}
@@ -69,7 +70,7 @@ pub use Rattle.execution.specs.SeatView.{SeatView, IsSeatView, process_state_now
 pub use Rattle.execution.specs.Reading.{cells_of, row_words, entry_words, AreGlances, up_to_count, ReadsFrom, AreShown, RunsShow, EntriesStandInRuns}
 pub use Rattle.execution.specs.Ruins.{last_call, last_of, MayStart, AreInOrder, ReadsRuin, HasReadRuin, settles}
 pub use Rattle.execution.specs.Rule.{count_from, joined, IsIn, Did, MayLoad, stepper, entry_of, opening_known, longer, spent_known, IsAnswered, AllFit, IsMember, IsKept, Kept, May, MayStore, MayStepPastEnd, without_first, first_alone}
-pub use Rattle.execution.specs.Running.{Seated, began, many_more, fell, behind, IsRunBy, next_of, outcome_of, TakesStep}
+pub use Rattle.execution.specs.Running.{Seated, began, fell, behind, IsRunBy, next_of, outcome_of, TakesStep}
 pub use Rattle.execution.specs.Runs.{before, taken, world_events, spelled, own, IsRun, end_of, gone, process_state_of, has, index, InTable, Goes, word_count, IsBeyond, Shows, stores, crash_first}
 pub use Rattle.execution.specs.Tabled.{KeepsTable, CountsAtMost, words_begun, process_state_begun, table_steps, blocked_since, LockCounts, CallsKeepTheTable}
 pub use Rattle.execution.specs.Under.{Replies, Mends, Begun, Appends, under_place, IsWord, UnderScript, IsUnder, Fits, Leaves, IsHolder, UnderBy}

@@ -1,7 +1,7 @@
 -- The steps that a member counts of its calls are those of the table.
 use Rattle.std.proofs.Common.{◌≡◌, ℕ, zero, suc, ◌+◌, ◌^◌, ◌<◌, ◌≤◌, List, [], ◌∷◌, ◌++◌, length, drop, Option, Some, None, Result, Ok, Err, IfOk, IfErr, OnOk, refl, sym, ap, ◌∙◌, subst, arith}
 use Rattle.execution.proofs.Common.{one_more, Layout, IsLayout, Answer, Call, Lock, Consistent, Append, most_steps, is_idle, IsSize, TakenStep, LockFault, Setup, Served}
-use Rattle.execution.proofs.Common.{answers_of, blocked_of, Takes, blocks, Ran, CutOff, NeverCrashes, Turning, LockEnds, ready, SeatView, IsSeatView, process_state_now, Calls, Seated, began, many_more, own, KeepsTable}
+use Rattle.execution.proofs.Common.{answers_of, blocked_of, Takes, blocks, Ran, CutOff, Askings, NeverCrashes, Turning, LockEnds, ready, SeatView, IsSeatView, process_state_now, Calls, Seated, began, many_more, own, KeepsTable}
 use Rattle.execution.proofs.Common.{CountsAtMost, words_begun, process_state_begun, table_steps, blocked_since, LockCounts}
 use Rattle.std.proofs.Math.Seq.{drop-append_seam}
 use Rattle.rmeworld.proofs.CallBounds.{table_most}
@@ -31,10 +31,10 @@ served_counts x y call a mine size r =
     let counted : y.steps ≡ k = r.steps ∙ ap (λ (n : ℕ). many_more n 0) long ∙ many_small k small in
     told.1 ∙ ap (λ (n : ℕ). Some n) (sym counted)
 
-pub called_counts : (x z y : Seated) (call : Call) (a b c d : ℕ) (r : Result Answer LockFault) → z ≡ began x call → IsSeatView z.seat_view
-    → IfOk r (λ answer. (mine : List TakenStep) × Served z call (answer ∷ []) 0 y mine × NeverCrashes (length mine + 1) a b c d) → IfOk r (λ answer. table_steps x.seat_view call answer ≡ Some y.steps)
-called_counts x z y call a b c d (Err e) is seat_view h = tt
-called_counts x z y call a b c d (Ok answer) is seat_view h =
+pub called_counts : (x z y : Seated) (call : Call) (a b : Askings) (r : Result Answer LockFault) → z ≡ began x call → IsSeatView z.seat_view
+    → IfOk r (λ answer. (mine : List TakenStep) × Served z call (answer ∷ []) 0 y mine × NeverCrashes (length mine + 1) a b) → IfOk r (λ answer. table_steps x.seat_view call answer ≡ Some y.steps)
+called_counts x z y call a b (Err e) is seat_view h = tt
+called_counts x z y call a b (Ok answer) is seat_view h =
     let at = subst (λ (u : Seated). IsSeatView u.seat_view × Served u call (answer ∷ []) 0 y h.0) is (seat_view, h.1) in
     served_counts x y call answer h.0 at.0.size at.1
 
@@ -48,12 +48,12 @@ blocked_is x y call answers blocked mine r = ap (blocked_of x.seat_view) (since_
 counted_as : (x y : Seated) (call : Call) (answers : List Answer) (blocked : ℕ) (mine : List TakenStep) (k : ℕ) → Served x call answers blocked y mine → length mine ≡ k + blocked → y.steps ≡ many_more (k + blocked_since x.seat_view y.seat_view) x.steps
 counted_as x y call answers blocked mine k r sum = r.steps ∙ ap (λ (n : ℕ). many_more n x.steps) (sum ∙ ap (λ (b : ℕ). k + b) (sym (blocked_is x y call answers blocked mine r)))
 
-pub lock_counts : (x y : Seated) (turns a b c d : ℕ) (o : Option Answer) → LockEnds x turns o y a b c d → LockCounts x o y
-lock_counts x y turns a b c d (Some answer) h =
+pub lock_counts : (x y : Seated) (turns : ℕ) (a b : Askings) (o : Option Answer) → LockEnds x turns o y a b → LockCounts x o y
+lock_counts x y turns a b (Some answer) h =
     let r = h.2.1 in
     let told = calls_keep_the_table x Lock (answer ∷ []) h.0 y h.2.0 r in
     (told.0, told.1, counted_as x y Lock (answer ∷ []) h.0 h.2.0 told.0 r told.2)
-lock_counts x y turns a b c d None h =
+lock_counts x y turns a b None h =
     let r = h.1 in
     let told = calls_keep_the_table x Lock [] (turns + 1) y h.0 r in
     (told.0, told.2, counted_as x y Lock [] (turns + 1) h.0 told.0 r told.1)

@@ -1,6 +1,6 @@
 -- A process that isn't in the section may start another lock.
-use Rattle.std.proofs.Common.{◌≡◌, ℕ, List, Bool, true, false, if◌then◌else◌, Option, None, refl, sym, ap, ◌∙◌}
-use Rattle.execution.proofs.Common.{Dead, Call, Lock, Withdraw, is_idle, is_waiting, is_inside, CutBy, ready, refusal_now, process_state_now, own_of, Seated, fell, before, gone, process_state_of}
+use Rattle.std.proofs.Common.{◌≡◌, List, Bool, true, false, if◌then◌else◌, Option, None, refl, sym, ap, ◌∙◌}
+use Rattle.execution.proofs.Common.{Dead, Call, Lock, Withdraw, is_idle, is_waiting, is_inside, Askings, CutBy, ready, refusal_now, process_state_now, own_of, Seated, fell, before, gone, process_state_of}
 
 -- a call that starts from anywhere keeps the sizes, the process and the entries
 pub ready_same : (b : Bool) (x : Seated) → ((if b then x else fell x).seat_view.setup ≡ x.seat_view.setup) × ((if b then x else fell x).seat_view.by ≡ x.seat_view.by) × (own_of (if b then x else fell x).seat_view ≡ own_of x.seat_view)
@@ -27,5 +27,5 @@ fallen_out x fallen none =
     either_out (is_idle (process_state_now x.seat_view)) x refl (λ e. ap is_inside dead)
 
 -- a process whose call was cut off by a crash
-pub cut_out : (x y : Seated) (P : List Call → Type 0) (a b c d : ℕ) → CutBy x P y a b c d → refusal_now (ready y) Lock ≡ None
-cut_out x y P a b c d h = fallen_out y h.1.fallen h.1.idle
+pub cut_out : (x y : Seated) (P : List Call → Type 0) (a b : Askings) → CutBy x P y a b → refusal_now (ready y) Lock ≡ None
+cut_out x y P a b h = fallen_out y h.1.fallen h.1.idle

@@ -2,13 +2,14 @@
 use Rattle.std.proofs.Common.{◌≡◌, ℕ, suc, ◌+◌, ◌≤◌, Bool, true, false, if◌then◌else◌, List, [], ◌∷◌, ◌++◌, length, Option, Some, None, IsSome, unwrap_or, refl, sym, ap, ◌∙◌, subst, arith, length-append}
 use Rattle.execution.proofs.Common.{Kind, Look, Weigh, Word, answer, is_blocked, kind_of, word_of, carried, Place, Wait, one_more, Answer, Call, Lock, by_lock, answer_at, blocked_by, and_answer}
 use Rattle.execution.proofs.Common.{is_idle, is_waiting, ScriptState, Free, Doing, ProcessState, next_process_state, Moves, TakenStep, Setup, answers_of, blocked_of, Takes, blocks, Ran, answers_from, blocked_from, process_state_before}
-use Rattle.execution.proofs.Common.{is_blocked_at, Going, Still, Lasts, LastsBy, SeatView, process_state_now, next_entry, moved_process_state, Seated, many_more, TakesStep, before, world_events, spelled, gone, process_state_of}
+use Rattle.execution.proofs.Common.{is_blocked_at, Going, Still, Lasts, LastsBy, SeatView, process_state_now, next_entry, moved_process_state, Seated, Askings, many_more, NeverCrashes, TakesStep, before, world_events, spelled, gone, process_state_of}
 use Rattle.execution.proofs.Common.{IsUnder, Fits, Leaves, UnderBy}
 use Rattle.rmeworld.specs.declared.outcome.Outcome.{Outcome}
 use Rattle.execution.proofs.Under.{blocked_lock}
 use Rattle.execution.proofs.Leads.{gone-append, process_state_after, process_state_moves}
 use Rattle.execution.proofs.Running.{taken_moves, next_moves}
 use Rattle.execution.proofs.Goes.{ProcessStateTo, process_state_step, blocked_waits}
+use Rattle.crash_plans.proofs.Counted.{asked_on}
 
 pub takes_sizes : (x y : SeatView) (mine : List TakenStep) → Takes x mine y → (y.setup ≡ x.setup) × (y.by ≡ x.by)
 takes_sizes x y [] h = (ap (λ (p : SeatView). p.setup) h, ap (λ (p : SeatView). p.by) h)
@@ -163,8 +164,11 @@ module _ (x y z : Seated) (mine : List TakenStep) (o : Outcome) (g : Going x min
     steps = steps_more x y z mine o g s;
   }
 
-  pub asked_more : (asked before now : ℕ) → now ≡ one_more before → before ≡ many_more (length mine) asked → now ≡ many_more (length more) asked
-  asked_more asked before now e f = e ∙ ap one_more f ∙ ap (λ (k : ℕ). many_more k asked) (sym (length_snoc mine (last x y z mine o g s)))
+  pub asked_more : {a b c : Askings} → NeverCrashes (length mine) a b → NeverCrashes 1 b c → NeverCrashes (length more) a c
+  asked_more h t =
+      let l = length_snoc mine (last x y z mine o g s) in
+      let sum : length mine + 1 ≡ length (mine ++ last x y z mine o g s ∷ []) = omega arith in
+      asked_on h t sum
 
 -- what follows such a step
 pub fits_answer : (call : Call) (y z : Seated) (o : Outcome) (k : ℕ) (a : Answer) → TakesStep y o z → IsUnder call (process_state_now y.seat_view) → Lasts y.seat_view.setup.layout.procs (suc k) (process_state_now y.seat_view) → o.answer ≡ Some a → Fits call a × Leaves call a (process_state_now z.seat_view)

@@ -4,7 +4,7 @@ use Rattle.execution.proofs.Common.{cases_Bool, All-head, All-tail, Kind, Word, 
 use Rattle.execution.proofs.Common.{Answer, NotRecoverable as RuinedAnswer, OwnerDied, Unlocked, Call, Lock, Append, Checking, Ruining, Mending, Working, by_lock, by_reply, by_script, answer_at, answer_by}
 use Rattle.execution.proofs.Common.{and_answer, is_idle, ScriptState, Free, Doing, ProcessState, next_process_state, WorldEvent, at_rest, Moves, settled, moved_by, TakenStep, LockFault, Setup, AreMoves, answers_from}
 use Rattle.execution.proofs.Common.{ServedAll, process_state_before, ready, process_state_now, own_of, last_call, last_of, AreInOrder, ReadsRuin, HasReadRuin, Seated, began, before, taken, world_events, spelled}
-use Rattle.execution.proofs.Common.{IsRun, gone, Goes, Replies, WholeEnds, AppendFails, Comes}
+use Rattle.execution.proofs.Common.{IsRun, gone, Goes, Replies, Askings, WholeEnds, AppendFails, Comes}
 use Rattle.rmecore.specs.declared.core_done.CoreDone.{CoreDone}
 use Rattle.rmecore.specs.declared.core_done.CoreDone.TheVariants as ends
 use Rattle.rmecore.specs.declared.kind.Kind.TheVariants.{Get as Gets}
@@ -122,8 +122,8 @@ served_told x y order answers told rest blocked mine served old all is =
           (subst (λ (es : List TakenStep). answers_from s (gone s at_rest (spelled es)) mine ≡ told ++ RuinedAnswer ∷ rest) own_z (served.answered ∙ is)))
     ])
 
-module _ (x y : Seated) (seq : ℕ) (value : List ℕ) (a b c d : ℕ) (old : AreInOrder None (own_of x.seat_view)) (now : AreInOrder None (own_of y.seat_view)) where
-  whole_told : (turns : ℕ) (e : LockFault) → e ≡ NotRecoverable → WholeEnds (began (ready x) Lock) turns (Append seq value) (Err e) y a b c d → HasReadRuin (own_of y.seat_view)
+module _ (x y : Seated) (seq : ℕ) (value : List ℕ) (a b : Askings) (old : AreInOrder None (own_of x.seat_view)) (now : AreInOrder None (own_of y.seat_view)) where
+  whole_told : (turns : ℕ) (e : LockFault) → e ≡ NotRecoverable → WholeEnds (began (ready x) Lock) turns (Append seq value) (Err e) y a b → HasReadRuin (own_of y.seat_view)
   whole_told turns e is h = by h.3
     where
       all : AreInOrder None (own_of x.seat_view ++ h.4.0)
@@ -135,12 +135,12 @@ module _ (x y : Seated) (seq : ℕ) (value : List ℕ) (a b c d : ℕ) (old : Ar
       by (inr (few, inr (inl k))) = served_told x y h.0 h.1 [] [] h.2 h.4.0 h.4.1 old all k.2
       by (inr (few, inr (inr k))) = served_told x y h.0 h.1 (OwnerDied ∷ []) (Unlocked ∷ []) h.2 h.4.0 h.4.1 old all k.2
 
-  fails_told : (turns : ℕ) (e : LockFault) → e ≡ NotRecoverable → AppendFails x turns seq value y a b c d e → HasReadRuin (own_of y.seat_view)
+  fails_told : (turns : ℕ) (e : LockFault) → e ≡ NotRecoverable → AppendFails x turns seq value y a b e → HasReadRuin (own_of y.seat_view)
   fails_told turns e is (inl h) = absurd (cc)
   fails_told turns e is (inr (wide, inl h)) = absurd (cc)
   fails_told turns e is (inr (wide, inr (may, inl h))) = absurd (let k = h.0 in cc)
   fails_told turns e is (inr (wide, inr (may, inr h))) = whole_told turns e is h
 
-  pub append_told : (r : Result Reply LockFault) (e : LockFault) → r ≡ Err e → e ≡ NotRecoverable → IfErr r (λ e. (turns : ℕ) × AppendFails x turns seq value y a b c d e) → HasReadRuin (own_of y.seat_view)
+  pub append_told : (r : Result Reply LockFault) (e : LockFault) → r ≡ Err e → e ≡ NotRecoverable → IfErr r (λ e. (turns : ℕ) × AppendFails x turns seq value y a b e) → HasReadRuin (own_of y.seat_view)
   append_told (Ok reply) e is ruined h = absurd (cc)
   append_told (Err f) e is ruined h = fails_told h.0 f (let same : f ≡ e = cc in same ∙ ruined) h.1

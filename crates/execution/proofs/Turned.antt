@@ -1,20 +1,17 @@
 -- Steps of a lock, then more of its steps.
-use Rattle.std.proofs.Common.{◌≡◌, ℕ, zero, suc, ◌+◌, List, [], ◌∷◌, ◌++◌, length, Option, Some, None, refl, sym, ap, ◌∙◌, arith, length-append}
-use Rattle.execution.proofs.Common.{one_more, Answer, Call, and_answer, ProcessState, TakenStep, Setup, Served, answers_of, blocked_of, blocks, Ran, CutOff, answers_from, blocked_from, Turning}
+use Rattle.std.proofs.Common.{◌≡◌, ℕ, ◌+◌, List, [], ◌∷◌, ◌++◌, length, Option, Some, None, refl, sym, ap, ◌∙◌, arith, length-append}
+use Rattle.execution.proofs.Common.{Answer, Call, and_answer, ProcessState, TakenStep, Setup, Served, answers_of, blocked_of, blocks, Ran, CutOff, answers_from, blocked_from, Turning}
 use Rattle.execution.proofs.Common.{IsSeatView, Seated, many_more, spelled, gone, process_state_of}
 pub use Rattle.execution.proofs.Taken.{answers-append, blocked-append}
 use Rattle.execution.proofs.Taken.{takes_sizes, takes_process_state, takes-append}
 use Rattle.execution.proofs.Called.{served_of}
-
-pub many_add : (j k c : ℕ) → many_more k (many_more j c) ≡ many_more (j + k) c
-many_add j zero c = ap (λ (m : ℕ). many_more m c) (let e : j ≡ j + 0 = omega arith in e)
-many_add j (suc k) c = ap one_more (many_add j k c) ∙ ap (λ (m : ℕ). many_more m c) (let e : suc (j + k) ≡ j + suc k = omega arith in e)
+use Rattle.crash_plans.proofs.Counted.{many_add}
 
 pub many_append : (a b : List TakenStep) (c : ℕ) → many_more (length b) (many_more (length a) c) ≡ many_more (length (a ++ b)) c
 many_append a b c = many_add (length a) (length b) c ∙ ap (λ (m : ℕ). many_more m c) (sym (length-append a b))
 
-pub many_fell : (a b : List TakenStep) (c : ℕ) → many_more (length b + 1) (many_more (length a) c) ≡ many_more (length (a ++ b) + 1) c
-many_fell a b c = many_add (length a) (length b + 1) c ∙ ap (λ (m : ℕ). many_more m c) (let l = length-append a b in let e : length a + (length b + 1) ≡ length (a ++ b) + 1 = omega arith in e)
+pub length-fell : (a b : List TakenStep) → length a + (length b + 1) ≡ length (a ++ b) + 1
+length-fell a b = let l = length-append a b in omega arith
 
 pub turning_first : (x : Seated) → Turning x [] 0 x
 turning_first x = record { takes = refl; answers = refl; blocked = refl; steps = refl }

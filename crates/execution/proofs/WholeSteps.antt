@@ -1,6 +1,6 @@
 -- The steps that a whole mailbox call counts are the sum of the table, and at most its bound.
 use Rattle.std.proofs.Common.{◌≡◌, ℕ, ◌+◌, ◌*◌, ◌≤◌, Bool, true, false, List, [], ◌∷◌, Option, Some, None, IfSome, Err, refl, sym, ap, ◌∙◌, subst, inl, inr, arith}
-use Rattle.execution.proofs.Common.{Own, Layout, Reply, Mended, Answer, Call, Lock, Unlock, Consistent, Append, Close, most_steps, own_steps, Entry as Entering, Setup, AnsweredBy, LockBy, ready, answer_of}
+use Rattle.execution.proofs.Common.{Own, Layout, Reply, Mended, Answer, Call, Lock, Unlock, Consistent, Append, Close, most_steps, own_steps, Entry as Entering, Setup, Askings, AnsweredBy, LockBy, ready, answer_of}
 use Rattle.execution.proofs.Common.{process_state_now, Seated, began, many_more, behind, CountsAtMost, words_begun, process_state_begun, table_steps, Fits, IsHolder, IsTask, WholeBy, mended_by, SumCounts, InsideCounts}
 use Rattle.execution.proofs.Common.{both, table_sum, StoredAppendSteps, most_inside, most_whole}
 use Rattle.rmeworld.specs.declared.answer.Answer.TheVariants as answer
@@ -9,7 +9,7 @@ use Rattle.execution.specs.declared.entry_kind.Entry.TheVariants as entering
 use Rattle.execution.proofs.Counted.{few_out}
 use Rattle.execution.proofs.Mended.{still_mended, still_unmended}
 use Rattle.execution.proofs.Tabled.{calls_keep_the_table}
-use Rattle.execution.proofs.Turned.{many_add}
+use Rattle.crash_plans.proofs.Counted.{many_add}
 
 both_are : (o p : Option ℕ) (j k : ℕ) → o ≡ Some j → p ≡ Some k → both o p ≡ Some (j + k)
 both_are o p j k e f = λ i. both (e i) (f i)
@@ -36,8 +36,8 @@ entry_mends m entering.OwnerDied = refl
 abbrev One : Seated → Call → Answer → ℕ → Seated → Type 0
 One x call a blocked y = (k : ℕ) × (table_steps x.seat_view call a ≡ Some k) × (y.steps ≡ many_more (k + blocked) x.steps)
 
-one_counts : (x y : Seated) (call : Call) (a : Answer) (blocked more a0 a1 f0 f1 : ℕ) → AnsweredBy more x (call ∷ []) (a ∷ []) blocked y a0 a1 f0 f1 → One x call a blocked y
-one_counts x y call a blocked more a0 a1 f0 f1 h =
+one_counts : (x y : Seated) (call : Call) (a : Answer) (blocked more : ℕ) (a0 a1 : Askings) → AnsweredBy more x (call ∷ []) (a ∷ []) blocked y a0 a1 → One x call a blocked y
+one_counts x y call a blocked more a0 a1 h =
     let told = calls_keep_the_table x call (a ∷ []) blocked y h.0 h.1 in
     (told.0, told.1, h.1.steps ∙ ap (λ (n : ℕ). many_more n x.steps) told.2)
 
@@ -51,51 +51,51 @@ inside_first x y z m n c a order answers k same mends told steps h = (
   h.2 ∙ ap (many_more h.0) steps ∙ many_add (k + 0) h.0 x.steps ∙ ap (λ (t : ℕ). many_more t x.steps) (let j = h.0 in let e : (k + 0) + j ≡ k + j = omega arith in e),
 )
 
-module _ (x y : Seated) (a : Answer) (a0 a1 f0 f1 : ℕ) where
+module _ (x y : Seated) (a : Answer) (a0 a1 : Askings) where
   -- the unlock
-  left_counts : (m : Bool) → a ≡ answer.Unlocked → (process_state_begun x.seat_view).mended ≡ m → AnsweredBy 0 x (Unlock ∷ []) (a ∷ []) 0 y a0 a1 f0 f1 → InsideCounts x m (Unlock ∷ []) (answer.Unlocked ∷ []) y
+  left_counts : (m : Bool) → a ≡ answer.Unlocked → (process_state_begun x.seat_view).mended ≡ m → AnsweredBy 0 x (Unlock ∷ []) (a ∷ []) 0 y a0 a1 → InsideCounts x m (Unlock ∷ []) (answer.Unlocked ∷ []) y
   left_counts m is mended h =
-      let t : AnsweredBy 0 x (Unlock ∷ []) (answer.Unlocked ∷ []) 0 y a0 a1 f0 f1 = subst (λ (u : Answer). AnsweredBy 0 x (Unlock ∷ []) (u ∷ []) 0 y a0 a1 f0 f1) is h in
-      let one = one_counts x y Unlock answer.Unlocked 0 0 a0 a1 f0 f1 t in
+      let t : AnsweredBy 0 x (Unlock ∷ []) (answer.Unlocked ∷ []) 0 y a0 a1 = subst (λ (u : Answer). AnsweredBy 0 x (Unlock ∷ []) (u ∷ []) 0 y a0 a1) is h in
+      let one = one_counts x y Unlock answer.Unlocked 0 0 a0 a1 t in
       inside_first x y y m m Unlock answer.Unlocked [] [] one.0 t.1.calls.setup refl (λ w. unlock_words x.seat_view.setup.layout x.seat_view.setup.layout w (words_begun x.seat_view) (process_state_begun x.seat_view).mended m one.0 mended one.1) one.2 (0, (λ w. refl), refl)
 
-module _ (x y z : Seated) (a b : Answer) (a0 a1 a2 f0 f1 f2 : ℕ) (idle : x.seat_view.start ≡ None) where
+module _ (x y z : Seated) (a b : Answer) (a0 a1 a2 : Askings) (idle : x.seat_view.start ≡ None) where
   -- the task and the unlock
   pub work_counts : (task : Call) (reply : Reply) → IsHolder (process_state_now x.seat_view) → (process_state_now x.seat_view).mended ≡ true → IsTask x.seat_view.setup.layout task → a ≡ answer.Mail reply → b ≡ answer.Unlocked
-      → AnsweredBy 0 x (task ∷ []) (a ∷ []) 0 y a0 a1 f0 f1 → AnsweredBy 0 y (Unlock ∷ []) (b ∷ []) 0 z a1 a2 f1 f2 → InsideCounts x true (task ∷ Unlock ∷ []) (answer.Mail reply ∷ answer.Unlocked ∷ []) z
+      → AnsweredBy 0 x (task ∷ []) (a ∷ []) 0 y a0 a1 → AnsweredBy 0 y (Unlock ∷ []) (b ∷ []) 0 z a1 a2 → InsideCounts x true (task ∷ Unlock ∷ []) (answer.Mail reply ∷ answer.Unlocked ∷ []) z
   work_counts task reply holder mended fits is so h t =
-      let d : AnsweredBy 0 x (task ∷ []) (answer.Mail reply ∷ []) 0 y a0 a1 f0 f1 = subst (λ (u : Answer). AnsweredBy 0 x (task ∷ []) (u ∷ []) 0 y a0 a1 f0 f1) is h in
-      let one = one_counts x y task (answer.Mail reply) 0 0 a0 a1 f0 f1 d in
+      let d : AnsweredBy 0 x (task ∷ []) (answer.Mail reply ∷ []) 0 y a0 a1 = subst (λ (u : Answer). AnsweredBy 0 x (task ∷ []) (u ∷ []) 0 y a0 a1) is h in
+      let one = one_counts x y task (answer.Mail reply) 0 0 a0 a1 d in
       let still : (process_state_begun y.seat_view).mended ≡ true = still_mended x y task (answer.Mail reply) 0 d.0 idle d.1 fits holder mended in
       inside_first x y z true true task (answer.Mail reply) (Unlock ∷ []) (answer.Unlocked ∷ []) one.0 d.1.calls.setup (reply_keeps reply)
-      (λ w. task_words x.seat_view.setup.layout w (words_begun x.seat_view) true (process_state_begun x.seat_view).mended task reply fits ∙ one.1) one.2 (left_counts y z b a1 a2 f1 f2 true so still t)
+      (λ w. task_words x.seat_view.setup.layout w (words_begun x.seat_view) true (process_state_begun x.seat_view).mended task reply fits ∙ one.1) one.2 (left_counts y z b a1 a2 true so still t)
 
   -- a mending that finds the lock ruined, and the unlock
   pub ruined_counts : IsHolder (process_state_now x.seat_view) → (process_state_now x.seat_view).mended ≡ false → a ≡ answer.NotRecoverable → b ≡ answer.Unlocked
-      → AnsweredBy 0 x (Consistent ∷ []) (a ∷ []) 0 y a0 a1 f0 f1 → AnsweredBy 0 y (Unlock ∷ []) (b ∷ []) 0 z a1 a2 f1 f2 → InsideCounts x false (Consistent ∷ Unlock ∷ []) (answer.NotRecoverable ∷ answer.Unlocked ∷ []) z
+      → AnsweredBy 0 x (Consistent ∷ []) (a ∷ []) 0 y a0 a1 → AnsweredBy 0 y (Unlock ∷ []) (b ∷ []) 0 z a1 a2 → InsideCounts x false (Consistent ∷ Unlock ∷ []) (answer.NotRecoverable ∷ answer.Unlocked ∷ []) z
   ruined_counts holder unmended is so h t =
-      let d : AnsweredBy 0 x (Consistent ∷ []) (answer.NotRecoverable ∷ []) 0 y a0 a1 f0 f1 = subst (λ (u : Answer). AnsweredBy 0 x (Consistent ∷ []) (u ∷ []) 0 y a0 a1 f0 f1) is h in
-      let one = one_counts x y Consistent answer.NotRecoverable 0 0 a0 a1 f0 f1 d in
+      let d : AnsweredBy 0 x (Consistent ∷ []) (answer.NotRecoverable ∷ []) 0 y a0 a1 = subst (λ (u : Answer). AnsweredBy 0 x (Consistent ∷ []) (u ∷ []) 0 y a0 a1) is h in
+      let one = one_counts x y Consistent answer.NotRecoverable 0 0 a0 a1 d in
       let still : (process_state_begun y.seat_view).mended ≡ false = still_unmended x y Consistent answer.NotRecoverable 0 d.0 idle d.1 refl refl holder unmended in
-      inside_first x y z false false Consistent answer.NotRecoverable (Unlock ∷ []) (answer.Unlocked ∷ []) one.0 d.1.calls.setup refl (λ w. one.1) one.2 (left_counts y z b a1 a2 f1 f2 false so still t)
+      inside_first x y z false false Consistent answer.NotRecoverable (Unlock ∷ []) (answer.Unlocked ∷ []) one.0 d.1.calls.setup refl (λ w. one.1) one.2 (left_counts y z b a1 a2 false so still t)
 
 -- a mending, and the calls after it
-pub mend_counts : (x y z : Seated) (a : Answer) (a0 a1 f0 f1 : ℕ) (mended : Bool) (order : List Call) (answers : List Answer) → a ≡ answer.Mail (Mended mended) → AnsweredBy 0 x (Consistent ∷ []) (a ∷ []) 0 y a0 a1 f0 f1
+pub mend_counts : (x y z : Seated) (a : Answer) (a0 a1 : Askings) (mended : Bool) (order : List Call) (answers : List Answer) → a ≡ answer.Mail (Mended mended) → AnsweredBy 0 x (Consistent ∷ []) (a ∷ []) 0 y a0 a1
     → InsideCounts y true order answers z → InsideCounts x false (Consistent ∷ order) (answer.Mail (Mended mended) ∷ answers) z
-mend_counts x y z a a0 a1 f0 f1 mended order answers is h t =
-    let d : AnsweredBy 0 x (Consistent ∷ []) (answer.Mail (Mended mended) ∷ []) 0 y a0 a1 f0 f1 = subst (λ (u : Answer). AnsweredBy 0 x (Consistent ∷ []) (u ∷ []) 0 y a0 a1 f0 f1) is h in
-    let one = one_counts x y Consistent (answer.Mail (Mended mended)) 0 0 a0 a1 f0 f1 d in
+mend_counts x y z a a0 a1 mended order answers is h t =
+    let d : AnsweredBy 0 x (Consistent ∷ []) (answer.Mail (Mended mended) ∷ []) 0 y a0 a1 = subst (λ (u : Answer). AnsweredBy 0 x (Consistent ∷ []) (u ∷ []) 0 y a0 a1) is h in
+    let one = one_counts x y Consistent (answer.Mail (Mended mended)) 0 0 a0 a1 d in
     inside_first x y z false true Consistent (answer.Mail (Mended mended)) order answers one.0 d.1.calls.setup refl (λ w. one.1) one.2 t
 
 -- a lock that entered, and the calls after it
-pub whole_counts : (x y z : Seated) (turns : ℕ) (entry : Entering) (order : List Call) (answers : List Answer) (a0 a1 f0 f1 : ℕ) → (h : LockBy 0 x turns (Some (answer_of entry)) y a0 a1 f0 f1) → InsideCounts y (mended_by true (answer_of entry)) order answers z
+pub whole_counts : (x y z : Seated) (turns : ℕ) (entry : Entering) (order : List Call) (answers : List Answer) (a0 a1 : Askings) → (h : LockBy 0 x turns (Some (answer_of entry)) y a0 a1) → InsideCounts y (mended_by true (answer_of entry)) order answers z
     → SumCounts x (Lock ∷ order) (answer_of entry ∷ answers) (h.0 + 0) z
-whole_counts x y z turns entry order answers a0 a1 f0 f1 h t =
+whole_counts x y z turns entry order answers a0 a1 h t =
     let l : Layout = x.seat_view.setup.layout in
     let w : Own = words_begun x.seat_view in
     let m : Bool = (process_state_begun x.seat_view).mended in
     let a : Answer = answer_of entry in
-    let one = one_counts x y Lock a h.0 0 a0 a1 f0 f1 h.2 in
+    let one = one_counts x y Lock a h.0 0 a0 a1 h.2 in
     let same : y.seat_view.setup ≡ x.seat_view.setup = h.2.1.calls.setup in
     let later : table_sum l w (mended_by m a) order answers ≡ Some t.0 = subst (λ (u : Setup × Bool). table_sum u.0.layout w u.1 order answers ≡ Some t.0) (λ i. (same i, sym (entry_mends m entry) i)) (t.1 w) in (
       one.0 + t.0,
@@ -104,19 +104,19 @@ whole_counts x y z turns entry order answers a0 a1 f0 f1 h t =
     )
 
 -- a lock with another answer
-module _ (x y : Seated) (turns a0 a1 f0 f1 : ℕ) (task : Call) where
-  lock_sum : (a : Answer) → (h : LockBy 0 x turns (Some a) y a0 a1 f0 f1) → SumCounts x (Lock ∷ []) (a ∷ []) h.0 y
+module _ (x y : Seated) (turns : ℕ) (a0 a1 : Askings) (task : Call) where
+  lock_sum : (a : Answer) → (h : LockBy 0 x turns (Some a) y a0 a1) → SumCounts x (Lock ∷ []) (a ∷ []) h.0 y
   lock_sum a h =
-      let one = one_counts x y Lock a h.0 0 a0 a1 f0 f1 h.2 in
+      let one = one_counts x y Lock a h.0 0 a0 a1 h.2 in
       (one.0 + 0, both_are (table_steps x.seat_view Lock a) (Some 0) one.0 0 one.1 refl, one.2 ∙ ap (λ (n : ℕ). many_more n x.steps) (let j = one.0 in let b = h.0 in let e : j + b ≡ (j + 0) + b = omega arith in e))
 
-  pub spent_whole : LockBy 0 x turns (Some answer.NumbersSpent) y a0 a1 f0 f1 → WholeBy 0 x turns task (Err fault.NumbersSpent) y a0 a1 f0 f1
+  pub spent_whole : LockBy 0 x turns (Some answer.NumbersSpent) y a0 a1 → WholeBy 0 x turns task (Err fault.NumbersSpent) y a0 a1
   spent_whole h = (Lock ∷ [], answer.NumbersSpent ∷ [], h.0, inr (h.1, inl (refl, refl, refl)), h.2, lock_sum answer.NumbersSpent h)
 
-  pub ruined_whole : LockBy 0 x turns (Some answer.NotRecoverable) y a0 a1 f0 f1 → WholeBy 0 x turns task (Err fault.NotRecoverable) y a0 a1 f0 f1
+  pub ruined_whole : LockBy 0 x turns (Some answer.NotRecoverable) y a0 a1 → WholeBy 0 x turns task (Err fault.NotRecoverable) y a0 a1
   ruined_whole h = (Lock ∷ [], answer.NotRecoverable ∷ [], h.0, inr (h.1, inr (inl (refl, refl, refl))), h.2, lock_sum answer.NotRecoverable h)
 
-  pub late_whole : LockBy 0 x turns None y a0 a1 f0 f1 → WholeBy 0 x turns task (Err fault.NotYet) y a0 a1 f0 f1
+  pub late_whole : LockBy 0 x turns None y a0 a1 → WholeBy 0 x turns task (Err fault.NotYet) y a0 a1
   late_whole h =
       let told = calls_keep_the_table x Lock [] (turns + 1) y h.0 h.1 in
       (Lock ∷ [], [], turns + 1, inl (refl, refl, refl, refl), h, (told.0, told.2, h.1.steps ∙ ap (λ (n : ℕ). many_more n x.steps) told.1))

@@ -1,4 +1,4 @@
--- What a call leaves: the caller's own entries, its answers, its blocked readings, and how often the plan was asked.
+-- What a call leaves: the caller's own entries, its answers and its blocked readings.
 use Rattle.std.specs.Prelude.{◌≡◌, ℕ, ◌+◌, ◌⊎◌, Bool, true, false, if◌then◌else◌, List, [], ◌∷◌, length, Option, Some, None, All}
 use Rattle.rmeworld.specs.declared.call.Call.{Call}
 use Rattle.rmeworld.specs.declared.answer.Answer.{Answer}
@@ -10,8 +10,8 @@ use Rattle.execution.specs.declared.setup.Setup.{Setup}
 use Rattle.execution.specs.declared.entry.TakenStep.{TakenStep}
 use Rattle.execution.specs.Runs.{before, world_events, gone, process_state_of}
 use Rattle.execution.specs.SeatView.{SeatView, process_state_now, next_entry, Advances, Calls}
-use Rattle.execution.specs.Running.{Seated, many_more, fell}
-use Rattle.rmecore.specs.Simulated.{one_more}
+use Rattle.execution.specs.Running.{Seated, fell}
+use Rattle.crash_plans.specs.Plans.{many_more}
 use Rattle.execution.specs.Lasting.{Lasts}
 use Rattle.execution.specs.Under.{IsUnder, Fits, Leaves}
 use Rattle.rmeworld.specs.declared.call.Call.TheVariants.{Lock}
@@ -149,14 +149,6 @@ pub record CrashesIn (x : Seated) (Begun : List Call → Type 0) (y : Seated) (m
 -- one call
 abbrev pub Crashes : Seated → Call → Seated → List TakenStep → Type 0
 Crashes x call y mine = CrashesIn x (λ (order : List Call). order ≡ call ∷ []) y mine
-
--- the plan was asked k times and made the process crash at the last one
-abbrev pub Fell : ℕ → (asked asked_now fallen fallen_now : ℕ) → Type 0
-Fell k asked asked_now fallen fallen_now = (asked_now ≡ many_more k asked) × (fallen_now ≡ one_more fallen)
-
--- the plan was asked k times and never crashed the process
-abbrev pub NeverCrashes : ℕ → (asked asked_now fallen fallen_now : ℕ) → Type 0
-NeverCrashes k asked asked_now fallen fallen_now = (asked_now ≡ many_more k asked) × (fallen_now ≡ fallen)
 
 -- steps of a lock that has been blocked k times so far
 pub record Turning (x : Seated) (mine : List TakenStep) (k : ℕ) (y : Seated) : Type 0 where

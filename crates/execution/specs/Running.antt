@@ -1,5 +1,5 @@
 -- A member at work: its view, the own steps of its call, and one step of its machine.
-use Rattle.std.specs.Prelude.{◌≡◌, ℕ, zero, suc, true, Option, Some, None, IsSome}
+use Rattle.std.specs.Prelude.{◌≡◌, ℕ, true, Option, Some, None, IsSome}
 use Rattle.rmecore.specs.Simulated.{one_more}
 use Rattle.rmecore.specs.Machine.{kind_of, word_of, carried}
 use Rattle.rmecore.specs.declared.access.Access.{Access}
@@ -20,11 +20,6 @@ pub record IsRunBy (x : SeatView) (s : MachineState) : Type 0 where
   pub limit : s.limit ≡ x.setup.limit
   pub index : s.index ≡ x.by
   pub process_state : standing_at s ≡ process_state_now x
-
--- k more, at most the greatest u64
-abbrev pub many_more : ℕ → ℕ → ℕ
-many_more zero count = count
-many_more (suc k) count = one_more (many_more k count)
 
 -- the next step
 abbrev pub next_of : SeatView → Option Access

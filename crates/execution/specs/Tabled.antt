@@ -13,7 +13,8 @@ use Rattle.execution.specs.declared.lock_fault.LockFault.{LockFault}
 use Rattle.execution.specs.declared.lock_fault.LockFault.TheVariants.{NotYet, NumbersSpent, NotRecoverable}
 use Rattle.execution.specs.Runs.{crash_first, end_of, gone, own, process_state_of}
 use Rattle.execution.specs.SeatView.{SeatView}
-use Rattle.execution.specs.Running.{Seated, many_more}
+use Rattle.execution.specs.Running.{Seated}
+use Rattle.crash_plans.specs.Plans.{many_more}
 use Rattle.execution.specs.Calls.{blocked_of, Served}
 
 -- the lock words of the process at the end of its view

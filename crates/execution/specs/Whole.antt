@@ -15,6 +15,7 @@ use Rattle.execution.specs.declared.entry_kind.Entry.TheVariants as entering
 use Rattle.execution.specs.Running.{Seated, began}
 use Rattle.execution.specs.Faults.{refusal_now, ready, CutBy, AnsweredBy, answer_of}
 use Rattle.execution.specs.WholeSteps.{SumCounts}
+use Rattle.crash_plans.specs.Plans.{Askings}
 
 -- the tasks of the mailbox. A value has the width of the messages
 abbrev pub IsTask : Layout → Call → Type 0
@@ -53,13 +54,13 @@ Comes turns task (Err e) order answers blocked =
 
 -- the whole call from right after the start of its lock, with `more` askings beside those of its steps: its outcome, its
 -- events, and its own steps by the table
-abbrev pub WholeBy : ℕ → Seated → ℕ → Call → Result Reply LockFault → Seated → (asked asked_now fallen fallen_now : ℕ) → Type 0
-WholeBy more x turns task r y asked asked_now fallen fallen_now =
-    (order : List Call) × (answers : List Answer) × (blocked : ℕ) × Comes turns task r order answers blocked × AnsweredBy more x order answers blocked y asked asked_now fallen fallen_now × SumCounts x order answers blocked y
+abbrev pub WholeBy : ℕ → Seated → ℕ → Call → Result Reply LockFault → Seated → (old new : Askings) → Type 0
+WholeBy more x turns task r y old new =
+    (order : List Call) × (answers : List Answer) × (blocked : ℕ) × Comes turns task r order answers blocked × AnsweredBy more x order answers blocked y old new × SumCounts x order answers blocked y
 
 -- the same, up to the asking before its one answer
-abbrev pub WholeEnds : Seated → ℕ → Call → Result Reply LockFault → Seated → (asked asked_now fallen fallen_now : ℕ) → Type 0
-WholeEnds x turns task r y asked asked_now fallen fallen_now = WholeBy 1 x turns task r y asked asked_now fallen fallen_now
+abbrev pub WholeEnds : Seated → ℕ → Call → Result Reply LockFault → Seated → (old new : Askings) → Type 0
+WholeEnds x turns task r y old new = WholeBy 1 x turns task r y old new
 
 -- the first calls of a list
 abbrev pub IsFront : List Call → List Call → Type 0
@@ -74,21 +75,21 @@ abbrev pub IsWithin : Call → List Call → Type 0
 IsWithin task done = ((entry : Entering) × IsFront done (Lock ∷ calls_inside entry task)) ⊎ IsFront done (Lock ∷ Consistent ∷ Unlock ∷ [])
 
 -- a whole mailbox call after the start of its lock: it has its outcome, or a crash cuts it off
-abbrev pub WholeGoes : Seated → ℕ → Call → Result Reply LockFault → Seated → (asked asked_now fallen fallen_now : ℕ) → Type 0
-WholeGoes x turns task r y asked asked_now fallen fallen_now =
-    WholeEnds x turns task r y asked asked_now fallen fallen_now ⊎ (r ≡ Err Crashed) × CutBy x (IsWithin task) y asked asked_now fallen fallen_now
+abbrev pub WholeGoes : Seated → ℕ → Call → Result Reply LockFault → Seated → (old new : Askings) → Type 0
+WholeGoes x turns task r y old new =
+    WholeEnds x turns task r y old new ⊎ (r ≡ Err Crashed) × CutBy x (IsWithin task) y old new
 
 -- how a whole mailbox call fails: refused in the section, cut off by a crash, or with the fault of its lock or of its
 -- mending
-abbrev pub WholeFails : Seated → ℕ → Call → Seated → (asked asked_now fallen fallen_now : ℕ) → LockFault → Type 0
-WholeFails x turns task y asked asked_now fallen fallen_now e =
-    (e ≡ AlreadyIn) × (refusal_now x Lock ≡ Some IsIn) × (y ≡ x) × (asked_now ≡ asked) × (fallen_now ≡ fallen)
+abbrev pub WholeFails : Seated → ℕ → Call → Seated → (old new : Askings) → LockFault → Type 0
+WholeFails x turns task y old new e =
+    (e ≡ AlreadyIn) × (refusal_now x Lock ≡ Some IsIn) × (y ≡ x) × (new ≡ old)
     ⊎ (refusal_now (ready x) Lock ≡ None)
-    × ((e ≡ Crashed) × CutBy (began (ready x) Lock) (IsWithin task) y asked asked_now fallen fallen_now
-    ⊎ WholeEnds (began (ready x) Lock) turns task (Err e) y asked asked_now fallen fallen_now)
+    × ((e ≡ Crashed) × CutBy (began (ready x) Lock) (IsWithin task) y old new
+    ⊎ WholeEnds (began (ready x) Lock) turns task (Err e) y old new)
 
 -- a value of another width is refused first, and the plan isn't asked
-abbrev pub AppendFails : Seated → ℕ → ℕ → List ℕ → Seated → (asked asked_now fallen fallen_now : ℕ) → LockFault → Type 0
-AppendFails x turns seq value y asked asked_now fallen fallen_now e =
-    (e ≡ BadWidth) × (length value ≢ x.seat_view.setup.layout.width) × (y ≡ x) × (asked_now ≡ asked) × (fallen_now ≡ fallen)
-    ⊎ (length value ≡ x.seat_view.setup.layout.width) × WholeFails x turns (Append seq value) y asked asked_now fallen fallen_now e
+abbrev pub AppendFails : Seated → ℕ → ℕ → List ℕ → Seated → (old new : Askings) → LockFault → Type 0
+AppendFails x turns seq value y old new e =
+    (e ≡ BadWidth) × (length value ≢ x.seat_view.setup.layout.width) × (y ≡ x) × (new ≡ old)
+    ⊎ (length value ≡ x.seat_view.setup.layout.width) × WholeFails x turns (Append seq value) y old new e

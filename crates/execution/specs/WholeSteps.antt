@@ -9,7 +9,8 @@ use Rattle.rmeworld.specs.declared.answer.Answer.TheVariants.{Clean, OwnerDied, 
 use Rattle.rmeworld.specs.declared.call.Call.{Call}
 use Rattle.rmeworld.specs.declared.call.Call.TheVariants.{Lock, Unlock, Consistent, Append}
 use Rattle.rmeworld.specs.OwnSteps.{own_steps, most_steps}
-use Rattle.execution.specs.Running.{Seated, many_more}
+use Rattle.execution.specs.Running.{Seated}
+use Rattle.crash_plans.specs.Plans.{many_more}
 use Rattle.execution.specs.Tabled.{words_begun, process_state_begun}
 
 -- the sum of two numbers of the table, where it has both

@@ -1,6 +1,7 @@
 -- A member of an arena over one world: what contracts see of it, what its calls may answer, and its state after them.
 use Rattle.std.specs.Prelude.{◌≡◌, ℕ, Bool, true, false, not, ◌+◌, ◌-◌, ◌^◌, ◌<◌, ◌≤◌, min, zero, suc, List, [], ◌∷◌, ◌++◌, length, Result, Ok, Err}
 use Rattle.rmecore.specs.Simulated.{one_more}
+use Rattle.crash_plans.specs.Plans.{Askings}
 use Rattle.rmecore.specs.declared.found.Found.{Found}
 use Rattle.rmecore.specs.declared.found.Found.TheVariants.{Inside as FoundInside}
 use Rattle.redomail.specs.declared.layout.Layout.{Layout}
@@ -55,13 +56,13 @@ may_start standing _ = is_in standing
 abbrev pub Goes : Seat → Seat → Type 0
 Goes old new = (new.process ≡ old.process) × (new.layout ≡ old.layout) × (old.steps ≤ new.steps)
 
--- the plan was asked once for each own step, from a askings to b; then once more. Askings are counted up to 2^64 - 1
-abbrev pub AskedEach : Seat → Seat → ℕ → ℕ → Type 0
-AskedEach old new a b = b < 2 ^ 64 - 1 → b + old.steps ≡ a + new.steps
+-- the plan was asked once for each own step, with askings a before and b after. They are counted up to 2^64 - 1
+abbrev pub AskedEach : Seat → Seat → Askings → Askings → Type 0
+AskedEach old new a b = b.asked < 2 ^ 64 - 1 → b.asked + old.steps ≡ a.asked + new.steps
 
 -- the same, and the plan was asked once more
-abbrev pub AskedOnceMore : Seat → Seat → ℕ → ℕ → Type 0
-AskedOnceMore old new a b = b < 2 ^ 64 - 1 → b + old.steps ≡ a + new.steps + 1
+abbrev pub AskedOnceMore : Seat → Seat → Askings → Askings → Type 0
+AskedOnceMore old new a b = b.asked < 2 ^ 64 - 1 → b.asked + old.steps ≡ a.asked + new.steps + 1
 
 -- a call that was started has counted what it added to the member's share; a part of a call has counted on. Both up to the
 -- greatest u64

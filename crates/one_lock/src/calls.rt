@@ -90,10 +90,10 @@ impl<L: Ledger, S: Sizes> Member<L, S> {
         turns: u64,
     ) -> Result<Entry, LockFault>
         ensures refused { IsErrOf result LockFault.AlreadyIn ↔ (is_in self.old.standing ≡ true) }
-        ensures unasked { is_in self.old.standing ≡ true → (self.new ≡ self.old) × (P.asked plan.new ≡ P.asked plan.old) }
-        ensures asked { is_in self.old.standing ≡ false → AskedOnceMore self.old self.new (P.asked plan.old) (P.asked plan.new) }
+        ensures unasked { is_in self.old.standing ≡ true → (self.new ≡ self.old) × (P.askings plan.new ≡ P.askings plan.old) }
+        ensures asked { is_in self.old.standing ≡ false → AskedOnceMore self.old self.new (P.askings plan.old) (P.askings plan.new) }
         ensures counted { is_in self.old.standing ≡ false → Counts self.old self.new }
-        ensures fallen { P.fallen plan.new ≡ falls_by result (P.fallen plan.old) }
+        ensures fallen { (P.askings plan.new).fallen ≡ falls_by result (P.askings plan.old).fallen }
         ensures goes { Goes self.old self.new }
         ensures stands { is_in self.old.standing ≡ false → self.new.standing ≡ stands_entered result }
         ensures faults { is_in self.old.standing ≡ false → IfErr result (λ e. of_lock e ≡ true) }
@@ -105,10 +105,10 @@ impl<L: Ledger, S: Sizes> Member<L, S> {
     /// Enters the section, and waits as long as it has to. Its faults are those of `lock_within`, but for `NotYet`.
     pub fn lock<R: Wait, P: CrashPlan>(&mut self, rt: &R, plan: &mut P) -> Result<Entry, LockFault>
         ensures refused { IsErrOf result LockFault.AlreadyIn ↔ (is_in self.old.standing ≡ true) }
-        ensures unasked { is_in self.old.standing ≡ true → (self.new ≡ self.old) × (P.asked plan.new ≡ P.asked plan.old) }
-        ensures asked { is_in self.old.standing ≡ false → AskedOnceMore self.old self.new (P.asked plan.old) (P.asked plan.new) }
+        ensures unasked { is_in self.old.standing ≡ true → (self.new ≡ self.old) × (P.askings plan.new ≡ P.askings plan.old) }
+        ensures asked { is_in self.old.standing ≡ false → AskedOnceMore self.old self.new (P.askings plan.old) (P.askings plan.new) }
         ensures counted { is_in self.old.standing ≡ false → Counts self.old self.new }
-        ensures fallen { P.fallen plan.new ≡ falls_by result (P.fallen plan.old) }
+        ensures fallen { (P.askings plan.new).fallen ≡ falls_by result (P.askings plan.old).fallen }
         ensures goes { Goes self.old self.new }
         ensures stands { is_in self.old.standing ≡ false → self.new.standing ≡ stands_entered result }
         ensures faults { is_in self.old.standing ≡ false → IfErr result (λ e. of_wait e ≡ true) }
@@ -126,11 +126,11 @@ impl<L: Ledger, S: Sizes> Member<L, S> {
         turns: Option<u64>,
     ) -> Result<Entry, LockFault>
         ensures refused { IsErrOf result LockFault.AlreadyIn ↔ (is_in self.old.standing ≡ true) }
-        ensures unasked { is_in self.old.standing ≡ true → (self.new ≡ self.old) × (P.asked plan.new ≡ P.asked plan.old) }
+        ensures unasked { is_in self.old.standing ≡ true → (self.new ≡ self.old) × (P.askings plan.new ≡ P.askings plan.old) }
         ensures patient { IsErrOf result LockFault.NotYet → IsSome turns }
-        ensures asked { is_in self.old.standing ≡ false → AskedOnceMore self.old self.new (P.asked plan.old) (P.asked plan.new) }
+        ensures asked { is_in self.old.standing ≡ false → AskedOnceMore self.old self.new (P.askings plan.old) (P.askings plan.new) }
         ensures counted { is_in self.old.standing ≡ false → Counts self.old self.new }
-        ensures fallen { P.fallen plan.new ≡ falls_by result (P.fallen plan.old) }
+        ensures fallen { (P.askings plan.new).fallen ≡ falls_by result (P.askings plan.old).fallen }
         ensures goes { Goes self.old self.new }
         ensures stands { is_in self.old.standing ≡ false → self.new.standing ≡ stands_entered result }
         ensures faults { is_in self.old.standing ≡ false → IfErr result (λ e. of_lock e ≡ true) }
@@ -152,10 +152,10 @@ impl<L: Ledger, S: Sizes> Member<L, S> {
         plan: &mut P,
     ) -> Result<Found, LockFault>
         ensures refused { IsErrOf result LockFault.AlreadyIn ↔ (is_in self.old.standing ≡ true) }
-        ensures unasked { is_in self.old.standing ≡ true → (self.new ≡ self.old) × (P.asked plan.new ≡ P.asked plan.old) }
-        ensures asked { is_in self.old.standing ≡ false → AskedOnceMore self.old self.new (P.asked plan.old) (P.asked plan.new) }
+        ensures unasked { is_in self.old.standing ≡ true → (self.new ≡ self.old) × (P.askings plan.new ≡ P.askings plan.old) }
+        ensures asked { is_in self.old.standing ≡ false → AskedOnceMore self.old self.new (P.askings plan.old) (P.askings plan.new) }
         ensures counted { is_in self.old.standing ≡ false → Counts self.old self.new }
-        ensures fallen { P.fallen plan.new ≡ falls_by result (P.fallen plan.old) }
+        ensures fallen { (P.askings plan.new).fallen ≡ falls_by result (P.askings plan.old).fallen }
         ensures goes { Goes self.old self.new }
         ensures stands { is_in self.old.standing ≡ false → self.new.standing ≡ stands_found result }
         ensures faults { is_in self.old.standing ≡ false → IfErr result (λ e. of_steps e ≡ true) }
@@ -179,11 +179,11 @@ impl<L: Ledger, S: Sizes> Member<L, S> {
     ) -> Result<bool, LockFault>
         ensures refused { IsErrOf result LockFault.NotInconsistent ↔ (self.old.standing ≢ MemberState.Unmended) }
         ensures unasked { self.old.standing ≢ MemberState.Unmended
-            → (self.new ≡ self.old) × (P.asked plan.new ≡ P.asked plan.old) }
+            → (self.new ≡ self.old) × (P.askings plan.new ≡ P.askings plan.old) }
         ensures asked { self.old.standing ≡ MemberState.Unmended
-            → AskedOnceMore self.old self.new (P.asked plan.old) (P.asked plan.new) }
+            → AskedOnceMore self.old self.new (P.askings plan.old) (P.askings plan.new) }
         ensures counted { self.old.standing ≡ MemberState.Unmended → Counts self.old self.new }
-        ensures fallen { P.fallen plan.new ≡ falls_by result (P.fallen plan.old) }
+        ensures fallen { (P.askings plan.new).fallen ≡ falls_by result (P.askings plan.old).fallen }
         ensures goes { Goes self.old self.new }
         ensures stands { self.old.standing ≡ MemberState.Unmended → self.new.standing ≡ stands_mended result }
         ensures faults { self.old.standing ≡ MemberState.Unmended → IfErr result (λ e. of_consistent e ≡ true) }
@@ -202,10 +202,10 @@ impl<L: Ledger, S: Sizes> Member<L, S> {
     #[tactic(auto, using(crate::proofs::Answered::cut_off, crate::proofs::Answered::as_told))]
     pub fn unlock<R: Wait, P: CrashPlan>(&mut self, rt: &R, plan: &mut P) -> Result<(), LockFault>
         ensures refused { IsErrOf result LockFault.NotOwner ↔ (is_in self.old.standing ≡ false) }
-        ensures unasked { is_in self.old.standing ≡ false → (self.new ≡ self.old) × (P.asked plan.new ≡ P.asked plan.old) }
-        ensures asked { is_in self.old.standing ≡ true → AskedOnceMore self.old self.new (P.asked plan.old) (P.asked plan.new) }
+        ensures unasked { is_in self.old.standing ≡ false → (self.new ≡ self.old) × (P.askings plan.new ≡ P.askings plan.old) }
+        ensures asked { is_in self.old.standing ≡ true → AskedOnceMore self.old self.new (P.askings plan.old) (P.askings plan.new) }
         ensures counted { is_in self.old.standing ≡ true → Counts self.old self.new }
-        ensures fallen { P.fallen plan.new ≡ falls_by result (P.fallen plan.old) }
+        ensures fallen { (P.askings plan.new).fallen ≡ falls_by result (P.askings plan.old).fallen }
         ensures goes { Goes self.old self.new }
         ensures stands { is_in self.old.standing ≡ true → self.new.standing ≡ stands_out result }
         ensures faults { is_in self.old.standing ≡ true → IfErr result (λ e. of_steps e ≡ true) }
@@ -229,12 +229,12 @@ impl<L: Ledger, S: Sizes> Member<L, S> {
     ) -> Result<u64, LockFault>
         ensures refused { IsErrOf result LockFault.NotOwner ↔ (is_in self.old.standing ≡ false) }
         ensures past { IsErrOf result LockFault.BadIndex ↔ ((is_in self.old.standing ≡ true) × (4 ≤ i)) }
-        ensures unasked { is_in self.old.standing ≡ false → (self.new ≡ self.old) × (P.asked plan.new ≡ P.asked plan.old) }
-        ensures untaken { 4 ≤ i → (self.new ≡ self.old) × (P.asked plan.new ≡ P.asked plan.old) }
+        ensures unasked { is_in self.old.standing ≡ false → (self.new ≡ self.old) × (P.askings plan.new ≡ P.askings plan.old) }
+        ensures untaken { 4 ≤ i → (self.new ≡ self.old) × (P.askings plan.new ≡ P.askings plan.old) }
         ensures asked { is_in self.old.standing ≡ true → i < 4
-            → AskedOnceMore self.old self.new (P.asked plan.old) (P.asked plan.new) }
+            → AskedOnceMore self.old self.new (P.askings plan.old) (P.askings plan.new) }
         ensures counted { is_in self.old.standing ≡ true → i < 4 → Counts self.old self.new }
-        ensures fallen { P.fallen plan.new ≡ falls_by result (P.fallen plan.old) }
+        ensures fallen { (P.askings plan.new).fallen ≡ falls_by result (P.askings plan.old).fallen }
         ensures goes { Goes self.old self.new }
         ensures stands { is_in self.old.standing ≡ true → i < 4 → self.new.standing ≡ stands_still self.old.standing result }
         ensures faults { is_in self.old.standing ≡ true → i < 4 → IfErr result (λ e. of_steps e ≡ true) }
@@ -264,12 +264,12 @@ impl<L: Ledger, S: Sizes> Member<L, S> {
     ) -> Result<(), LockFault>
         ensures refused { IsErrOf result LockFault.NotOwner ↔ (is_in self.old.standing ≡ false) }
         ensures past { IsErrOf result LockFault.BadIndex ↔ ((is_in self.old.standing ≡ true) × (4 ≤ i)) }
-        ensures unasked { is_in self.old.standing ≡ false → (self.new ≡ self.old) × (P.asked plan.new ≡ P.asked plan.old) }
-        ensures untaken { 4 ≤ i → (self.new ≡ self.old) × (P.asked plan.new ≡ P.asked plan.old) }
+        ensures unasked { is_in self.old.standing ≡ false → (self.new ≡ self.old) × (P.askings plan.new ≡ P.askings plan.old) }
+        ensures untaken { 4 ≤ i → (self.new ≡ self.old) × (P.askings plan.new ≡ P.askings plan.old) }
         ensures asked { is_in self.old.standing ≡ true → i < 4
-            → AskedOnceMore self.old self.new (P.asked plan.old) (P.asked plan.new) }
+            → AskedOnceMore self.old self.new (P.askings plan.old) (P.askings plan.new) }
         ensures counted { is_in self.old.standing ≡ true → i < 4 → Counts self.old self.new }
-        ensures fallen { P.fallen plan.new ≡ falls_by result (P.fallen plan.old) }
+        ensures fallen { (P.askings plan.new).fallen ≡ falls_by result (P.askings plan.old).fallen }
         ensures goes { Goes self.old self.new }
         ensures stands { is_in self.old.standing ≡ true → i < 4 → self.new.standing ≡ stands_still self.old.standing result }
         ensures faults { is_in self.old.standing ≡ true → i < 4 → IfErr result (λ e. of_steps e ≡ true) }

@@ -41,12 +41,13 @@ impl<L: Ledger, S: Sizes> Member<L, S> {
         ensures narrow { IsErrOf result LockFault.BadWidth ↔ (length value ≢ self.old.layout.width) }
         ensures refused { IsErrOf result LockFault.AlreadyIn
             ↔ ((length value ≡ self.old.layout.width) × (is_in self.old.standing ≡ true)) }
-        ensures unasked { is_in self.old.standing ≡ true → (self.new ≡ self.old) × (P.asked plan.new ≡ P.asked plan.old) }
-        ensures untaken { length value ≢ self.old.layout.width → (self.new ≡ self.old) × (P.asked plan.new ≡ P.asked plan.old) }
+        ensures unasked { is_in self.old.standing ≡ true → (self.new ≡ self.old) × (P.askings plan.new ≡ P.askings plan.old) }
+        ensures untaken { length value ≢ self.old.layout.width
+            → (self.new ≡ self.old) × (P.askings plan.new ≡ P.askings plan.old) }
         ensures asked { is_in self.old.standing ≡ false → length value ≡ self.old.layout.width
-            → AskedOnceMore self.old self.new (P.asked plan.old) (P.asked plan.new) }
+            → AskedOnceMore self.old self.new (P.askings plan.old) (P.askings plan.new) }
         ensures counted { is_in self.old.standing ≡ false → length value ≡ self.old.layout.width → Counts self.old self.new }
-        ensures fallen { P.fallen plan.new ≡ falls_by result (P.fallen plan.old) }
+        ensures fallen { (P.askings plan.new).fallen ≡ falls_by result (P.askings plan.old).fallen }
         ensures goes { Goes self.old self.new }
         ensures stands { is_in self.old.standing ≡ false
             → length value ≡ self.old.layout.width → self.new.standing ≡ stands_out result }
@@ -70,12 +71,13 @@ impl<L: Ledger, S: Sizes> Member<L, S> {
         ensures narrow { IsErrOf result LockFault.BadWidth ↔ (length value ≢ self.old.layout.width) }
         ensures refused { IsErrOf result LockFault.AlreadyIn
             ↔ ((length value ≡ self.old.layout.width) × (is_in self.old.standing ≡ true)) }
-        ensures unasked { is_in self.old.standing ≡ true → (self.new ≡ self.old) × (P.asked plan.new ≡ P.asked plan.old) }
-        ensures untaken { length value ≢ self.old.layout.width → (self.new ≡ self.old) × (P.asked plan.new ≡ P.asked plan.old) }
+        ensures unasked { is_in self.old.standing ≡ true → (self.new ≡ self.old) × (P.askings plan.new ≡ P.askings plan.old) }
+        ensures untaken { length value ≢ self.old.layout.width
+            → (self.new ≡ self.old) × (P.askings plan.new ≡ P.askings plan.old) }
         ensures asked { is_in self.old.standing ≡ false → length value ≡ self.old.layout.width
-            → AskedOnceMore self.old self.new (P.asked plan.old) (P.asked plan.new) }
+            → AskedOnceMore self.old self.new (P.askings plan.old) (P.askings plan.new) }
         ensures counted { is_in self.old.standing ≡ false → length value ≡ self.old.layout.width → Counts self.old self.new }
-        ensures fallen { P.fallen plan.new ≡ falls_by result (P.fallen plan.old) }
+        ensures fallen { (P.askings plan.new).fallen ≡ falls_by result (P.askings plan.old).fallen }
         ensures goes { Goes self.old self.new }
         ensures stands { is_in self.old.standing ≡ false
             → length value ≡ self.old.layout.width → self.new.standing ≡ stands_out result }
@@ -99,13 +101,14 @@ impl<L: Ledger, S: Sizes> Member<L, S> {
         ensures narrow { IsErrOf result LockFault.BadWidth ↔ (length value ≢ self.old.layout.width) }
         ensures refused { IsErrOf result LockFault.AlreadyIn
             ↔ ((length value ≡ self.old.layout.width) × (is_in self.old.standing ≡ true)) }
-        ensures unasked { is_in self.old.standing ≡ true → (self.new ≡ self.old) × (P.asked plan.new ≡ P.asked plan.old) }
-        ensures untaken { length value ≢ self.old.layout.width → (self.new ≡ self.old) × (P.asked plan.new ≡ P.asked plan.old) }
+        ensures unasked { is_in self.old.standing ≡ true → (self.new ≡ self.old) × (P.askings plan.new ≡ P.askings plan.old) }
+        ensures untaken { length value ≢ self.old.layout.width
+            → (self.new ≡ self.old) × (P.askings plan.new ≡ P.askings plan.old) }
         ensures patient { IsErrOf result LockFault.NotYet → IsSome turns }
         ensures asked { is_in self.old.standing ≡ false → length value ≡ self.old.layout.width
-            → AskedOnceMore self.old self.new (P.asked plan.old) (P.asked plan.new) }
+            → AskedOnceMore self.old self.new (P.askings plan.old) (P.askings plan.new) }
         ensures counted { is_in self.old.standing ≡ false → length value ≡ self.old.layout.width → Counts self.old self.new }
-        ensures fallen { P.fallen plan.new ≡ falls_by result (P.fallen plan.old) }
+        ensures fallen { (P.askings plan.new).fallen ≡ falls_by result (P.askings plan.old).fallen }
         ensures goes { Goes self.old self.new }
         ensures stands { is_in self.old.standing ≡ false
             → length value ≡ self.old.layout.width → self.new.standing ≡ stands_out result }
@@ -129,10 +132,10 @@ impl<L: Ledger, S: Sizes> Member<L, S> {
         turns: u64,
     ) -> Result<Reply, LockFault>
         ensures refused { IsErrOf result LockFault.AlreadyIn ↔ (is_in self.old.standing ≡ true) }
-        ensures unasked { is_in self.old.standing ≡ true → (self.new ≡ self.old) × (P.asked plan.new ≡ P.asked plan.old) }
-        ensures asked { is_in self.old.standing ≡ false → AskedOnceMore self.old self.new (P.asked plan.old) (P.asked plan.new) }
+        ensures unasked { is_in self.old.standing ≡ true → (self.new ≡ self.old) × (P.askings plan.new ≡ P.askings plan.old) }
+        ensures asked { is_in self.old.standing ≡ false → AskedOnceMore self.old self.new (P.askings plan.old) (P.askings plan.new) }
         ensures counted { is_in self.old.standing ≡ false → Counts self.old self.new }
-        ensures fallen { P.fallen plan.new ≡ falls_by result (P.fallen plan.old) }
+        ensures fallen { (P.askings plan.new).fallen ≡ falls_by result (P.askings plan.old).fallen }
         ensures goes { Goes self.old self.new }
         ensures stands { is_in self.old.standing ≡ false → self.new.standing ≡ stands_out result }
         ensures faults { is_in self.old.standing ≡ false → IfErr result (λ e. of_lock e ≡ true) }
@@ -146,10 +149,10 @@ impl<L: Ledger, S: Sizes> Member<L, S> {
     /// `NotYet`.
     pub fn close<R: Wait, P: CrashPlan>(&mut self, rt: &R, plan: &mut P) -> Result<Reply, LockFault>
         ensures refused { IsErrOf result LockFault.AlreadyIn ↔ (is_in self.old.standing ≡ true) }
-        ensures unasked { is_in self.old.standing ≡ true → (self.new ≡ self.old) × (P.asked plan.new ≡ P.asked plan.old) }
-        ensures asked { is_in self.old.standing ≡ false → AskedOnceMore self.old self.new (P.asked plan.old) (P.asked plan.new) }
+        ensures unasked { is_in self.old.standing ≡ true → (self.new ≡ self.old) × (P.askings plan.new ≡ P.askings plan.old) }
+        ensures asked { is_in self.old.standing ≡ false → AskedOnceMore self.old self.new (P.askings plan.old) (P.askings plan.new) }
         ensures counted { is_in self.old.standing ≡ false → Counts self.old self.new }
-        ensures fallen { P.fallen plan.new ≡ falls_by result (P.fallen plan.old) }
+        ensures fallen { (P.askings plan.new).fallen ≡ falls_by result (P.askings plan.old).fallen }
         ensures goes { Goes self.old self.new }
         ensures stands { is_in self.old.standing ≡ false → self.new.standing ≡ stands_out result }
         ensures faults { is_in self.old.standing ≡ false → IfErr result (λ e. of_wait e ≡ true) }
@@ -171,11 +174,11 @@ impl<L: Ledger, S: Sizes> Member<L, S> {
     ) -> Result<Reply, LockFault>
         requires { may_start MemberState.Mended call ≡ true }
         ensures refused { IsErrOf result LockFault.AlreadyIn ↔ (is_in self.old.standing ≡ true) }
-        ensures unasked { is_in self.old.standing ≡ true → (self.new ≡ self.old) × (P.asked plan.new ≡ P.asked plan.old) }
+        ensures unasked { is_in self.old.standing ≡ true → (self.new ≡ self.old) × (P.askings plan.new ≡ P.askings plan.old) }
         ensures patient { IsErrOf result LockFault.NotYet → IsSome turns }
-        ensures asked { is_in self.old.standing ≡ false → AskedOnceMore self.old self.new (P.asked plan.old) (P.asked plan.new) }
+        ensures asked { is_in self.old.standing ≡ false → AskedOnceMore self.old self.new (P.askings plan.old) (P.askings plan.new) }
         ensures counted { is_in self.old.standing ≡ false → Counts self.old self.new }
-        ensures fallen { P.fallen plan.new ≡ falls_by result (P.fallen plan.old) }
+        ensures fallen { (P.askings plan.new).fallen ≡ falls_by result (P.askings plan.old).fallen }
         ensures goes { Goes self.old self.new }
         ensures stands { is_in self.old.standing ≡ false → self.new.standing ≡ stands_out result }
         ensures faults { is_in self.old.standing ≡ false → IfErr result (λ e. of_lock e ≡ true) }
@@ -209,9 +212,9 @@ impl<L: Ledger, S: Sizes> Member<L, S> {
         requires task { may_start MemberState.Mended call ≡ true }
         ensures goes { Goes self.old self.new }
         ensures counted { CountsOn self.old self.new }
-        ensures asked { OnOk result (AskedEach self.old self.new (P.asked plan.old) (P.asked plan.new)) }
-        ensures ended { OnErr result (AskedOnceMore self.old self.new (P.asked plan.old) (P.asked plan.new)) }
-        ensures fallen { P.fallen plan.new ≡ falls_by result (P.fallen plan.old) }
+        ensures asked { OnOk result (AskedEach self.old self.new (P.askings plan.old) (P.askings plan.new)) }
+        ensures ended { OnErr result (AskedOnceMore self.old self.new (P.askings plan.old) (P.askings plan.new)) }
+        ensures fallen { (P.askings plan.new).fallen ≡ falls_by result (P.askings plan.old).fallen }
         ensures falls { IfOk result (λ reply. (f : ℕ) → falls_by reply f ≡ f) }
         ensures faults { IfOk result (λ reply. IfErr reply (λ e. e ≡ LockFault.NotRecoverable)) }
         ensures lost { OnErr result (self.new.standing ≡ MemberState.Lost) }
@@ -236,9 +239,9 @@ impl<L: Ledger, S: Sizes> Member<L, S> {
         requires { is_in self.old.standing ≡ true }
         ensures goes { Goes self.old self.new }
         ensures counted { CountsOn self.old self.new }
-        ensures asked { OnOk result (AskedEach self.old self.new (P.asked plan.old) (P.asked plan.new)) }
-        ensures ended { OnErr result (AskedOnceMore self.old self.new (P.asked plan.old) (P.asked plan.new)) }
-        ensures fallen { P.fallen plan.new ≡ falls_by result (P.fallen plan.old) }
+        ensures asked { OnOk result (AskedEach self.old self.new (P.askings plan.old) (P.askings plan.new)) }
+        ensures ended { OnErr result (AskedOnceMore self.old self.new (P.askings plan.old) (P.askings plan.new)) }
+        ensures fallen { (P.askings plan.new).fallen ≡ falls_by result (P.askings plan.old).fallen }
         ensures stands { IfOk result (λ mended. self.new.standing ≡ stands_mended mended) }
         ensures faults { IfOk result (λ mended. IfErr mended (λ e. e ≡ LockFault.NotRecoverable)) }
         ensures lost { OnErr result (self.new.standing ≡ MemberState.Lost) }

@@ -113,8 +113,8 @@ impl<L: Ledger, S: Sizes> Member<L, S> {
 
     /// Asks the plan. If it falls, the process has lost its private memory.
     fn ask<P: CrashPlan>(&mut self, plan: &mut P) -> Result<(), LockFault>
-        ensures asked { P.asked plan.new ≡ one_more (P.asked plan.old) }
-        ensures fallen { P.fallen plan.new ≡ falls_by result (P.fallen plan.old) }
+        ensures asked { (P.askings plan.new).asked ≡ one_more (P.askings plan.old).asked }
+        ensures fallen { (P.askings plan.new).fallen ≡ falls_by result (P.askings plan.old).fallen }
         ensures ok { OnOk result (self.new ≡ self.old) }
         ensures err { OnErr result (self.new ≡ record self.old { standing = MemberState.Lost }) }
         ensures only { IfErr result (λ e. e ≡ LockFault.Crashed) }
@@ -134,8 +134,8 @@ impl<L: Ledger, S: Sizes> Member<L, S> {
         plan: &mut P,
         opening: Opening,
     ) -> Result<Turn, LockFault>
-        ensures asked { P.asked plan.new ≡ one_more (P.asked plan.old) }
-        ensures fallen { P.fallen plan.new ≡ falls_by result (P.fallen plan.old) }
+        ensures asked { (P.askings plan.new).asked ≡ one_more (P.askings plan.old).asked }
+        ensures fallen { (P.askings plan.new).fallen ≡ falls_by result (P.askings plan.old).fallen }
         ensures ok { OnOk result (self.new ≡ record self.old { steps = self.old.steps + 1; counted = one_more self.old.counted }) }
         ensures err { OnErr result (self.new ≡ record self.old { standing = MemberState.Lost }) }
         ensures only { IfErr result (λ e. (e ≡ LockFault.Crashed) ⊎ (e ≡ LockFault.OutOfMemory)) }
@@ -169,9 +169,9 @@ impl<L: Ledger, S: Sizes> Member<L, S> {
         requires { may_start self.old.standing call ≡ true }
         ensures goes { Goes self.old self.new }
         ensures counted { Counts self.old self.new }
-        ensures asked { OnOk result (AskedEach self.old self.new (P.asked plan.old) (P.asked plan.new)) }
-        ensures ended { OnErr result (AskedOnceMore self.old self.new (P.asked plan.old) (P.asked plan.new)) }
-        ensures fallen { P.fallen plan.new ≡ falls_by result (P.fallen plan.old) }
+        ensures asked { OnOk result (AskedEach self.old self.new (P.askings plan.old) (P.askings plan.new)) }
+        ensures ended { OnErr result (AskedOnceMore self.old self.new (P.askings plan.old) (P.askings plan.new)) }
+        ensures fallen { (P.askings plan.new).fallen ≡ falls_by result (P.askings plan.old).fallen }
         ensures kept { OnOk result (self.new.standing ≡ self.old.standing) }
         ensures lost { OnErr result (self.new.standing ≡ MemberState.Lost) }
         ensures only { IfErr result (λ e. (e ≡ LockFault.Crashed) ⊎ (e ≡ LockFault.OutOfMemory)) }
@@ -198,9 +198,9 @@ impl<L: Ledger, S: Sizes> Member<L, S> {
         requires { may_start self.old.standing call ≡ true }
         ensures goes { Goes self.old self.new }
         ensures counted { CountsOn self.old self.new }
-        ensures asked { OnOk result (AskedEach self.old self.new (P.asked plan.old) (P.asked plan.new)) }
-        ensures ended { OnErr result (AskedOnceMore self.old self.new (P.asked plan.old) (P.asked plan.new)) }
-        ensures fallen { P.fallen plan.new ≡ falls_by result (P.fallen plan.old) }
+        ensures asked { OnOk result (AskedEach self.old self.new (P.askings plan.old) (P.askings plan.new)) }
+        ensures ended { OnErr result (AskedOnceMore self.old self.new (P.askings plan.old) (P.askings plan.new)) }
+        ensures fallen { (P.askings plan.new).fallen ≡ falls_by result (P.askings plan.old).fallen }
         ensures kept { OnOk result (self.new.standing ≡ self.old.standing) }
         ensures lost { OnErr result (self.new.standing ≡ MemberState.Lost) }
         ensures only { IfErr result (λ e. (e ≡ LockFault.Crashed) ⊎ (e ≡ LockFault.OutOfMemory)) }
@@ -242,8 +242,8 @@ impl<L: Ledger, S: Sizes> Member<L, S> {
         standing: MemberState,
     ) -> Result<T, LockFault>
         requires { (f : ℕ) → falls_by answer f ≡ f }
-        ensures asked { P.asked plan.new ≡ one_more (P.asked plan.old) }
-        ensures fallen { P.fallen plan.new ≡ falls_by result (P.fallen plan.old) }
+        ensures asked { (P.askings plan.new).asked ≡ one_more (P.askings plan.old).asked }
+        ensures fallen { (P.askings plan.new).fallen ≡ falls_by result (P.askings plan.old).fallen }
         ensures answer { ((result ≡ answer) × (self.new ≡ record self.old { standing = standing }))
             ⊎ ((result ≡ Err LockFault.Crashed) × (self.new ≡ record self.old { standing = MemberState.Lost })) }
     {

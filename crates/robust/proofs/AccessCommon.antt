@@ -14,6 +14,7 @@ pub use Rattle.redomail.specs.Script.{Script, puts}
 pub use Rattle.redomail.specs.Tasks.{script, decided, store_steps, record_of}
 pub use Rattle.redomail.proofs.Scripts.{held-small, length-store_steps, step-record, step-entry, step-disarm, step-commit, step-last, step-count}
 pub use Rattle.redomail.proofs.Words.{place_low, place_up, place_small}
+pub use Rattle.crash_plans.specs.Plans.{many_more}
 pub use Rattle.rmeworld.specs.declared.answer.Answer.TheVariants.{Mail, Unlocked, Clean}
 pub use Rattle.rmeworld.specs.declared.purpose.Purpose.TheVariants.{Checking, Working}
 pub use Rattle.rmeworld.specs.Answered.{answer_at, by_lock, by_script, blocked_by}
@@ -23,7 +24,7 @@ pub use Rattle.rmeworld.specs.MachineState.{MachineState, access_by, stepped, st
 pub use Rattle.execution.specs.declared.entry.TakenStep.{TakenStep}
 pub use Rattle.execution.specs.declared.setup.Setup.{Setup}
 pub use Rattle.execution.specs.SeatView.{IsSeatView, process_state_now, SeatView, moved_process_state, next_entry, Adds, Advances, glanced}
-pub use Rattle.execution.specs.Running.{Seated, IsRunBy, TakesStep, next_of, outcome_of, many_more}
+pub use Rattle.execution.specs.Running.{Seated, IsRunBy, TakesStep, next_of, outcome_of}
 pub use Rattle.execution.specs.Runs.{taken, spelled, IsRun, gone, process_state_of, InTable}
 pub use Rattle.execution.specs.Under.{Begun, under_place}
 pub use Rattle.execution.proofs.Leads.{process_state_moves, load_as, looks_of, stays_seat_view, alone_after, seat_view_as}

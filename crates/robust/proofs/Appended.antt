@@ -4,7 +4,7 @@ use Rattle.std.proofs.Common.{◌≡◌, ℕ, ◌==◌, Bool, true, false, if◌
 use Rattle.robust.proofs.Common.{All-nil, All-cons, All-head, All-tail, Place, Message, Reply, Stored, Already, Mended, Task, IsLayout, IsAmong, message, Answer, Mail, Unlocked, Call, Append, Lock}
 use Rattle.robust.proofs.Common.{Unlock, Consistent, answer_at, is_idle_by, mail_after, ReplyTells, RepliesTell, WorldEvent, ScriptState, Free, Doing, ProcessState, Moves, at_rest, GlobalState, at_first, last_global_state}
 use Rattle.robust.proofs.Common.{Execution, TakenStep, Entry as Entering, LockFault, Setup, process_state_before, AreMoves, ServedAll, refusal_now, ready, answer_of, shown_by, judged_by, process_state_at, EndsAppend}
-use Rattle.robust.proofs.Common.{EveryRunIsSound, IsSeatView, process_state_now, Seated, began, before, spelled, own, IsRun, gone, process_state_of, ToldIn, Appends, WholeEnds, calls_inside, answers_inside, gone-append}
+use Rattle.robust.proofs.Common.{EveryRunIsSound, IsSeatView, process_state_now, Seated, began, before, spelled, own, IsRun, gone, process_state_of, ToldIn, Appends, Askings, WholeEnds, calls_inside, answers_inside, gone-append}
 use Rattle.robust.proofs.Common.{own-append, spelled-append, global_state-append, shown_on, OfStart}
 use Rattle.execution.proofs.Headline.{global_state_at, process_state_is, spelled_to}
 use Rattle.execution.proofs.Running.{process_state_begun, taken_moves}
@@ -170,7 +170,7 @@ brings_all entering.OwnerDied seq value =
     let P = Brings (task.Append seq value) in
     All-cons P Lock (Consistent ∷ Append seq value ∷ Unlock ∷ []) tt (All-cons P Consistent (Append seq value ∷ Unlock ∷ []) tt (All-cons P (Append seq value) (Unlock ∷ []) refl (All-cons P Unlock [] tt (All-nil P))))
 
-module _ (x y : Seated) (turns seq : ℕ) (value : List ℕ) (r : Reply) (a b c d : ℕ) (none : x.seat_view.start ≡ None) (may : refusal_now (ready x) Lock ≡ None) (its : IsTasks r) where
+module _ (x y : Seated) (turns seq : ℕ) (value : List ℕ) (r : Reply) (a b : Askings) (none : x.seat_view.start ≡ None) (may : refusal_now (ready x) Lock ≡ None) (its : IsTasks r) where
   abbrev z : Seated
   z = began (ready x) Lock
 
@@ -185,7 +185,7 @@ module _ (x y : Seated) (turns seq : ℕ) (value : List ℕ) (r : Reply) (a b c 
       append_ended z y Lock Consistent (Append seq value ∷ Unlock ∷ []) answers (answer_of entering.OwnerDied ∷ Mail (Mended mended) ∷ []) (Unlocked ∷ []) blocked seq value r mine (subst (λ (l : List Call). ServedAll z l answers blocked y mine) is h) refl outset
       (brings_all entering.OwnerDied seq value) told its
 
-  pub ended_append : WholeEnds z turns (Append seq value) (Ok r) y a b c d → Ended z y seq r
+  pub ended_append : WholeEnds z turns (Append seq value) (Ok r) y a b → Ended z y seq r
   ended_append h = inside_ended h.3.1 h.3.2 h.0 h.1 h.2 h.4.0 h.3.3 h.3.4 h.4.1
 
 begun_layout : (x : Seated) → IsSeatView x.seat_view → IsLayout (began (ready x) Lock).seat_view.setup.layout
@@ -200,13 +200,13 @@ appends_its seq (Mended repaired) h = h
 appends_its seq _ h = tt
 
 -- an append, however often it was blocked
-pub append_shown : (x y : Seated) (seq : ℕ) (value : List ℕ) (result : Result Reply LockFault) (a b c d : ℕ) → x.seat_view.start ≡ None → IsSeatView x.seat_view → EveryRunIsSound → OnOk result (refusal_now (ready x) Lock ≡ None)
-    → IfOk result (λ (r : Reply). (turns : ℕ) × WholeEnds (began (ready x) Lock) turns (Append seq value) (Ok r) y a b c d) → IfOk result (λ (r : Reply). (r ≡ Stored) ⊎ (r ≡ Already) → IsAmong x.seat_view.by seq (shown_by y.seat_view.setup y.seat_view.seen))
-append_shown x y seq value (Ok r) a b c d none seat_view every may h = λ stored.
-    let ended = ended_append x y h.0 seq value r a b c d none may (stored_its r stored) h.1 in
+pub append_shown : (x y : Seated) (seq : ℕ) (value : List ℕ) (result : Result Reply LockFault) (a b : Askings) → x.seat_view.start ≡ None → IsSeatView x.seat_view → EveryRunIsSound → OnOk result (refusal_now (ready x) Lock ≡ None)
+    → IfOk result (λ (r : Reply). (turns : ℕ) × WholeEnds (began (ready x) Lock) turns (Append seq value) (Ok r) y a b) → IfOk result (λ (r : Reply). (r ≡ Stored) ⊎ (r ≡ Already) → IsAmong x.seat_view.by seq (shown_by y.seat_view.setup y.seat_view.seen))
+append_shown x y seq value (Ok r) a b none seat_view every may h = λ stored.
+    let ended = ended_append x y h.0 seq value r a b none may (stored_its r stored) h.1 in
     let among = stored_shown (began (ready x) Lock) y seq r ended (begun_layout x seat_view) every stored in
     subst (λ (p : ℕ). IsAmong p seq (shown_by y.seat_view.setup y.seat_view.seen)) (kept_ready (λ (u : Seated). u.seat_view.by) x refl) among
-append_shown x y seq value (Err e) a b c d none seat_view every may h = tt
+append_shown x y seq value (Err e) a b none seat_view every may h = tt
 
 told_began : (x y : Seated) (seq : ℕ) (r : Reply) → ToldIn (began (ready x) Lock) seq r y → ToldIn x seq r y
 told_began x y seq r h =
@@ -220,8 +220,8 @@ told_began x y seq r h =
       tells = subst (λ (u : Setup × ℕ × List TakenStep). ReplyTells u.0.layout u.1 seq r (judged_by u.0 (u.2 ++ h.since)).mail) (λ i. (setup i, by i, seen i)) h.tells;
     }
 
-pub append_tells : (x y : Seated) (seq : ℕ) (value : List ℕ) (result : Result Reply LockFault) (a b c d : ℕ) → x.seat_view.start ≡ None → IsSeatView x.seat_view → RepliesTell → OnOk result (refusal_now (ready x) Lock ≡ None) → IfOk result (Appends seq)
-    → IfOk result (λ (r : Reply). (turns : ℕ) × WholeEnds (began (ready x) Lock) turns (Append seq value) (Ok r) y a b c d) → IfOk result (λ (r : Reply). ToldIn x seq r y)
-append_tells x y seq value (Ok r) a b c d none seat_view tell may its h =
-    told_began x y seq r (ended_told (began (ready x) Lock) y seq r (ended_append x y h.0 seq value r a b c d none may (appends_its seq r its) h.1) (begun_layout x seat_view) tell)
-append_tells x y seq value (Err e) a b c d none seat_view tell may its h = tt
+pub append_tells : (x y : Seated) (seq : ℕ) (value : List ℕ) (result : Result Reply LockFault) (a b : Askings) → x.seat_view.start ≡ None → IsSeatView x.seat_view → RepliesTell → OnOk result (refusal_now (ready x) Lock ≡ None) → IfOk result (Appends seq)
+    → IfOk result (λ (r : Reply). (turns : ℕ) × WholeEnds (began (ready x) Lock) turns (Append seq value) (Ok r) y a b) → IfOk result (λ (r : Reply). ToldIn x seq r y)
+append_tells x y seq value (Ok r) a b none seat_view tell may its h =
+    told_began x y seq r (ended_told (began (ready x) Lock) y seq r (ended_append x y h.0 seq value r a b none may (appends_its seq r its) h.1) (begun_layout x seat_view) tell)
+append_tells x y seq value (Err e) a b none seat_view tell may its h = tt

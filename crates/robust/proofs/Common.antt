@@ -8,6 +8,7 @@ pub use Rattle.rmecore.specs.declared.kind.Kind.{Kind}
 pub use Rattle.rmecore.specs.declared.word.Word.{Word}
 pub use Rattle.rmecore.specs.declared.word.Word.TheVariants.{Data, Choosing}
 pub use Rattle.rmecore.specs.Place.{Place, Dead, Inside, next, started}
+pub use Rattle.crash_plans.specs.Plans.{Askings}
 pub use Rattle.redomail.specs.declared.layout.Layout.{Layout}
 pub use Rattle.redomail.specs.declared.message.Message.{Message}
 pub use Rattle.redomail.specs.declared.reply.Reply.{Reply}

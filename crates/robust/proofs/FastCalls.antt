@@ -1,7 +1,7 @@
 -- The fast path, for a member and its plan.
-use Rattle.std.proofs.Common.{◌≡◌, ℕ, zero, suc, ◌+◌, ◌-◌, ◌^◌, ◌≤◌, ◌==◌, min, Bool, true, false, List, [], ◌∷◌, length, None, Some, IsSome, if◌then◌else◌, unwrap_or, refl, sym, ap, ◌∙◌, subst, arith, eq-eqb}
-use Rattle.robust.proofs.CallCommon.{Place, Inside, Wait, Leaving, Rest, one_more, Layout, Answer, Unlocked, Call, Append, Unlock, Begins, Free, ProcessState, next_process_state, MachineState, stepped, TakenStep, Setup}
-use Rattle.robust.proofs.CallCommon.{Going, Ran, NeverCrashes, AnsweredIn, IsSeatView, process_state_now, SeatView, Seated, began, IsRunBy, many_more, served_of, append_begun, free_process_state, IsSame, Unanswered, EndsIn}
+use Rattle.std.proofs.Common.{◌≡◌, ℕ, ◌+◌, ◌-◌, ◌^◌, ◌≤◌, ◌==◌, min, Bool, true, false, List, [], ◌∷◌, length, None, Some, IsSome, if◌then◌else◌, unwrap_or, refl, sym, ap, ◌∙◌, subst, arith, eq-eqb}
+use Rattle.robust.proofs.CallCommon.{Place, Inside, Wait, Leaving, Rest, Layout, Answer, Unlocked, Call, Append, Unlock, Begins, Free, ProcessState, next_process_state, MachineState, stepped, TakenStep, Setup}
+use Rattle.robust.proofs.CallCommon.{Going, Ran, Askings, NeverCrashes, AnsweredIn, IsSeatView, process_state_now, SeatView, Seated, began, IsRunBy, many_more, served_of, append_begun, free_process_state, IsSame, Unanswered, EndsIn}
 use Rattle.rmecore.specs.declared.stage.Stage.{Stage}
 use Rattle.rmecore.specs.Machine.{place_of}
 use Rattle.redomail.specs.declared.task.Task.TheVariants.{Check}
@@ -12,34 +12,26 @@ use Rattle.execution.proofs.Running.{process_state_begun}
 use Rattle.std.proofs.lemmas.Bool.{eqb-true}
 use Rattle.rmecore.specs.declared.refusal.Refusal.TheVariants.{BadWidth}
 use Rattle.rmeworld.specs.Refused.{start_refusal}
-use Rattle.crash_plans.specs.Plans.{so_many_more}
+use Rattle.crash_plans.proofs.Counted.{many_is}
 use Rattle.rmeworld.specs.declared.script_state.ScriptState.{ScriptState as Chore}
 use Rattle.rmeworld.specs.declared.script_state.ScriptState.TheVariants.{Free as IsFree, Doing as Does}
 use Rattle.rmeworld.specs.MachineState.{process_state_of as standing_at}
 use Rattle.robust.proofs.FreeSteps.{seat}
 
-many_is : (k c : ℕ) → c ≤ 2 ^ 64 - 1 → many_more k c ≡ min (c + k) (2 ^ 64 - 1)
-many_is zero c h = omega arith
-many_is (suc k) c h = ap one_more (many_is k c h) ∙ (let e : one_more (min (c + k) (2 ^ 64 - 1)) ≡ min (c + suc k) (2 ^ 64 - 1) = omega arith in e)
-
-so_same : (k c : ℕ) → so_many_more k c ≡ many_more k c
-so_same zero c = refl
-so_same (suc k) c = ap one_more (so_same k c)
-
-module _ (x z : SeatView) (k s0 s1 a0 a1 f0 f1 : ℕ) (small : s0 ≤ 2 ^ 64 - 1) (steps : s1 ≡ min (s0 + k) (2 ^ 64 - 1)) (asked : a1 ≡ so_many_more k a0) (fallen : f1 ≡ f0) where
+module _ (x z : SeatView) (k s0 s1 : ℕ) (a0 a1 : Askings) (small : s0 ≤ 2 ^ 64 - 1) (steps : s1 ≡ min (s0 + k) (2 ^ 64 - 1)) (asked : NeverCrashes k a0 a1) where
   counted : (mine : List TakenStep) → length mine ≡ k → s1 ≡ many_more (length mine) s0
   counted mine long = steps ∙ sym (many_is k s0 small) ∙ ap (λ (n : ℕ). many_more n s0) (sym long)
 
-  never_crashes : (mine : List TakenStep) → length mine ≡ k → NeverCrashes (length mine) a0 a1 f0 f1
-  never_crashes mine long = (asked ∙ so_same k a0 ∙ ap (λ (n : ℕ). many_more n a0) (sym long), fallen)
+  never_crashes : (mine : List TakenStep) → length mine ≡ k → NeverCrashes (length mine) a0 a1
+  never_crashes mine long = subst (λ (n : ℕ). NeverCrashes n a0 a1) (sym long) asked
 
-  pub fast_going : Unanswered x k 0 z → (mine : List TakenStep) × Going (seat x s0) mine (seat z s1) × NeverCrashes (length mine) a0 a1 f0 f1
+  pub fast_going : Unanswered x k 0 z → (mine : List TakenStep) × Going (seat x s0) mine (seat z s1) × NeverCrashes (length mine) a0 a1
   fast_going p = (p.mine, record { takes = p.takes; answers = p.answers; blocked = p.blocked; steps = counted p.mine p.long }, never_crashes p.mine p.long)
 
-  pub fast_blocked : Unanswered x k 1 z → (mine : List TakenStep) × Ran (seat x s0) None (seat z s1) mine × NeverCrashes (length mine) a0 a1 f0 f1
+  pub fast_blocked : Unanswered x k 1 z → (mine : List TakenStep) × Ran (seat x s0) None (seat z s1) mine × NeverCrashes (length mine) a0 a1
   fast_blocked p = (p.mine, record { takes = p.takes; answers = p.answers; blocked = p.blocked; steps = counted p.mine p.long }, never_crashes p.mine p.long)
 
-  pub fast_answered : (a : Answer) → EndsIn x k a z → (mine : List TakenStep) × Ran (seat x s0) (Some a) (seat z s1) mine × NeverCrashes (length mine) a0 a1 f0 f1
+  pub fast_answered : (a : Answer) → EndsIn x k a z → (mine : List TakenStep) × Ran (seat x s0) (Some a) (seat z s1) mine × NeverCrashes (length mine) a0 a1
   fast_answered a p = (p.mine, record { takes = p.takes; answers = p.answers; blocked = p.blocked; steps = counted p.mine p.long }, never_crashes p.mine p.long)
 
 -- the machine whose state is set to what the fast path has reached
@@ -97,14 +89,14 @@ module _ (x : SeatView) (at : process_state_now x ≡ free_process_state Inside 
         process_state = ap standing_at is ∙ (λ i. record { lock = Rest; mended = (was i).mended; barred = (was i).barred; script_state = (was i).script_state }) ∙ sym there;
       }
 
-pub unlock_served : (x : Seated) (z : SeatView) (a0 a1 f0 f1 : ℕ) → IsSeatView (began x Unlock).seat_view → EndsIn (began x Unlock).seat_view 2 Unlocked z → a1 ≡ so_many_more 3 a0 → f1 ≡ f0
-    → AnsweredIn (began x Unlock) Unlock (Unlocked ∷ []) 0 (record { seat_view = z; steps = 2 }) a0 a1 f0 f1
-unlock_served x z a0 a1 f0 f1 seat_view p asked fallen =
+pub unlock_served : (x : Seated) (z : SeatView) (a0 a1 : Askings) → IsSeatView (began x Unlock).seat_view → EndsIn (began x Unlock).seat_view 2 Unlocked z → NeverCrashes 3 a0 a1
+    → AnsweredIn (began x Unlock) Unlock (Unlocked ∷ []) 0 (record { seat_view = z; steps = 2 }) a0 a1
+unlock_served x z a0 a1 seat_view p asked =
     let two : many_more 2 0 ≡ 2 = omega arith in
     let three : length p.mine + 1 ≡ 3 = (let k = p.long in omega arith) in (
       p.mine,
       served_of (began x Unlock) (record { seat_view = z; steps = 2 }) Unlock (Unlocked ∷ []) 0 p.mine seat_view refl p.takes p.answers p.blocked (sym (ap (λ (n : ℕ). many_more n 0) p.long ∙ two)) (λ none. let l : length p.mine ≡ 0 = ap length none in let k = p.long in omega arith),
-      (asked ∙ so_same 3 a0 ∙ ap (λ (n : ℕ). many_more n a0) (sym three), fallen),
+      subst (λ (n : ℕ). NeverCrashes n a0 a1) (sym three) asked,
     )
 
 -- the start of an append by a holder with nothing to mend

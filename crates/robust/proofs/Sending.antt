@@ -1,7 +1,7 @@
 -- A worker's appends start only the calls that send its messages.
 use Rattle.std.proofs.Common.{◌≡◌, ◌⊎◌, ℕ, List, [], ◌∷◌, ◌++◌, Result, Ok, Err, IfOk, IfErr, All, refl, sym, ap, ◌∙◌, subst, inl, inr}
 use Rattle.robust.proofs.Common.{All-nil, All-cons, All-append, Reply, Answer, Call, Append, Lock, Unlock, Consistent, TakenStep, Entry as Entering, LockFault, starts, ready, CutBy, Calls, own_of}
-use Rattle.robust.proofs.Common.{Seated, began, own, WholeEnds, calls_inside, AppendFails, Comes, IsFront, IsWithin, all_left, own-append, OfStart, IsSending, AreSending, SendsOnly}
+use Rattle.robust.proofs.Common.{Seated, began, own, Askings, WholeEnds, calls_inside, AppendFails, Comes, IsFront, IsWithin, all_left, own-append, OfStart, IsSending, AreSending, SendsOnly}
 use Rattle.execution.specs.declared.entry_kind.Entry.TheVariants as entering
 use Rattle.robust.proofs.ScriptStates.{each_start}
 use Rattle.robust.proofs.Working.{kept_ready}
@@ -47,7 +47,7 @@ module _ (width k : ℕ) where
       ap (λ (p : ℕ). own p y.seat_view.seen) c.by ∙ ap (own x.seat_view.by) c.seen ∙ own-append x.seat_view.by x.seat_view.seen c.since ∙ ap (λ (l : List TakenStep). own_of x.seat_view ++ l) c.mine_are in
       subst (λ (u : ℕ × List TakenStep). AreSending width k u.0 u.1) (λ i. (sym c.by i, sym own_are i)) (All-append (λ (e : TakenStep). OfStart (IsSending width k x.seat_view.by) e.step.start) (own_of x.seat_view) mine old new)
 
-  module _ (x y : Seated) (seq : ℕ) (value : List ℕ) (a b c d : ℕ) (fits : IsSending width k x.seat_view.by (Append seq value)) (old : SendsOnly width k x) where
+  module _ (x y : Seated) (seq : ℕ) (value : List ℕ) (a b : Askings) (fits : IsSending width k x.seat_view.by (Append seq value)) (old : SendsOnly width k x) where
     abbrev z : Seated
     z = began (ready x) Lock
 
@@ -63,24 +63,24 @@ module _ (width k : ℕ) where
     abbrev P : Call → Type 0
     P = IsSending width k z.seat_view.by
 
-    sends_whole : (turns : ℕ) (r : Result Reply LockFault) → WholeEnds z turns (Append seq value) r y a b c d → SendsOnly width k y
+    sends_whole : (turns : ℕ) (r : Result Reply LockFault) → WholeEnds z turns (Append seq value) r y a b → SendsOnly width k y
     sends_whole turns r h =
         let all = all_come P (Append seq value) tt tt tt sends turns r h.0 h.1 h.2 h.3 in
         sends_calls z y h.4.0 h.4.1.calls (each_start P h.4.0 (subst (All P) (sym h.4.1.started) all)) outset
 
-    sends_cut : CutBy z (IsWithin (Append seq value)) y a b c d → SendsOnly width k y
+    sends_cut : CutBy z (IsWithin (Append seq value)) y a b → SendsOnly width k y
     sends_cut h = sends_calls z y h.0 h.1.calls (each_start P h.0 (all_cut P (Append seq value) tt tt tt sends h.0 h.1.started)) outset
 
     still : y ≡ x → SendsOnly width k y
     still e = subst (SendsOnly width k) (sym e) old
 
-    sends_fails : (turns : ℕ) (e : LockFault) → AppendFails x turns seq value y a b c d e → SendsOnly width k y
+    sends_fails : (turns : ℕ) (e : LockFault) → AppendFails x turns seq value y a b e → SendsOnly width k y
     sends_fails turns e (inl h) = still h.2
     sends_fails turns e (inr (wide, inl h)) = still h.2
     sends_fails turns e (inr (wide, inr (may, inl h))) = sends_cut h.1
     sends_fails turns e (inr (wide, inr (may, inr h))) = sends_whole turns (Err e) h
 
     -- an append, however it ends
-    pub sends_append : (r : Result Reply LockFault) → IfOk r (λ reply. (turns : ℕ) × WholeEnds z turns (Append seq value) (Ok reply) y a b c d) → IfErr r (λ e. (turns : ℕ) × AppendFails x turns seq value y a b c d e) → SendsOnly width k y
+    pub sends_append : (r : Result Reply LockFault) → IfOk r (λ reply. (turns : ℕ) × WholeEnds z turns (Append seq value) (Ok reply) y a b) → IfErr r (λ e. (turns : ℕ) × AppendFails x turns seq value y a b e) → SendsOnly width k y
     sends_append (Ok reply) h g = sends_whole h.0 (Ok reply) h.1
     sends_append (Err e) h g = sends_fails g.0 e g.1

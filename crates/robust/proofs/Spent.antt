@@ -1,7 +1,7 @@
 -- A worker that ends with NumbersSpent had that answer at one of its own steps.
 use Rattle.std.proofs.Common.{◌≡◌, ◌⊎◌, ℕ, List, [], ◌∷◌, ◌++◌, Result, Ok, Err, IfErr, refl, sym, ap, ◌∙◌, subst, inl, inr}
 use Rattle.robust.proofs.Common.{Reply, Answer, NumbersSpent as SpentAnswer, Call, Append, Lock, at_rest, TakenStep, LockFault, NotYet, Setup, ServedAll, answers_from, ready, own_of, HasReadRuin}
-use Rattle.robust.proofs.Common.{Seated, began, spelled, gone, WholeEnds, AppendFails, Comes, WasSpent}
+use Rattle.robust.proofs.Common.{Seated, began, spelled, gone, Askings, WholeEnds, AppendFails, Comes, WasSpent}
 use Rattle.execution.proofs.Ordered.{own_now}
 use Rattle.robust.proofs.Working.{kept_ready}
 use Rattle.execution.proofs.Turned.{answers-append}
@@ -23,8 +23,8 @@ served_spent x y order answers blocked mine served is = subst (WasSpent s) (sym 
     here : answers_from y.seat_view.setup (gone y.seat_view.setup at_rest (spelled (own_of x.seat_view))) mine ≡ SpentAnswer ∷ []
     here = subst (λ (t : Setup × List TakenStep). answers_from t.0 (gone t.0 at_rest (spelled t.1)) mine ≡ SpentAnswer ∷ []) (λ i. (sym served.calls.setup i, was i)) (served.answered ∙ is)
 
-module _ (x y : Seated) (seq : ℕ) (value : List ℕ) (a b c d : ℕ) where
-  whole_spent : (turns : ℕ) (e : LockFault) → e ≡ NumbersSpent → WholeEnds (began (ready x) Lock) turns (Append seq value) (Err e) y a b c d → WasSpent y.seat_view.setup (own_of y.seat_view)
+module _ (x y : Seated) (seq : ℕ) (value : List ℕ) (a b : Askings) where
+  whole_spent : (turns : ℕ) (e : LockFault) → e ≡ NumbersSpent → WholeEnds (began (ready x) Lock) turns (Append seq value) (Err e) y a b → WasSpent y.seat_view.setup (own_of y.seat_view)
   whole_spent turns e is h = by h.3
     where
       by : Comes turns (Append seq value) (Err e) h.0 h.1 h.2 → WasSpent y.seat_view.setup (own_of y.seat_view)
@@ -33,13 +33,13 @@ module _ (x y : Seated) (seq : ℕ) (value : List ℕ) (a b c d : ℕ) where
       by (inr (few, inr (inl k))) = absurd (let ruined : NotRecoverable ≡ NumbersSpent = sym k.0 ∙ is in cc)
       by (inr (few, inr (inr k))) = absurd (let ruined : NotRecoverable ≡ NumbersSpent = sym k.0 ∙ is in cc)
 
-  fails_spent : (turns : ℕ) (e : LockFault) → e ≡ NumbersSpent → AppendFails x turns seq value y a b c d e → WasSpent y.seat_view.setup (own_of y.seat_view)
+  fails_spent : (turns : ℕ) (e : LockFault) → e ≡ NumbersSpent → AppendFails x turns seq value y a b e → WasSpent y.seat_view.setup (own_of y.seat_view)
   fails_spent turns e is (inl h) = absurd (let k = h.0 in cc)
   fails_spent turns e is (inr (wide, inl h)) = absurd (let k = h.0 in cc)
   fails_spent turns e is (inr (wide, inr (may, inl h))) = absurd (let k = h.0 in cc)
   fails_spent turns e is (inr (wide, inr (may, inr h))) = whole_spent turns e is h
 
-  pub append_spent : (r : Result Reply LockFault) (e : LockFault) → r ≡ Err e → e ≡ NumbersSpent → IfErr r (λ e. (turns : ℕ) × AppendFails x turns seq value y a b c d e) → WasSpent y.seat_view.setup (own_of y.seat_view)
+  pub append_spent : (r : Result Reply LockFault) (e : LockFault) → r ≡ Err e → e ≡ NumbersSpent → IfErr r (λ e. (turns : ℕ) × AppendFails x turns seq value y a b e) → WasSpent y.seat_view.setup (own_of y.seat_view)
   append_spent (Ok reply) e is spent h = absurd (cc)
   append_spent (Err f) e is spent h = fails_spent h.0 f (let same : f ≡ e = cc in same ∙ spent) h.1
 

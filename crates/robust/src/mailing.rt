@@ -41,10 +41,9 @@ impl Member {
     ) -> Result<Reply, LockFault>
         ensures wide { OnOk result (length value ≡ self.old.seat_view.setup.layout.width) }
         ensures accepted { OnOk result (refusal_now (ready self.old) Call.Lock ≡ None) }
-        ensures replied { IfOk result (λ reply. WholeEnds (began (ready self.old) Call.Lock) turns (Call.Append seq value)
-            (Ok reply) self.new (C.asked plan.old) (C.asked plan.new) (C.fallen plan.old) (C.fallen plan.new)) }
-        ensures fails { IfErr result (AppendFails self.old turns seq value self.new (C.asked plan.old) (C.asked plan.new)
-            (C.fallen plan.old) (C.fallen plan.new)) }
+        ensures replied { IfOk result (λ reply. WholeEnds (began (ready self.old) Call.Lock) turns (Call.Append seq value) (Ok reply)
+            self.new (C.askings plan.old) (C.askings plan.new)) }
+        ensures fails { IfErr result (AppendFails self.old turns seq value self.new (C.askings plan.old) (C.askings plan.new)) }
         ensures few { OnOk result (self.new.steps ≤ most_whole self.old.seat_view.setup.layout (Call.Append seq value) + turns) }
         ensures few_out { IfErr result (λ e. e ≢ LockFault.AlreadyIn → e ≢ LockFault.BadWidth
             → self.new.steps ≤ most_whole self.old.seat_view.setup.layout (Call.Append seq value) + turns) }
@@ -81,10 +80,9 @@ impl Member {
         turns: u64,
     ) -> Result<Reply, LockFault>
         ensures accepted { OnOk result (refusal_now (ready self.old) Call.Lock ≡ None) }
-        ensures replied { IfOk result (λ reply. WholeEnds (began (ready self.old) Call.Lock) turns Call.Close (Ok reply)
-            self.new (C.asked plan.old) (C.asked plan.new) (C.fallen plan.old) (C.fallen plan.new)) }
-        ensures fails { IfErr result (WholeFails self.old turns Call.Close self.new (C.asked plan.old) (C.asked plan.new)
-            (C.fallen plan.old) (C.fallen plan.new)) }
+        ensures replied { IfOk result (λ reply. WholeEnds (began (ready self.old) Call.Lock) turns Call.Close (Ok reply) self.new
+            (C.askings plan.old) (C.askings plan.new)) }
+        ensures fails { IfErr result (WholeFails self.old turns Call.Close self.new (C.askings plan.old) (C.askings plan.new)) }
         ensures few { OnOk result (self.new.steps ≤ most_whole self.old.seat_view.setup.layout Call.Close + turns) }
         ensures few_out { IfErr result (λ e. e ≢ LockFault.AlreadyIn
             → self.new.steps ≤ most_whole self.old.seat_view.setup.layout Call.Close + turns) }
@@ -108,11 +106,11 @@ impl Member {
     ) -> Result<Reply, LockFault>
         ensures wide { OnOk result (length value ≡ self.old.seat_view.setup.layout.width) }
         ensures accepted { OnOk result (refusal_now (ready self.old) Call.Lock ≡ None) }
-        ensures replied { IfOk result (λ reply. (turns : ℕ) × WholeEnds (began (ready self.old) Call.Lock) turns
-            (Call.Append seq value) (Ok reply) self.new (C.asked plan.old) (C.asked plan.new) (C.fallen plan.old)
-            (C.fallen plan.new)) }
-        ensures fails { IfErr result (λ e. (turns : ℕ) × AppendFails self.old turns seq value self.new (C.asked plan.old)
-            (C.asked plan.new) (C.fallen plan.old) (C.fallen plan.new) e) }
+        ensures replied { IfOk result (λ reply. (turns : ℕ)
+            × WholeEnds (began (ready self.old) Call.Lock) turns (Call.Append seq value) (Ok reply) self.new (C.askings plan.old)
+            (C.askings plan.new)) }
+        ensures fails { IfErr result (λ e. (turns : ℕ)
+            × AppendFails self.old turns seq value self.new (C.askings plan.old) (C.askings plan.new) e) }
         ensures patient { IfErr result (λ e. e ≢ LockFault.NotYet) }
         ensures kind { IfOk result (Appends seq) }
         ensures tells { IfOk result (λ reply. ToldIn self.old seq reply self.new) }
@@ -136,10 +134,11 @@ impl Member {
     /// `AlreadyIn`, `Crashed`, `NumbersSpent` and `NotRecoverable` as at `close_within`; never `NotYet`.
     pub fn close<R: Wait, C: CrashPlan>(&mut self, rt: &R, plan: &mut C) -> Result<Reply, LockFault>
         ensures accepted { OnOk result (refusal_now (ready self.old) Call.Lock ≡ None) }
-        ensures replied { IfOk result (λ reply. (turns : ℕ) × WholeEnds (began (ready self.old) Call.Lock) turns Call.Close
-            (Ok reply) self.new (C.asked plan.old) (C.asked plan.new) (C.fallen plan.old) (C.fallen plan.new)) }
-        ensures fails { IfErr result (λ e. (turns : ℕ) × WholeFails self.old turns Call.Close self.new (C.asked plan.old)
-            (C.asked plan.new) (C.fallen plan.old) (C.fallen plan.new) e) }
+        ensures replied { IfOk result (λ reply. (turns : ℕ)
+            × WholeEnds (began (ready self.old) Call.Lock) turns Call.Close (Ok reply) self.new (C.askings plan.old)
+            (C.askings plan.new)) }
+        ensures fails { IfErr result (λ e. (turns : ℕ)
+            × WholeFails self.old turns Call.Close self.new (C.askings plan.old) (C.askings plan.new) e) }
         ensures patient { IfErr result (λ e. e ≢ LockFault.NotYet) }
         ensures out { result ≢ Err LockFault.AlreadyIn → refusal_now (ready self.new) Call.Lock ≡ None }
         ensures seat { seat_of self.new ≡ seat_of self.old }

@@ -5,7 +5,8 @@ ghost use Rattle.execution.specs.declared.entry.TakenStep.{TakenStep};
 ghost use Rattle.rmeworld.specs.OwnSteps.{most_steps};
 ghost use Rattle.execution.specs.SeatView.{fresh, process_state_now, IsSeatView};
 ghost use Rattle.execution.specs.Running.{Seated, began};
-ghost use Rattle.execution.specs.Calls.{Served, NeverCrashes};
+ghost use Rattle.crash_plans.specs.Plans.{NeverCrashes};
+ghost use Rattle.execution.specs.Calls.{Served};
 ghost use Rattle.execution.specs.Under.{Fits};
 ghost use Rattle.execution.specs.Reading.{ReadsFrom, ReadsCount};
 ghost use Rattle.execution.specs.Headline.{IsSoundRun};
@@ -117,9 +118,8 @@ impl Member {
         ensures accepted { OnOk result (refusal_now self.old Call.Unlock ≡ None) }
         ensures served { OnOk result ((mine : List TakenStep)
             × Served (began self.old Call.Unlock) Call.Unlock (Answer.Unlocked ∷ []) 0 self.new mine
-            × NeverCrashes (length mine + 1) (C.asked plan.old) (C.asked plan.new) (C.fallen plan.old) (C.fallen plan.new)) }
-        ensures fails { IfErr result (Fails self.old Call.Unlock self.new (C.asked plan.old) (C.asked plan.new)
-            (C.fallen plan.old) (C.fallen plan.new)) }
+            × NeverCrashes (length mine + 1) (C.askings plan.old) (C.askings plan.new)) }
+        ensures fails { IfErr result (Fails self.old Call.Unlock self.new (C.askings plan.old) (C.askings plan.new)) }
         ensures seat { seat_of self.new ≡ seat_of self.old }
         ensures table { OnOk result (table_steps self.old.seat_view Call.Unlock Answer.Unlocked ≡ Some self.new.steps) }
         ensures few { refusal_now self.old Call.Unlock ≡ None
@@ -144,9 +144,8 @@ impl Member {
         ensures accepted { OnOk result (refusal_now self.old Call.Withdraw ≡ None) }
         ensures served { OnOk result ((mine : List TakenStep)
             × Served (began self.old Call.Withdraw) Call.Withdraw (Answer.Withdrawn ∷ []) 0 self.new mine
-            × NeverCrashes (length mine + 1) (C.asked plan.old) (C.asked plan.new) (C.fallen plan.old) (C.fallen plan.new)) }
-        ensures fails { IfErr result (Fails self.old Call.Withdraw self.new (C.asked plan.old) (C.asked plan.new)
-            (C.fallen plan.old) (C.fallen plan.new)) }
+            × NeverCrashes (length mine + 1) (C.askings plan.old) (C.askings plan.new)) }
+        ensures fails { IfErr result (Fails self.old Call.Withdraw self.new (C.askings plan.old) (C.askings plan.new)) }
         ensures seat { seat_of self.new ≡ seat_of self.old }
         ensures table { OnOk result (table_steps self.old.seat_view Call.Withdraw Answer.Withdrawn ≡ Some self.new.steps) }
         ensures few { refusal_now self.old Call.Withdraw ≡ None
@@ -168,11 +167,10 @@ impl Member {
         ensures accepted { OnOk result (refusal_now self.old (Call.Get i) ≡ None) }
         ensures served { IfOk result (λ v. (mine : List TakenStep)
             × Served (began self.old (Call.Get i)) (Call.Get i) (Answer.Mail (Reply.Word v) ∷ []) 0 self.new mine
-            × NeverCrashes (length mine + 1) (C.asked plan.old) (C.asked plan.new) (C.fallen plan.old) (C.fallen plan.new)) }
+            × NeverCrashes (length mine + 1) (C.askings plan.old) (C.askings plan.new)) }
         ensures last { IfOk result (λ v. v ≡ value_or (last_put self.old.seat_view.setup i self.new.seat_view.seen) 0) }
         ensures own { OnOk result (LastIsOwn self.old.seat_view.setup self.old.seat_view.by i self.new.seat_view.seen) }
-        ensures fails { IfErr result (Fails self.old (Call.Get i) self.new (C.asked plan.old) (C.asked plan.new)
-            (C.fallen plan.old) (C.fallen plan.new)) }
+        ensures fails { IfErr result (Fails self.old (Call.Get i) self.new (C.askings plan.old) (C.askings plan.new)) }
         ensures seat { seat_of self.new ≡ seat_of self.old }
         ensures table { IfOk result (λ v. table_steps self.old.seat_view (Call.Get i) (Answer.Mail (Reply.Word v))
             ≡ Some self.new.steps) }
@@ -196,11 +194,10 @@ impl Member {
         ensures accepted { OnOk result (refusal_now self.old (Call.Put i value) ≡ None) }
         ensures served { OnOk result ((reply : ReplyOf) × (mine : List TakenStep)
             × Served (began self.old (Call.Put i value)) (Call.Put i value) (Answer.Mail reply ∷ []) 0 self.new mine
-            × NeverCrashes (length mine + 1) (C.asked plan.old) (C.asked plan.new) (C.fallen plan.old) (C.fallen plan.new)) }
+            × NeverCrashes (length mine + 1) (C.askings plan.old) (C.askings plan.new)) }
         ensures last { OnOk result ((e : TakenStep) × (last_put self.old.seat_view.setup i self.new.seat_view.seen ≡ Some e)
             × (e.by ≡ self.old.seat_view.by) × (e.value ≡ value)) }
-        ensures fails { IfErr result (Fails self.old (Call.Put i value) self.new (C.asked plan.old) (C.asked plan.new)
-            (C.fallen plan.old) (C.fallen plan.new)) }
+        ensures fails { IfErr result (Fails self.old (Call.Put i value) self.new (C.askings plan.old) (C.askings plan.new)) }
         ensures seat { seat_of self.new ≡ seat_of self.old }
         ensures table { OnOk result ((reply : ReplyOf) × (table_steps self.old.seat_view (Call.Put i value)
             (Answer.Mail reply) ≡ Some self.new.steps)) }
@@ -223,14 +220,13 @@ impl Member {
     pub fn consistent<C: CrashPlan>(&mut self, plan: &mut C) -> Result<bool, LockFault>
         ensures accepted { OnOk result (refusal_now self.old Call.Consistent ≡ None) }
         ensures served { IfOk result (λ mended. (mine : List TakenStep)
-            × Served (began self.old Call.Consistent) Call.Consistent (Answer.Mail (Reply.Mended mended) ∷ [])
-            0 self.new mine × NeverCrashes (length mine + 1) (C.asked plan.old) (C.asked plan.new) (C.fallen plan.old)
-            (C.fallen plan.new)) }
-        ensures fails { IfErr result (λ e. Fails self.old Call.Consistent self.new (C.asked plan.old) (C.asked plan.new)
-            (C.fallen plan.old) (C.fallen plan.new) e ⊎ (e ≡ LockFault.NotRecoverable)
-            × ((mine : List TakenStep) × Served (began self.old Call.Consistent) Call.Consistent (Answer.NotRecoverable ∷ [])
-            0 self.new mine × NeverCrashes (length mine + 1) (C.asked plan.old) (C.asked plan.new) (C.fallen plan.old)
-            (C.fallen plan.new))) }
+            × Served (began self.old Call.Consistent) Call.Consistent (Answer.Mail (Reply.Mended mended) ∷ []) 0 self.new mine
+            × NeverCrashes (length mine + 1) (C.askings plan.old) (C.askings plan.new)) }
+        ensures fails { IfErr result (λ e. Fails self.old Call.Consistent self.new (C.askings plan.old) (C.askings plan.new) e
+            ⊎ (e ≡ LockFault.NotRecoverable)
+            × ((mine : List TakenStep)
+            × Served (began self.old Call.Consistent) Call.Consistent (Answer.NotRecoverable ∷ []) 0 self.new mine
+            × NeverCrashes (length mine + 1) (C.askings plan.old) (C.askings plan.new))) }
         ensures seat { seat_of self.new ≡ seat_of self.old }
         ensures table { IfOk result (λ mended. table_steps self.old.seat_view Call.Consistent
             (Answer.Mail (Reply.Mended mended)) ≡ Some self.new.steps) }
@@ -253,11 +249,9 @@ impl Member {
     /// `AlreadyIn`: the process is in the section; there is nothing to find out. `Crashed`: recover or lock again.
     pub fn recover<C: CrashPlan>(&mut self, plan: &mut C) -> Result<Found, LockFault>
         ensures accepted { OnOk result (refusal_now (ready self.old) Call.Recover ≡ None) }
-        ensures served { IfOk result (λ found. AnsweredIn (began (ready self.old) Call.Recover) Call.Recover
-            (Answer.Found found ∷ []) 0 self.new (C.asked plan.old) (C.asked plan.new) (C.fallen plan.old)
-            (C.fallen plan.new)) }
-        ensures fails { IfErr result (FailsOut self.old Call.Recover self.new (C.asked plan.old) (C.asked plan.new)
-            (C.fallen plan.old) (C.fallen plan.new)) }
+        ensures served { IfOk result (λ found. AnsweredIn (began (ready self.old) Call.Recover) Call.Recover (Answer.Found found ∷ []) 0
+            self.new (C.askings plan.old) (C.askings plan.new)) }
+        ensures fails { IfErr result (FailsOut self.old Call.Recover self.new (C.askings plan.old) (C.askings plan.new)) }
         ensures seat { seat_of self.new ≡ seat_of self.old }
         ensures table { IfOk result (λ found. table_steps (ready self.old).seat_view Call.Recover (Answer.Found found)
             ≡ Some self.new.steps) }
@@ -285,10 +279,9 @@ impl Member {
         turns: u64,
     ) -> Result<Entry, LockFault>
         ensures accepted { OnOk result (refusal_now (ready self.old) Call.Lock ≡ None) }
-        ensures entered { IfOk result (λ entry. LockEnds (began (ready self.old) Call.Lock) turns (Some (answer_of entry))
-            self.new (C.asked plan.old) (C.asked plan.new) (C.fallen plan.old) (C.fallen plan.new)) }
-        ensures fails { IfErr result (LockFails self.old turns self.new (C.asked plan.old) (C.asked plan.new)
-            (C.fallen plan.old) (C.fallen plan.new)) }
+        ensures entered { IfOk result (λ entry. LockEnds (began (ready self.old) Call.Lock) turns (Some (answer_of entry)) self.new
+            (C.askings plan.old) (C.askings plan.new)) }
+        ensures fails { IfErr result (LockFails self.old turns self.new (C.askings plan.old) (C.askings plan.new)) }
         ensures waits { result ≡ Err LockFault.NotYet → refusal_now self.new Call.Withdraw ≡ None }
         ensures seat { seat_of self.new ≡ seat_of self.old }
         ensures counts { IfOk result (λ entry. LockCounts (began (ready self.old) Call.Lock) (Some (answer_of entry)) self.new) }
@@ -310,11 +303,11 @@ impl Member {
     /// `AlreadyIn`, `Crashed`, `NumbersSpent` and `NotRecoverable` as at `lock_within`; never `NotYet`.
     pub fn lock<R: Wait, C: CrashPlan>(&mut self, rt: &R, plan: &mut C) -> Result<Entry, LockFault>
         ensures accepted { OnOk result (refusal_now (ready self.old) Call.Lock ≡ None) }
-        ensures entered { IfOk result (λ entry. (turns : ℕ) × LockEnds (began (ready self.old) Call.Lock) turns
-            (Some (answer_of entry)) self.new (C.asked plan.old) (C.asked plan.new) (C.fallen plan.old)
-            (C.fallen plan.new)) }
-        ensures fails { IfErr result (λ e. (turns : ℕ) × LockFails self.old turns self.new (C.asked plan.old)
-            (C.asked plan.new) (C.fallen plan.old) (C.fallen plan.new) e) }
+        ensures entered { IfOk result (λ entry. (turns : ℕ)
+            × LockEnds (began (ready self.old) Call.Lock) turns (Some (answer_of entry)) self.new (C.askings plan.old)
+            (C.askings plan.new)) }
+        ensures fails { IfErr result (λ e. (turns : ℕ)
+            × LockFails self.old turns self.new (C.askings plan.old) (C.askings plan.new) e) }
         ensures patient { IfErr result (λ e. e ≢ LockFault.NotYet) }
         ensures seat { seat_of self.new ≡ seat_of self.old }
         ensures counts { IfOk result (λ entry. LockCounts (began (ready self.old) Call.Lock) (Some (answer_of entry)) self.new) }

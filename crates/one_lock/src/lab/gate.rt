@@ -13,8 +13,7 @@ pub trait Gate: CrashPlan {
     /// Reports that the worker's call with this number was answered. It is called once for each answer, also for the one
     /// that ends the worker. It isn't an asking.
     fn answered(&mut self, call: u64)
-        ensures asked { Self.asked self.new ≡ Self.asked self.old }
-        ensures fallen { Self.fallen self.new ≡ Self.fallen self.old }
+        ensures askings { Self.askings self.new ≡ Self.askings self.old }
         ensures heard { heard self.old call self.new };
 }
 

@@ -1,7 +1,6 @@
 //! The driver of a process's calls: its port and its machine, one step at a time.
 ghost use Rattle.std.specs.Prelude.{◌≡◌, ℕ, List, [], ◌∷◌, length, IfSome, ◌<◌, ◌≤◌, ◌^◌, true, false, Some, None, IsSome, is_none, IfErr, OnOk, OnErr, IsTrue};
 ghost use Rattle.rmecore.specs.Machine.{kind_of, word_of, carried};
-ghost use Rattle.rmecore.specs.Simulated.{one_more};
 ghost use Rattle.rmecore.specs.World.{is_store};
 ghost use Rattle.rmeworld.specs.Refused.{start_refusal, is_idle};
 ghost use Rattle.rmeworld.specs.MachineState.{IsSize, InWords, StoresOwn};
@@ -11,11 +10,11 @@ ghost use Rattle.rmeworld.specs.OwnSteps.{most_steps};
 ghost use Rattle.rmeworld.specs.declared.answer.Answer.TheVariants.{Unlocked};
 ghost use Rattle.rmeworld.specs.declared.call.Call.TheVariants.{Append, Lock, Unlock};
 ghost use Rattle.execution.specs.declared.entry.TakenStep.{TakenStep};
-ghost use Rattle.execution.specs.Calls.{Ran, Going, Still, NeverCrashes};
+ghost use Rattle.execution.specs.Calls.{Ran, Going, Still};
 ghost use Rattle.execution.specs.Faults.{refusal_now, AnsweredIn};
 ghost use Rattle.execution.specs.Tabled.{table_steps};
 ghost use Rattle.execution.specs.Under.{Begun, Fits, Leaves};
-ghost use Rattle.crash_plans.specs.Plans.{so_many_more};
+ghost use Rattle.crash_plans.specs.Plans.{NeverCrashes, Fell};
 ghost use Rattle.robust.specs.FastPath.{free_process_state, EndsIn};
 ghost use Rattle.robust.specs.FastCalls.{told_by, HasFastWay};
 ghost use Rattle.robust.specs.Working.{seat_of};
@@ -101,8 +100,7 @@ fn perform(port: &mut Port, access: Access) -> u64
 /// Counts the askings of a plan that never falls, in place of asking.
 fn count_without_crash<C: CrashPlan>(plan: &mut C, askings: u64)
     requires { C.never_crashes plan.old ≡ true }
-    ensures asked { C.asked plan.new ≡ so_many_more askings (C.asked plan.old) }
-    ensures fallen { C.fallen plan.new ≡ C.fallen plan.old }
+    ensures { NeverCrashes askings (C.askings plan.old) (C.askings plan.new) }
 {
     plan.count_askings(askings);
 }
@@ -156,10 +154,10 @@ impl CallDriver {
     }
 
     /// Asks the plan once. If it falls, the process crashes. It answers `Crashed` then.
+    #[tactic(auto, using(crash_plans::proofs::Counted::goes_on_once, crash_plans::proofs::Counted::falls_once))]
     pub fn ask<C: CrashPlan>(&mut self, plan: &mut C) -> Result<(), LockFault>
-        ensures asked { C.asked plan.new ≡ one_more (C.asked plan.old) }
-        ensures goes_on { OnOk result ((self.new ≡ self.old) × (C.fallen plan.new ≡ C.fallen plan.old)) }
-        ensures falls { OnErr result ((self.new ≡ fell self.old) × (C.fallen plan.new ≡ one_more (C.fallen plan.old))) }
+        ensures goes_on { OnOk result ((self.new ≡ self.old) × NeverCrashes 1 (C.askings plan.old) (C.askings plan.new)) }
+        ensures falls { OnErr result ((self.new ≡ fell self.old) × Fell 1 (C.askings plan.old) (C.askings plan.new)) }
         ensures crashed { IfErr result (λ e. e ≡ LockFault.Crashed) }
     {
         if plan.falls() {
@@ -195,10 +193,10 @@ impl CallDriver {
     fn fast_lock<C: CrashPlan>(&mut self, plan: &mut C) -> Led
         requires begun { Begun Lock self.old.seat_view.setup.layout.procs (process_state_now self.old.seat_view) }
         ensures ran { IfSome (told_by result) (λ o. (mine : List TakenStep) × Ran self.old o self.new mine
-            × NeverCrashes (length mine) (C.asked plan.old) (C.asked plan.new) (C.fallen plan.old) (C.fallen plan.new)) }
+            × NeverCrashes (length mine) (C.askings plan.old) (C.askings plan.new)) }
         ensures still { IfSome (told_by result) (Still Lock self.new) }
         ensures on { told_by result ≡ None → (mine : List TakenStep) × Going self.old mine self.new
-            × NeverCrashes (length mine) (C.asked plan.old) (C.asked plan.new) (C.fallen plan.old) (C.fallen plan.new) }
+            × NeverCrashes (length mine) (C.askings plan.old) (C.askings plan.new) }
         ensures begun { told_by result ≡ None
             → Begun Lock self.new.seat_view.setup.layout.procs (process_state_now self.new.seat_view) }
     {
@@ -237,10 +235,10 @@ impl CallDriver {
     pub fn fast_way<C: CrashPlan>(&mut self, plan: &mut C, call: &Call) -> Option<Option<Answer>>
         requires begun { Begun call.now self.old.seat_view.setup.layout.procs (process_state_now self.old.seat_view) }
         ensures ran { IfSome result (λ o. (mine : List TakenStep) × Ran self.old o self.new mine
-            × NeverCrashes (length mine) (C.asked plan.old) (C.asked plan.new) (C.fallen plan.old) (C.fallen plan.new)) }
+            × NeverCrashes (length mine) (C.askings plan.old) (C.askings plan.new)) }
         ensures still { IfSome result (Still call.now self.new) }
         ensures on { result ≡ None → (mine : List TakenStep) × Going self.old mine self.new
-            × NeverCrashes (length mine) (C.asked plan.old) (C.asked plan.new) (C.fallen plan.old) (C.fallen plan.new) }
+            × NeverCrashes (length mine) (C.askings plan.old) (C.askings plan.new) }
         ensures begun { result ≡ None → Begun call.now self.new.seat_view.setup.layout.procs (process_state_now self.new.seat_view) }
     {
         match call {
@@ -262,10 +260,10 @@ impl CallDriver {
     fn fast_lock_later<C: CrashPlan>(&mut self, plan: &mut C) -> Led
         requires begun { Begun Lock self.old.seat_view.setup.layout.procs (process_state_now self.old.seat_view) }
         ensures ran { IfSome (told_by result) (λ o. (mine : List TakenStep) × Ran self.old o self.new mine
-            × NeverCrashes (length mine) (C.asked plan.old) (C.asked plan.new) (C.fallen plan.old) (C.fallen plan.new)) }
+            × NeverCrashes (length mine) (C.askings plan.old) (C.askings plan.new)) }
         ensures still { IfSome (told_by result) (Still Lock self.new) }
         ensures on { told_by result ≡ None → (mine : List TakenStep) × Going self.old mine self.new
-            × NeverCrashes (length mine) (C.asked plan.old) (C.asked plan.new) (C.fallen plan.old) (C.fallen plan.new) }
+            × NeverCrashes (length mine) (C.askings plan.old) (C.askings plan.new) }
         ensures begun { told_by result ≡ None
             → Begun Lock self.new.seat_view.setup.layout.procs (process_state_now self.new.seat_view) }
     {
@@ -286,8 +284,7 @@ impl CallDriver {
         requires clean { process_state_now self.old.seat_view ≡ free_process_state Inside true }
         requires never_crashes { C.never_crashes plan.old ≡ true }
         ensures accepted { refusal_now self.old Unlock ≡ None }
-        ensures served { AnsweredIn (began self.old Unlock) Unlock (Unlocked ∷ []) 0 self.new (C.asked plan.old)
-            (C.asked plan.new) (C.fallen plan.old) (C.fallen plan.new) }
+        ensures served { AnsweredIn (began self.old Unlock) Unlock (Unlocked ∷ []) 0 self.new (C.askings plan.old) (C.askings plan.new) }
         ensures table { table_steps self.old.seat_view Unlock Unlocked ≡ Some self.new.steps }
         ensures few { self.new.steps ≤ most_steps self.old.seat_view.setup.layout Unlock }
         ensures seat { seat_of self.new ≡ seat_of self.old }
@@ -335,7 +332,7 @@ impl CallDriver {
         requires clean { process_state_now self.old.seat_view ≡ free_process_state Inside true }
         requires never_crashes { C.never_crashes plan.old ≡ true }
         ensures ran { (mine : List TakenStep) × Ran (behind self.old (Append seq value.now)) (Some result) self.new mine
-            × NeverCrashes (length mine) (C.asked plan.old) (C.asked plan.new) (C.fallen plan.old) (C.fallen plan.new) }
+            × NeverCrashes (length mine) (C.askings plan.old) (C.askings plan.new) }
         ensures seat_view { IsSeatView (behind self.old (Append seq value.now)).seat_view }
         ensures leaves { Fits (Append seq value.now) result × Leaves (Append seq value.now) result (process_state_now self.new.seat_view) }
     {
@@ -354,7 +351,7 @@ impl CallDriver {
         requires clean { process_state_now self.old.seat_view ≡ free_process_state Inside true }
         requires never_crashes { C.never_crashes plan.old ≡ true }
         ensures ran { (mine : List TakenStep) × Ran (behind self.old Unlock) (Some result) self.new mine
-            × NeverCrashes (length mine) (C.asked plan.old) (C.asked plan.new) (C.fallen plan.old) (C.fallen plan.new) }
+            × NeverCrashes (length mine) (C.askings plan.old) (C.askings plan.new) }
         ensures seat_view { IsSeatView (behind self.old Unlock).seat_view }
         ensures leaves { Fits Unlock result × Leaves Unlock result (process_state_now self.new.seat_view) }
     {
@@ -372,7 +369,7 @@ impl CallDriver {
         requires never_crashes { C.never_crashes plan.old ≡ true }
         requires call { HasFastWay call.now }
         ensures ran { (mine : List TakenStep) × Ran (behind self.old call.now) (Some result) self.new mine
-            × NeverCrashes (length mine) (C.asked plan.old) (C.asked plan.new) (C.fallen plan.old) (C.fallen plan.new) }
+            × NeverCrashes (length mine) (C.askings plan.old) (C.askings plan.new) }
         ensures seat_view { IsSeatView (behind self.old call.now).seat_view }
         ensures leaves { Fits call.now result × Leaves call.now result (process_state_now self.new.seat_view) }
     {

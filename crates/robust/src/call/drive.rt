@@ -5,7 +5,8 @@ ghost use Rattle.rmeworld.specs.OwnSteps.{most_steps};
 ghost use Rattle.rmeworld.specs.Refused.{is_idle};
 ghost use Rattle.execution.specs.declared.entry.TakenStep.{TakenStep};
 ghost use Rattle.execution.specs.SeatView.{IsSeatView, process_state_now};
-ghost use Rattle.execution.specs.Calls.{blocked_of, Ran, CutOff, Still, Served, Crashes, NeverCrashes, Fell};
+ghost use Rattle.execution.specs.Calls.{blocked_of, Ran, CutOff, Still, Served, Crashes};
+ghost use Rattle.crash_plans.specs.Plans.{NeverCrashes, Fell};
 ghost use Rattle.execution.specs.Lasting.{Lasts};
 ghost use Rattle.execution.specs.Running.{began};
 ghost use Rattle.execution.specs.Tabled.{table_steps, CountsAtMost};
@@ -33,12 +34,11 @@ impl CallDriver {
         requires busy { is_idle (process_state_now self.old.seat_view) ≡ false }
         requires lasts { Lasts self.old.seat_view.setup.layout.procs 256 (process_state_now self.old.seat_view) }
         ensures ran { IfOk result (λ o. (mine : List TakenStep) × Ran self.old o self.new mine
-            × NeverCrashes (length mine) (C.asked plan.old) (C.asked plan.new) (C.fallen plan.old) (C.fallen plan.new)) }
+            × NeverCrashes (length mine) (C.askings plan.old) (C.askings plan.new)) }
         ensures still { IfOk result (λ o. Still call.now self.new o) }
         ensures crashed { IfErr result (λ e. e ≡ LockFault.Crashed) }
         ensures cut { OnErr result ((mine : List TakenStep) × CutOff self.old mine self.new
-            × Fell (length mine + 1) (C.asked plan.old) (C.asked plan.new) (C.fallen plan.old) (C.fallen plan.new)
-            × (blocked_of self.old.seat_view mine ≡ 0)) }
+            × Fell (length mine + 1) (C.askings plan.old) (C.askings plan.new) × (blocked_of self.old.seat_view mine ≡ 0)) }
     {
         if let Some(ran) = self.fast_way(plan, call) {
             return Ok(ran);
@@ -63,11 +63,11 @@ impl CallDriver {
         requires start { self.old.seat_view.start ≡ Some call.now }
         requires brief { call.now ≢ Lock }
         ensures answered { IfOk result (λ a. (mine : List TakenStep) × Served self.old call.now (a ∷ []) 0 self.new mine
-            × NeverCrashes (length mine + 1) (C.asked plan.old) (C.asked plan.new) (C.fallen plan.old) (C.fallen plan.new)) }
+            × NeverCrashes (length mine + 1) (C.askings plan.old) (C.askings plan.new)) }
         ensures fits { IfOk result (λ a. Fits call.now a) }
         ensures crashed { IfErr result (λ e. e ≡ LockFault.Crashed) }
         ensures cut { OnErr result ((mine : List TakenStep) × Crashes self.old call.now self.new mine
-            × Fell (length mine + 1) (C.asked plan.old) (C.asked plan.new) (C.fallen plan.old) (C.fallen plan.new)) }
+            × Fell (length mine + 1) (C.askings plan.old) (C.askings plan.new)) }
         ensures idle { self.new.seat_view.start ≡ None }
         ensures few { CountsAtMost (most_steps self.old.seat_view.setup.layout call.now) self.old self.new }
     {
@@ -87,11 +87,10 @@ impl CallDriver {
         requires brief { call.now ≢ Lock }
         ensures answered { IfOk result (λ a. (mine : List TakenStep)
             × Served (began self.old call.now) call.now (a ∷ []) 0 self.new mine
-            × NeverCrashes (length mine + 1) (C.asked plan.old) (C.asked plan.new) (C.fallen plan.old) (C.fallen plan.new)) }
+            × NeverCrashes (length mine + 1) (C.askings plan.old) (C.askings plan.new)) }
         ensures accepted { OnOk result (refusal_now self.old call.now ≡ None) }
         ensures fits { IfOk result (λ a. Fits call.now a) }
-        ensures fails { IfErr result (Fails self.old call.now self.new (C.asked plan.old) (C.asked plan.new)
-            (C.fallen plan.old) (C.fallen plan.new)) }
+        ensures fails { IfErr result (Fails self.old call.now self.new (C.askings plan.old) (C.askings plan.new)) }
         ensures idle { self.new.seat_view.start ≡ None }
         ensures seat { seat_of self.new ≡ seat_of self.old }
         ensures table { IfOk result (λ a. table_steps self.old.seat_view call.now a ≡ Some self.new.steps) }

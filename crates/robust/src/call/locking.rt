@@ -73,14 +73,12 @@ impl CallDriver {
         requires begun { Begun Lock self.old.seat_view.setup.layout.procs (process_state_now self.old.seat_view) }
         requires seat_view { IsSeatView self.old.seat_view }
         requires start { self.old.seat_view.start ≡ Some Lock }
-        ensures ends { IfOk result (λ o. LockBy 0 self.old turns o self.new (C.asked plan.old) (C.asked plan.new)
-            (C.fallen plan.old) (C.fallen plan.new)) }
+        ensures ends { IfOk result (λ o. LockBy 0 self.old turns o self.new (C.askings plan.old) (C.askings plan.new)) }
         ensures fits { IfOk result (λ o. IfSome o (λ a. Fits Lock a × Leaves Lock a (process_state_now self.new.seat_view))) }
         ensures waits { IfOk result (λ o. o ≡ None → is_idle (process_state_now self.new.seat_view) ≡ false) }
         ensures waiting { IfOk result (λ o. o ≡ None → refusal_now self.new Withdraw ≡ None) }
         ensures crashed { IfErr result (λ e. e ≡ LockFault.Crashed) }
-        ensures cut { OnErr result (CutIn self.old Lock self.new (C.asked plan.old) (C.asked plan.new) (C.fallen plan.old)
-            (C.fallen plan.new)) }
+        ensures cut { OnErr result (CutIn self.old Lock self.new (C.askings plan.old) (C.askings plan.new)) }
         ensures few { CountsAtMost (most_steps self.old.seat_view.setup.layout Lock + turns) self.old self.new }
     {
         let backoff = Backoff::new();
@@ -109,12 +107,11 @@ impl CallDriver {
         requires begun { Begun Lock self.old.seat_view.setup.layout.procs (process_state_now self.old.seat_view) }
         requires seat_view { IsSeatView self.old.seat_view }
         requires start { self.old.seat_view.start ≡ Some Lock }
-        ensures ends { IfOk result (λ a. (turns : ℕ) × LockBy 0 self.old turns (Some a) self.new (C.asked plan.old)
-            (C.asked plan.new) (C.fallen plan.old) (C.fallen plan.new)) }
+        ensures ends { IfOk result (λ a. (turns : ℕ)
+            × LockBy 0 self.old turns (Some a) self.new (C.askings plan.old) (C.askings plan.new)) }
         ensures fits { IfOk result (λ a. Fits Lock a × Leaves Lock a (process_state_now self.new.seat_view)) }
         ensures crashed { IfErr result (λ e. e ≡ LockFault.Crashed) }
-        ensures cut { OnErr result (CutIn self.old Lock self.new (C.asked plan.old) (C.asked plan.new) (C.fallen plan.old)
-            (C.fallen plan.new)) }
+        ensures cut { OnErr result (CutIn self.old Lock self.new (C.askings plan.old) (C.askings plan.new)) }
     {
         let backoff = Backoff::new();
         for _ in rt.forever() {
@@ -135,13 +132,11 @@ impl CallDriver {
         requires begun { Begun Lock self.old.seat_view.setup.layout.procs (process_state_now self.old.seat_view) }
         requires seat_view { IsSeatView self.old.seat_view }
         requires start { self.old.seat_view.start ≡ Some Lock }
-        ensures ends { IfOk result (λ o. LockEnds self.old turns o self.new (C.asked plan.old) (C.asked plan.new)
-            (C.fallen plan.old) (C.fallen plan.new)) }
+        ensures ends { IfOk result (λ o. LockEnds self.old turns o self.new (C.askings plan.old) (C.askings plan.new)) }
         ensures fits { IfOk result (λ o. IfSome o (Fits Lock)) }
         ensures waiting { IfOk result (λ o. o ≡ None → refusal_now self.new Withdraw ≡ None) }
         ensures crashed { IfErr result (λ e. e ≡ LockFault.Crashed) }
-        ensures cut { OnErr result (CutIn self.old Lock self.new (C.asked plan.old) (C.asked plan.new) (C.fallen plan.old)
-            (C.fallen plan.new)) }
+        ensures cut { OnErr result (CutIn self.old Lock self.new (C.askings plan.old) (C.askings plan.new)) }
         ensures idle { self.new.seat_view.start ≡ None }
         ensures counts { IfOk result (λ o. LockCounts self.old o self.new) }
         ensures few { CountsAtMost (most_steps self.old.seat_view.setup.layout Lock + turns) self.old self.new }
@@ -156,12 +151,11 @@ impl CallDriver {
         requires begun { Begun Lock self.old.seat_view.setup.layout.procs (process_state_now self.old.seat_view) }
         requires seat_view { IsSeatView self.old.seat_view }
         requires start { self.old.seat_view.start ≡ Some Lock }
-        ensures ends { IfOk result (λ a. (turns : ℕ) × LockEnds self.old turns (Some a) self.new (C.asked plan.old)
-            (C.asked plan.new) (C.fallen plan.old) (C.fallen plan.new)) }
+        ensures ends { IfOk result (λ a. (turns : ℕ)
+            × LockEnds self.old turns (Some a) self.new (C.askings plan.old) (C.askings plan.new)) }
         ensures fits { IfOk result (Fits Lock) }
         ensures crashed { IfErr result (λ e. e ≡ LockFault.Crashed) }
-        ensures cut { OnErr result (CutIn self.old Lock self.new (C.asked plan.old) (C.asked plan.new) (C.fallen plan.old)
-            (C.fallen plan.new)) }
+        ensures cut { OnErr result (CutIn self.old Lock self.new (C.askings plan.old) (C.askings plan.new)) }
         ensures idle { self.new.seat_view.start ≡ None }
         ensures counts { IfOk result (λ a. LockCounts self.old (Some a) self.new) }
     {

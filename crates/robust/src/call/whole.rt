@@ -7,6 +7,7 @@ ghost use Rattle.rmeworld.specs.declared.answer.Answer.{Answer as AnswerOf};
 ghost use Rattle.rmeworld.specs.declared.answer.Answer.TheVariants.{Mail, Unlocked};
 ghost use Rattle.rmeworld.specs.OwnSteps.{most_steps};
 ghost use Rattle.execution.specs.SeatView.{process_state_now};
+ghost use Rattle.crash_plans.specs.Plans.{Askings};
 ghost use Rattle.execution.specs.Running.{Seated, began};
 ghost use Rattle.execution.specs.Tabled.{CountsAtMost};
 ghost use Rattle.execution.specs.Under.{Fits, Leaves, IsHolder};
@@ -28,12 +29,11 @@ impl CallDriver {
         requires idle { self.old.seat_view.start ≡ None }
         requires accepted { refusal_now self.old call.now ≡ None }
         requires brief { call.now ≢ Lock }
-        ensures answered { IfOk result (λ a. AnsweredBy 0 self.old (call.now ∷ []) (a ∷ []) 0 self.new (C.asked plan.old)
-            (C.asked plan.new) (C.fallen plan.old) (C.fallen plan.new)) }
+        ensures answered { IfOk result (λ a. AnsweredBy 0 self.old (call.now ∷ []) (a ∷ []) 0 self.new (C.askings plan.old)
+            (C.askings plan.new)) }
         ensures leaves { IfOk result (λ a. Fits call.now a × Leaves call.now a (process_state_now self.new.seat_view)) }
         ensures crashed { IfErr result (λ e. e ≡ LockFault.Crashed) }
-        ensures cut { OnErr result (CutIn self.old call.now self.new (C.asked plan.old) (C.asked plan.new)
-            (C.fallen plan.old) (C.fallen plan.new)) }
+        ensures cut { OnErr result (CutIn self.old call.now self.new (C.askings plan.old) (C.askings plan.new)) }
         ensures few { CountsAtMost (most_steps self.old.seat_view.setup.layout call.now) self.old self.new }
     {
         if self.has_fast_way(plan, call) {
@@ -55,11 +55,11 @@ impl CallDriver {
         requires task { IsTask self.old.seat_view.setup.layout task.now }
         ensures fits { IfOk result (λ reply. Fits task.now (Mail reply)) }
         ensures out { OnOk result (refusal_now (ready self.new) Lock ≡ None) }
-        ensures done { IfOk result (λ reply. AnsweredBy 0 self.old (task.now ∷ Unlock ∷ []) (Mail reply ∷ Unlocked ∷ [])
-            0 self.new (C.asked plan.old) (C.asked plan.new) (C.fallen plan.old) (C.fallen plan.new)) }
+        ensures done { IfOk result (λ reply. AnsweredBy 0 self.old (task.now ∷ Unlock ∷ []) (Mail reply ∷ Unlocked ∷ []) 0
+            self.new (C.askings plan.old) (C.askings plan.new)) }
         ensures crashed { IfErr result (λ e. e ≡ LockFault.Crashed) }
-        ensures cut { OnErr result (CutBy self.old (λ order. IsFront order (task.now ∷ Unlock ∷ [])) self.new
-            (C.asked plan.old) (C.asked plan.new) (C.fallen plan.old) (C.fallen plan.new)) }
+        ensures cut { OnErr result (CutBy self.old (λ order. IsFront order (task.now ∷ Unlock ∷ [])) self.new (C.askings plan.old)
+            (C.askings plan.new)) }
         ensures counts { IfOk result (λ reply. InsideCounts self.old true (task.now ∷ Unlock ∷ []) (Mail reply ∷ Unlocked ∷ [])
             self.new) }
         ensures few { CountsAtMost
@@ -85,13 +85,12 @@ impl CallDriver {
         requires task { IsTask self.old.seat_view.setup.layout task.now }
         ensures done { IfOk result (λ r. (order : List CallOf) × (answers : List AnswerOf)
             × Inner Entry.OwnerDied task.now r order answers
-            × AnsweredBy 0 self.old order answers 0 self.new (C.asked plan.old) (C.asked plan.new) (C.fallen plan.old)
-            (C.fallen plan.new) × InsideCounts self.old false order answers self.new) }
+            × AnsweredBy 0 self.old order answers 0 self.new (C.askings plan.old) (C.askings plan.new)
+            × InsideCounts self.old false order answers self.new) }
         ensures fits { IfOk result (λ r. IfOk r (λ reply. Fits task.now (Mail reply))) }
         ensures out { OnOk result (refusal_now (ready self.new) Lock ≡ None) }
         ensures crashed { IfErr result (λ e. e ≡ LockFault.Crashed) }
-        ensures cut { OnErr result (CutBy self.old (IsInner Entry.OwnerDied task.now) self.new (C.asked plan.old)
-            (C.asked plan.new) (C.fallen plan.old) (C.fallen plan.new)) }
+        ensures cut { OnErr result (CutBy self.old (IsInner Entry.OwnerDied task.now) self.new (C.askings plan.old) (C.askings plan.new)) }
         ensures few { CountsAtMost (most_inside self.old.seat_view.setup.layout task.now) self.old self.new }
     {
         match self.follow(plan, &Call::Consistent)? {
@@ -120,15 +119,13 @@ impl CallDriver {
         requires task { IsTask self.old.seat_view.setup.layout task.now }
         ensures fits { IfOk result (λ r. IfOk r (λ reply. Fits task.now (Mail reply))) }
         ensures out { (answer ≡ None → refusal_now (ready self.old) Lock ≡ None) → refusal_now (ready self.new) Lock ≡ None }
-        ensures comes { IfOk result (λ r. (x : Seated) (turns asked fallen : ℕ)
-            → LockBy 0 x turns answer self.old asked (C.asked plan.old) fallen (C.fallen plan.old)
-            → WholeBy 0 x turns task.now r self.new asked (C.asked plan.new) fallen (C.fallen plan.new)) }
+        ensures comes { IfOk result (λ r. (x : Seated) (turns : ℕ) (a : Askings)
+            → LockBy 0 x turns answer self.old a (C.askings plan.old) → WholeBy 0 x turns task.now r self.new a (C.askings plan.new)) }
         ensures patient { IfOk result (λ r. r ≡ Err LockFault.NotYet → answer ≡ None) }
         ensures stays { OnOk result (answer ≡ None → self.new ≡ self.old) }
         ensures crashed { IfErr result (λ e. e ≡ LockFault.Crashed) }
-        ensures cut { OnErr result ((x : Seated) (turns asked fallen : ℕ)
-            → LockBy 0 x turns answer self.old asked (C.asked plan.old) fallen (C.fallen plan.old)
-            → CutBy x (IsWithin task.now) self.new asked (C.asked plan.new) fallen (C.fallen plan.new)) }
+        ensures cut { OnErr result ((x : Seated) (turns : ℕ) (a : Askings) → LockBy 0 x turns answer self.old a (C.askings plan.old)
+            → CutBy x (IsWithin task.now) self.new a (C.askings plan.new)) }
         ensures few { CountsAtMost (most_inside self.old.seat_view.setup.layout task.now) self.old self.new }
     {
         match answer {
@@ -160,9 +157,8 @@ impl CallDriver {
         requires task { IsTask self.old.seat_view.setup.layout task.now }
         ensures fits { IfOk result (λ reply. Fits task.now (Mail reply)) }
         ensures out { (answer ≡ None → refusal_now (ready self.old) Lock ≡ None) → refusal_now (ready self.new) Lock ≡ None }
-        ensures goes { (x : Seated) (turns asked fallen : ℕ)
-            → LockBy 0 x turns answer self.old asked (C.asked plan.old) fallen (C.fallen plan.old)
-            → WholeGoes x turns task.now result self.new asked (C.asked plan.new) fallen (C.fallen plan.new) }
+        ensures goes { (x : Seated) (turns : ℕ) (a : Askings) → LockBy 0 x turns answer self.old a (C.askings plan.old)
+            → WholeGoes x turns task.now result self.new a (C.askings plan.new) }
         ensures patient { result ≡ Err LockFault.NotYet → answer ≡ None }
         ensures stays { result ≡ Err LockFault.NotYet → self.new ≡ self.old }
         ensures few { CountsAtMost (most_inside self.old.seat_view.setup.layout task.now) self.old self.new }
@@ -189,9 +185,8 @@ impl CallDriver {
         ensures out { result ≢ Err LockFault.AlreadyIn → refusal_now (ready self.new) Lock ≡ None }
         ensures waits { result ≡ Err LockFault.NotYet → refusal_now self.new Withdraw ≡ None }
         ensures replied { IfOk result (λ reply. WholeEnds (began (ready self.old) Lock) turns task.now (Ok reply) self.new
-            (C.asked plan.old) (C.asked plan.new) (C.fallen plan.old) (C.fallen plan.new)) }
-        ensures fails { IfErr result (WholeFails self.old turns task.now self.new (C.asked plan.old) (C.asked plan.new)
-            (C.fallen plan.old) (C.fallen plan.new)) }
+            (C.askings plan.old) (C.askings plan.new)) }
+        ensures fails { IfErr result (WholeFails self.old turns task.now self.new (C.askings plan.old) (C.askings plan.new)) }
         ensures idle { self.new.seat_view.start ≡ None }
         ensures few { OnOk result (self.new.steps ≤ most_whole self.old.seat_view.setup.layout task.now + turns) }
         ensures few_out { IfErr result (λ e. e ≢ LockFault.AlreadyIn
@@ -216,10 +211,10 @@ impl CallDriver {
         ensures accepted { OnOk result (refusal_now (ready self.old) Lock ≡ None) }
         ensures fits { IfOk result (λ reply. Fits task.now (Mail reply)) }
         ensures out { result ≢ Err LockFault.AlreadyIn → refusal_now (ready self.new) Lock ≡ None }
-        ensures replied { IfOk result (λ reply. (turns : ℕ) × WholeEnds (began (ready self.old) Lock) turns task.now
-            (Ok reply) self.new (C.asked plan.old) (C.asked plan.new) (C.fallen plan.old) (C.fallen plan.new)) }
-        ensures fails { IfErr result (λ e. (turns : ℕ) × WholeFails self.old turns task.now self.new (C.asked plan.old)
-            (C.asked plan.new) (C.fallen plan.old) (C.fallen plan.new) e) }
+        ensures replied { IfOk result (λ reply. (turns : ℕ)
+            × WholeEnds (began (ready self.old) Lock) turns task.now (Ok reply) self.new (C.askings plan.old) (C.askings plan.new)) }
+        ensures fails { IfErr result (λ e. (turns : ℕ)
+            × WholeFails self.old turns task.now self.new (C.askings plan.old) (C.askings plan.new) e) }
         ensures patient { IfErr result (λ e. e ≢ LockFault.NotYet) }
         ensures idle { self.new.seat_view.start ≡ None }
     {

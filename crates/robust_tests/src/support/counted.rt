@@ -24,9 +24,7 @@ impl<P: CrashPlan> Counted<P> {
 }
 
 impl<P: CrashPlan> CrashPlan for Counted<P> {
-    ghost asked = { λ c. P.asked c.plan };
-
-    ghost fallen = { λ c. P.fallen c.plan };
+    ghost askings = { λ c. P.askings c.plan };
 
     ghost never_crashes = { λ c. P.never_crashes c.plan };
 
@@ -34,9 +32,9 @@ impl<P: CrashPlan> CrashPlan for Counted<P> {
         self.plan.never_crashes()
     }
 
-    fn count_askings(&mut self, askings: u64) {
-        self.askings = self.askings.saturating_add(askings);
-        self.plan.count_askings(askings);
+    fn count_askings(&mut self, times: u64) {
+        self.askings = self.askings.saturating_add(times);
+        self.plan.count_askings(times);
     }
 
     fn falls(&mut self) -> bool {

@@ -108,9 +108,7 @@ impl Gated {
 }
 
 impl CrashPlan for Gated {
-    ghost asked = { λ g. g.never.asked };
-
-    ghost fallen = { λ g. g.never.fallen };
+    ghost askings = { λ g. g.never };
 
     fn falls(&mut self) -> bool {
         self.askings = self.askings.saturating_add(1);

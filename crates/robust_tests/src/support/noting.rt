@@ -65,9 +65,7 @@ impl Noting {
 }
 
 impl CrashPlan for Noting {
-    ghost asked = { λ g. g.plan.count.asked };
-
-    ghost fallen = { λ g. g.plan.count.fallen };
+    ghost askings = { λ g. g.plan.askings };
 
     fn falls(&mut self) -> bool {
         self.askings = self.askings.saturating_add(1);

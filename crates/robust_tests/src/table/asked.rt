@@ -20,9 +20,7 @@ struct Trying {
 }
 
 impl CrashPlan for Trying {
-    ghost asked = { λ t. t.never.asked };
-
-    ghost fallen = { λ t. t.never.fallen };
+    ghost askings = { λ t. t.never };
 
     fn falls(&mut self) -> bool {
         self.askings = self.askings.saturating_add(1);
@@ -47,9 +45,7 @@ struct Watching<P> {
 }
 
 impl<P: CrashPlan> CrashPlan for Watching<P> {
-    ghost asked = { λ w. P.asked w.plan };
-
-    ghost fallen = { λ w. P.fallen w.plan };
+    ghost askings = { λ w. P.askings w.plan };
 
     fn falls(&mut self) -> bool {
         self.askings = self.askings.saturating_add(1);

@@ -5,7 +5,7 @@ use Rattle.one_lock.proofs.member.Member.pursue.Given as goal
 
 abbrev pub invariant-loop : goal.invariant-loop
 invariant-loop g l =
-    Goes l.initial.self l.self × CountsOn l.initial.self l.self × AskedEach l.initial.self l.self (g.P.CrashPlan.asked l.initial.plan) (g.P.CrashPlan.asked l.plan)
-    × (g.P.CrashPlan.fallen l.plan ≡ g.P.CrashPlan.fallen l.initial.plan) × (IsNone l.fn.turns → IsNone l.left)
+    Goes l.initial.self l.self × CountsOn l.initial.self l.self × AskedEach l.initial.self l.self (g.P.CrashPlan.askings l.initial.plan) (g.P.CrashPlan.askings l.plan)
+    × ((g.P.CrashPlan.askings l.plan).fallen ≡ (g.P.CrashPlan.askings l.initial.plan).fallen) × (IsNone l.fn.turns → IsNone l.left)
     × (l.self.standing ≡ l.initial.self.standing)
     × IsUnderWay g.S.Sizes.named l.initial.self.process l.initial.self.standing l.fn.call l.fn.turns l.left l.initial.self.steps l.self.steps l.opening

@@ -7,25 +7,25 @@ use Rattle.robust.proofs.member.Member.append.Goals as goal
 
 pub returns-clause-replied : goal.returns-clause-replied
 returns-clause-replied g c =
-    subst (λ (x : Seated). IfOk c.mail.result (λ reply. (k : ℕ) × WholeEnds (began (ready x) Lock) k (Append c.args.seq c.args.value) (Ok reply) c.mail.new.self (g.C.CrashPlan.asked c.args.plan.now) (g.C.CrashPlan.asked c.mail.new.plan) (g.C.CrashPlan.fallen c.args.plan.now) (g.C.CrashPlan.fallen c.mail.new.plan)))
+    subst (λ (x : Seated). IfOk c.mail.result (λ reply. (k : ℕ) × WholeEnds (began (ready x) Lock) k (Append c.args.seq c.args.value) (Ok reply) c.mail.new.self (g.C.CrashPlan.askings c.args.plan.now) (g.C.CrashPlan.askings c.mail.new.plan)))
     c.self.view_is c.mail.ensures.replied
 
 pub returns-clause-fails : goal.returns-clause-fails
 returns-clause-fails g c =
     let w : c.setup.result.layout.width ≡ c.args.self.now.seat_view.setup.layout.width = ap (λ (s : Setup). s.layout.width) c.setup.ensures.is ∙ ap (λ (x : Seated). x.seat_view.setup.layout.width) c.self.view_is in
     let fits : length c.args.value ≡ c.args.self.now.seat_view.setup.layout.width = omega (arith, c.width.ensures.width, w, c.if-width-setup.false) in
-    let fails = subst (λ (x : Seated). IfErr c.mail.result (λ purpose. (k : ℕ) × WholeFails x k (Append c.args.seq c.args.value) c.mail.new.self (g.C.CrashPlan.asked c.args.plan.now) (g.C.CrashPlan.asked c.mail.new.plan) (g.C.CrashPlan.fallen c.args.plan.now) (g.C.CrashPlan.fallen c.mail.new.plan) purpose)) c.self.view_is c.mail.ensures.fails in
+    let fails = subst (λ (x : Seated). IfErr c.mail.result (λ purpose. (k : ℕ) × WholeFails x k (Append c.args.seq c.args.value) c.mail.new.self (g.C.CrashPlan.askings c.args.plan.now) (g.C.CrashPlan.askings c.mail.new.plan) purpose)) c.self.view_is c.mail.ensures.fails in
     err_more _ _ c.mail.result fails (λ purpose h. (h.0, inr (fits, h.1)))
 
 pub returns-clause-shown : goal.returns-clause-shown
 returns-clause-shown g c =
     subst (λ (x : Seated). IfOk c.mail.result (λ reply. (reply ≡ Stored) ⊎ (reply ≡ Already) → IsAmong x.seat_view.by c.args.seq (shown_by c.mail.new.self.seat_view.setup c.mail.new.self.seat_view.seen))) c.self.view_is
-    (append_shown c.self.inside.call_driver c.mail.new.self c.args.seq c.args.value c.mail.result _ _ _ _ c.self.invariant c.setup.ensures.seat_view c.every_run_is_sound.ensures c.mail.ensures.accepted c.mail.ensures.replied)
+    (append_shown c.self.inside.call_driver c.mail.new.self c.args.seq c.args.value c.mail.result _ _ c.self.invariant c.setup.ensures.seat_view c.every_run_is_sound.ensures c.mail.ensures.accepted c.mail.ensures.replied)
 
 pub returns-clause-tells : goal.returns-clause-tells
 returns-clause-tells g c =
     subst (λ (x : Seated). IfOk c.mail.result (λ reply. ToldIn x c.args.seq reply c.mail.new.self)) c.self.view_is
-    (append_tells c.self.inside.call_driver c.mail.new.self c.args.seq c.args.value c.mail.result _ _ _ _ c.self.invariant c.setup.ensures.seat_view c.messages_were_sent.ensures.replies c.mail.ensures.accepted c.mail.ensures.fits c.mail.ensures.replied)
+    (append_tells c.self.inside.call_driver c.mail.new.self c.args.seq c.args.value c.mail.result _ _ c.self.invariant c.setup.ensures.seat_view c.messages_were_sent.ensures.replies c.mail.ensures.accepted c.mail.ensures.fits c.mail.ensures.replied)
 
 pub returns-clause-seat : goal.returns-clause-seat
-returns-clause-seat g c = mail_seat c.self.inside.call_driver c.mail.new.self (Append c.args.seq c.args.value) _ _ _ _ c.mail.result c.mail.ensures.replied c.mail.ensures.fails ∙ ap seat_of c.self.view_is
+returns-clause-seat g c = mail_seat c.self.inside.call_driver c.mail.new.self (Append c.args.seq c.args.value) _ _ c.mail.result c.mail.ensures.replied c.mail.ensures.fails ∙ ap seat_of c.self.view_is

@@ -12,7 +12,7 @@ returns-clause-table g c =
     let is : c.in_ok-found.field-0 ≡ Found c.in-Found.found = search rules in
     let served = subst (λ (a : Answer). Served c.set_out.new.self Recover (a ∷ []) 0 y r.0) is r.1 in
     subst (λ (u : Seated). table_steps (ready u).seat_view Recover (Found c.in-Found.found) ≡ Some y.steps) c.self.view_is
-    (called_counts (ready x) c.set_out.new.self y Recover _ _ _ _ (Ok (Found c.in-Found.found)) out.0 out.2 (r.0, served, r.2))
+    (called_counts (ready x) c.set_out.new.self y Recover _ _ (Ok (Found c.in-Found.found)) out.0 out.2 (r.0, served, r.2))
 
 pub returns-in_err-found-clause-few : goal.returns-in_err-found-clause-few
 returns-in_err-found-clause-few g c =

@@ -35,8 +35,8 @@ returns-clause-ran g c =
     let z = c.append-reply.new.port in
     let small : w.steps ≤ 2 ^ 64 - 1 = omega arith in
     let is = ap (λ (p : SeatView). record { seat_view = p; steps = w.steps }) c.begin.ensures ∙ ap (λ (u : Seated). behind u (Append c.args.seq c.args.value.now)) c.self.view_is in
-    subst (λ (u : Seated). (mine : List TakenStep) × Ran u (Some (Mail c.append-reply.result.0)) (seat z c.saturating_add-self-inside.result) mine × NeverCrashes (length mine) (g.C.CrashPlan.asked c.args.plan.now) (g.C.CrashPlan.asked c.count_without_crash.new.plan) (g.C.CrashPlan.fallen c.args.plan.now) (g.C.CrashPlan.fallen c.count_without_crash.new.plan)) is
-    (fast_answered c.begin.new.self z k w.steps c.saturating_add-self-inside.result _ _ _ _ small c.saturating_add-self-inside.ensures c.count_without_crash.ensures.asked c.count_without_crash.ensures.fallen (Mail c.append-reply.result.0) c.append-reply.ensures.ends)
+    subst (λ (u : Seated). (mine : List TakenStep) × Ran u (Some (Mail c.append-reply.result.0)) (seat z c.saturating_add-self-inside.result) mine × NeverCrashes (length mine) (g.C.CrashPlan.askings c.args.plan.now) (g.C.CrashPlan.askings c.count_without_crash.new.plan)) is
+    (fast_answered c.begin.new.self z k w.steps c.saturating_add-self-inside.result _ _ small c.saturating_add-self-inside.ensures c.count_without_crash.ensures (Mail c.append-reply.result.0) c.append-reply.ensures.ends)
 
 pub returns-clause-seat_view : goal.returns-clause-seat_view
 returns-clause-seat_view g c =

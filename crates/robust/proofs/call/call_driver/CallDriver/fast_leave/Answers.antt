@@ -12,4 +12,4 @@ returns-clause-ran g c =
     let small : x.steps ≤ 2 ^ 64 - 1 = omega arith in
     let ends = subst (λ (u : Seated). EndsIn (behind x Unlock).seat_view 2 Unlocked u.seat_view) (sym c.self.view_is) c.go_out.ensures.ends in
     let counted = c.saturating_add-self-inside.ensures ∙ ap (λ (n : ℕ). min (n + 2) (2 ^ 64 - 1)) same in
-    fast_answered (behind x Unlock).seat_view w.port 2 x.steps c.saturating_add-self-inside.result _ _ _ _ small counted c.count_without_crash.ensures.asked c.count_without_crash.ensures.fallen Unlocked ends
+    fast_answered (behind x Unlock).seat_view w.port 2 x.steps c.saturating_add-self-inside.result _ _ small counted c.count_without_crash.ensures Unlocked ends

@@ -11,8 +11,8 @@ returns-in-Stands-clause-on g c = λ none.
     let z = c.go_in.new.port in
     let small : w.steps ≤ 2 ^ 64 - 1 = omega arith in
     let h = c.in-Some-go_in.ensures.some.stands c.in-Stands.stage c.in-Stands.is in
-    subst (λ (u : Seated). (mine : List TakenStep) × Going u mine (seat z c.saturating_add-self-inside.result) × NeverCrashes (length mine) (g.C.CrashPlan.asked c.args.plan.now) (g.C.CrashPlan.asked c.count_without_crash.new.plan) (g.C.CrashPlan.fallen c.args.plan.now) (g.C.CrashPlan.fallen c.count_without_crash.new.plan)) c.self.view_is
-    (fast_going w.port z k w.steps c.saturating_add-self-inside.result _ _ _ _ small c.saturating_add-self-inside.ensures c.count_without_crash.ensures.asked c.count_without_crash.ensures.fallen h.1)
+    subst (λ (u : Seated). (mine : List TakenStep) × Going u mine (seat z c.saturating_add-self-inside.result) × NeverCrashes (length mine) (g.C.CrashPlan.askings c.args.plan.now) (g.C.CrashPlan.askings c.count_without_crash.new.plan)) c.self.view_is
+    (fast_going w.port z k w.steps c.saturating_add-self-inside.result _ _ small c.saturating_add-self-inside.ensures c.count_without_crash.ensures h.1)
 
 pub returns-in-Ruined-clause-on : goal.returns-in-Ruined-clause-on
 returns-in-Ruined-clause-on g c = λ none.
@@ -21,8 +21,8 @@ returns-in-Ruined-clause-on g c = λ none.
     let z = c.go_in.new.port in
     let small : w.steps ≤ 2 ^ 64 - 1 = omega arith in
     let h = c.in-Some-go_in.ensures.some.ruined c.in-Ruined.is in
-    subst (λ (u : Seated). (mine : List TakenStep) × Going u mine (seat z c.saturating_add-self-inside.result) × NeverCrashes (length mine) (g.C.CrashPlan.asked c.args.plan.now) (g.C.CrashPlan.asked c.count_without_crash.new.plan) (g.C.CrashPlan.fallen c.args.plan.now) (g.C.CrashPlan.fallen c.count_without_crash.new.plan)) c.self.view_is
-    (fast_going w.port z k w.steps c.saturating_add-self-inside.result _ _ _ _ small c.saturating_add-self-inside.ensures c.count_without_crash.ensures.asked c.count_without_crash.ensures.fallen h.1)
+    subst (λ (u : Seated). (mine : List TakenStep) × Going u mine (seat z c.saturating_add-self-inside.result) × NeverCrashes (length mine) (g.C.CrashPlan.askings c.args.plan.now) (g.C.CrashPlan.askings c.count_without_crash.new.plan)) c.self.view_is
+    (fast_going w.port z k w.steps c.saturating_add-self-inside.result _ _ small c.saturating_add-self-inside.ensures c.count_without_crash.ensures h.1)
 
 pub returns-in-Blocked-clause-ran : goal.returns-in-Blocked-clause-ran
 returns-in-Blocked-clause-ran g c =
@@ -31,8 +31,8 @@ returns-in-Blocked-clause-ran g c =
     let z = c.go_in.new.port in
     let small : w.steps ≤ 2 ^ 64 - 1 = omega arith in
     let h = c.in-Some-go_in.ensures.some.blocked c.in-Blocked.stage c.in-Blocked.is in
-    subst (λ (u : Seated). (mine : List TakenStep) × Ran u None (seat z c.saturating_add-self-inside.result) mine × NeverCrashes (length mine) (g.C.CrashPlan.asked c.args.plan.now) (g.C.CrashPlan.asked c.count_without_crash.new.plan) (g.C.CrashPlan.fallen c.args.plan.now) (g.C.CrashPlan.fallen c.count_without_crash.new.plan)) c.self.view_is
-    (fast_blocked w.port z k w.steps c.saturating_add-self-inside.result _ _ _ _ small c.saturating_add-self-inside.ensures c.count_without_crash.ensures.asked c.count_without_crash.ensures.fallen h.1)
+    subst (λ (u : Seated). (mine : List TakenStep) × Ran u None (seat z c.saturating_add-self-inside.result) mine × NeverCrashes (length mine) (g.C.CrashPlan.askings c.args.plan.now) (g.C.CrashPlan.askings c.count_without_crash.new.plan)) c.self.view_is
+    (fast_blocked w.port z k w.steps c.saturating_add-self-inside.result _ _ small c.saturating_add-self-inside.ensures c.count_without_crash.ensures h.1)
 
 pub returns-in-Blocked-clause-still : goal.returns-in-Blocked-clause-still
 returns-in-Blocked-clause-still g c =
@@ -48,8 +48,8 @@ returns-in-Clean-clause-ran g c =
     let z = c.go_in.new.port in
     let small : w.steps ≤ 2 ^ 64 - 1 = omega arith in
     let h = c.in-Some-go_in.ensures.some.clean c.in-Clean.is in
-    subst (λ (u : Seated). (mine : List TakenStep) × Ran u (Some Clean) (seat z c.saturating_add-self-inside.result) mine × NeverCrashes (length mine) (g.C.CrashPlan.asked c.args.plan.now) (g.C.CrashPlan.asked c.count_without_crash.new.plan) (g.C.CrashPlan.fallen c.args.plan.now) (g.C.CrashPlan.fallen c.count_without_crash.new.plan)) c.self.view_is
-    (fast_answered w.port z k w.steps c.saturating_add-self-inside.result _ _ _ _ small c.saturating_add-self-inside.ensures c.count_without_crash.ensures.asked c.count_without_crash.ensures.fallen Clean h.1)
+    subst (λ (u : Seated). (mine : List TakenStep) × Ran u (Some Clean) (seat z c.saturating_add-self-inside.result) mine × NeverCrashes (length mine) (g.C.CrashPlan.askings c.args.plan.now) (g.C.CrashPlan.askings c.count_without_crash.new.plan)) c.self.view_is
+    (fast_answered w.port z k w.steps c.saturating_add-self-inside.result _ _ small c.saturating_add-self-inside.ensures c.count_without_crash.ensures Clean h.1)
 
 pub invariant_of-self-in-Blocked : goal.invariant_of-self-in-Blocked
 invariant_of-self-in-Blocked g c =

@@ -1,4 +1,4 @@
-use Rattle.std.proofs.Common.{refl, ◌∙◌}
+use Rattle.std.proofs.Common.{refl}
 use Rattle.robust.proofs.CallCommon.{behind, on_err, none_more, few_cut, few_ran, cut_from, ran_from}
 use Rattle.execution.proofs.WholeSteps.{few_behind, awaits}
 use Rattle.robust.proofs.call.call_driver.CallDriver.follow.Goals as goal
@@ -12,7 +12,7 @@ pub returns-then-has_fast_way-clause-answered : goal.returns-then-has_fast_way-c
 returns-then-has_fast_way-clause-answered g c =
     let f = c.fast_call.ensures in
     let r = f.ran in
-    (r.0, ran_from c.args.self.now (behind c.args.self.now c.args.call.now) c.fast_call.new.self c.args.call.now c.fast_call.result r.0 refl f.seat_view refl r.1, (r.2.0 ∙ none_more r.0 _, r.2.1))
+    (r.0, ran_from c.args.self.now (behind c.args.self.now c.args.call.now) c.fast_call.new.self c.args.call.now c.fast_call.result r.0 refl f.seat_view refl r.1, none_more r.0 r.2)
 
 pub returns-then-has_fast_way-clause-few : goal.returns-then-has_fast_way-clause-few
 returns-then-has_fast_way-clause-few g c =
@@ -25,7 +25,7 @@ returns-then-has_fast_way-clause-few g c =
 pub returns-clause-answered : goal.returns-clause-answered
 returns-clause-answered g c =
     let r = c.in_ok-answer-in-Ok.ensures.ran in
-    (r.0, ran_from c.args.self.now c.begin_behind.new.self c.run.new.self c.args.call.now c.in-Some.answer r.0 c.in-Ok.ensures.accepted.1 c.in-Ok.ensures.seat_view c.in-Some.is r.1, (r.2.0 ∙ none_more r.0 _, r.2.1))
+    (r.0, ran_from c.args.self.now c.begin_behind.new.self c.run.new.self c.args.call.now c.in-Some.answer r.0 c.in-Ok.ensures.accepted.1 c.in-Ok.ensures.seat_view c.in-Some.is r.1, none_more r.0 r.2)
 
 pub returns-in_err-answer-in-Ok-clause-few : goal.returns-in_err-answer-in-Ok-clause-few
 returns-in_err-answer-in-Ok-clause-few g c =

@@ -6,29 +6,29 @@ use Rattle.robust.proofs.call.call_driver.CallDriver.mail_within.Goals as goal
 
 pub returns-in-Err-clause-fails : goal.returns-in-Err-clause-fails
 returns-in-Err-clause-fails g c =
-    cut_fails c.args.self.now c.set_out_lock.new.self c.take_turns.new.self c.args.turns c.args.task.now (g.C.CrashPlan.asked c.args.plan.now) (g.C.CrashPlan.asked c.take_turns.new.plan) (g.C.CrashPlan.fallen c.args.plan.now) (g.C.CrashPlan.fallen c.take_turns.new.plan) c.in_ok-set_out_lock.ensures.out.0
+    cut_fails c.args.self.now c.set_out_lock.new.self c.take_turns.new.self c.args.turns c.args.task.now (g.C.CrashPlan.askings c.args.plan.now) (g.C.CrashPlan.askings c.take_turns.new.plan) c.in_ok-set_out_lock.ensures.out.0
     c.in_ok-set_out_lock.ensures.accepted c.in-Err.fault c.in-Err.ensures.crashed c.in-Err.ensures.cut
 
 pub returns-in-Ok-clause-fails : goal.returns-in-Ok-clause-fails
 returns-in-Ok-clause-fails g c =
-    whole_fails c.args.self.now c.set_out_lock.new.self c.finish.new.self c.args.turns c.args.task.now (g.C.CrashPlan.asked c.args.plan.now) (g.C.CrashPlan.asked c.finish.new.plan) (g.C.CrashPlan.fallen c.args.plan.now) (g.C.CrashPlan.fallen c.finish.new.plan)
-    c.in_ok-set_out_lock.ensures.out.0 c.in_ok-set_out_lock.ensures.accepted c.finish.result (c.finish.ensures.goes c.set_out_lock.new.self c.args.turns (g.C.CrashPlan.asked c.args.plan.now) (g.C.CrashPlan.fallen c.args.plan.now) c.in-Ok.ensures.ends)
+    whole_fails c.args.self.now c.set_out_lock.new.self c.finish.new.self c.args.turns c.args.task.now (g.C.CrashPlan.askings c.args.plan.now) (g.C.CrashPlan.askings c.finish.new.plan)
+    c.in_ok-set_out_lock.ensures.out.0 c.in_ok-set_out_lock.ensures.accepted c.finish.result (c.finish.ensures.goes c.set_out_lock.new.self c.args.turns (g.C.CrashPlan.askings c.args.plan.now) c.in-Ok.ensures.ends)
 
 pub returns-in-Ok-clause-few : goal.returns-in-Ok-clause-few
 returns-in-Ok-clause-few g c =
     ok_any c.finish.result _
-    (few_whole c.args.self.now c.set_out_lock.new.self c.take_turns.new.self c.finish.new.self c.args.task.now c.args.turns c.in_ok-set_out_lock.ensures.out.0 (lock_setup c.set_out_lock.new.self c.take_turns.new.self c.args.turns c.in-Ok.answer _ _ _ _ c.in-Ok.ensures.ends) c.in-Ok.ensures.few c.finish.ensures.few)
+    (few_whole c.args.self.now c.set_out_lock.new.self c.take_turns.new.self c.finish.new.self c.args.task.now c.args.turns c.in_ok-set_out_lock.ensures.out.0 (lock_setup c.set_out_lock.new.self c.take_turns.new.self c.args.turns c.in-Ok.answer _ _ c.in-Ok.ensures.ends) c.in-Ok.ensures.few c.finish.ensures.few)
 
 pub returns-in-Ok-clause-few_out : goal.returns-in-Ok-clause-few_out
 returns-in-Ok-clause-few_out g c =
     err_any c.finish.result (λ e. e ≢ AlreadyIn) _
-    (few_whole c.args.self.now c.set_out_lock.new.self c.take_turns.new.self c.finish.new.self c.args.task.now c.args.turns c.in_ok-set_out_lock.ensures.out.0 (lock_setup c.set_out_lock.new.self c.take_turns.new.self c.args.turns c.in-Ok.answer _ _ _ _ c.in-Ok.ensures.ends) c.in-Ok.ensures.few c.finish.ensures.few)
+    (few_whole c.args.self.now c.set_out_lock.new.self c.take_turns.new.self c.finish.new.self c.args.task.now c.args.turns c.in_ok-set_out_lock.ensures.out.0 (lock_setup c.set_out_lock.new.self c.take_turns.new.self c.args.turns c.in-Ok.answer _ _ c.in-Ok.ensures.ends) c.in-Ok.ensures.few c.finish.ensures.few)
 
 pub returns-in-Err-clause-few_out : goal.returns-in-Err-clause-few_out
 returns-in-Err-clause-few_out g c = λ other. few_lock c.args.self.now c.set_out_lock.new.self c.take_turns.new.self c.take_turns.new.self c.args.task.now c.args.turns c.in_ok-set_out_lock.ensures.out.0 c.in-Err.ensures.few
 
 pub returns-in-Err-clause-out : goal.returns-in-Err-clause-out
-returns-in-Err-clause-out g c = λ alive. cut_out c.set_out_lock.new.self c.take_turns.new.self _ _ _ _ _ c.in-Err.ensures.cut
+returns-in-Err-clause-out g c = λ alive. cut_out c.set_out_lock.new.self c.take_turns.new.self _ _ _ c.in-Err.ensures.cut
 
 pub returns-in-Ok-clause-out : goal.returns-in-Ok-clause-out
 returns-in-Ok-clause-out g c = λ alive. c.finish.ensures.out (λ none. busy_out c.take_turns.new.self (c.in-Ok.ensures.waits none))

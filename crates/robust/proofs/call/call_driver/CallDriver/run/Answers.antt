@@ -1,5 +1,5 @@
-use Rattle.std.proofs.Common.{◌≡◌, ℕ, suc, ◌+◌, ◌-◌, ◌≤◌, false, None, ap, ◌∙◌, subst, arith}
-use Rattle.robust.proofs.CallCommon.{one_more, Lasts, process_state_now, Seated, TakesStep, on_err, fell_more, more, goes_on, ran_answered, ran_blocked, none_of, asked_more, fits_answer, goes_with}
+use Rattle.std.proofs.Common.{◌≡◌, ℕ, suc, ◌+◌, ◌-◌, ◌≤◌, false, None, refl, subst, arith}
+use Rattle.robust.proofs.CallCommon.{Lasts, process_state_now, Seated, TakesStep, on_err, fell_on, more, goes_on, ran_answered, ran_blocked, none_of, asked_more, fits_answer, goes_with}
 use Rattle.robust.proofs.CallCommon.{still_blocked}
 use Rattle.robust.proofs.call.call_driver.CallDriver.run.Goals as goal
 
@@ -11,7 +11,7 @@ loop-turn-init g c =
     let none = none_of c.fast_way.result c.in_default.not-Some in
     let o = c.fast_way.ensures.on none in
     let b = c.fast_way.ensures.begun none in
-    record { so_far = (o.0, o.1, o.2.0); fallen = o.2.1; under = b.0; busy = b.1; lasts = b.2 }
+    record { so_far = o; under = b.0; busy = b.1; lasts = b.2 }
 
 pub returns-in_err-ask-clause-cut : goal.returns-in_err-ask-clause-cut
 returns-in_err-ask-clause-cut g c =
@@ -21,7 +21,7 @@ returns-in_err-ask-clause-cut g c =
     on_err _ c.from_residual.result (
       s.0,
       record { last = c.loop-turn.self; takes = s.1.takes; steps = s.1.steps; crash = f.falls.0 },
-      (fell_more s.0 _ _ _ f.asked s.2, f.falls.1 ∙ ap one_more i.fallen),
+      fell_on s.2 f.falls.1 refl,
       s.1.blocked,
     )
 
@@ -33,7 +33,7 @@ returns-in-Some-answer-clause-ran g c =
     let y = c.loop-turn.self in (
       more c.args.self.now y c.advance-outcome.new.self i.so_far.0 c.advance-outcome.result i.so_far.1 s,
       ran_answered c.args.self.now y c.advance-outcome.new.self i.so_far.0 c.advance-outcome.result i.so_far.1 s c.in-Some-answer.answer c.in-Some-answer.is,
-      (asked_more c.args.self.now y c.advance-outcome.new.self i.so_far.0 c.advance-outcome.result i.so_far.1 s _ _ _ c.in_ok-ask.ensures.asked i.so_far.2, w.1 ∙ i.fallen),
+      asked_more c.args.self.now y c.advance-outcome.new.self i.so_far.0 c.advance-outcome.result i.so_far.1 s i.so_far.2 w.1,
     )
 
 pub returns-in-Some-answer-clause-still : goal.returns-in-Some-answer-clause-still
@@ -53,7 +53,7 @@ returns-then-outcome-clause-ran g c =
     let y = c.loop-turn.self in (
       more c.args.self.now y c.advance-outcome.new.self i.so_far.0 c.advance-outcome.result i.so_far.1 s,
       ran_blocked c.args.self.now y c.advance-outcome.new.self i.so_far.0 c.advance-outcome.result i.so_far.1 s c.if-outcome.true,
-      (asked_more c.args.self.now y c.advance-outcome.new.self i.so_far.0 c.advance-outcome.result i.so_far.1 s _ _ _ c.in_ok-ask.ensures.asked i.so_far.2, w.1 ∙ i.fallen),
+      asked_more c.args.self.now y c.advance-outcome.new.self i.so_far.0 c.advance-outcome.result i.so_far.1 s i.so_far.2 w.1,
     )
 
 pub returns-then-outcome-clause-still : goal.returns-then-outcome-clause-still
@@ -79,9 +79,8 @@ loop-turn-preserved g c =
       so_far = (
         more c.args.self.now y c.advance-outcome.new.self i.so_far.0 c.advance-outcome.result i.so_far.1 s,
         goes_on c.args.self.now y c.advance-outcome.new.self i.so_far.0 c.advance-outcome.result i.so_far.1 s none c.if-outcome.false,
-        asked_more c.args.self.now y c.advance-outcome.new.self i.so_far.0 c.advance-outcome.result i.so_far.1 s _ _ _ c.in_ok-ask.ensures.asked i.so_far.2,
+        asked_more c.args.self.now y c.advance-outcome.new.self i.so_far.0 c.advance-outcome.result i.so_far.1 s i.so_far.2 w.1,
       );
-      fallen = w.1 ∙ i.fallen;
       under = next.0;
       busy = next.1;
       lasts = next.2;

@@ -1,5 +1,5 @@
-use Rattle.std.proofs.Common.{ap, ◌∙◌}
-use Rattle.robust.proofs.CallCommon.{one_more, Seated, on_err, fell_more, served_as, crashes_of, cut_ran, few_cut, few_ran}
+use Rattle.std.proofs.Common.{refl, ap}
+use Rattle.robust.proofs.CallCommon.{Seated, on_err, asked_on, fell_on, served_as, crashes_of, cut_ran, few_cut, few_ran}
 use Rattle.robust.proofs.call.call_driver.CallDriver.serve.Goals as goal
 
 pub returns-in_err-answer-clause-cut : goal.returns-in_err-answer-clause-cut
@@ -12,13 +12,13 @@ returns-in_err-ask-in-Some-clause-cut g c =
     let r = c.in_ok-answer.ensures.ran in
     let f = c.in_err-ask-in-Some.ensures in
     on_err _ c.from_residual-in_err-ask-in-Some.result
-    (r.0, crashes_of c.args.self.now c.ask.new.self c.args.call.now r.0 c.requires.seat_view c.requires.start (cut_ran c.args.self.now c.run.new.self c.ask.new.self _ r.0 r.1 f.falls.0), (fell_more r.0 _ _ _ f.asked r.2.0, f.falls.1 ∙ ap one_more r.2.1))
+    (r.0, crashes_of c.args.self.now c.ask.new.self c.args.call.now r.0 c.requires.seat_view c.requires.start (cut_ran c.args.self.now c.run.new.self c.ask.new.self _ r.0 r.1 f.falls.0), fell_on r.2 f.falls.1 refl)
 
 pub returns-clause-answered : goal.returns-clause-answered
 returns-clause-answered g c =
     let r = c.in_ok-answer.ensures.ran in
     let w = c.in_ok-ask-in-Some.ensures in
-    (r.0, served_as c.args.self.now c.run.new.self c.ask.new.self c.args.call.now c.in-Some.answer r.0 c.requires.seat_view c.requires.start c.in-Some.is r.1 w.goes_on.0, (fell_more r.0 _ _ _ w.asked r.2.0, w.goes_on.1 ∙ r.2.1))
+    (r.0, served_as c.args.self.now c.run.new.self c.ask.new.self c.args.call.now c.in-Some.answer r.0 c.requires.seat_view c.requires.start c.in-Some.is r.1 w.goes_on.0, asked_on r.2 w.goes_on.1 refl)
 
 pub returns-clause-idle : goal.returns-clause-idle
 returns-clause-idle g c = (returns-clause-answered g c).1.idle

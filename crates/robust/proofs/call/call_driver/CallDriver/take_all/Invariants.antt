@@ -1,10 +1,9 @@
-use Rattle.std.proofs.Common.{◌≡◌, ℕ, List, length}
-use Rattle.robust.proofs.CallCommon.{Lock, TakenStep, Turning, process_state_now, many_more, Begun}
+use Rattle.std.proofs.Common.{ℕ, List, length}
+use Rattle.robust.proofs.CallCommon.{Lock, TakenStep, Turning, process_state_now, NeverCrashes, Begun}
 use Rattle.robust.proofs.call.call_driver.CallDriver.take_all.Given as goal
 
 abbrev pub invariant-loop : goal.invariant-loop
 invariant-loop g l = record {
-  so_far : ((mine : List TakenStep) × (k : ℕ) × Turning l.fn.self mine k l.self × (g.C.CrashPlan.asked l.plan ≡ many_more (length mine) (g.C.CrashPlan.asked l.fn.plan)));
-  fallen : g.C.CrashPlan.fallen l.plan ≡ g.C.CrashPlan.fallen l.fn.plan;
+  so_far : ((mine : List TakenStep) × (k : ℕ) × Turning l.fn.self mine k l.self × NeverCrashes (length mine) (g.C.CrashPlan.askings l.fn.plan) (g.C.CrashPlan.askings l.plan));
   begun : Begun Lock l.self.seat_view.setup.layout.procs (process_state_now l.self.seat_view);
 }

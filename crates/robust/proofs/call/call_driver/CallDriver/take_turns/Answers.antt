@@ -1,41 +1,38 @@
-use Rattle.std.proofs.Common.{◌≡◌, ℕ, ◌+◌, ◌≤◌, [], ◌++◌, length, refl, ap, ◌∙◌, subst, arith}
-use Rattle.robust.proofs.CallCommon.{one_more, Lock, Served, Still, many_more, on_err, crashes_of, none_more, turned_few, turned_few_cut, turned_few_out, waiting_out, none_of, many_append, many_fell}
+use Rattle.std.proofs.Common.{◌≡◌, ℕ, ◌+◌, ◌≤◌, [], ◌++◌, refl, sym, subst, arith, length-append}
+use Rattle.robust.proofs.CallCommon.{Lock, Served, Still, on_err, crashes_of, none_more, turned_few, turned_few_cut, turned_few_out, waiting_out, none_of, asked_on, fell_on, length-fell}
 use Rattle.robust.proofs.CallCommon.{turned, turned_served, turned_cut, turning_first, turned_out}
 use Rattle.robust.proofs.call.call_driver.CallDriver.take_turns.Goals as goal
 
 pub loop-answer-init : goal.loop-answer-init
-loop-answer-init g c = record { so_far = ([], 0, (omega arith), turning_first c.args.self.now, refl); fallen = refl; begun = c.requires.begun }
+loop-answer-init g c = record { so_far = ([], 0, (omega arith), turning_first c.args.self.now, record { asked = refl; fallen = refl }); begun = c.requires.begun }
 
 pub returns-in_err-answer-clause-cut : goal.returns-in_err-answer-clause-cut
 returns-in_err-answer-clause-cut g c =
-    let i = c.loop-answer.invariant in
-    let s = i.so_far in
+    let s = c.loop-answer.invariant.so_far in
     let r = c.in_err-answer.ensures.cut in
     on_err _ c.from_residual.result (
       s.0 ++ r.0,
       crashes_of c.args.self.now c.run.new.self Lock (s.0 ++ r.0) c.requires.seat_view c.requires.start (turned_cut c.args.self.now c.loop-answer.self c.run.new.self s.0 r.0 s.1 s.3 r.1),
-      (r.2.0 ∙ ap (many_more (length r.0 + 1)) s.4 ∙ many_fell s.0 r.0 _, r.2.1 ∙ ap one_more i.fallen),
+      fell_on s.4 r.2 (length-fell s.0 r.0),
     )
 
 pub returns-in-Some-clause-ends : goal.returns-in-Some-clause-ends
 returns-in-Some-clause-ends g c =
-    let i = c.loop-answer.invariant in
-    let s = i.so_far in
+    let s = c.loop-answer.invariant.so_far in
     let r = c.in_ok-answer.ensures.ran in
     let served = turned_served c.args.self.now c.loop-answer.self c.run.new.self s.0 r.0 s.1 s.3 Lock c.in-Some.answer c.in-Some.is c.requires.seat_view c.requires.start r.1 in
     let few : s.1 ≤ c.args.turns = (let sum = s.2 in omega arith) in
-    (s.1, few, (s.0 ++ r.0, served, (r.2.0 ∙ ap (many_more (length r.0)) s.4 ∙ many_append s.0 r.0 _ ∙ none_more (s.0 ++ r.0) _, r.2.1 ∙ i.fallen)))
+    (s.1, few, (s.0 ++ r.0, served, none_more (s.0 ++ r.0) (asked_on s.4 r.2 (sym (length-append s.0 r.0)))))
 
 pub returns-then-left-eq0-clause-ends : goal.returns-then-left-eq0-clause-ends
 returns-then-left-eq0-clause-ends g c =
-    let i = c.loop-answer.invariant in
-    let s = i.so_far in
+    let s = c.loop-answer.invariant.so_far in
     let r = c.in_ok-answer.ensures.ran in
     let none = none_of _ c.in_default.not-Some in
     let k : s.1 ≡ c.args.turns = (let sum = s.2 in omega (arith, c.if-left-eq0.true)) in
     let t = turned c.args.self.now c.loop-answer.self c.run.new.self s.0 r.0 s.1 s.3 none r.1 in
     let served = turned_out c.args.self.now c.run.new.self (s.0 ++ r.0) s.1 Lock c.requires.seat_view c.requires.start t in
-    (s.0 ++ r.0, subst (λ (u : ℕ). Served c.args.self.now Lock [] (u + 1) c.run.new.self (s.0 ++ r.0)) k served, (r.2.0 ∙ ap (many_more (length r.0)) s.4 ∙ many_append s.0 r.0 _ ∙ none_more (s.0 ++ r.0) _, r.2.1 ∙ i.fallen))
+    (s.0 ++ r.0, subst (λ (u : ℕ). Served c.args.self.now Lock [] (u + 1) c.run.new.self (s.0 ++ r.0)) k served, none_more (s.0 ++ r.0) (asked_on s.4 r.2 (sym (length-append s.0 r.0))))
 
 pub returns-then-left-eq0-clause-waiting : goal.returns-then-left-eq0-clause-waiting
 returns-then-left-eq0-clause-waiting g c =
@@ -45,8 +42,7 @@ returns-then-left-eq0-clause-waiting g c =
 
 pub loop-answer-preserved : goal.loop-answer-preserved
 loop-answer-preserved g c =
-    let i = c.loop-answer.invariant in
-    let s = i.so_far in
+    let s = c.loop-answer.invariant.so_far in
     let r = c.in_ok-answer.ensures.ran in
     let none = none_of _ c.in_default.not-Some in
     let still = subst (Still Lock c.run.new.self) none c.in_ok-answer.ensures.still in
@@ -56,9 +52,8 @@ loop-answer-preserved g c =
         s.1 + 1,
         (let sum = s.2 in omega (arith, c.if-left-eq0.false)),
         turned c.args.self.now c.loop-answer.self c.run.new.self s.0 r.0 s.1 s.3 none r.1,
-        r.2.0 ∙ ap (many_more (length r.0)) s.4 ∙ many_append s.0 r.0 _,
+        asked_on s.4 r.2 (sym (length-append s.0 r.0)),
       );
-      fallen = r.2.1 ∙ i.fallen;
       begun = (still.1, still.2, still.3);
     }
 

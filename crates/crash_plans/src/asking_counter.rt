@@ -1,33 +1,32 @@
-//! The askings of a plan.
+//! The askings of a plan, counted.
 
-ghost use Rattle.std.specs.Prelude.{◌≡◌, if◌then◌else◌};
-ghost use Rattle.rmecore.specs.Simulated.{one_more};
+ghost use Rattle.std.specs.Prelude.{◌≡◌};
 
 use std::marker::Model;
 
 /// The number of askings, and the number of those at which the plan fell. Each saturates at 2^64 - 1.
 #[derive(Debug, Drop)]
-pub struct Askings {
+pub struct AskingCounter {
     asked: u64,
     fallen: u64,
 }
 
-impl Model for Askings {
-    ghost use Rattle.crash_plans.specs.Plans.{Count};
+impl Model for AskingCounter {
+    ghost use Rattle.crash_plans.specs.Plans.{Askings};
 
-    ghost Value = { Count };
+    ghost Value = { Askings };
 
     ghost view = { λ a. record { asked = a.asked; fallen = a.fallen } };
 }
 
-impl Askings {
-    ghost use Rattle.crash_plans.specs.Plans.{next_asking, unasked, so_many_more};
+impl AskingCounter {
+    ghost use Rattle.crash_plans.specs.Plans.{next_asking, unasked, asked_once, many_more};
 
     /// The counts before the first asking.
-    pub fn new() -> Askings
+    pub fn new() -> AskingCounter
         ensures { result ≡ unasked }
     {
-        Askings {
+        AskingCounter {
             asked: 0,
             fallen: 0,
         }
@@ -41,18 +40,15 @@ impl Askings {
     }
 
     /// Counts askings at which the plan does not fall.
-    pub fn count_without_crash(&mut self, askings: u64)
-        ensures { self.new ≡ record self.old { asked = so_many_more askings self.old.asked } }
+    pub fn count_without_crash(&mut self, times: u64)
+        ensures { self.new ≡ record self.old { asked = many_more times self.old.asked } }
     {
-        self.asked = self.asked.saturating_add(askings);
+        self.asked = self.asked.saturating_add(times);
     }
 
     /// Counts one asking, and whether the plan falls there.
     pub fn count(&mut self, falls: bool)
-        ensures { self.new ≡ record {
-          asked = one_more self.old.asked;
-          fallen = if falls then one_more self.old.fallen else self.old.fallen;
-        } }
+        ensures { self.new ≡ asked_once falls self.old }
     {
         self.asked = self.asked.saturating_add(1);
         if falls {

@@ -5,5 +5,6 @@
 #[cfg(test)]
 mod labs;
 mod plain;
-pub mod support;
+#[cfg(test)]
+mod support;
 mod table;

@@ -5,6 +5,7 @@ ghost use Rattle.std.specs.Thread.{IsSend, IsSync};
 
 use crate::plain::kit::two;
 use crate::support::gated::{Gated, meeting};
+use crate::support::messages::body;
 use crash_plans::{CrashPlan, Never};
 use execution::LockFault;
 use one_lock::{Entry, Member};
@@ -15,7 +16,6 @@ use std::marker::Brand;
 use std::process::Abort;
 use std::sync::Wait;
 use std::sync::ledger::{Blank, Ledger};
-use std::test::Fail;
 use std::thread;
 use std::thread::Threads;
 
@@ -33,14 +33,14 @@ fn meets_an_append<L: Ledger + Send + Sync, R: Abort + Threads + Wait + Sync>(
     alloc: Global,
     closes: bool,
     blank: Blank,
-) -> Result<(), Fail>
+)
     requires name { blank.name ≡ L.name }
     requires parts { blank.parts ≡ L.parts }
     requires both { blank.parts ≡ 2 }
 {
     let (first, second) = two::<L>(rt, alloc, 10, 2, blank);
-    let (gate, other, zero, one) = meeting(alloc, 20)?;
-    let value = Body::new(&[1])?;
+    let (gate, other, zero, one) = meeting(rt, alloc, 20);
+    let value = body(1);
     let (reply, met) = thread::join(
         rt,
         move || -> Result<Reply, LockFault>
@@ -52,7 +52,6 @@ fn meets_an_append<L: Ledger + Send + Sync, R: Abort + Threads + Wait + Sync>(
     );
     assert!(rt; reply == Ok(Reply::Stored) && met);
     assert!(rt; !zero.has_given_up() && !one.has_given_up());
-    Ok(())
 }
 
 /// Whether a close, or a lock, is answered as it has to be.
@@ -70,23 +69,22 @@ fn enters<L: Ledger, R: Wait>(
 }
 
 #[test]
-fn a_lock_and_a_close_at_once_with_an_append(rt: HostRuntime) -> Result<(), Fail> {
-    meets_an_append::<Brand, _>(&rt, rt.alloc(), false, Blank::new(2))?;
-    meets_an_append::<Brand, _>(&rt, rt.alloc(), true, Blank::new(2))?;
-    Ok(())
+fn a_lock_and_a_close_at_once_with_an_append(rt: HostRuntime) {
+    meets_an_append::<Brand, _>(&rt, rt.alloc(), false, Blank::new(2));
+    meets_an_append::<Brand, _>(&rt, rt.alloc(), true, Blank::new(2));
 }
 
 fn both_append<L: Ledger + Send + Sync, R: Abort + Threads + Wait + Sync>(
     rt: &R,
     alloc: Global,
     blank: Blank,
-) -> Result<(), Fail>
+)
     requires name { blank.name ≡ L.name }
     requires parts { blank.parts ≡ L.parts }
     requires both { blank.parts ≡ 2 }
 {
     let (first, second) = two::<L>(rt, alloc, 10, 4, blank);
-    let (five, nine) = (Body::new(&[5])?, Body::new(&[9])?);
+    let (five, nine) = (body(5), body(9));
     let (one, other) = thread::join(
         rt,
         move || -> Result<Reply, LockFault>
@@ -97,10 +95,9 @@ fn both_append<L: Ledger + Send + Sync, R: Abort + Threads + Wait + Sync>(
         { appends(rt, second, Never::new(), nine) },
     );
     assert!(rt; one == Ok(Reply::Stored) && other == Ok(Reply::Stored));
-    Ok(())
 }
 
 #[test]
-fn answers_of_freshness(rt: HostRuntime) -> Result<(), Fail> {
-    both_append::<Brand, _>(&rt, rt.alloc(), Blank::new(2))
+fn answers_of_freshness(rt: HostRuntime) {
+    both_append::<Brand, _>(&rt, rt.alloc(), Blank::new(2));
 }

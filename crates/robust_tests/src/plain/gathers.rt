@@ -9,9 +9,8 @@ use std::marker::Brand;
 use std::process::Abort;
 use std::sync::Wait;
 use std::sync::ledger::{Blank, Ledger};
-use std::test::Fail;
 
-fn misses_some<L: Ledger, R: Abort + Wait>(rt: &R, alloc: Global, blank: Blank) -> Result<(), Fail>
+fn misses_some<L: Ledger, R: Abort + Wait>(rt: &R, alloc: Global, blank: Blank)
     requires name { blank.name ≡ L.name }
     requires parts { blank.parts ≡ L.parts }
     requires both { blank.parts ≡ 2 }
@@ -22,19 +21,21 @@ fn misses_some<L: Ledger, R: Abort + Wait>(rt: &R, alloc: Global, blank: Blank) 
     };
     assert!(rt; none.is_empty());
     let (one, other) = two::<L>(rt, alloc, 10, 1, blank);
-    let mut some = Vec::new(alloc);
-    some.push(one)?;
+    let Ok(some) = vec![in alloc; one] else {
+        panic!(rt; "no memory")
+    };
     let Err((mut some, GatherFault::NotAll)) = gather(rt, some) else {
         panic!(rt; "gathered one of two")
     };
     assert_eq!(rt; some.len(), 1);
-    let one = some.pop().ok_or("the member")?;
+    let Some(one) = some.pop() else {
+        panic!(rt; "no member")
+    };
     let image = left_by(rt, alloc, one, other);
     assert_eq!(rt; image.lock.as_slice().len(), 2);
-    Ok(())
 }
 
 #[test]
-fn not_all(rt: HostRuntime) -> Result<(), Fail> {
-    misses_some::<Brand, _>(&rt, rt.alloc(), Blank::new(2))
+fn not_all(rt: HostRuntime) {
+    misses_some::<Brand, _>(&rt, rt.alloc(), Blank::new(2));
 }

@@ -3,7 +3,8 @@
 use crash_plans::{CrashPlan, Never};
 use crossbeam_utils::Backoff;
 use one_lock::lab::Gate;
-use std::alloc::{AllocError, Global};
+use std::alloc::Global;
+use std::process::Abort;
 use std::sync::Arc;
 use std::sync::atomic::{AtomicU64, Ordering};
 
@@ -22,14 +23,17 @@ pub struct WorkerProgress {
 
 impl WorkerProgress {
     /// A worker that has not asked yet.
-    pub fn new(alloc: Global) -> Result<Arc<WorkerProgress>, AllocError> {
+    pub fn new(rt: &impl Abort, alloc: Global) -> Arc<WorkerProgress> {
         let progress = WorkerProgress {
             askings: AtomicU64::new(0),
             answer: AtomicU64::new(0),
             answered_at: AtomicU64::new(0),
             gave_up: AtomicU64::new(0),
         };
-        Ok(Arc::new(alloc, progress)?)
+        match Arc::new(alloc, progress) {
+            Ok(progress) => progress,
+            Err(_) => panic!(rt; "no memory"),
+        }
     }
 
     /// Whether the gate has given up waiting.
@@ -53,6 +57,14 @@ impl WorkerProgress {
     }
 }
 
+/// Another owner of what a worker's gates share.
+fn shared(rt: &impl Abort, progress: &Arc<WorkerProgress>) -> Arc<WorkerProgress> {
+    match Arc::try_clone(progress) {
+        Ok(progress) => progress,
+        Err(_) => panic!(rt; "too many owners"),
+    }
+}
+
 /// How far the other worker has to get.
 #[derive(Clone, Copy, Debug)]
 pub enum Until {
@@ -73,19 +85,20 @@ pub struct Gated {
 
 impl Gated {
     pub fn new(
+        rt: &impl Abort,
         at: u64,
         until: Until,
         mine: &Arc<WorkerProgress>,
         others: &Arc<WorkerProgress>,
-    ) -> Result<Gated, AllocError> {
-        Ok(Gated {
+    ) -> Gated {
+        Gated {
             never: Never::new(),
             askings: 0,
             at,
             until,
-            mine: Arc::try_clone(mine)?,
-            others: Arc::try_clone(others)?,
-        })
+            mine: shared(rt, mine),
+            others: shared(rt, others),
+        }
     }
 
     fn is_let_go(&self) -> bool {
@@ -130,12 +143,13 @@ impl Gate for Gated {
 /// Two gates that meet. The second gate's first asking waits until worker 0 is at its asking 12, inside; and that asking
 /// waits until worker 1 is at this one.
 pub fn meeting(
+    rt: &impl Abort,
     alloc: Global,
     asking: u64,
-) -> Result<(Gated, Gated, Arc<WorkerProgress>, Arc<WorkerProgress>), AllocError> {
-    let zero = WorkerProgress::new(alloc)?;
-    let one = WorkerProgress::new(alloc)?;
-    let first = Gated::new(12, Until::Asking(asking), &zero, &one)?;
-    let second = Gated::new(1, Until::Asking(12), &one, &zero)?;
-    Ok((first, second, zero, one))
+) -> (Gated, Gated, Arc<WorkerProgress>, Arc<WorkerProgress>) {
+    let zero = WorkerProgress::new(rt, alloc);
+    let one = WorkerProgress::new(rt, alloc);
+    let first = Gated::new(rt, 12, Until::Asking(asking), &zero, &one);
+    let second = Gated::new(rt, 1, Until::Asking(12), &one, &zero);
+    (first, second, zero, one)
 }

@@ -2,7 +2,8 @@
 
 use crash_plans::{Both, CrashPlan};
 use one_lock::lab::{Gate, Spec};
-use std::alloc::{AllocError, Global};
+use std::alloc::Global;
+use std::process::Abort;
 use std::sync::Arc;
 use std::sync::atomic::{AtomicU64, Ordering};
 
@@ -47,20 +48,25 @@ pub struct Noting {
 
 impl Noting {
     /// The gate, and its notes for the test.
-    pub fn new(alloc: Global) -> Result<(Noting, Arc<GateNotes>), AllocError> {
+    pub fn new(rt: &impl Abort, alloc: Global) -> (Noting, Arc<GateNotes>) {
         let notes = GateNotes {
             askings: AtomicU64::new(0),
             right: AtomicU64::new(0),
             wrong: AtomicU64::new(0),
         };
-        let notes = Arc::new(alloc, notes)?;
+        let Ok(notes) = Arc::new(alloc, notes) else {
+            panic!(rt; "no memory")
+        };
+        let Ok(shared) = Arc::try_clone(&notes) else {
+            panic!(rt; "too many owners")
+        };
         let gate = Noting {
             plan: Both::new(12, 30),
             askings: 0,
             heard: 0,
-            notes: Arc::try_clone(&notes)?,
+            notes: shared,
         };
-        Ok((gate, notes))
+        (gate, notes)
     }
 }
 

@@ -25,10 +25,10 @@ fn closes<R: Wait>(rt: &R, mut member: Member, mut gate: Gated) -> bool {
 }
 
 #[test]
-fn a_lock_beside_an_append(rt: HostRuntime) -> Result<(), Fail> {
+fn a_lock_beside_an_append(rt: HostRuntime) {
     let rt = &rt;
     let (one, other) = two(rt, rt.alloc(), 10, 2);
-    let (first, second, zero, late) = meeting(rt.alloc(), 20)?;
+    let (first, second, zero, late) = meeting(rt, rt.alloc(), 20);
     let value = body(1);
     let answers = thread::join(
         rt,
@@ -37,14 +37,13 @@ fn a_lock_beside_an_append(rt: HostRuntime) -> Result<(), Fail> {
     );
     assert!(rt; answers.0 && answers.1);
     assert!(rt; !zero.has_given_up() && !late.has_given_up());
-    Ok(())
 }
 
 #[test]
-fn a_close_beside_an_append(rt: HostRuntime) -> Result<(), Fail> {
+fn a_close_beside_an_append(rt: HostRuntime) {
     let rt = &rt;
     let (one, other) = two(rt, rt.alloc(), 10, 2);
-    let (first, second, zero, late) = meeting(rt.alloc(), 20)?;
+    let (first, second, zero, late) = meeting(rt, rt.alloc(), 20);
     let value = body(1);
     let answers = thread::join(
         rt,
@@ -53,7 +52,6 @@ fn a_close_beside_an_append(rt: HostRuntime) -> Result<(), Fail> {
     );
     assert!(rt; answers.0 && answers.1);
     assert!(rt; !zero.has_given_up() && !late.has_given_up());
-    Ok(())
 }
 
 /// An append without a gate that holds it, and its member.

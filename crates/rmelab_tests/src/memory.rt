@@ -1,9 +1,9 @@
-//! Each request for memory of worlds, images, replays, traces and labs is refused in turn. Tests alone: each names public
-//! functions of `rmeworld`, `schedule` or `robust`.
+//! Each request for memory of replays, traces and labs is refused in turn. Tests alone: each names public functions of
+//! `schedule` or `robust`.
 
 #[cfg(test)]
 mod labs;
 #[cfg(test)]
-mod traces;
+mod replays;
 #[cfg(test)]
-mod worlds;
+mod traces;

@@ -25,6 +25,8 @@ mod played;
 #[cfg(test)]
 mod redo;
 #[cfg(test)]
+mod refused_memory;
+#[cfg(test)]
 mod torn;
 #[cfg(test)]
 mod worlds;

@@ -88,7 +88,8 @@ fn is_torn(alloc: Global, world: &mut World, width: u64, sent: u64, mended: Opti
     }
 }
 
-fn is_same(image: &Image, other: &Image) -> bool {
+/// Whether two images are the same in all fields.
+pub fn is_same(image: &Image, other: &Image) -> bool {
     image.cap == other.cap
         && image.cells.as_slice() == other.cells.as_slice()
         && image.limit == other.limit

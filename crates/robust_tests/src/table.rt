@@ -12,6 +12,8 @@ mod eight;
 #[cfg(test)]
 mod held;
 #[cfg(test)]
+mod interrupted;
+#[cfg(test)]
 mod kit;
 #[cfg(test)]
 mod members;

@@ -1,6 +1,6 @@
 -- Imports that two or more proof files of this crate share. Declares nothing.
 pub use Rattle.std.proofs.Math.ListN.{length-set, get_or-append}
-pub use Rattle.std.proofs.lemmas.Bool.{cases_Bool, cond_both, eqb-false, cases_eq, or_right, cond-true, cond-false, false≢true}
+pub use Rattle.std.proofs.lemmas.Bool.{cases_Bool, cond_both, eqb-false, cases_eq, cases_lt, or_right, cond-true, cond-false, false≢true}
 pub use Rattle.std.proofs.lemmas.Slice.Eq.{bytes_eq-Decides}
 pub use Rattle.rmecore.specs.Needs.{put, AllHold}
 pub use Rattle.redomail.specs.declared.deed.Deed.{Deed}
@@ -9,7 +9,7 @@ pub use Rattle.redomail.specs.declared.message.Message.{Message}
 pub use Rattle.redomail.specs.declared.record.Record.{Record}
 pub use Rattle.redomail.specs.declared.reply.Reply.{Reply}
 pub use Rattle.redomail.specs.declared.task.Task.{Task}
-pub use Rattle.redomail.specs.Content.{HeadsHold, AreCounts}
+pub use Rattle.redomail.specs.Content.{HeadsHold, AreCountsFrom, AreLastsFrom, IsNumberedIn, IsListedIn, IsNext}
 pub use Rattle.redomail.specs.Deeds.{deeds_of_put}
 pub use Rattle.redomail.specs.Jobs.{left_at, value_width, buffer_width, words_read, steps_done, board_index, FitsStage}
 pub use Rattle.redomail.specs.Layout.{row, Words, held, last_at, board_at, IsLayout, words_of, size}

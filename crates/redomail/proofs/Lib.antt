@@ -11,6 +11,7 @@ pub mod Keeps
 pub mod Repairs
 pub mod OnWay
 pub mod Readings
+pub mod Listed
 pub mod Steps
 pub mod Passes
 pub mod Among

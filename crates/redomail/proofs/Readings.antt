@@ -1,6 +1,6 @@
 -- Reading the messages of data words.
 use Rattle.std.proofs.Common.{◌≡◌, ◌≢◌, ℕ, zero, suc, ◌+◌, ◌-◌, ◌<◌, ◌≤◌, List, [], ◌∷◌, ◌++◌, length, take, drop, slice_index, slice_set, cond, ◌==◌, refl, sym, ◌∙◌, ap, inl, inr, arith, drop-cons, below_more, get_or-set_same, get_or-set_other, ◌⊎◌, eqb-true, true≢false, eq-eqb, ne_eqb}
-use Rattle.redomail.proofs.Common.{length-set, cases_Bool, cond_both, eqb-false, cases_eq, Layout, Message, HeadsHold, AreCounts, row, Words, words_of, place_at, entry, entries, count_of, IsNumbered}
+use Rattle.redomail.proofs.Common.{length-set, cases_Bool, cond_both, eqb-false, cases_eq, cases_lt, Layout, Message, HeadsHold, AreCountsFrom, IsNumberedIn, row, Words, words_of, place_at, entry, entries, count_of}
 use Rattle.redomail.proofs.Common.{bit}
 use Rattle.rmecore.specs.Body.{zeros}
 use Rattle.redomail.specs.Laws.{ContentIsShape}
@@ -33,38 +33,93 @@ place_within l xs a h room =
     let n = h.size in
     (omega arith, omega arith)
 
--- one more entry
-pub one_more : (l : Layout) (xs : List ℕ) (a : ℕ) (messages : List Message) (counts : List ℕ) (m : Message) → m ≡ entry l (words_of xs) a → m.sender < l.procs → slice_index counts m.sender + 1 ≡ m.seq
-    → messages ≡ entries l (words_of xs) a → AreCounts l xs a counts → IsNumbered l (words_of xs) a
-    → (messages ++ m ∷ [] ≡ entries l (words_of xs) (a + 1)) × AreCounts l xs (a + 1) (slice_set counts m.sender m.seq) × IsNumbered l (words_of xs) (a + 1)
-one_more l xs a messages counts m em low seq es c n =
+pub cases_in : (first past q : ℕ) → ((first ≤ q) × (q < past)) ⊎ (first ≤ q → q < past → ⊥)
+cases_in first past q =
+    elim (cases_lt q first) [
+      | inl low ↦ inr (λ from _. omega arith)
+      | inr from ↦ elim (cases_lt q past) [ inl to ↦ inl (from, to) | inr high ↦ inr (λ _ to. omega arith) ]
+    ]
+
+-- One more entry, of a sender that has a count.
+pub counted_more : (l : Layout) (xs : List ℕ) (a first i : ℕ) (counts : List ℕ) (m : Message) → m ≡ entry l (words_of xs) a → m.sender < l.procs → m.sender ≡ first + i → i < length counts → slice_index counts i + 1 ≡ m.seq
+    → AreCountsFrom l xs a first counts → IsNumberedIn l (words_of xs) a first (first + length counts)
+    → AreCountsFrom l xs (a + 1) first (slice_set counts i m.seq) × IsNumberedIn l (words_of xs) (a + 1) first (first + length counts)
+counted_more l xs a first i counts m em low at here seq c n =
     let w : Words = words_of xs in
+    let past : ℕ = first + length counts in
     let more : entries l w (a + 1) ≡ entries l w a ++ m ∷ [] = entries-more l w a ∙ ap (λ x. entries l w a ++ x ∷ []) (sym em) in
     let mine : m.sender ≡ w (place_at l a) = ap (λ x. x.sender) em in
     let number : m.seq ≡ w (place_at l a + 1) = ap (λ x. x.seq) em in
-    let here : m.sender < length counts = omega (arith, c.length) in
-    let before : slice_index counts m.sender ≡ count_of m.sender (entries l w a) = c.counted m.sender low in (
-      rw es (sym more),
+    let before : slice_index counts i ≡ count_of m.sender (entries l w a) = c i m.sender here at in (
+      (λ j q small e.
+          let push = ap (count_of q) more ∙ count_of-push q (entries l w a) m in
+          let long : length (slice_set counts i m.seq) ≡ length counts = length-set counts i m.seq in
+          elim (cases_eq j i) [
+            | inl same ↦
+                (let set : slice_index (slice_set counts i m.seq) j ≡ m.seq = rw (same, get_or-set_same) refl in
+                let its : q ≡ m.sender = omega arith in
+                let one : ◌≡◌ {A = ℕ} (cond (m.sender == q) 1 0) 1 = rw (eq-eqb m.sender q (sym its)) refl in
+                let b : count_of q (entries l w a) ≡ slice_index counts i = ap (λ x. count_of x (entries l w a)) its ∙ sym before in
+                omega (arith, set, one, b, push, seq))
+            | inr other ↦
+                (let d : j ≢ i = other in
+                let set : slice_index (slice_set counts i m.seq) j ≡ slice_index counts j = rw get_or-set_other refl in
+                let none : ◌≡◌ {A = ℕ} (cond (m.sender == q) 1 0) 0 = rw (ne_eqb m.sender q (λ x. d (omega arith))) refl in
+                omega (arith, set, none, push, c j q (omega arith) e))
+          ]),
       record {
-        length = length-set counts m.sender m.seq ∙ c.length;
-        counted = λ q lq.
-            let push = ap (count_of q) more ∙ count_of-push q (entries l w a) m in
-            elim (cases_eq q m.sender) [
-              | inl same ↦
-                  (let set : slice_index (slice_set counts m.sender m.seq) q ≡ m.seq = rw (same, get_or-set_same) refl in
-                  let one : ◌≡◌ {A = ℕ} (cond (m.sender == q) 1 0) 1 = rw (eq-eqb m.sender q (sym same)) refl in
-                  let b : count_of q (entries l w a) ≡ slice_index counts m.sender = ap (λ x. count_of x (entries l w a)) same ∙ sym before in
-                  omega (arith, set, one, b, push, seq))
-              | inr other ↦
-                  (let d : q ≢ m.sender = other in
-                  let set : slice_index (slice_set counts m.sender m.seq) q ≡ slice_index counts q = rw get_or-set_other refl in
-                  let none : ◌≡◌ {A = ℕ} (cond (m.sender == q) 1 0) 0 = rw (ne_eqb m.sender q (λ e. other (sym e))) refl in
-                  omega (arith, set, none, push, c.counted q lq))
-            ];
+        sent = below_more (λ b. w (place_at l b) < l.procs) a n.sent (rw (← mine) low);
+        numbered = below_more (λ b. first ≤ w (place_at l b) → w (place_at l b) < past → w (place_at l b + 1) ≡ count_of (w (place_at l b)) (entries l w b) + 1) a
+            n.numbered
+            (λ _ _. rw (← mine, ← number) (sym seq ∙ ap (λ x. x + 1) before));
       },
-      below_more (λ b. (w (place_at l b) < l.procs) × (w (place_at l b + 1) ≡ count_of (w (place_at l b)) (entries l w b) + 1)) a n
-          (rw (← mine, ← number) (low, sym seq ∙ ap (λ x. x + 1) before)),
     )
+
+-- One more entry, of another sender.
+pub others_more : (l : Layout) (xs : List ℕ) (a first : ℕ) (counts : List ℕ) (m : Message) → m ≡ entry l (words_of xs) a → m.sender < l.procs → (first ≤ m.sender → m.sender < first + length counts → ⊥)
+    → AreCountsFrom l xs a first counts → IsNumberedIn l (words_of xs) a first (first + length counts)
+    → AreCountsFrom l xs (a + 1) first counts × IsNumberedIn l (words_of xs) (a + 1) first (first + length counts)
+others_more l xs a first counts m em low out c n =
+    let w : Words = words_of xs in
+    let past : ℕ = first + length counts in
+    let more : entries l w (a + 1) ≡ entries l w a ++ m ∷ [] = entries-more l w a ∙ ap (λ x. entries l w a ++ x ∷ []) (sym em) in
+    let mine : m.sender ≡ w (place_at l a) = ap (λ x. x.sender) em in (
+      (λ j q small e.
+          let push = ap (count_of q) more ∙ count_of-push q (entries l w a) m in
+          let none : ◌≡◌ {A = ℕ} (cond (m.sender == q) 1 0) 0 = rw (ne_eqb m.sender q (λ x. out (omega arith) (omega arith))) refl in
+          omega (arith, none, push, c j q small e)),
+      record {
+        sent = below_more (λ b. w (place_at l b) < l.procs) a n.sent (rw (← mine) low);
+        numbered = below_more (λ b. first ≤ w (place_at l b) → w (place_at l b) < past → w (place_at l b + 1) ≡ count_of (w (place_at l b)) (entries l w b) + 1) a
+            n.numbered
+            (λ from to. absurd (out (rw mine from) (rw mine to)));
+      },
+    )
+
+-- The number of an entry that is numbered comes next after the count of its sender.
+pub next_number : (l : Layout) (xs : List ℕ) (a first i past k : ℕ) (counts : List ℕ) (m : Message) → m ≡ entry l (words_of xs) a → m.sender ≡ first + i → i < length counts → first ≤ m.sender → m.sender < past
+    → IsNumberedIn l (words_of xs) k first past → a < k → AreCountsFrom l xs a first counts → slice_index counts i + 1 ≡ m.seq
+next_number l xs a first i past k counts m em at here from to n below c =
+    let w : Words = words_of xs in
+    let mine : m.sender ≡ w (place_at l a) = ap (λ x. x.sender) em in
+    let number : m.seq ≡ w (place_at l a + 1) = ap (λ x. x.seq) em in
+    let counted : slice_index counts i ≡ count_of m.sender (entries l w a) = c i m.sender here at in
+    let next : w (place_at l a + 1) ≡ count_of (w (place_at l a)) (entries l w a) + 1 = n.numbered a below (omega (arith, mine)) (omega (arith, mine)) in
+    let same : count_of m.sender (entries l w a) ≡ count_of (w (place_at l a)) (entries l w a) = ap (λ q. count_of q (entries l w a)) mine in
+    omega (arith, number, counted, next, same)
+
+-- One more entry, and how many p has.
+pub counted_one : (l : Layout) (w : Words) (a p : ℕ) → w (place_at l a) ≡ p → count_of p (entries l w (a + 1)) ≡ count_of p (entries l w a) + 1
+counted_one l w a p e =
+    let push = ap (count_of p) (entries-more l w a) ∙ count_of-push p (entries l w a) (entry l w a) in
+    let one : ◌≡◌ {A = ℕ} (cond (w (place_at l a) == p) 1 0) 1 = rw (eq-eqb (w (place_at l a)) p e) refl in
+    omega (arith, push, one)
+
+pub counted_none : (l : Layout) (w : Words) (a p : ℕ) → (w (place_at l a) ≡ p → ⊥) → count_of p (entries l w (a + 1)) ≡ count_of p (entries l w a)
+counted_none l w a p ne =
+    let push = ap (count_of p) (entries-more l w a) ∙ count_of-push p (entries l w a) (entry l w a) in
+    let none : ◌≡◌ {A = ℕ} (cond (w (place_at l a) == p) 1 0) 0 = rw (ne_eqb (w (place_at l a)) p ne) refl in
+    omega (arith, push, none)
 
 bit_of : (x : ℕ) → x ≤ 1 → x ≡ bit (x == 1)
 bit_of x small =

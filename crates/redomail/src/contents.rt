@@ -1,9 +1,10 @@
 //! Reads the messages from data words, and checks the words.
 
-ghost use Rattle.std.specs.Prelude.{◌≡◌, ℕ, ◌+◌, ◌<◌, ◌≤◌, ◌^◌, ◌↔◌, ◌⊎◌, IsTrue, IfOk, OnOk, OnErr, IfErr, IsErrOf, IfSome, IsSome, IsNone, IfNone, MatchOption, length, slice_index};
+ghost use Rattle.std.specs.Prelude.{◌≡◌, ℕ, ◌+◌, ◌-◌, ◌<◌, ◌≤◌, ◌^◌, ◌↔◌, ◌⊎◌, IsTrue, IfOk, OnOk, OnErr, IfErr, IsErrOf, IfSome, IsSome, IsNone, IfNone, MatchOption, length, slice_index, slice_set};
 ghost use Rattle.redomail.specs.Layout.{words_of, row, last_at, place_at};
-ghost use Rattle.redomail.specs.Shape.{entry as entry_of, entries, recorded, IsNumbered, ListRule, RecordRule, Unshown};
+ghost use Rattle.redomail.specs.Shape.{entry as entry_of, entries, count_of, recorded, IsNumbered, RecordRule};
 ghost use Rattle.redomail.specs.Content.{HeadsHold, EntriesHold, IsContent, AreCounts, LastsAre};
+ghost use Rattle.redomail.specs.Content.{IsNumberedIn, AreCountsFrom, AreLastsFrom, IsListedIn, IsListedBut, IsNext};
 
 use crate::layout::{ARMED, CLOSED, COUNT, Layout, RECORD, RUINED};
 use crate::message::Message;
@@ -15,7 +16,7 @@ use std::alloc::{AllocError, Allocator};
 ///
 /// `BadShape`: the words break a rule of this layout. The layout may be outside the limits too. `OutOfMemory`: an allocation
 /// failed.
-pub fn content<A: Allocator + Clone>(
+pub fn content<A: Allocator>(
     alloc: A,
     layout: Layout,
     words: &[u64],
@@ -23,49 +24,25 @@ pub fn content<A: Allocator + Clone>(
     ensures messages { IfOk result (λ messages. messages.items ≡ entries layout (words_of words.now) (slice_index words.now 2)) }
     ensures kept { OnOk result (IsContent layout words.now) }
     ensures refused { IsErrOf result Refusal.BadShape → IsContent layout words.now → ⊥ }
-    ensures heads { (HeadsHold layout words.now → ⊥) → IsErrOf result Refusal.BadShape }
-    ensures shape { layout.procs ≤ 64 → (IsContent layout words.now → ⊥) → IsErrOf result Refusal.BadShape }
+    ensures shape { (IsContent layout words.now → ⊥) → IsErrOf result Refusal.BadShape }
+    ensures memory { IsErrOf result Refusal.OutOfMemory → IsContent layout words.now }
     ensures only { IfErr result (λ refusal. (refusal ≡ Refusal.BadShape) ⊎ (refusal ≡ Refusal.OutOfMemory)) }
 {
-    if !heads_hold(layout, words) || !has_entries(&alloc, layout, words)? {
+    if !heads_hold(layout, words) || !entries_hold(layout, words) {
         return Err(Refusal::BadShape);
     }
     Ok(shown(alloc, layout, words)?)
 }
 
-// Whether the entries and the record keep their rules. It allocates only for a layout with more than 64 processes.
-fn has_entries<A: Allocator + Clone>(
-    alloc: &A,
-    layout: Layout,
-    words: &[u64],
-) -> Result<bool, Refusal>
+// Whether the entries and the record keep their rules.
+fn entries_hold(layout: Layout, words: &[u64]) -> bool
     requires { HeadsHold layout words.now }
-    ensures holds { IfOk result (λ holds. IsTrue holds ↔ EntriesHold layout words.now) }
-    ensures memory { IfErr result (λ refusal. (refusal ≡ Refusal.OutOfMemory) × (64 < layout.procs)) }
-{
-    if layout.procs <= MOST_PROCS {
-        let mut all = counters();
-        let counts = &mut all[..layout.procs as usize];
-        return Ok(entries_hold(layout, words, counts));
-    }
-    let mut counts = vec![in alloc.clone()?; 0; layout.procs as usize]?;
-    Ok(entries_hold(layout, words, &mut counts))
-}
-
-// Whether the entries and the record keep their rules. `counts` has a zero for each process.
-fn entries_hold(layout: Layout, words: &[u64], counts: &mut [u64]) -> bool
-    requires heads { HeadsHold layout words.now }
-    requires each { length counts.old ≡ layout.procs }
-    requires zero { (q : ℕ) → slice_index counts.old q ≡ 0 }
     ensures { IsTrue result ↔ EntriesHold layout words.now }
 {
-    if !count_entries(layout, words, counts) {
-        return false;
-    }
     if word(words, ARMED) == 1 {
-        any_record(layout, words, counts)
+        some_record(layout, words)
     } else {
-        lasts_are(layout, words, counts, layout.procs)
+        are_listed(layout, words, layout.procs)
     }
 }
 
@@ -173,16 +150,50 @@ pub fn count_entries(layout: Layout, words: &[u64], counts: &mut [u64]) -> bool
     ensures counts { IsTrue result → AreCounts layout words.now (slice_index words.now 2) counts.new }
     ensures numbered { IsTrue result ↔ IsNumbered layout (words_of words.now) (slice_index words.now 2) }
 {
+    count_from(layout, words, 0, counts)
+}
+
+// Whether each entry below count has a sender, and those of the processes from `first` on, one for each counter, are
+// numbered. If so, `counts` has the number of messages of each of these processes. `counts` is all zero at first.
+fn count_from(layout: Layout, words: &[u64], first: u64, counts: &mut [u64]) -> bool
+    requires heads { HeadsHold layout words.now }
+    requires zero { (q : ℕ) → slice_index counts.old q ≡ 0 }
+    ensures counts { IsTrue result → AreCountsFrom layout words.now (slice_index words.now 2) first counts.new }
+    ensures numbered { IsTrue result
+        ↔ IsNumberedIn layout (words_of words.now) (slice_index words.now 2) first (first + length counts.old) }
+{
     for a in 0..word(words, COUNT) {
         let message = entry(layout, words, a);
-        if message.sender >= layout.procs || message.seq == 0 {
+        if message.sender >= layout.procs {
             return false;
         }
-        if word(counts, message.sender) != message.seq - 1 {
+        if !count_entry(&message, first, counts) {
             return false;
         }
-        counts[message.sender as usize] = message.seq;
     }
+    true
+}
+
+// Counts an entry, where its sender has a counter. False: it has another number than the next of its sender.
+fn count_entry(message: &Message, first: u64, counts: &mut [u64]) -> bool
+    ensures other { (first ≤ message.now.sender → message.now.sender < first + length counts.old → ⊥)
+        → IsTrue result × (counts.new ≡ counts.old) }
+    ensures next { first ≤ message.now.sender → message.now.sender < first + length counts.old
+        → (IsTrue result ↔ (slice_index counts.old (message.now.sender - first) + 1 ≡ message.now.seq)) }
+    ensures counted { first ≤ message.now.sender → message.now.sender < first + length counts.old → IsTrue result
+        → counts.new ≡ slice_set counts.old (message.now.sender - first) message.now.seq }
+{
+    if message.sender < first {
+        return true;
+    }
+    let i = message.sender - first;
+    if i >= counts.len() as u64 {
+        return true;
+    }
+    if message.seq == 0 || word(counts, i) != message.seq - 1 {
+        return false;
+    }
+    counts[i as usize] = message.seq;
     true
 }
 
@@ -192,8 +203,44 @@ pub fn lasts_are(layout: Layout, words: &[u64], counts: &[u64], but: u64) -> boo
     requires counts { length counts.now ≡ layout.procs }
     ensures { IsTrue result ↔ LastsAre layout words.now counts.now but }
 {
-    for q in 0..layout.procs {
-        if q != but && word(words, layout.last(q)) != counts[q as usize] {
+    lasts_from(layout, words, 0, counts, but)
+}
+
+// Whether the last numbers of the processes from `first` on, one for each count, equal these counts, except that of `but`.
+#[tactic(auto, using(crate::proofs::Words::place_low))]
+fn lasts_from(layout: Layout, words: &[u64], first: u64, counts: &[u64], but: u64) -> bool
+    requires heads { HeadsHold layout words.now }
+    requires first { first ≤ layout.procs }
+    ensures { IsTrue result ↔ AreLastsFrom layout words.now first counts.now but }
+{
+    let past = layout.procs.min(first + counts.len() as u64);
+    for q in first..past {
+        if q != but && word(words, layout.last(q)) != counts[(q - first) as usize] {
+            return false;
+        }
+    }
+    true
+}
+
+// Whether the list rule holds for the 64 processes from `first` on, or as many as there are, except `but`.
+fn are_listed_from(layout: Layout, words: &[u64], first: u64, but: u64) -> bool
+    requires heads { HeadsHold layout words.now }
+    requires first { first ≤ layout.procs }
+    ensures { IsTrue result ↔ IsListedIn layout (words_of words.now) (slice_index words.now 2) but first (first + 64) }
+{
+    let mut counts = counters();
+    count_from(layout, words, first, &mut counts) && lasts_from(layout, words, first, &counts, but)
+}
+
+// Whether the list rule holds for all processes except `but`. It reads the entries once for 64 processes, whose counters are
+// on the stack.
+fn are_listed(layout: Layout, words: &[u64], but: u64) -> bool
+    requires { HeadsHold layout words.now }
+    ensures { IsTrue result ↔ IsListedBut layout (words_of words.now) (slice_index words.now 2) but }
+{
+    let blocks = layout.procs.saturating_sub(1) / MOST_PROCS + 1;
+    for block in 0..blocks {
+        if !are_listed_from(layout, words, block * MOST_PROCS, but) {
             return false;
         }
     }
@@ -221,6 +268,18 @@ pub fn has_record(layout: Layout, words: &[u64], counts: &[u64], p: u64) -> bool
     requires below { p < layout.procs }
     ensures { IsTrue result ↔ RecordRule layout p (words_of words.now) }
 {
+    lasts_are(layout, words, counts, p) && fits_record(layout, words, counts[p as usize], p)
+}
+
+// Whether the record rule holds for p, where the list rule holds for all others. `counted` is the number of p's entries.
+#[tactic(auto, using(crate::proofs::Words::place_low))]
+fn fits_record(layout: Layout, words: &[u64], counted: u64, p: u64) -> bool
+    requires heads { HeadsHold layout words.now }
+    requires others { IsListedBut layout (words_of words.now) (slice_index words.now 2) p }
+    requires counted { counted ≡ count_of p (entries layout (words_of words.now) (slice_index words.now 2)) }
+    requires below { p < layout.procs }
+    ensures { IsTrue result ↔ RecordRule layout p (words_of words.now) }
+{
     let count = word(words, COUNT);
     let at = word(words, RECORD);
     let seq = word(words, RECORD + 1);
@@ -229,14 +288,71 @@ pub fn has_record(layout: Layout, words: &[u64], counts: &[u64], p: u64) -> bool
         return false;
     }
     if count == at {
-        if seq == 0 || counts[p as usize] != seq - 1 || !lasts_are(layout, words, counts, p) {
+        if seq == 0 || counted != seq - 1 {
             return false;
         }
         return last == seq - 1 || (last == seq && is_recorded(layout, words, p));
     }
-    count == at + 1
-        && lasts_are(layout, words, counts, layout.procs)
-        && is_recorded(layout, words, p)
+    count == at + 1 && last == counted && is_recorded(layout, words, p)
+}
+
+// The number of p's entries below count.
+fn counted(layout: Layout, words: &[u64], p: u64) -> u64
+    requires { HeadsHold layout words.now }
+    ensures { result ≡ count_of p (entries layout (words_of words.now) (slice_index words.now 2)) }
+{
+    let mut counted = 0;
+    for a in 0..word(words, COUNT) {
+        if word(words, place(layout, words, a)) == p {
+            counted += 1;
+        }
+    }
+    counted
+}
+
+// Whether p is a process for which the record rule holds.
+fn keeps_record(layout: Layout, words: &[u64], p: u64) -> bool
+    requires { HeadsHold layout words.now }
+    ensures { IsTrue result ↔ ((p < layout.procs) × RecordRule layout p (words_of words.now)) }
+{
+    p < layout.procs
+        && are_listed(layout, words, p)
+        && fits_record(layout, words, counted(layout, words, p), p)
+}
+
+// A process whose last number is the one before the record's.
+#[tactic(auto, using(crate::proofs::Words::place_low))]
+fn find_next(layout: Layout, words: &[u64]) -> Option<u64>
+    requires { HeadsHold layout words.now }
+    ensures some { IfSome result (λ q. IsNext layout words.now q) }
+    ensures none { IsNone result → (q : ℕ) → IsNext layout words.now q → ⊥ }
+{
+    let seq = word(words, RECORD + 1);
+    for q in 0..layout.procs {
+        if seq > 0 && word(words, layout.last(q)) == seq - 1 {
+            return Some(q);
+        }
+    }
+    None
+}
+
+// Whether the record rule holds for some process. It then holds for the sender of the entry at the record's place, or for any
+// process whose last number is the one before the record's: the list rule holds for all of these.
+fn some_record(layout: Layout, words: &[u64]) -> bool
+    requires { HeadsHold layout words.now }
+    ensures { IsTrue result ↔ ((q : ℕ) × (q < layout.procs) × RecordRule layout q (words_of words.now)) }
+{
+    let at = word(words, RECORD);
+    if at >= layout.cap {
+        return false;
+    }
+    if keeps_record(layout, words, word(words, place(layout, words, at))) {
+        return true;
+    }
+    match find_next(layout, words) {
+        Some(q) => keeps_record(layout, words, q),
+        None => false,
+    }
 }
 
 /// Whether the record rule holds for some process.

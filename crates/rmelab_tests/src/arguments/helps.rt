@@ -2,6 +2,8 @@
 
 use crate::arguments::kit::words_of;
 use cli::arguments::words::{WordsFault, read_words};
+use std::alloc::Global;
+use std::process::Abort;
 use std::test::Fail;
 
 const HELP: &str = "A laboratory of recoverable first-come first-served locks
@@ -219,54 +221,63 @@ Usage: rmelab replay [OPTIONS] [FILE]
 For more information, try '--help'.
 ";
 
-const HELPS: [(&str, &str); 11] = [
-    ("rmelab --help", HELP),
-    ("rmelab replay --help", REPLAY),
-    ("rmelab run --help", RUN),
-    ("rmelab hunt --help", HUNT),
-    ("rmelab explore --help", EXPLORE),
-    ("rmelab judge --help", JUDGE),
-    ("rmelab draw --help", DRAW),
-    ("rmelab shrink --help", SHRINK),
-    ("rmelab explain --help", EXPLAIN),
-    ("rmelab help", HELP),
-    ("rmelab help judge", JUDGE),
-];
-
-#[test]
-fn helps(rt: HostRuntime) -> Result<(), Fail> {
-    for (line, help) in HELPS {
-        let words = words_of(rt.alloc(), line)?;
-        let Err(WordsFault::Help { text }) = read_words(rt.alloc(), &words) else {
-            panic!(&rt; "no help: {line}");
-        };
-        assert_eq!(rt; text.as_str(), help);
-    }
+/// The words ask for this help.
+fn is_help(rt: &impl Abort, alloc: Global, line: &str, help: &str) -> Result<(), Fail> {
+    let words = words_of(alloc, line)?;
+    let Err(WordsFault::Help { text }) = read_words(alloc, &words) else {
+        panic!(rt; "no help: {line}");
+    };
+    assert!(rt; text.as_str() == help, "{line}: {text}");
     Ok(())
 }
 
-const WRONG: [(&str, &str); 5] = [
-    ("rmelab run --procs 1 --messages 1 --crash 0", SEEDLESS_RUN),
-    (
-        "rmelab hunt --variant right --rounds 1 --steps 1",
-        SEEDLESS_HUNT,
-    ),
-    ("rmelab replay a b", TWO_FILES),
-    ("rmelab", NO_COMMAND),
-    (
-        "rmelab hunt --variant right --seed 1 --rounds x --steps 1",
-        NO_NUMBER,
-    ),
-];
+#[test]
+fn helps(rt: HostRuntime) -> Result<(), Fail> {
+    let alloc = rt.alloc();
+    is_help(&rt, alloc, "rmelab --help", HELP)?;
+    is_help(&rt, alloc, "rmelab replay --help", REPLAY)?;
+    is_help(&rt, alloc, "rmelab run --help", RUN)?;
+    is_help(&rt, alloc, "rmelab hunt --help", HUNT)?;
+    is_help(&rt, alloc, "rmelab explore --help", EXPLORE)?;
+    is_help(&rt, alloc, "rmelab judge --help", JUDGE)?;
+    is_help(&rt, alloc, "rmelab draw --help", DRAW)?;
+    is_help(&rt, alloc, "rmelab shrink --help", SHRINK)?;
+    is_help(&rt, alloc, "rmelab explain --help", EXPLAIN)?;
+    is_help(&rt, alloc, "rmelab help", HELP)?;
+    is_help(&rt, alloc, "rmelab help judge", JUDGE)
+}
+
+/// The words are refused with this text.
+fn is_refused(rt: &impl Abort, alloc: Global, line: &str, told: &str) -> Result<(), Fail> {
+    let words = words_of(alloc, line)?;
+    let Err(WordsFault::Refused { text }) = read_words(alloc, &words) else {
+        panic!(rt; "not refused: {line}");
+    };
+    assert!(rt; text.as_str() == told, "{line}: {text}");
+    Ok(())
+}
 
 #[test]
 fn wrong_words(rt: HostRuntime) -> Result<(), Fail> {
-    for (line, told) in WRONG {
-        let words = words_of(rt.alloc(), line)?;
-        let Err(WordsFault::Refused { text }) = read_words(rt.alloc(), &words) else {
-            panic!(&rt; "not refused: {line}");
-        };
-        assert_eq!(rt; text.as_str(), told);
-    }
-    Ok(())
+    let alloc = rt.alloc();
+    is_refused(
+        &rt,
+        alloc,
+        "rmelab run --procs 1 --messages 1 --crash 0",
+        SEEDLESS_RUN,
+    )?;
+    is_refused(
+        &rt,
+        alloc,
+        "rmelab hunt --variant right --rounds 1 --steps 1",
+        SEEDLESS_HUNT,
+    )?;
+    is_refused(&rt, alloc, "rmelab replay a b", TWO_FILES)?;
+    is_refused(&rt, alloc, "rmelab", NO_COMMAND)?;
+    is_refused(
+        &rt,
+        alloc,
+        "rmelab hunt --variant right --seed 1 --rounds x --steps 1",
+        NO_NUMBER,
+    )
 }

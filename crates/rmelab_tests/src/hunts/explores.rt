@@ -1,9 +1,8 @@
 //! Searches of all schedules up to a bound. The schedules and the counts are those of the plain search in bench/explore.
 
 use crate::support::fake::Failing;
-use crate::support::invocation::{all_come_to, ran};
+use crate::support::invocation::{all_come_to, output_of};
 use crate::support::row::invoked;
-use std::process::ExitCode;
 use std::test::Fail;
 
 /// Both read the numbers in the doorway and find none. Process 1 enters, and so does 0, which doesn't look whether 1 is
@@ -123,21 +122,14 @@ fn explores_to_a_writer_that_fails(rt: HostRuntime) -> Result<(), Fail> {
 /// The schedule that is found replays to its fault.
 #[test]
 fn explored_schedules_replay(rt: HostRuntime) -> Result<(), Fail> {
-    let replayed = ran(
+    let alloc = rt.alloc();
+    output_of(&rt, alloc, "rmelab replay --variant no-look", SHORTEST, 1)?;
+    output_of(
         &rt,
-        rt.alloc(),
-        "rmelab replay --variant no-look",
-        "",
-        SHORTEST,
-    )?;
-    assert!(rt; replayed.code == ExitCode::from(1));
-    let replayed = ran(
-        &rt,
-        rt.alloc(),
+        alloc,
         "rmelab replay --variant exit-on-crash",
-        "",
         GONE_OUT,
+        1,
     )?;
-    assert!(rt; replayed.code == ExitCode::from(1));
     Ok(())
 }

@@ -1,8 +1,11 @@
 //! Hunts: what a seed finds, and the moves that it draws.
 
-use crate::support::invocation::{prints, ran};
-use std::process::ExitCode;
+use crate::support::invocation::{output_of, prints, ran, text_of};
+use std::alloc::Global;
+use std::process::{Abort, ExitCode};
+use std::sync::Wait;
 use std::test::Fail;
+use std::thread::Threads;
 
 const WRONG: [&str; 6] = [
     "no-look",
@@ -13,6 +16,35 @@ const WRONG: [&str; 6] = [
     "last-skipped",
 ];
 
+/// The schedule has a verdict against this variant.
+fn goes_wrong(
+    rt: &(impl Abort + Threads + Wait + Sync),
+    alloc: Global,
+    variant: &str,
+    schedule: &str,
+) -> Result<(), Fail> {
+    let line = format!(in alloc; "rmelab replay --variant {variant}")?;
+    let report = output_of(rt, alloc, &line, schedule, 1)?;
+    assert!(rt;
+        text_of(rt, &report).contains("verdict against"),
+        "{variant}"
+    );
+    Ok(())
+}
+
+/// The schedule has no verdict against the right lock, which may refuse one of its lines.
+fn goes_right(
+    rt: &(impl Abort + Threads + Wait + Sync),
+    alloc: Global,
+    variant: &str,
+    schedule: &str,
+) -> Result<(), Fail> {
+    let right = ran(rt, alloc, "rmelab replay", "", schedule)?;
+    let fine = right.code == ExitCode::from(0) || right.code == ExitCode::from(2);
+    assert!(rt; fine, "{variant}");
+    Ok(())
+}
+
 /// What seed 1 finds of each wrong variant has a verdict against that variant, and none against the right lock.
 #[test]
 fn hunt_seeds(rt: HostRuntime) -> Result<(), Fail> {
@@ -21,21 +53,9 @@ fn hunt_seeds(rt: HostRuntime) -> Result<(), Fail> {
         let line = format!(in alloc;
             "rmelab hunt --variant {variant} --seed 1 --rounds 10000 --steps 1000"
         )?;
-        let found = ran(&rt, alloc, &line, "", "")?;
-        assert!(rt; found.code == ExitCode::from(1), "{variant}");
-        let Ok(schedule) = str::from_utf8(&found.out) else {
-            panic!(&rt; "no text");
-        };
-        let line = format!(in alloc; "rmelab replay --variant {variant}")?;
-        let wrong = ran(&rt, alloc, &line, "", schedule)?;
-        assert!(rt; wrong.code == ExitCode::from(1), "{variant}");
-        let Ok(report) = str::from_utf8(&wrong.out) else {
-            panic!(&rt; "no text");
-        };
-        assert!(rt; report.contains("verdict against"), "{variant}");
-        let right = ran(&rt, alloc, "rmelab replay", "", schedule)?;
-        let fine = right.code == ExitCode::from(0) || right.code == ExitCode::from(2);
-        assert!(rt; fine, "{variant}");
+        let found = output_of(&rt, alloc, &line, "", 1)?;
+        goes_wrong(&rt, alloc, variant, text_of(&rt, &found))?;
+        goes_right(&rt, alloc, variant, text_of(&rt, &found))?;
     }
     let line = "rmelab hunt --variant right --seed 1 --rounds 100 --steps 1000";
     prints(&rt, alloc, line, "", "nothing found\n", "", 0)

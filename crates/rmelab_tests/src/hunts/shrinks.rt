@@ -1,10 +1,13 @@
 //! Schedules shrunk by `shrink` and by `hunt --shrink`.
 
 use crate::support::fake::Failing;
-use crate::support::invocation::{all_come_to, prints, ran};
+use crate::support::invocation::{all_come_to, output_of, prints, text_of};
 use crate::support::row::invoked;
-use std::process::ExitCode;
+use std::alloc::{AllocError, Global};
+use std::process::Abort;
+use std::sync::Wait;
 use std::test::Fail;
+use std::thread::Threads;
 
 /// Process 0 has read the numbers and not taken its own while 1 enters. Then 0 enters too.
 pub const TWO_INSIDE: &str =
@@ -100,29 +103,36 @@ fn shrinks_over_devices_that_fail(rt: HostRuntime) -> Result<(), Fail> {
     all_come_to(&rt, rt.alloc(), &rows)
 }
 
+/// What `shrink` makes of a schedule.
+fn least_of(
+    rt: &(impl Abort + Threads + Wait + Sync),
+    alloc: Global,
+    variant: &str,
+    schedule: &str,
+) -> Result<Vec<u8>, AllocError> {
+    let line = format!(in alloc; "rmelab shrink --variant {variant}")?;
+    output_of(rt, alloc, &line, schedule, 1)
+}
+
 /// What `hunt --shrink` writes is what `shrink` makes of the schedule that the same hunt writes.
+fn hunts_least(
+    rt: &(impl Abort + Threads + Wait + Sync),
+    alloc: Global,
+    variant: &str,
+) -> Result<(), Fail> {
+    let options = "--seed 1 --rounds 10000 --steps 1000";
+    let line = format!(in alloc; "rmelab hunt --variant {variant} {options}")?;
+    let found = output_of(rt, alloc, &line, "", 1)?;
+    let least = least_of(rt, alloc, variant, text_of(rt, &found))?;
+    let line = format!(in alloc; "rmelab hunt --shrink --variant {variant} {options}")?;
+    prints(rt, alloc, &line, "", text_of(rt, &least), "", 1)
+}
+
 #[test]
 fn hunts_shrunk(rt: HostRuntime) -> Result<(), Fail> {
-    let alloc = rt.alloc();
     for variant in ["no-look", "exit-on-crash"] {
-        let line = format!(in alloc;
-            "rmelab hunt --variant {variant} --seed 1 --rounds 10000 --steps 1000"
-        )?;
-        let found = ran(&rt, alloc, &line, "", "")?;
-        let Ok(schedule) = str::from_utf8(&found.out) else {
-            panic!(&rt; "no text");
-        };
-        let line = format!(in alloc; "rmelab shrink --variant {variant}")?;
-        let made = ran(&rt, alloc, &line, "", schedule)?;
-        assert!(rt; made.code == ExitCode::from(1), "{variant}");
-        let Ok(least) = str::from_utf8(&made.out) else {
-            panic!(&rt; "no text");
-        };
-        let line = format!(in alloc;
-            "rmelab hunt --shrink --variant {variant} --seed 1 --rounds 10000 --steps 1000"
-        )?;
-        prints(&rt, alloc, &line, "", least, "", 1)?;
+        hunts_least(&rt, rt.alloc(), variant)?;
     }
     let line = "rmelab hunt --shrink --variant right --seed 1 --rounds 1 --steps 100";
-    prints(&rt, alloc, line, "", "nothing found\n", "", 0)
+    prints(&rt, rt.alloc(), line, "", "nothing found\n", "", 0)
 }

@@ -4,7 +4,9 @@
 use crate::support::invocation::{Printed, ran};
 use std::alloc::Global;
 use std::process::{Abort, ExitCode};
+use std::sync::Wait;
 use std::test::Fail;
+use std::thread::Threads;
 
 /// The sizes of this row, as the first line of a schedule.
 const HEADER: &str = "rme 1 procs 64 limit 100 cap 1\n";
@@ -46,41 +48,67 @@ fn report_of_everything(alloc: Global) -> Result<String, Fail> {
     Ok(report)
 }
 
+/// A text this number of times.
+fn repeated(alloc: Global, text: &str, times: u64) -> Result<String, Fail> {
+    let mut all = String::new(alloc);
+    for _ in 0..times {
+        all.push_str(text)?;
+    }
+    Ok(all)
+}
+
 /// The image. Its data words, 15 and one more for each process but the first, are 0.
 fn image_of_everything(alloc: Global) -> Result<String, Fail> {
-    let mut image = String::from_str(alloc, "{\"cap\":1,\"data\":[0")?;
-    for _ in 1..78u64 {
-        image.push_str(",0")?;
-    }
-    image.push_str("],\"limit\":100,\"lock\":[[0,1,1],[0,2,0]")?;
-    for _ in 2..64u64 {
-        image.push_str(",[0,0,0]")?;
-    }
-    image.push_str("],\"version\":2,\"width\":1}\n")?;
-    Ok(image)
+    let data = repeated(alloc, ",0", 77)?;
+    let lock = repeated(alloc, ",[0,0,0]", 62)?;
+    Ok(format!(in alloc;
+        "{{\"cap\":1,\"data\":[0{data}],\"limit\":100,\"lock\":[[0,1,1],[0,2,0]{lock}],\"version\":2,\"width\":1}}\n"
+    )?)
 }
 
 /// The run printed this report and nothing else, and saved this image.
 fn comes_to(rt: &impl Abort, found: &Printed, report: &str, image: &str) {
-    assert_eq!(rt; str::from_utf8(&found.out), Ok(report));
+    assert!(rt; found.out.as_slice() == report.as_bytes());
     assert!(rt; found.err.is_empty() && found.code == ExitCode::from(0));
-    assert_eq!(rt; str::from_utf8(&found.save), Ok(image));
+    assert!(rt; found.save.as_slice() == image.as_bytes());
+}
+
+/// All crash, and the image is saved.
+fn all_crash(
+    rt: &(impl Abort + Threads + Wait + Sync),
+    alloc: Global,
+    image: &str,
+) -> Result<(), Fail> {
+    let schedule = everything(alloc)?;
+    let report = report_of_everything(alloc)?;
+    let found = ran(rt, alloc, "rmelab replay --save a.json", "", &schedule)?;
+    comes_to(rt, &found, &report, image);
+    Ok(())
+}
+
+fn report_of_two(alloc: Global) -> Result<String, Fail> {
+    let mut report = String::from_str(alloc, "reenter 0\nanswer 0 owner-died\n")?;
+    add_standing(alloc, &mut report)?;
+    Ok(report)
+}
+
+/// Process 1 has reread its words and still has its number: no word changes.
+fn two_come_back(
+    rt: &(impl Abort + Threads + Wait + Sync),
+    alloc: Global,
+    image: &str,
+) -> Result<(), Fail> {
+    let schedule = format!(in alloc; "{HEADER}lock 1\nstep 1 5\nlock 0\nstep 0 4\n")?;
+    let report = report_of_two(alloc)?;
+    let line = "rmelab replay --image a.json --save b.json";
+    let found = ran(rt, alloc, line, image, &schedule)?;
+    comes_to(rt, &found, &report, image);
+    Ok(())
 }
 
 #[test]
 fn crash_of_everything(rt: HostRuntime) -> Result<(), Fail> {
-    let alloc = rt.alloc();
-    let image = image_of_everything(alloc)?;
-    let schedule = everything(alloc)?;
-    let found = ran(&rt, alloc, "rmelab replay --save a.json", "", &schedule)?;
-    comes_to(&rt, &found, &report_of_everything(alloc)?, &image);
-    // Process 1 has reread its words and still has its number: no word changes.
-    let mut schedule = String::from_str(alloc, HEADER)?;
-    schedule.push_str("lock 1\nstep 1 5\nlock 0\nstep 0 4\n")?;
-    let mut report = String::from_str(alloc, "reenter 0\nanswer 0 owner-died\n")?;
-    add_standing(alloc, &mut report)?;
-    let line = "rmelab replay --image a.json --save b.json";
-    let found = ran(&rt, alloc, line, &image, &schedule)?;
-    comes_to(&rt, &found, &report, &image);
-    Ok(())
+    let image = image_of_everything(rt.alloc())?;
+    all_crash(&rt, rt.alloc(), &image)?;
+    two_come_back(&rt, rt.alloc(), &image)
 }

@@ -59,7 +59,7 @@ fn saves(
     image: &str,
 ) -> Result<(), Fail> {
     let found = ran(rt, alloc, "rmelab replay --save a.json", "", schedule)?;
-    assert_eq!(rt; str::from_utf8(&found.save), Ok(image));
+    assert!(rt; found.save.as_slice() == image.as_bytes(), "{schedule}");
     Ok(())
 }
 

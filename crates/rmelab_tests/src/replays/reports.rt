@@ -7,7 +7,11 @@ use cli::arguments::args::Command;
 use cli::arguments::words::read_words;
 use commands::command::command;
 use schedule::{Page, Text};
+use std::alloc::Global;
+use std::process::Abort;
+use std::sync::Wait;
 use std::test::Fail;
+use std::thread::Threads;
 
 /// One process that locks and enters.
 pub const SMALLEST: &str = "rme 1 procs 1 limit 10 cap 1\nlock 0\nstep 0 8\n";
@@ -183,23 +187,54 @@ fn lines_of_faults(rt: HostRuntime) -> Result<(), Fail> {
     all_come_to(&rt, rt.alloc(), &rows)
 }
 
+/// Carries out a command over this input. It reports this fault, ends with this status, and has this to save. What it prints.
+fn carried_out(
+    rt: &(impl Abort + Threads + Wait + Sync),
+    alloc: Global,
+    order: &Command,
+    input: &str,
+    (told, status): (&str, u8),
+    save: Option<&str>,
+) -> Page {
+    let mut source = Text::new(input.as_bytes(), 64);
+    let mut out = Page::new(alloc);
+    let mut err = Page::new(alloc);
+    let ending = command(rt, alloc, order, None, &mut source, &mut out, &mut err);
+    assert!(rt;
+        err.as_slice() == told.as_bytes() && ending.status == status,
+        "{input}"
+    );
+    let wanted = save.map(|text: &str| text.as_bytes());
+    assert!(rt; ending.save.as_deref() == wanted, "{input}");
+    out
+}
+
 /// A command over a reader and two writers in memory prints the same.
 #[test]
-fn a_command_alone(rt: HostRuntime) -> Result<(), Fail> {
+fn a_command_alone(rt: HostRuntime) {
     let alloc = rt.alloc();
-    for (trace, printed, told, status) in [
-        (OVERTAKEN, AGAINST, "", 1),
-        (TWO_NUMBERS, "", "rmelab: line 2: fault 6\n", 2),
-    ] {
-        let mut source = Text::new(trace.as_bytes(), 64);
-        let mut out = Page::new(alloc);
-        let mut err = Page::new(alloc);
-        let judging = Command::Judge(None);
-        let ending = command(&rt, alloc, &judging, None, &mut source, &mut out, &mut err);
-        assert_eq!(rt; str::from_utf8(out.as_slice()), Ok(printed));
-        assert_eq!(rt; str::from_utf8(err.as_slice()), Ok(told));
-        assert!(rt; ending.status == status && ending.save.is_none());
-    }
+    let judging = Command::Judge(None);
+    let out = carried_out(&rt, alloc, &judging, OVERTAKEN, ("", 1), None);
+    assert!(rt; out.as_slice() == AGAINST.as_bytes());
+    let fault = ("rmelab: line 2: fault 6\n", 2);
+    let out = carried_out(&rt, alloc, &judging, TWO_NUMBERS, fault, None);
+    assert!(rt; out.as_slice().is_empty());
+}
+
+/// Carries out the command of these words over this schedule. It ends so, and has this to save.
+fn saves(
+    rt: &(impl Abort + Threads + Wait + Sync),
+    alloc: Global,
+    line: &str,
+    schedule: &str,
+    end: (&str, u8),
+    save: Option<&str>,
+) -> Result<(), Fail> {
+    let words = words_of(alloc, line)?;
+    let Ok(order) = read_words(alloc, &words) else {
+        panic!(rt; "no command: {line}");
+    };
+    carried_out(rt, alloc, &order, schedule, end, save);
     Ok(())
 }
 
@@ -207,43 +242,13 @@ fn a_command_alone(rt: HostRuntime) -> Result<(), Fail> {
 #[test]
 fn saves_of_a_command(rt: HostRuntime) -> Result<(), Fail> {
     let alloc = rt.alloc();
-    for (line, schedule, told, status, save) in [
-        ("rmelab replay --save b.json", SMALLEST, "", 0, Some(IMAGE)),
-        (
-            "rmelab replay --json --save b.json",
-            SMALLEST,
-            "",
-            0,
-            Some(IMAGE),
-        ),
-        ("rmelab replay --each", SMALLEST, "", 0, None),
-        (
-            "rmelab replay --save b.json",
-            MENDED_FIRST,
-            "rmelab: line 4: refused 10\n",
-            2,
-            None,
-        ),
-        (
-            "rmelab replay --save b.json",
-            ZERO_FIRST,
-            "rmelab: line 2: fault 3\n",
-            2,
-            None,
-        ),
-    ] {
-        let words = words_of(alloc, line)?;
-        let Ok(order) = read_words(alloc, &words) else {
-            panic!(&rt; "no command: {line}");
-        };
-        let mut source = Text::new(schedule.as_bytes(), 64);
-        let mut out = Page::new(alloc);
-        let mut err = Page::new(alloc);
-        let ending = command(&rt, alloc, &order, None, &mut source, &mut out, &mut err);
-        assert_eq!(rt; str::from_utf8(err.as_slice()), Ok(told), "{line}");
-        assert!(rt; ending.status == status, "{line}");
-        let wanted = save.map(|text: &str| text.as_bytes());
-        assert!(rt; ending.save.as_deref() == wanted, "{line}");
-    }
-    Ok(())
+    let save = "rmelab replay --save b.json";
+    let json = "rmelab replay --json --save b.json";
+    saves(&rt, alloc, save, SMALLEST, ("", 0), Some(IMAGE))?;
+    saves(&rt, alloc, json, SMALLEST, ("", 0), Some(IMAGE))?;
+    saves(&rt, alloc, "rmelab replay --each", SMALLEST, ("", 0), None)?;
+    let refused = ("rmelab: line 4: refused 10\n", 2);
+    saves(&rt, alloc, save, MENDED_FIRST, refused, None)?;
+    let fault = ("rmelab: line 2: fault 3\n", 2);
+    saves(&rt, alloc, save, ZERO_FIRST, fault, None)
 }

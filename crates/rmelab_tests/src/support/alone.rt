@@ -6,6 +6,7 @@ use crate::support::row::ProgramRow;
 use cli::arguments::args::Command;
 use cli::arguments::words::{WordsFault, read_words};
 use commands::command::command;
+use commands::schedules::ending::Ending;
 use schedule::{Page, Text};
 use std::alloc::Global;
 use std::sync::Wait;
@@ -22,6 +23,19 @@ fn file_named<'a>(row: &ProgramRow<'a>, name: &String) -> Option<&'a str> {
         return Some(second);
     }
     None
+}
+
+/// The image and the input that a command reads. None: a file of its isn't there.
+fn texts_of<'a>(order: &Command, row: &ProgramRow<'a>) -> Option<(Option<&'a [u8]>, &'a str)> {
+    let image = match order.image_file() {
+        Some(name) => Some(file_named(row, name)?.as_bytes()),
+        None => None,
+    };
+    let input = match order.input_file() {
+        Some(name) => file_named(row, name)?,
+        None => row.input,
+    };
+    Some((image, input))
 }
 
 /// Compares the fault of the words with what the row prints.
@@ -47,13 +61,18 @@ fn carries_out(
     input: &str,
     row: &ProgramRow<'_>,
 ) -> Result<(), Fail> {
-    let line = row.line;
     let mut source = Text::new(input.as_bytes(), 64);
     let mut out = Page::new(alloc);
     let mut err = Page::new(alloc);
     let ending = command(rt, alloc, order, image, &mut source, &mut out, &mut err);
-    wrote(line, "output of the command", out.as_slice(), row.printed)?;
-    wrote(line, "fault of the command", err.as_slice(), row.told)?;
+    ends(&ending, out.as_slice(), err.as_slice(), row)
+}
+
+/// Compares what a command has written, its status, and what is to be saved with what the row says.
+fn ends(ending: &Ending, out: &[u8], err: &[u8], row: &ProgramRow<'_>) -> Result<(), Fail> {
+    let line = row.line;
+    wrote(line, "output of the command", out, row.printed)?;
+    wrote(line, "fault of the command", err, row.told)?;
     let save = ending.save.as_deref().unwrap_or(b"");
     wrote(line, "save of the command", save, row.saved.1)?;
     if ending.status != row.status {
@@ -77,19 +96,8 @@ pub fn comes_to_alone(
         Ok(order) => order,
         Err(fault) => return refuses(row, &fault),
     };
-    let image = match order.image_file() {
-        Some(name) => match file_named(row, name) {
-            Some(text) => Some(text.as_bytes()),
-            None => return Ok(()),
-        },
-        None => None,
-    };
-    let input = match order.input_file() {
-        Some(name) => match file_named(row, name) {
-            Some(text) => text,
-            None => return Ok(()),
-        },
-        None => row.input,
-    };
-    carries_out(rt, alloc, &order, image, input, row)
+    match texts_of(&order, row) {
+        Some((image, input)) => carries_out(rt, alloc, &order, image, input, row),
+        None => Ok(()),
+    }
 }

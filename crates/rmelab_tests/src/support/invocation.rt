@@ -8,7 +8,7 @@ use cli::arguments::words::WordsFault;
 use commands::Terminal;
 use commands::program::run_program;
 use std::alloc::{AllocError, Global};
-use std::process::ExitCode;
+use std::process::{Abort, ExitCode};
 use std::sync::Wait;
 use std::test::Fail;
 use std::thread::Threads;
@@ -101,8 +101,12 @@ pub fn comes_to(
     words: Result<Vec<String>, WordsFault>,
     row: &ProgramRow<'_>,
 ) -> Result<(), Fail> {
+    is_printed(&printed_by(rt, alloc, words, row), row)
+}
+
+/// Compares what was printed with what the row says.
+fn is_printed(found: &Printed, row: &ProgramRow<'_>) -> Result<(), Fail> {
     let line = row.line;
-    let found = printed_by(rt, alloc, words, row);
     wrote(line, "standard output", &found.out, row.printed)?;
     wrote(line, "standard error", &found.err, row.told)?;
     wrote(line, "the terminal", &found.shown, row.shown)?;
@@ -155,4 +159,25 @@ pub fn ran<'a>(
 ) -> Result<Printed, AllocError> {
     let row = invoked(line, input, "").beside(("a.json", image));
     Ok(printed_by(rt, alloc, Ok(words_of(alloc, line)?), &row))
+}
+
+/// Runs the program with these words over this input. What it prints, which is text, if it ends with this status.
+pub fn output_of(
+    rt: &(impl Abort + Threads + Wait + Sync),
+    alloc: Global,
+    line: &str,
+    input: &str,
+    status: u8,
+) -> Result<Vec<u8>, AllocError> {
+    let Printed { out, code, .. } = ran(rt, alloc, line, "", input)?;
+    assert!(rt; code == ExitCode::from(status), "{line}");
+    Ok(out)
+}
+
+/// Printed bytes as text.
+pub fn text_of<'a>(rt: &impl Abort, printed: &'a [u8]) -> &'a str {
+    let Ok(text) = str::from_utf8(printed) else {
+        panic!(rt; "no text")
+    };
+    text
 }

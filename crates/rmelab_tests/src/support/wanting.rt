@@ -63,29 +63,44 @@ fn wants(
     alloc: Global,
     row: &ProgramRow<'_>,
 ) -> Result<(), Fail> {
-    let line = row.line;
-    let mut all = all_words(alloc, line)?;
+    let mut all = all_words(alloc, row.line)?;
     let mut scarce_memory = ScarceMemory::new(alloc)?;
-    let mut refused = 0u64;
-    for _ in 0..PIECES {
+    let refused = refusals(rt, alloc, row, &mut all, &mut scarce_memory);
+    scarce_memory.end();
+    let refused = refused?;
+    check(0 < refused && refused < PIECES as u64, row.line, "refused")
+}
+
+/// Runs the program until it ends otherwise than out of memory, and counts how often it did not.
+fn refusals(
+    rt: &(impl Threads + Wait + Sync),
+    alloc: Global,
+    row: &ProgramRow<'_>,
+    all: &mut Vec<Vec<String>>,
+    scarce_memory: &mut ScarceMemory,
+) -> Result<u64, Fail> {
+    for refused in 0..PIECES as u64 {
         let words = all.pop().unwrap_or(Vec::new(alloc));
         let mut out = [0; 512];
         let mut err = [0; 128];
         let code = ends(rt, alloc, words, row, &mut out, &mut err);
         if code != ExitCode::from(3) {
-            let whole = out.starts_with(row.printed.as_bytes())
-                && err.starts_with(row.told.as_bytes());
-            let ended = err.get(row.told.len()) == Some(&0) && code == ExitCode::from(row.status);
-            check(whole && ended, line, "printed")?;
-            break;
+            check(are_whole(&out, &err, code, row), row.line, "printed")?;
+            return Ok(refused);
         }
         let told = err.starts_with(b"rmelab: out of memory\n\0");
-        check(told && code == ExitCode::from(3), line, "told")?;
-        refused = refused.saturating_add(1);
+        check(told, row.line, "told")?;
         scarce_memory.give_back();
     }
-    scarce_memory.end();
-    check(0 < refused && refused < PIECES as u64, line, "refused")
+    Ok(PIECES as u64)
+}
+
+/// Whether both outputs and the status are what the row says.
+fn are_whole(out: &[u8], err: &[u8], code: ExitCode, row: &ProgramRow<'_>) -> bool {
+    out.starts_with(row.printed.as_bytes())
+        && err.starts_with(row.told.as_bytes())
+        && err.get(row.told.len()) == Some(&0)
+        && code == ExitCode::from(row.status)
 }
 
 /// Each request for memory of each of the rows is refused in turn.

@@ -267,3 +267,105 @@ fn refused_memory(rt: HostRuntime) {
     }
     assert!(rt; refused > 0 && last == Ok(Some(true)));
 }
+
+const HUNDRED: Layout = Layout {
+    procs: 100,
+    cap: 1,
+    width: 1,
+};
+
+/// Words of a mailbox of a hundred processes, by the words that aren't 0, and whether they keep the rules. The last number of
+/// process q is word 11 + q, and the entry begins at word 111.
+const OF_A_HUNDRED: [(&[(usize, u64)], bool); 10] = [
+    (&[(2, 1), (110, 1), (111, 99), (112, 1), (113, 77)], true),
+    (&[(2, 1), (111, 99), (112, 1), (113, 77)], false),
+    (
+        &[(2, 1), (81, 1), (110, 1), (111, 99), (112, 1), (113, 77)],
+        false,
+    ),
+    (&[(2, 1), (110, 1), (111, 100), (112, 1), (113, 77)], false),
+    // a record that is armed, with nothing applied
+    (&[(3, 1), (5, 1), (6, 77)], true),
+    (&[(3, 1), (5, 2), (6, 77)], false),
+    // the entry and the last number are written
+    (
+        &[
+            (3, 1),
+            (5, 1),
+            (6, 77),
+            (91, 1),
+            (111, 80),
+            (112, 1),
+            (113, 77),
+        ],
+        true,
+    ),
+    (
+        &[
+            (3, 1),
+            (5, 1),
+            (6, 77),
+            (92, 1),
+            (111, 80),
+            (112, 1),
+            (113, 77),
+        ],
+        false,
+    ),
+    (
+        &[
+            (3, 1),
+            (5, 1),
+            (6, 77),
+            (91, 1),
+            (111, 80),
+            (112, 1),
+            (113, 78),
+        ],
+        false,
+    ),
+    // count is written too
+    (
+        &[
+            (2, 1),
+            (3, 1),
+            (5, 1),
+            (6, 77),
+            (91, 1),
+            (111, 80),
+            (112, 1),
+            (113, 77),
+        ],
+        true,
+    ),
+];
+
+/// Whether the answer to words that break a rule is that they do, without any memory.
+fn is_broken_without_memory(alloc: Global, words: &[u64]) -> bool {
+    let Ok(heap) = LocalHeap::new(alloc, 16) else {
+        return false;
+    };
+    match content(&heap, HUNDRED, words) {
+        Ok(_) => false,
+        Err(refusal) => refusal == Refusal::BadShape,
+    }
+}
+
+/// Words of more processes than a lock has.
+#[test]
+fn words_of_a_hundred(rt: HostRuntime) {
+    for (changes, is_lawful) in OF_A_HUNDRED {
+        let mut words = [0; 114];
+        for (i, v) in changes {
+            if let Some(word) = words.get_mut(*i) {
+                *word = *v;
+            }
+        }
+        let is_broken = is_misshapen(rt.alloc(), HUNDRED, &words);
+        assert!(rt; is_broken != is_lawful, "{changes:?}");
+        assert!(rt;
+            is_lawful || is_broken_without_memory(rt.alloc(), &words),
+            "{changes:?}"
+        );
+    }
+}

@@ -122,7 +122,10 @@ fn variants_without_an_image(rt: HostRuntime) -> Result<(), Fail> {
     for (line, variant) in [
         ("rmelab replay --variant no-look", Variant::NoLook),
         ("rmelab replay --variant count-up a.rme", Variant::CountUp),
-        ("rmelab replay --save a.json --variant right", Variant::Right),
+        (
+            "rmelab replay --save a.json --variant right",
+            Variant::Right,
+        ),
     ] {
         let words = words_of(rt.alloc(), line)?;
         let Ok(Command::Replay(args)) = read_words(rt.alloc(), &words) else {
@@ -137,8 +140,9 @@ fn variants_without_an_image(rt: HostRuntime) -> Result<(), Fail> {
 fn sizes_of_hunts(rt: HostRuntime) -> Result<(), Fail> {
     for (rounds, steps) in [("0", "1"), ("10001", "1"), ("1", "0"), ("1", "10001")] {
         let alloc = rt.alloc();
-        let line =
-            format!(in alloc; "rmelab hunt --variant right --seed 0 --rounds {rounds} --steps {steps}")?;
+        let line = format!(in alloc;
+            "rmelab hunt --variant right --seed 0 --rounds {rounds} --steps {steps}"
+        )?;
         let words = words_of(alloc, &line)?;
         let is_bad = matches!(read_words(alloc, &words), Err(WordsFault::BadSize));
         assert!(rt; is_bad, "{line}");

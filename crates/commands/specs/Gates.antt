@@ -8,7 +8,7 @@ use Rattle.cli.specs.declared.arguments.args.RunArgs.{RunArgs}
 
 -- the crashes of sender p are drawn from the seed and p, modulo 2^64
 abbrev pub gate_of : RunArgs → ℕ → Drawing
-gate_of args p = record { generator = pcg32_of_seed (pcg32_seed 16 ((args.seed + p) % 2 ^ 64)); per_mille = args.crash; count = unasked }
+gate_of args p = record { generator = pcg32_of_seed (pcg32_seed 16 ((args.seed + p) % 2 ^ 64)); per_mille = args.crash; askings = unasked }
 
 -- the crash plans of all senders
 abbrev pub gates_for : RunArgs → List Drawing

@@ -161,7 +161,8 @@ impl Process {
         progress
     }
 
-    /// The scan in progress, if there is one, and its next load. The load is what `next` answers.
+    /// The scan in progress, if there is one, and its next load. The load is what `next` answers. None is a safe answer: the
+    /// caller then takes the step by `next` and `feed`.
     // Inline: one call a step.
     #[inline(always)]
     pub fn scan(&self) -> Option<(Scan, Access)>
@@ -217,6 +218,7 @@ impl Process {
     pub fn stage(&self) -> Option<Stage>
         ensures free { IfSome result (λ t. self.now.script_state ≡ ScriptState.Free) }
         ensures place { IfSome result (λ t. place_of self.now.layout.procs self.now.index t ≡ self.now.lock) }
+        ensures none { result ≡ None → self.now.script_state ≡ ScriptState.Free → ⊥ }
     {
         match self.script_state {
             ScriptState::Free => Some(self.lock.stage()),
@@ -280,6 +282,7 @@ impl Process {
         ensures exact { result ≡ true → self.new ≡ started self.old Call.Lock }
         ensures process_state { result ≡ true → next_process_state self.old.layout self.old.limit (process_state_of self.old)
             (Begins self.old.index Call.Lock) ≡ Some (process_state_of self.new) }
+        ensures refused { result ≡ false → start_refusal self.old.layout (process_state_of self.old) Call.Lock ≡ None → ⊥ }
         ensures not { result ≡ false → self.new ≡ self.old }
     {
         match (&self.script_state, self.lock.stage()) {
@@ -296,8 +299,10 @@ impl Process {
 
     /// Whether the process is inside with nothing to mend and no call under way. An unlock is two stores then.
     pub fn is_clean(&self) -> bool
-        ensures { result ≡ true → (self.now.script_state ≡ ScriptState.Free) × (self.now.lock ≡ Inside)
+        ensures clean { result ≡ true → (self.now.script_state ≡ ScriptState.Free) × (self.now.lock ≡ Inside)
             × (self.now.mended ≡ true) × (self.now.barred ≡ false) }
+        ensures other { result ≡ false → self.now.script_state ≡ ScriptState.Free → self.now.lock ≡ Inside
+            → self.now.mended ≡ true → self.now.barred ≡ false → ⊥ }
     {
         match (&self.script_state, self.lock.stage()) {
             (ScriptState::Free, Stage::Inside) => self.mended && !self.barred,

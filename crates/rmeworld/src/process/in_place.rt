@@ -36,6 +36,7 @@ impl Process {
         ensures allowed { IfSome result (IsAllowed self.now) }
         ensures within { IfSome result (λ a. InWords self.now.layout.procs (word_of a)) }
         ensures own { IfSome result (StoresOwn self.now.index) }
+        ensures none { result ≡ None → self.now.script_state ≡ Free }
     {
         match &self.script_state {
             ScriptState::Doing(_, job) => match job.next() {

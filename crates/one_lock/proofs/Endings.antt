@@ -11,8 +11,8 @@ use Rattle.redomail.specs.declared.reply.Reply.{Reply as ReplyOf}
 use Rattle.rmeworld.specs.declared.answer.Answer.TheVariants.{NumbersSpent as SpentAnswer}
 use Rattle.rmeworld.specs.declared.call.Call.TheVariants.{Lock, Append}
 use Rattle.execution.specs.declared.lock_fault.LockFault.{LockFault}
-use Rattle.one_lock.specs.Answers.{IsAnswered, IsReply, EndsAtLock, entry_by, mended_by}
-use Rattle.one_lock.specs.Whole.{Mends, Replies, Works, Follows, IsWhole, Whole}
+use Rattle.one_lock.specs.Answers.{IsAnswered, IsReply, EndsAtLock, entry_by}
+use Rattle.one_lock.specs.Whole.{Mends, Replies, Follows, Whole}
 use Rattle.one_lock.specs.Member.{stands_entered}
 use Rattle.one_lock.specs.LabEndings.{WasRuined}
 use Rattle.rmeworld.specs.declared.answer.Answer.{Answer}
@@ -122,7 +122,7 @@ told_after named p s from at to task a (Err fault) is told (same, e) =
       told = inl (s, is, sym told ∙ ap Err f);
     }
 
--- who was told that the lock is ruined
+-- who has found the lock ruined
 was_ruined : (named : Option Setup) (m new : Seat) (task : Call) → Whole named m task None new (Err NotRecoverable) → WasRuined named m.process
 was_ruined named m new task (inl crash) = absurd (let f : NotRecoverable ≡ Crashed = sym (same_fault NotRecoverable Crashed crash) in cc)
 was_ruined named m new task (inr (inl memory)) = absurd (let f : NotRecoverable ≡ OutOfMemory = sym (same_fault NotRecoverable OutOfMemory memory) in cc)

@@ -1,6 +1,6 @@
 -- A whole mailbox call, from the answers of its calls.
-use Rattle.std.proofs.Common.{◌≡◌, ◌≢◌, ℕ, ◌⊎◌, Bool, true, false, Option, Some, None, Result, Ok, Err, IfErr, refl, sym, ap, ◌∙◌, subst, inl, inr}
-use Rattle.one_lock.proofs.Common.{Setup, IsAnswered, Seat, reply_by, entry_by, Mends, Replies, Works, Follows, IsWhole, Whole}
+use Rattle.std.proofs.Common.{◌≡◌, ◌≢◌, ℕ, ◌⊎◌, Bool, true, false, Option, None, Result, Ok, Err, refl, sym, ap, ◌∙◌, subst, inl, inr}
+use Rattle.one_lock.proofs.Common.{Setup, IsAnswered, Seat, reply_by, entry_by, Mends, Works, Follows, IsWhole, Whole}
 use Rattle.std.proofs.lemmas.Bool.{true≢false}
 use Rattle.redomail.specs.declared.reply.Reply.{Reply}
 use Rattle.rmeworld.specs.declared.answer.Answer.{Answer}

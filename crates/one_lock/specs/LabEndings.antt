@@ -42,13 +42,13 @@ pub record WasSpent (named : Option Setup) (p : ℕ) : Type 0 where
   pub to : ℕ
   pub answered : IsAnswered named p standing Lock None from to (Some SpentAnswer)
 
--- p was told that the lock is ruined: by the answer of a lock without a limit of turns, or by that of a mending
+-- the answer of a lock of p, without a limit of turns, or of a mending of p shows that the lock is ruined
 abbrev pub IsRuin : Option Setup → ℕ → ℕ → ℕ → Option Answer → Type 0
 IsRuin named p from to answer =
     ((standing : MemberState) × IsAnswered named p standing Lock None from to answer × (entry_by answer ≡ Err NotRecoverable))
     ⊎ (IsAnswered named p Unmended Consistent None from to answer × (mended_by answer ≡ Err NotRecoverable))
 
--- at some point of its steps, in a world with the sizes that are named
+-- p has found the lock ruined, in a world with the sizes that are named
 pub record WasRuined (named : Option Setup) (p : ℕ) : Type 0 where
   pub from : ℕ
   pub to : ℕ

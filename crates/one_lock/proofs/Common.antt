@@ -6,3 +6,4 @@ pub use Rattle.execution.specs.declared.setup.Setup.{Setup}
 pub use Rattle.one_lock.specs.Answers.{opened, Opens, IsBlocked, Gives, first_of, further, opening_after, HasTaken, count_blocked, Suffice, spent, IsAnswered, Answered, IsReply, EndsAtLock, reply_by, entry_by}
 pub use Rattle.one_lock.specs.Member.{Seat, Goes, new_seats, AreAll, steps_taken, falls_by, AskedEach, CountsOn}
 pub use Rattle.one_lock.specs.Execution.{IsTold, AreSizes, steps_of}
+pub use Rattle.one_lock.specs.Whole.{Mends, Replies, Works, Follows, IsWhole, Whole}

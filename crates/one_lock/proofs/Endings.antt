@@ -1,5 +1,5 @@
 -- How the workers ended that were looked at so far.
-use Rattle.std.proofs.Common.{◌≡◌, ◌≢◌, ℕ, ◌+◌, ◌<◌, ◌≤◌, inl, inr, true, List, map, length, take, get_or, slice_get, All, Contains, Option, Some, None, option_map, refl, sym, ap, ◌∙◌, subst, arith}
+use Rattle.std.proofs.Common.{◌≡◌, ◌≢◌, ℕ, ◌+◌, ◌<◌, ◌≤◌, inl, inr, Bool, true, false, Result, Ok, Err, List, map, length, take, get_or, slice_get, All, Contains, Option, Some, None, option_map, refl, sym, ap, ◌∙◌, subst, arith}
 use Rattle.one_lock.proofs.LabCommon.{true≢false, cases_lt, get_or-map, get_or-take, length-map, length-take-le, take_all, All-more, All-contains, All-get_or, Contains-get_or, Layout, Crashed, OutOfMemory, NotRecoverable, NotYet}
 use Rattle.one_lock.proofs.LabCommon.{AlreadyIn, NotOwner, NotInconsistent, BadIndex, BadWidth, Setup, AllSent, Fault, Refused, LabFault, BadSpec, Member, Spec, HaveAllSent, WantedMemory, fault_by}
 use Rattle.one_lock.proofs.LabCommon.{IsOfLeast, IsReplyTo, WasSent, WereSent, MayEnd, HaveSentBelow, MayEndLab, setup_of, words_sent, Seat, Goes, of_wait, new_seats, place_of}
@@ -11,7 +11,15 @@ use Rattle.redomail.specs.declared.reply.Reply.{Reply as ReplyOf}
 use Rattle.rmeworld.specs.declared.answer.Answer.TheVariants.{NumbersSpent as SpentAnswer}
 use Rattle.rmeworld.specs.declared.call.Call.TheVariants.{Lock, Append}
 use Rattle.execution.specs.declared.lock_fault.LockFault.{LockFault}
-use Rattle.one_lock.specs.Answers.{IsAnswered, IsReply, EndsAtLock}
+use Rattle.one_lock.specs.Answers.{IsAnswered, IsReply, EndsAtLock, entry_by}
+use Rattle.one_lock.specs.Whole.{Mends, Replies, Follows, Whole}
+use Rattle.one_lock.specs.Member.{stands_entered}
+use Rattle.one_lock.specs.LabEndings.{WasRuined}
+use Rattle.rmeworld.specs.declared.answer.Answer.{Answer}
+use Rattle.rmeworld.specs.declared.call.Call.{Call}
+use Rattle.execution.specs.declared.entry_kind.Entry.{Entry}
+use Rattle.execution.specs.declared.entry_kind.Entry.TheVariants.{Clean as CleanEntry, OwnerDied as OwnerDiedEntry}
+use Rattle.one_lock.specs.declared.member_state.MemberState.{MemberState}
 use Rattle.one_lock.proofs.Places.{number_at}
 use Rattle.one_lock.proofs.Seats.{new_count}
 
@@ -79,19 +87,60 @@ lab_ended named s f g ds looked is same may places =
     let count : length ds ≡ s.procs = sym (length-map ds (λ d. place_of (g d))) ∙ ap length places ∙ length-map (new_seats l s.procs) place_of ∙ new_count l s.procs in
     (length-map looked f ∙ ap length same ∙ count, subst (λ (z : Option Setup). EachMay z s (map f looked)) is (each_may named s f g l s.procs ds looked same may places))
 
+abbrev failed : LockFault → Result ReplyOf LockFault
+failed e = Err e
+
+same_fault : (d e : LockFault) → failed d ≡ failed e → e ≡ d
+same_fault d e is = cc
+
+-- a mending that found the lock ruined
+told_mending : (named : Option Setup) (p : ℕ) (kind : Entry) (from to : ℕ) (mended : Result Bool LockFault) → Mends named p (stands_entered (Ok kind)) from to mended → mended ≡ Err NotRecoverable → WasRuined named p
+told_mending named p CleanEntry from to mended (same, fine) ruin = absurd (let none : Result Bool LockFault = Ok false in let e : none ≡ Err NotRecoverable = sym fine ∙ ruin in cc)
+told_mending named p OwnerDiedEntry from to mended (a, is, told) ruin =
+    record {
+      from = from;
+      to = to;
+      answer = a;
+      told = inr (is, sym told ∙ ruin);
+    }
+
+told_inside : (named : Option Setup) (p : ℕ) (task : Call) (kind : Entry) (from at replied : ℕ) (mended : Result Bool LockFault) → Mends named p (stands_entered (Ok kind)) from at mended → Replies named p task mended at replied (Err NotRecoverable) → WasRuined named p
+told_inside named p task kind from at replied (Ok repaired) mends replies = absurd replies
+told_inside named p task kind from at replied (Err fault) mends (same, e) =
+    let f : fault ≡ NotRecoverable = same_fault NotRecoverable fault e in
+    told_mending named p kind from at (Err fault) mends (ap Err f)
+
+-- a lock that found it, or what came after the lock
+told_after : (named : Option Setup) (p : ℕ) (s : MemberState) (from at to : ℕ) (task : Call) (a : Option Answer) (entry : Result Entry LockFault) → IsAnswered named p s Lock None from at a → entry ≡ entry_by a → Follows named p task entry at to (Err NotRecoverable) → WasRuined named p
+told_after named p s from at to task a (Ok kind) is told works = told_inside named p task kind at works.mended_at works.replied_at works.mended works.mends works.replies
+told_after named p s from at to task a (Err fault) is told (same, e) =
+    let f : fault ≡ NotRecoverable = same_fault NotRecoverable fault e in
+    record {
+      from = from;
+      to = at;
+      answer = a;
+      told = inl (s, is, sym told ∙ ap Err f);
+    }
+
+-- who has found the lock ruined
+was_ruined : (named : Option Setup) (m new : Seat) (task : Call) → Whole named m task None new (Err NotRecoverable) → WasRuined named m.process
+was_ruined named m new task (inl crash) = absurd (let f : NotRecoverable ≡ Crashed = sym (same_fault NotRecoverable Crashed crash) in cc)
+was_ruined named m new task (inr (inl memory)) = absurd (let f : NotRecoverable ≡ OutOfMemory = sym (same_fault NotRecoverable OutOfMemory memory) in cc)
+was_ruined named m new task (inr (inr whole)) = told_after named m.process m.standing m.steps whole.locked_at new.steps task whole.locked (entry_by whole.locked) whole.locks refl whole.follows
+
 -- how a call may end a worker that a crash does not end
-pub ended_by : (named : Option Setup) (m new : Seat) (to : ℕ) (e : LockFault) → Goes m new → of_wait e ≡ true → (e ≡ Crashed → ⊥) → EndsAtLock named m None to e → (s : Spec) → MayEnd named s new.process (Fault e)
-ended_by named m new to NumbersSpent goes wait crash spent s =
+pub ended_by : (named : Option Setup) (m new : Seat) (to : ℕ) (task : Call) (e : LockFault) → Goes m new → of_wait e ≡ true → (e ≡ Crashed → ⊥) → EndsAtLock named m None to e → Whole named m task None new (Err e) → (s : Spec) → MayEnd named s new.process (Fault e)
+ended_by named m new to task NumbersSpent goes wait crash spent whole s =
     inl (refl, record { standing = m.standing; from = m.steps; to = to; answered = subst (λ (p : ℕ). IsAnswered named p m.standing Lock None m.steps to (Some SpentAnswer)) (sym goes.0) spent })
-ended_by named m new to NotRecoverable goes wait crash told s = inr (inl refl)
-ended_by named m new to OutOfMemory goes wait crash told s = inr (inr refl)
-ended_by named m new to Crashed goes wait crash told s = absurd (crash refl)
-ended_by named m new to NotYet goes wait crash told s = absurd (true≢false (sym wait))
-ended_by named m new to AlreadyIn goes wait crash told s = absurd (true≢false (sym wait))
-ended_by named m new to NotOwner goes wait crash told s = absurd (true≢false (sym wait))
-ended_by named m new to NotInconsistent goes wait crash told s = absurd (true≢false (sym wait))
-ended_by named m new to BadIndex goes wait crash told s = absurd (true≢false (sym wait))
-ended_by named m new to BadWidth goes wait crash told s = absurd (true≢false (sym wait))
+ended_by named m new to task NotRecoverable goes wait crash told whole s = inr (inl (refl, subst (WasRuined named) (sym goes.0) (was_ruined named m new task whole)))
+ended_by named m new to task OutOfMemory goes wait crash told whole s = inr (inr refl)
+ended_by named m new to task Crashed goes wait crash told whole s = absurd (crash refl)
+ended_by named m new to task NotYet goes wait crash told whole s = absurd (true≢false (sym wait))
+ended_by named m new to task AlreadyIn goes wait crash told whole s = absurd (true≢false (sym wait))
+ended_by named m new to task NotOwner goes wait crash told whole s = absurd (true≢false (sym wait))
+ended_by named m new to task NotInconsistent goes wait crash told whole s = absurd (true≢false (sym wait))
+ended_by named m new to task BadIndex goes wait crash told whole s = absurd (true≢false (sym wait))
+ended_by named m new to task BadWidth goes wait crash told whole s = absurd (true≢false (sym wait))
 
 -- the fault of worker p, if it has ended this way and not out of memory, and those below it have sent all
 told_early : (s : Spec) (p : ℕ) (e : WorkerEnd) (fault : LabFault) → p < s.procs → MayEnd (Some (setup_of s)) s p e → HaveSentBelow s p → (e ≡ Fault OutOfMemory → ⊥) → fault_by p e ≡ Some fault → MayEndLab s fault

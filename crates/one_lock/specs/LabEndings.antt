@@ -1,18 +1,20 @@
 -- How the workers of a laboratory ended, by process from 0 on, and the fault that the lab answers.
-use Rattle.std.specs.Prelude.{◌≡◌, ◌≢◌, ◌<◌, ◌≤◌, ◌⊎◌, ℕ, List, All, Contains, take, slice_get, Option, Some, None}
+use Rattle.std.specs.Prelude.{◌≡◌, ◌≢◌, ◌<◌, ◌≤◌, ◌⊎◌, ℕ, List, All, Contains, take, slice_get, Option, Some, None, Err}
 use Rattle.one_lock.specs.declared.lab.lab_fault.LabFault.{LabFault}
 use Rattle.one_lock.specs.declared.lab.lab_fault.LabFault.TheVariants.{BadSpec, OutOfMemory as WantsMemory, Member, Reply}
 use Rattle.one_lock.specs.declared.lab.ending.WorkerEnd.{WorkerEnd}
 use Rattle.one_lock.specs.declared.lab.ending.WorkerEnd.TheVariants.{AllSent, Fault, Refused}
 use Rattle.redomail.specs.declared.reply.Reply.{Reply as ReplyOf}
 use Rattle.redomail.specs.declared.reply.Reply.TheVariants.{Stored, Already}
-use Rattle.rmeworld.specs.declared.call.Call.TheVariants.{Lock, Append}
+use Rattle.rmeworld.specs.declared.call.Call.TheVariants.{Lock, Append, Consistent}
+use Rattle.rmeworld.specs.declared.answer.Answer.{Answer}
 use Rattle.rmeworld.specs.declared.answer.Answer.TheVariants.{NumbersSpent as SpentAnswer}
 use Rattle.execution.specs.declared.lock_fault.LockFault.TheVariants.{NumbersSpent, NotRecoverable, OutOfMemory}
 use Rattle.execution.specs.declared.setup.Setup.{Setup}
 use Rattle.one_lock.specs.declared.lab.spec.Spec.{Spec}
 use Rattle.one_lock.specs.declared.member_state.MemberState.{MemberState}
-use Rattle.one_lock.specs.Answers.{IsAnswered, IsReply}
+use Rattle.one_lock.specs.declared.member_state.MemberState.TheVariants.{Unmended}
+use Rattle.one_lock.specs.Answers.{IsAnswered, IsReply, entry_by, mended_by}
 use Rattle.one_lock.specs.Endings.{fault_by}
 use Rattle.one_lock.specs.Lab.{setup_of, words_sent}
 
@@ -40,6 +42,19 @@ pub record WasSpent (named : Option Setup) (p : ℕ) : Type 0 where
   pub to : ℕ
   pub answered : IsAnswered named p standing Lock None from to (Some SpentAnswer)
 
+-- the answer of a lock of p, without a limit of turns, or of a mending of p shows that the lock is ruined
+abbrev pub IsRuin : Option Setup → ℕ → ℕ → ℕ → Option Answer → Type 0
+IsRuin named p from to answer =
+    ((standing : MemberState) × IsAnswered named p standing Lock None from to answer × (entry_by answer ≡ Err NotRecoverable))
+    ⊎ (IsAnswered named p Unmended Consistent None from to answer × (mended_by answer ≡ Err NotRecoverable))
+
+-- p has found the lock ruined, in a world with the sizes that are named
+pub record WasRuined (named : Option Setup) (p : ℕ) : Type 0 where
+  pub from : ℕ
+  pub to : ℕ
+  pub answer : Option Answer
+  pub told : IsRuin named p from to answer
+
 -- The append of worker p's message with this number was given this reply, in a world with the sizes that are named.
 abbrev pub IsReplyTo : Option Setup → ℕ → ℕ → ℕ → ReplyOf → Type 0
 IsReplyTo named width p seq reply = IsReply named p (Append seq (words_sent p seq width)) reply
@@ -61,11 +76,11 @@ pub record WasRefused (named : Option Setup) (width p : ℕ) (reply : ReplyOf) :
 abbrev pub WereSent : Option Setup → ℕ → ℕ → ℕ → Type 0
 WereSent named width p k = (seq : ℕ) → 1 ≤ seq → seq ≤ k → WasSent named width p seq
 
--- How worker p may end: all its messages were sent; or a lock of it was answered NumbersSpent; or it was answered
--- NotRecoverable or OutOfMemory; or one of its messages was given a reply after which it isn't shown.
+-- How worker p may end: all its messages were sent; or a lock of it was answered NumbersSpent; or a lock or a mending of it
+-- found the lock ruined; or it was out of memory; or one of its messages was given a reply after which it isn't shown.
 abbrev pub MayEnd : Option Setup → Spec → ℕ → WorkerEnd → Type 0
 MayEnd named s p AllSent = WereSent named s.width p s.messages
-MayEnd named s p (Fault purpose) = ((purpose ≡ NumbersSpent) × WasSpent named p) ⊎ (purpose ≡ NotRecoverable) ⊎ (purpose ≡ OutOfMemory)
+MayEnd named s p (Fault purpose) = ((purpose ≡ NumbersSpent) × WasSpent named p) ⊎ ((purpose ≡ NotRecoverable) × WasRuined named p) ⊎ (purpose ≡ OutOfMemory)
 MayEnd named s p (Refused reply) = WasRefused named s.width p reply
 
 -- each message of each worker with a number below p was sent
@@ -76,5 +91,5 @@ HaveSentBelow s p = (q : ℕ) → q < p → WereSent (Some (setup_of s)) s.width
 abbrev pub MayEndLab : Spec → LabFault → Type 0
 MayEndLab s BadSpec = ⊥
 MayEndLab s WantsMemory = Unit {0}
-MayEndLab s (Member p purpose) = (p < s.procs) × (((purpose ≡ NumbersSpent) × WasSpent (Some (setup_of s)) p) ⊎ (purpose ≡ NotRecoverable)) × HaveSentBelow s p
+MayEndLab s (Member p purpose) = (p < s.procs) × (((purpose ≡ NumbersSpent) × WasSpent (Some (setup_of s)) p) ⊎ ((purpose ≡ NotRecoverable) × WasRuined (Some (setup_of s)) p)) × HaveSentBelow s p
 MayEndLab s (Reply p reply) = (p < s.procs) × WasRefused (Some (setup_of s)) s.width p reply × HaveSentBelow s p

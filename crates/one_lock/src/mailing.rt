@@ -2,6 +2,7 @@
 
 ghost use Rattle.std.specs.Prelude.{◌≡◌, ◌≢◌, ◌⊎◌, ◌↔◌, ℕ, Ok, Some, None, IfOk, IfErr, IsErrOf, OnOk, OnErr, IsSome, true, false, length};
 ghost use Rattle.one_lock.specs.Answers.{IsReply, EndsAtLock, reply_by};
+ghost use Rattle.one_lock.specs.Whole.{Mends, Works, Whole};
 ghost use Rattle.one_lock.specs.Member.{Goes, AskedEach, AskedOnceMore, Counts, CountsOn, is_in, may_start, of_lock, of_wait, falls_by, stands_out, stands_mended};
 
 use crate::calls::{entered, mended};
@@ -54,6 +55,8 @@ impl<L: Ledger, S: Sizes> Member<L, S> {
         ensures faults { is_in self.old.standing ≡ false
             → length value ≡ self.old.layout.width → IfErr result (λ e. of_lock e ≡ true) }
         ensures at_lock { IfErr result (EndsAtLock S.named self.old (Some turns) self.new.steps) }
+        ensures whole { is_in self.old.standing ≡ false → length value ≡ self.old.layout.width
+            → Whole S.named self.old (Call.Append seq value) (Some turns) self.new result }
         ensures answered { IfOk result (λ reply. IsReply S.named self.old.process (Call.Append seq value) reply) }
     {
         self.append_by(rt, seq, value, plan, Some(turns))
@@ -84,6 +87,8 @@ impl<L: Ledger, S: Sizes> Member<L, S> {
         ensures faults { is_in self.old.standing ≡ false
             → length value ≡ self.old.layout.width → IfErr result (λ e. of_wait e ≡ true) }
         ensures at_lock { IfErr result (EndsAtLock S.named self.old None self.new.steps) }
+        ensures whole { is_in self.old.standing ≡ false → length value ≡ self.old.layout.width
+            → Whole S.named self.old (Call.Append seq value) None self.new result }
         ensures answered { IfOk result (λ reply. IsReply S.named self.old.process (Call.Append seq value) reply) }
     {
         self.append_by(rt, seq, value, plan, None)
@@ -115,6 +120,8 @@ impl<L: Ledger, S: Sizes> Member<L, S> {
         ensures faults { is_in self.old.standing ≡ false
             → length value ≡ self.old.layout.width → IfErr result (λ e. of_lock e ≡ true) }
         ensures at_lock { IfErr result (EndsAtLock S.named self.old turns self.new.steps) }
+        ensures whole { is_in self.old.standing ≡ false → length value ≡ self.old.layout.width
+            → Whole S.named self.old (Call.Append seq value) turns self.new result }
         ensures answered { IfOk result (λ reply. IsReply S.named self.old.process (Call.Append seq value) reply) }
     {
         if value.width() != self.layout.width {
@@ -140,6 +147,7 @@ impl<L: Ledger, S: Sizes> Member<L, S> {
         ensures stands { is_in self.old.standing ≡ false → self.new.standing ≡ stands_out result }
         ensures faults { is_in self.old.standing ≡ false → IfErr result (λ e. of_lock e ≡ true) }
         ensures at_lock { IfErr result (EndsAtLock S.named self.old (Some turns) self.new.steps) }
+        ensures whole { is_in self.old.standing ≡ false → Whole S.named self.old Call.Close (Some turns) self.new result }
         ensures answered { IfOk result (λ reply. IsReply S.named self.old.process Call.Close reply) }
     {
         self.mail_by(rt, plan, Call::Close, Some(turns))
@@ -157,6 +165,7 @@ impl<L: Ledger, S: Sizes> Member<L, S> {
         ensures stands { is_in self.old.standing ≡ false → self.new.standing ≡ stands_out result }
         ensures faults { is_in self.old.standing ≡ false → IfErr result (λ e. of_wait e ≡ true) }
         ensures at_lock { IfErr result (EndsAtLock S.named self.old None self.new.steps) }
+        ensures whole { is_in self.old.standing ≡ false → Whole S.named self.old Call.Close None self.new result }
         ensures answered { IfOk result (λ reply. IsReply S.named self.old.process Call.Close reply) }
     {
         self.mail_by(rt, plan, Call::Close, None)
@@ -164,7 +173,7 @@ impl<L: Ledger, S: Sizes> Member<L, S> {
 
     /// A whole mailbox call: a lock, `consistent` where the entry is `OwnerDied`, the task and an unlock. The plan is asked
     /// once before the one answer.
-    #[tactic(auto, using(crate::proofs::Answered::cut_at_lock, crate::proofs::Answered::locked_out, crate::proofs::Answered::came_in))]
+    #[tactic(auto, using(crate::proofs::Answered::cut_at_lock, crate::proofs::Answered::locked_out, crate::proofs::Answered::came_in, crate::proofs::Whole::cut_whole, crate::proofs::Whole::whole_outside, crate::proofs::Whole::whole_inside))]
     fn mail_by<R: Wait, P: CrashPlan>(
         &mut self,
         rt: &R,
@@ -183,6 +192,7 @@ impl<L: Ledger, S: Sizes> Member<L, S> {
         ensures stands { is_in self.old.standing ≡ false → self.new.standing ≡ stands_out result }
         ensures faults { is_in self.old.standing ≡ false → IfErr result (λ e. of_lock e ≡ true) }
         ensures at_lock { IfErr result (EndsAtLock S.named self.old turns self.new.steps) }
+        ensures whole { is_in self.old.standing ≡ false → Whole S.named self.old call turns self.new result }
         ensures answered { IfOk result (λ reply. IsReply S.named self.old.process call reply) }
     {
         if self.standing.is_in() {
@@ -201,7 +211,7 @@ impl<L: Ledger, S: Sizes> Member<L, S> {
 
     /// What a mailbox call does once it is in, up to the asking before its answer. If the lock is ruined, it leaves without
     /// the task.
-    #[tactic(auto, using(crate::proofs::Answered::replied_by))]
+    #[tactic(auto, using(crate::proofs::Answered::replied_by, crate::proofs::Whole::works_by, crate::proofs::Whole::leaves_by))]
     fn work<R: Wait, P: CrashPlan>(
         &mut self,
         rt: &R,
@@ -219,6 +229,8 @@ impl<L: Ledger, S: Sizes> Member<L, S> {
         ensures faults { IfOk result (λ reply. IfErr reply (λ e. e ≡ LockFault.NotRecoverable)) }
         ensures lost { OnErr result (self.new.standing ≡ MemberState.Lost) }
         ensures only { IfErr result (λ e. (e ≡ LockFault.Crashed) ⊎ (e ≡ LockFault.OutOfMemory)) }
+        ensures works { IfOk result
+            (λ reply. Works S.named self.old.process call self.old.standing self.old.steps self.new.steps reply) }
         ensures answered { IfOk result (λ answer. IfOk answer (λ reply. IsReply S.named self.old.process call reply)) }
     {
         let mended = self.mend(rt, plan)?;
@@ -231,6 +243,7 @@ impl<L: Ledger, S: Sizes> Member<L, S> {
     }
 
     /// Mends, if the owner died.
+    #[tactic(auto, using(crate::proofs::Whole::needs_none, crate::proofs::Whole::mends_by))]
     fn mend<R: Wait, P: CrashPlan>(
         &mut self,
         rt: &R,
@@ -243,6 +256,8 @@ impl<L: Ledger, S: Sizes> Member<L, S> {
         ensures ended { OnErr result (AskedOnceMore self.old self.new (P.askings plan.old) (P.askings plan.new)) }
         ensures fallen { (P.askings plan.new).fallen ≡ falls_by result (P.askings plan.old).fallen }
         ensures stands { IfOk result (λ mended. self.new.standing ≡ stands_mended mended) }
+        ensures mends { IfOk result
+            (λ mended. Mends S.named self.old.process self.old.standing self.old.steps self.new.steps mended) }
         ensures faults { IfOk result (λ mended. IfErr mended (λ e. e ≡ LockFault.NotRecoverable)) }
         ensures lost { OnErr result (self.new.standing ≡ MemberState.Lost) }
         ensures only { IfErr result (λ e. (e ≡ LockFault.Crashed) ⊎ (e ≡ LockFault.OutOfMemory)) }

@@ -172,16 +172,20 @@ int rme_end_call(struct rme_seat *s, int error)
     return error;
 }
 
-/* An append, by one feed of the words that it loads first. */
-static uint64_t append(struct rme_seat *s, struct rme_access *access, struct made *made)
+/* An append, by one feed of the words that it loads first. Its stores are those of data words. They end where the block ends: only
+ * words that no call leaves lead the machine beyond. */
+static uint64_t append(struct rme_seat *s, struct rme_access *access)
 {
-    const uint64_t closed = load(s->words + 1), count = load(s->words + 2);
-    const uint64_t last = load(s->words + 10 + s->machine.width + s->machine.index);
+    uint64_t *const words = s->words;
+    const uint64_t locks = 3 * s->machine.procs, size = s->count - locks, own = 10 + s->machine.width + s->machine.index;
+    const uint64_t closed = load(words + 1), count = load(words + 2), last = load(words + own);
     struct rme_stores stores;
     if (!rme_feed_append(&s->machine, closed, count, last, &stores, access))
         return 0;
-    for (uint64_t k = 0; k < stores.count; k++)
-        take(s, &stores.each[k], made);
+    const struct rme_access *each = stores.each, *end = each + stores.count;
+    for (; each < end && each->place - locks < size; each++)
+        store(words + (each->place - locks), each->value);
+    s->astray = each < end;
     return stores.told;
 }
 
@@ -200,7 +204,7 @@ INLINED uint64_t rme_make_call(struct rme_seat *s, const struct rme_call *asked,
     } else if (asked->code == RME_LOCK && told == RME_CALL_UNDER_WAY) {
         told = rme_next(&s->machine, access);
     } else if (asked->code == RME_APPEND && told == 0) {
-        told = append(s, access, &made);
+        told = append(s, access);
     }
     return told > RME_BLOCKED && told < RME_LOAD ? told : finish(s, told, made, access, may_wait);
 }

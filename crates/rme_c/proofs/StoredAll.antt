@@ -1,5 +1,5 @@
 -- An append by one feed.
-use Rattle.std.proofs.Common.{◌≡◌, ℕ, zero, suc, min, ◌+◌, ◌*◌, ◌<◌, ◌≤◌, false, is_none, List, [], ◌∷◌, ◌++◌, length, take, drop, slice_index, None, refl, sym, ap, ◌∙◌, subst, arith, length-take}
+use Rattle.std.proofs.Common.{◌≡◌, ℕ, zero, suc, min, ◌+◌, ◌*◌, ◌<◌, ◌≤◌, false, List, [], ◌∷◌, ◌++◌, length, take, drop, slice_index, None, refl, sym, ap, ◌∙◌, subst, arith, length-take}
 use Rattle.rme_c.proofs.Common.{Place, Reply, Done, Script, puts, store_steps, record_of, length-store_steps, step-record, step-commit, step-entry, step-last, step-count, step-disarm, held, Purpose, next_access, access_by, Position, Within, RmeProcess, purpose_of, layout_of, machine_state_at, Fits, position_of, Told, IsStep, stepped}
 use Rattle.redomail.specs.declared.reply.Reply.TheVariants.{Stored}
 use Rattle.redomail.specs.Layout.{place_at, last_at}
@@ -89,7 +89,9 @@ module _ (p : RmeProcess) (eight : length p.value ≡ 8) (at seq : ℕ) (fits : 
   record_row start j e h =
       let most = fits.1.1.0.most in
       let v : ℕ = slice_index (at ∷ seq ∷ values) j in
-      put_at j (4 + j) v (step-record (layout_of p) p.index (record_of at seq values) j (omega (arith, wide, most)) (omega (arith, wide, h)))
+      let same : 0 + j ≡ j = omega arith in
+      ap (store_at p at seq) same
+      ∙ put_at j (4 + j) v (step-record (layout_of p) p.index (record_of at seq values) j (omega (arith, wide, most)) (omega (arith, wide, h)))
       ∙ moved (held (3 * p.procs + (4 + j))) (held (start + j)) v (omega (arith, e))
 
   pub commit : (k i : ℕ) → k ≡ 2 + p.width → i ≡ 3 * p.procs + 3 → i < 18446744073709551615 → store_at p at seq k ≡ record { store = 1; place = i; value = 1 }
@@ -149,15 +151,15 @@ module _ (p : RmeProcess) (seq closed count last : ℕ) (here : position_of p �
       let is : counted_of p ≡ counted_at p p.steps (Within (script_position.Closed seq)) = ap (counted_at p p.steps) here in sym asked ∙ ap (λ x. fed_two x closed count) (sym is)
 
   -- the message is stored, from where the third load leads
-  pub stored_from : (m q : RmeProcess) (s : RmeStores) (a : RmeAccess) (y : Position) (t : Told) (at n : ℕ) → is_none (next_access (machine_state_at p third)) ≡ false → m ≡ p → IsStep p third last m y t
+  pub stored_from : (m q : RmeProcess) (s : RmeStores) (a : RmeAccess) (y : Position) (t : Told) (at n : ℕ) → m ≡ p → IsStep p third last m y t
       → y ≡ Within (script_position.Store at n 0) → IsStored (counted_at m (m.steps + 3) (Within (script_position.Store at n 0))) q s a → IsStored (fed_once (fed_two (counted_of p) closed count) last) q s a
-  stored_from m q s a y t at n busy same step is stored =
+  stored_from m q s a y t at n same step is makes =
       let there : Position = Within (script_position.Store at n 0) in
       let exact : machine_state_at m there ≡ stepped (machine_state_at p third) last = sym (ap (machine_state_at m) is) ∙ step.exact in
       let steps : m.steps ≡ p.steps = ap (λ (z : RmeProcess). z.steps) same in
       let more : m.steps + 3 ≡ held (p.steps + 2 + 1) = omega (arith, few, steps) in
-      let led : counted_at m (m.steps + 3) there ≡ fed_once (counted_at p (p.steps + 2) third) last = rw busy (λ i. record { machine = exact i; steps = more i }) in
-      subst (λ x. IsStored x q s a) (led ∙ ap (λ x. fed_once x last) asked_from) stored
+      let led : counted_at m (m.steps + 3) there ≡ fed_once (counted_at p (p.steps + 2) third) last = λ i. record { machine = exact i; steps = more i } in
+      subst (λ x. IsStored x q s a) (led ∙ ap (λ x. fed_once x last) asked_from) makes
 
   pub appended : (q : RmeProcess) (s : RmeStores) (a : RmeAccess) → (s.count ≡ 0 → IsFedRun (fed_two (counted_of p) closed count) last q a s.told) → (0 < s.count → IsStored (fed_once (fed_two (counted_of p) closed count) last) q s a) → IsAppended p closed count last q s a
   appended q s a ended stored =

@@ -1,7 +1,6 @@
-use Rattle.std.proofs.Common.{◌≡◌, ℕ, ◌+◌, ◌<◌, min, refl, sym, ap, ◌∙◌, subst, arith}
+use Rattle.std.proofs.Common.{rules, ◌≡◌, ℕ, ◌+◌, ◌<◌, min, refl, sym, ap, ◌∙◌, subst, arith}
 use Rattle.rme_c.proofs.Common.{Within, RmeProcess, machine_state_at}
 use Rattle.rme_c.specs.declared.script_position.ScriptPosition.TheVariants as script_position
-use Rattle.rme_c.proofs.Arms.{has_script_position}
 use Rattle.rme_c.proofs.StoredAll.{appended, stored_from}
 use Rattle.rme_c.proofs.appends.appended.Goals as goal
 
@@ -10,7 +9,8 @@ returns-in-Within-Store-default-default-eq0 c =
     let p = c.args.p.now in
     let r = c.requires in
     let some = c.store_all.ensures.some in
-    let third = script_position.Last c.args.seq c.args.closed c.args.count in
+    let x = c.in-Within-Store-default-default-eq0 in
+    let is : c.decided-to.result.0 ≡ Within (script_position.Store x.at x.seq 0) = search (rules, x.is, x.field-0-is, x.field-0-2-test, x.field-0-2-is) in
     appended p c.args.seq c.args.closed c.args.count c.args.last r.here r.few _ _ _
     (λ z. absurd (omega (arith, z, some)))
-    (λ h. stored_from p c.args.seq c.args.closed c.args.count c.args.last r.here r.few c.decided-to.new.p _ _ _ _ _ _ (has_script_position p r.eight third r.fits) c.decided-to.ensures.same c.decided-to.ensures.step ? c.store_all.ensures.stored)
+    (λ h. stored_from p c.args.seq c.args.closed c.args.count c.args.last r.here r.few c.decided-to.new.p _ _ _ c.decided-to.result.0 c.decided-to.result.1 _ _ c.decided-to.ensures.same c.decided-to.ensures.step is c.store_all.ensures.stored)

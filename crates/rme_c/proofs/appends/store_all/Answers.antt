@@ -1,4 +1,4 @@
-use Rattle.std.proofs.Common.{◌≡◌, ℕ, ◌+◌, ◌-◌, ◌*◌, Some, refl, sym, ap, ◌∙◌, arith}
+use Rattle.std.proofs.Common.{◌≡◌, ℕ, ◌+◌, ◌-◌, ◌*◌, false, Some, refl, sym, ap, ◌∙◌, arith}
 use Rattle.redomail.specs.declared.reply.Reply.TheVariants.{Stored}
 use Rattle.rmeworld.specs.declared.answer.Answer.TheVariants.{Mail}
 use Rattle.rme_c.proofs.Common.{Inside, Lock, Within, RmeProcess, machine_state_at}

@@ -172,8 +172,8 @@ int rme_end_call(struct rme_seat *s, int error)
     return error;
 }
 
-/* An append, by one feed of the words that it loads first. Its stores are those of data words. They end where the block ends: only
- * words that no call leaves lead the machine beyond. */
+/* An append, by one feed of the words that it loads first. Its stores are those of data words; as in `take`, none goes to a word that
+ * the block does not have. */
 static uint64_t append(struct rme_seat *s, struct rme_access *access)
 {
     uint64_t *const words = s->words;
@@ -182,10 +182,11 @@ static uint64_t append(struct rme_seat *s, struct rme_access *access)
     struct rme_stores stores;
     if (!rme_feed_append(&s->machine, closed, count, last, &stores, access))
         return 0;
-    const struct rme_access *each = stores.each, *end = each + stores.count;
-    for (; each < end && each->place - locks < size; each++)
-        store(words + (each->place - locks), each->value);
-    s->astray = each < end;
+    for (const struct rme_access *each = stores.each; each < stores.each + stores.count; each++)
+        if (each->place - locks < size)
+            store(words + (each->place - locks), each->value);
+        else
+            s->astray = true;
     return stores.told;
 }
 
@@ -201,11 +202,10 @@ INLINED uint64_t rme_make_call(struct rme_seat *s, const struct rme_call *asked,
         s->blocked_at = NULL;
         run(s, RME_LOCKS, 1, &made);
         told = rme_feed_run(&s->machine, made.count - 1, made.seen, access);
-    } else if (asked->code == RME_LOCK && told == RME_CALL_UNDER_WAY) {
+    } else if (asked->code == RME_LOCK && told == RME_CALL_UNDER_WAY)
         told = rme_next(&s->machine, access);
-    } else if (asked->code == RME_APPEND && told == 0) {
+    else if (asked->code == RME_APPEND && told == 0)
         told = append(s, access);
-    }
     return told > RME_BLOCKED && told < RME_LOAD ? told : finish(s, told, made, access, may_wait);
 }
 

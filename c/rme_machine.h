@@ -55,10 +55,11 @@ enum rme_answer {
  * rme_feed_run is given how many came before the last one, and what that read (0 for a store). From RME_RUN on rme_start_run and
  * rme_feed_run answer a run. What else rme_feed_run answers is as rme_feed says, and what rme_start_run does, as rme_start.
  *
- * Two more take the steps of stores before these are made. rme_leave starts an unlock with nothing to mend: it answers RME_UNLOCKED,
- * and the accesses of RME_LEAVES are made then; or 0, and has done nothing. rme_feed_append is called where an append has been
- * started, with the three words that it loads first: data words 1 and 2, and the process's last number, data word 10 + width + index.
- * It answers 1, and the stores that it names are made then, in order; or 0, and has done nothing. */
+ * Two more take the steps of stores before these are made. rme_leave starts an unlock: it answers RME_UNLOCKED, and the accesses of
+ * RME_LEAVES are made then; or 0, and has done nothing: just where the unlock is refused or there is something to mend.
+ * rme_feed_append is called where an append has been started, with the three words that it loads first: data words 1 and 2, and the
+ * process's last number, data word 10 + width + index. It answers 1, and the stores that it names are made then, in order: all are of
+ * data words. Or it answers 0, and has done nothing: just where no append is at its first load, or its call has taken 2^62 steps. */
 enum rme_run {
     RME_RUN = 256,
     RME_PEEKS = RME_RUN, /* and a process: loads number of each other process, from this one on */

@@ -38,7 +38,7 @@ idle_told : (o : Option Access) (x : Outcome) (next : Option Access) → is_none
 idle_told None x next e = refl
 idle_told (Some a) x next e = cc
 
-busy_told : (o : Option Access) (x : Outcome) (next : Option Access) → is_none o ≡ false → told_by o x next ≡ told_as x.answer x.progress.blocked next
+pub busy_told : (o : Option Access) (x : Outcome) (next : Option Access) → is_none o ≡ false → told_by o x next ≡ told_as x.answer x.progress.blocked next
 busy_told None x next e = cc
 busy_told (Some a) x next e = refl
 

@@ -1,6 +1,7 @@
 -- A run that is fed, and the run that comes next.
-use Rattle.std.proofs.Common.{◌≡◌, ℕ, zero, suc, min, ◌+◌, ◌*◌, ◌<◌, ◌≤◌, ◌==◌, true, false, List, [], ◌∷◌, ◌++◌, length, Option, Some, None, refl, sym, ap, ◌∙◌, subst, eq-eqb, arith}
-use Rattle.rme_c.proofs.Common.{lt-ltb, Access, Stage, place_of, above, above_past, first, Check, begun, Doing as Does, Checking, Position, Lock, Within, RmeProcess, layout_of, machine_state_at, machine_state_of, position_of, stage_of, IsFed, stepped}
+use Rattle.std.proofs.Common.{◌≡◌, ℕ, zero, suc, min, ◌+◌, ◌*◌, ◌<◌, ◌≤◌, ◌==◌, true, false, is_none, List, [], ◌∷◌, ◌++◌, length, Option, Some, None, refl, sym, ap, ◌∙◌, subst, eq-eqb, arith}
+use Rattle.rme_c.proofs.Common.{lt-ltb, Access, Stage, place_of, above, above_past, first, Check, begun, Doing as Does, Checking, Position, Lock, Within, RmeProcess, layout_of, machine_state_at, machine_state_of, position_of, stage_of, IsFed, IsStep, MachineState, Told, held, next_access, outcome, stepped}
+use Rattle.rme_c.proofs.Feeds.{busy_told}
 use Rattle.rme_c.proofs.Numbers.{stands}
 use Rattle.rme_c.proofs.RunSteps.{place_at, reached, zeros_first, goes_goes, length_others, length_waits, reread_choosing, reread_number, reread_inside, opened, taken, shuts, drops, peeks_all, waits_all, peeks_run, waits_run, peeks_then, waits_then, zeros_sum, told_goes, peeks_go, waits_go}
 use Rattle.rmecore.specs.Place.{Reread, Opening, Door, Shutting, Wait, Inside, Leaving, Unmarking}
@@ -12,13 +13,13 @@ use Rattle.rmecore.specs.declared.stage.Stage.TheVariants as stage
 use Rattle.rmecore.specs.declared.word.Word.TheVariants as word
 use Rattle.rmecore.specs.declared.refusal.Refusal.{Refusal}
 use Rattle.rmecore.specs.declared.refusal.Refusal.TheVariants as refusal
-use Rattle.rme_c.specs.Codes.{told, refusal_code}
+use Rattle.rme_c.specs.Codes.{told, told_as, shown, refusal_code}
 use Rattle.rme_c.specs.declared.process.RmeAccess.{RmeAccess}
 use Rattle.rme_c.specs.declared.process.RmePosition.{RmePosition}
 use Rattle.rme_c.specs.declared.runs.Run.{Run}
 use Rattle.rme_c.specs.declared.runs.Run.TheVariants as run
 use Rattle.rme_c.specs.declared.script_position.ScriptPosition.TheVariants as script_position
-use Rattle.rme_c.specs.Runs.{Counted, counted_of, fed_once, fed_zeros, IsRun, peeks, waits, run_by, GoesOn, IsNextRun, IsFedRun}
+use Rattle.rme_c.specs.Runs.{Counted, counted_of, counted_at, fed_once, fed_zeros, IsRun, peeks, waits, run_by, GoesOn, IsNextRun, IsFedRun}
 
 -- an access that was made, and those that follow
 more : (p : RmeProcess) (x y : Counted) (a : Access) (rest : List Access) → fed_once x 0 ≡ y → IsRun y.machine rest → IsRun (stepped x.machine 0) rest
@@ -114,16 +115,13 @@ module _ (p : RmeProcess) where
   leaves_next =
       record { some = omega arith; each = (refl, more p (reached p Leaving 0) (reached p (Unmarking call.Unlock) 1) (Store kind.Drop (word.Number own) 0) (Store kind.Mark (word.Inside own) 0 ∷ []) (drops p 0 0 (omega arith)) (refl, tt)) }
 
-  abbrev counted_at : ℕ → Position → Counted
-  counted_at c y = record { machine = machine_state_at p y; steps = c }
-
   pub here_at : (t : Stage) → position_of p ≡ Lock t → counted_of p ≡ reached p (place_of n own t) p.steps
-  here_at t e = ap (counted_at p.steps) e
+  here_at t e = ap (counted_at p p.steps) e
 
   pub lands_at : (t : Stage) (x : RmePosition) (c : ℕ) → own < n → n ≤ 64 → stage_of x ≡ Some t → counted_of (record p { position = x; steps = c }) ≡ reached p (place_of n own t) c
   lands_at t x c below few e =
       let is : position_of (record p { position = x; steps = c }) ≡ Lock t = stands (record p { position = x }) (Lock t) (below, few) (λ l fits. rw e refl) in
-      ap (counted_at c) is
+      ap (counted_at p c) is
 
 -- where the call goes on with a run
 pub fed_on : (q : RmeProcess) (c : Counted) (v : ℕ) (a : RmeAccess) (r : ℕ) (next : Run) → counted_of q ≡ fed_once c v → GoesOn (told c.machine v) → IsNextRun (machine_state_of q) q.procs q.index next
@@ -149,6 +147,27 @@ fed_after m c v q b a r is fed =
       run = λ h. absurd (omega (arith, h, few));
       next = fed.next;
     })
+
+-- by one step of a script, from this position and after this many steps
+pub step_counted : (p : RmeProcess) (c v : ℕ) (x : Position) (m q : RmeProcess) (y : Position) (t : Told) (o : Option Access) (a : RmeAccess) (r : ℕ)
+    → is_none (next_access (machine_state_at p x)) ≡ false → IsStep p x v m y t → position_of q ≡ y → machine_state_at q y ≡ machine_state_at m y → q.steps ≡ c + 1 → c < 18446744073709551615
+    → o ≡ next_access (machine_state_at q y) → r ≡ told_as t.answer t.blocked o → (r < 64 → a ≡ shown p.procs t.answer o) → r < 256 → IsFedRun (counted_at p c x) v q a r
+step_counted p c v x m q y t o a r busy step there same counts some wants tells shows few =
+    let now : MachineState = machine_state_at p x in
+    let led : machine_state_at q y ≡ stepped now v = same ∙ step.exact in
+    let more : q.steps ≡ held (c + 1) = omega (arith, counts, some) in
+    let follows : o ≡ next_access (stepped now v) = wants ∙ ap next_access led in
+    record {
+      exact = rw busy (λ i. record { machine = (ap (machine_state_at q) there ∙ led) i; steps = more i });
+      code =
+          λ h.
+          tells
+          ∙ (λ i. told_as (step.answer i) (step.blocked i) (follows i))
+          ∙ sym (busy_told (next_access now) (outcome now (next_access now) v) (next_access (stepped now v)) busy);
+      goes = λ h. absurd (omega (arith, h, few));
+      run = λ h. absurd (omega (arith, h, few));
+      next = λ h. shows h ∙ (λ i. shown p.procs (step.answer i) (wants i)) ∙ ap (λ z. shown p.procs (outcome now (next_access now) v).answer (next_access (machine_state_at q z))) (sym there);
+    }
 
 -- the same, where after the feed a run comes next
 pub fed_more : (m q : RmeProcess) (c : Counted) (v : ℕ) (b a d : RmeAccess) (code r : ℕ) (next : Run) → counted_of m ≡ c → IsFed m v q b a code → GoesOn code → IsNextRun (machine_state_of q) q.procs q.index next

@@ -1,30 +1,25 @@
 -- An append by one feed.
-use Rattle.std.proofs.Common.{◌≡◌, ℕ, zero, suc, min, ◌+◌, ◌*◌, ◌<◌, ◌≤◌, false, List, [], ◌∷◌, ◌++◌, length, take, drop, None, refl, sym, ap, ◌∙◌, subst, arith, length-take}
-use Rattle.rme_c.proofs.Common.{Place, Reply, Done, Script, puts, store_steps, record_of, length-store_steps, Purpose, next_access, access_by, Position, Within, RmeProcess, purpose_of, layout_of, machine_state_at, Fits, position_of, IsFed}
+use Rattle.std.proofs.Common.{◌≡◌, ℕ, zero, suc, min, ◌+◌, ◌*◌, ◌<◌, ◌≤◌, false, List, [], ◌∷◌, ◌++◌, length, take, drop, slice_index, None, refl, sym, ap, ◌∙◌, subst, arith, length-take}
+use Rattle.rme_c.proofs.Common.{Place, Reply, Done, Script, puts, store_steps, record_of, length-store_steps, step-record, step-commit, step-entry, step-last, step-count, step-disarm, held, Purpose, next_access, access_by, Position, Within, RmeProcess, purpose_of, layout_of, machine_state_at, Fits, position_of, Told, IsStep, stepped}
 use Rattle.redomail.specs.declared.reply.Reply.TheVariants.{Stored}
+use Rattle.redomail.specs.Layout.{place_at, last_at}
 use Rattle.rmecore.specs.Place as place
 use Rattle.rmeworld.specs.ProcessState.{Doing}
 use Rattle.rme_c.specs.Codes.{shown}
 use Rattle.rme_c.specs.declared.process.RmeAccess.{RmeAccess}
 use Rattle.rme_c.specs.declared.process.RmeStores.{RmeStores}
 use Rattle.rme_c.specs.declared.script_position.ScriptPosition.TheVariants as script_position
-use Rattle.rme_c.specs.Runs.{Counted, counted_of, fed_once, fed_zeros, IsFedRun}
-use Rattle.rme_c.specs.Stores.{IsStore, IsStores, shown_next, named_to, fed_two, IsStored, IsAppended}
+use Rattle.rme_c.specs.Runs.{Counted, counted_of, counted_at, fed_once, fed_zeros, IsFedRun}
+use Rattle.rme_c.specs.Stores.{IsStore, IsStores, shown_next, store_at, named_to, fed_two, IsStored, IsAppended}
 use Rattle.rme_c.proofs.Arms.{has_script_position, store_on}
-use Rattle.rme_c.proofs.RunFeeds.{fed_after}
 
 puts_next : (limit p : ℕ) (s : Place) (w : Purpose) (xs : List (ℕ × ℕ)) (k : ℕ) (e : Script Reply) → k < length xs → IsStore (access_by limit p s (Doing w (puts (drop k xs) e)))
 puts_next limit p s w [] k e h = absurd (omega arith)
 puts_next limit p s w (x ∷ xs) zero e h = tt
 puts_next limit p s w (x ∷ xs) (suc k) e h = puts_next limit p s w xs k e (omega arith)
 
--- at this position, with this count of steps
-abbrev counted_at : RmeProcess → ℕ → Position → Counted
-counted_at p c y = record { machine = machine_state_at p y; steps = c }
-
--- after it was put at a position
-lands : (p m : RmeProcess) (y : Position) (c : ℕ) → position_of m ≡ y → m ≡ record p { steps = c; position = m.position } → counted_of m ≡ counted_at p c y
-lands p m y c there same = λ i. record { machine = (ap (machine_state_at m) there ∙ ap (λ (z : RmeProcess). machine_state_at z y) same) i; steps = ap (λ (z : RmeProcess). z.steps) same i }
+abbrev store_of : ℕ → ℕ → RmeAccess
+store_of i v = record { store = 1; place = i; value = v }
 
 module _ (p : RmeProcess) (eight : length p.value ≡ 8) (at seq : ℕ) (fits : Fits p (Within (script_position.Store at seq 0))) where
   abbrev all : ℕ
@@ -33,7 +28,7 @@ module _ (p : RmeProcess) (eight : length p.value ≡ 8) (at seq : ℕ) (fits : 
   abbrev here : ℕ → Position
   here k = Within (script_position.Store at seq k)
 
-  fits_at : (k : ℕ) → k < all → Fits p (here k)
+  pub fits_at : (k : ℕ) → k < all → Fits p (here k)
   fits_at k h = (fits.0, (fits.1.0, (fits.1.1.0, h)))
 
   more : (k c v : ℕ) → k + 1 < all → c < 18446744073709551615 → fed_once (counted_at p c (here k)) v ≡ counted_at p (c + 1) (here (k + 1))
@@ -72,19 +67,75 @@ module _ (p : RmeProcess) (eight : length p.value ≡ 8) (at seq : ℕ) (fits : 
     subst (λ (x : Counted). IsStore (next_access x.machine)) (sym (zeros k c (omega (arith, h)) (omega (arith, few)))) (is_store k (omega (arith, h))),
   )
 
-  pub stored : (m q : RmeProcess) (s : RmeStores) (b a : RmeAccess) (step : ℕ) → position_of p ≡ here 0 → p.steps < 4611686018427387904 → step + 1 ≡ all → position_of m ≡ here step → m ≡ record p { steps = p.steps + step; position = m.position }
-      → IsFed m 0 q b a s.told → s.count ≡ all → take s.count s.each ≡ named_to p at seq s.count → IsStored (counted_of p) q s a
-  stored m q s b a step at_first few last there same fed count names =
+  abbrev values : List ℕ
+  values = take p.width p.value
+
+  abbrev steps : List (ℕ × ℕ)
+  steps = store_steps (layout_of p) p.index (record_of at seq values)
+
+  wide : length values ≡ p.width
+  wide = let most = fits.1.1.0.most in omega (arith, length-take p.width p.value, eight, most)
+
+  -- store k, from the put of the mailbox that it is
+  put_at : (k i v : ℕ) → drop k steps ≡ (i, v) ∷ drop (k + 1) steps → store_at p at seq k ≡ record { store = 1; place = held (3 * p.procs + i); value = v }
+  put_at k i v e =
+      ap (λ xs. shown p.procs None (access_by p.limit p.index place.Inside (Doing (purpose_of (layout_of p) p.value (script_position.Store at seq k)) (puts xs (Done Stored))))) e
+
+  moved : (i j v : ℕ) → i ≡ j → store_of i v ≡ store_of j v
+  moved i j v e = ap (λ x. store_of x v) e
+
+  -- the record, from this place of the block on
+  pub record_row : (start j : ℕ) → start ≡ 3 * p.procs + 4 → j < 2 + p.width → store_at p at seq (0 + j) ≡ record { store = 1; place = held (start + j); value = slice_index (at ∷ seq ∷ values) j }
+  record_row start j e h =
       let most = fits.1.1.0.most in
-      let is : counted_of p ≡ counted_at p p.steps (here 0) = ap (counted_at p p.steps) at_first in
-      let made : counted_of m ≡ fed_zeros step (counted_at p p.steps (here 0)) = lands p m (here step) (p.steps + step) there same ∙ sym (zeros step p.steps (omega (arith, last)) (omega (arith, few, last, most))) in
+      let v : ℕ = slice_index (at ∷ seq ∷ values) j in
+      let same : 0 + j ≡ j = omega arith in
+      ap (store_at p at seq) same
+      ∙ put_at j (4 + j) v (step-record (layout_of p) p.index (record_of at seq values) j (omega (arith, wide, most)) (omega (arith, wide, h)))
+      ∙ moved (held (3 * p.procs + (4 + j))) (held (start + j)) v (omega (arith, e))
+
+  pub commit : (k i : ℕ) → k ≡ 2 + p.width → i ≡ 3 * p.procs + 3 → i < 18446744073709551615 → store_at p at seq k ≡ record { store = 1; place = i; value = 1 }
+  commit k i h e small = put_at k 3 1 (step-commit (layout_of p) p.index (record_of at seq values) k (omega (arith, wide, h))) ∙ moved (held (3 * p.procs + 3)) i 1 (omega (arith, e, small))
+
+  -- the entry
+  pub entry_row : (k start j : ℕ) → k ≡ 3 + p.width → start ≡ held (held (place_at (layout_of p) at + 0) + 3 * p.procs) → j < 2 + p.width
+      → store_at p at seq (k + j) ≡ record { store = 1; place = held (start + j); value = slice_index (p.index ∷ seq ∷ values) j }
+  entry_row k start j h e small =
+      let v : ℕ = slice_index (p.index ∷ seq ∷ values) j in
+      let x : ℕ = place_at (layout_of p) at in
+      put_at (k + j) (held (x + j)) v (step-entry (layout_of p) p.index (record_of at seq values) (k + j) j (omega (arith, wide, h)) (omega (arith, wide, small)))
+      ∙ moved (held (3 * p.procs + held (x + j))) (held (start + j)) v (omega (arith, e))
+
+  pub numbered : (k i : ℕ) → k ≡ 5 + 2 * p.width → i ≡ 3 * p.procs + last_at (layout_of p) p.index → i < 18446744073709551615 → store_at p at seq k ≡ record { store = 1; place = i; value = seq }
+  numbered k i h e small =
+      put_at k (last_at (layout_of p) p.index) seq (step-last (layout_of p) p.index (record_of at seq values) k (omega (arith, wide, h)))
+      ∙ moved (held (3 * p.procs + last_at (layout_of p) p.index)) i seq (omega (arith, e, small))
+
+  pub counts : (k i v : ℕ) → k ≡ 6 + 2 * p.width → i ≡ 3 * p.procs + 2 → i < 18446744073709551615 → v ≡ held (at + 1) → store_at p at seq k ≡ record { store = 1; place = i; value = v }
+  counts k i v h e small more =
+      put_at k 2 (held (at + 1)) (step-count (layout_of p) p.index (record_of at seq values) k (omega (arith, wide, h)))
+      ∙ moved (held (3 * p.procs + 2)) i (held (at + 1)) (omega (arith, e, small))
+      ∙ ap (store_of i) (sym more)
+
+  pub disarm : (k i : ℕ) → k ≡ 7 + 2 * p.width → i ≡ 3 * p.procs + 3 → i < 18446744073709551615 → store_at p at seq k ≡ record { store = 1; place = i; value = 0 }
+  disarm k i h e small = put_at k 3 0 (step-disarm (layout_of p) p.index (record_of at seq values) k (omega (arith, wide, h))) ∙ moved (held (3 * p.procs + 3)) i 0 (omega (arith, e, small))
+
+  -- all stores are named, and the last one is fed
+  pub stored : (c step : ℕ) (q : RmeProcess) (s : RmeStores) (a : RmeAccess) → c ≤ 4611686018427387906 → step + 1 ≡ all → IsFedRun (counted_at p (c + step) (here step)) 0 q a s.told → s.count ≡ all
+      → take s.count s.each ≡ named_to p at seq s.count → s.told ≡ 28 → IsStored (counted_at p c (here 0)) q s a
+  stored c step q s a few last fed count names done =
+      let most = fits.1.1.0.most in
+      let within : c + all ≤ 18446744073709551615 = omega (arith, few, most) in
+      let from : Counted = counted_at p c (here 0) in
       record {
-        stores = subst (λ k. IsStores k (counted_of p)) (sym count) (subst (IsStores all) (sym is) (stores_are all p.steps (omega arith) (omega (arith, few, most))));
-        named = names ∙ ap (named_to p at seq) count ∙ sym (named_is all p.steps (omega arith) (omega (arith, few, most))) ∙ ap (shown_next p.procs all) (sym is) ∙ ap (λ k. shown_next p.procs k (counted_of p)) (sym count);
+        stores = subst (λ k. IsStores k from) (sym count) (stores_are all c (omega arith) within);
+        named = names ∙ ap (named_to p at seq) count ∙ sym (named_is all c (omega arith) within) ∙ ap (λ k. shown_next p.procs k from) (sym count);
         fed =
             λ z e.
             let same : step ≡ z = omega (arith, e, count, last) in
-            fed_after m (fed_zeros z (counted_of p)) 0 q b a s.told (made ∙ ap (λ k. fed_zeros k (counted_at p p.steps (here 0))) same ∙ ap (fed_zeros z) (sym is)) fed;
+            let made : counted_at p (c + step) (here step) ≡ fed_zeros z from = sym (zeros step c (omega (arith, last)) (omega (arith, within, last))) ∙ ap (λ k. fed_zeros k from) same in
+            subst (λ x. IsFedRun x 0 q a s.told) made fed;
+        ends = done;
       }
 
 module _ (p : RmeProcess) (seq closed count last : ℕ) (here : position_of p ≡ Within (script_position.Closed seq)) (few : p.steps < 4611686018427387904) where
@@ -94,10 +145,21 @@ module _ (p : RmeProcess) (seq closed count last : ℕ) (here : position_of p �
   asked : fed_two (counted_at p p.steps (Within (script_position.Closed seq))) closed count ≡ counted_at p (p.steps + 2) third
   asked = let counts : min (min (p.steps + 1) 18446744073709551615 + 1) 18446744073709551615 ≡ p.steps + 2 = omega (arith, few) in λ i. record { machine = machine_state_at p third; steps = counts i }
 
-  pub fed_third : (m q : RmeProcess) (b a : RmeAccess) (r : ℕ) → position_of m ≡ third → m ≡ record p { steps = p.steps + 2; position = m.position } → IsFed m last q b a r → IsFedRun (fed_two (counted_of p) closed count) last q a r
-  fed_third m q b a r there same fed =
-      let is : counted_of p ≡ counted_at p p.steps (Within (script_position.Closed seq)) = ap (counted_at p p.steps) here in
-      fed_after m (fed_two (counted_of p) closed count) last q b a r (lands p m third (p.steps + 2) there same ∙ sym asked ∙ ap (λ x. fed_two x closed count) (sym is)) fed
+  -- at the first load, after the two that follow
+  pub asked_from : counted_at p (p.steps + 2) third ≡ fed_two (counted_of p) closed count
+  asked_from =
+      let is : counted_of p ≡ counted_at p p.steps (Within (script_position.Closed seq)) = ap (counted_at p p.steps) here in sym asked ∙ ap (λ x. fed_two x closed count) (sym is)
+
+  -- the message is stored, from where the third load leads
+  pub stored_from : (m q : RmeProcess) (s : RmeStores) (a : RmeAccess) (y : Position) (t : Told) (at n : ℕ) → m ≡ p → IsStep p third last m y t
+      → y ≡ Within (script_position.Store at n 0) → IsStored (counted_at m (m.steps + 3) (Within (script_position.Store at n 0))) q s a → IsStored (fed_once (fed_two (counted_of p) closed count) last) q s a
+  stored_from m q s a y t at n same step is makes =
+      let there : Position = Within (script_position.Store at n 0) in
+      let exact : machine_state_at m there ≡ stepped (machine_state_at p third) last = sym (ap (machine_state_at m) is) ∙ step.exact in
+      let steps : m.steps ≡ p.steps = ap (λ (z : RmeProcess). z.steps) same in
+      let more : m.steps + 3 ≡ held (p.steps + 2 + 1) = omega (arith, few, steps) in
+      let led : counted_at m (m.steps + 3) there ≡ fed_once (counted_at p (p.steps + 2) third) last = λ i. record { machine = exact i; steps = more i } in
+      subst (λ x. IsStored x q s a) (led ∙ ap (λ x. fed_once x last) asked_from) makes
 
   pub appended : (q : RmeProcess) (s : RmeStores) (a : RmeAccess) → (s.count ≡ 0 → IsFedRun (fed_two (counted_of p) closed count) last q a s.told) → (0 < s.count → IsStored (fed_once (fed_two (counted_of p) closed count) last) q s a) → IsAppended p closed count last q s a
   appended q s a ended stored =

@@ -9,14 +9,15 @@ use Rattle.rmecore.specs.declared.kind.Kind.TheVariants.{Reread as Rereads, Open
 use Rattle.rmecore.specs.declared.word.Word.TheVariants.{Choosing, Number, Inside, Data}
 use Rattle.rmeworld.specs.declared.call.Call.{Call}
 use Rattle.rmeworld.specs.MachineState.{MachineState, started, stepped, next_access, outcome}
+use Rattle.rme_c.specs.declared.position.Position.{Position}
 use Rattle.rme_c.specs.declared.process.RmeAccess.{RmeAccess}
 use Rattle.rme_c.specs.declared.process.RmeCall.{RmeCall}
 use Rattle.rme_c.specs.declared.process.RmeProcess.{RmeProcess}
 use Rattle.rme_c.specs.declared.runs.Run.{Run}
 use Rattle.rme_c.specs.declared.runs.Run.TheVariants as run
 use Rattle.rme_c.specs.Codes.{told, shown, refusal_code}
-use Rattle.rme_c.specs.Positions.{machine_state_of}
-use Rattle.rme_c.specs.Starts.{call_by, call_cause, cause_behind, size_cause, start_cause}
+use Rattle.rme_c.specs.Positions.{machine_state_at, machine_state_of}
+use Rattle.rme_c.specs.Starts.{call_by, refusal_of, start_cause}
 
 -- the machine of a process, and the own steps of its last call
 pub record Counted : Type 0 where
@@ -25,6 +26,10 @@ pub record Counted : Type 0 where
 
 abbrev pub counted_of : RmeProcess → Counted
 counted_of p = record { machine = machine_state_of p; steps = p.steps }
+
+-- at this position, after this many steps
+abbrev pub counted_at : RmeProcess → ℕ → Position → Counted
+counted_at p steps x = record { machine = machine_state_at p x; steps = steps }
 
 -- after `rme_feed` with this value
 abbrev pub fed_once : Counted → ℕ → Counted
@@ -125,7 +130,7 @@ after_start s call = record { machine = started s call; steps = 0 }
 -- this call may start, this run is what it does first, and the process has made all of it, which is this many feeds of 0 and one
 -- more: its new state, the code of the last feed, and `next`
 pub record IsWholeCall (s : MachineState) (call : Call) (r : Run) (zeros : ℕ) (q : RmeProcess) (a : RmeAccess) (code : ℕ) : Type 0 where
-  pub allowed : cause_behind (size_cause s.layout s.limit s.index) (call_cause s (Some call)) ≡ None
+  pub allowed : refusal_of s (Some call) ≡ None
   pub run : IsNextRun (started s call) s.layout.procs s.index r
   pub all : zeros + 1 ≡ length (accesses_of s.layout.procs s.index r)
   pub fed : IsFedRun (fed_zeros zeros (after_start s call)) 0 q a code

@@ -49,6 +49,10 @@ abbrev pub cause_behind : Option Refusal → Option Refusal → Option Refusal
 cause_behind (Some r) _ = Some r
 cause_behind None cause = cause
 
+-- why a start of this call is refused
+abbrev pub refusal_of : MachineState → Option Call → Option Refusal
+refusal_of s call = cause_behind (size_cause s.layout s.limit s.index) (call_cause s call)
+
 -- why a start is refused
 abbrev pub start_cause : MachineState → RmeCall → Option Refusal
-start_cause s c = cause_behind (size_cause s.layout s.limit s.index) (call_cause s (call_by s.layout.width c))
+start_cause s c = refusal_of s (call_by s.layout.width c)

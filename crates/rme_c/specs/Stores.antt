@@ -1,19 +1,34 @@
 -- An append by one feed: the three words that it loads first, and its stores, which are named all together.
-use Rattle.std.specs.Prelude.{◌≡◌, ℕ, zero, suc, ◌+◌, ◌<◌, List, [], ◌∷◌, ◌++◌, take, Option, Some, None}
+use Rattle.std.specs.Prelude.{◌≡◌, ℕ, zero, suc, ◌+◌, ◌<◌, Bool, true, false, List, [], ◌∷◌, ◌++◌, take, Option, Some, None}
 use Rattle.redomail.specs.Layout.{last_at}
+use Rattle.redomail.specs.declared.reply.Reply.TheVariants.{Stored}
+use Rattle.redomail.specs.declared.stage.JobStage.{JobStage}
+use Rattle.redomail.specs.declared.stage.JobStage.TheVariants.{AskClosed}
 use Rattle.rmecore.specs.declared.access.Access.{Access}
 use Rattle.rmecore.specs.declared.access.Access.TheVariants.{Load, Store}
 use Rattle.rmecore.specs.declared.kind.Kind.TheVariants.{Get as Gets}
 use Rattle.rmecore.specs.declared.word.Word.TheVariants.{Data}
 use Rattle.rmeworld.specs.MachineState.{next_access}
+use Rattle.rmeworld.specs.declared.script_state.ScriptState.{ScriptState}
+use Rattle.rmeworld.specs.declared.script_state.ScriptState.TheVariants.{Free, Doing}
 use Rattle.rme_c.specs.declared.position.Position.TheVariants.{Within}
 use Rattle.rme_c.specs.declared.process.RmeAccess.{RmeAccess}
 use Rattle.rme_c.specs.declared.process.RmeProcess.{RmeProcess}
 use Rattle.rme_c.specs.declared.process.RmeStores.{RmeStores}
 use Rattle.rme_c.specs.declared.script_position.ScriptPosition.TheVariants as script_position
-use Rattle.rme_c.specs.Codes.{shown}
+use Rattle.rme_c.specs.Codes.{reply_code, shown}
 use Rattle.rme_c.specs.Positions.{layout_of, machine_state_at}
 use Rattle.rme_c.specs.Runs.{Counted, counted_of, fed_once, fed_zeros, IsFedRun}
+
+-- an append asks first whether the mailbox is closed
+abbrev pub is_first : JobStage → Bool
+is_first (AskClosed seq value) = true
+is_first _ = false
+
+-- an append is at its first load
+abbrev pub append_begins : ScriptState → Bool
+append_begins (Doing purpose job) = is_first job.stage
+append_begins Free = false
 
 -- the access is a store
 abbrev pub IsStore : Option Access → Type 0
@@ -31,17 +46,22 @@ abbrev pub shown_next : ℕ → ℕ → Counted → List RmeAccess
 shown_next n zero c = []
 shown_next n (suc k) c = shown_next n k c ++ shown n None (next_access (fed_zeros k c).machine) ∷ []
 
--- this many stores of an append, as they are shown
+-- store k of an append, as it is shown
+abbrev pub store_at : RmeProcess → ℕ → ℕ → ℕ → RmeAccess
+store_at p at seq k = shown p.procs None (next_access (machine_state_at p (Within (script_position.Store at seq k))))
+
+-- the first stores of an append, this many
 abbrev pub named_to : RmeProcess → ℕ → ℕ → ℕ → List RmeAccess
 named_to p at seq zero = []
-named_to p at seq (suc k) = named_to p at seq k ++ shown p.procs None (next_access (machine_state_at p (Within (script_position.Store at seq k)))) ∷ []
+named_to p at seq (suc k) = named_to p at seq k ++ store_at p at seq k ∷ []
 
--- from this machine on stores come next. They are named in order, and the process was fed all of them: its new state, the code of the last
--- feed, and `next`
+-- from this machine on stores come next. They are named in order, and the process was fed all of them: its new state, and `next`. The last
+-- one ends the call: the message is stored
 pub record IsStored (c : Counted) (q : RmeProcess) (s : RmeStores) (a : RmeAccess) : Type 0 where
   pub stores : IsStores s.count c
   pub named : take s.count s.each ≡ shown_next c.machine.layout.procs s.count c
   pub fed : (zeros : ℕ) → zeros + 1 ≡ s.count → IsFedRun (fed_zeros zeros c) 0 q a s.told
+  pub ends : s.told ≡ reply_code Stored
 
 -- after these two words
 abbrev pub fed_two : Counted → ℕ → ℕ → Counted

@@ -1,72 +1,125 @@
 //! An append by one feed: of the three words that it loads first. Its stores are named all together, and C makes them in order
 //! after.
 
-ghost use Rattle.std.specs.Prelude.{◌≡◌, ◌≢◌, ◌+◌, ◌*◌, ◌<◌, ◌≤◌, IfSome, length, take};
-ghost use Rattle.rme_c.specs.Positions.{position_of, Fits};
-ghost use Rattle.rme_c.specs.Runs.{counted_of};
-ghost use Rattle.rme_c.specs.Stores.{named_to, IsStored, IsAppended};
+ghost use Rattle.std.specs.Prelude.{◌≡◌, ◌≢◌, ℕ, ◌+◌, ◌*◌, ◌<◌, ◌≤◌, ◌↔◌, ◌∷◌, true, None, length, take, slice_index};
+ghost use Rattle.redomail.specs.Layout.{held};
+ghost use Rattle.rme_c.specs.Positions.{machine_state_of, position_of, Fits};
+ghost use Rattle.rme_c.specs.Runs.{counted_at};
+ghost use Rattle.rme_c.specs.Stores.{append_begins, named_to, store_at, IsStored, IsAppended};
 ghost use Rattle.rme_c.specs.declared.position.Position.TheVariants as PositionOf;
 ghost use Rattle.rme_c.specs.declared.script_position.ScriptPosition.TheVariants as ScriptPositionOf;
 
-use crate::answers::wanted;
-use crate::exports::script_position_feed;
-use crate::position::{Position, append_position, machine_state};
+use crate::accesses::next_at;
+use crate::answers::tell;
+use crate::position::{Position, append_position, layout, machine_state};
 use crate::process::{RmeAccess, RmeProcess, RmeStores};
+use crate::record::word;
 use crate::runs::MANY;
 use crate::script_position::ScriptPosition;
-use crate::steps::script_position_next;
+use crate::steps::{decided, stored};
+use redomail::layout::{ARMED, COUNT, RECORD};
+
+/// A message that is stored: its place and its number. Its words are those of the process.
+#[derive(Clone, Copy)]
+struct NewEntry {
+    at: u64,
+    seq: u64,
+}
+
+/// Names one store of an append after those before it.
+// Inline: each store of an append.
+#[inline(always)]
+fn name(
+    p: &RmeProcess,
+    entry: NewEntry,
+    step: u64,
+    place: u64,
+    value: u64,
+    each: &mut [RmeAccess; 24],
+)
+    requires before { take step each.old ≡ named_to p.now entry.at entry.seq step }
+    requires next { store_at p.now entry.at entry.seq step ≡ record { store = 1; place = place; value = value } }
+    requires few { step < 24 }
+    requires room { length each.old ≡ 24 }
+    ensures room { length each.new ≡ 24 }
+    ensures named { take (step + 1) each.new ≡ named_to p.now entry.at entry.seq (step + 1) }
+{
+    // For the proof alone: their values are read.
+    let _ = (p.index, entry.at);
+    each[step as usize] = RmeAccess {
+        store: 1,
+        place,
+        value,
+    };
+}
+
+/// Names the stores of a row that begins at this place of the block: a first word, the number, and the words of the message.
+// Inline: twice in each append.
+#[inline(always)]
+fn name_row(
+    p: &RmeProcess,
+    entry: NewEntry,
+    step: u64,
+    start: u64,
+    first: u64,
+    each: &mut [RmeAccess; 24],
+)
+    requires before { take step each.old ≡ named_to p.now entry.at entry.seq step }
+    requires row { (j : ℕ) → j < 2 + p.now.width → store_at p.now entry.at entry.seq (step + j) ≡ record { store = 1;
+        place = held (start + j); value = slice_index (first ∷ entry.seq ∷ take p.now.width p.now.value) j } }
+    requires few { p.now.width ≤ 8 }
+    requires fits { step + (2 + p.now.width) ≤ 24 }
+    requires room { length each.old ≡ 24 }
+    ensures room { length each.new ≡ 24 }
+    ensures named { take (step + (2 + p.now.width)) each.new ≡ named_to p.now entry.at entry.seq (step + (2 + p.now.width)) }
+{
+    for j in 0..2 + p.width {
+        let value = word(first, entry.seq, &p.value, p.width, j);
+        name(p, entry, step + j, start.saturating_add(j), value, each);
+    }
+}
 
 /// Names the stores of an append, in order.
 // Inline: once in each append.
 #[inline(always)]
-fn name_stores(p: &RmeProcess, at: u64, seq: u64, count: u64, each: &mut [RmeAccess; 24])
-    requires fits { Fits p.now (PositionOf.Within (ScriptPositionOf.Store at seq 0)) }
-    requires all { count ≡ 8 + 2 * p.now.width }
+fn name_stores(p: &RmeProcess, entry: NewEntry, each: &mut [RmeAccess; 24])
+    requires fits { Fits p.now (PositionOf.Within (ScriptPositionOf.Store entry.at entry.seq 0)) }
+    requires eight { length p.now.value ≡ 8 }
     requires room { length each.old ≡ 24 }
-    ensures named { take count each.new ≡ named_to p.now at seq count }
     ensures room { length each.new ≡ 24 }
+    ensures named { take (8 + 2 * p.now.width) each.new ≡ named_to p.now entry.at entry.seq (8 + 2 * p.now.width) }
 {
-    for step in 0..count {
-        let access = script_position_next(p, ScriptPosition::Store { at, seq, step });
-        each[step as usize] = wanted(p.procs, access);
-    }
+    let layout = layout(p);
+    let data = 3 * p.procs;
+    let row = 2 + p.width;
+    let place = layout.place(entry.at, 0).saturating_add(data);
+    name_row(p, entry, 0, data + RECORD, entry.at, each);
+    name(p, entry, row, data + ARMED, 1, each);
+    name_row(p, entry, row + 1, place, p.index, each);
+    name(p, entry, 2 * row + 1, data + layout.last(p.index), entry.seq, each);
+    name(p, entry, 2 * row + 2, data + COUNT, entry.at.saturating_add(1), each);
+    name(p, entry, 2 * row + 3, data + ARMED, 0, each);
 }
 
-/// Names the stores of an append, in order, and takes their steps.
+/// Names the stores of an append, in order, and takes their steps, after those of its three loads.
 // Inline: once in each append.
 #[inline(always)]
-fn store_all(p: &mut RmeProcess, at: u64, seq: u64, stores: &mut RmeStores, next: &mut RmeAccess)
-    requires here { position_of p.old ≡ PositionOf.Within (ScriptPositionOf.Store at seq 0) }
-    requires fits { Fits p.old (PositionOf.Within (ScriptPositionOf.Store at seq 0)) }
+fn store_all(p: &mut RmeProcess, entry: NewEntry, stores: &mut RmeStores, next: &mut RmeAccess)
+    requires fits { Fits p.old (PositionOf.Within (ScriptPositionOf.Store entry.at entry.seq 0)) }
+    requires eight { length p.old.value ≡ 8 }
     requires room { length stores.old.each ≡ 24 }
     requires few { p.old.steps < 4611686018427387904 }
-    ensures stored { IsStored (counted_of p.old) p.new stores.new next.new }
+    ensures stored { IsStored (counted_at p.old (p.old.steps + 3) (PositionOf.Within (ScriptPositionOf.Store entry.at entry.seq 0)))
+        p.new stores.new next.new }
     ensures some { 0 < stores.new.count }
 {
-    // For the proof alone: its value is read.
-    let _whole = *p;
     let count = 8 + 2 * p.width;
-    name_stores(p, at, seq, count, &mut stores.each);
+    name_stores(p, entry, &mut stores.each);
     stores.count = count;
-    let step = count - 1;
-    let last = ScriptPosition::Store { at, seq, step };
-    p.steps += step;
-    machine_state(p, Position::Within(last));
-    stores.told = script_position_feed(p, last, 0, next);
-}
-
-/// The place and the number of the message of an append that stores it next, if it does.
-// Inline: once in each append.
-#[inline(always)]
-fn stores_next(p: &RmeProcess) -> Option<(u64, u64)>
-    ensures at { IfSome result (λ r. position_of p.now ≡ PositionOf.Within (ScriptPositionOf.Store r.0 r.1 0)) }
-    ensures fits { IfSome result (λ r. Fits p.now (PositionOf.Within (ScriptPositionOf.Store r.0 r.1 0))) }
-    ensures few { IfSome result (λ _. p.now.steps < 4611686018427387904) }
-{
-    match append_position(p) {
-        Some(ScriptPosition::Store { at, seq, step: 0 }) if p.steps < MANY => Some((at, seq)),
-        _ => None,
-    }
+    let (to, told) = stored(p, entry.at, entry.seq, count - 1, 0);
+    machine_state(p, to);
+    p.steps += 3 + count;
+    stores.told = tell(p.procs, told, next_at(p, to), next);
 }
 
 /// Takes the steps of an append that has loaded these three words, and those of its stores.
@@ -88,20 +141,23 @@ fn appended(
     requires few { p.old.steps < 4611686018427387904 }
     ensures { IsAppended p.old closed count last p.new stores.new next.new }
 {
-    let third = ScriptPosition::Last { seq, closed, count };
-    p.steps += 2;
-    machine_state(p, Position::Within(third));
-    stores.count = 0;
-    stores.told = script_position_feed(p, third, last, next);
-    match stores_next(p) {
-        Some((at, seq)) => store_all(p, at, seq, stores, next),
-        None => {}
+    let (to, told) = decided(p, seq, closed, count, last);
+    match to {
+        Position::Within(ScriptPosition::Store { at, seq, step: 0 }) => {
+            store_all(p, NewEntry { at, seq }, stores, next);
+        }
+        _ => {
+            machine_state(p, to);
+            p.steps += 3;
+            stores.count = 0;
+            stores.told = tell(p.procs, told, next_at(p, to), next);
+        }
     }
 }
 
 /// Feeds an append the words that it loads first: data word 1, data word 2, and its own last number, data word 10 + width + index.
 /// Where they let it store its message, it also takes the steps of its stores, and names them in order: C makes them after. 1: that is
-/// done. 0: no append is at its first load, and nothing changed.
+/// done. 0: no append is at its first load, or the call has taken 2^62 steps, and nothing changed.
 #[unsafe(no_mangle)]
 pub extern "C" fn rme_feed_append(
     p: &mut RmeProcess,
@@ -112,7 +168,8 @@ pub extern "C" fn rme_feed_append(
     next: &mut RmeAccess,
 ) -> u64
     ensures fed { result ≡ 1 → IsAppended p.old closed count last p.new stores.new next.new }
-    ensures other { result ≢ 1 → p.new ≡ p.old }
+    ensures other { result ≢ 1 → (result ≡ 0) × (p.new ≡ p.old) × (stores.new ≡ stores.old) × (next.new ≡ next.old) }
+    ensures when { result ≡ 1 ↔ (append_begins (machine_state_of p.old).script_state ≡ true) × (p.old.steps < 4611686018427387904) }
 {
     // For the proof alone: their values are read.
     let (_whole, _room) = (*p, *stores);

@@ -1,6 +1,6 @@
 //! The functions that C calls.
 
-ghost use Rattle.std.specs.Prelude.{◌≡◌, ◌≢◌, ◌+◌, ◌*◌, ◌<◌, ◌≤◌, ◌↔◌, IfSome, None, false, is_none, if◌then◌else◌, length};
+ghost use Rattle.std.specs.Prelude.{◌≡◌, ◌≢◌, ◌+◌, ◌*◌, ◌<◌, ◌≤◌, ◌↔◌, IfSome, Some, None, true, false, is_none, if◌then◌else◌, length};
 ghost use Rattle.redomail.specs.Layout.{held, size};
 ghost use Rattle.rmeworld.specs.ImageRules.{IsLawfulImage, IsFirstBroken};
 ghost use Rattle.rmeworld.specs.MachineState.{resting, crashed, started, stepped, next_access, outcome};
@@ -8,7 +8,7 @@ ghost use Rattle.rme_c.specs.Blocks.{is_block as is_block_of, image_of};
 ghost use Rattle.rme_c.specs.Codes.{refusal_code as code_of_refusal, told as told_of, wanted as wanted_of, shown as shown_of};
 ghost use Rattle.rme_c.specs.Positions.{machine_state_at, machine_state_of, position_of, stage_now, Fits};
 ghost use Rattle.rme_c.specs.Runs.{counted_of, fed_zeros, IsFedRun, IsStartedRun, IsWholeCall};
-ghost use Rattle.rme_c.specs.Starts.{size_cause, call_by, start_cause};
+ghost use Rattle.rme_c.specs.Starts.{size_cause, call_by, refusal_of, start_cause};
 ghost use Rattle.rme_c.specs.Steps.{IsFed};
 ghost use Rattle.rme_c.specs.declared.script_position.ScriptPosition.TheVariants as ScriptPositionOf;
 ghost use Rattle.rme_c.specs.declared.position.Position.TheVariants as PositionOf;
@@ -382,12 +382,14 @@ pub extern "C" fn rme_start_run(p: &mut RmeProcess, call: &RmeCall, next: &mut R
     }
 }
 
-/// Starts an unlock with nothing to mend, and takes both of its steps: it is one run, of stores alone (`RME_LEAVES`), which C makes
-/// after. 0: there is something to mend, or the unlock is refused, and nothing changed.
+/// Starts an unlock with nothing to mend, takes both of its steps, and answers 21: it is one run, of stores alone (`RME_LEAVES`),
+/// which C makes after. 0: there is something to mend, or the unlock is refused, and nothing changed.
 #[unsafe(no_mangle)]
 pub extern "C" fn rme_leave(p: &mut RmeProcess, next: &mut RmeAccess) -> u64
-    ensures left { 0 < result → IsWholeCall (machine_state_of p.old) CallOf.Unlock RunOf.Leaves 1 p.new next.new result }
-    ensures other { result ≡ 0 → (p.new ≡ p.old) × (next.new ≡ next.old) }
+    ensures left { result ≡ 21 → IsWholeCall (machine_state_of p.old) CallOf.Unlock RunOf.Leaves 1 p.new next.new result }
+    ensures other { result ≢ 21 → (result ≡ 0) × (p.new ≡ p.old) × (next.new ≡ next.old) }
+    ensures when { result ≡ 21 ↔ (refusal_of (machine_state_of p.old) (Some CallOf.Unlock) ≡ None)
+        × ((machine_state_of p.old).mended ≡ true) }
 {
     // For the proof alone: its value is read.
     let _whole = *p;

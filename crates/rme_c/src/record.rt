@@ -10,7 +10,7 @@ use redomail::layout::{ARMED, COUNT, RECORD};
 /// Word j of a row that begins with `first`: then come the sequence number and the words of the value.
 // Inline: once in each put.
 #[inline(always)]
-fn word(first: u64, seq: u64, words: &[u64; 8], width: u64, j: u64) -> u64
+pub fn word(first: u64, seq: u64, words: &[u64; 8], width: u64, j: u64) -> u64
     requires within { j < 2 + width }
     requires few { width ≤ 8 }
     ensures { result ≡ slice_index (first ∷ seq ∷ take width words.now) j }

@@ -1,6 +1,6 @@
 //! The sizes of a world, and the starts of calls.
 
-ghost use Rattle.std.specs.Prelude.{◌≡◌, ◌≤◌, ◌<◌, true, false, not, nat_lt, OnOk, OnErr, IfErr, IfSome, IsSome, IsTrue, Some, None, [], ◌∷◌, length, take};
+ghost use Rattle.std.specs.Prelude.{◌≡◌, ◌≤◌, ◌<◌, ◌↔◌, true, false, not, nat_lt, OnOk, OnErr, IfErr, IfSome, IsSome, IsTrue, Some, None, [], ◌∷◌, length, take};
 ghost use Rattle.redomail.specs.Layout.{IsLayout};
 ghost use Rattle.rmeworld.specs.Refused.{Needs, is_idle, is_inside, is_waiting, first_cause, start_refusal};
 ghost use Rattle.rmeworld.specs.MachineState.{process_state_of, started, next_access, IsSize};
@@ -287,7 +287,7 @@ fn start_any(p: &mut RmeProcess, call: &RmeCall, next: &mut RmeAccess) -> Option
 // Inline: once in each C start.
 #[inline(always)]
 pub fn is_sized(p: &RmeProcess) -> bool
-    ensures cause { IsTrue result → size_cause (layout_of p.now) p.now.limit p.now.index ≡ None }
+    ensures cause { IsTrue result ↔ size_cause (layout_of p.now) p.now.limit p.now.index ≡ None }
     ensures sized { IsTrue result → IsSize (layout_of p.now) × (p.now.index < p.now.procs) }
 {
     size_refusal(layout(p), p.limit, p.index).is_none()

@@ -217,7 +217,7 @@ fn redone(p: &mut RmeProcess, at: u64, seq: u64, step: u64, value: u64) -> (Posi
 /// What an append does once it has read the three words.
 // Inline: each step of an append.
 #[inline(always)]
-fn decided(p: &mut RmeProcess, seq: u64, closed: u64, count: u64, last: u64) -> (Position, Told)
+pub fn decided(p: &mut RmeProcess, seq: u64, closed: u64, count: u64, last: u64) -> (Position, Told)
     requires { Fits p.old (Position.Within (ScriptPosition.Last seq closed count)) }
     ensures step { IsStep p.old (Position.Within (ScriptPosition.Last seq closed count)) last p.new result.0 result.1 }
     ensures same { p.new ≡ p.old }
@@ -244,7 +244,7 @@ fn decided(p: &mut RmeProcess, seq: u64, closed: u64, count: u64, last: u64) -> 
 /// After a put of a message that is stored.
 // Inline: each step of an append.
 #[inline(always)]
-fn stored(p: &mut RmeProcess, at: u64, seq: u64, step: u64, value: u64) -> (Position, Told)
+pub fn stored(p: &mut RmeProcess, at: u64, seq: u64, step: u64, value: u64) -> (Position, Told)
     requires fits { Fits p.old (Position.Within (ScriptPosition.Store at seq step)) }
     requires eight { length p.old.value ≡ 8 }
     ensures step { IsStep p.old (Position.Within (ScriptPosition.Store at seq step)) value p.new result.0 result.1 }

@@ -82,6 +82,24 @@ fn explores_stuck(rt: HostRuntime) -> Result<(), Fail> {
             "never stuck: all 7729 states\n",
         ),
         invoked(
+            "rmelab explore --variant right --procs 3 --limit 1 --stuck",
+            "",
+            "never stuck: all 9145 states\n",
+        ),
+        invoked(
+            "rmelab explore --variant renumber --procs 2 --crashes 1 --limit 2 --stuck",
+            "",
+            "never stuck: all 4071 states\n",
+        ),
+    ];
+    all_come_to(&rt, rt.alloc(), &rows)
+}
+
+/// It takes longer than `rt try` allows.
+#[test]
+fn explores_stuck_at_length(rt: HostRuntime) -> Result<(), Fail> {
+    let rows = [
+        invoked(
             "rmelab explore --variant right --procs 2 --crashes 3 --stuck",
             "",
             "never stuck: all 45075 states\n",
@@ -90,11 +108,6 @@ fn explores_stuck(rt: HostRuntime) -> Result<(), Fail> {
             "rmelab explore --variant right --procs 3 --crashes 1 --limit 1 --stuck",
             "",
             "never stuck: all 92524 states\n",
-        ),
-        invoked(
-            "rmelab explore --variant renumber --procs 2 --crashes 1 --limit 2 --stuck",
-            "",
-            "never stuck: all 4071 states\n",
         ),
     ];
     all_come_to(&rt, rt.alloc(), &rows)

@@ -1,5 +1,5 @@
 -- Words with a bad variant or a bad size are answered with that alone.
-use Rattle.std.proofs.Common.{◌≡◌, ◌≢◌, ◌⊎◌, ◌∙◌, true, false, List, [], Option, Some, None, Result, Ok, Err, IfOk, IfErr, IsNone, IsSome, IsSomeAnd, inl, inr, refl, sym, subst, subst₂, codes}
+use Rattle.std.proofs.Common.{◌≡◌, ◌⊎◌, ◌∙◌, false, List, [], Option, Some, None, Result, Ok, Err, IfOk, IfErr, IsNone, IsSome, IsSomeAnd, inl, inr, refl, sym, subst, subst₂, codes}
 use Rattle.std.specs.Str.{bytes_eq}
 use Rattle.std.proofs.lemmas.Bool.{false≢true}
 use Rattle.clap.specs.Words.{Text, first_of, fault_of, subcommand_of, IsAmong}

@@ -15,11 +15,12 @@ use Rattle.commands.specs.Endings.{FailsToWrite}
 use Rattle.commands.proofs.exploring.tell_shortest.Goals as goal
 
 ends_least :
-    (args : ExploreArgs) (before now : Tape) (path : List Move) (r : Result Ending CommandFault) → args.variant ≢ Right → IsFoundIn args.variant (layout_of args) args.limit args.crashes (calls_of args) path
+    (args : ExploreArgs) (before now : Tape) (path told_path : List Move) (r : Result Ending CommandFault) → told_path ≡ path → args.variant ≢ Right → IsFoundIn args.variant (layout_of args) args.limit args.crashes (calls_of args) path
     → IsLeast args.variant (layout_of args) args.limit args.crashes (calls_of args) path → length path ≤ args.moves
-    → OnOk r (Writes before now (spelling (schedule_of args path))) → IfOk r (λ e. e.status ≡ 1) → IfErr r (FailsToWrite before now) → ShortestEnds args before now r
-ends_least args before now path (Ok e) wrong found least few told status failed = inl (ap Ok status, record { wrong = wrong; path = path; found = found; least = least; few = few; text = told })
-ends_least args before now path (Err f) wrong found least few told status failed = inr (inr (inr (inr (inr failed))))
+    → OnOk r (Writes before now (spelling (schedule_of args told_path))) → IfOk r (λ e. e.status ≡ 1) → IfErr r (FailsToWrite before now) → ShortestEnds args before now r
+ends_least args before now path told_path (Ok e) same wrong found least few told status failed =
+    inl (ap Ok status, record { wrong = wrong; path = path; found = found; least = least; few = few; text = subst (λ p. Writes before now (spelling (schedule_of args p))) same told })
+ends_least args before now path told_path (Err f) same wrong found least few told status failed = inr (inr (inr (inr (inr failed))))
 
 ends_within :
     (args : ExploreArgs) (before now : Tape) (r : Result Ending CommandFault) → NoneOfAtMost args.variant (layout_of args) args.limit args.crashes (calls_of args) args.moves
@@ -59,9 +60,8 @@ returns-in-Ok-Path-clause-ends g c =
     let found = rw c.in-Ok-Path.field-0-is at (rw c.in-Ok-Path.is at c.shortest_schedule-found.ensures.found) in
     let least = rw c.in-Ok-Path.field-0-is at (rw c.in-Ok-Path.is at c.shortest_schedule-found.ensures.shortest) in
     let few = rw c.in-Ok-Path.field-0-is at (rw c.in-Ok-Path.is at c.shortest_schedule-found.ensures.within) in
-    let told = subst (λ path. OnOk c.tell_path.result (Writes _ _ (spelling (schedule_of o path)))) c.deref-in-Ok-Path.ensures.value c.tell_path.ensures.told in
-    ends_least o _ _ c.in-Ok-Path.path.items c.tell_path.result
+    ends_least o _ _ c.in-Ok-Path.path.items _ c.tell_path.result c.deref-in-Ok-Path.ensures.value
     (λ right. rw c.in-Ok-Path.field-0-is at (rw c.in-Ok-Path.is at (c.shortest_schedule-found.ensures.right right)))
     (subst (λ calls. IsFoundIn o.variant (layout_of o) o.limit o.crashes calls c.in-Ok-Path.path.items) calls found)
     (subst (λ calls. IsLeast o.variant (layout_of o) o.limit o.crashes calls c.in-Ok-Path.path.items) calls least)
-    few told c.tell_path.ensures.status c.tell_path.ensures.failed
+    few c.tell_path.ensures.told c.tell_path.ensures.status c.tell_path.ensures.failed

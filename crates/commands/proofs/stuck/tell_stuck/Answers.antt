@@ -17,17 +17,19 @@ use Rattle.commands.proofs.stuck.tell_stuck.Goals as goal
 
 module _ (args : ExploreArgs) (before now : Tape) where
   ends_wrong :
-      (path : List Move) (r : Result Ending CommandFault) → args.variant ≢ Right → IsFoundIn args.variant (layout_of args) args.limit args.crashes (calls_of args) path → IsLeast args.variant (layout_of args) args.limit args.crashes (calls_of args) path
-      → OnOk r (Writes before now (spelling (schedule_of args path))) → IfOk r (λ e. e.status ≡ 1) → IfErr r (FailsToWrite before now) → StuckEnds args before now r
-  ends_wrong path (Ok e) wrong found least told status failed = inl (ap Ok status, record { wrong = wrong; path = path; found = found; least = least; text = told })
-  ends_wrong path (Err f) wrong found least told status failed = inr (inr (inr (inr (inr failed))))
+      (path told_path : List Move) (r : Result Ending CommandFault) → told_path ≡ path → args.variant ≢ Right → IsFoundIn args.variant (layout_of args) args.limit args.crashes (calls_of args) path → IsLeast args.variant (layout_of args) args.limit args.crashes (calls_of args) path
+      → OnOk r (Writes before now (spelling (schedule_of args told_path))) → IfOk r (λ e. e.status ≡ 1) → IfErr r (FailsToWrite before now) → StuckEnds args before now r
+  ends_wrong path told_path (Ok e) same wrong found least told status failed =
+      inl (ap Ok status, record { wrong = wrong; path = path; found = found; least = least; text = subst (λ p. Writes before now (spelling (schedule_of args p))) same told })
+  ends_wrong path told_path (Err f) same wrong found least told status failed = inr (inr (inr (inr (inr failed))))
 
   ends_stuck :
-      (path : List Move) (r : Result Ending CommandFault) → NoneIsFound args.variant (layout_of args) args.limit args.crashes (calls_of args) → LeadsToStuck (rules search_state_words) (first_search_state args.variant (layout_of args) args.limit args.crashes (calls_of args)) path
+      (path told_path : List Move) (r : Result Ending CommandFault) → told_path ≡ path → NoneIsFound args.variant (layout_of args) args.limit args.crashes (calls_of args) → LeadsToStuck (rules search_state_words) (first_search_state args.variant (layout_of args) args.limit args.crashes (calls_of args)) path
       → IsShortestToStuck (rules search_state_words) (first_search_state args.variant (layout_of args) args.limit args.crashes (calls_of args)) path
-      → OnOk r (Writes before now (spelling (schedule_of args path))) → IfOk r (λ e. e.status ≡ 1) → IfErr r (FailsToWrite before now) → StuckEnds args before now r
-  ends_stuck path (Ok e) none stuck least told status failed = inr (inl (ap Ok status, record { none = none; path = path; stuck = stuck; least = least; text = told }))
-  ends_stuck path (Err f) none stuck least told status failed = inr (inr (inr (inr (inr failed))))
+      → OnOk r (Writes before now (spelling (schedule_of args told_path))) → IfOk r (λ e. e.status ≡ 1) → IfErr r (FailsToWrite before now) → StuckEnds args before now r
+  ends_stuck path told_path (Ok e) same none stuck least told status failed =
+      inr (inl (ap Ok status, record { none = none; path = path; stuck = stuck; least = least; text = subst (λ p. Writes before now (spelling (schedule_of args p))) same told }))
+  ends_stuck path told_path (Err f) same none stuck least told status failed = inr (inr (inr (inr (inr failed))))
 
   ends_never :
       (states : ℕ) (r : Result Ending CommandFault) → NoneIsFound args.variant (layout_of args) args.limit args.crashes (calls_of args) → IsNeverStuck (rules search_state_words) (first_search_state args.variant (layout_of args) args.limit args.crashes (calls_of args))
@@ -42,12 +44,11 @@ returns-in-Ok-Fault-clause-ends g c =
     let calls = c.deref.ensures.value ∙ c.in_ok-calls.ensures.listed in
     let found = rw c.in-Ok-Fault.field-0-is at (rw c.in-Ok-Fault.is at c.stuck_schedule-found.ensures.found) in
     let least = rw c.in-Ok-Fault.field-0-is at (rw c.in-Ok-Fault.is at c.stuck_schedule-found.ensures.shortest) in
-    let told = subst (λ path. OnOk c.tell_path.result (Writes _ _ (spelling (schedule_of o path)))) c.deref-in-Ok-Fault.ensures.value c.tell_path.ensures.told in
-    ends_wrong o _ _ c.in-Ok-Fault.path.items c.tell_path.result
+    ends_wrong o _ _ c.in-Ok-Fault.path.items _ c.tell_path.result c.deref-in-Ok-Fault.ensures.value
     (λ right. rw c.in-Ok-Fault.field-0-is at (rw c.in-Ok-Fault.is at (c.stuck_schedule-found.ensures.right right)))
     (subst (λ calls. IsFoundIn o.variant (layout_of o) o.limit o.crashes calls c.in-Ok-Fault.path.items) calls found)
     (subst (λ calls. IsLeast o.variant (layout_of o) o.limit o.crashes calls c.in-Ok-Fault.path.items) calls least)
-    told c.tell_path.ensures.status c.tell_path.ensures.failed
+    c.tell_path.ensures.told c.tell_path.ensures.status c.tell_path.ensures.failed
 
 pub returns-in-Ok-Stuck-clause-ends : goal.returns-in-Ok-Stuck-clause-ends
 returns-in-Ok-Stuck-clause-ends g c =
@@ -56,12 +57,11 @@ returns-in-Ok-Stuck-clause-ends g c =
     let none = rw c.in-Ok-Stuck.field-0-is at (rw c.in-Ok-Stuck.is at c.stuck_schedule-found.ensures.clean) in
     let stuck = rw c.in-Ok-Stuck.field-0-is at (rw c.in-Ok-Stuck.is at c.stuck_schedule-found.ensures.stuck) in
     let least = rw c.in-Ok-Stuck.field-0-is at (rw c.in-Ok-Stuck.is at c.stuck_schedule-found.ensures.shortest_stuck) in
-    let told = subst (λ path. OnOk c.tell_path-in-Ok-Stuck.result (Writes _ _ (spelling (schedule_of o path)))) c.deref-in-Ok-Stuck.ensures.value c.tell_path-in-Ok-Stuck.ensures.told in
-    ends_stuck o _ _ c.in-Ok-Stuck.path.items c.tell_path-in-Ok-Stuck.result
+    ends_stuck o _ _ c.in-Ok-Stuck.path.items _ c.tell_path-in-Ok-Stuck.result c.deref-in-Ok-Stuck.ensures.value
     (subst (λ calls. NoneIsFound o.variant (layout_of o) o.limit o.crashes calls) calls none)
     (subst (λ calls. LeadsToStuck (rules search_state_words) (first_search_state o.variant (layout_of o) o.limit o.crashes calls) c.in-Ok-Stuck.path.items) calls stuck)
     (subst (λ calls. IsShortestToStuck (rules search_state_words) (first_search_state o.variant (layout_of o) o.limit o.crashes calls) c.in-Ok-Stuck.path.items) calls least)
-    told c.tell_path-in-Ok-Stuck.ensures.status c.tell_path-in-Ok-Stuck.ensures.failed
+    c.tell_path-in-Ok-Stuck.ensures.told c.tell_path-in-Ok-Stuck.ensures.status c.tell_path-in-Ok-Stuck.ensures.failed
 
 pub returns-in-Ok-NeverStuck-clause-ends : goal.returns-in-Ok-NeverStuck-clause-ends
 returns-in-Ok-NeverStuck-clause-ends g c =

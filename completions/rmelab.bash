@@ -36,7 +36,7 @@ _rmelab() {
         replay) mapfile -t COMPREPLY < <(compgen -W "--json --each --variant --image --save -h --help" -- "$word"; compgen -f -- "$word") ;;
         run) mapfile -t COMPREPLY < <(compgen -W "--procs --messages --crash --seed --width -h --help" -- "$word") ;;
         hunt) mapfile -t COMPREPLY < <(compgen -W "--variant --seed --rounds --steps --shrink -h --help" -- "$word") ;;
-        explore) mapfile -t COMPREPLY < <(compgen -W "--variant --procs --calls --crashes --moves --states --limit --cap --width -h --help" -- "$word") ;;
+        explore) mapfile -t COMPREPLY < <(compgen -W "--variant --procs --calls --crashes --moves --states --limit --cap --width --stuck -h --help" -- "$word") ;;
         judge) mapfile -t COMPREPLY < <(compgen -W "-h --help" -- "$word"; compgen -f -- "$word") ;;
         draw) mapfile -t COMPREPLY < <(compgen -W "--variant --image --svg -h --help" -- "$word"; compgen -f -- "$word") ;;
         shrink) mapfile -t COMPREPLY < <(compgen -W "--variant -h --help" -- "$word"; compgen -f -- "$word") ;;

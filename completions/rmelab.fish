@@ -39,6 +39,7 @@ complete -c rmelab -n '__fish_seen_subcommand_from explore' -l states -x -d 'At 
 complete -c rmelab -n '__fish_seen_subcommand_from explore' -l limit -x -d 'Numbers up to L; 4 without it'
 complete -c rmelab -n '__fish_seen_subcommand_from explore' -l cap -x -d 'Room for M messages; 1 without it'
 complete -c rmelab -n '__fish_seen_subcommand_from explore' -l width -x -d '1 to 8 words a message; 1 without it'
+complete -c rmelab -n '__fish_seen_subcommand_from explore' -l stuck -d 'Look for stuck states too; not with --moves'
 complete -c rmelab -n '__fish_seen_subcommand_from explore' -s h -l help -d 'Print help'
 complete -c rmelab -n '__fish_seen_subcommand_from judge' -s h -l help -d 'Print help'
 complete -c rmelab -n '__fish_seen_subcommand_from judge' -F

@@ -1,19 +1,20 @@
 -- Words with a bad variant or a bad size are answered with that alone.
-use Rattle.std.proofs.Common.{◌≡◌, ◌⊎◌, ◌∙◌, false, List, [], Option, Some, None, Result, Ok, Err, IfOk, IfErr, IsSomeAnd, inl, inr, refl, sym, subst, subst₂, codes}
+use Rattle.std.proofs.Common.{◌≡◌, ◌⊎◌, ◌∙◌, false, List, [], Option, Some, None, Result, Ok, Err, IfOk, IfErr, IsNone, IsSome, IsSomeAnd, inl, inr, refl, sym, subst, subst₂, codes}
 use Rattle.std.specs.Str.{bytes_eq}
 use Rattle.std.proofs.lemmas.Bool.{false≢true}
-use Rattle.clap.specs.Words.{Text, fault_of, subcommand_of, IsAmong}
+use Rattle.clap.specs.Words.{Text, first_of, fault_of, subcommand_of, IsAmong}
 use Rattle.clap.specs.Kinds.{Kinds}
 use Rattle.clap.specs.declared.error.kind.ErrorKind.{ErrorKind}
 use Rattle.crashlab.specs.declared.variant.Variant.{Variant}
 use Rattle.crashlab.specs.declared.variant.Variant.TheVariants.{Right, NoLook, NoTies, Renumber, ExitOnCrash, CountUp, LastSkipped}
 use Rattle.cli.specs.declared.arguments.args.Command.{Command}
+use Rattle.cli.specs.declared.arguments.args.ExploreArgs.{ExploreArgs}
 use Rattle.cli.specs.declared.arguments.args.Command.TheVariants.{Replay, Run, Hunt, Explore, Judge, Draw, Shrink, Explain}
 use Rattle.cli.specs.declared.arguments.words.WordsFault.{WordsFault}
 use Rattle.cli.specs.declared.arguments.words.WordsFault.TheVariants.{Help, Refused, BadVariant, BadSize, Unreadable, OutOfMemory}
 use Rattle.cli.specs.CommandLine.{rmelab}
 use Rattle.cli.specs.Given.{Given, word_of_variant}
-use Rattle.cli.specs.ReadWords.{GoesWithImage, IsBadBesideImage, HasBadVariant, IsOutOfRange, HasBadSize, HasNoEntry, IsCommand, Takes, IsRefusal}
+use Rattle.cli.specs.ReadWords.{GoesWithImage, IsBadBesideImage, HasBadVariant, IsExplore, IsBadSearch, IsOutOfRange, HasBadSize, HasNoEntry, IsCommand, Takes, IsRefusal}
 use Rattle.cli.specs.Sizes.{IsSized, RunFits, IsHuntSize}
 use Rattle.cli.proofs.Texts.{differ}
 
@@ -77,6 +78,14 @@ sizeless a name given is run hunt explore (inl bad) = other_name a (codes "run")
 sizeless a name given is run hunt explore (inr (inl bad)) = other_name a (codes "hunt") name is hunt bad.0
 sizeless a name given is run hunt explore (inr (inr bad)) = other_name a (codes "explore") name is explore bad.0
 
+no_both : {A : Type 0} (o : Option A) → IsNone o → IsSome o → ⊥
+no_both None none some = false≢true some
+no_both (Some x) none some = false≢true (sym none)
+
+good_search : (given : Given) (args : ExploreArgs) → IsExplore given args → IsBadSearch given → ⊥
+good_search given args h (inl calls) = false≢true (sym calls ∙ h.known)
+good_search given args h (inr stuck) = no_both (first_of (codes "moves") given) (h.unbounded (h.stuck ∙ stuck.0)) stuck.1
+
 good_size : (name : Text) (given : Given) (command : Command) → IsSized command → IsCommand name given command → IsOutOfRange name given → ⊥
 good_size name given (Run args) sized h (inl bad) = bad.1 (subst RunFits h.1 sized)
 good_size name given (Run args) sized h (inr (inl bad)) = other_name (codes "run") (codes "hunt") name h.0 refl bad.0
@@ -86,7 +95,7 @@ good_size name given (Hunt args) sized h (inr (inl bad)) = bad.1 (subst₂ IsHun
 good_size name given (Hunt args) sized h (inr (inr bad)) = other_name (codes "hunt") (codes "explore") name h.0 refl bad.0
 good_size name given (Explore args) sized h (inl bad) = other_name (codes "explore") (codes "run") name h.0 refl bad.0
 good_size name given (Explore args) sized h (inr (inl bad)) = other_name (codes "explore") (codes "hunt") name h.0 refl bad.0
-good_size name given (Explore args) sized h (inr (inr bad)) = false≢true (sym bad.1 ∙ h.1.known)
+good_size name given (Explore args) sized h (inr (inr bad)) = good_search given args h.1 bad.1
 good_size name given (Replay args) sized h bad = sizeless (codes "replay") name given h.0 refl refl refl bad
 good_size name given (Judge file) sized h bad = sizeless (codes "judge") name given h.0 refl refl refl bad
 good_size name given (Draw args) sized h bad = sizeless (codes "draw") name given h.0 refl refl refl bad

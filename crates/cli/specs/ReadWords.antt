@@ -1,6 +1,6 @@
 -- How the words of a command line are answered (docs/dev/texts.md, "The program `rmelab`"): what `clap` refuses first, then a bad variant, then
 -- a bad size.
-use Rattle.std.specs.Prelude.{◌≡◌, ◌≢◌, ◌⊎◌, true, false, List, [], map, Some, option_map, codes, Result, Err, MatchResult, IsSome, IsSomeAnd, String, string_bytes}
+use Rattle.std.specs.Prelude.{◌≡◌, ◌≢◌, ◌⊎◌, true, false, List, [], map, Some, option_map, codes, Result, Err, MatchResult, IsNone, IsSome, IsSomeAnd, String, string_bytes}
 use Rattle.std.specs.List.{list_all, list_any}
 use Rattle.std.specs.Str.{bytes_eq}
 use Rattle.std.specs.declared.alloc.Global.{Global}
@@ -66,6 +66,9 @@ pub record IsExplore (given : Given) (args : ExploreArgs) : Type 0 where
   pub limit : args.limit ≡ number_or 4 (codes "limit") given
   pub cap : args.cap ≡ number_or 1 (codes "cap") given
   pub width : args.width ≡ number_or 1 (codes "width") given
+  pub stuck : args.stuck ≡ is_set (codes "stuck") given
+  -- a search for stuck states has no bound on moves
+  pub unbounded : args.stuck ≡ true → IsNone (first_of (codes "moves") given)
 
 pub record IsDraw (given : Given) (args : DrawArgs) : Type 0 where
   pub style : args.style ≡ style_of given
@@ -99,12 +102,20 @@ abbrev pub HasBadVariant : Text → Given → Type 0
 HasBadVariant name given = (((name ≡ codes "replay") ⊎ (name ≡ codes "draw")) × IsBadBesideImage given)
     ⊎ (((name ≡ codes "hunt") ⊎ ((name ≡ codes "explore") ⊎ (name ≡ codes "shrink"))) × AsksForNone [] given)
 
--- a number is outside its range, or a call of a search is none
+-- a search for stuck states is given a bound on moves
+abbrev pub IsStuckWithin : Given → Type 0
+IsStuckWithin given = (is_set (codes "stuck") given ≡ true) × IsSome (first_of (codes "moves") given)
+
+-- a call of a search is none, or its bound on moves is one too many
+abbrev pub IsBadSearch : Given → Type 0
+IsBadSearch given = (list_all is_call (calls_of given) ≡ false) ⊎ IsStuckWithin given
+
+-- a number is outside its range, or a search is bad
 abbrev pub IsOutOfRange : Text → Given → Type 0
 IsOutOfRange name given =
     ((name ≡ codes "run") × (RunFits (run_of given) → ⊥))
     ⊎ (((name ≡ codes "hunt") × (IsHuntSize (number_or 0 (codes "rounds") given) (number_or 0 (codes "steps") given) → ⊥))
-    ⊎ ((name ≡ codes "explore") × (list_all is_call (calls_of given) ≡ false)))
+    ⊎ ((name ≡ codes "explore") × IsBadSearch given))
 
 -- the variant is good, and a size is bad
 abbrev pub HasBadSize : Text → Given → Type 0

@@ -8,7 +8,8 @@ use Rattle.rmeworld.specs.WorldState.{new_refusal}
 use Rattle.schedule.specs.Tapes.{Tape, Writes}
 use Rattle.schedule.specs.Schedules.{Scheduled, spelling}
 use Rattle.schedule.specs.Wholes.{Silent}
-use Rattle.explorer.specs.Paths.{HasMoreStatesWithin, IsNumberOfStates}
+use Rattle.explorer.specs.Paths.{HasMoreStates, HasMoreStatesWithin, IsNumberOfStates}
+use Rattle.explorer.specs.Stuck.{LeadsToStuck, IsShortestToStuck, IsNeverStuck}
 use Rattle.schedule.specs.Words.{line_of}
 use Rattle.crashlab.specs.declared.variant.Variant.TheVariants.{Right}
 use Rattle.crashlab.specs.declared.space.moves.Move.{Move}
@@ -89,12 +90,64 @@ pub record HasTooMany (args : ExploreArgs) (before now : Tape) : Type 0 where
   pub more : HasMoreStatesWithin (rules search_state_words) (first_search_state args.variant (layout_of args) args.limit args.crashes (calls_of args)) args.moves args.states
   pub silent : Silent before now
 
--- how `explore` ends
-abbrev pub ExploreEnds : ExploreArgs → Tape → Tape → Result Ending CommandFault → Type 0
-ExploreEnds args before now end =
+-- how `explore` ends without `--stuck`
+abbrev pub ShortestEnds : ExploreArgs → Tape → Tape → Result Ending CommandFault → Type 0
+ShortestEnds args before now end =
     (outcome end ≡ Ok 1) × TellsLeast args before now
     ⊎ (outcome end ≡ Ok 0) × TellsNoneWithin args before now
     ⊎ (outcome end ≡ Ok 0) × TellsNone args before now
     ⊎ (outcome end ≡ Err BadSize) × IsNoSize args
     ⊎ (outcome end ≡ Err TooManyStates) × HasTooMany args before now
     ⊎ IsErrAnd end (FailsToWrite before now)
+
+-- a schedule of fewest moves on which a wrong variant fails was written, with no bound on the moves
+pub record TellsWrong (args : ExploreArgs) (before now : Tape) : Type 0 where
+  pub wrong : args.variant ≢ Right
+  pub path : List Move
+  pub found : IsFoundIn args.variant (layout_of args) args.limit args.crashes (calls_of args) path
+  pub least : IsLeast args.variant (layout_of args) args.limit args.crashes (calls_of args) path
+  pub text : Writes before now (spelling (schedule_of args path))
+
+-- the variant fails on no schedule; one of fewest moves to a state from which no starts and steps lead home was written
+pub record TellsStuck (args : ExploreArgs) (before now : Tape) : Type 0 where
+  pub none : NoneIsFound args.variant (layout_of args) args.limit args.crashes (calls_of args)
+  pub path : List Move
+  pub stuck : LeadsToStuck (rules search_state_words) (first_search_state args.variant (layout_of args) args.limit args.crashes (calls_of args)) path
+  pub least : IsShortestToStuck (rules search_state_words) (first_search_state args.variant (layout_of args) args.limit args.crashes (calls_of args)) path
+  pub text : Writes before now (spelling (schedule_of args path))
+
+-- the line `never stuck: all N states`
+abbrev pub never_line : ℕ → List ℕ
+never_line states = line_of (codes "never" ∷ codes "stuck:" ∷ codes "all" ∷ decimal states ∷ codes "states" ∷ [])
+
+-- the variant fails on no schedule, from each state starts and steps lead home, and that was written, with the number of states
+pub record TellsNeverStuck (args : ExploreArgs) (before now : Tape) : Type 0 where
+  pub none : NoneIsFound args.variant (layout_of args) args.limit args.crashes (calls_of args)
+  pub never : IsNeverStuck (rules search_state_words) (first_search_state args.variant (layout_of args) args.limit args.crashes (calls_of args))
+  pub states : ℕ
+  pub number : IsNumberOfStates (rules search_state_words) (first_search_state args.variant (layout_of args) args.limit args.crashes (calls_of args)) states
+  pub text : Writes before now (never_line states)
+
+-- there are more states than may be kept, and nothing was written
+pub record HasTooManyAtAll (args : ExploreArgs) (before now : Tape) : Type 0 where
+  pub more : HasMoreStates (rules search_state_words) (first_search_state args.variant (layout_of args) args.limit args.crashes (calls_of args)) args.states
+  pub silent : Silent before now
+
+-- how `explore --stuck` ends
+abbrev pub StuckEnds : ExploreArgs → Tape → Tape → Result Ending CommandFault → Type 0
+StuckEnds args before now end =
+    (outcome end ≡ Ok 1) × TellsWrong args before now
+    ⊎ (outcome end ≡ Ok 1) × TellsStuck args before now
+    ⊎ (outcome end ≡ Ok 0) × TellsNeverStuck args before now
+    ⊎ (outcome end ≡ Err BadSize) × IsNoSize args
+    ⊎ (outcome end ≡ Err TooManyStates) × HasTooManyAtAll args before now
+    ⊎ IsErrAnd end (FailsToWrite before now)
+
+-- with `--stuck` or without
+abbrev pub EndsBy : Bool → ExploreArgs → Tape → Tape → Result Ending CommandFault → Type 0
+EndsBy true args before now end = StuckEnds args before now end
+EndsBy false args before now end = ShortestEnds args before now end
+
+-- how `explore` ends
+abbrev pub ExploreEnds : ExploreArgs → Tape → Tape → Result Ending CommandFault → Type 0
+ExploreEnds args before now end = EndsBy args.stuck args before now end

@@ -3,8 +3,9 @@
 ghost use Rattle.std.specs.Prelude.{◌≡◌, ◌++◌, ◌⊎◌, ◌∷◌, [], false, codes, length, ◌≤◌, take, replicate, IfErr, IfOk, IfSome, IsSome, OnOk, ◌↔◌};
 ghost use Rattle.std.specs.Fmt.{decimal};
 ghost use Rattle.commands.specs.Endings.{FailsToWrite, IsEnded};
+ghost use Rattle.schedule.specs.Schedules.{spelling};
 ghost use Rattle.schedule.specs.Tapes.{Writes};
-ghost use Rattle.commands.specs.Explores.{appends as appends_of, asked, all_line, calls_of as calls_asked, ExploreEnds, schedule_of as schedule_by, within_line};
+ghost use Rattle.commands.specs.Explores.{appends as appends_of, asked, all_line, calls_of as calls_asked, ExploreEnds, ShortestEnds, schedule_of as schedule_by, within_line};
 ghost use Rattle.crashlab.specs.Spaces.{line_by};
 
 use crate::progress::meter::Meter;
@@ -14,6 +15,7 @@ use crate::schedules::ending::Ending;
 use crate::schedules::fault::CommandFault;
 use crate::schedules::line::line_around;
 use crate::schedules::shrunk::write_lines;
+use crate::stuck::tell_stuck;
 use cli::arguments::args::ExploreArgs;
 use lock_explorer::{Bounds, ExploreFault, Move, SearchOutcome, shortest_schedule};
 use redomail::Layout;
@@ -63,7 +65,7 @@ fn put_appends(calls: &mut Vec<Call>, args: &ExploreArgs) -> Result<(), CommandF
 }
 
 /// The calls that the search starts, always in this order.
-fn calls_of(alloc: Global, args: &ExploreArgs) -> Result<Vec<Call>, CommandFault>
+pub(crate) fn calls_of(alloc: Global, args: &ExploreArgs) -> Result<Vec<Call>, CommandFault>
     ensures listed { IfOk result (λ calls. calls.items ≡ calls_asked args.now) }
     ensures failed { IfErr result (λ fault. fault ≡ CommandFault.OutOfMemory) }
 {
@@ -108,8 +110,28 @@ fn schedule_of(alloc: Global, args: &ExploreArgs, path: &[Move]) -> Result<Sched
     Ok(schedule)
 }
 
+/// Writes the moves as a schedule.
+pub(crate) fn tell_path<W: Sink>(
+    alloc: Global,
+    args: &ExploreArgs,
+    path: &[Move],
+    w: &mut W,
+) -> Result<Ending, CommandFault>
+    ensures told { OnOk result (Writes (W.tape w.old) (W.tape w.new) (spelling (schedule_by args.now path.now))) }
+    ensures status { IfOk result (λ ending. ending.status ≡ 1) }
+    ensures ended { IfOk result (IsEnded false (W.tape w.old).failures (W.tape w.new).failures) }
+    ensures failed { IfErr result (FailsToWrite (W.tape w.old) (W.tape w.new)) }
+{
+    let schedule = schedule_of(alloc, args, path)?;
+    write_lines(alloc, &schedule, w)?;
+    Ok(Ending {
+        status: 1,
+        save: None,
+    })
+}
+
 /// Writes that nothing was found, and how far the search got.
-fn tell_none<W: Sink>(
+pub(crate) fn tell_none<W: Sink>(
     before: &str,
     number: u64,
     after: &str,
@@ -151,15 +173,14 @@ fn tell_all<W: Sink>(states: u64, w: &mut W) -> Result<Ending, CommandFault>
     tell_none("nothing found: all ", states, " states\n", w)
 }
 
-/// Runs `explore`: writes the schedule of fewest moves that was found, or that there is none. Progress is shown on the
-/// screen. `BadSize`: a size is outside its limits. `TooManyStates`: the search reached more states than it may keep.
-pub fn explore_command<S: Screen, W: Sink>(
+/// Writes the schedule of fewest moves that was found, or that there is none.
+fn tell_shortest<S: Screen, W: Sink>(
     alloc: Global,
     args: &ExploreArgs,
     screen: &mut S,
     w: &mut W,
 ) -> Result<Ending, CommandFault>
-    ensures ends { ExploreEnds args.now (W.tape w.old) (W.tape w.new) result }
+    ensures ends { ShortestEnds args.now (W.tape w.old) (W.tape w.new) result }
     ensures ended { IfOk result (IsEnded false (W.tape w.old).failures (W.tape w.new).failures) }
 {
     if args.width == 0 || args.width > 8 {
@@ -188,18 +209,29 @@ pub fn explore_command<S: Screen, W: Sink>(
     );
     meter.end();
     match found {
-        Ok(SearchOutcome::Path(path)) => {
-            let schedule = schedule_of(alloc, args, &path)?;
-            write_lines(alloc, &schedule, w)?;
-            Ok(Ending {
-                status: 1,
-                save: None,
-            })
-        }
+        Ok(SearchOutcome::Path(path)) => tell_path(alloc, args, &path, w),
         Ok(SearchOutcome::NoneWithin) => tell_within(args.moves, w),
         Ok(SearchOutcome::Nowhere(states)) => tell_all(states, w),
         Err(ExploreFault::Refused(_)) => Err(CommandFault::BadSize),
         Err(ExploreFault::TooManyStates) => Err(CommandFault::TooManyStates),
         Err(ExploreFault::OutOfMemory) => Err(CommandFault::OutOfMemory),
     }
+}
+
+/// Runs `explore`: writes the schedule of fewest moves that was found, or that there is none; with `--stuck` also one to a stuck
+/// state. Progress is shown on the screen. `BadSize`: a size is outside its limits. `TooManyStates`: the search reached more
+/// states than it may keep.
+pub fn explore_command<S: Screen, W: Sink>(
+    alloc: Global,
+    args: &ExploreArgs,
+    screen: &mut S,
+    w: &mut W,
+) -> Result<Ending, CommandFault>
+    ensures ends { ExploreEnds args.now (W.tape w.old) (W.tape w.new) result }
+    ensures ended { IfOk result (IsEnded false (W.tape w.old).failures (W.tape w.new).failures) }
+{
+    if args.stuck {
+        return tell_stuck(alloc, args, screen, w);
+    }
+    tell_shortest(alloc, args, screen, w)
 }

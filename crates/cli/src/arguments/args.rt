@@ -77,6 +77,8 @@ pub struct ExploreArgs {
     pub limit: u64,
     pub cap: u64,
     pub width: u64,
+    /// Whether it looks for stuck states, with no bound on the moves.
+    pub stuck: bool,
 }
 
 /// `draw`: runs a schedule and draws its run.

@@ -33,7 +33,9 @@ const EXPLORE_HELP: &str =
     "In: nothing. All schedules are tried whose moves are the start of a call of --calls, one step, or a crash, of which there \
 are at most --crashes: the shorter before the longer. Two worlds are one where their words, their processes, the judge and the \
 crashes left are.\nOut: the schedule of fewest moves that goes wrong, which `rmelab replay --variant V` replays to its fault; \
-`nothing found within K moves`; or, where all was tried, `nothing found: all N states`. Nothing is said of a greater size, limit \
+`nothing found within K moves`; or, where all was tried, `nothing found: all N states`. With --stuck, where none goes wrong: the \
+schedule of fewest moves to a state from which no starts and steps bring each process to rest with all lock words 0, which \
+replays to a fine verdict; or `never stuck: all N states`. Nothing is said of a greater size, limit \
 or number of crashes.\nShown: on standard error, where that is a terminal, the states, how many moves deep and the \
 states a second, once a second while it works.\nExit status: 0 where nothing was found, 1 where a schedule was, 2 after a fault of the words, 3 after one of \
 a device or of memory, or where there are more states than --states.\n\nExample: rmelab explore --variant no-look --procs 2";
@@ -143,6 +145,7 @@ fn explore<'a>(alloc: Global) -> Result<Parser<'a>, AllocError>
         Argument::number("limit", "L", "Numbers up to L; 4 without it"),
         Argument::number("cap", "M", "Room for M messages; 1 without it"),
         Argument::number("width", "W", "1 to 8 words a message; 1 without it"),
+        Argument::flag("stuck", "Look for stuck states too; not with --moves"),
     ];
     command(alloc, "explore", about, EXPLORE_HELP, &arguments)
 }

@@ -7,7 +7,7 @@ ghost use Rattle.crashlab.specs.declared.variant.Variant.{Variant as AnyVariant}
 ghost use Rattle.cli.specs.declared.explain.dictionary_entry.DictionaryEntry.{DictionaryEntry as AnyDictionaryEntry};
 ghost use Rattle.cli.specs.Given.{given_in, is_set, number_or, word_of_variant, AsksFor, AsksForNone, style_of, has_call, is_call, alphabet_of, calls_of, entry_named};
 ghost use Rattle.cli.specs.Names.{name_of};
-ghost use Rattle.cli.specs.ReadWords.{GoesWithImage, IsBadBesideImage, IsFaultOfCalls, IsUnnamed, IsAnsweredBy};
+ghost use Rattle.cli.specs.ReadWords.{GoesWithImage, IsBadBesideImage, IsFaultOfCalls, IsStuckWithin, IsUnnamed, IsAnsweredBy};
 ghost use Rattle.cli.specs.ReadWords.{HasBadVariant, HasBadSize, IsCommand, Reads, IsName, Takes, IsRefusal, Refuses, texts_of};
 ghost use Rattle.cli.specs.Sizes.{IsSized, HuntFits, RunFits};
 
@@ -37,7 +37,8 @@ pub enum WordsFault {
     /// There is no such variant, or it isn't `right` and an image is given; the exit status is 2.
     #[error("bad variant")]
     BadVariant,
-    /// A number of `run` or `hunt` is outside its range, or a call of `explore` is none; the exit status is 2.
+    /// A number of `run` or `hunt` is outside its range, a call of `explore` is none, or `--stuck` is beside `--moves`; the exit
+    /// status is 2.
     #[error("bad size")]
     BadSize,
     /// A word isn't UTF-8 text.
@@ -272,6 +273,19 @@ fn alphabet_of(alloc: Global, matches: &ArgMatches<'_>) -> Result<Alphabet, Word
     })
 }
 
+/// Whether a search looks for stuck states. It does so without a bound on moves.
+fn stuck_of(matches: &ArgMatches<'_>) -> Result<bool, WordsFault>
+    ensures ok { IfOk result (λ stuck. stuck ≡ is_set (codes "stuck") (given_in matches.now)) }
+    ensures unbounded { IfOk result (λ stuck. stuck ≡ true → IsNone (first_of (codes "moves") (given_in matches.now))) }
+    ensures bad { OnErr result (IsErrOf result WordsFault.BadSize × IsStuckWithin (given_in matches.now)) }
+{
+    let stuck = is_set(matches, "stuck");
+    if stuck && str_of(matches, "moves").is_some() {
+        return Err(WordsFault::BadSize);
+    }
+    Ok(stuck)
+}
+
 fn explore_words(alloc: Global, matches: &ArgMatches<'_>) -> Result<Command, WordsFault>
     ensures { Reads (codes "explore") (given_in matches.now) result }
 {
@@ -285,6 +299,7 @@ fn explore_words(alloc: Global, matches: &ArgMatches<'_>) -> Result<Command, Wor
         limit: number_or(matches, "limit", 4),
         cap: number_or(matches, "cap", 1),
         width: number_or(matches, "width", 1),
+        stuck: stuck_of(matches)?,
     }))
 }
 

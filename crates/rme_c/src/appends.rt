@@ -65,8 +65,11 @@ fn name_row(
     each: &mut [RmeAccess; 24],
 )
     requires before { take step each.old ≡ named_to p.now entry.at entry.seq step }
-    requires row { (j : ℕ) → j < 2 + p.now.width → store_at p.now entry.at entry.seq (step + j) ≡ record { store = 1;
-        place = held (start + j); value = slice_index (first ∷ entry.seq ∷ take p.now.width p.now.value) j } }
+    requires row { (j : ℕ) → j < 2 + p.now.width → store_at p.now entry.at entry.seq (step + j) ≡ record {
+      store = 1;
+      place = held (start + j);
+      value = slice_index (first ∷ entry.seq ∷ take p.now.width p.now.value) j;
+    } }
     requires few { p.now.width ≤ 8 }
     requires fits { step + (2 + p.now.width) ≤ 24 }
     requires room { length each.old ≡ 24 }
@@ -96,8 +99,22 @@ fn name_stores(p: &RmeProcess, entry: NewEntry, each: &mut [RmeAccess; 24])
     name_row(p, entry, 0, data + RECORD, entry.at, each);
     name(p, entry, row, data + ARMED, 1, each);
     name_row(p, entry, row + 1, place, p.index, each);
-    name(p, entry, 2 * row + 1, data + layout.last(p.index), entry.seq, each);
-    name(p, entry, 2 * row + 2, data + COUNT, entry.at.saturating_add(1), each);
+    name(
+        p,
+        entry,
+        2 * row + 1,
+        data + layout.last(p.index),
+        entry.seq,
+        each,
+    );
+    name(
+        p,
+        entry,
+        2 * row + 2,
+        data + COUNT,
+        entry.at.saturating_add(1),
+        each,
+    );
     name(p, entry, 2 * row + 3, data + ARMED, 0, each);
 }
 

@@ -156,7 +156,7 @@ drawn_all {variant = variant} {steps = steps} {start = start} {k = k} {moves = m
 
 -- ---- rounds
 
-no_round : (variant : Variant) (seed steps round : ℕ) → found_from variant seed steps round 0 ≡ None
+pub no_round : (variant : Variant) (seed steps round : ℕ) → found_from variant seed steps round 0 ≡ None
 unfolding found_from
 no_round variant seed steps round = refl
 
@@ -164,7 +164,7 @@ one_round : (variant : Variant) (seed steps round n : ℕ) → found_from varian
 unfolding found_from
 one_round variant seed steps round n = refl
 
--- so many rounds from `first` on found nothing, and the generator stands after them
+-- k rounds from `first` on found nothing, and the generator stands after them
 pub record AreDrawn (variant : Variant) (seed first rounds steps k : ℕ) (g : Lcg) : Type 0 where
   pub rest : found_from variant seed steps first rounds ≡ found_from variant seed steps (first + k) (rounds - k)
   pub at : g ≡ generator_after seed ((first + k) * steps)

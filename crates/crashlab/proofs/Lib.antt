@@ -12,6 +12,7 @@ pub mod Choices
 pub mod LockWorlds
 pub mod Lines
 pub mod Drawn
+pub mod Shares
 pub mod Observed
 pub mod Scans
 pub mod Answered

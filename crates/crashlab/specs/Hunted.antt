@@ -78,7 +78,7 @@ abbrev pub or_else : {A : Type 0} → Option A → Option A → Option A
 or_else None later = later
 or_else (Some found) later = Some found
 
--- what the first of so many rounds finds that finds something, from a round on
+-- what the first of these rounds finds that finds something: `rounds` of them, from a round on
 unfoldable pub found_from : Variant → ℕ → ℕ → ℕ → ℕ → Option Scheduled
 found_from variant seed steps round zero = None
 found_from variant seed steps round (suc rounds) = or_else (found_in variant seed steps round) (found_from variant seed steps (round + 1) rounds)

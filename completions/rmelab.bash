@@ -19,6 +19,7 @@ _rmelab() {
         hunt:--seed) : && return ;;
         hunt:--rounds) : && return ;;
         hunt:--steps) : && return ;;
+        hunt:--jobs) : && return ;;
         explore:--variant) mapfile -t COMPREPLY < <(compgen -W "right no-look no-ties renumber exit-on-crash count-up last-skipped" -- "$word") && return ;;
         explore:--procs) : && return ;;
         explore:--calls) : && return ;;
@@ -35,7 +36,7 @@ _rmelab() {
     case ${COMP_WORDS[1]} in
         replay) mapfile -t COMPREPLY < <(compgen -W "--json --each --variant --image --save -h --help" -- "$word"; compgen -f -- "$word") ;;
         run) mapfile -t COMPREPLY < <(compgen -W "--procs --messages --crash --seed --width -h --help" -- "$word") ;;
-        hunt) mapfile -t COMPREPLY < <(compgen -W "--variant --seed --rounds --steps --shrink -h --help" -- "$word") ;;
+        hunt) mapfile -t COMPREPLY < <(compgen -W "--variant --seed --rounds --steps --shrink --jobs -h --help" -- "$word") ;;
         explore) mapfile -t COMPREPLY < <(compgen -W "--variant --procs --calls --crashes --moves --states --limit --cap --width --stuck -h --help" -- "$word") ;;
         judge) mapfile -t COMPREPLY < <(compgen -W "-h --help" -- "$word"; compgen -f -- "$word") ;;
         draw) mapfile -t COMPREPLY < <(compgen -W "--variant --image --svg -h --help" -- "$word"; compgen -f -- "$word") ;;

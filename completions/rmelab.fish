@@ -29,6 +29,7 @@ complete -c rmelab -n '__fish_seen_subcommand_from hunt' -l seed -x -d 'The seed
 complete -c rmelab -n '__fish_seen_subcommand_from hunt' -l rounds -x -d '1 to 10000 rounds'
 complete -c rmelab -n '__fish_seen_subcommand_from hunt' -l steps -x -d '1 to 10000 moves a round'
 complete -c rmelab -n '__fish_seen_subcommand_from hunt' -l shrink -d 'Make the schedule found least, as `shrink` does'
+complete -c rmelab -n '__fish_seen_subcommand_from hunt' -l jobs -x -d 'N threads at once; without it, or 0, as many as there are processors'
 complete -c rmelab -n '__fish_seen_subcommand_from hunt' -s h -l help -d 'Print help'
 complete -c rmelab -n '__fish_seen_subcommand_from explore' -l variant -x -a 'right no-look no-ties renumber exit-on-crash count-up last-skipped' -d 'right, no-look, no-ties, renumber, exit-on-crash, count-up or last-skipped'
 complete -c rmelab -n '__fish_seen_subcommand_from explore' -l procs -x -d '1 to 64 processes'

@@ -62,7 +62,8 @@ abbrev pub run : Shape
 run = part (codes "run") (required (number (codes "procs")) ∷ required (number (codes "messages")) ∷ required (number (codes "crash")) ∷ required (number (codes "seed")) ∷ number (codes "width") ∷ [])
 
 abbrev pub hunt : Shape
-hunt = part (codes "hunt") (required variant ∷ required (number (codes "seed")) ∷ required (number (codes "rounds")) ∷ required (number (codes "steps")) ∷ flag (codes "shrink") ∷ [])
+hunt = part (codes "hunt") (required variant ∷ required (number (codes "seed")) ∷ required (number (codes "rounds")) ∷ required (number (codes "steps")) ∷ flag (codes "shrink")
+    ∷ number (codes "jobs") ∷ [])
 
 abbrev pub explore : Shape
 explore = part (codes "explore") (

@@ -54,6 +54,7 @@ pub record IsHunt (given : Given) (args : HuntArgs) : Type 0 where
   pub rounds : args.rounds ≡ number_or 0 (codes "rounds") given
   pub steps : args.steps ≡ number_or 0 (codes "steps") given
   pub shrink : args.shrink ≡ is_set (codes "shrink") given
+  pub jobs : args.jobs ≡ number_or 0 (codes "jobs") given
 
 pub record IsExplore (given : Given) (args : ExploreArgs) : Type 0 where
   pub variant : AsksFor [] given args.variant

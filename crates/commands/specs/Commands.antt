@@ -2,6 +2,7 @@
 use Rattle.std.specs.Prelude.{◌≡◌, ◌≢◌, ◌⊎◌, ℕ, ◌+◌, ◌-◌, ◌*◌, ◌^◌, ◌≤◌, min, Bool, true, false, List, [], ◌∷◌, codes, length, Option, Some, None, Result, Ok, Err}
 use Rattle.crashlab.specs.declared.variant.Variant.{Variant}
 use Rattle.crashlab.specs.declared.variant.Variant.TheVariants.{Right}
+use Rattle.crashlab.specs.Hunted.{hunted}
 use Rattle.crashlab.specs.Hunts.{IsFound}
 use Rattle.cli.specs.declared.explain.dictionary_entry.DictionaryEntry.{DictionaryEntry}
 use Rattle.cli.specs.declared.explain.dictionary_entry.TheConstants.{ENTRIES}
@@ -58,12 +59,13 @@ pub record TellsFind (args : HuntArgs) (before now : Tape) : Type 0 where
   pub schedule : Scheduled
   pub few : length schedule.lines ≤ args.steps
   pub found : IsFound args.variant schedule
+  pub exact : Some schedule ≡ hunted args.variant args.seed args.rounds args.steps
   pub text : TellsFound args.shrink args.variant schedule before now
 
 -- how `hunt` ends: nothing found, a schedule found, sizes out of their ranges, or a failure
 abbrev pub HuntEnds : HuntArgs → Tape → Tape → Result Ending CommandFault → Type 0
 HuntEnds args before now end =
-    (outcome end ≡ Ok 0) × Writes before now (line_of (codes "nothing" ∷ codes "found" ∷ []))
+    (outcome end ≡ Ok 0) × (None ≡ hunted args.variant args.seed args.rounds args.steps) × Writes before now (line_of (codes "nothing" ∷ codes "found" ∷ []))
     ⊎ (outcome end ≡ Ok 1) × TellsFind args before now
     ⊎ (outcome end ≡ Err BadSize) × (HuntFits args → ⊥)
     ⊎ IsBroken end

@@ -1,6 +1,6 @@
 //! The commands, over a reader and two writers.
 
-ghost use Rattle.std.specs.Prelude.{◌≡◌, IfErr, IfOk, OnOk, is_some, option_copied, true, false};
+ghost use Rattle.std.specs.Prelude.{◌≡◌, ◌<◌, IfErr, IfOk, OnOk, is_some, option_copied, true, false};
 ghost use Rattle.crashlab.specs.Hunts.{IsFound};
 ghost use Rattle.commands.specs.Commands.{CommandEnds, ExplainEnds, HuntEnds, JudgeEnds, TellsFound};
 ghost use Rattle.commands.specs.Endings.{IsEnded};
@@ -21,13 +21,12 @@ use crate::schedules::replaying::replay_command;
 use crate::schedules::shrunk::{shrink_command, write_lines};
 use cli::arguments::args::{Command, HuntArgs};
 use cli::{DictionaryEntry, tell_all_names, tell_dictionary_entry};
-use crashlab::hunting::hunt_watched;
-use crashlab::{HuntFault, Variant, shrink_found};
+use crashlab::{HuntFault, Variant, hunt_in_parallel_watched, shrink_found};
 use schedule::texts::device::write_all;
 use schedule::{Schedule, Sink, Source, judge_trace, put_verdict};
 use std::alloc::Global;
 use std::sync::Wait;
-use std::thread::Threads;
+use std::thread::{Threads, available_parallelism};
 
 /// Writes the verdict line of a trace.
 fn judge_command<R: Source, W: Sink>(
@@ -83,9 +82,23 @@ fn write_found<W: Sink>(
     }
 }
 
-/// Runs `hunt`: writes the schedule that was found, or that there is none. Progress is shown on the screen. `BadSize`: a
-/// number is outside its range. Other faults are those of the writer and of memory.
-pub fn hunt_command<S: Screen, W: Sink>(
+/// How many threads a hunt has: as many as are asked for, or, at 0, as there are processors; 1 where that isn't known.
+fn jobs_of<T: Threads>(rt: &T, asked: u64) -> u64
+    ensures { 0 < asked → result ≡ asked }
+{
+    if asked > 0 {
+        return asked;
+    }
+    match available_parallelism(rt) {
+        Ok(processors) => processors.get() as u64,
+        Err(_) => 1,
+    }
+}
+
+/// Runs `hunt`: writes the schedule that was found, or that there is none. It is the same for any number of threads. Progress
+/// is shown on the screen. `BadSize`: a number is outside its range. Other faults are those of the writer and of memory.
+pub fn hunt_command<T: Threads + Sync, S: Screen, W: Sink>(
+    rt: &T,
     alloc: Global,
     args: &HuntArgs,
     screen: &mut S,
@@ -95,8 +108,10 @@ pub fn hunt_command<S: Screen, W: Sink>(
     ensures ended { IfOk result (IsEnded false (W.tape w.old).failures (W.tape w.new).failures) }
 {
     let mut meter = Meter::new(screen, Work::Hunt);
-    let found = hunt_watched(
+    let found = hunt_in_parallel_watched(
+        rt,
         alloc,
+        jobs_of(rt, args.jobs),
         args.variant,
         args.seed,
         args.rounds,
@@ -163,7 +178,7 @@ pub fn ended<T: Threads + Wait + Sync, S: Screen, R: Source, W: Sink>(
         Command::Judge(_) => judge_command(alloc, r, w),
         Command::Draw(args) => draw_command(alloc, args, image, r, w),
         Command::Shrink(args) => shrink_command(alloc, args, r, w),
-        Command::Hunt(args) => hunt_command(alloc, args, screen, w),
+        Command::Hunt(args) => hunt_command(rt, alloc, args, screen, w),
         Command::Explore(args) => explore_command(alloc, args, screen, w),
         Command::Run(args) => run_command(rt, alloc, args, w),
         Command::Explain(dictionary_entry) => explain_command(*dictionary_entry, w),

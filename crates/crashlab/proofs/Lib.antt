@@ -11,6 +11,9 @@ pub mod VariantRuns
 pub mod Choices
 pub mod LockWorlds
 pub mod Lines
+pub mod Drawn
+pub mod Shares
+pub mod Observed
 pub mod Scans
 pub mod Answered
 pub mod Found

@@ -9,6 +9,9 @@ pub mod VariantRuns
 pub mod LockWorlds
 pub mod Hunts
 pub mod Found
+pub mod Draws
+pub mod Observed
+pub mod Hunted
 -- The definitions that the contracts cite.
 pub mod MadeOf
 pub mod Shrunk

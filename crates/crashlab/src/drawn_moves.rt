@@ -1,7 +1,7 @@
 //! The moves of a round so far.
 
-ghost use Rattle.std.specs.Prelude.{◌≡◌, ◌∷◌, [], map, take, IfOk, OnOk, IfErr};
-ghost use Rattle.crashlab.specs.Found.{line_by, drawn_moves_of, with_line};
+ghost use Rattle.std.specs.Prelude.{◌≡◌, ◌∷◌, ◌++◌, [], IfOk, OnOk, IfErr};
+ghost use Rattle.crashlab.specs.Found.{drawn_moves_of};
 
 use crate::hunt_fault::HuntFault;
 use crate::hunting::{CAP, LIMIT, PROCS, WIDTH};
@@ -10,26 +10,26 @@ use schedule::Schedule;
 use std::alloc::Global;
 use std::marker::Model;
 
-/// The moves of a round so far. Contracts see the schedule that they spell. Its lines take three times the room, so they are
-/// made only when the schedule is asked for.
+/// The moves of a round so far. Contracts see their list. The lines of a schedule take three times the room, so they are made
+/// only when it is asked for.
 #[derive(Drop)]
 pub struct DrawnMoves {
     moves: Vec<DrawnMove>,
 }
 
 impl Model for DrawnMoves {
-    ghost use Rattle.schedule.specs.Schedules.{Scheduled};
-    ghost use Rattle.crashlab.specs.Found.{drawn_moves_of};
+    ghost use Rattle.std.specs.Prelude.{List};
+    ghost use Rattle.crashlab.specs.declared.moves.DrawnMove.{DrawnMove as DrawnMoveOf};
 
-    ghost Value = { Scheduled };
+    ghost Value = { List DrawnMoveOf };
 
-    ghost view = { λ r. drawn_moves_of r.moves.items };
+    ghost view = { λ r. r.moves.items };
 }
 
 impl DrawnMoves {
     /// No moves.
     pub fn new(alloc: Global) -> DrawnMoves
-        ensures { result ≡ drawn_moves_of [] }
+        ensures { result ≡ [] }
     {
         DrawnMoves {
             moves: Vec::new(alloc),
@@ -38,7 +38,7 @@ impl DrawnMoves {
 
     /// Adds a move.
     pub fn push(&mut self, made: DrawnMove) -> Result<(), HuntFault>
-        ensures line { OnOk result (self.new ≡ with_line self.old (line_by made)) }
+        ensures added { OnOk result (self.new ≡ self.old ++ made ∷ []) }
         ensures memory { IfErr result (λ e. e ≡ HuntFault.OutOfMemory) }
     {
         match self.moves.push(made) {
@@ -49,7 +49,7 @@ impl DrawnMoves {
 
     /// The moves as a schedule of a hunt's world.
     pub fn schedule(&self, alloc: Global) -> Result<Schedule, HuntFault>
-        ensures same { IfOk result (λ schedule. schedule ≡ self.now) }
+        ensures same { IfOk result (λ schedule. schedule ≡ drawn_moves_of self.now) }
         ensures memory { IfErr result (λ e. e ≡ HuntFault.OutOfMemory) }
     {
         let Ok(mut schedule) = Schedule::new(alloc, PROCS, LIMIT, CAP, WIDTH) else {

@@ -1,11 +1,15 @@
 //! The observer of a hunt: what it knows of the processes, and the move that it makes of a drawn word.
 
-ghost use Rattle.std.specs.Prelude.{◌≡◌, ◌/◌, ◌%◌, ◌↔◌, IsTrue};
+ghost use Rattle.std.specs.Prelude.{◌≡◌, ◌/◌, ◌%◌, ◌↔◌, ◌∷◌, [], ℕ, IsTrue, List, true, false};
 ghost use Rattle.crashlab.specs.Found.{mover, is_crash};
+ghost use Rattle.crashlab.specs.Draws.{Sight, Begins, Ends, Falls, answered as answered_of, answered_if, at_process, call_after, drawn, is_inside, onward as onward_of};
+ghost use Rattle.crashlab.specs.Observed.{Observes, observed};
 
+use crate::hunting::PROCS;
 use crate::moves::{DrawnMove, NextCall};
 use redomail::Reply;
 use rmeworld::Answer;
+use std::marker::Model;
 
 /// What a process is doing.
 #[derive(Clone, Copy, Debug, PartialEq, Eq)]
@@ -37,11 +41,11 @@ const UNSEEN: Observation = Observation {
 };
 
 impl Observation {
-    /// The call that the process starts next, while it has none under way.
-    fn next_call(&self) -> NextCall {
-        if self.stage == ObservedStage::Outside {
-            NextCall::Lock
-        } else if !self.mended {
+    /// The call that the process starts next, while it is inside.
+    fn call_inside(&self) -> NextCall
+        ensures { (seen : List Sight) → self.now ≡ observed seen → is_inside seen ≡ true → result ≡ call_after seen }
+    {
+        if !self.mended {
             NextCall::Consistent
         } else if !self.appended {
             NextCall::Append(self.next)
@@ -50,26 +54,64 @@ impl Observation {
         }
     }
 
+    /// The move of process p, unless it is a crash: a step, or the start of its next call.
+    fn onward(&self, p: u64) -> DrawnMove
+        ensures process { mover result ≡ p }
+        ensures crash { is_crash result ≡ false }
+        ensures onward { (seen : List Sight) → self.now ≡ observed seen → result ≡ onward_of p seen }
+    {
+        match self.stage {
+            ObservedStage::Calling(_) => DrawnMove::Step(p),
+            ObservedStage::Outside => DrawnMove::Start(p, NextCall::Lock),
+            ObservedStage::Inside => DrawnMove::Start(p, self.call_inside()),
+        }
+    }
+
+    /// Notes a crash.
+    fn crashed(&mut self)
+        ensures { (seen : List Sight) → self.old ≡ observed seen → self.new ≡ observed (Falls ∷ seen) }
+    {
+        self.stage = ObservedStage::Outside;
+    }
+
+    /// Notes that a call was started.
+    fn started(&mut self, next_call: NextCall)
+        ensures { (seen : List Sight) → self.old ≡ observed seen → self.new ≡ observed (Begins next_call ∷ seen) }
+    {
+        self.stage = ObservedStage::Calling(next_call);
+    }
+
+    /// Notes an answer, where a call is under way.
+    fn stepped(&mut self, answer: Answer)
+        ensures { (seen : List Sight) → self.old ≡ observed seen → self.new ≡ observed (answered_of answer seen) }
+    {
+        if let ObservedStage::Calling(next_call) = self.stage {
+            self.answered(next_call, answer);
+        }
+    }
+
     /// Notes the answer of the call under way.
-    fn answered(&mut self, next_call: NextCall, answer: Answer) {
+    fn answered(&mut self, next_call: NextCall, answer: Answer)
+        ensures { (seen : List Sight) → self.old ≡ observed (Begins next_call ∷ seen)
+            → self.new ≡ observed (Ends next_call answer ∷ seen) }
+    {
         self.stage = ObservedStage::Inside;
-        match answer {
-            Answer::Clean => {
+        match (next_call, answer) {
+            (_, Answer::Clean) => {
                 self.mended = true;
                 self.appended = false;
             }
-            Answer::OwnerDied => {
+            (_, Answer::OwnerDied) => {
                 self.mended = false;
                 self.appended = false;
             }
-            Answer::Mail(Reply::Mended(_)) => self.mended = true,
-            Answer::Mail(reply) => {
+            (_, Answer::Mail(Reply::Mended(_))) => self.mended = true,
+            (_, Answer::Mail(Reply::Stored | Reply::Already)) => {
                 self.appended = true;
-                if reply == Reply::Stored || reply == Reply::Already {
-                    self.next = self.next.saturating_add(1);
-                }
+                self.next = self.next.saturating_add(1);
             }
-            Answer::NotRecoverable if next_call == NextCall::Consistent => {}
+            (_, Answer::Mail(_)) => self.appended = true,
+            (NextCall::Consistent, Answer::NotRecoverable) => {}
             _ => self.stage = ObservedStage::Outside,
         }
     }
@@ -81,9 +123,20 @@ pub struct Observer {
     observer: [Observation; 3],
 }
 
+impl Model for Observer {
+    ghost use Rattle.std.specs.Prelude.{List};
+    ghost use Rattle.crashlab.specs.declared.observer.Observation.{Observation as ObservationOf};
+
+    ghost Value = { List ObservationOf };
+
+    ghost view = { λ o. o.observer };
+}
+
 impl Observer {
     /// In a new world.
-    pub fn new() -> Observer {
+    pub fn new() -> Observer
+        ensures { Observes (λ p. []) result }
+    {
         Observer {
             observer: [UNSEEN; 3],
         }
@@ -93,6 +146,7 @@ impl Observer {
     pub fn draw(&self, word: u32) -> DrawnMove
         ensures process { mover result ≡ word % 3 }
         ensures crash { IsTrue (is_crash result) ↔ (word / 64 % 16 ≡ 0) }
+        ensures drawn { (seen : ℕ → List Sight) → Observes seen self.now → result ≡ drawn seen word }
     {
         let p = word % 3;
         let observation = &self.observer[p as usize];
@@ -100,38 +154,43 @@ impl Observer {
         if word / 64 % 16 == 0 {
             return DrawnMove::Crash(p);
         }
-        match observation.stage {
-            ObservedStage::Calling(_) => DrawnMove::Step(p),
-            ObservedStage::Outside | ObservedStage::Inside => DrawnMove::Start(
-                p,
-                observation.next_call(),
-            ),
-        }
+        observation.onward(p)
     }
 
     /// Notes that a process crashed.
-    pub fn crashed(&mut self, p: u64) {
-        if let Some(observation) = self.observer.get_mut(p as usize) {
-            observation.stage = ObservedStage::Outside;
+    pub fn crashed(&mut self, p: u64)
+        ensures { (seen : ℕ → List Sight) → Observes seen self.old → Observes (at_process p (λ s. Falls ∷ s) seen) self.new }
+    {
+        if p < PROCS {
+            self.observer[p as usize].crashed();
         }
     }
 
     /// Notes that a process started a call.
-    pub fn started(&mut self, p: u64, next_call: NextCall) {
-        if let Some(observation) = self.observer.get_mut(p as usize) {
-            observation.stage = ObservedStage::Calling(next_call);
+    pub fn started(&mut self, p: u64, next_call: NextCall)
+        ensures { (seen : ℕ → List Sight) → Observes seen self.old
+            → Observes (at_process p (λ s. Begins next_call ∷ s) seen) self.new }
+    {
+        if p < PROCS {
+            self.observer[p as usize].started(next_call);
         }
     }
 
     /// Notes that a process took a step, and the answer where the step ended its call.
-    pub fn stepped(&mut self, p: u64, answer: Option<Answer>) {
-        let Some(answer) = answer else {
-            return;
-        };
-        if let Some(observation) = self.observer.get_mut(p as usize) {
-            if let ObservedStage::Calling(next_call) = observation.stage {
-                observation.answered(next_call, answer);
-            }
+    pub fn stepped(&mut self, p: u64, answer: Option<Answer>)
+        ensures { (seen : ℕ → List Sight) → Observes seen self.old → Observes (at_process p (answered_if answer) seen) self.new }
+    {
+        if let Some(answer) = answer {
+            self.answered(p, answer);
+        }
+    }
+
+    /// Notes the answer of the call that a process has under way.
+    fn answered(&mut self, p: u64, answer: Answer)
+        ensures { (seen : ℕ → List Sight) → Observes seen self.old → Observes (at_process p (answered_of answer) seen) self.new }
+    {
+        if p < PROCS {
+            self.observer[p as usize].stepped(answer);
         }
     }
 }

@@ -1,11 +1,14 @@
 //! One move of a hunt: it is made in the world, and its deed is given to the judge.
 
-ghost use Rattle.std.specs.Prelude.{◌≡◌, None, IfSome};
+ghost use Rattle.std.specs.Prelude.{◌≡◌, ℕ, List, None, IfSome, IsSome};
 ghost use Rattle.judge.specs.Kept.{Kept};
 ghost use Rattle.schedule.specs.Schedules.{Scheduled};
 ghost use Rattle.crashlab.specs.declared.variant.Variant.{Variant as VariantOf};
 ghost use Rattle.crashlab.specs.Hunts.{IsPlayed};
 ghost use Rattle.crashlab.specs.Found.{Ends, call_by, line_by, with_line};
+ghost use Rattle.crashlab.specs.Draws.{Sight, noted};
+ghost use Rattle.crashlab.specs.Hunted.{refusal_of};
+ghost use Rattle.crashlab.specs.Observed.{Observes};
 
 use crate::moves::{DrawnMove, MoveOutcome, NextCall};
 use crate::observer::Observer;
@@ -27,7 +30,11 @@ pub fn make(
     ensures ends { IfSome result (λ m. (variant : VariantOf) (schedule : Scheduled)
         → IsPlayed variant schedule world.old judge.old
         → Ends variant (with_line schedule (line_by made)) world.new judge.new m) }
-    ensures same { result ≡ None → (world.new ≡ world.old) × (judge.new ≡ judge.old) }
+    ensures accepted { IfSome result (λ m. refusal_of world.old made ≡ None) }
+    ensures refused { result ≡ None → IsSome (refusal_of world.old made) }
+    ensures observes { IfSome result (λ m. (seen : ℕ → List Sight) → Observes seen observer.old
+        → Observes (noted world.old made seen) observer.new) }
+    ensures same { result ≡ None → (world.new ≡ world.old) × (judge.new ≡ judge.old) × (observer.new ≡ observer.old) }
 {
     match made {
         DrawnMove::Step(p) => walk(world, judge, observer, p),
@@ -55,7 +62,11 @@ fn take_up(
     ensures ends { IfSome result (λ m. (variant : VariantOf) (schedule : Scheduled) (judge : Kept)
         → IsPlayed variant schedule world.old judge
         → Ends variant (with_line schedule (line_by (DrawnMove.Start p next_call))) world.new judge m) }
-    ensures same { result ≡ None → world.new ≡ world.old }
+    ensures accepted { IfSome result (λ m. refusal_of world.old (DrawnMove.Start p next_call) ≡ None) }
+    ensures refused { result ≡ None → IsSome (refusal_of world.old (DrawnMove.Start p next_call)) }
+    ensures observes { IfSome result (λ m. (seen : ℕ → List Sight) → Observes seen observer.old
+        → Observes (noted world.old (DrawnMove.Start p next_call) seen) observer.new) }
+    ensures same { result ≡ None → (world.new ≡ world.old) × (observer.new ≡ observer.old) }
 {
     start(world, observer, p, next_call, next_call.call())
 }
@@ -74,7 +85,11 @@ fn start(
     ensures ends { IfSome result (λ m. (variant : VariantOf) (schedule : Scheduled) (judge : Kept)
         → IsPlayed variant schedule world.old judge
         → Ends variant (with_line schedule (line_by (DrawnMove.Start p next_call))) world.new judge m) }
-    ensures same { result ≡ None → world.new ≡ world.old }
+    ensures accepted { IfSome result (λ m. refusal_of world.old (DrawnMove.Start p next_call) ≡ None) }
+    ensures refused { result ≡ None → IsSome (refusal_of world.old (DrawnMove.Start p next_call)) }
+    ensures observes { IfSome result (λ m. (seen : ℕ → List Sight) → Observes seen observer.old
+        → Observes (noted world.old (DrawnMove.Start p next_call) seen) observer.new) }
+    ensures same { result ≡ None → (world.new ≡ world.old) × (observer.new ≡ observer.old) }
 {
     match world.take_start(p, call) {
         Ok(()) => {
@@ -97,7 +112,11 @@ fn walk(
     ensures ends { IfSome result (λ m. (variant : VariantOf) (schedule : Scheduled)
         → IsPlayed variant schedule world.old judge.old
         → Ends variant (with_line schedule (line_by (DrawnMove.Step p))) world.new judge.new m) }
-    ensures same { result ≡ None → (world.new ≡ world.old) × (judge.new ≡ judge.old) }
+    ensures accepted { IfSome result (λ m. refusal_of world.old (DrawnMove.Step p) ≡ None) }
+    ensures refused { result ≡ None → IsSome (refusal_of world.old (DrawnMove.Step p)) }
+    ensures observes { IfSome result (λ m. (seen : ℕ → List Sight) → Observes seen observer.old
+        → Observes (noted world.old (DrawnMove.Step p) seen) observer.new) }
+    ensures same { result ≡ None → (world.new ≡ world.old) × (judge.new ≡ judge.old) × (observer.new ≡ observer.old) }
 {
     if world.take_silent_step(p) {
         return Some(MoveOutcome::On);
@@ -115,7 +134,11 @@ fn step(
     ensures ends { IfSome result (λ m. (variant : VariantOf) (schedule : Scheduled)
         → IsPlayed variant schedule world.old judge.old
         → Ends variant (with_line schedule (line_by (DrawnMove.Step p))) world.new judge.new m) }
-    ensures same { result ≡ None → (world.new ≡ world.old) × (judge.new ≡ judge.old) }
+    ensures accepted { IfSome result (λ m. refusal_of world.old (DrawnMove.Step p) ≡ None) }
+    ensures refused { result ≡ None → IsSome (refusal_of world.old (DrawnMove.Step p)) }
+    ensures observes { IfSome result (λ m. (seen : ℕ → List Sight) → Observes seen observer.old
+        → Observes (noted world.old (DrawnMove.Step p) seen) observer.new) }
+    ensures same { result ≡ None → (world.new ≡ world.old) × (judge.new ≡ judge.old) × (observer.new ≡ observer.old) }
 {
     if let Some(access) = world.job_next(p) {
         let told = world.job_on(judge, p, access);
@@ -141,7 +164,11 @@ fn crash(
     ensures ends { IfSome result (λ m. (variant : VariantOf) (schedule : Scheduled)
         → IsPlayed variant schedule world.old judge.old
         → Ends variant (with_line schedule (line_by (DrawnMove.Crash p))) world.new judge.new m) }
-    ensures same { result ≡ None → (world.new ≡ world.old) × (judge.new ≡ judge.old) }
+    ensures accepted { IfSome result (λ m. refusal_of world.old (DrawnMove.Crash p) ≡ None) }
+    ensures refused { result ≡ None → IsSome (refusal_of world.old (DrawnMove.Crash p)) }
+    ensures observes { IfSome result (λ m. (seen : ℕ → List Sight) → Observes seen observer.old
+        → Observes (noted world.old (DrawnMove.Crash p) seen) observer.new) }
+    ensures same { result ≡ None → (world.new ≡ world.old) × (judge.new ≡ judge.old) × (observer.new ≡ observer.old) }
 {
     match world.take_crash(p) {
         Ok(deed) => {

@@ -175,6 +175,7 @@ impl VariantWorld {
         ensures refused { IfErr result (λ e. advance_refusal self.old p ≡ Some e) }
         ensures told { (history : List DeedOf) → StandsAfter (empty 3 64) history judge.old
             → IfOk result (λ r. Told history (stepped self.old p).deed judge.new r.0) }
+        ensures answer { IfOk result (λ r. r.1 ≡ (stepped self.old p).answer) }
         ensures ok { OnOk result (self.new ≡ advanced self.old p) }
         ensures err { OnErr result ((self.new ≡ self.old) × (judge.new ≡ judge.old)) }
     {
@@ -221,6 +222,7 @@ impl VariantWorld {
         ensures accepted { advance_refusal self.old p ≡ None }
         ensures told { (history : List DeedOf) → StandsAfter (empty 3 64) history judge.old
             → Told history (stepped self.old p).deed judge.new result.0 }
+        ensures answer { result.1 ≡ (stepped self.old p).answer }
         ensures ok { self.new ≡ advanced self.old p }
     {
         let found = load(&self.words, &self.cells, access.word());

@@ -3,8 +3,8 @@
 ghost use Rattle.crashlab.specs.Hunts.{IsFound};
 
 use crashlab::{
-    At, Both, CrashPlan, HuntFault, Never, Seeded, Variant, VariantWorld, hunt, hunt_watched,
-    shrink, shrink_found,
+    At, Both, CrashPlan, HuntFault, Never, Seeded, Variant, VariantWorld, hunt, hunt_in_parallel,
+    hunt_in_parallel_watched, hunt_watched, shrink, shrink_found,
 };
 use explorer::Watch;
 use redomail::Layout;
@@ -12,6 +12,7 @@ use rmecore::Refusal;
 use rmeworld::Machine;
 use schedule::{OutOfMemory, ReplayFault, Schedule};
 use std::alloc::Global;
+use std::thread::Threads;
 
 pub fn ask<P: CrashPlan>(plan: &mut P) -> bool {
     plan.falls()
@@ -90,6 +91,31 @@ pub fn hunted_watched<W: Watch>(
     watch: &mut W,
 ) -> Result<Option<Schedule>, HuntFault> {
     hunt_watched(alloc, variant, seed, rounds, steps, watch)
+}
+
+pub fn hunted_in_parallel<R: Threads + Sync>(
+    rt: &R,
+    alloc: Global,
+    jobs: u64,
+    variant: Variant,
+    seed: u64,
+    rounds: u64,
+    steps: u64,
+) -> Result<Option<Schedule>, HuntFault> {
+    hunt_in_parallel(rt, alloc, jobs, variant, seed, rounds, steps)
+}
+
+pub fn hunted_in_parallel_watched<R: Threads + Sync, W: Watch>(
+    rt: &R,
+    alloc: Global,
+    jobs: u64,
+    variant: Variant,
+    seed: u64,
+    rounds: u64,
+    steps: u64,
+    watch: &mut W,
+) -> Result<Option<Schedule>, HuntFault> {
+    hunt_in_parallel_watched(rt, alloc, jobs, variant, seed, rounds, steps, watch)
 }
 
 pub fn is_of_memory(fault: HuntFault) -> bool {

@@ -47,6 +47,8 @@ pub struct HuntArgs {
     pub steps: u64,
     /// Shrink the schedule that was found.
     pub shrink: bool,
+    /// How many threads share out the rounds; 0: as many as there are processors.
+    pub jobs: u64,
 }
 
 /// The calls that a search starts.

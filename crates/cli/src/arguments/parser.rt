@@ -125,6 +125,11 @@ fn hunt<'a>(alloc: Global) -> Result<Parser<'a>, AllocError>
         Argument::number("rounds", "R", "1 to 10000 rounds").required(),
         Argument::number("steps", "K", "1 to 10000 moves a round").required(),
         Argument::flag("shrink", "Make the schedule found least, as `shrink` does"),
+        Argument::number(
+            "jobs",
+            "N",
+            "N threads at once; without it, or 0, as many as there are processors",
+        ),
     ];
     command(alloc, "hunt", about, HUNT_HELP, &arguments)
 }

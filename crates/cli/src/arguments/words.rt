@@ -205,6 +205,7 @@ fn hunt_words(matches: &ArgMatches<'_>) -> Result<Command, WordsFault>
         rounds: number_of(matches, "rounds"),
         steps: number_of(matches, "steps"),
         shrink: is_set(matches, "shrink"),
+        jobs: number_of(matches, "jobs"),
     })?;
     Ok(Command::Hunt(args))
 }

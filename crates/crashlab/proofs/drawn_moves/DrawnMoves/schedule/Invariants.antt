@@ -5,5 +5,5 @@ use Rattle.crashlab.proofs.drawn_moves.DrawnMoves.schedule.Given as goal
 abbrev pub invariant-loop-made : goal.invariant-loop-made
 invariant-loop-made l = record {
   so_far : l.schedule ≡ drawn_moves_of (take l.made-index l.made-items);
-  whole : l.fn.self ≡ drawn_moves_of l.made-items;
+  whole : l.fn.self ≡ l.made-items;
 }

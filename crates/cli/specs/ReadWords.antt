@@ -68,6 +68,7 @@ pub record IsExplore (given : Given) (args : ExploreArgs) : Type 0 where
   pub cap : args.cap ≡ number_or 1 (codes "cap") given
   pub width : args.width ≡ number_or 1 (codes "width") given
   pub stuck : args.stuck ≡ is_set (codes "stuck") given
+  pub jobs : args.jobs ≡ number_or 0 (codes "jobs") given
   -- a search for stuck states has no bound on moves
   pub unbounded : args.stuck ≡ true → IsNone (first_of (codes "moves") given)
 

@@ -1,6 +1,6 @@
 //! The commands, over a reader and two writers.
 
-ghost use Rattle.std.specs.Prelude.{◌≡◌, ◌<◌, IfErr, IfOk, OnOk, is_some, option_copied, true, false};
+ghost use Rattle.std.specs.Prelude.{◌≡◌, IfErr, IfOk, OnOk, is_some, option_copied, true, false};
 ghost use Rattle.crashlab.specs.Hunts.{IsFound};
 ghost use Rattle.commands.specs.Commands.{CommandEnds, ExplainEnds, HuntEnds, JudgeEnds, TellsFound};
 ghost use Rattle.commands.specs.Endings.{IsEnded};
@@ -9,6 +9,7 @@ ghost use Rattle.commands.specs.Programs.{CarriesOut};
 ghost use Rattle.commands.specs.Statuses.{status_of};
 
 use crate::exploring::explore_command;
+use crate::jobs::jobs_of;
 use crate::progress::meter::Meter;
 use crate::progress::screen::{NoScreen, Screen};
 use crate::progress::work::Work;
@@ -26,7 +27,7 @@ use schedule::texts::device::write_all;
 use schedule::{Schedule, Sink, Source, judge_trace, put_verdict};
 use std::alloc::Global;
 use std::sync::Wait;
-use std::thread::{Threads, available_parallelism};
+use std::thread::Threads;
 
 /// Writes the verdict line of a trace.
 fn judge_command<R: Source, W: Sink>(
@@ -79,19 +80,6 @@ fn write_found<W: Sink>(
         write_least(alloc, args.variant, found, w)
     } else {
         write_lines(alloc, found, w)
-    }
-}
-
-/// How many threads a hunt has: as many as are asked for, or, at 0, as there are processors; 1 where that isn't known.
-fn jobs_of<T: Threads>(rt: &T, asked: u64) -> u64
-    ensures { 0 < asked → result ≡ asked }
-{
-    if asked > 0 {
-        return asked;
-    }
-    match available_parallelism(rt) {
-        Ok(processors) => processors.get() as u64,
-        Err(_) => 1,
     }
 }
 
@@ -179,7 +167,7 @@ pub fn ended<T: Threads + Wait + Sync, S: Screen, R: Source, W: Sink>(
         Command::Draw(args) => draw_command(alloc, args, image, r, w),
         Command::Shrink(args) => shrink_command(alloc, args, r, w),
         Command::Hunt(args) => hunt_command(rt, alloc, args, screen, w),
-        Command::Explore(args) => explore_command(alloc, args, screen, w),
+        Command::Explore(args) => explore_command(rt, alloc, args, screen, w),
         Command::Run(args) => run_command(rt, alloc, args, w),
         Command::Explain(dictionary_entry) => explain_command(*dictionary_entry, w),
     }

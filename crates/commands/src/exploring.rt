@@ -8,6 +8,7 @@ ghost use Rattle.schedule.specs.Tapes.{Writes};
 ghost use Rattle.commands.specs.Explores.{appends as appends_of, asked, all_line, calls_of as calls_asked, ExploreEnds, ShortestEnds, schedule_of as schedule_by, within_line};
 ghost use Rattle.crashlab.specs.Spaces.{line_by};
 
+use crate::jobs::jobs_of;
 use crate::progress::meter::Meter;
 use crate::progress::screen::Screen;
 use crate::progress::work::Work;
@@ -17,13 +18,14 @@ use crate::schedules::line::line_around;
 use crate::schedules::shrunk::write_lines;
 use crate::stuck::tell_stuck;
 use cli::arguments::args::ExploreArgs;
-use lock_explorer::{Bounds, ExploreFault, Move, SearchOutcome, shortest_schedule};
+use lock_explorer::{Bounds, ExploreFault, Move, SearchOutcome, shortest_schedule_in_parallel};
 use redomail::Layout;
 use rmecore::Body;
 use rmeworld::Call;
 use schedule::texts::device::write_all;
 use schedule::{Count, Line, Schedule, Sink};
 use std::alloc::{AllocError, Global};
+use std::thread::Threads;
 
 /// Adds a call to the list, if it is asked for.
 fn put_call(calls: &mut Vec<Call>, is_asked: bool, call: Call) -> Result<(), AllocError>
@@ -174,7 +176,8 @@ fn tell_all<W: Sink>(states: u64, w: &mut W) -> Result<Ending, CommandFault>
 }
 
 /// Writes the schedule of fewest moves that was found, or that there is none.
-fn tell_shortest<S: Screen, W: Sink>(
+fn tell_shortest<T: Threads + Sync, S: Screen, W: Sink>(
+    rt: &T,
     alloc: Global,
     args: &ExploreArgs,
     screen: &mut S,
@@ -198,8 +201,10 @@ fn tell_shortest<S: Screen, W: Sink>(
     };
     let calls = calls_of(alloc, args)?;
     let mut meter = Meter::new(screen, Work::Search);
-    let found = shortest_schedule(
+    let found = shortest_schedule_in_parallel(
+        rt,
         alloc,
+        jobs_of(rt, args.jobs) as usize,
         args.variant,
         layout,
         args.limit,
@@ -221,7 +226,8 @@ fn tell_shortest<S: Screen, W: Sink>(
 /// Runs `explore`: writes the schedule of fewest moves that was found, or that there is none; with `--stuck` also one to a stuck
 /// state. Progress is shown on the screen. `BadSize`: a size is outside its limits. `TooManyStates`: the search reached more
 /// states than it may keep.
-pub fn explore_command<S: Screen, W: Sink>(
+pub fn explore_command<T: Threads + Sync, S: Screen, W: Sink>(
+    rt: &T,
     alloc: Global,
     args: &ExploreArgs,
     screen: &mut S,
@@ -233,5 +239,5 @@ pub fn explore_command<S: Screen, W: Sink>(
     if args.stuck {
         return tell_stuck(alloc, args, screen, w);
     }
-    tell_shortest(alloc, args, screen, w)
+    tell_shortest(rt, alloc, args, screen, w)
 }

@@ -5,6 +5,7 @@ pub mod command;
 pub mod disk;
 pub mod exploring;
 pub mod folder;
+mod jobs;
 pub mod program;
 pub mod progress;
 pub mod running;

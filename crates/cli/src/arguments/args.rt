@@ -81,6 +81,8 @@ pub struct ExploreArgs {
     pub width: u64,
     /// Whether it looks for stuck states, with no bound on the moves.
     pub stuck: bool,
+    /// How many threads expand the states; 0: as many as there are processors. A search for stuck states has one.
+    pub jobs: u64,
 }
 
 /// `draw`: runs a schedule and draws its run.

@@ -151,6 +151,11 @@ fn explore<'a>(alloc: Global) -> Result<Parser<'a>, AllocError>
         Argument::number("cap", "M", "Room for M messages; 1 without it"),
         Argument::number("width", "W", "1 to 8 words a message; 1 without it"),
         Argument::flag("stuck", "Look for stuck states too; not with --moves"),
+        Argument::number(
+            "jobs",
+            "N",
+            "N threads at once; without it, or 0, as many as there are processors",
+        ),
     ];
     command(alloc, "explore", about, EXPLORE_HELP, &arguments)
 }

@@ -301,6 +301,7 @@ fn explore_words(alloc: Global, matches: &ArgMatches<'_>) -> Result<Command, Wor
         cap: number_or(matches, "cap", 1),
         width: number_or(matches, "width", 1),
         stuck: stuck_of(matches)?,
+        jobs: number_of(matches, "jobs"),
     }))
 }
 

@@ -38,15 +38,15 @@ ends_all args before now states (Err f) none number told status failed = inr (in
 pub returns-in-Ok-NoneWithin-clause-ends : goal.returns-in-Ok-NoneWithin-clause-ends
 returns-in-Ok-NoneWithin-clause-ends g c =
     let o : ExploreArgs = c.args.args.now in
-    let none = rw c.in-Ok-NoneWithin.field-0-is at (rw c.in-Ok-NoneWithin.is at c.shortest_schedule-found.ensures.none_within) in
+    let none = rw c.in-Ok-NoneWithin.field-0-is at (rw c.in-Ok-NoneWithin.is at c.shortest_schedule_in_parallel-found.ensures.none_within) in
     let calls = c.deref.ensures.value ∙ c.in_ok-calls.ensures.listed in
     ends_within o _ _ c.tell_within.result (subst (λ calls. NoneOfAtMost o.variant (layout_of o) o.limit o.crashes calls o.moves) calls none) c.tell_within.ensures.told c.tell_within.ensures.status c.tell_within.ensures.failed
 
 pub returns-in-Ok-Nowhere-clause-ends : goal.returns-in-Ok-Nowhere-clause-ends
 returns-in-Ok-Nowhere-clause-ends g c =
     let o : ExploreArgs = c.args.args.now in
-    let none = rw c.in-Ok-Nowhere.field-0-is at (rw c.in-Ok-Nowhere.is at c.shortest_schedule-found.ensures.nowhere) in
-    let number = rw c.in-Ok-Nowhere.field-0-is at (rw c.in-Ok-Nowhere.is at c.shortest_schedule-found.ensures.states) in
+    let none = rw c.in-Ok-Nowhere.field-0-is at (rw c.in-Ok-Nowhere.is at c.shortest_schedule_in_parallel-found.ensures.nowhere) in
+    let number = rw c.in-Ok-Nowhere.field-0-is at (rw c.in-Ok-Nowhere.is at c.shortest_schedule_in_parallel-found.ensures.states) in
     let calls = c.deref.ensures.value ∙ c.in_ok-calls.ensures.listed in
     ends_all o _ _ c.in-Ok-Nowhere.states c.tell_all.result
     (subst (λ calls. NoneIsFound o.variant (layout_of o) o.limit o.crashes calls) calls none)
@@ -57,11 +57,11 @@ pub returns-in-Ok-Path-clause-ends : goal.returns-in-Ok-Path-clause-ends
 returns-in-Ok-Path-clause-ends g c =
     let o : ExploreArgs = c.args.args.now in
     let calls = c.deref.ensures.value ∙ c.in_ok-calls.ensures.listed in
-    let found = rw c.in-Ok-Path.field-0-is at (rw c.in-Ok-Path.is at c.shortest_schedule-found.ensures.found) in
-    let least = rw c.in-Ok-Path.field-0-is at (rw c.in-Ok-Path.is at c.shortest_schedule-found.ensures.shortest) in
-    let few = rw c.in-Ok-Path.field-0-is at (rw c.in-Ok-Path.is at c.shortest_schedule-found.ensures.within) in
+    let found = rw c.in-Ok-Path.field-0-is at (rw c.in-Ok-Path.is at c.shortest_schedule_in_parallel-found.ensures.found) in
+    let least = rw c.in-Ok-Path.field-0-is at (rw c.in-Ok-Path.is at c.shortest_schedule_in_parallel-found.ensures.shortest) in
+    let few = rw c.in-Ok-Path.field-0-is at (rw c.in-Ok-Path.is at c.shortest_schedule_in_parallel-found.ensures.within) in
     ends_least o _ _ c.in-Ok-Path.path.items _ c.tell_path.result c.deref-in-Ok-Path.ensures.value
-    (λ right. rw c.in-Ok-Path.field-0-is at (rw c.in-Ok-Path.is at (c.shortest_schedule-found.ensures.right right)))
+    (λ right. rw c.in-Ok-Path.field-0-is at (rw c.in-Ok-Path.is at (c.shortest_schedule_in_parallel-found.ensures.right right)))
     (subst (λ calls. IsFoundIn o.variant (layout_of o) o.limit o.crashes calls c.in-Ok-Path.path.items) calls found)
     (subst (λ calls. IsLeast o.variant (layout_of o) o.limit o.crashes calls c.in-Ok-Path.path.items) calls least)
     few c.tell_path.ensures.told c.tell_path.ensures.status c.tell_path.ensures.failed

@@ -172,16 +172,21 @@ int rme_end_call(struct rme_seat *s, int error)
     return error;
 }
 
-/* An append, by one feed of the words that it loads first. */
-static uint64_t append(struct rme_seat *s, struct rme_access *access, struct made *made)
+/* An append, by one feed of the words that it loads first. Its stores are those of data words; as in `take`, none goes to a word that
+ * the block does not have. */
+static uint64_t append(struct rme_seat *s, struct rme_access *access)
 {
-    const uint64_t closed = load(s->words + 1), count = load(s->words + 2);
-    const uint64_t last = load(s->words + 10 + s->machine.width + s->machine.index);
+    uint64_t *const words = s->words;
+    const uint64_t locks = 3 * s->machine.procs, size = s->count - locks, own = 10 + s->machine.width + s->machine.index;
+    const uint64_t closed = load(words + 1), count = load(words + 2), last = load(words + own);
     struct rme_stores stores;
     if (!rme_feed_append(&s->machine, closed, count, last, &stores, access))
         return 0;
-    for (uint64_t k = 0; k < stores.count; k++)
-        take(s, &stores.each[k], made);
+    for (const struct rme_access *each = stores.each; each < stores.each + stores.count; each++)
+        if (each->place - locks < size)
+            store(words + (each->place - locks), each->value);
+        else
+            s->astray = true;
     return stores.told;
 }
 
@@ -197,11 +202,10 @@ INLINED uint64_t rme_make_call(struct rme_seat *s, const struct rme_call *asked,
         s->blocked_at = NULL;
         run(s, RME_LOCKS, 1, &made);
         told = rme_feed_run(&s->machine, made.count - 1, made.seen, access);
-    } else if (asked->code == RME_LOCK && told == RME_CALL_UNDER_WAY) {
+    } else if (asked->code == RME_LOCK && told == RME_CALL_UNDER_WAY)
         told = rme_next(&s->machine, access);
-    } else if (asked->code == RME_APPEND && told == 0) {
-        told = append(s, access, &made);
-    }
+    else if (asked->code == RME_APPEND && told == 0)
+        told = append(s, access);
     return told > RME_BLOCKED && told < RME_LOAD ? told : finish(s, told, made, access, may_wait);
 }
 

@@ -48,10 +48,7 @@ static inline int disable_cancellation(void)
 
 /* rme.c: a call with a seat begins and ends with these. Between them a call goes to its answer, or to
  * `turns` blocked readings and one more, or to one after the first sleep; no sleep is longer than `longest` milliseconds. */
-struct patience {
-    uint64_t turns, longest;
-    bool once;
-};
+struct patience { uint64_t turns, longest; bool once; };
 int rme_begin_call(struct rme_seat *s);
 int rme_end_call(struct rme_seat *s, int error);
 uint64_t rme_make_call(struct rme_seat *s, const struct rme_call *asked, struct patience may_wait, struct rme_access *access);

@@ -70,7 +70,7 @@ explore = part (codes "explore") (
     ∷ number (codes "states") ∷ number (codes "limit") ∷ number (codes "cap") ∷ number (codes "width") ∷ [])
 
 abbrev pub judge : Shape
-judge = part (codes "judge") (word (codes "FILE") ∷ [])
+judge = part (codes "judge") (flag (codes "json") ∷ word (codes "FILE") ∷ [])
 
 abbrev pub draw : Shape
 draw = part (codes "draw") (variant ∷ option (codes "image") ∷ flag (codes "svg") ∷ word (codes "FILE") ∷ [])

@@ -7,3 +7,4 @@ pub mod Columns
 pub mod Pictures
 pub mod Drawings
 pub mod Followed
+pub mod StepLines

@@ -73,6 +73,7 @@ pub record IsJudge (given : Given) (args : JudgeArgs) : Type 0 where
   pub file : option_map string_bytes args.file ≡ first_of (codes "FILE") given
 
 pub record IsDraw (given : Given) (args : DrawArgs) : Type 0 where
+  pub html : args.html ≡ is_set (codes "html") given
   pub style : args.style ≡ style_of given
   pub variant : GoesWithImage given args.variant
   pub image : option_map string_bytes args.image ≡ first_of (codes "image") given

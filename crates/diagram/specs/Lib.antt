@@ -8,3 +8,4 @@ pub mod Pictures
 pub mod Drawings
 pub mod Followed
 pub mod StepLines
+pub mod Pages

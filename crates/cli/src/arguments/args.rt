@@ -91,6 +91,8 @@ pub struct JudgeArgs {
 /// `draw`: runs a schedule and draws its run.
 #[derive(Debug, Drop, PartialEq, Eq)]
 pub struct DrawArgs {
+    /// Write a page that shows the run step by step.
+    pub html: bool,
     pub style: Style,
     pub variant: Variant,
     /// The file of the image that the world starts from.

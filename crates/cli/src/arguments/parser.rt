@@ -46,7 +46,8 @@ device or of memory.\n\nExample: rmelab judge examples/overtaken.trace";
 const DRAW_HELP: &str =
     "In: a schedule, as `rme 1 procs 2 limit 10 cap 1`, then lines such as `lock 0`, `step 0 5`, \
 `crash 0`, each ended by a line feed.\nOut: its run, time downward: a column for each process, a row for each step or crash, \
-and what it tells at the right; with --svg a picture of this.\nExit status: 0 where the verdict is fine, 1 where it is against, 2 after \
+and what it tells at the right; with --svg a picture of this, and \
+with --html a page for a browser with the picture and each step.\nExit status: 0 where the verdict is fine, 1 where it is against, 2 after \
 a fault of the words, the schedule or the image, 3 after one of a device or of memory.\n\nExample: rmelab draw examples/tie.rme";
 
 const SHRINK_HELP: &str =
@@ -169,6 +170,7 @@ fn draw<'a>(alloc: Global) -> Result<Parser<'a>, AllocError>
         Argument::variant(),
         Argument::image(),
         Argument::flag("svg", "Write a picture, as SVG"),
+        Argument::flag("html", "Write a page that shows the run step by step"),
         Argument::file("The schedule; without it, standard input is read"),
     ];
     command(alloc, "draw", about, DRAW_HELP, &arguments)

@@ -173,6 +173,7 @@ fn draw_words(alloc: Global, matches: &ArgMatches<'_>) -> Result<Command, WordsF
     ensures { Reads (codes "draw") (given_in matches.now) result }
 {
     Ok(Command::Draw(DrawArgs {
+        html: is_set(matches, "html"),
         style: style_of(matches),
         variant: variant_beside_image(matches)?,
         image: text_of(alloc, matches, "image")?,

@@ -140,10 +140,11 @@ Options:
       --variant <V>   right, no-look, no-ties, renumber, exit-on-crash, count-up or last-skipped
       --image <FILE>  Begin with the words of this image, every process crashed
       --svg           Write a picture, as SVG
+      --html          Write a page that shows the run step by step
   -h, --help          Print help
 
 In: a schedule, as `rme 1 procs 2 limit 10 cap 1`, then lines such as `lock 0`, `step 0 5`, `crash 0`, each ended by a line feed.
-Out: its run, time downward: a column for each process, a row for each step or crash, and what it tells at the right; with --svg a picture of this.
+Out: its run, time downward: a column for each process, a row for each step or crash, and what it tells at the right; with --svg a picture of this, and with --html a page for a browser with the picture and each step.
 Exit status: 0 where the verdict is fine, 1 where it is against, 2 after a fault of the words, the schedule or the image, 3 after one of a device or of memory.
 
 Example: rmelab draw examples/tie.rme

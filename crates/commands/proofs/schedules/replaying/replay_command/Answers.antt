@@ -1,4 +1,4 @@
-use Rattle.std.proofs.Common.{rules, is_some, option_copied, arith}
+use Rattle.std.proofs.Common.{rules, option_copied, arith}
 use Rattle.std.proofs.lemmas.Result.{err_from_is_err_and}
 use Rattle.commands.specs.Replays.{replayed}
 use Rattle.commands.proofs.Draws.{untold}

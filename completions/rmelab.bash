@@ -38,8 +38,8 @@ _rmelab() {
         run) mapfile -t COMPREPLY < <(compgen -W "--procs --messages --crash --seed --width -h --help" -- "$word") ;;
         hunt) mapfile -t COMPREPLY < <(compgen -W "--variant --seed --rounds --steps --shrink --jobs -h --help" -- "$word") ;;
         explore) mapfile -t COMPREPLY < <(compgen -W "--variant --procs --calls --crashes --moves --states --limit --cap --width --stuck -h --help" -- "$word") ;;
-        judge) mapfile -t COMPREPLY < <(compgen -W "-h --help" -- "$word"; compgen -f -- "$word") ;;
-        draw) mapfile -t COMPREPLY < <(compgen -W "--variant --image --svg -h --help" -- "$word"; compgen -f -- "$word") ;;
+        judge) mapfile -t COMPREPLY < <(compgen -W "--json -h --help" -- "$word"; compgen -f -- "$word") ;;
+        draw) mapfile -t COMPREPLY < <(compgen -W "--variant --image --svg --html -h --help" -- "$word"; compgen -f -- "$word") ;;
         shrink) mapfile -t COMPREPLY < <(compgen -W "--variant -h --help" -- "$word"; compgen -f -- "$word") ;;
         explain)
             names=$("${COMP_WORDS[0]}" explain 2>/dev/null)

@@ -11,7 +11,7 @@ complete -c rmelab -n __fish_use_subcommand -a explain -d 'Says what a number or
 complete -c rmelab -n __fish_use_subcommand -a help -d 'Print this message or the help of the given subcommand(s)'
 complete -c rmelab -n '__fish_use_subcommand' -s h -l help -d 'Print help'
 complete -c rmelab -n '__fish_use_subcommand' -s V -l version -d 'Print version'
-complete -c rmelab -n '__fish_seen_subcommand_from replay' -l json -d 'Print one JSON object of the report\'s lines'
+complete -c rmelab -n '__fish_seen_subcommand_from replay' -l json -d 'Print one JSON object of the report\'s lines; with --each an object for each step'
 complete -c rmelab -n '__fish_seen_subcommand_from replay' -l each -d 'Tell each step, with its word and where its process stands'
 complete -c rmelab -n '__fish_seen_subcommand_from replay' -l variant -x -a 'right no-look no-ties renumber exit-on-crash count-up last-skipped' -d 'right, no-look, no-ties, renumber, exit-on-crash, count-up or last-skipped'
 complete -c rmelab -n '__fish_seen_subcommand_from replay' -l image -r -F -d 'Begin with the words of this image, every process crashed'
@@ -42,11 +42,13 @@ complete -c rmelab -n '__fish_seen_subcommand_from explore' -l cap -x -d 'Room f
 complete -c rmelab -n '__fish_seen_subcommand_from explore' -l width -x -d '1 to 8 words a message; 1 without it'
 complete -c rmelab -n '__fish_seen_subcommand_from explore' -l stuck -d 'Look for stuck states too; not with --moves'
 complete -c rmelab -n '__fish_seen_subcommand_from explore' -s h -l help -d 'Print help'
+complete -c rmelab -n '__fish_seen_subcommand_from judge' -l json -d 'Print the verdict as a JSON object'
 complete -c rmelab -n '__fish_seen_subcommand_from judge' -s h -l help -d 'Print help'
 complete -c rmelab -n '__fish_seen_subcommand_from judge' -F
 complete -c rmelab -n '__fish_seen_subcommand_from draw' -l variant -x -a 'right no-look no-ties renumber exit-on-crash count-up last-skipped' -d 'right, no-look, no-ties, renumber, exit-on-crash, count-up or last-skipped'
 complete -c rmelab -n '__fish_seen_subcommand_from draw' -l image -r -F -d 'Begin with the words of this image, every process crashed'
 complete -c rmelab -n '__fish_seen_subcommand_from draw' -l svg -d 'Write a picture, as SVG'
+complete -c rmelab -n '__fish_seen_subcommand_from draw' -l html -d 'Write a page that shows the run step by step'
 complete -c rmelab -n '__fish_seen_subcommand_from draw' -s h -l help -d 'Print help'
 complete -c rmelab -n '__fish_seen_subcommand_from draw' -F
 complete -c rmelab -n '__fish_seen_subcommand_from shrink' -l variant -x -a 'right no-look no-ties renumber exit-on-crash count-up last-skipped' -d 'right, no-look, no-ties, renumber, exit-on-crash, count-up or last-skipped'

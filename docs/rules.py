@@ -389,7 +389,7 @@ def links_that_lead_nowhere():
 def mentions_of_no_page():
     """Paths of pages that sources, scripts and pages name."""
     for name in repository_files():
-        if name.endswith((".svg", ".edit")) or name.startswith("wrong-bodies/"):
+        if name.endswith((".svg", ".png", ".edit")) or name.startswith("wrong-bodies/"):
             continue
         text = text_of(name)
         for mention in MENTION.finditer(text):

@@ -72,10 +72,10 @@ explore = part (codes "explore") (
     ∷ number (codes "jobs") ∷ [])
 
 abbrev pub judge : Shape
-judge = part (codes "judge") (word (codes "FILE") ∷ [])
+judge = part (codes "judge") (flag (codes "json") ∷ word (codes "FILE") ∷ [])
 
 abbrev pub draw : Shape
-draw = part (codes "draw") (variant ∷ option (codes "image") ∷ flag (codes "svg") ∷ word (codes "FILE") ∷ [])
+draw = part (codes "draw") (variant ∷ option (codes "image") ∷ flag (codes "svg") ∷ flag (codes "html") ∷ word (codes "FILE") ∷ [])
 
 abbrev pub shrink : Shape
 shrink = part (codes "shrink") (required variant ∷ word (codes "FILE") ∷ [])

@@ -13,7 +13,7 @@ image_of command = None
 -- the text that is read; without a file, standard input
 abbrev pub input_of : Command → Option (String Global)
 input_of (Replay args) = args.file
-input_of (Judge file) = file
+input_of (Judge args) = args.file
 input_of (Draw args) = args.file
 input_of (Shrink args) = args.file
 input_of command = None

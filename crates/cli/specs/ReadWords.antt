@@ -16,6 +16,7 @@ use Rattle.cli.specs.declared.arguments.args.RunArgs.{RunArgs}
 use Rattle.cli.specs.declared.arguments.args.HuntArgs.{HuntArgs}
 use Rattle.cli.specs.declared.arguments.args.ExploreArgs.{ExploreArgs}
 use Rattle.cli.specs.declared.arguments.args.DrawArgs.{DrawArgs}
+use Rattle.cli.specs.declared.arguments.args.JudgeArgs.{JudgeArgs}
 use Rattle.cli.specs.declared.arguments.args.ShrinkArgs.{ShrinkArgs}
 use Rattle.cli.specs.declared.arguments.words.WordsFault.{WordsFault}
 use Rattle.cli.specs.declared.arguments.words.WordsFault.TheVariants.{Help, Refused, BadVariant, BadSize, Unreadable, OutOfMemory}
@@ -72,7 +73,12 @@ pub record IsExplore (given : Given) (args : ExploreArgs) : Type 0 where
   -- a search for stuck states has no bound on moves
   pub unbounded : args.stuck ≡ true → IsNone (first_of (codes "moves") given)
 
+pub record IsJudge (given : Given) (args : JudgeArgs) : Type 0 where
+  pub json : args.json ≡ is_set (codes "json") given
+  pub file : option_map string_bytes args.file ≡ first_of (codes "FILE") given
+
 pub record IsDraw (given : Given) (args : DrawArgs) : Type 0 where
+  pub html : args.html ≡ is_set (codes "html") given
   pub style : args.style ≡ style_of given
   pub variant : GoesWithImage given args.variant
   pub image : option_map string_bytes args.image ≡ first_of (codes "image") given
@@ -88,7 +94,7 @@ IsCommand name given (Replay args) = (name ≡ codes "replay") × IsReplay given
 IsCommand name given (Run args) = (name ≡ codes "run") × (args ≡ run_of given)
 IsCommand name given (Hunt args) = (name ≡ codes "hunt") × IsHunt given args
 IsCommand name given (Explore args) = (name ≡ codes "explore") × IsExplore given args
-IsCommand name given (Judge file) = (name ≡ codes "judge") × (option_map string_bytes file ≡ first_of (codes "FILE") given)
+IsCommand name given (Judge args) = (name ≡ codes "judge") × IsJudge given args
 IsCommand name given (Draw args) = (name ≡ codes "draw") × IsDraw given args
 IsCommand name given (Shrink args) = (name ≡ codes "shrink") × IsShrink given args
 IsCommand name given (Explain entry) = (name ≡ codes "explain") × (option_map name_of entry ≡ entry_named given)

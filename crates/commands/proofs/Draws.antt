@@ -4,10 +4,10 @@ use Rattle.crashlab.specs.declared.variant.Variant.{Variant}
 use Rattle.commands.specs.declared.schedules.fault.CommandFault.{CommandFault}
 use Rattle.schedule.specs.Tapes.{Tape, Reading}
 use Rattle.cli.specs.declared.arguments.args.DrawArgs.{DrawArgs}
-use Rattle.commands.specs.Draws.{DrawEnds}
+use Rattle.commands.specs.Draws.{DrawEnds, drawn}
 use Rattle.commands.specs.Settings.{IsWrongText}
 use Rattle.commands.specs.Statuses.{status_of}
-use Rattle.commands.specs.Tellings.{Drawn, Manner, TellsRead}
+use Rattle.commands.specs.Tellings.{Manner, TellsRead}
 
 pub untold : (variant : Variant) (manner : Manner) (image : Option (List ℕ)) (old new : Reading) (now : Tape) (fault : CommandFault)
     → (status_of fault ≡ 3) ⊎ IsWrongText old new fault → TellsRead variant manner image old new now now (Err fault)
@@ -17,4 +17,4 @@ untold variant manner image old new now fault (inr wrong) = inl (record { taken 
 pub unread : (args : DrawArgs) (image : Option (List ℕ)) (old new : Reading) (now : Tape) (fault : CommandFault) → 2 ≤ status_of fault
     → (status_of fault ≡ 3) ⊎ IsWrongText old new fault → DrawEnds args image old new now now (Err fault)
 unread args image old new now fault least purpose =
-    (λ one right. omega (arith, one, least), untold args.variant (Drawn args.style) image old new now fault purpose)
+    (λ one right. omega (arith, one, least), untold args.variant (drawn args) image old new now fault purpose)

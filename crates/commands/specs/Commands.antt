@@ -17,6 +17,7 @@ use Rattle.schedule.specs.Wholes.{WasRead}
 use Rattle.schedule.specs.declared.replays.replay_fault.ReplayFault.{ReplayFault}
 use Rattle.schedule.specs.declared.replays.verdict.Verdict.{Verdict}
 use Rattle.crashlab.specs.Shrunk.{Shrinks}
+use Rattle.diagram.specs.StepLines.{verdict_object}
 use Rattle.cli.specs.declared.arguments.args.Command.{Command}
 use Rattle.cli.specs.declared.arguments.args.Command.TheVariants.{Replay, Run, Hunt, Explore, Judge, Draw, Shrink, Explain}
 use Rattle.cli.specs.declared.arguments.args.HuntArgs.{HuntArgs}
@@ -32,21 +33,26 @@ use Rattle.commands.specs.Shrinks.{ShrinkEnds}
 use Rattle.commands.specs.Statuses.{outcome, outcome_told, status_ended}
 use Rattle.commands.specs.Explores.{ExploreEnds}
 
--- what is printed for a trace: the line of its verdict, or nothing after a fault
-abbrev pub line_told : Result Verdict ReplayFault → List ℕ
-line_told (Ok verdict) = verdict_line verdict
-line_told (Err fault) = []
+-- a verdict as a line, or as a JSON object
+abbrev pub verdict_told : Bool → Verdict → List ℕ
+verdict_told false verdict = verdict_line verdict
+verdict_told true verdict = verdict_object verdict
+
+-- what is printed for a trace: its verdict, or nothing after a fault
+abbrev pub line_told : Bool → Result Verdict ReplayFault → List ℕ
+line_told json (Ok verdict) = verdict_told json verdict
+line_told json (Err fault) = []
 
 -- a trace was read to its end: the result is that of its text, whose line was written
-pub record TellsTrace (old new : Reading) (before now : Tape) (end : Result Ending CommandFault) : Type 0 where
+pub record TellsTrace (json : Bool) (old new : Reading) (before now : Tape) (end : Result Ending CommandFault) : Type 0 where
   pub text : List ℕ
   pub read : WasRead old new text
   pub outcome_is : outcome end ≡ outcome_told (trace_answer (parts_of text))
-  pub line : Writes before now (line_told (trace_answer (parts_of text)))
+  pub line : Writes before now (line_told json (trace_answer (parts_of text)))
 
 -- how `judge` ends
-abbrev pub JudgeEnds : Reading → Reading → Tape → Tape → Result Ending CommandFault → Type 0
-JudgeEnds old new before now end = (IsBroken end ⊎ TellsTrace old new before now end) × TellsReads old new end
+abbrev pub JudgeEnds : Bool → Reading → Reading → Tape → Tape → Result Ending CommandFault → Type 0
+JudgeEnds json old new before now end = (IsBroken end ⊎ TellsTrace json old new before now end) × TellsReads old new end
 
 -- the schedule that was found is written, or a shrunk one
 abbrev pub TellsFound : Bool → Variant → Scheduled → Tape → Tape → Type 0
@@ -100,7 +106,7 @@ CommandEnds (Replay args) image old new before now end = ReplayEnds args image o
 CommandEnds (Run args) image old new before now end = RunEnds args end
 CommandEnds (Hunt args) image old new before now end = HuntEnds args before now end
 CommandEnds (Explore args) image old new before now end = ExploreEnds args before now end
-CommandEnds (Judge file) image old new before now end = JudgeEnds old new before now end
+CommandEnds (Judge args) image old new before now end = JudgeEnds args.json old new before now end
 CommandEnds (Draw args) image old new before now end = DrawEnds args image old new before now end × TellsReads old new end
 CommandEnds (Shrink args) image old new before now end = ShrinkEnds args old new before now end × TellsReads old new end
 CommandEnds (Explain dictionary_entry) image old new before now end = (new ≡ old) × ExplainEnds dictionary_entry before now end

@@ -6,9 +6,13 @@ use Rattle.commands.specs.declared.schedules.fault.CommandFault.{CommandFault}
 use Rattle.schedule.specs.Tapes.{Tape, Reading}
 use Rattle.cli.specs.declared.arguments.args.DrawArgs.{DrawArgs}
 use Rattle.commands.specs.Statuses.{status_ended}
-use Rattle.commands.specs.Tellings.{Drawn, TellsRead}
+use Rattle.commands.specs.Tellings.{Manner, drawn_as, TellsRead}
+
+-- how the run is to be written
+abbrev pub drawn : DrawArgs → Manner
+drawn args = drawn_as args.html args.style
 
 -- no verdict is against the right lock
 abbrev pub DrawEnds : DrawArgs → Option (List ℕ) → Reading → Reading → Tape → Tape → Result Ending CommandFault → Type 0
 DrawEnds args image old new before now end =
-    (status_ended end ≡ 1 → args.variant ≢ Right) × TellsRead args.variant (Drawn args.style) image old new before now end
+    (status_ended end ≡ 1 → args.variant ≢ Right) × TellsRead args.variant (drawn args) image old new before now end

@@ -1,5 +1,5 @@
 -- How a replay ends.
-use Rattle.std.specs.Prelude.{◌≡◌, ◌≢◌, ℕ, Bool, false, List, Option, None, is_some, IfSome, Vec, Result, Ok, IfOk}
+use Rattle.std.specs.Prelude.{◌≡◌, ◌≢◌, ℕ, Bool, false, not, ◌&&◌, List, Option, None, is_some, IfSome, Vec, Result, Ok, IfOk}
 use Rattle.std.specs.declared.alloc.Global.{Global}
 use Rattle.crashlab.specs.declared.variant.Variant.TheVariants.{Right}
 use Rattle.rmeworld.specs.declared.image.Image.{Image}
@@ -19,15 +19,23 @@ use Rattle.commands.specs.declared.schedules.ending.Ending.{Ending}
 use Rattle.commands.specs.declared.schedules.fault.CommandFault.{CommandFault}
 use Rattle.commands.specs.Endings.{IsEnded, TellsReads}
 use Rattle.commands.specs.Statuses.{outcome, outcome_told, status_after, status_ended}
-use Rattle.commands.specs.Tellings.{Replayed, TellsRead}
+use Rattle.commands.specs.Tellings.{Manner, Replayed, TellsRead}
 
 -- only the report of a schedule on the right lock is asked for
 abbrev pub IsPlainReplay : ReplayArgs → Option (List ℕ) → Type 0
 IsPlainReplay args image = (image ≡ None) × (args.variant ≡ Right) × (args.json ≡ false) × (args.each ≡ false) × (args.save ≡ None)
 
--- something else is asked for besides the report, and no JSON
+-- how the run is to be written
+abbrev pub replayed : ReplayArgs → Manner
+replayed args = Replayed args.each args.json (is_some args.save)
+
+-- the report is asked for as one JSON object
+abbrev pub is_object : ReplayArgs → Bool
+is_object args = args.json && not args.each
+
+-- something else is asked for besides the report, and no JSON of the report
 abbrev pub IsTold : ReplayArgs → Option (List ℕ) → Type 0
-IsTold args image = (args.json ≡ false) × (IsPlainReplay args image → ⊥)
+IsTold args image = (is_object args ≡ false) × (IsPlainReplay args image → ⊥)
 
 -- the report of the schedule that was read was written, or the command answers why not
 abbrev pub TellsReplay : Reading → Reading → Tape → Tape → Result Ending CommandFault → Type 0
@@ -67,4 +75,4 @@ abbrev pub ReplayEnds : ReplayArgs → Option (List ℕ) → Reading → Reading
 ReplayEnds args image old new before now end =
     (status_ended end ≡ 1 → args.variant ≢ Right) × (IsPlainReplay args image → TellsReplay old new before now end)
     × (IsNew args image → IfOk end (λ ending. SavesLast old new ending.save))
-    × (IsTold args image → TellsRead args.variant (Replayed args.each (is_some args.save)) image old new before now end) × TellsReads old new end
+    × (IsTold args image → TellsRead args.variant (replayed args) image old new before now end) × TellsReads old new end

@@ -13,7 +13,9 @@ use Rattle.diagram.specs.declared.diagram_layout.Style.{Style}
 use Rattle.diagram.specs.Drawings.{diagram_layout_of, spelled}
 use Rattle.diagram.specs.Events.{events_on}
 use Rattle.diagram.specs.Followed.{followed, Follows}
-use Rattle.diagram.specs.Rows.{events_in, EndsAs}
+use Rattle.diagram.specs.Pages.{page_text}
+use Rattle.diagram.specs.Rows.{events_in, EndsAs, IsJudged}
+use Rattle.diagram.specs.StepLines.{FollowsAsLines, step_lines}
 use Rattle.diagram.specs.DiagramLayouts.{layout_of as sizes_of}
 use Rattle.judge.specs.Starts.{state_of}
 use Rattle.judge.specs.Table.{State, empty}
@@ -40,10 +42,11 @@ use Rattle.schedule.specs.Wholes.{Silent, WasRead, layout_of}
 
 -- ---- one run
 
--- a drawing, or a replay: with a line for each step, or the report alone; and whether its last image is to be saved
+-- a drawing, a page, or a replay: with each step, or the report alone; as JSON; and whether its last image is to be saved
 pub data Manner : Type 0 where
   Drawn : Style → Manner
-  Replayed : Bool → Bool → Manner
+  Paged : Manner
+  Replayed : Bool → Bool → Bool → Manner
 
 -- the status of a run that is drawn to its end is that of its verdict; if a line was refused, that is the fault
 abbrev pub ending_of : End → Result Ending CommandFault
@@ -65,11 +68,28 @@ pub record DrawsRun {S : Type 0} (b : Behaviour S) (start : State) (s : S) (firs
   pub ends_as : EndsAs start (run_on b 2 s schedule.lines) last
   pub written : IsWritten before now (spelled (diagram_layout_of style (head_of schedule) rows last) first rows last) last end
 
--- the result of a replay that writes each step, or the report alone
-abbrev pub AnswersRun : {S : Type 0} → Bool → Behaviour S → (S → Image) → State → S → LifelinePhase → Scheduled → Tape → Tape → Result Verdict ReplayFault → Type 0
-AnswersRun true b picture_of start s first schedule before now answer =
+-- a drawing in this style, or a page
+abbrev pub drawn_as : Bool → Style → Manner
+drawn_as true style = Paged
+drawn_as false style = Drawn style
+
+-- the page is that of rows which show exactly the steps and crashes of the schedule's run, and of its first and last image
+pub record PagesRun {S : Type 0} (b : Behaviour S) (picture_of : S → Image) (start : State) (s : S) (first : LifelinePhase) (schedule : Scheduled) (before now : Tape) (end : Result Ending CommandFault) : Type 0 where
+  pub rows : List DiagramRow
+  pub last : End
+  pub after : Image
+  pub shows : events_in rows ≡ events_on b s schedule.lines
+  pub ends_as : EndsAs start (run_on b 2 s schedule.lines) last
+  pub left : IsJudged last → after ≡ picture_of (run_on b 2 s schedule.lines).left
+  pub written : IsWritten before now (page_text (head_of schedule) first (picture_of s) rows after last) last end
+
+-- the result of a replay that writes each step, as JSON or as text, or the report alone
+abbrev pub AnswersRun : {S : Type 0} → Bool → Bool → Behaviour S → (S → Image) → State → S → LifelinePhase → Scheduled → Tape → Tape → Result Verdict ReplayFault → Type 0
+AnswersRun true true b picture_of start s first schedule before now answer =
+    FollowsAsLines before now start picture_of (run_on b 2 s schedule.lines) (step_lines (head_of schedule) first (picture_of s) (events_on b s schedule.lines)) answer
+AnswersRun true false b picture_of start s first schedule before now answer =
     Follows before now start picture_of (run_on b 2 s schedule.lines) (followed (sizes_of (head_of schedule)) (replicate schedule.procs first) (events_on b s schedule.lines)) answer
-AnswersRun false b picture_of start s first schedule before now answer = Replays before now start picture_of (run_on b 2 s schedule.lines) answer
+AnswersRun false json b picture_of start s first schedule before now answer = Replays before now start picture_of (run_on b 2 s schedule.lines) answer
 
 -- out of memory for the image that is to be saved, after a verdict
 abbrev pub WantsImage : Bool → Result Verdict ReplayFault → Result Ending CommandFault → Type 0
@@ -77,9 +97,9 @@ WantsImage saves answer end = (saves ≡ true) × IsOk answer × (end ≡ Err fa
 
 -- the run was written, and the command has that result; or it was out of memory for the image to be saved. The image is
 -- the one after the run
-pub record ReplaysRun {S : Type 0} (each saves : Bool) (b : Behaviour S) (picture_of : S → Image) (start : State) (s : S) (first : LifelinePhase) (schedule : Scheduled) (before now : Tape) (end : Result Ending CommandFault) : Type 0 where
+pub record ReplaysRun {S : Type 0} (each json saves : Bool) (b : Behaviour S) (picture_of : S → Image) (start : State) (s : S) (first : LifelinePhase) (schedule : Scheduled) (before now : Tape) (end : Result Ending CommandFault) : Type 0 where
   pub answer : Result Verdict ReplayFault
-  pub answers : AnswersRun each b picture_of start s first schedule before now answer
+  pub answers : AnswersRun each json b picture_of start s first schedule before now answer
   pub ends_so : (outcome end ≡ outcome_told answer) ⊎ WantsImage saves answer end
   pub last : IfOk end (λ ending. IfSome ending.save (λ text. text.items ≡ image_line (picture_of (run_on b 2 s schedule.lines).left)))
 
@@ -91,7 +111,8 @@ pub record Wants (before now : Tape) (end : Result Ending CommandFault) : Type 0
 -- the run is written in this manner, or there was no memory
 abbrev pub Tells : {S : Type 0} → Manner → Behaviour S → (S → Image) → State → S → LifelinePhase → Scheduled → Tape → Tape → Result Ending CommandFault → Type 0
 Tells (Drawn style) b picture_of start s first schedule before now end = DrawsRun b start s first style schedule before now end ⊎ Wants before now end
-Tells (Replayed each saves) b picture_of start s first schedule before now end = ReplaysRun each saves b picture_of start s first schedule before now end ⊎ Wants before now end
+Tells Paged b picture_of start s first schedule before now end = PagesRun b picture_of start s first schedule before now end ⊎ Wants before now end
+Tells (Replayed each json saves) b picture_of start s first schedule before now end = ReplaysRun each json saves b picture_of start s first schedule before now end ⊎ Wants before now end
 
 -- ---- the machine that is asked for
 

@@ -2,7 +2,7 @@
 
 ghost use Rattle.std.specs.Prelude.{◌≡◌, IfErr, IfOk, OnOk, is_some, option_copied, true, false};
 ghost use Rattle.crashlab.specs.Hunts.{IsFound};
-ghost use Rattle.commands.specs.Commands.{CommandEnds, ExplainEnds, HuntEnds, JudgeEnds, TellsFound};
+ghost use Rattle.commands.specs.Commands.{CommandEnds, ExplainEnds, HuntEnds, JudgeEnds, TellsFound, verdict_told};
 ghost use Rattle.commands.specs.Endings.{IsEnded};
 ghost use Rattle.cli.specs.FilesNamed.{save_of};
 ghost use Rattle.commands.specs.Programs.{CarriesOut};
@@ -23,24 +23,38 @@ use crate::schedules::shrunk::{shrink_command, write_lines};
 use cli::arguments::args::{Command, HuntArgs};
 use cli::{DictionaryEntry, tell_all_names, tell_dictionary_entry};
 use crashlab::{HuntFault, Variant, hunt_in_parallel_watched, shrink_found};
+use diagram::put_verdict_object;
 use schedule::texts::device::write_all;
-use schedule::{Schedule, Sink, Source, judge_trace, put_verdict};
-use std::alloc::Global;
+use schedule::{Schedule, Sink, Source, Verdict, judge_trace, put_verdict};
+use std::alloc::{AllocError, Global};
 use std::sync::Wait;
 use std::thread::Threads;
 
-/// Writes the verdict line of a trace.
+/// The line of a verdict, or its JSON object.
+fn verdict_line(alloc: Global, json: bool, verdict: Verdict) -> Result<Vec<u8>, AllocError>
+    ensures { IfOk result (λ line. line.items ≡ verdict_told json verdict) }
+{
+    let mut line = Vec::new(alloc);
+    if json {
+        put_verdict_object(&mut line, verdict)?;
+    } else {
+        put_verdict(&mut line, verdict)?;
+    }
+    Ok(line)
+}
+
+/// Writes the verdict of a trace, as a line or as a JSON object.
 fn judge_command<R: Source, W: Sink>(
     alloc: Global,
+    json: bool,
     r: &mut R,
     w: &mut W,
 ) -> Result<Ending, CommandFault>
-    ensures ends { JudgeEnds (R.reading r.old) (R.reading r.new) (W.tape w.old) (W.tape w.new) result }
+    ensures ends { JudgeEnds json (R.reading r.old) (R.reading r.new) (W.tape w.old) (W.tape w.new) result }
     ensures ended { IfOk result (IsEnded false (W.tape w.old).failures (W.tape w.new).failures) }
 {
     let verdict = judge_trace(alloc, r)?;
-    let mut line = Vec::new(alloc);
-    put_verdict(&mut line, verdict)?;
+    let line = verdict_line(alloc, json, verdict)?;
     if write_all(w, &line).is_err() {
         return Err(CommandFault::Write);
     }
@@ -163,7 +177,7 @@ pub fn ended<T: Threads + Wait + Sync, S: Screen, R: Source, W: Sink>(
 {
     match command {
         Command::Replay(args) => replay_command(alloc, args, image, r, w),
-        Command::Judge(_) => judge_command(alloc, r, w),
+        Command::Judge(args) => judge_command(alloc, args.json, r, w),
         Command::Draw(args) => draw_command(alloc, args, image, r, w),
         Command::Shrink(args) => shrink_command(alloc, args, r, w),
         Command::Hunt(args) => hunt_command(rt, alloc, args, screen, w),

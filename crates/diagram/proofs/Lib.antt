@@ -8,3 +8,5 @@ pub mod Joined
 pub mod NotEmpty
 pub mod Steps
 pub mod Ended
+pub mod Lines
+pub mod Parts

@@ -13,7 +13,7 @@ told_both l phases (row ∷ rows) more =
     (append_assoc (row_told l (phases_with phases row) row) (rows_told l (phases_with phases row) rows)
     (rows_told l (phases_behind (phases_with phases row) rows) more))
 
-rows_both : (es fs : List Event) → map row_of (es ++ fs) ≡ map row_of es ++ map row_of fs
+pub rows_both : (es fs : List Event) → map row_of (es ++ fs) ≡ map row_of es ++ map row_of fs
 rows_both [] fs = refl
 rows_both (e ∷ es) fs = ap (λ (rows : List DiagramRow). row_of e ∷ rows) (rows_both es fs)
 

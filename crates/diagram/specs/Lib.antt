@@ -7,3 +7,5 @@ pub mod Columns
 pub mod Pictures
 pub mod Drawings
 pub mod Followed
+pub mod StepLines
+pub mod Pages

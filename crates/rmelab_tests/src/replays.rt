@@ -15,7 +15,7 @@ mod replays;
 #[cfg(test)]
 mod reports;
 #[cfg(test)]
-mod stepwise;
+pub mod stepwise;
 #[cfg(test)]
 mod texts;
 #[cfg(test)]

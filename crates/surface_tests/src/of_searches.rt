@@ -1,14 +1,17 @@
 //! The items of `explorer`, `lock_explorer` and `diagram`.
 
 use crashlab::Variant;
-use diagram::{Drawing, LifelinePhase, Style, draw, follow, write_drawing};
+use diagram::{
+    Drawing, LifelinePhase, Style, draw, follow, follow_as_lines, put_verdict_object,
+    write_drawing, write_page,
+};
 use explorer::{MoveVerdict, SearchFault, SearchOutcome, Space, Unwatched, Watch, search};
 use judge::Judge;
 use lock_explorer::{Bounds, ExploreFault, Move, shortest_schedule};
 use redomail::Layout;
-use rmeworld::{Call, Machine};
+use rmeworld::{Call, Image, Machine};
 use schedule::{OutOfMemory, ReplayFault, Schedule, Sink, Verdict};
-use std::alloc::Global;
+use std::alloc::{AllocError, Global};
 
 pub fn searched<S: Space>(
     alloc: Global,
@@ -99,4 +102,29 @@ pub fn followed<M: Machine, W: Sink>(
     w: &mut W,
 ) -> Result<Verdict, ReplayFault> {
     follow(alloc, machine, judge, schedule, first, w)
+}
+
+pub fn followed_as_lines<M: Machine, W: Sink>(
+    alloc: Global,
+    machine: &mut M,
+    judge: &mut Judge,
+    schedule: &Schedule,
+    first: LifelinePhase,
+    w: &mut W,
+) -> Result<Verdict, ReplayFault> {
+    follow_as_lines(alloc, machine, judge, schedule, first, w)
+}
+
+pub fn paged<W: Sink>(
+    alloc: Global,
+    first: &Image,
+    drawing: &Drawing,
+    last: &Image,
+    w: &mut W,
+) -> Result<(), ReplayFault> {
+    write_page(alloc, first, drawing, last, w)
+}
+
+pub fn verdict_written(out: &mut Vec<u8>, verdict: Verdict) -> Result<(), AllocError> {
+    put_verdict_object(out, verdict)
 }

@@ -9,7 +9,7 @@ use diagram::Style;
 /// `replay`: runs a schedule and prints its report.
 #[derive(Debug, Drop, PartialEq, Eq)]
 pub struct ReplayArgs {
-    /// Print one JSON object of the report's lines.
+    /// Print one JSON object of the report's lines; with `each` one object for each step.
     pub json: bool,
     /// Print a line for each step.
     pub each: bool,
@@ -85,9 +85,20 @@ pub struct ExploreArgs {
     pub jobs: u64,
 }
 
+/// `judge`: judges a trace of deeds.
+#[derive(Debug, Drop, PartialEq, Eq)]
+pub struct JudgeArgs {
+    /// Print the verdict as a JSON object.
+    pub json: bool,
+    /// The trace's file; without one, standard input.
+    pub file: Option<String>,
+}
+
 /// `draw`: runs a schedule and draws its run.
 #[derive(Debug, Drop, PartialEq, Eq)]
 pub struct DrawArgs {
+    /// Write a page that shows the run step by step.
+    pub html: bool,
     pub style: Style,
     pub variant: Variant,
     /// The file of the image that the world starts from.
@@ -111,8 +122,7 @@ pub enum Command {
     Run(RunArgs),
     Hunt(HuntArgs),
     Explore(ExploreArgs),
-    /// Prints the verdict of a trace in a file, or on standard input.
-    Judge(Option<String>),
+    Judge(JudgeArgs),
     Draw(DrawArgs),
     Shrink(ShrinkArgs),
     /// Prints what this entry means; without one, the names of all entries.
@@ -128,7 +138,7 @@ impl Command {
     {
         match self {
             Command::Replay(args) => args.file.as_ref(),
-            Command::Judge(file) => file.as_ref(),
+            Command::Judge(args) => args.file.as_ref(),
             Command::Draw(args) => args.file.as_ref(),
             Command::Shrink(args) => args.file.as_ref(),
             _ => None,

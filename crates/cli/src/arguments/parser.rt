@@ -14,7 +14,7 @@ input, 3 a fault of a device, of memory or of a member, or too many states in `e
 const REPLAY_HELP: &str =
     "In: a schedule, as `rme 1 procs 2 limit 10 cap 1`, then lines such as `lock 0`, `step 0 5`, \
 `crash 0`, each ended by a line feed.\nOut: its report: the deeds and answers of each step, the last words, the mailbox and \
-the verdict.\nExit status: 0 where the verdict is fine, 1 where it is against, 2 after a fault of the words, the schedule or the image, 3 \
+the verdict; with --each --json an object for each step, between the images before and after them, and the verdict.\nExit status: 0 where the verdict is fine, 1 where it is against, 2 after a fault of the words, the schedule or the image, 3 \
 after one of a device or of memory.\n\nExample: rmelab replay examples/tie.rme";
 
 const RUN_HELP: &str =
@@ -42,13 +42,14 @@ a device or of memory, or where there are more states than --states.\n\nExample:
 
 const JUDGE_HELP: &str =
     "In: a trace, as `trace 1 procs 2 cap 1`, then deeds such as `begin 0`, `ready 0`, `enter 0`.\nOut: the verdict \
-line.\nExit status: 0 where the verdict is fine, 1 where it is against, 2 after a fault of the words or the trace, 3 after one of a \
+line; with --json an object.\nExit status: 0 where the verdict is fine, 1 where it is against, 2 after a fault of the words or the trace, 3 after one of a \
 device or of memory.\n\nExample: rmelab judge examples/overtaken.trace";
 
 const DRAW_HELP: &str =
     "In: a schedule, as `rme 1 procs 2 limit 10 cap 1`, then lines such as `lock 0`, `step 0 5`, \
 `crash 0`, each ended by a line feed.\nOut: its run, time downward: a column for each process, a row for each step or crash, \
-and what it tells at the right; with --svg a picture of this.\nExit status: 0 where the verdict is fine, 1 where it is against, 2 after \
+and what it tells at the right; with --svg a picture of this, and \
+with --html a page for a browser with the picture and each step.\nExit status: 0 where the verdict is fine, 1 where it is against, 2 after \
 a fault of the words, the schedule or the image, 3 after one of a device or of memory.\n\nExample: rmelab draw examples/tie.rme";
 
 const SHRINK_HELP: &str =
@@ -88,7 +89,10 @@ fn replay<'a>(alloc: Global) -> Result<Parser<'a>, AllocError>
 {
     let about = "Runs a schedule of steps and crashes, and prints its report";
     let arguments = [
-        Argument::flag("json", "Print one JSON object of the report's lines"),
+        Argument::flag(
+            "json",
+            "Print one JSON object of the report's lines; with --each an object for each step",
+        ),
         Argument::flag(
             "each",
             "Tell each step, with its word and where its process stands",
@@ -164,7 +168,10 @@ fn judge<'a>(alloc: Global) -> Result<Parser<'a>, AllocError>
     ensures { IfOk result (IsParser (alone judge)) }
 {
     let about = "Judges a trace of deeds, and prints the verdict";
-    let arguments = [Argument::file("The trace; without it, standard input is read")];
+    let arguments = [
+        Argument::flag("json", "Print the verdict as a JSON object"),
+        Argument::file("The trace; without it, standard input is read"),
+    ];
     command(alloc, "judge", about, JUDGE_HELP, &arguments)
 }
 
@@ -176,6 +183,7 @@ fn draw<'a>(alloc: Global) -> Result<Parser<'a>, AllocError>
         Argument::variant(),
         Argument::image(),
         Argument::flag("svg", "Write a picture, as SVG"),
+        Argument::flag("html", "Write a page that shows the run step by step"),
         Argument::file("The schedule; without it, standard input is read"),
     ];
     command(alloc, "draw", about, DRAW_HELP, &arguments)

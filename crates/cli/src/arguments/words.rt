@@ -12,7 +12,7 @@ ghost use Rattle.cli.specs.ReadWords.{HasBadVariant, HasBadSize, IsCommand, Read
 ghost use Rattle.cli.specs.Sizes.{IsSized, HuntFits, RunFits};
 
 use crate::arguments::args::{
-    Alphabet, Command, DrawArgs, ExploreArgs, HuntArgs, ReplayArgs, RunArgs, ShrinkArgs,
+    Alphabet, Command, DrawArgs, ExploreArgs, HuntArgs, JudgeArgs, ReplayArgs, RunArgs, ShrinkArgs,
 };
 use crate::arguments::parser::parser;
 use crate::explain::dictionary_entry::{DictionaryEntry, dictionary_entry_named};
@@ -174,6 +174,7 @@ fn draw_words(alloc: Global, matches: &ArgMatches<'_>) -> Result<Command, WordsF
     ensures { Reads (codes "draw") (given_in matches.now) result }
 {
     Ok(Command::Draw(DrawArgs {
+        html: is_set(matches, "html"),
         style: style_of(matches),
         variant: variant_beside_image(matches)?,
         image: text_of(alloc, matches, "image")?,
@@ -339,7 +340,10 @@ fn run_words(matches: &ArgMatches<'_>) -> Result<Command, WordsFault>
 fn judge_words(alloc: Global, matches: &ArgMatches<'_>) -> Result<Command, WordsFault>
     ensures { Reads (codes "judge") (given_in matches.now) result }
 {
-    Ok(Command::Judge(text_of(alloc, matches, "FILE")?))
+    Ok(Command::Judge(JudgeArgs {
+        json: is_set(matches, "json"),
+        file: text_of(alloc, matches, "FILE")?,
+    }))
 }
 
 /// The error text for words that name no entry.

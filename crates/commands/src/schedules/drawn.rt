@@ -1,7 +1,8 @@
 //! The command `draw`.
 
-ghost use Rattle.std.specs.Prelude.{◌≡◌, IfOk, IfSome, option_copied, false};
+ghost use Rattle.std.specs.Prelude.{◌≡◌, IfErr, IfOk, IfSome, option_copied, false};
 ghost use Rattle.diagram.specs.Drawings.{diagram_layout_of, spelled};
+ghost use Rattle.diagram.specs.Pages.{page_text};
 ghost use Rattle.judge.specs.Stands.{Keeps};
 ghost use Rattle.judge.specs.Starts.{IsStart, state_of};
 ghost use Rattle.judge.specs.Table.{State};
@@ -10,9 +11,9 @@ ghost use Rattle.rmeworld.specs.ImageStart.{IsStartOf};
 ghost use Rattle.rmeworld.specs.Replayed.{image_of, world_behaviour};
 ghost use Rattle.rmeworld.specs.WorldState.{image_world as world_of_image};
 ghost use Rattle.commands.specs.Endings.{IsEnded, TellsReads};
-ghost use Rattle.commands.specs.Draws.{DrawEnds};
+ghost use Rattle.commands.specs.Draws.{DrawEnds, drawn};
 ghost use Rattle.commands.specs.Statuses.{status_after};
-ghost use Rattle.commands.specs.Tellings.{Drawn, ending_of as ending_for, IsWritten, Tells, TellsImage, TellsNew, TellsSchedule, TellsVariant};
+ghost use Rattle.commands.specs.Tellings.{ending_of as ending_for, IsWritten, Paged, Tells, TellsImage, TellsNew, TellsSchedule, TellsVariant};
 ghost use Rattle.schedule.specs.Runs.{deeds_of, run_on};
 ghost use Rattle.schedule.specs.Verdicts.{verdict_on};
 
@@ -24,7 +25,7 @@ use crate::schedules::setting::{
 };
 use cli::arguments::args::DrawArgs;
 use crashlab::Variant;
-use diagram::{Drawing, End, LifelinePhase, Style, draw, write_drawing};
+use diagram::{Drawing, End, LifelinePhase, Style, draw, write_drawing, write_page};
 use judge::{Judge, Start};
 use rmeworld::{Image, Machine};
 use schedule::replays::laws::worlds_are_never_found_out;
@@ -60,6 +61,55 @@ fn write_drawn<W: Sink>(
     ending_of(drawing.end)
 }
 
+/// The words of a machine. It only fails out of memory.
+fn image_now<M: Machine>(machine: &M) -> Result<Image, CommandFault>
+    ensures image { IfOk result (λ image. image ≡ M.behaviour.image_of machine.now) }
+    ensures memory { IfErr result (λ fault. fault ≡ CommandFault.OutOfMemory) }
+{
+    match machine.image() {
+        Ok(image) => Ok(image),
+        Err(_) => Err(CommandFault::OutOfMemory),
+    }
+}
+
+/// Writes a page. The result is how the command ends.
+fn write_paged<W: Sink>(
+    alloc: Global,
+    before: &Image,
+    drawing: &Drawing,
+    after: &Image,
+    w: &mut W,
+) -> Result<Ending, CommandFault>
+    ensures written { IsWritten (W.tape w.old) (W.tape w.new) (page_text drawing.now.head drawing.now.first before.now
+        drawing.now.rows.items after.now drawing.now.end) drawing.now.end result }
+    ensures ended { IfOk result (IsEnded false (W.tape w.old).failures (W.tape w.new).failures) }
+{
+    write_page(alloc, before, drawing, after, w)?;
+    ending_of(drawing.end)
+}
+
+/// Plays the schedule on a machine, and writes the page of its run.
+fn page_machine<M: Machine, W: Sink>(
+    alloc: Global,
+    machine: &mut M,
+    judge: &mut Judge,
+    schedule: &Schedule,
+    first: LifelinePhase,
+    w: &mut W,
+) -> Result<Ending, CommandFault>
+    ensures draws { (start : State) → Keeps judge.old start
+        → Tells Paged M.behaviour M.behaviour.image_of start machine.old first schedule.now (W.tape w.old) (W.tape w.new) result }
+    ensures status { (start : State) → Keeps judge.old start
+        → IfOk result (λ ending. ending.status ≡ status_after
+        (verdict_on start (deeds_of (run_on M.behaviour 2 machine.old schedule.now.lines).told))) }
+    ensures ended { IfOk result (IsEnded false (W.tape w.old).failures (W.tape w.new).failures) }
+{
+    let before = image_now(machine)?;
+    let drawing = draw(alloc, machine, judge, schedule, first)?;
+    let after = image_now(machine)?;
+    write_paged(alloc, &before, &drawing, &after, w)
+}
+
 /// Plays the schedule on a machine, and draws its run.
 fn draw_machine<M: Machine, W: Sink>(
     alloc: Global,
@@ -67,29 +117,32 @@ fn draw_machine<M: Machine, W: Sink>(
     judge: &mut Judge,
     schedule: &Schedule,
     first: LifelinePhase,
-    style: Style,
+    args: &DrawArgs,
     w: &mut W,
 ) -> Result<Ending, CommandFault>
     ensures draws { (start : State) → Keeps judge.old start
-        → Tells (Drawn style) M.behaviour M.behaviour.image_of start machine.old first schedule.now (W.tape w.old)
+        → Tells (drawn args.now) M.behaviour M.behaviour.image_of start machine.old first schedule.now (W.tape w.old)
         (W.tape w.new) result }
     ensures status { (start : State) → Keeps judge.old start
         → IfOk result (λ ending. ending.status ≡ status_after
         (verdict_on start (deeds_of (run_on M.behaviour 2 machine.old schedule.now.lines).told))) }
     ensures ended { IfOk result (IsEnded false (W.tape w.old).failures (W.tape w.new).failures) }
 {
+    if args.html {
+        return page_machine(alloc, machine, judge, schedule, first, w);
+    }
     let drawing = draw(alloc, machine, judge, schedule, first)?;
-    write_drawn(alloc, &drawing, style, w)
+    write_drawn(alloc, &drawing, args.style, w)
 }
 
 /// The run of the schedule on a new world of the right lock.
 fn draw_new<W: Sink>(
     alloc: Global,
     schedule: &Schedule,
-    style: Style,
+    args: &DrawArgs,
     w: &mut W,
 ) -> Result<Ending, CommandFault>
-    ensures draws { TellsNew (Drawn style) schedule.now (W.tape w.old) (W.tape w.new) result }
+    ensures draws { TellsNew (drawn args.now) schedule.now (W.tape w.old) (W.tape w.new) result }
     ensures fine { IfOk result (λ ending. ending.status ≡ 0) }
     ensures ended { IfOk result (IsEnded false (W.tape w.old).failures (W.tape w.new).failures) }
 {
@@ -102,7 +155,7 @@ fn draw_new<W: Sink>(
         &mut judge,
         schedule,
         LifelinePhase::Rest,
-        style,
+        args,
         w,
     )
 }
@@ -112,10 +165,10 @@ fn draw_variant<W: Sink>(
     alloc: Global,
     variant: Variant,
     schedule: &Schedule,
-    style: Style,
+    args: &DrawArgs,
     w: &mut W,
 ) -> Result<Ending, CommandFault>
-    ensures draws { TellsVariant variant (Drawn style) schedule.now (W.tape w.old) (W.tape w.new) result }
+    ensures draws { TellsVariant variant (drawn args.now) schedule.now (W.tape w.old) (W.tape w.new) result }
     ensures ended { IfOk result (IsEnded false (W.tape w.old).failures (W.tape w.new).failures) }
 {
     let mut world = variant_world(alloc, variant, schedule)?;
@@ -126,7 +179,7 @@ fn draw_variant<W: Sink>(
         &mut judge,
         schedule,
         LifelinePhase::Rest,
-        style,
+        args,
         w,
     )
 }
@@ -137,13 +190,13 @@ fn draw_started<W: Sink>(
     image: &Image,
     start: &Start,
     schedule: &Schedule,
-    style: Style,
+    args: &DrawArgs,
     w: &mut W,
 ) -> Result<Ending, CommandFault>
     requires lawful { IsLawfulImage image.now }
     requires begins { IsStartOf image.now start.now }
     requires judged { IsStart start.now }
-    ensures draws { Tells (Drawn style) world_behaviour image_of (state_of start.now) (world_of_image image.now)
+    ensures draws { Tells (drawn args.now) world_behaviour image_of (state_of start.now) (world_of_image image.now)
         LifelinePhase.Dead schedule.now (W.tape w.old) (W.tape w.new) result }
     ensures fine { IfOk result (λ ending. ending.status ≡ 0) }
     ensures ended { IfOk result (IsEnded false (W.tape w.old).failures (W.tape w.new).failures) }
@@ -157,7 +210,7 @@ fn draw_started<W: Sink>(
         &mut judge,
         schedule,
         LifelinePhase::Dead,
-        style,
+        args,
         w,
     )
 }
@@ -167,17 +220,17 @@ fn draw_image<W: Sink>(
     alloc: Global,
     image: Image,
     schedule: &Schedule,
-    style: Style,
+    args: &DrawArgs,
     w: &mut W,
 ) -> Result<Ending, CommandFault>
     requires { IsLawfulImage image }
-    ensures draws { TellsImage image (Drawn style) schedule.now (W.tape w.old) (W.tape w.new) result }
+    ensures draws { TellsImage image (drawn args.now) schedule.now (W.tape w.old) (W.tape w.new) result }
     ensures fine { IfOk result (λ ending. ending.status ≡ 0) }
     ensures ended { IfOk result (IsEnded false (W.tape w.old).failures (W.tape w.new).failures) }
 {
     let image = fitting(alloc, image, schedule)?;
     let start = start_at(alloc, &image)?;
-    draw_started(alloc, &image, &start, schedule, style, w)
+    draw_started(alloc, &image, &start, schedule, args, w)
 }
 
 /// The run of the schedule on the machine that is asked for.
@@ -189,14 +242,14 @@ fn draw_schedule<W: Sink>(
     w: &mut W,
 ) -> Result<Ending, CommandFault>
     requires { IfSome image IsLawfulImage }
-    ensures draws { TellsSchedule args.now.variant image (Drawn args.now.style) schedule.now (W.tape w.old) (W.tape w.new) result }
+    ensures draws { TellsSchedule args.now.variant image (drawn args.now) schedule.now (W.tape w.old) (W.tape w.new) result }
     ensures fine { args.now.variant ≡ Variant.Right → IfOk result (λ ending. ending.status ≡ 0) }
     ensures ended { IfOk result (IsEnded false (W.tape w.old).failures (W.tape w.new).failures) }
 {
     match (image, args.variant) {
-        (Some(image), _) => draw_image(alloc, image, schedule, args.style, w),
-        (None, Variant::Right) => draw_new(alloc, schedule, args.style, w),
-        (None, variant) => draw_variant(alloc, variant, schedule, args.style, w),
+        (Some(image), _) => draw_image(alloc, image, schedule, args, w),
+        (None, Variant::Right) => draw_new(alloc, schedule, args, w),
+        (None, variant) => draw_variant(alloc, variant, schedule, args, w),
     }
 }
 

@@ -11,9 +11,9 @@ ghost use Rattle.rmeworld.specs.Replayed.{image_of, world_behaviour};
 ghost use Rattle.rmeworld.specs.WorldState.{image_world as world_of_image};
 ghost use Rattle.schedule.specs.Runs.{run_on};
 ghost use Rattle.commands.specs.Endings.{IsEnded, TellsReads};
-ghost use Rattle.commands.specs.Replays.{IsLast, IsPlayed, IsReplayed, ReplayEnds, TellsReplay};
+ghost use Rattle.commands.specs.Replays.{is_object, IsLast, IsPlayed, IsReplayed, ReplayEnds, replayed, TellsReplay};
 ghost use Rattle.commands.specs.Statuses.{answer_told, fault_on_page};
-ghost use Rattle.commands.specs.Tellings.{AnswersRun, Replayed, Tells, TellsImage, TellsNew, TellsSchedule, TellsVariant};
+ghost use Rattle.commands.specs.Tellings.{AnswersRun, Tells, TellsImage, TellsNew, TellsSchedule, TellsVariant};
 
 use crate::schedules::ending::{Ending, status_after_verdict};
 use crate::schedules::fault::CommandFault;
@@ -24,7 +24,7 @@ use crate::schedules::setting::{
 };
 use cli::arguments::args::ReplayArgs;
 use crashlab::Variant;
-use diagram::{LifelinePhase, follow};
+use diagram::{LifelinePhase, follow, follow_as_lines};
 use judge::{Judge, Start};
 use rmeworld::{Image, Machine, write_image};
 use schedule::replays::laws::worlds_are_never_found_out;
@@ -42,7 +42,7 @@ fn on_page(fault: ReplayFault) -> CommandFault
     }
 }
 
-/// Plays the schedule, and writes its report, or a line for each step.
+/// Plays the schedule, and writes its report, or each step, as text or as JSON.
 fn report<M: Machine, W: Sink>(
     alloc: Global,
     machine: &mut M,
@@ -50,29 +50,31 @@ fn report<M: Machine, W: Sink>(
     schedule: &Schedule,
     first: LifelinePhase,
     each: bool,
+    json: bool,
     w: &mut W,
 ) -> Result<Verdict, ReplayFault>
     ensures played { (start : State) → Keeps judge.old start
         → IfOk result (IsPlayed start (run_on M.behaviour 2 machine.old schedule.now.lines) machine.new
         (W.tape w.old).failures (W.tape w.new).failures) }
     ensures told { (start : State) → Keeps judge.old start
-        → AnswersRun each M.behaviour M.behaviour.image_of start machine.old first schedule.now (W.tape w.old) (W.tape w.new)
+        → AnswersRun each json M.behaviour M.behaviour.image_of start machine.old first schedule.now (W.tape w.old) (W.tape w.new)
         result }
 {
-    if each {
-        return follow(alloc, machine, judge, schedule, first, w);
+    if !each {
+        return replay_on(alloc, machine, judge, schedule, w);
     }
-    replay_on(alloc, machine, judge, schedule, w)
+    if json {
+        return follow_as_lines(alloc, machine, judge, schedule, first, w);
+    }
+    follow(alloc, machine, judge, schedule, first, w)
 }
 
-/// Plays the schedule to a page in memory, and writes the page's lines as one JSON object.
+/// Plays the schedule to a page in memory, and writes the lines of the report as one JSON object.
 fn play_object<M: Machine, W: Sink>(
     alloc: Global,
     machine: &mut M,
     judge: &mut Judge,
     schedule: &Schedule,
-    first: LifelinePhase,
-    each: bool,
     w: &mut W,
 ) -> Result<Verdict, CommandFault>
     ensures { (start : State) → Keeps judge.old start
@@ -80,12 +82,19 @@ fn play_object<M: Machine, W: Sink>(
         (W.tape w.old).failures (W.tape w.new).failures) }
 {
     let mut page = Page::new(alloc);
-    let verdict = report(alloc, machine, judge, schedule, first, each, &mut page).map_err(on_page)?;
+    let verdict = replay_on(alloc, machine, judge, schedule, &mut page).map_err(on_page)?;
     let object = json_report(alloc, page.as_slice())?;
     match write_all(w, &object) {
         Ok(()) => Ok(verdict),
         Err(_) => Err(CommandFault::Write),
     }
+}
+
+/// Whether the report is asked for as one JSON object.
+fn is_object(args: &ReplayArgs) -> bool
+    ensures { result ≡ is_object args.now }
+{
+    args.json && !args.each
 }
 
 /// Plays the schedule, and writes to `w`, as text or as JSON.
@@ -101,15 +110,16 @@ fn play<M: Machine, W: Sink>(
     ensures played { (start : State) → Keeps judge.old start
         → IfOk result (IsPlayed start (run_on M.behaviour 2 machine.old schedule.now.lines) machine.new
         (W.tape w.old).failures (W.tape w.new).failures) }
-    ensures told { args.now.json ≡ false → (start : State) → Keeps judge.old start
+    ensures told { is_object args.now ≡ false → (start : State) → Keeps judge.old start
         → (answer : Result Verdict ReplayFault)
-        × AnswersRun args.now.each M.behaviour M.behaviour.image_of start machine.old first schedule.now (W.tape w.old)
+        × AnswersRun args.now.each args.now.json M.behaviour M.behaviour.image_of start machine.old first schedule.now (W.tape w.old)
         (W.tape w.new) answer × (result ≡ answer_told answer) }
 {
-    if args.json {
-        return play_object(alloc, machine, judge, schedule, first, args.each, w);
+    if is_object(args) {
+        return play_object(alloc, machine, judge, schedule, w);
     }
-    match report(alloc, machine, judge, schedule, first, args.each, w) {
+    let each = args.each;
+    match report(alloc, machine, judge, schedule, first, each, args.json, w) {
         Ok(verdict) => Ok(verdict),
         Err(fault) => Err(CommandFault::from(fault)),
     }
@@ -150,8 +160,8 @@ fn replay_machine<M: Machine, W: Sink>(
     ensures replayed { (start : State) → Keeps judge.old start
         → IfOk result (IsReplayed start (run_on M.behaviour 2 machine.old schedule.now.lines) M.behaviour.image_of
         (is_some args.now.save) (W.tape w.old).failures (W.tape w.new).failures) }
-    ensures told { args.now.json ≡ false → (start : State) → Keeps judge.old start
-        → Tells (Replayed args.now.each (is_some args.now.save)) M.behaviour M.behaviour.image_of start machine.old first schedule.now
+    ensures told { is_object args.now ≡ false → (start : State) → Keeps judge.old start
+        → Tells (replayed args.now) M.behaviour M.behaviour.image_of start machine.old first schedule.now
         (W.tape w.old) (W.tape w.new) result }
 {
     let verdict = play(alloc, machine, judge, schedule, first, args, w)?;
@@ -171,7 +181,7 @@ fn replay_new<W: Sink>(
 ) -> Result<Ending, CommandFault>
     ensures fine { IfOk result (λ ending. ending.status ≡ 0) }
     ensures last { IfOk result (λ ending. IfSome ending.save (λ image. IsLast schedule.now image.items)) }
-    ensures told { args.now.json ≡ false → TellsNew (Replayed args.now.each (is_some args.now.save)) schedule.now
+    ensures told { is_object args.now ≡ false → TellsNew (replayed args.now) schedule.now
         (W.tape w.old) (W.tape w.new) result }
     ensures ended { IfOk result (IsEnded (is_some args.now.save) (W.tape w.old).failures (W.tape w.new).failures) }
 {
@@ -199,7 +209,7 @@ fn replay_image<W: Sink>(
 ) -> Result<Ending, CommandFault>
     requires { IsLawfulImage image }
     ensures fine { IfOk result (λ ending. ending.status ≡ 0) }
-    ensures told { args.now.json ≡ false → TellsImage image (Replayed args.now.each (is_some args.now.save)) schedule.now
+    ensures told { is_object args.now ≡ false → TellsImage image (replayed args.now) schedule.now
         (W.tape w.old) (W.tape w.new) result }
     ensures ended { IfOk result (IsEnded (is_some args.now.save) (W.tape w.old).failures (W.tape w.new).failures) }
 {
@@ -221,7 +231,7 @@ fn replay_started<W: Sink>(
     requires begins { IsStartOf image.now start.now }
     requires judged { IsStart start.now }
     ensures fine { IfOk result (λ ending. ending.status ≡ 0) }
-    ensures told { args.now.json ≡ false → Tells (Replayed args.now.each (is_some args.now.save)) world_behaviour image_of
+    ensures told { is_object args.now ≡ false → Tells (replayed args.now) world_behaviour image_of
         (state_of start.now) (world_of_image image.now) LifelinePhase.Dead schedule.now (W.tape w.old) (W.tape w.new) result }
     ensures ended { IfOk result (IsEnded (is_some args.now.save) (W.tape w.old).failures (W.tape w.new).failures) }
 {
@@ -246,7 +256,7 @@ fn replay_variant<W: Sink>(
     args: &ReplayArgs,
     w: &mut W,
 ) -> Result<Ending, CommandFault>
-    ensures told { args.now.json ≡ false → TellsVariant args.now.variant (Replayed args.now.each (is_some args.now.save)) schedule.now
+    ensures told { is_object args.now ≡ false → TellsVariant args.now.variant (replayed args.now) schedule.now
         (W.tape w.old) (W.tape w.new) result }
     ensures ended { IfOk result (IsEnded (is_some args.now.save) (W.tape w.old).failures (W.tape w.new).failures) }
 {
@@ -275,8 +285,8 @@ fn replay_schedule<W: Sink>(
     ensures fine { args.now.variant ≡ Variant.Right → IfOk result (λ ending. ending.status ≡ 0) }
     ensures last { args.now.variant ≡ Variant.Right → is_some image ≡ false
         → IfOk result (λ ending. IfSome ending.save (λ image. IsLast schedule.now image.items)) }
-    ensures told { args.now.json ≡ false → TellsSchedule args.now.variant image
-        (Replayed args.now.each (is_some args.now.save)) schedule.now (W.tape w.old) (W.tape w.new) result }
+    ensures told { is_object args.now ≡ false → TellsSchedule args.now.variant image
+        (replayed args.now) schedule.now (W.tape w.old) (W.tape w.new) result }
     ensures ended { IfOk result (IsEnded (is_some args.now.save) (W.tape w.old).failures (W.tape w.new).failures) }
 {
     match (image, args.variant) {

@@ -34,7 +34,7 @@ Arguments:
   [FILE]  The schedule; without it, standard input is read
 
 Options:
-      --json          Print one JSON object of the report's lines
+      --json          Print one JSON object of the report's lines; with --each an object for each step
       --each          Tell each step, with its word and where its process stands
       --variant <V>   right, no-look, no-ties, renumber, exit-on-crash, count-up or last-skipped
       --image <FILE>  Begin with the words of this image, every process crashed
@@ -42,7 +42,7 @@ Options:
   -h, --help          Print help
 
 In: a schedule, as `rme 1 procs 2 limit 10 cap 1`, then lines such as `lock 0`, `step 0 5`, `crash 0`, each ended by a line feed.
-Out: its report: the deeds and answers of each step, the last words, the mailbox and the verdict.
+Out: its report: the deeds and answers of each step, the last words, the mailbox and the verdict; with --each --json an object for each step, between the images before and after them, and the verdict.
 Exit status: 0 where the verdict is fine, 1 where it is against, 2 after a fault of the words, the schedule or the image, 3 after one of a device or of memory.
 
 Example: rmelab replay examples/tie.rme
@@ -114,16 +114,17 @@ Example: rmelab explore --variant no-look --procs 2
 
 const JUDGE: &str = "Judges a trace of deeds, and prints the verdict
 
-Usage: rmelab judge [FILE]
+Usage: rmelab judge [OPTIONS] [FILE]
 
 Arguments:
   [FILE]  The trace; without it, standard input is read
 
 Options:
+      --json  Print the verdict as a JSON object
   -h, --help  Print help
 
 In: a trace, as `trace 1 procs 2 cap 1`, then deeds such as `begin 0`, `ready 0`, `enter 0`.
-Out: the verdict line.
+Out: the verdict line; with --json an object.
 Exit status: 0 where the verdict is fine, 1 where it is against, 2 after a fault of the words or the trace, 3 after one of a device or of memory.
 
 Example: rmelab judge examples/overtaken.trace
@@ -140,10 +141,11 @@ Options:
       --variant <V>   right, no-look, no-ties, renumber, exit-on-crash, count-up or last-skipped
       --image <FILE>  Begin with the words of this image, every process crashed
       --svg           Write a picture, as SVG
+      --html          Write a page that shows the run step by step
   -h, --help          Print help
 
 In: a schedule, as `rme 1 procs 2 limit 10 cap 1`, then lines such as `lock 0`, `step 0 5`, `crash 0`, each ended by a line feed.
-Out: its run, time downward: a column for each process, a row for each step or crash, and what it tells at the right; with --svg a picture of this.
+Out: its run, time downward: a column for each process, a row for each step or crash, and what it tells at the right; with --svg a picture of this, and with --html a page for a browser with the picture and each step.
 Exit status: 0 where the verdict is fine, 1 where it is against, 2 after a fault of the words, the schedule or the image, 3 after one of a device or of memory.
 
 Example: rmelab draw examples/tie.rme

@@ -1,8 +1,10 @@
 //! Schedules that are drawn: as text and as SVG, under a variant, from an image, and up to a line that is refused.
 
+use crate::replays::stepwise::LINES;
 use crate::support::fake::Failing;
 use crate::support::invocation::all_come_to;
 use crate::support::row::invoked;
+use diagram::page_text::{PAGE_HEAD, PAGE_SCRIPT, PAGE_STEP};
 use std::test::Fail;
 
 /// One process that locks and enters.
@@ -45,6 +47,22 @@ const AGAIN_DRAWN: &str =
 const OTHER: &str = "a text that no command reads\n";
 
 const OTHER_SIZES: &str = "rmelab: line 1: refused 9\n";
+
+/// A page is the drawing and the lines of a run between fixed parts.
+#[test]
+fn pages(rt: HostRuntime) -> Result<(), Fail> {
+    let alloc = rt.alloc();
+    let page = format!(in alloc; "{PAGE_HEAD}{PICTURE}{PAGE_STEP}{LINES}{PAGE_SCRIPT}")?;
+    let rows = [
+        invoked("rmelab draw --html", SMALLEST, &page),
+        invoked("rmelab draw --svg --html", SMALLEST, &page),
+        invoked("rmelab draw --html", SMALLEST, "")
+            .where_fails(Failing::Write)
+            .ends(3, "rmelab: write failed\n"),
+        invoked("rmelab draw --html", "", "").ends(2, "rmelab: line 1: fault 1\n"),
+    ];
+    all_come_to(&rt, alloc, &rows)
+}
 
 #[test]
 fn drawings(rt: HostRuntime) -> Result<(), Fail> {

@@ -1,7 +1,7 @@
 //! Each request for memory of replays and of a trace is refused in turn.
 
 use crate::replays::reports::{IN_ORDER, OBJECT, REPORT, SMALLEST};
-use crate::replays::stepwise::TOLD;
+use crate::replays::stepwise::{LINES, TOLD};
 use crate::support::row::invoked;
 use crate::support::wanting::all_want_memory;
 use std::test::Fail;
@@ -12,6 +12,7 @@ fn want_of_memory(rt: HostRuntime) -> Result<(), Fail> {
         invoked("rmelab replay", SMALLEST, REPORT),
         invoked("rmelab replay --json --save a.json", SMALLEST, OBJECT),
         invoked("rmelab replay --each", SMALLEST, TOLD),
+        invoked("rmelab replay --each --json", SMALLEST, LINES),
         invoked("rmelab judge", IN_ORDER, "verdict fine\n"),
     ];
     all_want_memory(&rt, rt.alloc(), &rows)

@@ -3,7 +3,7 @@
 
 use crate::support::invocation::{all_come_to, words_of};
 use crate::support::row::invoked;
-use cli::arguments::args::Command;
+use cli::arguments::args::{Command, JudgeArgs};
 use cli::arguments::words::read_words;
 use commands::command::command;
 use schedule::{Page, Text};
@@ -66,6 +66,8 @@ pub const IN_ORDER: &str = "trace 1 procs 2 cap 1\nbegin 0\nready 0\nbegin 1\nre
 
 pub const AGAINST: &str = "verdict against 4 at 5 by 1 of 0\n";
 
+const AGAINST_OBJECT: &str = "{\"verdict\":\"against\",\"fault\":4,\"deed\":5,\"by\":1,\"of\":0}\n";
+
 const OTHER: &str = "a text that no command reads\n";
 
 #[test]
@@ -84,6 +86,11 @@ fn reports_and_verdicts(rt: HostRuntime) -> Result<(), Fail> {
         )
         .ends(1, ""),
         invoked("rmelab judge", OVERTAKEN, AGAINST).ends(1, ""),
+        invoked("rmelab judge --json", OVERTAKEN, AGAINST_OBJECT).ends(1, ""),
+        invoked("rmelab judge --json", IN_ORDER, "{\"verdict\":\"fine\"}\n"),
+        invoked("rmelab judge --json t.trace", OTHER, "")
+            .beside(("t.trace", TWO_NUMBERS))
+            .ends(2, "rmelab: line 2: fault 6\n"),
         invoked("rmelab judge t.trace", IN_ORDER, AGAINST)
             .beside(("t.trace", OVERTAKEN))
             .ends(1, ""),
@@ -194,7 +201,10 @@ fn a_command_alone(rt: HostRuntime) -> Result<(), Fail> {
         let mut source = Text::new(trace.as_bytes(), 64);
         let mut out = Page::new(alloc);
         let mut err = Page::new(alloc);
-        let judging = Command::Judge(None);
+        let judging = Command::Judge(JudgeArgs {
+            json: false,
+            file: None,
+        });
         let ending = command(&rt, alloc, &judging, None, &mut source, &mut out, &mut err);
         assert_eq!(rt; str::from_utf8(out.as_slice()), Ok(printed));
         assert_eq!(rt; str::from_utf8(err.as_slice()), Ok(told));

@@ -1,6 +1,6 @@
-use Rattle.std.proofs.Common.{rules, is_some, option_copied, arith}
+use Rattle.std.proofs.Common.{rules, option_copied, arith}
 use Rattle.std.proofs.lemmas.Result.{err_from_is_err_and}
-use Rattle.commands.specs.Tellings.{Replayed}
+use Rattle.commands.specs.Replays.{replayed}
 use Rattle.commands.proofs.Draws.{untold}
 use Rattle.commands.proofs.schedules.replaying.replay_command.Goals as goal
 
@@ -12,7 +12,7 @@ returns-in_err-schedule-clause-ends g c =
       search rules,
       λ new. tt,
       λ told.
-          untold c.args.args.now.variant (Replayed c.args.args.now.each (is_some c.args.args.now.save)) (option_copied c.args.image)
+          untold c.args.args.now.variant (replayed c.args.args.now) (option_copied c.args.image)
           (g.R.Source.reading c.args.r.now)
           (g.R.Source.reading c.schedule_read.new.r)
           (g.W.Sink.tape c.args.w.now) _ c.in_err-schedule.ensures.wrong,

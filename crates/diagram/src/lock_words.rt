@@ -1,0 +1,151 @@
+//! The lock words after the rows so far.
+
+ghost use Rattle.std.specs.Prelude.{◌≡◌, IfOk, slice_set};
+ghost use Rattle.std.proofs.Math.ListN.{replicate};
+ghost use Rattle.diagram.specs.StepLines.{lock_after, lock_with, own_at, played_with, stored};
+
+use crate::act::{Act, DiagramRow};
+use crate::lifeline_state::LifelineState;
+use crate::phase::LifelinePhase;
+use crate::signs::stores;
+use rmecore::{Happened, Own, Word};
+use std::alloc::{AllocError, Global};
+use std::marker::Model;
+
+/// The lock words of process j; past the list all 0.
+fn own_at(lock: &[Own], j: u64) -> Own
+    ensures { result ≡ own_at lock.now j }
+{
+    let none = Own {
+        choosing: 0,
+        number: 0,
+        inside: 0,
+    };
+    lock.get(j as usize).copied().unwrap_or(none)
+}
+
+/// Sets the lock words of process j, if there is one.
+fn set_own(lock: &mut Vec<Own>, j: u64, own: Own)
+    ensures { lock.new.items ≡ slice_set lock.old.items j own }
+{
+    if let Some(place) = lock.get_mut(j as usize) {
+        *place = own;
+    }
+}
+
+/// Stores a word, if it is a lock word.
+fn store(lock: &mut Vec<Own>, word: Word, value: u64)
+    ensures { lock.new.items ≡ stored lock.old.items word value }
+{
+    match word {
+        Word::Choosing(j) => {
+            let own = own_at(lock, j);
+            set_own(
+                lock,
+                j,
+                Own {
+                    choosing: value,
+                    ..own
+                },
+            );
+        }
+        Word::Number(j) => {
+            let own = own_at(lock, j);
+            set_own(
+                lock,
+                j,
+                Own {
+                    number: value,
+                    ..own
+                },
+            );
+        }
+        Word::Inside(j) => {
+            let own = own_at(lock, j);
+            set_own(
+                lock,
+                j,
+                Own {
+                    inside: value,
+                    ..own
+                },
+            );
+        }
+        Word::Data(_) => {}
+    }
+}
+
+/// Makes the store of a step, if it is one.
+fn take_access(lock: &mut Vec<Own>, happened: &Happened)
+    ensures { lock.new.items ≡ lock_after lock.old.items happened.now }
+{
+    if stores(happened.kind) {
+        store(lock, happened.word, happened.value);
+    }
+}
+
+/// Makes the store of a row, if it has one.
+fn take_act(lock: &mut Vec<Own>, act: &Act)
+    ensures { lock.new.items ≡ lock_with lock.old.items act.now }
+{
+    match act {
+        Act::Silent(happened, _) => take_access(lock, happened),
+        Act::Telling(stepped) => take_access(lock, &stepped.happened),
+        Act::Fell(_) => {}
+    }
+}
+
+/// The state of the lifelines and the lock words after the rows so far.
+#[derive(Drop)]
+pub struct Played {
+    lifelines: LifelineState,
+    lock: Vec<Own>,
+}
+
+impl Model for Played {
+    ghost use Rattle.diagram.specs.StepLines.{PlayedState};
+
+    ghost Value = { PlayedState };
+
+    ghost view = { λ p. record { lifelines = p.lifelines; lock = p.lock.items } };
+}
+
+impl Played {
+    /// Before the first row: this many processes, all in this phase, with these lock words.
+    pub fn new(
+        alloc: Global,
+        procs: u64,
+        first: LifelinePhase,
+        lock: Vec<Own>,
+    ) -> Result<Played, AllocError>
+        ensures { IfOk result (λ played. played
+            ≡ record { lifelines = record { phases = replicate procs first; deeds = 0; rows = 0 }; lock = lock.items }) }
+    {
+        Ok(Played {
+            lifelines: LifelineState::new(alloc, procs, first)?,
+            lock,
+        })
+    }
+
+    /// The state of the lifelines.
+    pub fn lifelines(&self) -> &LifelineState
+        ensures { result.now ≡ self.now.lifelines }
+    {
+        &self.lifelines
+    }
+
+    /// The lock words.
+    pub fn lock(&self) -> &[Own]
+        ensures { result.now ≡ self.now.lock }
+    {
+        self.lock.as_slice()
+    }
+
+    /// Takes the next row.
+    pub fn take(&mut self, row: &DiagramRow)
+        ensures { self.new ≡ played_with self.old row.now }
+    {
+        self.lifelines.take(row);
+        take_act(&mut self.lock, &row.act);
+    }
+}

@@ -6,6 +6,8 @@ mod explores;
 #[cfg(test)]
 mod hunts;
 #[cfg(test)]
+mod jobs;
+#[cfg(test)]
 mod memory;
 #[cfg(test)]
 mod shrinks;

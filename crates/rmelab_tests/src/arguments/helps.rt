@@ -77,6 +77,7 @@ Options:
       --rounds <R>   1 to 10000 rounds
       --steps <K>    1 to 10000 moves a round
       --shrink       Make the schedule found least, as `shrink` does
+      --jobs <N>     N threads at once; without it, or 0, as many as there are processors
   -h, --help         Print help
 
 In: nothing.

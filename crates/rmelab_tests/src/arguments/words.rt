@@ -26,19 +26,24 @@ fn a_replay_of_standard_input(rt: HostRuntime) -> Result<(), Fail> {
 
 #[test]
 fn a_hunt(rt: HostRuntime) -> Result<(), Fail> {
-    let line = "rmelab hunt --variant last-skipped --seed 1 --rounds 10000 --steps 10000";
-    let words = words_of(rt.alloc(), line)?;
-    let Ok(Command::Hunt(args)) = read_words(rt.alloc(), &words) else {
-        panic!(&rt; "no hunt");
-    };
-    let longest = HuntArgs {
-        variant: Variant::LastSkipped,
-        seed: 1,
-        rounds: 10_000,
-        steps: 10_000,
-        shrink: false,
-    };
-    assert_eq!(rt; args, longest);
+    let plain = "rmelab hunt --variant last-skipped --seed 1 --rounds 10000 --steps 10000";
+    let shared =
+        "rmelab hunt --variant last-skipped --seed 1 --rounds 10000 --steps 10000 --jobs 7";
+    for (line, jobs) in [(plain, 0), (shared, 7)] {
+        let words = words_of(rt.alloc(), line)?;
+        let Ok(Command::Hunt(args)) = read_words(rt.alloc(), &words) else {
+            panic!(&rt; "no hunt");
+        };
+        let longest = HuntArgs {
+            variant: Variant::LastSkipped,
+            seed: 1,
+            rounds: 10_000,
+            steps: 10_000,
+            shrink: false,
+            jobs,
+        };
+        assert_eq!(rt; args, longest);
+    }
     Ok(())
 }
 

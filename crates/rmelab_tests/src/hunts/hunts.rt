@@ -55,6 +55,12 @@ step 0\nstep 1\n";
 
 #[test]
 fn moves_of_a_hunt(rt: HostRuntime) -> Result<(), Fail> {
-    let line = "rmelab hunt --variant no-look --seed 70 --rounds 10000 --steps 1000";
-    prints(&rt, rt.alloc(), line, "", DRAWN, "", 1)
+    let alloc = rt.alloc();
+    for jobs in ["", " --jobs 1", " --jobs 2", " --jobs 3", " --jobs 7"] {
+        let line = format!(in alloc;
+            "rmelab hunt --variant no-look --seed 70 --rounds 10000 --steps 1000{jobs}"
+        )?;
+        prints(&rt, alloc, &line, "", DRAWN, "", 1)?;
+    }
+    Ok(())
 }

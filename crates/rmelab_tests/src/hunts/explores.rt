@@ -14,6 +14,16 @@ pub const SHORTEST: &str =
 pub const GONE_OUT: &str =
     "rme 1 procs 1 limit 1 cap 1\nlock 0\nstep 0\nstep 0\nstep 0\nstep 0\nstep 0\nstep 0\nstep 0\ncrash 0\nlock 0\nstep 0\nstep 0\nstep 0\nstep 0\nstep 0\nstep 0\n";
 
+/// Both have the number 1, and neither waits for the other.
+const TIED: &str =
+    "rme 1 procs 2 limit 1 cap 1\nlock 0\nstep 0\nstep 0\nstep 0\nstep 0\nstep 0\nlock 1\nstep 1\nstep 1\nstep 1\nstep 1\nstep 1\nstep 0\nstep 0\nstep 1\nstep 1\nstep 0\nstep 0\nstep 0\nstep 1\nstep 1\nstep 1\n";
+
+/// Who locks can't let go of the lock.
+const HELD: &str = "rme 1 procs 2 limit 1 cap 1\nlock 0\n";
+
+/// Who crashed can't come back.
+const NOT_BACK: &str = "rme 1 procs 2 limit 1 cap 1\ncrash 0\n";
+
 const NO_PROCS: &str = "error: the following required arguments were not provided:
   --procs <N>
 
@@ -62,6 +72,91 @@ fn explores(rt: HostRuntime) -> Result<(), Fail> {
     all_come_to(&rt, rt.alloc(), &rows)
 }
 
+/// The counts are those of the plain program, whose search back goes over lists of the states before each.
+#[test]
+fn explores_stuck(rt: HostRuntime) -> Result<(), Fail> {
+    let rows = [
+        invoked(
+            "rmelab explore --variant right --procs 2 --crashes 1 --stuck",
+            "",
+            "never stuck: all 7729 states\n",
+        ),
+        invoked(
+            "rmelab explore --variant right --procs 3 --limit 1 --stuck",
+            "",
+            "never stuck: all 9145 states\n",
+        ),
+        invoked(
+            "rmelab explore --variant renumber --procs 2 --crashes 1 --limit 2 --stuck",
+            "",
+            "never stuck: all 4071 states\n",
+        ),
+    ];
+    all_come_to(&rt, rt.alloc(), &rows)
+}
+
+/// It takes longer than `rt try` allows.
+#[test]
+fn explores_stuck_at_length(rt: HostRuntime) -> Result<(), Fail> {
+    let rows = [
+        invoked(
+            "rmelab explore --variant right --procs 2 --crashes 3 --stuck",
+            "",
+            "never stuck: all 45075 states\n",
+        ),
+        invoked(
+            "rmelab explore --variant right --procs 3 --crashes 1 --limit 1 --stuck",
+            "",
+            "never stuck: all 92524 states\n",
+        ),
+    ];
+    all_come_to(&rt, rt.alloc(), &rows)
+}
+
+/// Of the right lock without `unlock`, and without a call by which a crashed process comes back, a state is stuck. Of a wrong
+/// variant a schedule that goes wrong is written.
+#[test]
+fn stuck_and_wrong_are_told_apart(rt: HostRuntime) -> Result<(), Fail> {
+    let rows = [
+        invoked(
+            "rmelab explore --variant right --procs 2 --calls lock --limit 1 --stuck",
+            "",
+            HELD,
+        )
+        .ends(1, ""),
+        invoked(
+            "rmelab explore --variant right --procs 2 --calls unlock --limit 1 --crashes 1 --stuck",
+            "",
+            NOT_BACK,
+        )
+        .ends(1, ""),
+        invoked(
+            "rmelab explore --variant right --procs 2 --calls lock --limit 1",
+            "",
+            "nothing found: all 198 states\n",
+        ),
+        invoked(
+            "rmelab explore --variant no-look --procs 2 --limit 1 --stuck",
+            "",
+            SHORTEST,
+        )
+        .ends(1, ""),
+        invoked(
+            "rmelab explore --variant no-ties --procs 2 --limit 1 --stuck",
+            "",
+            TIED,
+        )
+        .ends(1, ""),
+        invoked(
+            "rmelab explore --variant exit-on-crash --procs 1 --limit 1 --crashes 1 --stuck",
+            "",
+            GONE_OUT,
+        )
+        .ends(1, ""),
+    ];
+    all_come_to(&rt, rt.alloc(), &rows)
+}
+
 #[test]
 fn explores_refused(rt: HostRuntime) -> Result<(), Fail> {
     let bad_size = "rmelab: bad size\n";
@@ -72,7 +167,20 @@ fn explores_refused(rt: HostRuntime) -> Result<(), Fail> {
             "",
         )
         .ends(3, "rmelab: too many states\n"),
+        invoked(
+            "rmelab explore --variant right --procs 2 --limit 1 --states 258 --stuck",
+            "",
+            "",
+        )
+        .ends(3, "rmelab: too many states\n"),
+        invoked(
+            "rmelab explore --variant right --procs 2 --moves 9 --stuck",
+            "",
+            "",
+        )
+        .ends(2, bad_size),
         invoked("rmelab explore --variant right --procs 65", "", "").ends(2, bad_size),
+        invoked("rmelab explore --variant right --procs 65 --stuck", "", "").ends(2, bad_size),
         invoked("rmelab explore --variant right --procs 1 --limit 0", "", "").ends(2, bad_size),
         invoked("rmelab explore --variant right --procs 1 --width 9", "", "").ends(2, bad_size),
         invoked(
@@ -120,7 +228,7 @@ fn explores_to_a_writer_that_fails(rt: HostRuntime) -> Result<(), Fail> {
     all_come_to(&rt, rt.alloc(), &rows)
 }
 
-/// The schedule that is found replays to its fault.
+/// A schedule that is found replays to its fault, and one to a stuck state to a fine verdict.
 #[test]
 fn explored_schedules_replay(rt: HostRuntime) -> Result<(), Fail> {
     let replayed = ran(
@@ -139,5 +247,9 @@ fn explored_schedules_replay(rt: HostRuntime) -> Result<(), Fail> {
         GONE_OUT,
     )?;
     assert!(rt; replayed.code == ExitCode::from(1));
+    let replayed = ran(&rt, rt.alloc(), "rmelab replay", "", HELD)?;
+    assert!(rt; replayed.code == ExitCode::from(0));
+    let replayed = ran(&rt, rt.alloc(), "rmelab replay", "", NOT_BACK)?;
+    assert!(rt; replayed.code == ExitCode::from(0));
     Ok(())
 }

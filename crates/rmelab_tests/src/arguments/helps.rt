@@ -103,6 +103,7 @@ Options:
       --cap <M>       Room for M messages; 1 without it
       --width <W>     1 to 8 words a message; 1 without it
       --stuck         Look for stuck states too; not with --moves
+      --jobs <N>      N threads at once; without it, or 0, as many as there are processors
   -h, --help          Print help
 
 In: nothing. All schedules are tried whose moves are the start of a call of --calls, one step, or a crash, of which there are at most --crashes: the shorter before the longer. Two worlds are one where their words, their processes, the judge and the crashes left are.

@@ -1,7 +1,10 @@
-//! A hunt by any number of threads answers what the hunt of one thread answers.
+//! A hunt or a search by any number of threads answers what that of one thread answers.
 
 use crashlab::{HuntFault, Variant, hunt, hunt_in_parallel, hunt_in_parallel_watched};
-use explorer::Watch;
+use explorer::{Unwatched, Watch};
+use lock_explorer::{Bounds, shortest_schedule, shortest_schedule_in_parallel};
+use redomail::Layout;
+use rmeworld::Call;
 use schedule::{Schedule, write_schedule};
 use std::alloc::Global;
 use std::test::Fail;
@@ -98,6 +101,59 @@ fn each_round_of_a_batch_is_told_once(rt: HostRuntime) -> Result<(), Fail> {
         let found = hunt_in_parallel_watched(&rt, alloc, jobs, variant, 1, 5, 10, &mut told)?;
         assert!(rt; found.is_none());
         assert_eq!(rt; told.all, rounds, "{jobs}");
+    }
+    Ok(())
+}
+
+/// Variants, and the processes, the crashes and the limit of a search, which finds a schedule for each but the right lock.
+const SEARCHES: [(Variant, u64, u64, u64); 6] = [
+    (Variant::Right, 1, 0, 1),
+    (Variant::Right, 2, 1, 4),
+    (Variant::NoLook, 2, 0, 1),
+    (Variant::NoTies, 2, 0, 1),
+    (Variant::Renumber, 2, 1, 2),
+    (Variant::ExitOnCrash, 2, 1, 1),
+];
+
+#[test]
+fn the_same_search_for_any_number_of_jobs(rt: HostRuntime) -> Result<(), Fail> {
+    let alloc = rt.alloc();
+    let calls = [Call::Lock, Call::Unlock];
+    for (variant, procs, crashes, limit) in SEARCHES {
+        let layout = Layout {
+            procs,
+            cap: 1,
+            width: 1,
+        };
+        let bounds = Bounds {
+            crashes,
+            moves: 1_000,
+            states: 10_000,
+        };
+        let one = shortest_schedule(
+            alloc,
+            variant,
+            layout,
+            limit,
+            calls.as_slice(),
+            &bounds,
+            &mut Unwatched,
+        );
+        assert!(rt; one.is_ok());
+        for jobs in [0, 1, 2, 3, 7] {
+            let found = shortest_schedule_in_parallel(
+                &rt,
+                alloc,
+                jobs,
+                variant,
+                layout,
+                limit,
+                calls.as_slice(),
+                &bounds,
+                &mut Unwatched,
+            );
+            assert!(rt; found == one, "{variant:?} {jobs}");
+        }
     }
     Ok(())
 }

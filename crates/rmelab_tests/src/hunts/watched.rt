@@ -35,7 +35,7 @@ fn each_round_is_told_once(rt: HostRuntime) -> Result<(), Fail> {
 
 const HUNT: &str = "rmelab hunt --variant right --seed 1 --rounds 1300 --steps 10";
 
-const SEARCH: &str = "rmelab explore --variant right --procs 2";
+const SEARCH: &str = "rmelab explore --variant right --procs 2 --jobs 1";
 
 /// What is shown before the 640th and the 1280th round.
 const HUNT_SHOWN: &str =

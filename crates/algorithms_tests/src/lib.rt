@@ -1,0 +1,8 @@
+//! Tests of algorithms as texts.
+#![tactic(auto)]
+
+mod bad_texts;
+mod hostile_texts;
+mod replays;
+mod runs;
+mod texts;

@@ -61,8 +61,8 @@ first_member least Lower c r own many e = absurd (cc)
 first_member least Higher c r own many e = absurd (cc)
 
 or_first : (a b : Bool) → a || b ≡ true → (a ≡ true → ⊥) → b ≡ true
-or_first true b h no = absurd (no refl)
-or_first false b h no = h
+or_first true b h never = absurd (never refl)
+or_first false b h never = h
 
 -- a local line leads to one of its ways
 goes_a_way : (test : ℕ → Bool) (least next : ℕ) (c : Constants) (s t : LocalState) (line : LocalLine) → c.me < c.procs → least ≤ c.procs

@@ -292,6 +292,20 @@ impl World {
         &self.algorithm
     }
 
+    /// The number of processes.
+    pub fn procs(&self) -> u64
+        ensures { result ≡ self.now.procs }
+    {
+        self.procs
+    }
+
+    /// The algorithm's `limit`.
+    pub fn limit(&self) -> u64
+        ensures { result ≡ self.now.limit }
+    {
+        self.limit
+    }
+
     fn constants(&self, p: u64) -> Constants
         ensures { result ≡ constants_of self.now p }
     {

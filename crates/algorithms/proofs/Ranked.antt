@@ -8,7 +8,6 @@ use Rattle.algorithms.specs.Arrivals.{arrives, arrives_after, local_step_of, ◌
 use Rattle.algorithms.specs.Ranked.{rank_of, is_line_below, is_below, has_round, ways_pass, is_line, form_falls, AllFall, LocalLinesEnd, AccessesLeadOn}
 use Rattle.algorithms.specs.declared.algorithm.Algorithm.{Algorithm}
 use Rattle.algorithms.specs.declared.constants.Constants.{Constants}
-use Rattle.algorithms.specs.declared.line.AccessLine.{AccessLine}
 use Rattle.algorithms.specs.declared.line.Form.{Form}
 use Rattle.algorithms.specs.declared.line.Form.TheVariants.{Access, Local, Done}
 use Rattle.algorithms.specs.declared.line.Line.{Line}

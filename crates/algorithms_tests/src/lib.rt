@@ -2,6 +2,7 @@
 #![tactic(auto)]
 
 mod bad_texts;
+mod bridge;
 mod hostile_texts;
 mod replays;
 mod runs;

@@ -2,7 +2,9 @@
 
 use crate::replays::{Replay, bakeries as bakery_replays, others as other_replays};
 use crate::texts::{bakeries, others};
-use algorithms::{Algorithm, AlgorithmRefusal, Call, Deed, Taken, World, read_algorithm};
+use algorithms::{
+    Algorithm, AlgorithmRefusal, Call, Deed, NAMES, Place, Taken, World, read_algorithm,
+};
 use std::alloc::Global;
 use std::fmt::Write;
 use std::process::Abort;
@@ -175,5 +177,28 @@ fn all_examples_are_read(rt: HostRuntime) -> Result<(), Fail> {
     ] {
         read_algorithm(rt.alloc(), text)?;
     }
+    Ok(())
+}
+
+#[test]
+fn a_crash_loses_the_place_and_the_names(rt: HostRuntime) -> Result<(), Fail> {
+    let algorithm = read_algorithm(rt.alloc(), bakeries::BAKERY)?;
+    let mut world = World::new(rt.alloc(), algorithm, 2, 5)?;
+    assert_eq!(rt; (world.procs(), world.limit()), (2, 5));
+    assert_eq!(rt; world.process(1)?.place, Place::Rest);
+    world.start(1, Call::Lock)?;
+    for _ in 0..8 {
+        world.step(1)?;
+    }
+    let before = world.process(1)?;
+    assert!(rt; before.store.iter().any(|value| *value > 0));
+    world.crash(1)?;
+    let after = world.process(1)?;
+    assert_eq!(rt; after.place, Place::Dead);
+    assert_eq!(rt; after.store, [0; NAMES]);
+    assert_eq!(rt;
+        world.process(2).err(),
+        Some(AlgorithmRefusal::NoSuchProcess)
+    );
     Ok(())
 }

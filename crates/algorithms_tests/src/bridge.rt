@@ -1,8 +1,10 @@
 //! The text of the recoverable Bakery beside the proved lock: 10,000 drawn schedules, played by both.
 
+ghost use Rattle.std.specs.Prelude.{◌<◌};
+
 use crate::texts::bakeries;
 use algorithms::{AlgorithmRefusal, Call, Deed, Taken, World, read_algorithm};
-use rmecore::{Core, CoreDone, Found, Outer, Refusal};
+use rmecore::{Core, CoreDone, Found, Outer};
 use std::alloc::Global;
 use std::process::Abort;
 use std::test::Fail;
@@ -13,12 +15,13 @@ const SCHEDULES: u64 = 10_000;
 const MOVES: u64 = 90;
 
 /// Draws numbers, the same in each run.
+#[derive(Drop)]
 struct Draws {
     state: u64,
 }
 
 impl Draws {
-    /// A number below `count`. The upper half of the state is drawn from (Knuth's multiplier).
+    /// A number below `count`, from the upper half of the state.
     fn below(&mut self, count: u64) -> u64
         requires { 0 < count }
         ensures { result < count }
@@ -44,7 +47,7 @@ enum Move {
 enum Done {
     Moved {
         deed: Option<Outer>,
-        answer: Option<&'static str>,
+        answer: Option<CoreDone>,
     },
     Refused(Option<u64>),
 }
@@ -55,7 +58,9 @@ const SILENT: Done = Done::Moved {
 };
 
 /// Three of four moves are steps, one of forty a crash.
-fn draw(draws: &mut Draws, procs: u64) -> Move {
+fn draw(draws: &mut Draws, procs: u64) -> Move
+    requires { 0 < procs }
+{
     let p = draws.below(procs);
     match draws.below(40) {
         0 => Move::Crash(p),
@@ -67,31 +72,6 @@ fn draw(draws: &mut Draws, procs: u64) -> Move {
     }
 }
 
-fn found_text(found: Found) -> &'static str {
-    match found {
-        Found::Idle => "found idle",
-        Found::Left => "found left",
-        Found::Doorway => "found doorway",
-        Found::Waiting => "found waiting",
-        Found::Inside => "found inside",
-    }
-}
-
-fn answer_text(done: CoreDone) -> &'static str {
-    match done {
-        CoreDone::In => "clean",
-        CoreDone::InAgain => "owner-died",
-        CoreDone::Spent => "numbers-spent",
-        CoreDone::Out => "unlocked",
-        CoreDone::Found(found) => found_text(found),
-        CoreDone::Withdrawn => "withdrawn",
-    }
-}
-
-fn refused(refusal: Refusal) -> Done {
-    Done::Refused(refusal.number())
-}
-
 /// Makes a move on the proved lock.
 fn lock_move(core: &mut Core, made: Move) -> Done {
     let started = match made {
@@ -99,52 +79,57 @@ fn lock_move(core: &mut Core, made: Move) -> Done {
         Move::Start(p, Call::Unlock) => core.start_unlock(p),
         Move::Start(p, Call::Recover) => core.start_recover(p),
         Move::Start(p, Call::Withdraw) => core.start_withdraw(p),
-        Move::Step(p) => {
-            return match core.step(p) {
-                Ok(happened) => Done::Moved {
-                    deed: happened.outer,
-                    answer: happened.done.map(answer_text),
-                },
-                Err(refusal) => refused(refusal),
-            };
-        }
-        Move::Crash(p) => {
-            return match core.crash(p) {
-                Ok(deed) => Done::Moved {
-                    deed: Some(deed),
-                    answer: None,
-                },
-                Err(refusal) => refused(refusal),
-            };
-        }
+        Move::Step(p) => return lock_step(core, p),
+        Move::Crash(p) => return lock_crash(core, p),
     };
     match started {
         Ok(()) => SILENT,
-        Err(refusal) => refused(refusal),
+        Err(refusal) => Done::Refused(refusal.number()),
     }
 }
 
-/// The answers that both have.
-const ANSWERS: [&str; 10] = [
-    "clean",
-    "owner-died",
-    "numbers-spent",
-    "unlocked",
-    "found idle",
-    "found left",
-    "found doorway",
-    "found waiting",
-    "found inside",
-    "withdrawn",
+fn lock_step(core: &mut Core, p: u64) -> Done {
+    match core.step(p) {
+        Ok(happened) => Done::Moved {
+            deed: happened.outer,
+            answer: happened.done,
+        },
+        Err(refusal) => Done::Refused(refusal.number()),
+    }
+}
+
+fn lock_crash(core: &mut Core, p: u64) -> Done {
+    match core.crash(p) {
+        Ok(deed) => Done::Moved {
+            deed: Some(deed),
+            answer: None,
+        },
+        Err(refusal) => Done::Refused(refusal.number()),
+    }
+}
+
+/// The answers of the text.
+const ANSWERS: [(&str, CoreDone); 10] = [
+    ("clean", CoreDone::In),
+    ("owner-died", CoreDone::InAgain),
+    ("numbers-spent", CoreDone::Spent),
+    ("unlocked", CoreDone::Out),
+    ("found idle", CoreDone::Found(Found::Idle)),
+    ("found left", CoreDone::Found(Found::Left)),
+    ("found doorway", CoreDone::Found(Found::Doorway)),
+    ("found waiting", CoreDone::Found(Found::Waiting)),
+    ("found inside", CoreDone::Found(Found::Inside)),
+    ("withdrawn", CoreDone::Withdrawn),
 ];
 
-fn known(text: &str) -> &'static str {
-    for answer in ANSWERS {
+/// The lock's answer that a text says.
+fn answer_of(text: &str) -> Option<CoreDone> {
+    for (answer, done) in ANSWERS {
         if answer == text {
-            return answer;
+            return Some(done);
         }
     }
-    "another answer"
+    None
 }
 
 fn outer_of(p: u64, deed: Deed) -> Outer {
@@ -158,18 +143,25 @@ fn outer_of(p: u64, deed: Deed) -> Outer {
     }
 }
 
-/// What a step of the text's world does. A second deed in it is none of the lock's.
-fn stepped(world: &World, p: u64, taken: Taken) -> Done {
+/// What a step of the text's world does.
+fn stepped(world: &World, p: u64, taken: Taken) -> Result<Done, Fail> {
     let noted = taken.moved.noted;
     if noted.second.is_some() {
-        return Done::Refused(None);
+        return Err(Fail::from("two deeds in a step"));
     }
-    let texts = &world.algorithm().answers;
-    let answer = taken.moved.answer.and_then(|index| texts.get(index));
-    Done::Moved {
-        deed: noted.first.map(|deed| outer_of(p, deed)),
-        answer: answer.map(|text| known(text.as_str())),
-    }
+    let deed = match noted.first {
+        Some(deed) => Some(outer_of(p, deed)),
+        None => None,
+    };
+    let Some(index) = taken.moved.answer else {
+        return Ok(Done::Moved { deed, answer: None });
+    };
+    let text = world.algorithm().answers.get(index).ok_or("an answer")?;
+    let answer = answer_of(text.as_str()).ok_or("an answer of the lock")?;
+    Ok(Done::Moved {
+        deed,
+        answer: Some(answer),
+    })
 }
 
 /// The number of a refusal, where the lock has the same cause.
@@ -184,47 +176,66 @@ fn number_of(refusal: AlgorithmRefusal) -> Option<u64> {
 }
 
 /// Makes a move on the world of the text.
-fn text_move(world: &mut World, made: Move) -> Done {
+fn text_move(world: &mut World, made: Move) -> Result<Done, Fail> {
     let result = match made {
         Move::Start(p, call) => world.start(p, call),
         Move::Step(p) => match world.step(p) {
             Ok(taken) => return stepped(world, p, taken),
             Err(refusal) => Err(refusal),
         },
-        Move::Crash(p) => match world.crash(p) {
-            Ok(()) => {
-                return Done::Moved {
-                    deed: Some(Outer::Crash(p)),
-                    answer: None,
-                };
-            }
-            Err(refusal) => Err(refusal),
-        },
+        Move::Crash(p) => world.crash(p),
     };
-    match result {
-        Ok(()) => SILENT,
-        Err(refusal) => Done::Refused(number_of(refusal)),
-    }
+    Ok(match (result, made) {
+        (Err(refusal), _) => Done::Refused(number_of(refusal)),
+        (Ok(()), Move::Crash(p)) => Done::Moved {
+            deed: Some(Outer::Crash(p)),
+            answer: None,
+        },
+        (Ok(()), _) => SILENT,
+    })
 }
 
 /// Whether the lock refuses a call for what its process has done, which a world does not ask.
 fn is_by_deeds(done: Done) -> bool {
-    done == Done::Refused(Some(5)) || done == Done::Refused(Some(6))
+    match done {
+        Done::Refused(Some(5) | Some(6)) => true,
+        _ => false,
+    }
 }
 
-/// A row of words as the text's world has it: one word for each process.
-fn words_of(world: &World, row: usize, p: u64) -> Option<u64> {
+/// The word that a process has in a row.
+fn word_of(world: &World, row: usize, p: u64) -> Option<u64> {
     world.words().get(row)?.get(p as usize).copied()
 }
 
 fn compare_words<R: Abort>(rt: &R, core: &Core, world: &World, procs: u64) -> Result<(), Fail> {
     for p in 0..procs {
         let own = core.words(p)?;
-        assert_eq!(rt; words_of(world, 0, p), Some(own.choosing));
-        assert_eq!(rt; words_of(world, 1, p), Some(own.number));
-        assert_eq!(rt; words_of(world, 2, p), Some(own.inside));
+        assert_eq!(rt; word_of(world, 0, p), Some(own.choosing));
+        assert_eq!(rt; word_of(world, 1, p), Some(own.number));
+        assert_eq!(rt; word_of(world, 2, p), Some(own.inside));
     }
     Ok(())
+}
+
+/// How many moves were refused, told a deed, or ended a call.
+#[derive(Drop)]
+struct Seen {
+    refused: u64,
+    deeds: u64,
+    answers: u64,
+}
+
+impl Seen {
+    fn see(&mut self, done: Done) {
+        match done {
+            Done::Refused(_) => self.refused = self.refused.saturating_add(1),
+            Done::Moved { deed, answer } => {
+                self.deeds = self.deeds.saturating_add(u64::from(deed.is_some()));
+                self.answers = self.answers.saturating_add(u64::from(answer.is_some()));
+            }
+        }
+    }
 }
 
 /// Plays a drawn schedule by both. Each move does the same on both, and after it both have the same words.
@@ -244,34 +255,11 @@ fn compare<R: Abort>(
         let done = lock_move(&mut core, made);
         seen.see(done);
         if !is_by_deeds(done) {
-            assert_eq!(rt; text_move(&mut world, made), done, "{at}: {made:?}");
+            assert_eq!(rt; text_move(&mut world, made)?, done, "{at}: {made:?}");
             compare_words(rt, &core, &world, procs)?;
         }
     }
     Ok(())
-}
-
-/// How many moves were refused, told a deed, or ended a call.
-struct Seen {
-    refused: u64,
-    deeds: u64,
-    answers: u64,
-}
-
-impl Seen {
-    fn see(&mut self, done: Done) {
-        match done {
-            Done::Refused(_) => self.refused = self.refused.saturating_add(1),
-            Done::Moved { deed, answer } => {
-                if deed.is_some() {
-                    self.deeds = self.deeds.saturating_add(1);
-                }
-                if answer.is_some() {
-                    self.answers = self.answers.saturating_add(1);
-                }
-            }
-        }
-    }
 }
 
 #[test]

@@ -1,7 +1,7 @@
 //! A recoverable first-come first-served lock with a mailbox, between processes that may die at any instant.
 //!
 //! Processes share a file. Each [`attach`](Seat::attach)es to it under an index of its own. Whoever has its number before
-//! another asks for one enters first. Whoever dies inside is the next to enter: the lock of the process that is started again
+//! another asks for one enters first. Where one dies inside, nobody enters before it has: the lock of the process that is started again
 //! under its index says so, and it repairs what was left half done, and goes on. Where nobody is started again, a living process gives up
 //! its place: [`reap`](reap()) and [`Seat::lock_reaping`]. A mailbox under the lock stores each message once, even where a
 //! death cuts an append in two.

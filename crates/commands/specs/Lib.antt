@@ -13,3 +13,4 @@ pub mod Faults
 pub mod Gates
 pub mod Programs
 pub mod Tallies
+pub mod Conversations

@@ -9,6 +9,7 @@ ghost use Rattle.commands.specs.Programs.{CarriesOut};
 ghost use Rattle.commands.specs.Statuses.{status_of};
 
 use crate::exploring::explore_command;
+use crate::folder::{Folder, NoFolder};
 use crate::progress::meter::Meter;
 use crate::progress::screen::{NoScreen, Screen};
 use crate::progress::work::Work;
@@ -19,6 +20,7 @@ use crate::schedules::fault::CommandFault;
 use crate::schedules::line::told;
 use crate::schedules::replaying::replay_command;
 use crate::schedules::shrunk::{shrink_command, write_lines};
+use crate::sessions::holding::session_command;
 use cli::arguments::args::{Command, HuntArgs};
 use cli::{DictionaryEntry, tell_all_names, tell_dictionary_entry};
 use crashlab::hunting::hunt_watched;
@@ -145,11 +147,12 @@ fn explain_command<W: Sink>(
 
 /// Carries out a command. It reads the schedule or the trace from `r`, and writes to `w`. `image` is the text of the file
 /// that `--image` names. The progress of a search or a hunt is shown on the screen. A fault says why there is no verdict.
-pub fn ended<T: Threads + Wait + Sync, S: Screen, R: Source, W: Sink>(
+pub fn ended<T: Threads + Wait + Sync, F: Folder, S: Screen, R: Source, W: Sink>(
     rt: &T,
     alloc: Global,
     command: &Command,
     image: Option<&[u8]>,
+    folder: &mut F,
     screen: &mut S,
     r: &mut R,
     w: &mut W,
@@ -166,6 +169,7 @@ pub fn ended<T: Threads + Wait + Sync, S: Screen, R: Source, W: Sink>(
         Command::Hunt(args) => hunt_command(alloc, args, screen, w),
         Command::Explore(args) => explore_command(alloc, args, screen, w),
         Command::Run(args) => run_command(rt, alloc, args, w),
+        Command::Step(_) => session_command(alloc, image, folder, r, w),
         Command::Explain(dictionary_entry) => explain_command(*dictionary_entry, w),
     }
 }
@@ -186,7 +190,8 @@ pub fn command_shown<T: Threads + Wait + Sync, S: Screen, R: Source, W: Sink, E:
         (W.tape w.new) (E.tape e.old) (E.tape e.new) result }
     ensures unsaved { is_some (save_of command.now) ≡ false → is_some result.save ≡ false }
 {
-    match ended(rt, alloc, command, image, screen, r, w) {
+    let mut folder = NoFolder::new();
+    match ended(rt, alloc, command, image, &mut folder, screen, r, w) {
         Ok(ending) => ending,
         Err(fault) => Ending {
             status: told(fault, e),

@@ -9,6 +9,7 @@ pub mod program;
 pub mod progress;
 pub mod running;
 pub mod schedules;
+pub mod sessions;
 pub mod tally;
 
 pub use progress::meter::Meter;

@@ -102,7 +102,7 @@ fn ended_on_file<T: Threads + Wait + Sync, F: Folder, S: Screen, W: Sink>(
     ensures ended { IfOk result (IsEnded (is_some (save_of command.now)) (W.tape out.old).failures (W.tape out.new).failures) }
 {
     let mut file = folder.open(name).map_err(unopened)?;
-    ended(rt, alloc, command, image, screen, &mut file, out)
+    ended(rt, alloc, command, image, folder, screen, &mut file, out)
 }
 
 /// Carries out the command. The image is read first. The input is read if no file is named.
@@ -137,7 +137,7 @@ fn execute<T: Threads + Wait + Sync, F: Folder, S: Screen, R: Source, W: Sink>(
             screen,
             out,
         ),
-        None => ended(rt, alloc, command, image.as_deref(), screen, input, out),
+        None => ended(rt, alloc, command, image.as_deref(), folder, screen, input, out),
     }
 }
 

@@ -8,3 +8,4 @@ pub mod Joined
 pub mod NotEmpty
 pub mod Steps
 pub mod Ended
+pub mod Seen

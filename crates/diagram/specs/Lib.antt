@@ -7,3 +7,8 @@ pub mod Columns
 pub mod Pictures
 pub mod Drawings
 pub mod Followed
+pub mod Sights
+pub mod Standings
+pub mod Requests
+pub mod Helps
+pub mod Sessions

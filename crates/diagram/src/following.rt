@@ -30,7 +30,7 @@ use schedule::{ReplayFault, Schedule, Sink, Verdict};
 use std::alloc::{AllocError, Global};
 
 /// A step as a row of its own.
-fn row_of(p: u64, step: &Stepped) -> DiagramRow
+pub fn row_of(p: u64, step: &Stepped) -> DiagramRow
     ensures { result ≡ row_for (Took p step.now) }
 {
     match (step.deed, step.answer) {
@@ -46,7 +46,7 @@ fn row_of(p: u64, step: &Stepped) -> DiagramRow
 }
 
 /// The phase of process p; past the list at rest.
-fn phase_of(phases: &[LifelinePhase], p: u64) -> LifelinePhase
+pub fn phase_of(phases: &[LifelinePhase], p: u64) -> LifelinePhase
     ensures { result ≡ get_or phases.now p LifelinePhase.Rest }
 {
     phases
@@ -86,7 +86,7 @@ fn put_place(
 
 /// Writes a row, and what it reports.
 #[tactic(auto, unfolding(crate::specs::Followed::row_told))]
-fn put_row(
+pub fn put_row(
     out: &mut Vec<u8>,
     layout: &Layout,
     phases: &[LifelinePhase],

@@ -3,13 +3,17 @@ use Rattle.std.specs.Prelude.{◌≡◌, ◌⊎◌, ℕ, ◌+◌, ◌-◌, ◌^�
 use Rattle.std.specs.declared.alloc.Global.{Global}
 use Rattle.schedule.specs.declared.replays.replay_fault.ReplayFault.{ReplayFault}
 use Rattle.schedule.specs.declared.replays.replay_fault.ReplayFault.TheVariants.{Read, Write, OutOfMemory}
-use Rattle.schedule.specs.Schedules.{spelling}
+use Rattle.schedule.specs.Schedules.{Scheduled, schedule_at, spelling}
 use Rattle.schedule.specs.Tapes.{Tape, Reading, Writes, Begins}
 use Rattle.schedule.specs.Words.{parts_of, words_of}
 use Rattle.diagram.specs.declared.session.opened.Reply.{Reply}
 use Rattle.diagram.specs.declared.session.opened.Reply.TheVariants.as replies
-use Rattle.commands.specs.Programs.{Used}
-use Rattle.diagram.specs.Sessions.{SessionState, after_request, fault_text, next_number, reply_to, request_in, text_of_request}
+use Rattle.commands.specs.Folders.{Used}
+use Rattle.commands.specs.Statuses.{status_of}
+use Rattle.commands.specs.declared.schedules.ending.Ending.{Ending}
+use Rattle.commands.specs.declared.schedules.fault.CommandFault.{CommandFault}
+use Rattle.schedule.specs.Wholes.{Silent, world_run}
+use Rattle.diagram.specs.Sessions.{SessionState, after_request, at_schedule, scene_of, scene_text, fault_text, next_number, reply_to, request_in, text_of_request}
 
 -- the file that a line names
 abbrev pub file_in : List ℕ → List ℕ
@@ -60,6 +64,13 @@ abbrev pub last_text : SessionState → List ℕ → List ℕ
 last_text session [] = []
 last_text session rest = fault_text (next_number session) (codes "fault ") 5
 
+-- the text was written, or a device or memory has failed
+abbrev pub WritesOr : Tape → Tape → List ℕ → Result (Unit {0}) ReplayFault → Type 0
+WritesOr before now text (Ok x) = Writes before now text
+WritesOr before now text (Err Write) = now.failures ≡ min (before.failures + 1) (2 ^ 64 - 1)
+WritesOr before now text (Err OutOfMemory) = now.failures ≡ before.failures
+WritesOr before now text (Err fault) = ⊥
+
 -- the input was read to its end, or up to a line that ends the session; all lines before were answered
 pub record Converses (session : SessionState) (input : List ℕ) (before now : Used) (said : List ℕ) : Type 0 where
   pub lines : List (List ℕ)
@@ -71,8 +82,7 @@ pub record Converses (session : SessionState) (input : List ℕ) (before now : U
   pub answered : AreAnswers session lines before now after answers
   pub ends : ((reply_to (request_in after last) ≡ replies.Quits) × (said ≡ answers)) ⊎ ((more ≡ []) × (said ≡ answers ++ last_text after last))
 
--- the whole session: what was read, kept and written; where a device or memory fails, all that was written before answers
--- lines of the input
+-- what was read, kept and written of the lines of a session
 abbrev pub HoldsSession : SessionState → List ℕ → Reading → Reading → Used → Used → Tape → Tape → Result (Unit {0}) ReplayFault → Type 0
 HoldsSession session buffer old new before now blank written (Ok x) =
     (text : List ℕ) × (new.given ≡ old.given ++ text) × (new.failures ≡ old.failures)
@@ -81,3 +91,28 @@ HoldsSession session buffer old new before now blank written (Err Read) = new.fa
 HoldsSession session buffer old new before now blank written (Err Write) = written.failures ≡ min (blank.failures + 1) (2 ^ 64 - 1)
 HoldsSession session buffer old new before now blank written (Err OutOfMemory) = (new.failures ≡ old.failures) × (written.failures ≡ blank.failures)
 HoldsSession session buffer old new before now blank written (Err fault) = ⊥
+
+-- ---- the whole
+
+-- what a session begins with: the schedule of the text that is given, or the one whose header is the first line of the input
+abbrev pub Opens : Option (List ℕ) → Reading → Reading → List ℕ → Scheduled → Type 0
+Opens (Some text) old now buffer schedule = (now ≡ old) × (buffer ≡ []) × (schedule_at text ≡ Ok schedule)
+Opens None old now buffer schedule =
+    (line : List ℕ) × (more : List ℕ) × (now.given ≡ old.given ++ more) × (now.failures ≡ old.failures)
+    × (parts_of more ≡ line ∷ parts_of buffer) × (schedule_at (line ++ 10 ∷ []) ≡ Ok schedule)
+
+-- the state at its begin was written, and then the answers
+pub record IsHeld (start : Option (List ℕ)) (old new : Reading) (before now : Used) (blank written : Tape) : Type 0 where
+  pub schedule : Scheduled
+  pub opened : Reading
+  pub buffer : List ℕ
+  pub opens : Opens start old opened buffer schedule
+  pub accepted : (world_run schedule).refused ≡ None
+  pub opening : Tape
+  pub first : Writes blank opening (scene_text schedule (scene_of schedule))
+  pub holds : HoldsSession (at_schedule schedule []) buffer opened new before now opening written (Ok tt)
+
+-- how a session ends: at its end with status 0; or it didn't begin, and nothing was written; or a device or memory has failed
+abbrev pub SessionEnds : Option (List ℕ) → Reading → Reading → Used → Used → Tape → Tape → Result Ending CommandFault → Type 0
+SessionEnds start old new before now blank written (Ok ending) = (ending.status ≡ 0) × IsHeld start old new before now blank written
+SessionEnds start old new before now blank written (Err fault) = (status_of fault ≡ 3) ⊎ (Silent blank written × (now ≡ before))

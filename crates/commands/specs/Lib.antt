@@ -14,3 +14,4 @@ pub mod Gates
 pub mod Programs
 pub mod Tallies
 pub mod Conversations
+pub mod Folders

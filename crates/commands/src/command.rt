@@ -6,6 +6,7 @@ ghost use Rattle.commands.specs.Commands.{CommandEnds, ExplainEnds, HuntEnds, Ju
 ghost use Rattle.commands.specs.Endings.{IsEnded};
 ghost use Rattle.cli.specs.FilesNamed.{save_of};
 ghost use Rattle.commands.specs.Programs.{CarriesOut};
+ghost use Rattle.commands.specs.Folders.{is_session};
 ghost use Rattle.commands.specs.Statuses.{status_of};
 
 use crate::exploring::explore_command;
@@ -160,6 +161,8 @@ pub fn ended<T: Threads + Wait + Sync, F: Folder, S: Screen, R: Source, W: Sink>
     ensures ends { CommandEnds command.now (option_copied image.entry) (R.reading r.old) (R.reading r.new) (W.tape w.old)
         (W.tape w.new) result }
     ensures ended { IfOk result (IsEnded (is_some (save_of command.now)) (W.tape w.old).failures (W.tape w.new).failures) }
+    ensures opened { (F.used folder.new).opened ≡ (F.used folder.old).opened }
+    ensures kept { is_session command.now ≡ false → F.used folder.new ≡ F.used folder.old }
 {
     match command {
         Command::Replay(args) => replay_command(alloc, args, image, r, w),

@@ -1,7 +1,7 @@
 //! The files that a command names.
 
 ghost use Rattle.std.specs.Prelude.{◌≡◌, ◌++◌, ◌∷◌, [], false, IfOk};
-ghost use Rattle.commands.specs.Programs.{Used};
+ghost use Rattle.commands.specs.Folders.{Used};
 
 use histories::Log;
 use schedule::{Source, Text};

@@ -1,6 +1,6 @@
 -- A session: a schedule that grows by a line at a time, and goes back. What is written for a line is a function of the
 -- schedule before it, of what was undone, and of the line.
-use Rattle.std.specs.Prelude.{ℕ, zero, suc, ◌+◌, ◌-◌, List, [], ◌∷◌, ◌++◌, codes, length, take, Option, Some, None, option_map, is_some, if◌then◌else◌, Result, Ok, Err, slice_get}
+use Rattle.std.specs.Prelude.{ℕ, zero, suc, ◌+◌, ◌-◌, List, [], ◌∷◌, ◌++◌, codes, length, take, Option, Some, None, is_some, if◌then◌else◌, Result, Ok, Err, slice_get}
 use Rattle.rmecore.specs.declared.refusal.Refusal.{Refusal}
 use Rattle.rmecore.specs.Refused.{number_of}
 use Rattle.rmeworld.specs.Behaviours.{Behaviour}
@@ -160,20 +160,20 @@ redo_text session = redo_text_by session (last_line session.undone)
 -- ---- until a call is answered
 
 module _ {S : Type 0} (b : Behaviour S) where
-  -- the number of steps of p, at most this many, the last of which is refused or ends its call
-  unfoldable pub steps_to_answer : ℕ → ℕ → S → Option ℕ
-  steps_to_answer p zero s = None
-  steps_to_answer p (suc n) s =
-      if is_some (b.advance_refusal s p) then Some 1
-      else if is_some (b.stepped s p).answer then Some 1
-      else option_map suc (steps_to_answer p n (b.advanced s p))
+  -- the number of the step of p that is refused or ends its call, where k came before and at most n come
+  unfoldable pub steps_to_answer : ℕ → ℕ → ℕ → S → Option ℕ
+  steps_to_answer p k zero s = None
+  steps_to_answer p k (suc n) s =
+      if is_some (b.advance_refusal s p) then Some (k + 1)
+      else if is_some (b.stepped s p).answer then Some (k + 1)
+      else steps_to_answer p (k + 1) n (b.advanced s p)
 
 -- the most steps of a line
 abbrev pub most_steps : ℕ
 most_steps = 1000000
 
 abbrev pub way_of : SessionState → ℕ → Option ℕ
-way_of session p = steps_to_answer world_behaviour p most_steps (scene_of session.schedule).world
+way_of session p = steps_to_answer world_behaviour p 0 most_steps (scene_of session.schedule).world
 
 -- the line of just so many steps
 abbrev pub answered_by : SessionState → ℕ → Option ℕ → SessionState
@@ -181,7 +181,7 @@ answered_by session p None = session
 answered_by session p (Some n) = played session [] (Step p n)
 
 abbrev pub answer_text_by : SessionState → ℕ → Option ℕ → List ℕ
-answer_text_by session p None = around (codes "process ") p (codes " comes to no answer alone" ++ 10 ∷ [])
+answer_text_by session p None = around (codes "process ") p (codes " gets no answer by its own steps" ++ 10 ∷ [])
 answer_text_by session p (Some n) = play_text session (Step p n)
 
 -- ---- one line of the input

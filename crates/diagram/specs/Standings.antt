@@ -65,11 +65,15 @@ look_text j value =
     if value == 0 then around (codes "waits, process ") j (codes " is not in the doorway")
     else around (codes "waits for process ") j (codes ", which is in the doorway")
 
+-- the process that is waited for, and its number
+abbrev pub waits_for : ℕ → ℕ → List ℕ
+waits_for j value = around (codes "waits for process ") j (around (codes ", which has number ") value [])
+
 -- after a weigh: the pair of the process weighed is smaller, or it is passed (Lamport's order of pairs)
 abbrev pub weigh_text : ℕ → Own → ℕ → ℕ → List ℕ
 weigh_text p own j value =
     if not (value == 0) && not (is_before own.number p value j)
-    then around (codes "waits for process ") j (around (codes ", which has number ") value [])
+    then waits_for j value
     else around (codes "waits, has passed process ") j []
 
 -- by the last access of one that waits

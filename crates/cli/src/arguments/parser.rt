@@ -66,7 +66,7 @@ const STEP_HELP: &str =
 line is a header.\nOut: for a line of a schedule each of its steps, as replay --each tells them; then the words of each process, \
 the row of the restart table that they are, where it stands, and who is inside. A line that is refused or can't be read has its \
 fault, and changes nothing.\nExit status: 0 at the end of the session, 2 if it can't begin, 3 after a fault of a device or of \
-memory.\n\nExample: rmelab step examples/hello.rme";
+memory.\n\nExample: rmelab step examples/tie.rme";
 
 /// What `--version` prints.
 const VERSION: &str = "0.1.0";

@@ -1,10 +1,10 @@
 //! A session over its input, a line at a time.
 
-ghost use Rattle.std.specs.Prelude.{◌≡◌, ◌⊎◌, ◌++◌, ◌∷◌, ℕ, ◌+◌, ◌-◌, ◌^◌, List, IfErr, IfOk, IfSome, IfNone, OnOk, [], get_or, min, true};
+ghost use Rattle.std.specs.Prelude.{◌≡◌, ◌⊎◌, ◌↔◌, ◌++◌, ◌∷◌, ℕ, Bool, ◌+◌, ◌-◌, ◌^◌, List, IfErr, IfOk, IfSome, IfNone, OnOk, [], get_or, min, true};
 ghost use Rattle.schedule.specs.Schedules.{spelling};
 ghost use Rattle.schedule.specs.Words.{parts_of};
 ghost use Rattle.diagram.specs.declared.session.opened.Reply.TheVariants.{Quits as ReplyQuits};
-ghost use Rattle.commands.specs.Conversations.{after_line, file_in, HoldsSession, IsAnswer, IsKept, last_text, saved_text};
+ghost use Rattle.commands.specs.Conversations.{after_line, file_in, HoldsSession, IsAnswer, IsKept, last_text, saved_text, WritesOr};
 ghost use Rattle.diagram.specs.Sessions.{reply_to, request_in};
 
 use crate::folder::Folder;
@@ -58,7 +58,8 @@ pub fn next_line<S: Source>(
             Err(Failed) => return Err(ReplayFault::Read),
         }
     }
-    unreachable!()
+    // No input has as many lines or pieces.
+    Err(ReplayFault::OutOfMemory)
 }
 
 /// The file that a line names.
@@ -77,7 +78,8 @@ fn keep<F: Folder>(
     file: &[u8],
     text: &Vec<u8>,
 ) -> Result<bool, AllocError>
-    ensures { IfOk result (IsKept (F.used folder.old) (F.used folder.new) file.now text.now.items) }
+    ensures kept { IfOk result (IsKept (F.used folder.old) (F.used folder.new) file.now text.now.items) }
+    ensures opened { (F.used folder.new).opened ≡ (F.used folder.old).opened }
 {
     let Ok(name) = str::from_utf8(file) else {
         return Ok(false);
@@ -94,8 +96,9 @@ fn save<F: Folder>(
     folder: &mut F,
     page: &mut Vec<u8>,
 ) -> Result<(), AllocError>
-    ensures { OnOk result ((done : Bool) × IsKept (F.used folder.old) (F.used folder.new) (file_in line.now)
+    ensures kept { OnOk result ((done : Bool) × IsKept (F.used folder.old) (F.used folder.new) (file_in line.now)
         (spelling session.now.schedule) done × (page.new.items ≡ page.old.items ++ saved_text done)) }
+    ensures opened { (F.used folder.new).opened ≡ (F.used folder.old).opened }
 {
     let Ok(text) = write_schedule(alloc, session.schedule()) else {
         return Err(AllocError);
@@ -117,6 +120,7 @@ fn reply<F: Folder>(
     requires { page.old.items ≡ [] }
     ensures answer { OnOk result (IsAnswer session.old line.now (F.used folder.old) (F.used folder.new) page.new.items) }
     ensures after { OnOk result (session.new ≡ after_line session.old line.now) }
+    ensures opened { (F.used folder.new).opened ≡ (F.used folder.old).opened }
     ensures ends { IfOk result (λ ends. ends ≡ true ↔ (reply_to (request_in session.old line.now) ≡ ReplyQuits)) }
 {
     match session.answer(alloc, line, page)? {
@@ -135,7 +139,9 @@ fn write_last<W: Sink>(
     session: &Session,
     rest: &[u8],
     w: &mut W,
-) -> Result<(), ReplayFault> {
+) -> Result<(), ReplayFault>
+    ensures { WritesOr (W.tape w.old) (W.tape w.new) (last_text session.now rest.now) result }
+{
     if rest.is_empty() {
         return Ok(());
     }
@@ -156,8 +162,9 @@ pub fn converse<S: Source, W: Sink, F: Folder>(
     buffer: &mut Vec<u8>,
     w: &mut W,
 ) -> Result<(), ReplayFault>
-    ensures { HoldsSession session.old buffer.old.items (S.reading r.old) (S.reading r.new) (F.used folder.old) (F.used folder.new)
+    ensures holds { HoldsSession session.old buffer.old.items (S.reading r.old) (S.reading r.new) (F.used folder.old) (F.used folder.new)
         (W.tape w.old) (W.tape w.new) result }
+    ensures opened { (F.used folder.new).opened ≡ (F.used folder.old).opened }
 {
     let mut page = Vec::new(alloc);
     for _ in 0..u64::MAX {
@@ -172,5 +179,6 @@ pub fn converse<S: Source, W: Sink, F: Folder>(
             return Ok(());
         }
     }
-    unreachable!()
+    // No input has as many lines or pieces.
+    Err(ReplayFault::OutOfMemory)
 }

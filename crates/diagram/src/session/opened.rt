@@ -1,6 +1,6 @@
 //! A session over a schedule.
 
-ghost use Rattle.std.specs.Prelude.{◌≡◌, ◌++◌, [], IfErr, IfOk, OnOk, codes, is_some};
+ghost use Rattle.std.specs.Prelude.{◌≡◌, ◌++◌, [], IfOk, Ok, OnOk, is_some, not};
 ghost use Rattle.rmeworld.specs.Replayed.{world_behaviour};
 ghost use Rattle.schedule.specs.Runs.{run_on};
 ghost use Rattle.schedule.specs.Schedules.{head_of};
@@ -231,7 +231,7 @@ impl Session {
     {
         match self.way(alloc, p)? {
             Some(count) => self.play_new(&Line::Step(p, count), out),
-            None => put_around(out, b"process ", p, b" comes to no answer alone\n"),
+            None => put_around(out, b"process ", p, b" gets no answer by its own steps\n"),
         }
     }
 

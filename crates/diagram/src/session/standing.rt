@@ -2,7 +2,7 @@
 
 ghost use Rattle.std.specs.Prelude.{◌≡◌, ◌++◌, ◌^◌, ◌<◌, OnOk, get_or, length, None};
 ghost use Rattle.rmecore.specs.Place.{is_before as is_before_in};
-ghost use Rattle.diagram.specs.Standings.{dead_text, doorway_text, holder as holder_in, inside_line, is_inside as is_inside_in, look_text, numbers_read as numbers_read_in, own_text, place_text, process_line, process_lines, read_so_far as read_so_far_in, restart_row as restart_row_in, row_with_number as row_with, row_without_number as row_without, state_text, waiting_text, weigh_text};
+ghost use Rattle.diagram.specs.Standings.{dead_text, doorway_text, holder as holder_in, inside_line, is_inside as is_inside_in, look_text, numbers_read as numbers_read_in, own_text, place_text, process_line, process_lines, read_so_far as read_so_far_in, restart_row as restart_row_in, row_with_number as row_with, row_without_number as row_without, state_text, waiting_text, waits_for, weigh_text};
 
 use crate::following::phase_of;
 use crate::paging::{put_around, put_decimal, put_piece, put_text};
@@ -74,6 +74,7 @@ fn read_so_far(p: u64, last: Option<Happened>) -> u64
     }
 }
 
+#[tactic(auto, using(crate::proofs::Joined::joined_around))]
 fn put_doorway(
     out: &mut Vec<u8>,
     procs: u64,
@@ -82,8 +83,9 @@ fn put_doorway(
 ) -> Result<(), AllocError>
     ensures { OnOk result (out.new.items ≡ out.old.items ++ doorway_text procs p last) }
 {
-    put_piece(out, b"in the doorway, has read ", read_so_far(p, last))?;
-    put_around(out, b" of ", procs.saturating_sub(1), b" numbers")
+    let read = read_so_far(p, last);
+    put_around(out, b"in the doorway, has read ", read, b" of ")?;
+    put_around(out, b"", procs.saturating_sub(1), b" numbers")
 }
 
 /// Whether the pair of p is before that of j.
@@ -102,12 +104,20 @@ fn put_look(out: &mut Vec<u8>, j: u64, value: u64) -> Result<(), AllocError>
     put_around(out, b"waits for process ", j, b", which is in the doorway")
 }
 
+/// Writes whom a process waits for, and the number of that one.
+#[tactic(auto, using(crate::proofs::Joined::joined_around))]
+fn put_waits_for(out: &mut Vec<u8>, j: u64, value: u64) -> Result<(), AllocError>
+    ensures { OnOk result (out.new.items ≡ out.old.items ++ waits_for j value) }
+{
+    put_around(out, b"waits for process ", j, b", which has number ")?;
+    put_around(out, b"", value, b"")
+}
+
 fn put_weigh(out: &mut Vec<u8>, p: u64, own: &Own, j: u64, value: u64) -> Result<(), AllocError>
     ensures { OnOk result (out.new.items ≡ out.old.items ++ weigh_text p own.now j value) }
 {
     if value != 0 && !is_before(own.number, p, value, j) {
-        put_piece(out, b"waits for process ", j)?;
-        return put_around(out, b", which has number ", value, b"");
+        return put_waits_for(out, j, value);
     }
     put_around(out, b"waits, has passed process ", j, b"")
 }

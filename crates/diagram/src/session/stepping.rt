@@ -4,6 +4,7 @@ ghost use Rattle.std.specs.Prelude.{◌≡◌, ◌≤◌, ◌++◌, IfOk, OnOk};
 ghost use Rattle.diagram.specs.Events.{events_of, steps_of};
 ghost use Rattle.diagram.specs.Followed.{followed, row_told};
 ghost use Rattle.diagram.specs.Sights.{number_refused, sight_after, sight_with};
+ghost use Rattle.rmecore.specs.declared.refusal.Refusal.TheVariants.{OutOfMemory as RefusalOutOfMemory};
 ghost use Rattle.schedule.specs.declared.lines.line.Line.TheVariants.{Crash as LineCrash, Step as LineStep};
 ghost use Rattle.schedule.specs.Runs.{line_on, steps};
 
@@ -63,7 +64,8 @@ fn put_steps<M: Machine>(
 
 /// The number of a refusal. Out of memory has none.
 fn refused(refusal: Refusal) -> Result<Option<u64>, AllocError>
-    ensures { IfOk result (λ number. number ≡ number_refused (Some refusal)) }
+    ensures number { IfOk result (λ number. number ≡ number_refused (Some refusal)) }
+    ensures numbered { OnOk result (refusal ≡ RefusalOutOfMemory → ⊥) }
 {
     match refusal.number() {
         Some(number) => Ok(Some(number)),

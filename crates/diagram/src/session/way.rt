@@ -12,7 +12,7 @@ pub fn steps_to_answer<M: Machine>(
     p: u64,
     n: u64,
 ) -> Result<Option<u64>, AllocError>
-    ensures number { IfOk result (λ steps. steps ≡ steps_to_answer_in M.behaviour p n machine.old) }
+    ensures number { IfOk result (λ steps. steps ≡ steps_to_answer_in M.behaviour p 0 n machine.old) }
     ensures range { IfOk result (λ steps. IfSome steps (λ k. (1 ≤ k) × (k ≤ n))) }
 {
     for k in 0..n {

@@ -13,7 +13,7 @@ use Rattle.commands.specs.Statuses.{status_of}
 use Rattle.commands.specs.declared.schedules.ending.Ending.{Ending}
 use Rattle.commands.specs.declared.schedules.fault.CommandFault.{CommandFault}
 use Rattle.schedule.specs.Wholes.{Silent, world_run}
-use Rattle.diagram.specs.Sessions.{SessionState, after_request, at_schedule, scene_of, scene_text, fault_text, next_number, reply_to, request_in, text_of_request}
+use Rattle.diagram.specs.Sessions.{SessionState, after_request, at_schedule, watched_of, watched_text, fault_text, next_number, reply_to, request_in, text_of_request}
 
 -- the file that a line names
 abbrev pub file_in : List ℕ → List ℕ
@@ -109,7 +109,7 @@ pub record IsHeld (start : Option (List ℕ)) (old new : Reading) (before now : 
   pub opens : Opens start old opened buffer schedule
   pub accepted : (world_run schedule).refused ≡ None
   pub opening : Tape
-  pub first : Writes blank opening (scene_text schedule (scene_of schedule))
+  pub first : Writes blank opening (watched_text schedule (watched_of schedule))
   pub holds : HoldsSession (at_schedule schedule []) buffer opened new before now opening written (Ok tt)
 
 -- how a session ends: at its end with status 0; or it didn't begin, and nothing was written; or a device or memory has failed

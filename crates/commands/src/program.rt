@@ -138,7 +138,16 @@ fn execute<T: Threads + Wait + Sync, F: Folder, S: Screen, R: Source, W: Sink>(
             screen,
             out,
         ),
-        None => ended(rt, alloc, command, image.as_deref(), folder, screen, input, out),
+        None => ended(
+            rt,
+            alloc,
+            command,
+            image.as_deref(),
+            folder,
+            screen,
+            input,
+            out,
+        ),
     }
 }
 

@@ -9,3 +9,4 @@ pub mod NotEmpty
 pub mod Steps
 pub mod Ended
 pub mod Seen
+pub mod Watching

@@ -5,28 +5,28 @@ use Rattle.redomail.specs.declared.layout.Layout.{Layout}
 use Rattle.rmeworld.specs.declared.stepped.Stepped.{Stepped}
 use Rattle.diagram.proofs.Common.{append-nil, Behaviour, Crash, Deed, Event, Fell, Refusal, Told, events_of, followed, row_of, row_told, unless}
 use Rattle.diagram.specs.Sessions.{steps_to_answer}
-use Rattle.diagram.specs.Sights.{SightState, sight_after, sight_with}
+use Rattle.diagram.specs.LastSteps.{LastStepsState, last_steps_after, last_steps_with}
 
 -- ---- events
 
 -- one event is written, and the others are left
-pub seen_event : (l : Layout) (sight : SightState) (e : Event) (rest : List Event) (old mid : List ℕ)
-    → mid ≡ old ++ row_told l (sight_with sight (row_of e)).phases (row_of e)
-    → mid ++ followed l (sight_with sight (row_of e)).phases rest ≡ old ++ followed l sight.phases (e ∷ rest)
-seen_event l sight e rest old mid is =
-    ap (λ (t : List ℕ). t ++ followed l (sight_with sight (row_of e)).phases rest) is
-    ∙ append_assoc old (row_told l (sight_with sight (row_of e)).phases (row_of e)) (followed l (sight_with sight (row_of e)).phases rest)
+pub seen_event : (l : Layout) (last_steps : LastStepsState) (e : Event) (rest : List Event) (old mid : List ℕ)
+    → mid ≡ old ++ row_told l (last_steps_with last_steps (row_of e)).phases (row_of e)
+    → mid ++ followed l (last_steps_with last_steps (row_of e)).phases rest ≡ old ++ followed l last_steps.phases (e ∷ rest)
+seen_event l last_steps e rest old mid is =
+    ap (λ (t : List ℕ). t ++ followed l (last_steps_with last_steps (row_of e)).phases rest) is
+    ∙ append_assoc old (row_told l (last_steps_with last_steps (row_of e)).phases (row_of e)) (followed l (last_steps_with last_steps (row_of e)).phases rest)
 
 -- one event is written, and none is left
-pub seen_last : (l : Layout) (sight : SightState) (e : Event) (es : List Event) (old mid : List ℕ) → es ≡ e ∷ []
-    → mid ≡ old ++ row_told l (sight_with sight (row_of e)).phases (row_of e) → mid ≡ old ++ followed l sight.phases es
-seen_last l sight e es old mid one is =
-    sym (append-nil mid) ∙ seen_event l sight e [] old mid is ∙ ap (λ (xs : List Event). old ++ followed l sight.phases xs) (sym one)
+pub seen_last : (l : Layout) (last_steps : LastStepsState) (e : Event) (es : List Event) (old mid : List ℕ) → es ≡ e ∷ []
+    → mid ≡ old ++ row_told l (last_steps_with last_steps (row_of e)).phases (row_of e) → mid ≡ old ++ followed l last_steps.phases es
+seen_last l last_steps e es old mid one is =
+    sym (append-nil mid) ∙ seen_event l last_steps e [] old mid is ∙ ap (λ (xs : List Event). old ++ followed l last_steps.phases xs) (sym one)
 
 -- nothing is written of no event
-pub nothing_seen : (l : Layout) (sight : SightState) (out : List ℕ) (es : List Event) → es ≡ [] → (out ≡ out ++ followed l sight.phases es) × (sight ≡ sight_after sight es)
-nothing_seen l sight out es none =
-    (sym (append-nil out) ∙ ap (λ (xs : List Event). out ++ followed l sight.phases xs) (sym none), ap (λ (xs : List Event). sight_after sight xs) (sym none))
+pub nothing_seen : (l : Layout) (last_steps : LastStepsState) (out : List ℕ) (es : List Event) → es ≡ [] → (out ≡ out ++ followed l last_steps.phases es) × (last_steps ≡ last_steps_after last_steps es)
+nothing_seen l last_steps out es none =
+    (sym (append-nil out) ∙ ap (λ (xs : List Event). out ++ followed l last_steps.phases xs) (sym none), ap (λ (xs : List Event). last_steps_after last_steps xs) (sym none))
 
 -- ---- refusals
 

@@ -7,7 +7,7 @@ pub mod Columns
 pub mod Pictures
 pub mod Drawings
 pub mod Followed
-pub mod Sights
+pub mod LastSteps
 pub mod Standings
 pub mod Requests
 pub mod Helps

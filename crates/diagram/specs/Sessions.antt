@@ -1,8 +1,6 @@
 -- A session: a schedule that grows by a line at a time, and goes back. What is written for a line is a function of the
 -- schedule before it, of what was undone, and of the line.
 use Rattle.std.specs.Prelude.{ℕ, zero, suc, ◌+◌, ◌-◌, List, [], ◌∷◌, ◌++◌, codes, length, take, Option, Some, None, is_some, if◌then◌else◌, Result, Ok, Err, slice_get}
-use Rattle.rmecore.specs.declared.refusal.Refusal.{Refusal}
-use Rattle.rmecore.specs.Refused.{number_of}
 use Rattle.rmeworld.specs.Behaviours.{Behaviour}
 use Rattle.rmeworld.specs.Replayed.{world_behaviour}
 use Rattle.rmeworld.specs.WorldState.{WorldState, new_world}
@@ -24,48 +22,48 @@ use Rattle.diagram.specs.Followed.{followed}
 use Rattle.diagram.specs.Helps.{help_text}
 use Rattle.diagram.specs.Pictures.{around}
 use Rattle.diagram.specs.Requests.{request_at}
-use Rattle.diagram.specs.Sights.{SightState, first_sight, sight_after}
+use Rattle.diagram.specs.LastSteps.{LastStepsState, last_steps_after, no_last_steps, number_refused}
 use Rattle.diagram.specs.Standings.{state_text}
 
--- ---- the scene of a schedule
+-- ---- the watched of a schedule
 
 -- the world, and what its processes have shown
-pub record SceneState : Type 0 where
+pub record WatchedState : Type 0 where
   pub world : WorldState
-  pub sight : SightState
+  pub last_steps : LastStepsState
 
 -- the new world of a header
-abbrev pub first_scene : Head → SceneState
-first_scene head = record { world = new_world (layout_of head) head.limit; sight = first_sight head.procs }
+abbrev pub first_watched : Head → WatchedState
+first_watched head = record { world = new_world (layout_of head) head.limit; last_steps = no_last_steps head.procs }
 
 -- after a line; where it is refused, nothing has changed
-abbrev pub scene_with : SceneState → Line → SceneState
-scene_with scene line =
+abbrev pub watched_with : WatchedState → Line → WatchedState
+watched_with watched line =
     record {
-      world = (line_on world_behaviour scene.world line).left;
-      sight = sight_after scene.sight (events_of world_behaviour scene.world line);
+      world = (line_on world_behaviour watched.world line).left;
+      last_steps = last_steps_after watched.last_steps (events_of world_behaviour watched.world line);
     }
 
 -- after lines
-abbrev pub scene_on : SceneState → List Line → SceneState
-scene_on scene [] = scene
-scene_on scene (line ∷ lines) = scene_on (scene_with scene line) lines
+abbrev pub watched_on : WatchedState → List Line → WatchedState
+watched_on watched [] = watched
+watched_on watched (line ∷ lines) = watched_on (watched_with watched line) lines
 
 -- after a schedule
-abbrev pub scene_of : Scheduled → SceneState
-scene_of schedule = scene_on (first_scene (head_of schedule)) schedule.lines
+abbrev pub watched_of : Scheduled → WatchedState
+watched_of schedule = watched_on (first_watched (head_of schedule)) schedule.lines
 
 -- ---- the session
 
--- the schedule so far, with its scene; and the lines that were undone, the last one first to be taken again
+-- the schedule so far, with its watched; and the lines that were undone, the last one first to be taken again
 pub record SessionState : Type 0 where
   pub schedule : Scheduled
   pub undone : List Line
-  pub scene : SceneState
+  pub watched : WatchedState
 
 -- a session at a schedule
 abbrev pub at_schedule : Scheduled → List Line → SessionState
-at_schedule schedule undone = record { schedule = schedule; undone = undone; scene = scene_of schedule }
+at_schedule schedule undone = record { schedule = schedule; undone = undone; watched = watched_of schedule }
 
 -- the last of some lines
 abbrev pub last_line : List Line → Option Line
@@ -83,43 +81,39 @@ shortened schedule = record schedule { lines = without_last schedule.lines }
 abbrev pub next_number : SessionState → ℕ
 next_number session = length session.schedule.lines + 2
 
--- the lines that say where the processes of a scene stand
-abbrev pub scene_text : Scheduled → SceneState → List ℕ
-scene_text schedule scene = state_text schedule.procs scene.world.words scene.sight
+-- the lines that say where the processes of a watched stand
+abbrev pub watched_text : Scheduled → WatchedState → List ℕ
+watched_text schedule watched = state_text schedule.procs watched.world.words watched.last_steps
 
 -- ---- a line of the schedule
 
-abbrev pub refusal_in : SessionState → Line → Option Refusal
-refusal_in session line = (line_on world_behaviour session.scene.world line).refused
+-- the number of the refusal of a line, if it is refused
+abbrev pub refusal_in : SessionState → Line → Option ℕ
+refusal_in session line = number_refused (line_on world_behaviour session.watched.world line).refused
 
 -- why a line is not taken
 abbrev pub fault_text : ℕ → List ℕ → ℕ → List ℕ
 fault_text line name number = around (codes "line ") line (codes ": ") ++ around name number (10 ∷ [])
 
--- the line of a refusal. Out of memory has no number, and is none
-abbrev pub refused_text : ℕ → Option ℕ → List ℕ
-refused_text line None = []
-refused_text line (Some number) = fault_text line (codes "refused ") number
-
 -- the steps of the line, as `replay --each` writes them, and the state after it; or the line of its refusal
-abbrev pub play_text_by : SessionState → Line → Option Refusal → List ℕ
+abbrev pub play_text_by : SessionState → Line → Option ℕ → List ℕ
 play_text_by session line None =
-    followed (layout_of (head_of session.schedule)) session.scene.sight.phases (events_of world_behaviour session.scene.world line)
-    ++ scene_text session.schedule (scene_with session.scene line)
-play_text_by session line (Some refusal) = refused_text (next_number session) (number_of refusal)
+    followed (layout_of (head_of session.schedule)) session.watched.last_steps.phases (events_of world_behaviour session.watched.world line)
+    ++ watched_text session.schedule (watched_with session.watched line)
+play_text_by session line (Some number) = fault_text (next_number session) (codes "refused ") number
 
 abbrev pub play_text : SessionState → Line → List ℕ
 play_text session line = play_text_by session line (refusal_in session line)
 
 -- the session after the line, with these lines undone; where it is refused, nothing has changed
-abbrev pub played_by : SessionState → List Line → Line → Option Refusal → SessionState
+abbrev pub played_by : SessionState → List Line → Line → Option ℕ → SessionState
 played_by session undone line None =
     record {
       schedule = record session.schedule { lines = session.schedule.lines ++ line ∷ [] };
       undone = undone;
-      scene = scene_with session.scene line;
+      watched = watched_with session.watched line;
     }
-played_by session undone line (Some refusal) = session
+played_by session undone line (Some number) = session
 
 abbrev pub played : SessionState → List Line → Line → SessionState
 played session undone line = played_by session undone line (refusal_in session line)
@@ -137,7 +131,7 @@ after_undo session = undone_by session (last_line session.schedule.lines)
 -- the state there
 abbrev pub undo_text_by : SessionState → Option Line → List ℕ
 undo_text_by session None = codes "nothing to undo" ++ 10 ∷ []
-undo_text_by session (Some line) = scene_text (shortened session.schedule) (scene_of (shortened session.schedule))
+undo_text_by session (Some line) = watched_text (shortened session.schedule) (watched_of (shortened session.schedule))
 
 abbrev pub undo_text : SessionState → List ℕ
 undo_text session = undo_text_by session (last_line session.schedule.lines)
@@ -173,9 +167,9 @@ abbrev pub most_steps : ℕ
 most_steps = 1000000
 
 abbrev pub way_of : SessionState → ℕ → Option ℕ
-way_of session p = steps_to_answer world_behaviour p 0 most_steps (scene_of session.schedule).world
+way_of session p = steps_to_answer world_behaviour p 0 most_steps (watched_of session.schedule).world
 
--- the line of just so many steps
+-- the line of that many steps
 abbrev pub answered_by : SessionState → ℕ → Option ℕ → SessionState
 answered_by session p None = session
 answered_by session p (Some n) = played session [] (Step p n)

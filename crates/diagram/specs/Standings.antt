@@ -12,7 +12,7 @@ use Rattle.rmecore.specs.Place.{is_before}
 use Rattle.diagram.specs.declared.phase.LifelinePhase.{LifelinePhase}
 use Rattle.diagram.specs.declared.phase.LifelinePhase.TheVariants.{Rest, Doorway, Waiting, Section, Dead}
 use Rattle.diagram.specs.Pictures.{around}
-use Rattle.diagram.specs.Sights.{SightState}
+use Rattle.diagram.specs.LastSteps.{LastStepsState}
 
 -- ---- the restart table
 
@@ -112,10 +112,10 @@ process_line procs p own phase last =
     ++ place_text procs p own phase last ++ 10 ∷ []
 
 -- the processes from p on
-abbrev pub process_lines : SightState → ℕ → ℕ → List Own → List ℕ
-process_lines sight procs p [] = []
-process_lines sight procs p (own ∷ owns) =
-    process_line procs p own (get_or sight.phases p Rest) (get_or sight.lasts p None) ++ process_lines sight procs (p + 1) owns
+abbrev pub process_lines : LastStepsState → ℕ → ℕ → List Own → List ℕ
+process_lines last_steps procs p [] = []
+process_lines last_steps procs p (own ∷ owns) =
+    process_line procs p own (get_or last_steps.phases p Rest) (get_or last_steps.lasts p None) ++ process_lines last_steps procs (p + 1) owns
 
 -- the first process from p on whose words are inside; no two are (the lock theorem)
 abbrev pub holder : ℕ → List Own → Option ℕ
@@ -128,5 +128,5 @@ inside_line None = codes "inside: nobody" ++ 10 ∷ []
 inside_line (Some p) = around (codes "inside: process ") p (10 ∷ [])
 
 -- the state of the world
-abbrev pub state_text : ℕ → List Own → SightState → List ℕ
-state_text procs owns sight = process_lines sight procs 0 owns ++ inside_line (holder 0 owns)
+abbrev pub state_text : ℕ → List Own → LastStepsState → List ℕ
+state_text procs owns last_steps = process_lines last_steps procs 0 owns ++ inside_line (holder 0 owns)

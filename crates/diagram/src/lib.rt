@@ -27,5 +27,5 @@ pub use diagram_layout::Style;
 pub use drawing::{Drawing, End, draw};
 pub use following::follow;
 pub use phase::LifelinePhase;
-pub use session::{Request, Session};
+pub use session::{Reply, Request, Session};
 pub use writing::write_drawing;

@@ -1,14 +1,14 @@
 //! The items of `explorer`, `lock_explorer` and `diagram`.
 
 use crashlab::Variant;
-use diagram::{Drawing, LifelinePhase, Style, draw, follow, write_drawing};
+use diagram::{Drawing, LifelinePhase, Reply, Session, Style, draw, follow, write_drawing};
 use explorer::{MoveVerdict, SearchFault, SearchOutcome, Space, Unwatched, Watch, search};
 use judge::Judge;
 use lock_explorer::{Bounds, ExploreFault, Move, shortest_schedule};
 use redomail::Layout;
 use rmeworld::{Call, Machine};
 use schedule::{OutOfMemory, ReplayFault, Schedule, Sink, Verdict};
-use std::alloc::Global;
+use std::alloc::{AllocError, Global};
 
 pub fn searched<S: Space>(
     alloc: Global,
@@ -99,4 +99,11 @@ pub fn followed<M: Machine, W: Sink>(
     w: &mut W,
 ) -> Result<Verdict, ReplayFault> {
     follow(alloc, machine, judge, schedule, first, w)
+}
+
+pub fn ends_at(alloc: Global, schedule: Schedule, line: &[u8]) -> Result<bool, AllocError> {
+    let mut session = Session::new(alloc, schedule)?;
+    let mut page = Vec::new(alloc);
+    session.put_state(&mut page)?;
+    Ok(session.answer(alloc, line, &mut page)? == Reply::Quits)
 }

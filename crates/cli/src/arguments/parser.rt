@@ -190,8 +190,9 @@ fn step<'a>(alloc: Global) -> Result<Parser<'a>, AllocError>
     ensures { IfOk result (IsParser (alone step)) }
 {
     let about = "Holds a session: takes the lines of a schedule one by one, and goes back";
-    let arguments =
-        [Argument::file("The schedule to begin with; without it, the first line is a header")];
+    let arguments = [Argument::file(
+        "The schedule to begin with; without it, the first line is a header",
+    )];
     command(alloc, "step", about, STEP_HELP, &arguments)
 }
 

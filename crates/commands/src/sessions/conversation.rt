@@ -8,9 +8,8 @@ ghost use Rattle.commands.specs.Conversations.{after_line, file_in, HoldsSession
 ghost use Rattle.diagram.specs.Sessions.{reply_to, request_in};
 
 use crate::folder::Folder;
-use diagram::Session;
-use diagram::session::opened::Reply;
 use diagram::session::saying::put_fault;
+use diagram::{Reply, Session};
 use schedule::lines::cut::cut_once;
 use schedule::lines::words::Words;
 use schedule::texts::device::write_all;

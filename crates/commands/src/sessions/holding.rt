@@ -5,7 +5,7 @@ ghost use Rattle.schedule.specs.Schedules.{schedule_at};
 ghost use Rattle.schedule.specs.Tapes.{Writes};
 ghost use Rattle.schedule.specs.Wholes.{world_run};
 ghost use Rattle.schedule.specs.Words.{parts_of};
-ghost use Rattle.diagram.specs.Sessions.{scene_text};
+ghost use Rattle.diagram.specs.Sessions.{watched_text};
 ghost use Rattle.commands.specs.Conversations.{Opens, SessionEnds};
 ghost use Rattle.commands.specs.Endings.{IsEnded};
 ghost use Rattle.commands.specs.Statuses.{status_of};
@@ -75,7 +75,7 @@ fn plays(alloc: Global, schedule: &Schedule) -> Result<(), CommandFault>
 
 /// Writes where the processes stand.
 fn write_state<W: Sink>(alloc: Global, session: &Session, w: &mut W) -> Result<(), CommandFault>
-    ensures written { OnOk result (Writes (W.tape w.old) (W.tape w.new) (scene_text session.now.schedule session.now.scene)) }
+    ensures written { OnOk result (Writes (W.tape w.old) (W.tape w.new) (watched_text session.now.schedule session.now.watched)) }
     ensures failed { IfErr result (λ fault. status_of fault ≡ 3) }
 {
     let mut page = Vec::new(alloc);

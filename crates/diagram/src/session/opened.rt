@@ -4,17 +4,18 @@ ghost use Rattle.std.specs.Prelude.{◌≡◌, ◌++◌, [], IfOk, Ok, OnOk, is_
 ghost use Rattle.rmeworld.specs.Replayed.{world_behaviour};
 ghost use Rattle.schedule.specs.Runs.{run_on};
 ghost use Rattle.schedule.specs.Schedules.{head_of};
-ghost use Rattle.diagram.specs.Sessions.{after_redo, after_request, after_undo, answer_text_by, answered_by, at_schedule, first_scene, last_line as last_line_in, next_number, play_text, played, redo_text, refusal_in, reply_to, request_in, scene_of, scene_text as scene_text_in, shortened as shortened_in, text_of_request, undo_text, way_of, without_last};
-ghost use Rattle.diagram.specs.Sights.{number_refused};
+ghost use Rattle.diagram.specs.Sessions.{after_redo, after_request, after_undo, answer_text_by, answered_by, at_schedule, first_watched, last_line as last_line_in, next_number, play_text, played, redo_text, refusal_in, reply_to, request_in, watched_of, watched_on, watched_text as watched_text_in, shortened as shortened_in, text_of_request, undo_text, way_of, without_last};
+ghost use Rattle.diagram.specs.LastSteps.{number_refused};
 
 use crate::diagram_layout::layout_of;
 use crate::paging::{put_around, put_text};
+use crate::session::last_steps::LastSteps;
 use crate::session::request::{Request, read_request};
 use crate::session::saying::{put_fault, put_help};
-use crate::session::sight::Sight;
 use crate::session::standing::put_state;
 use crate::session::stepping::play_line;
 use crate::session::way::steps_to_answer;
+use redomail::Layout;
 use rmeworld::World;
 use schedule::{Count, Line, Schedule};
 use std::alloc::{AllocError, Global};
@@ -33,43 +34,62 @@ pub enum Reply {
 
 /// A world, and what its processes have shown.
 #[derive(Drop)]
-struct Scene {
+struct Watched {
     world: World,
-    sight: Sight,
+    last_steps: LastSteps,
 }
 
-impl Model for Scene {
-    ghost use Rattle.diagram.specs.Sessions.{SceneState};
+impl Model for Watched {
+    ghost use Rattle.diagram.specs.Sessions.{WatchedState};
 
-    ghost Value = { SceneState };
+    ghost Value = { WatchedState };
 
-    ghost view = { λ s. record { world = s.world; sight = s.sight } };
+    ghost view = { λ s. record { world = s.world; last_steps = s.last_steps } };
 }
 
-/// The scene of a schedule. `Err`: out of memory, or no world has the sizes.
-fn scene_at(alloc: Global, schedule: &Schedule) -> Result<Scene, AllocError>
-    ensures { IfOk result (λ scene. scene ≡ scene_of schedule.now) }
+/// Plays lines, and writes nothing. A line that is refused changes nothing.
+fn play_all(
+    watched: &mut Watched,
+    layout: &Layout,
+    page: &mut Vec<u8>,
+    lines: &[Line],
+) -> Result<(), AllocError>
+    ensures { OnOk result (watched.new ≡ watched_on watched.old lines.now) }
 {
-    let mut scene = first_scene_of(alloc, schedule)?;
+    for line in lines {
+        page.clear();
+        play_line(
+            &mut watched.world,
+            &mut watched.last_steps,
+            layout,
+            page,
+            line,
+        )?;
+    }
+    Ok(())
+}
+
+/// The global state after a schedule. `Err`: out of memory, or no world has the sizes.
+fn watched_at(alloc: Global, schedule: &Schedule) -> Result<Watched, AllocError>
+    ensures { IfOk result (λ watched. watched ≡ watched_of schedule.now) }
+{
+    let mut watched = first_watched_of(alloc, schedule)?;
     let layout = layout_of(schedule.head());
     let mut page = Vec::new(alloc);
-    for line in schedule.lines() {
-        page.clear();
-        play_line(&mut scene.world, &mut scene.sight, &layout, &mut page, line)?;
-    }
-    Ok(scene)
+    play_all(&mut watched, &layout, &mut page, schedule.lines())?;
+    Ok(watched)
 }
 
-/// The scene before the first line.
-fn first_scene_of(alloc: Global, schedule: &Schedule) -> Result<Scene, AllocError>
-    ensures { IfOk result (λ scene. scene ≡ first_scene (head_of schedule.now)) }
+/// A new world with the sizes of a schedule, of which nothing has been seen.
+fn first_watched_of(alloc: Global, schedule: &Schedule) -> Result<Watched, AllocError>
+    ensures { IfOk result (λ watched. watched ≡ first_watched (head_of schedule.now)) }
 {
     let head = schedule.head();
     let Ok(world) = World::new(alloc, head.procs, head.limit, head.cap, head.width) else {
         return Err(AllocError);
     };
-    let sight = Sight::new(alloc, head.procs)?;
-    Ok(Scene { world, sight })
+    let last_steps = LastSteps::new(alloc, head.procs)?;
+    Ok(Watched { world, last_steps })
 }
 
 /// The last of some lines.
@@ -105,7 +125,7 @@ fn shortened(alloc: Global, schedule: &Schedule) -> Result<Schedule, AllocError>
 pub struct Session {
     schedule: Schedule,
     undone: Vec<Line>,
-    scene: Scene,
+    watched: Watched,
 }
 
 impl Model for Session {
@@ -113,7 +133,7 @@ impl Model for Session {
 
     ghost Value = { SessionState };
 
-    ghost view = { λ s. record { schedule = s.schedule; undone = s.undone.items; scene = s.scene } };
+    ghost view = { λ s. record { schedule = s.schedule; undone = s.undone.items; watched = s.watched } };
 }
 
 impl Session {
@@ -122,11 +142,11 @@ impl Session {
     pub fn new(alloc: Global, schedule: Schedule) -> Result<Session, AllocError>
         ensures { IfOk result (λ session. session ≡ at_schedule schedule []) }
     {
-        let scene = scene_at(alloc, &schedule)?;
+        let watched = watched_at(alloc, &schedule)?;
         Ok(Session {
             schedule,
             undone: Vec::new(alloc),
-            scene,
+            watched,
         })
     }
 
@@ -139,13 +159,13 @@ impl Session {
 
     /// Writes where the processes stand, and who is inside.
     pub fn put_state(&self, out: &mut Vec<u8>) -> Result<(), AllocError>
-        ensures { OnOk result (out.new.items ≡ out.old.items ++ scene_text_in self.now.schedule self.now.scene) }
+        ensures { OnOk result (out.new.items ≡ out.old.items ++ watched_text_in self.now.schedule self.now.watched) }
     {
-        let Ok(image) = self.scene.world.image() else {
+        let Ok(image) = self.watched.world.image() else {
             return Err(AllocError);
         };
         let procs = self.schedule.head().procs;
-        put_state(out, procs, image.lock.as_slice(), &self.scene.sight)
+        put_state(out, procs, image.lock.as_slice(), &self.watched.last_steps)
     }
 
     /// Takes a line of the schedule, and writes its steps and the state after it. Answers whether it was taken.
@@ -155,8 +175,8 @@ impl Session {
         ensures taken { IfOk result (λ taken. is_some (refusal_in self.old line.now) ≡ not taken) }
     {
         let layout = layout_of(self.schedule.head());
-        let Scene { world, sight } = &mut self.scene;
-        if let Some(number) = play_line(world, sight, &layout, out, line)? {
+        let Watched { world, last_steps } = &mut self.watched;
+        if let Some(number) = play_line(world, last_steps, &layout, out, line)? {
             let next = self.schedule.lines().len() as u64 + 2;
             put_fault(out, next, b"refused ", number)?;
             return Ok(false);
@@ -188,7 +208,7 @@ impl Session {
             return put_text(out, b"nothing to undo\n");
         };
         self.schedule = shortened(alloc, &self.schedule)?;
-        self.scene = scene_at(alloc, &self.schedule)?;
+        self.watched = watched_at(alloc, &self.schedule)?;
         self.undone.push(line)?;
         self.put_state(out)
     }
@@ -212,20 +232,15 @@ impl Session {
     fn way(&self, alloc: Global, p: u64) -> Result<Option<Count>, AllocError>
         ensures { IfOk result (λ count. count ≡ way_of self.now p) }
     {
-        let mut scene = scene_at(alloc, &self.schedule)?;
-        let Some(steps) = steps_to_answer(&mut scene.world, p, 1_000_000)? else {
+        let mut watched = watched_at(alloc, &self.schedule)?;
+        let Some(steps) = steps_to_answer(&mut watched.world, p, 1_000_000)? else {
             return Ok(None);
         };
         Ok(Some(Count::new(steps).unwrap()))
     }
 
     /// Takes steps of p until its call is answered.
-    fn play_to_answer(
-        &mut self,
-        alloc: Global,
-        p: u64,
-        out: &mut Vec<u8>,
-    ) -> Result<(), AllocError>
+    fn play_to_answer(&mut self, alloc: Global, p: u64, out: &mut Vec<u8>) -> Result<(), AllocError>
         ensures text { OnOk result (out.new.items ≡ out.old.items ++ answer_text_by self.old p (way_of self.old p)) }
         ensures session { OnOk result (self.new ≡ answered_by self.old p (way_of self.old p)) }
     {

@@ -8,12 +8,7 @@ use crate::paging::{put_around, put_piece, put_text};
 use std::alloc::AllocError;
 
 /// Writes why a line is not taken.
-pub fn put_fault(
-    out: &mut Vec<u8>,
-    line: u64,
-    name: &[u8],
-    number: u64,
-) -> Result<(), AllocError>
+pub fn put_fault(out: &mut Vec<u8>, line: u64, name: &[u8], number: u64) -> Result<(), AllocError>
     ensures { OnOk result (out.new.items ≡ out.old.items ++ fault_text line name.now number) }
 {
     put_around(out, b"line ", line, b": ")?;
@@ -30,8 +25,17 @@ pub fn put_help(out: &mut Vec<u8>) -> Result<(), AllocError>
         b"a line of a schedule: lock P, step P K, crash P, unlock P, recover P, consistent P, append P SEQ VALUE, ..\n",
     )?;
     put_text(out, b"undo         go back to before the last line\n")?;
-    put_text(out, b"redo         take the line again that was undone last\n")?;
-    put_text(out, b"to answer P  take steps of P until its call is answered\n")?;
-    put_text(out, b"save FILE    write the schedule so far to a file, for replay\n")?;
+    put_text(
+        out,
+        b"redo         take the line again that was undone last\n",
+    )?;
+    put_text(
+        out,
+        b"to answer P  take steps of P until its call is answered\n",
+    )?;
+    put_text(
+        out,
+        b"save FILE    write the schedule so far to a file, for replay\n",
+    )?;
     put_text(out, b"help, quit\n")
 }

@@ -7,7 +7,7 @@ ghost use Rattle.diagram.specs.Standings.{dead_text, doorway_text, holder as hol
 use crate::following::phase_of;
 use crate::paging::{put_around, put_decimal, put_piece, put_text};
 use crate::phase::LifelinePhase;
-use crate::session::sight::Sight;
+use crate::session::last_steps::LastSteps;
 use rmecore::{Happened, Kind, Own, Word};
 use std::alloc::AllocError;
 
@@ -211,14 +211,14 @@ fn put_processes(
     out: &mut Vec<u8>,
     procs: u64,
     owns: &[Own],
-    sight: &Sight,
+    last_steps: &LastSteps,
 ) -> Result<(), AllocError>
-    ensures { OnOk result (out.new.items ≡ out.old.items ++ process_lines sight.now procs 0 owns.now) }
+    ensures { OnOk result (out.new.items ≡ out.old.items ++ process_lines last_steps.now procs 0 owns.now) }
 {
     let mut p = 0;
     for own in owns {
-        let phase = phase_of(sight.phases(), p);
-        let last = last_of(sight.lasts(), p);
+        let phase = phase_of(last_steps.phases(), p);
+        let last = last_of(last_steps.lasts(), p);
         put_process(out, procs, p, own, phase, last)?;
         p += 1;
     }
@@ -254,10 +254,10 @@ pub fn put_state(
     out: &mut Vec<u8>,
     procs: u64,
     owns: &[Own],
-    sight: &Sight,
+    last_steps: &LastSteps,
 ) -> Result<(), AllocError>
-    ensures { OnOk result (out.new.items ≡ out.old.items ++ state_text procs owns.now sight.now) }
+    ensures { OnOk result (out.new.items ≡ out.old.items ++ state_text procs owns.now last_steps.now) }
 {
-    put_processes(out, procs, owns, sight)?;
+    put_processes(out, procs, owns, last_steps)?;
     put_inside(out, holder(owns))
 }

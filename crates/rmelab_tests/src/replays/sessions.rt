@@ -22,8 +22,10 @@ fn a_session_begins(rt: HostRuntime) -> Result<(), Fail> {
             2,
             "rmelab: line 1: refused 1\n",
         ),
-        invoked("rmelab step", "rme 1 procs 2 limit 10 cap 1", "")
-            .ends(2, "rmelab: line 1: fault 5\n"),
+        invoked("rmelab step", "rme 1 procs 2 limit 10 cap 1", "").ends(
+            2,
+            "rmelab: line 1: fault 5\n",
+        ),
         invoked("rmelab step a.rme", "", "")
             .beside(("a.rme", "rme 1 procs 2 limit 10 cap 1\nlock 0\nlock 0\n"))
             .ends(2, "rmelab: line 3: refused 4\n"),
@@ -32,7 +34,8 @@ fn a_session_begins(rt: HostRuntime) -> Result<(), Fail> {
     all_come_to(&rt, rt.alloc(), &rows)
 }
 
-const IN_AND_BACK: &str = "rme 1 procs 1 limit 10 cap 1\nlock 0\nstep 0 4\nto answer 0\nundo\nredo\nquit\ncrash 0\n";
+const IN_AND_BACK: &str =
+    "rme 1 procs 1 limit 10 cap 1\nlock 0\nstep 0 4\nto answer 0\nundo\nredo\nquit\ncrash 0\n";
 
 const IN_AND_BACK_TOLD: &str =
     "process 0: 0,0,0 (row 0,0,0 idle), outside\ninside: nobody\nprocess 0: 0,0,0 (row 0,0,0 idle), outside\ninside: nobody\nat 0 rest r choosing 0\nat 0 rest r number 0\nat 0 rest r inside 0\nat 0 doorway w choosing=1\nbegin 0\nprocess 0: 1,0,0 (row 1,0,0 doorway unfinished), in the doorway, has read 0 of 0 numbers\ninside: nobody\nat 0 waiting w number=1\nready 0\nat 0 waiting w choosing=0\nat 0 section w inside=1\nenter 0\nat 0 section r ruined 0\nanswer 0 clean\nprocess 0: 0,1,1 (row 0,k,1 inside), inside\ninside: process 0\nprocess 0: 1,0,0 (row 1,0,0 doorway unfinished), in the doorway, has read 0 of 0 numbers\ninside: nobody\nat 0 waiting w number=1\nready 0\nat 0 waiting w choosing=0\nat 0 section w inside=1\nenter 0\nat 0 section r ruined 0\nanswer 0 clean\nprocess 0: 0,1,1 (row 0,k,1 inside), inside\ninside: process 0\n";
@@ -43,8 +46,9 @@ fn a_session_goes_back(rt: HostRuntime) -> Result<(), Fail> {
     all_come_to(&rt, rt.alloc(), &rows)
 }
 
-/// What is refused or can't be read changes nothing, and is told by the number of the schedule's next line.
-const REFUSED: &str = "rme 1 procs 1 limit 10 cap 1\nlock 1\nlock\nlock 01\nwait 0\n\nundo 0\nto answer\nto go 0\nto answer 0\nto answer 1\nsave\nsave a b\nundo\nredo\nlock 0\ncrash 0 0\nquit now\nend";
+/// What is refused or can't be read changes nothing, and is answered with the number of the schedule's next line.
+const REFUSED: &str =
+    "rme 1 procs 1 limit 10 cap 1\nlock 1\nlock\nlock 01\nwait 0\n\nundo 0\nto answer\nto go 0\nto answer 0\nto answer 1\nsave\nsave a b\nundo\nredo\nlock 0\ncrash 0 0\nquit now\nend";
 
 const REFUSED_TOLD: &str =
     "process 0: 0,0,0 (row 0,0,0 idle), outside\ninside: nobody\nline 2: refused 3\nline 2: fault 3\nline 2: fault 3\nline 2: fault 2\nline 2: fault 2\nline 2: fault 6\nline 2: fault 3\nline 2: fault 2\nline 2: refused 7\nline 2: refused 3\nline 2: fault 2\nline 2: fault 6\nnothing to undo\nnothing to redo\nprocess 0: 0,0,0 (row 0,0,0 idle), outside\ninside: nobody\nline 3: fault 6\nline 3: fault 6\nline 3: fault 5\n";
@@ -86,7 +90,8 @@ fn it_says_where_each_stands(rt: HostRuntime) -> Result<(), Fail> {
     all_come_to(&rt, rt.alloc(), &rows)
 }
 
-const SAVES: &str = "rme 1 procs 2 limit 10 cap 1\nlock 1\nundo\nlock 0\nstep 0 2\nundo\nsave b.rme\n";
+const SAVES: &str =
+    "rme 1 procs 2 limit 10 cap 1\nlock 1\nundo\nlock 0\nstep 0 2\nundo\nsave b.rme\n";
 
 const SAVES_TOLD: &str =
     "process 0: 0,0,0 (row 0,0,0 idle), outside\nprocess 1: 0,0,0 (row 0,0,0 idle), outside\ninside: nobody\n\

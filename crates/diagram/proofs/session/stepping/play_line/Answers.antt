@@ -2,7 +2,7 @@ use Rattle.std.proofs.Common.{◌≡◌, ℕ, List, [], ◌∷◌, ◌++◌, Opt
 use Rattle.diagram.proofs.Common.{Did, Event, Refusal, crash_part, events_of, followed, line_on, start_part, step_part, steps, steps_of}
 use Rattle.diagram.proofs.Seen.{left_refused, nothing_seen, on_any}
 use Rattle.diagram.proofs.Shown.{left_of, refused_of, start_shows, step_shows}
-use Rattle.diagram.specs.Sights.{number_refused, sight_after}
+use Rattle.diagram.specs.LastSteps.{number_refused, last_steps_after}
 use Rattle.diagram.proofs.session.stepping.play_line.Goals as goal
 
 pub returns-in-Ok-clause-refused : goal.returns-in-Ok-clause-refused
@@ -15,11 +15,11 @@ returns-in-Ok-clause-refused g c =
 
 pub returns-in-Ok-clause-text : goal.returns-in-Ok-clause-text
 returns-in-Ok-clause-text g c =
-    (nothing_seen c.args.layout.now c.args.sight.now c.args.out.now.items _ (start_shows g.M.Machine.behaviour c.args.machine.now c.args.line.now c.in-Start.p c.in-Start.call c.in-Start.is)).0
+    (nothing_seen c.args.layout.now c.args.last_steps.now c.args.out.now.items _ (start_shows g.M.Machine.behaviour c.args.machine.now c.args.line.now c.in-Start.p c.in-Start.call c.in-Start.is)).0
 
-pub returns-in-Ok-clause-sight : goal.returns-in-Ok-clause-sight
-returns-in-Ok-clause-sight g c =
-    (nothing_seen c.args.layout.now c.args.sight.now c.args.out.now.items _ (start_shows g.M.Machine.behaviour c.args.machine.now c.args.line.now c.in-Start.p c.in-Start.call c.in-Start.is)).1
+pub returns-in-Ok-clause-last_steps : goal.returns-in-Ok-clause-last_steps
+returns-in-Ok-clause-last_steps g c =
+    (nothing_seen c.args.layout.now c.args.last_steps.now c.args.out.now.items _ (start_shows g.M.Machine.behaviour c.args.machine.now c.args.line.now c.in-Start.p c.in-Start.call c.in-Start.is)).1
 
 pub returns-in-Ok-clause-left : goal.returns-in-Ok-clause-left
 returns-in-Ok-clause-left g c =
@@ -41,12 +41,12 @@ returns-in-Err-clause-refused g c =
 pub returns-in-Err-clause-text : goal.returns-in-Err-clause-text
 returns-in-Err-clause-text g c =
     on_any c.refused.result _
-    (nothing_seen c.args.layout.now c.args.sight.now c.args.out.now.items _ (start_shows g.M.Machine.behaviour c.args.machine.now c.args.line.now c.in-Start.p c.in-Start.call c.in-Start.is)).0
+    (nothing_seen c.args.layout.now c.args.last_steps.now c.args.out.now.items _ (start_shows g.M.Machine.behaviour c.args.machine.now c.args.line.now c.in-Start.p c.in-Start.call c.in-Start.is)).0
 
-pub returns-in-Err-clause-sight : goal.returns-in-Err-clause-sight
-returns-in-Err-clause-sight g c =
+pub returns-in-Err-clause-last_steps : goal.returns-in-Err-clause-last_steps
+returns-in-Err-clause-last_steps g c =
     on_any c.refused.result _
-    (nothing_seen c.args.layout.now c.args.sight.now c.args.out.now.items _ (start_shows g.M.Machine.behaviour c.args.machine.now c.args.line.now c.in-Start.p c.in-Start.call c.in-Start.is)).1
+    (nothing_seen c.args.layout.now c.args.last_steps.now c.args.out.now.items _ (start_shows g.M.Machine.behaviour c.args.machine.now c.args.line.now c.in-Start.p c.in-Start.call c.in-Start.is)).1
 
 pub returns-in-Err-clause-left : goal.returns-in-Err-clause-left
 returns-in-Err-clause-left g c =
@@ -70,19 +70,19 @@ returns-in-Step-clause-text g c =
     let s = c.args.machine.now in
     let p = c.in-Step.p in
     let r = c.play_steps.result in
-    let wrote : List Event → Type 0 = λ es. OnOk r (c.play_steps.new.out.items ≡ c.args.out.now.items ++ followed c.args.layout.now c.args.sight.now.phases es) in
+    let wrote : List Event → Type 0 = λ es. OnOk r (c.play_steps.new.out.items ≡ c.args.out.now.items ++ followed c.args.layout.now c.args.last_steps.now.phases es) in
     subst wrote (sym (step_shows b s c.args.line.now p c.in-Step.count c.in-Step.is))
     (subst (λ (n : ℕ). wrote (steps_of b p n s)) c.get.ensures.value c.play_steps.ensures.text)
 
-pub returns-in-Step-clause-sight : goal.returns-in-Step-clause-sight
-returns-in-Step-clause-sight g c =
+pub returns-in-Step-clause-last_steps : goal.returns-in-Step-clause-last_steps
+returns-in-Step-clause-last_steps g c =
     let b = g.M.Machine.behaviour in
     let s = c.args.machine.now in
     let p = c.in-Step.p in
     let r = c.play_steps.result in
-    let saw : List Event → Type 0 = λ es. OnOk r (c.play_steps.new.sight ≡ sight_after c.args.sight.now es) in
+    let saw : List Event → Type 0 = λ es. OnOk r (c.play_steps.new.last_steps ≡ last_steps_after c.args.last_steps.now es) in
     subst saw (sym (step_shows b s c.args.line.now p c.in-Step.count c.in-Step.is))
-    (subst (λ (n : ℕ). saw (steps_of b p n s)) c.get.ensures.value c.play_steps.ensures.sight)
+    (subst (λ (n : ℕ). saw (steps_of b p n s)) c.get.ensures.value c.play_steps.ensures.last_steps)
 
 pub returns-in-Step-clause-left : goal.returns-in-Step-clause-left
 returns-in-Step-clause-left g c =

@@ -1,7 +1,7 @@
 //! What the steps so far have shown of each process.
 
 ghost use Rattle.std.specs.Prelude.{◌≡◌, IfOk};
-ghost use Rattle.diagram.specs.Sights.{access_in, first_sight, sight_with};
+ghost use Rattle.diagram.specs.LastSteps.{access_in, no_last_steps, last_steps_with};
 
 use crate::act::{Act, DiagramRow};
 use crate::phase::{LifelinePhase, phase_shown};
@@ -11,15 +11,15 @@ use std::marker::Model;
 
 /// The phase of each process, and its last access since its last crash.
 #[derive(Drop)]
-pub struct Sight {
+pub struct LastSteps {
     phases: Vec<LifelinePhase>,
     lasts: Vec<Option<Happened>>,
 }
 
-impl Model for Sight {
-    ghost use Rattle.diagram.specs.Sights.{SightState};
+impl Model for LastSteps {
+    ghost use Rattle.diagram.specs.LastSteps.{LastStepsState};
 
-    ghost Value = { SightState };
+    ghost Value = { LastStepsState };
 
     ghost view = { λ s. record { phases = s.phases.items; lasts = s.lasts.items } };
 }
@@ -35,14 +35,14 @@ fn access_of(act: &Act) -> Option<Happened>
     }
 }
 
-impl Sight {
+impl LastSteps {
     /// Before the first step: this many processes, all at rest.
-    pub fn new(alloc: Global, procs: u64) -> Result<Sight, AllocError>
-        ensures { IfOk result (λ sight. sight ≡ first_sight procs) }
+    pub fn new(alloc: Global, procs: u64) -> Result<LastSteps, AllocError>
+        ensures { IfOk result (λ last_steps. last_steps ≡ no_last_steps procs) }
     {
         let phases = vec![in alloc; LifelinePhase::Rest; procs as usize]?;
         let lasts = vec![in alloc; None; procs as usize]?;
-        Ok(Sight { phases, lasts })
+        Ok(LastSteps { phases, lasts })
     }
 
     /// The phases.
@@ -61,7 +61,7 @@ impl Sight {
 
     /// Takes the next row.
     pub fn take(&mut self, row: &DiagramRow)
-        ensures { self.new ≡ sight_with self.old row.now }
+        ensures { self.new ≡ last_steps_with self.old row.now }
     {
         if let Some(phase) = phase_shown(row) {
             if let Some(place) = self.phases.get_mut(row.p as usize) {

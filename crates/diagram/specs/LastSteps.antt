@@ -13,7 +13,7 @@ use Rattle.diagram.specs.Events.{Event}
 use Rattle.diagram.specs.Followed.{phases_with, row_of}
 
 -- the phases of the processes, and their last accesses
-pub record SightState : Type 0 where
+pub record LastStepsState : Type 0 where
   pub phases : List LifelinePhase
   pub lasts : List (Option Happened)
 
@@ -24,22 +24,22 @@ access_in (Telling step) = Some step.happened
 access_in (Fell deed) = None
 
 -- after a row
-abbrev pub sight_with : SightState → DiagramRow → SightState
-sight_with sight row =
-    record { phases = phases_with sight.phases row; lasts = slice_set sight.lasts row.p (access_in row.act) }
+abbrev pub last_steps_with : LastStepsState → DiagramRow → LastStepsState
+last_steps_with last_steps row =
+    record { phases = phases_with last_steps.phases row; lasts = slice_set last_steps.lasts row.p (access_in row.act) }
 
 -- after rows
-abbrev pub sight_behind : SightState → List DiagramRow → SightState
-sight_behind sight [] = sight
-sight_behind sight (row ∷ rows) = sight_behind (sight_with sight row) rows
+abbrev pub last_steps_behind : LastStepsState → List DiagramRow → LastStepsState
+last_steps_behind last_steps [] = last_steps
+last_steps_behind last_steps (row ∷ rows) = last_steps_behind (last_steps_with last_steps row) rows
 
 -- after the steps and crashes of a run
-abbrev pub sight_after : SightState → List Event → SightState
-sight_after sight events = sight_behind sight (map row_of events)
+abbrev pub last_steps_after : LastStepsState → List Event → LastStepsState
+last_steps_after last_steps events = last_steps_behind last_steps (map row_of events)
 
 -- before the first step, all processes at rest
-abbrev pub first_sight : ℕ → SightState
-first_sight procs = record { phases = replicate procs Rest; lasts = replicate procs None }
+abbrev pub no_last_steps : ℕ → LastStepsState
+no_last_steps procs = record { phases = replicate procs Rest; lasts = replicate procs None }
 
 -- the number of a refusal, if there is one
 abbrev pub number_refused : Option Refusal → Option ℕ

@@ -4,10 +4,10 @@ use Rattle.std.specs.declared.alloc.Global.{Global}
 use Rattle.schedule.specs.declared.replays.replay_fault.ReplayFault.{ReplayFault}
 use Rattle.schedule.specs.declared.replays.replay_fault.ReplayFault.TheVariants.{Read, Write, OutOfMemory}
 use Rattle.schedule.specs.Schedules.{Scheduled, schedule_at, spelling}
-use Rattle.schedule.specs.Tapes.{Tape, Reading, Writes, Begins}
+use Rattle.schedule.specs.Tapes.{Tape, Reading, Writes}
 use Rattle.schedule.specs.Words.{parts_of, words_of}
 use Rattle.diagram.specs.declared.session.opened.Reply.{Reply}
-use Rattle.diagram.specs.declared.session.opened.Reply.TheVariants.as replies
+use Rattle.diagram.specs.declared.session.opened.Reply.TheVariants as replies
 use Rattle.commands.specs.Folders.{Used}
 use Rattle.commands.specs.Statuses.{status_of}
 use Rattle.commands.specs.declared.schedules.ending.Ending.{Ending}

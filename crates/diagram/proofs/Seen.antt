@@ -33,9 +33,9 @@ nothing_seen l last_steps out es none =
 -- a refusal with a number is the machine's
 pub refused_by : {A E : Type 0} (r : Result A E) (e : Refusal) (o : Option Refusal) (P : Type 0) → OnOk r (e ≡ refusals.OutOfMemory → ⊥)
     → (e ≡ refusals.OutOfMemory) ⊎ (o ≡ Some e) → (o ≡ Some e → P) → OnOk r P
-refused_by (Ok x) e o P no (inl memory) f = absurd (no memory)
-refused_by (Ok x) e o P no (inr is) f = f is
-refused_by (Err x) e o P no cause f = tt
+refused_by (Ok x) e o P numbered (inl memory) f = absurd (numbered memory)
+refused_by (Ok x) e o P numbered (inr is) f = f is
+refused_by (Err x) e o P numbered cause f = tt
 
 pub on_any : {A E : Type 0} (r : Result A E) (P : Type 0) → P → OnOk r P
 on_any (Ok x) P h = h

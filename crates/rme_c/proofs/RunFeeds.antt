@@ -1,12 +1,11 @@
 -- A run that is fed, and the run that comes next.
-use Rattle.std.proofs.Common.{◌≡◌, ℕ, zero, suc, min, ◌+◌, ◌*◌, ◌<◌, ◌≤◌, ◌==◌, true, false, is_none, List, [], ◌∷◌, ◌++◌, length, Option, Some, None, refl, sym, ap, ◌∙◌, subst, eq-eqb, arith}
-use Rattle.rme_c.proofs.Common.{lt-ltb, Access, Stage, place_of, above, above_past, first, Check, begun, Doing as Does, Checking, Position, Lock, Within, RmeProcess, layout_of, machine_state_at, machine_state_of, position_of, stage_of, IsFed, IsStep, MachineState, Told, held, next_access, outcome, stepped}
+use Rattle.std.proofs.Common.{◌≡◌, ℕ, zero, suc, min, ◌+◌, ◌*◌, ◌<◌, ◌≤◌, false, is_none, List, [], ◌∷◌, ◌++◌, length, Option, Some, None, refl, sym, ap, ◌∙◌, subst, eq-eqb, arith}
+use Rattle.rme_c.proofs.Common.{lt-ltb, Access, Stage, place_of, above, above_past, first, Position, Lock, Within, RmeProcess, machine_state_at, machine_state_of, position_of, stage_of, IsFed, IsStep, MachineState, Told, held, next_access, outcome, stepped}
 use Rattle.rme_c.proofs.Feeds.{busy_told}
 use Rattle.rme_c.proofs.Numbers.{stands}
-use Rattle.rme_c.proofs.RunSteps.{place_at, reached, zeros_first, goes_goes, length_others, length_waits, reread_choosing, reread_number, reread_inside, opened, taken, shuts, drops, peeks_all, waits_all, peeks_run, waits_run, peeks_then, waits_then, zeros_sum, told_goes, peeks_go, waits_go}
-use Rattle.rmecore.specs.Place.{Reread, Opening, Door, Shutting, Wait, Inside, Leaving, Unmarking}
+use Rattle.rme_c.proofs.RunSteps.{place_at, reached, zeros_first, length_others, length_waits, reread_choosing, reread_number, reread_inside, opened, taken, shuts, drops, peeks_all, waits_all, peeks_run, waits_run, peeks_then, waits_then, zeros_sum, told_goes, peeks_go, waits_go}
+use Rattle.rmecore.specs.Place.{Reread, Opening, Door, Shutting, Wait, Leaving, Unmarking}
 use Rattle.rmecore.specs.declared.access.Access.TheVariants.{Load, Store}
-use Rattle.rmecore.specs.declared.core_call.CoreCall.{CoreCall}
 use Rattle.rmecore.specs.declared.core_call.CoreCall.TheVariants as call
 use Rattle.rmecore.specs.declared.kind.Kind.TheVariants as kind
 use Rattle.rmecore.specs.declared.stage.Stage.TheVariants as stage

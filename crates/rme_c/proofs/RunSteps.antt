@@ -1,5 +1,5 @@
 -- The steps of runs: each load reads 0.
-use Rattle.std.proofs.Common.{◌≡◌, ℕ, zero, suc, ◌+◌, ◌-◌, ◌*◌, ◌<◌, ◌≤◌, ◌≢◌, min, max, ◌==◌, not, Bool, true, false, nat_lt, is_none, List, [], ◌∷◌, ◌++◌, length, Option, Some, None, refl, sym, ap, ◌∙◌, subst, inl, inr, eq-eqb, eqb-true, arith}
+use Rattle.std.proofs.Common.{◌≡◌, ℕ, zero, suc, ◌+◌, ◌-◌, ◌*◌, ◌<◌, ◌≤◌, ◌≢◌, min, max, ◌==◌, not, true, false, nat_lt, is_none, List, [], ◌∷◌, ◌++◌, length, Option, Some, None, refl, sym, ap, ◌∙◌, subst, inl, inr, eq-eqb, eqb-true, arith}
 use Rattle.std.proofs.lemmas.Bool.{eqb-false}
 use Rattle.rme_c.proofs.Common.{lt-ltb, cases_Bool, Access, Place, access, first, kind_of, word_of, carried, above, is_entry, mended_entered, MachineState, next_access, stepped, RmeProcess, layout_of, Free as IsFree}
 use Rattle.rmecore.proofs.Scans.{above_first, without-first, without-next, has-first}

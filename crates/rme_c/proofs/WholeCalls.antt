@@ -1,6 +1,6 @@
 -- A whole unlock, of which both feeds are taken at once.
-use Rattle.std.proofs.Common.{◌≡◌, ℕ, ◌+◌, ◌<◌, ◌≤◌, Some, None, refl, sym, ap, ◌∙◌, subst, arith}
-use Rattle.rme_c.proofs.Common.{MachineState, Lock, RmeProcess, layout_of, machine_state_at, machine_state_of, position_of, stage_of, IsFed}
+use Rattle.std.proofs.Common.{◌≡◌, ℕ, ◌<◌, ◌≤◌, Some, None, refl, sym, ap, ◌∙◌, subst, arith}
+use Rattle.rme_c.proofs.Common.{Lock, RmeProcess, layout_of, machine_state_at, machine_state_of, position_of, stage_of, IsFed}
 use Rattle.rme_c.proofs.RunSteps.{reached, drops}
 use Rattle.rme_c.proofs.RunFeeds.{lands_at, leaves_next, fed_after}
 use Rattle.rmecore.specs.Place.{Leaving, Unmarking}

@@ -1,5 +1,5 @@
-use Rattle.std.proofs.Common.{rules, ◌≡◌, ℕ, ◌+◌, ◌<◌, min, refl, sym, ap, ◌∙◌, subst, arith}
-use Rattle.rme_c.proofs.Common.{Within, RmeProcess, machine_state_at}
+use Rattle.std.proofs.Common.{rules, ◌≡◌, arith}
+use Rattle.rme_c.proofs.Common.{Within}
 use Rattle.rme_c.specs.declared.script_position.ScriptPosition.TheVariants as script_position
 use Rattle.rme_c.proofs.StoredAll.{appended, stored_from}
 use Rattle.rme_c.proofs.appends.appended.Goals as goal

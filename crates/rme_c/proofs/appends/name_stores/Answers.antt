@@ -1,4 +1,4 @@
-use Rattle.std.proofs.Common.{◌≡◌, ◌+◌, ◌*◌, ap, ◌∙◌, arith}
+use Rattle.std.proofs.Common.{◌≡◌, ◌+◌, ap, ◌∙◌, arith}
 use Rattle.redomail.specs.Layout.{place_at, last_at}
 use Rattle.rme_c.proofs.Common.{Layout, held, layout_of}
 use Rattle.rme_c.proofs.StoredAll.{record_row, commit, entry_row, numbered, counts, disarm}

@@ -1,4 +1,3 @@
-use Rattle.std.proofs.Common.{◌≡◌, ◌<◌}
 use Rattle.rme_c.proofs.Common.{IsFed}
 use Rattle.rme_c.proofs.RunFeeds.{fed_after, fed_more}
 use Rattle.rme_c.proofs.runs.fed_singly.Goals as goal

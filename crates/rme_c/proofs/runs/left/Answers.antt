@@ -1,4 +1,4 @@
-use Rattle.std.proofs.Common.{◌≡◌, ◌+◌, ◌<◌, ℕ, refl, arith}
+use Rattle.std.proofs.Common.{◌+◌, ◌<◌, refl, arith}
 use Rattle.rme_c.proofs.Common.{RmeProcess}
 use Rattle.rme_c.proofs.RunFeeds.{leaving_at, left_at, fed_after}
 use Rattle.rme_c.proofs.runs.left.Goals as goal

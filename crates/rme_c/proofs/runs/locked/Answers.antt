@@ -1,4 +1,4 @@
-use Rattle.std.proofs.Common.{◌≡◌, ◌+◌, ◌*◌, ◌<◌, ◌≤◌, ap, refl, arith}
+use Rattle.std.proofs.Common.{◌+◌, ◌*◌, ◌<◌, ◌≤◌, ap, refl, arith}
 use Rattle.rme_c.proofs.Common.{RmeProcess}
 use Rattle.rme_c.proofs.RunFeeds.{checks_at, locked_at, fed_after}
 use Rattle.rme_c.specs.declared.process.RmePosition.{RmePosition}

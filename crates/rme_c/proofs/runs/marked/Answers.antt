@@ -1,4 +1,4 @@
-use Rattle.std.proofs.Common.{◌≡◌, ◌+◌, ◌<◌, ℕ, ap, refl, arith}
+use Rattle.std.proofs.Common.{◌+◌, ◌<◌, ap, refl, arith}
 use Rattle.rme_c.proofs.Common.{RmeProcess}
 use Rattle.rme_c.proofs.RunFeeds.{checks_at, marked_at, fed_after, none_left}
 use Rattle.rme_c.specs.declared.process.RmePosition.{RmePosition}

@@ -1,4 +1,4 @@
-use Rattle.std.proofs.Common.{◌≡◌, ◌≤◌, length, take, Some, None, refl, ap, ◌∙◌, arith, length-take}
+use Rattle.std.proofs.Common.{◌≡◌, length, take, Some, refl, ap, ◌∙◌, arith, length-take}
 use Rattle.rme_c.proofs.Common.{machine_state_of}
 use Rattle.rme_c.proofs.AppendStarts.{may_append, appends}
 use Rattle.rme_c.specs.Starts.{call_by, call_cause}

@@ -69,7 +69,7 @@ fn wants(
     let mut refused = 0u64;
     for _ in 0..PIECES {
         let words = all.pop().unwrap_or(Vec::new(alloc));
-        let mut out = [0; 512];
+        let mut out = [0; 2048];
         let mut err = [0; 128];
         let code = ends(rt, alloc, words, row, &mut out, &mut err);
         if code != ExitCode::from(3) {

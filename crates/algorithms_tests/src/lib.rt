@@ -1,0 +1,9 @@
+//! Tests of algorithms as texts.
+#![tactic(auto)]
+
+mod bad_texts;
+mod bridge;
+mod hostile_texts;
+mod replays;
+mod runs;
+mod texts;

@@ -10,18 +10,13 @@ use Rattle.cli.specs.declared.arguments.words.WordsFault.{WordsFault}
 use Rattle.cli.specs.declared.arguments.words.WordsFault.TheVariants as words
 use Rattle.commands.specs.Commands.{CommandEnds}
 use Rattle.commands.specs.Endings.{IsBroken, IsEnded}
+pub use Rattle.commands.specs.Folders.{Used, is_session}
 use Rattle.cli.specs.FilesNamed.{image_of, input_of, save_of}
 use Rattle.commands.specs.Lines.{fault_line, IsTold}
 use Rattle.cli.specs.Sizes.{IsSized}
 use Rattle.commands.specs.Statuses.{save_ended, status_ended, status_of}
 
 -- ---- files
-
--- the names of the files that were opened, the names of those that were written, and what was written
-pub record Used : Type 0 where
-  pub opened : List (String Global)
-  pub saved : List (String Global)
-  pub texts : List (Vec ℕ Global)
 
 -- the image is opened, then the file to be read, and no other
 abbrev pub opens_all : Command → List (String Global) → List (String Global)
@@ -76,7 +71,7 @@ IsWhole before now (Err fault) = Unit {0}
 pub record Does (command : Command) (before now : Used) (old new : Reading) (blank written : Tape) (end : Result Ending CommandFault) : Type 0 where
   pub opens_all : OnOk end (now.opened ≡ opens_all command before.opened)
   pub opens_some : OpensSome command before.opened now.opened
-  pub saves : Saves command before now blank written end
+  pub saves : is_session command ≡ false → Saves command before now blank written end
   pub whole : IsWhole blank written end
   pub apart : is_some (input_of command) ≡ true → new ≡ old
   pub on_input : input_of command ≡ None → EndsOnInput command old new blank written end

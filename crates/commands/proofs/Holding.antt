@@ -183,9 +183,9 @@ ends_here first s start line buffer page old now before mid used blank written a
 -- the input ends
 pub input_ends : (first s : SessionState) (start buffer rest : List ℕ) (old now after : Reading) (before mid : Used) (blank written last : Tape) (more : List ℕ)
     → Going first start old now before mid blank written s buffer → after.given ≡ now.given ++ more → after.failures ≡ now.failures
-    → rest ≡ buffer ++ more → parts_of rest ≡ rest ∷ [] → Writes written last (last_text s rest)
+    → after.ended ≡ true → rest ≡ buffer ++ more → parts_of rest ≡ rest ∷ [] → Writes written last (last_text s rest)
     → HoldsSession first start old after before mid blank last (Ok tt)
-input_ends first s start buffer rest old now after before mid blank written last more h given fine is one wrote =
+input_ends first s start buffer rest old now after before mid blank written last more h given fine ended is one wrote =
     let parts : parts_of (start ++ (h.more ++ more)) ≡ h.lines ++ rest ∷ [] =
     ap parts_of (sym (append_assoc start h.more more)) ∙ parts_further (start ++ h.more) buffer more h.lines h.parts
     ∙ ap (λ (ps : List (List ℕ)). h.lines ++ ps) (ap parts_of (sym is) ∙ one) in (
@@ -202,7 +202,7 @@ input_ends first s start buffer rest old now after before mid blank written last
           more = [];
           parts = parts;
           answered = h.answered;
-          ends = inr (refl, refl);
+          ends = inr (refl, ended, refl);
         },
         record {
           taken = wrote.taken ∙ ap (λ (xs : List ℕ). xs ++ last_text s rest) h.writes.taken ∙ append_assoc blank.taken h.answers (last_text s rest);

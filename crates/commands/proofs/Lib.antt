@@ -6,3 +6,4 @@ pub mod Pictures
 pub mod Runs
 pub mod Tapes
 pub mod Holding
+pub mod Beginning

@@ -9,6 +9,7 @@ use Rattle.cli.specs.declared.arguments.args.Command.{Command}
 use Rattle.cli.specs.declared.arguments.words.WordsFault.{WordsFault}
 use Rattle.cli.specs.declared.arguments.words.WordsFault.TheVariants as words
 use Rattle.commands.specs.Commands.{CommandEnds}
+use Rattle.commands.specs.Conversations.{SessionEnds}
 use Rattle.commands.specs.Endings.{IsBroken, IsEnded}
 pub use Rattle.commands.specs.Folders.{Used, is_session}
 use Rattle.cli.specs.FilesNamed.{image_of, input_of, save_of}
@@ -62,6 +63,13 @@ abbrev pub EndsOnFile : Command → Tape → Tape → Result Ending CommandFault
 EndsOnFile command before now end =
     IsBroken end ⊎ ((last : Reading) × EndsBeside command (record { given = []; ended = false; failures = 0 }) last before now end)
 
+-- a session on standard input, which begins where nothing was written to any file. A device or memory may fail as well
+abbrev pub SessionEndsIn : Command → Used → Used → Reading → Reading → Tape → Tape → Result Ending CommandFault → Type 0
+SessionEndsIn command before now old new blank written end =
+    IsBroken end
+    ⊎ ((image : Option (List ℕ)) × (is_some image ≡ is_some (image_of command)) × (first : Used) × SavesNone before first
+        × SessionEnds image old new first now blank written end)
+
 -- without a fault, no write and no flush has failed
 abbrev pub IsWhole : Tape → Tape → Result Ending CommandFault → Type 0
 IsWhole before now (Ok ending) = (ending.status ≤ 1) × (now.failures ≡ before.failures)
@@ -72,6 +80,7 @@ pub record Does (command : Command) (before now : Used) (old new : Reading) (bla
   pub opens_all : OnOk end (now.opened ≡ opens_all command before.opened)
   pub opens_some : OpensSome command before.opened now.opened
   pub saves : is_session command ≡ false → Saves command before now blank written end
+  pub session : is_session command ≡ true → SessionEndsIn command before now old new blank written end
   pub whole : IsWhole blank written end
   pub apart : is_some (input_of command) ≡ true → new ≡ old
   pub on_input : input_of command ≡ None → EndsOnInput command old new blank written end

@@ -41,6 +41,7 @@ pub fn next_line<S: Source>(
     ensures given { IfOk result (λ line. (more : List ℕ) × ((S.reading source.new).given ≡ (S.reading source.old).given ++ more)
         × IfSome line (λ l. parts_of (buffer.old.items ++ more) ≡ l.items ∷ parts_of buffer.new.items)
         × IfNone line ((buffer.new.items ≡ buffer.old.items ++ more) × (parts_of buffer.new.items ≡ buffer.new.items ∷ []))) }
+    ensures ended { IfOk result (λ line. IfNone line ((S.reading source.new).ended ≡ true)) }
     ensures fine { OnOk result ((S.reading source.new).failures ≡ (S.reading source.old).failures) }
     ensures fault { IfErr result (λ fault. (fault ≡ ReplayFault.Read)
         × ((S.reading source.new).failures ≡ min ((S.reading source.old).failures + 1) (2 ^ 64 - 1))

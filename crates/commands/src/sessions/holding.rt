@@ -1,50 +1,86 @@
 //! Begins a session, and holds it.
 
-ghost use Rattle.std.specs.Prelude.{◌≡◌, ◌⊎◌, ◌++◌, ◌∷◌, [], ℕ, List, Ok, None, IfErr, IfOk, OnOk, option_copied, false};
+ghost use Rattle.std.specs.Prelude.{◌≡◌, ◌⊎◌, [], Ok, None, IfErr, IfOk, OnOk, option_copied, false};
 ghost use Rattle.schedule.specs.Schedules.{schedule_at};
 ghost use Rattle.schedule.specs.Tapes.{Writes};
 ghost use Rattle.schedule.specs.Wholes.{world_run};
-ghost use Rattle.schedule.specs.Words.{parts_of};
 ghost use Rattle.diagram.specs.Sessions.{watched_text};
-ghost use Rattle.commands.specs.Conversations.{Opens, SessionEnds};
+ghost use Rattle.commands.specs.Conversations.{BeginsWith, CantBegin, CantPlay, Opens, SessionEnds};
 ghost use Rattle.commands.specs.Endings.{IsEnded};
-ghost use Rattle.commands.specs.Statuses.{status_of};
+ghost use Rattle.commands.specs.Settings.{IsNoSchedule};
+ghost use Rattle.commands.specs.Statuses.{fault_of_replay, status_of};
 
 use crate::folder::Folder;
 use crate::schedules::ending::Ending;
 use crate::schedules::fault::CommandFault;
+use crate::schedules::replaying::on_page;
 use crate::schedules::setting::{new_judge, new_world};
 use crate::sessions::conversation::{converse, next_line};
 use diagram::Session;
 use schedule::texts::device::write_all;
-use schedule::{Page, Schedule, Sink, Source, read_schedule, replay_on};
+use schedule::{Page, ReplayFault, Schedule, Sink, Source, read_schedule, replay_on};
 use std::alloc::Global;
 
-/// The schedule without lines whose header is the first line of the input. `Text`: it is none.
-fn headed<R: Source>(
+/// The first line of the input, with its LF; without a line all of the input. It is the text of a session's header.
+fn header_text<R: Source>(
     alloc: Global,
     r: &mut R,
     buffer: &mut Vec<u8>,
-) -> Result<Schedule, CommandFault>
+) -> Result<Vec<u8>, ReplayFault>
     requires { buffer.old.items ≡ [] }
-    ensures { IfOk result (Opens None (R.reading r.old) (R.reading r.new) buffer.new.items) }
+    ensures begins { IfOk result (λ text. BeginsWith None (R.reading r.old) (R.reading r.new) buffer.new.items text.items) }
+    ensures failed { IfErr result (λ fault. status_of (fault_of_replay fault) ≡ 3) }
 {
-    let Some(mut line) = next_line(alloc, r, buffer)? else {
-        return Err(unheaded(alloc, buffer));
-    };
-    line.push(b'\n')?;
-    Ok(read_schedule(alloc, &line)?)
-}
-
-/// The fault of a text without a line.
-fn unheaded(alloc: Global, text: &[u8]) -> CommandFault {
-    match read_schedule(alloc, text) {
-        Err(fault) => fault.into(),
-        Ok(_) => CommandFault::Text { line: 1, number: 5 },
+    match next_line(alloc, r, buffer)? {
+        Some(mut line) => {
+            line.push(b'\n')?;
+            Ok(line)
+        }
+        None => Ok(Vec::from_slice(alloc, buffer)?),
     }
 }
 
-/// The schedule that a session begins with.
+/// The text of the schedule that a session begins with.
+fn first_text<R: Source>(
+    alloc: Global,
+    start: Option<&[u8]>,
+    r: &mut R,
+    buffer: &mut Vec<u8>,
+) -> Result<Vec<u8>, ReplayFault>
+    requires { buffer.old.items ≡ [] }
+    ensures begins { IfOk result (λ text. BeginsWith (option_copied start.entry) (R.reading r.old) (R.reading r.new)
+        buffer.new.items text.items) }
+    ensures failed { IfErr result (λ fault. status_of (fault_of_replay fault) ≡ 3) }
+{
+    match start {
+        Some(text) => Ok(Vec::from_slice(alloc, text)?),
+        None => header_text(alloc, r, buffer),
+    }
+}
+
+/// The schedule of this text. `Text`: it is none.
+fn schedule_of(alloc: Global, text: &[u8]) -> Result<Schedule, CommandFault>
+    ensures read { IfOk result (λ schedule. schedule_at text.now ≡ Ok schedule) }
+    ensures unread { IfErr result (λ fault. (status_of fault ≡ 3) ⊎ IsNoSchedule text.now fault) }
+{
+    Ok(read_schedule(alloc, text)?)
+}
+
+/// Plays a schedule, and answers why a world refuses its sizes or a line.
+fn plays(alloc: Global, schedule: &Schedule) -> Result<(), CommandFault>
+    ensures accepted { OnOk result ((world_run schedule.now).refused ≡ None) }
+    ensures refused { IfErr result (λ fault. (status_of fault ≡ 3) ⊎ CantPlay schedule.now fault) }
+{
+    let mut world = new_world(alloc, schedule)?;
+    let mut judge = new_judge(alloc, schedule)?;
+    let mut page = Page::new(alloc);
+    match replay_on(alloc, &mut world, &mut judge, schedule, &mut page) {
+        Ok(_) => Ok(()),
+        Err(fault) => Err(on_page(fault)),
+    }
+}
+
+/// The schedule that a session begins with, none of whose lines is refused.
 fn first_schedule<R: Source>(
     alloc: Global,
     start: Option<&[u8]>,
@@ -52,25 +88,15 @@ fn first_schedule<R: Source>(
     buffer: &mut Vec<u8>,
 ) -> Result<Schedule, CommandFault>
     requires { buffer.old.items ≡ [] }
-    ensures { IfOk result (Opens (option_copied start.entry) (R.reading r.old) (R.reading r.new) buffer.new.items) }
+    ensures opens { IfOk result (Opens (option_copied start.entry) (R.reading r.old) (R.reading r.new) buffer.new.items) }
+    ensures accepted { IfOk result (λ schedule. (world_run schedule).refused ≡ None) }
+    ensures refused { IfErr result (λ fault. (status_of fault ≡ 3)
+        ⊎ CantBegin (option_copied start.entry) (R.reading r.old) (R.reading r.new) fault) }
 {
-    match start {
-        Some(text) => Ok(read_schedule(alloc, text)?),
-        None => headed(alloc, r, buffer),
-    }
-}
-
-/// Plays a schedule, and answers why a world refuses its sizes or a line.
-fn plays(alloc: Global, schedule: &Schedule) -> Result<(), CommandFault>
-    ensures { OnOk result ((world_run schedule.now).refused ≡ None) }
-{
-    let mut world = new_world(alloc, schedule)?;
-    let mut judge = new_judge(alloc, schedule)?;
-    let mut page = Page::new(alloc);
-    match replay_on(alloc, &mut world, &mut judge, schedule, &mut page) {
-        Ok(_) => Ok(()),
-        Err(fault) => Err(fault.into()),
-    }
+    let text = first_text(alloc, start, r, buffer)?;
+    let schedule = schedule_of(alloc, &text)?;
+    plays(alloc, &schedule)?;
+    Ok(schedule)
 }
 
 /// Writes where the processes stand.
@@ -102,7 +128,6 @@ pub fn session_command<F: Folder, R: Source, W: Sink>(
 {
     let mut buffer = Vec::new(alloc);
     let schedule = first_schedule(alloc, start, r, &mut buffer)?;
-    plays(alloc, &schedule)?;
     let mut session = Session::new(alloc, schedule)?;
     write_state(alloc, &session, w)?;
     converse(alloc, &mut session, folder, r, &mut buffer, w)?;

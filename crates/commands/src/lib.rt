@@ -11,6 +11,7 @@ pub mod progress;
 pub mod running;
 pub mod schedules;
 mod stuck;
+pub mod sessions;
 pub mod tally;
 
 pub use progress::meter::Meter;

@@ -105,6 +105,7 @@ fn replay<'a>(alloc: Global) -> Result<Parser<'a>, AllocError>
             "Tell each step, with its word and where its process stands",
         ),
         Argument::variant(),
+        Argument::algorithm(),
         Argument::image(),
         Argument::text("save", "FILE", "Write the last image to this file"),
         Argument::file("The schedule; without it, standard input is read"),

@@ -1,19 +1,21 @@
 -- How a session begins, and what a command is that holds one.
-use Rattle.std.proofs.Common.{◌≡◌, ◌⊎◌, true, None, refl, inl, inr}
+use Rattle.std.proofs.Common.{◌≡◌, ◌⊎◌, ℕ, List, Option, Ok, Err, true, None, refl, inl, inr}
 use Rattle.judge.specs.Table.{State}
 use Rattle.rmeworld.specs.WorldState.{WorldState}
 use Rattle.rmeworld.specs.declared.image.Image.{Image}
 use Rattle.schedule.specs.declared.replays.replay_fault.ReplayFault.{ReplayFault}
 use Rattle.schedule.specs.declared.replays.replay_fault.ReplayFault.TheVariants as faults
 use Rattle.schedule.specs.Replays.{CutShort}
-use Rattle.schedule.specs.Schedules.{Scheduled}
-use Rattle.schedule.specs.Tapes.{Tape}
+use Rattle.schedule.specs.Schedules.{Scheduled, schedule_at}
+use Rattle.schedule.specs.Tapes.{Reading, Tape}
 use Rattle.schedule.specs.Wholes.{world_run}
 use Rattle.cli.specs.FilesNamed.{input_of, save_of}
 use Rattle.cli.specs.declared.arguments.args.Command.{Command}
 use Rattle.cli.specs.declared.arguments.args.Command.TheVariants.{Step}
-use Rattle.commands.specs.Conversations.{IsRefusedLine}
-use Rattle.commands.specs.Folders.{is_session}
+use Rattle.commands.specs.declared.schedules.fault.CommandFault.{CommandFault}
+use Rattle.commands.specs.Conversations.{BeginsWith, CantBegin, CantPlay, IsRefusedLine, SessionEnds}
+use Rattle.commands.specs.Folders.{Used, is_session}
+use Rattle.commands.specs.Settings.{IsNoSchedule}
 use Rattle.commands.specs.Statuses.{fault_on_page, status_of}
 
 -- why a replay to a page has no verdict: a line is refused, or memory has run out
@@ -24,6 +26,24 @@ page_fault before now start image_of schedule (faults.Refused line number) (writ
 page_fault before now start image_of schedule faults.Write h = inl refl
 page_fault before now start image_of schedule faults.OutOfMemory h = inl refl
 page_fault before now start image_of schedule _ h = absurd h
+
+-- the text is no schedule
+pub cant_read : (start : Option (List ℕ)) (old now : Reading) (buffer text : List ℕ) (fault : CommandFault) → BeginsWith start old now buffer text
+    → (status_of fault ≡ 3) ⊎ IsNoSchedule text fault → (status_of fault ≡ 3) ⊎ CantBegin start old now fault
+cant_read start old now buffer text fault begins (inl three) = inl three
+cant_read start old now buffer text fault begins (inr no) = inr (text, buffer, begins, inl no)
+
+-- its schedule can't be played
+pub cant_play : (start : Option (List ℕ)) (old now : Reading) (buffer text : List ℕ) (schedule : Scheduled) (fault : CommandFault) → BeginsWith start old now buffer text
+    → schedule_at text ≡ Ok schedule → (status_of fault ≡ 3) ⊎ CantPlay schedule fault → (status_of fault ≡ 3) ⊎ CantBegin start old now fault
+cant_play start old now buffer text schedule fault begins reads (inl three) = inl three
+cant_play start old now buffer text schedule fault begins reads (inr no) = inr (text, buffer, begins, inr (schedule, reads, no))
+
+-- a session that doesn't begin has written nothing
+pub not_begun : (start : Option (List ℕ)) (old now : Reading) (used : Used) (tape : Tape) (fault : CommandFault)
+    → (status_of fault ≡ 3) ⊎ CantBegin start old now fault → SessionEnds start old now used used tape tape (Err fault)
+not_begun start old now used tape fault (inl three) = inl three
+not_begun start old now used tape fault (inr no) = inr (no, record { taken = refl; fine = refl }, refl)
 
 -- a session reads standard input
 pub session_reads : (command : Command) → is_session command ≡ true → input_of command ≡ None

@@ -15,7 +15,7 @@ mod replays;
 #[cfg(test)]
 mod reports;
 #[cfg(test)]
-mod sessions;
+pub mod sessions;
 #[cfg(test)]
 pub mod stepwise;
 #[cfg(test)]

@@ -34,10 +34,10 @@ fn a_session_begins(rt: HostRuntime) -> Result<(), Fail> {
     all_come_to(&rt, rt.alloc(), &rows)
 }
 
-const IN_AND_BACK: &str =
+pub const IN_AND_BACK: &str =
     "rme 1 procs 1 limit 10 cap 1\nlock 0\nstep 0 4\nto answer 0\nundo\nredo\nquit\ncrash 0\n";
 
-const IN_AND_BACK_TOLD: &str =
+pub const IN_AND_BACK_TOLD: &str =
     "process 0: 0,0,0 (row 0,0,0 idle), outside\ninside: nobody\nprocess 0: 0,0,0 (row 0,0,0 idle), outside\ninside: nobody\nat 0 rest r choosing 0\nat 0 rest r number 0\nat 0 rest r inside 0\nat 0 doorway w choosing=1\nbegin 0\nprocess 0: 1,0,0 (row 1,0,0 doorway unfinished), in the doorway, has read 0 of 0 numbers\ninside: nobody\nat 0 waiting w number=1\nready 0\nat 0 waiting w choosing=0\nat 0 section w inside=1\nenter 0\nat 0 section r ruined 0\nanswer 0 clean\nprocess 0: 0,1,1 (row 0,k,1 inside), inside\ninside: process 0\nprocess 0: 1,0,0 (row 1,0,0 doorway unfinished), in the doorway, has read 0 of 0 numbers\ninside: nobody\nat 0 waiting w number=1\nready 0\nat 0 waiting w choosing=0\nat 0 section w inside=1\nenter 0\nat 0 section r ruined 0\nanswer 0 clean\nprocess 0: 0,1,1 (row 0,k,1 inside), inside\ninside: process 0\n";
 
 #[test]
@@ -115,6 +115,7 @@ fn a_session_is_saved(rt: HostRuntime) -> Result<(), Fail> {
     let rows = [
         invoked("rmelab step", SAVES, SAVES_TOLD).saves("b.rme", kept),
         invoked("rmelab step", UNSAVED, UNSAVED_TOLD).where_fails(Failing::File),
+        invoked("rmelab step", UNSAVED, UNSAVED_TOLD).where_fails(Failing::FileMemory),
     ];
     for row in &rows {
         comes_to(&rt, alloc, Ok(words_of(alloc, row.line)?), row)?;
@@ -134,6 +135,10 @@ fn sessions_over_devices_that_fail(rt: HostRuntime) -> Result<(), Fail> {
         invoked("rmelab step", HEADED, AT_REST)
             .where_fails(Failing::Flush)
             .ends(3, "rmelab: write failed\n"),
+        invoked("rmelab step a.rme", "", "")
+            .beside(("a.rme", HEADED))
+            .where_fails(Failing::FileRead)
+            .ends(3, "rmelab: read failed\n"),
     ];
     all_come_to(&rt, rt.alloc(), &rows)
 }

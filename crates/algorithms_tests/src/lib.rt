@@ -6,4 +6,4 @@ mod bridge;
 mod hostile_texts;
 mod replays;
 mod runs;
-mod texts;
+pub mod texts;

@@ -1,5 +1,5 @@
 pub mod Refusals
-pub mod Hearing
+pub mod Heard
 pub mod Monitors
 pub mod Runs
 pub mod Reports

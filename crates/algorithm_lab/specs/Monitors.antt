@@ -11,7 +11,7 @@ use Rattle.algorithms.specs.declared.process.Place.{Place}
 use Rattle.algorithms.specs.declared.process.Place.TheVariants.{Rest, Dead, At}
 use Rattle.algorithms.specs.declared.process.Process.{Process}
 use Rattle.algorithms.specs.declared.refusal.AlgorithmRefusal.{AlgorithmRefusal}
-use Rattle.algorithm_lab.specs.Hearing.{Hearing, hearing, crash_hearing}
+use Rattle.algorithm_lab.specs.Heard.{Heard, heard, heard_of_crash}
 use Rattle.algorithm_lab.specs.declared.run_refusal.RunRefusal.{RunRefusal}
 use Rattle.algorithm_lab.specs.declared.run_refusal.RunRefusal.TheVariants.{Refused, NotOwner, AlreadyIn, OutOfMemory}
 use Rattle.algorithm_lab.specs.declared.told.Told.{Told}
@@ -82,7 +82,7 @@ answered p None = []
 answered p (Some answer) = Answered p answer ∷ []
 
 -- an event of p that is heard so
-abbrev pub part_of : MonitorState → ℕ → WorldState → Hearing → Option ℕ → Part
+abbrev pub part_of : MonitorState → ℕ → WorldState → Heard → Option ℕ → Part
 part_of m p world h answer =
     record {
       told = h.told ++ answered p answer;
@@ -93,11 +93,11 @@ part_of m p world h answer =
 -- a step reports what is heard of it, and then the answer of its call
 abbrev pub step_on : MonitorState → ℕ → Result Part RunRefusal
 step_on m p =
-    then_in (λ s. part_of m p s.1 (hearing m.world.algorithm.promises p (phase_of m p) s.0.moved.noted) s.0.moved.answer) (step m.world p)
+    then_in (λ s. part_of m p s.1 (heard m.world.algorithm.promises p (phase_of m p) s.0.moved.noted) s.0.moved.answer) (step m.world p)
 
 -- a crash
 abbrev pub crash_on : MonitorState → ℕ → Result Part RunRefusal
-crash_on m p = then_in (λ w. part_of m p w (crash_hearing m.world.algorithm.promises p (phase_of m p)) None) (crash m.world p)
+crash_on m p = then_in (λ w. part_of m p w (heard_of_crash m.world.algorithm.promises p (phase_of m p)) None) (crash m.world p)
 
 -- ---- what a call that appends its report does
 

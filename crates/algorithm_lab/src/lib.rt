@@ -1,7 +1,7 @@
 //! The laboratory over algorithms as texts: runs of schedules before the judge, and their reports.
 #![tactic(auto)]
 
-mod hearing;
+mod heard;
 pub mod judging;
 pub mod monitor;
 pub mod playing;

@@ -218,7 +218,7 @@ fn compare_words<R: Abort>(rt: &R, core: &Core, world: &World, procs: u64) -> Re
     Ok(())
 }
 
-/// How many moves were refused, made a deed, or ended a call.
+/// How many moves were refused, noted a deed, or ended a call.
 #[derive(Drop)]
 struct Seen {
     refused: u64,

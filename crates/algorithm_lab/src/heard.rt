@@ -1,7 +1,7 @@
 //! What a judge hears of the deeds that an algorithm's lines note.
 
 ghost use Rattle.std.specs.Prelude.{◌≡◌, ◌++◌, ◌∷◌, [], OnOk, IfOk};
-ghost use Rattle.algorithm_lab.specs.Hearing.{begun, readied, entered_out_of_order, entered, heard_of, phase_after, given_up, ended_by_crash, phase_crashed, heard_if, phase_if, hearing, crash_hearing};
+ghost use Rattle.algorithm_lab.specs.Heard.{begun, readied, entered_out_of_order, entered, heard_of, phase_after, given_up, ended_by_crash, phase_crashed, heard_if, phase_if, heard, heard_of_crash};
 
 use crate::told::Told;
 use algorithms::{Deed, Noted, Promises};
@@ -124,8 +124,8 @@ pub(crate) fn hear(
     phase: Phase,
     noted: Noted,
 ) -> Result<Phase, AllocError>
-    ensures told { OnOk result (told.new.items ≡ told.old.items ++ (hearing promises p phase noted).told) }
-    ensures phase { IfOk result (λ after. after ≡ (hearing promises p phase noted).phase) }
+    ensures told { OnOk result (told.new.items ≡ told.old.items ++ (heard promises p phase noted).told) }
+    ensures phase { IfOk result (λ after. after ≡ (heard promises p phase noted).phase) }
 {
     let second = hear_one(told, promises, p, phase, noted.first)?;
     let third = hear_one(told, promises, p, second, noted.second)?;
@@ -177,8 +177,8 @@ pub(crate) fn hear_crash(
     p: u64,
     phase: Phase,
 ) -> Result<Phase, AllocError>
-    ensures told { OnOk result (told.new.items ≡ told.old.items ++ (crash_hearing promises p phase).told) }
-    ensures phase { IfOk result (λ after. after ≡ (crash_hearing promises p phase).phase) }
+    ensures told { OnOk result (told.new.items ≡ told.old.items ++ (heard_of_crash promises p phase).told) }
+    ensures phase { IfOk result (λ after. after ≡ (heard_of_crash promises p phase).phase) }
 {
     end_by_crash(told, promises, p, phase)?;
     put(told, Outer::Crash(p))?;

@@ -55,7 +55,7 @@ phase_after deeds.Leave phase = phases.Out
 phase_after deeds.Quit phase = phases.Out
 
 -- what is heard of a step, and the phase after it
-pub record Hearing : Type 0 where
+pub record Heard : Type 0 where
   pub told : List Told
   pub phase : Phase
 
@@ -69,8 +69,8 @@ phase_if None phase = phase
 phase_if (Some deed) phase = phase_after deed phase
 
 -- what is heard of the deeds that a step notes, one after the other
-abbrev pub hearing : Promises → ℕ → Phase → Noted → Hearing
-hearing promises p phase noted =
+abbrev pub heard : Promises → ℕ → Phase → Noted → Heard
+heard promises p phase noted =
     let second = phase_if noted.first phase in
     let third = phase_if noted.second second in
     record {
@@ -98,6 +98,6 @@ abbrev pub phase_crashed : Promises → Phase → Phase
 phase_crashed promises phase = if promises.reentry then crashed phase else phase_given_up phase
 
 -- what is heard of a crash of p in this phase, and the phase after it
-abbrev pub crash_hearing : Promises → ℕ → Phase → Hearing
-crash_hearing promises p phase =
+abbrev pub heard_of_crash : Promises → ℕ → Phase → Heard
+heard_of_crash promises p phase =
     record { told = ended_by_crash promises p phase ++ Did (outers.Crash p) ∷ []; phase = phase_crashed promises phase }

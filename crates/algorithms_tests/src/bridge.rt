@@ -238,7 +238,24 @@ impl Seen {
     }
 }
 
-/// Plays a drawn schedule by both. Each move does the same on both, and after it both have the same words.
+/// Makes a move on both. It does the same on both, and after it both have the same words. A call that the lock alone refuses
+/// is not made on the world.
+fn make<R: Abort>(
+    rt: &R,
+    core: &mut Core,
+    world: &mut World,
+    procs: u64,
+    made: Move,
+) -> Result<Done, Fail> {
+    let done = lock_move(core, made);
+    if !is_by_deeds(done) {
+        assert_eq!(rt; text_move(world, made)?, done, "{made:?}");
+        compare_words(rt, core, world, procs)?;
+    }
+    Ok(done)
+}
+
+/// Plays a drawn schedule by both.
 fn compare<R: Abort>(
     rt: &R,
     alloc: Global,
@@ -250,14 +267,8 @@ fn compare<R: Abort>(
     let algorithm = read_algorithm(alloc, bakeries::BAKERY)?;
     let mut world = World::new(alloc, algorithm, procs, limit)?;
     let mut core = Core::new(alloc, procs, limit)?;
-    for at in 0..MOVES {
-        let made = draw(draws, procs);
-        let done = lock_move(&mut core, made);
-        seen.see(done);
-        if !is_by_deeds(done) {
-            assert_eq!(rt; text_move(&mut world, made)?, done, "{at}: {made:?}");
-            compare_words(rt, &core, &world, procs)?;
-        }
+    for _ in 0..MOVES {
+        seen.see(make(rt, &mut core, &mut world, procs, draw(draws, procs))?);
     }
     Ok(())
 }
@@ -276,5 +287,109 @@ fn the_text_of_the_bakery_is_the_lock(rt: HostRuntime) -> Result<(), Fail> {
     assert!(rt; seen.deeds > 50_000, "{}", seen.deeds);
     assert!(rt; seen.answers > 10_000, "{}", seen.answers);
     assert!(rt; seen.refused > 10_000, "{}", seen.refused);
+    Ok(())
+}
+
+/// Processes, a limit, and the lines of a worked row without its header.
+const ROWS: [(u64, u64, &str); 10] = [
+    (1, 10, "lock 0,step 0 8"),
+    (
+        2,
+        10,
+        "lock 0,lock 1,step 0 5,step 1 5,step 0 2,step 1 2,step 1 3,step 0 4",
+    ),
+    (
+        2,
+        10,
+        "lock 1,step 1 5,crash 1,lock 0,step 0 8,lock 1,step 1 6,step 0 4",
+    ),
+    (
+        2,
+        10,
+        "lock 0,step 0 6,crash 0,lock 1,step 1 8,lock 0,step 0 8,step 1 4",
+    ),
+    (
+        2,
+        10,
+        "lock 0,step 0 11,lock 1,step 1 7,crash 0,step 1 3,lock 0,step 0 4",
+    ),
+    (
+        2,
+        10,
+        "lock 0,step 0 11,lock 1,step 1 8,unlock 0,step 0 1,crash 0,step 1 3,recover 0,step 0 4",
+    ),
+    (
+        2,
+        1,
+        "lock 0,step 0 11,lock 1,step 1 6,unlock 0,step 0 2,lock 1,step 1 11",
+    ),
+    (
+        2,
+        10,
+        "lock 0,step 0 11,lock 1,step 1 9,withdraw 1,step 1 1,lock 1,step 1 9,unlock 0,step 0 2,step 1 3",
+    ),
+    (2, 10, "lock 0,lock 1,step 0 5,step 1 6,step 1 4,step 0 6"),
+    (
+        2,
+        10,
+        "lock 0,step 0 11,crash 0,lock 0,step 0 4,unlock 0,step 0 3,lock 1,step 1 13,lock 0,step 0 13",
+    ),
+];
+
+/// The move of a line, and how often it is made at most.
+fn read_move(line: &str) -> Result<(Move, u64), Fail> {
+    let (word, rest) = line.split_once(' ').ok_or("two words")?;
+    let (process, count) = rest.split_once(' ').unwrap_or((rest, "1"));
+    let p = process.parse::<u64>()?;
+    let made = match word {
+        "step" => Move::Step(p),
+        "crash" => Move::Crash(p),
+        "lock" => Move::Start(p, Call::Lock),
+        "unlock" => Move::Start(p, Call::Unlock),
+        "recover" => Move::Start(p, Call::Recover),
+        _ => Move::Start(p, Call::Withdraw),
+    };
+    Ok((made, count.parse::<u64>()?))
+}
+
+/// Whether a line of steps ends with what a step has done.
+fn ends(done: Done) -> bool {
+    match done {
+        Done::Refused(_) => true,
+        Done::Moved { answer, .. } => answer.is_some(),
+    }
+}
+
+/// Plays a worked row by both, and answers how many calls it ends.
+fn play_row<R: Abort>(
+    rt: &R,
+    alloc: Global,
+    procs: u64,
+    limit: u64,
+    lines: &str,
+) -> Result<u64, Fail> {
+    let algorithm = read_algorithm(alloc, bakeries::BAKERY)?;
+    let mut world = World::new(alloc, algorithm, procs, limit)?;
+    let mut core = Core::new(alloc, procs, limit)?;
+    let mut answers: u64 = 0;
+    for line in lines.split(',') {
+        let (made, count) = read_move(line)?;
+        for _ in 0..count {
+            if ends(make(rt, &mut core, &mut world, procs, made)?) {
+                answers = answers.saturating_add(1);
+                break;
+            }
+        }
+    }
+    Ok(answers)
+}
+
+#[test]
+fn the_text_of_the_bakery_plays_the_worked_rows(rt: HostRuntime) -> Result<(), Fail> {
+    let mut answers: u64 = 0;
+    for (procs, limit, lines) in ROWS {
+        answers = answers.saturating_add(play_row(&rt, rt.alloc(), procs, limit, lines)?);
+    }
+    assert!(rt; answers >= 20, "{answers}");
     Ok(())
 }

@@ -2,6 +2,7 @@
 
 ghost use Rattle.std.specs.Prelude.{◌≡◌, ◌+◌, ◌≤◌, ◌++◌, ◌∷◌, [], codes, length};
 ghost use Rattle.std.specs.Fmt.{decimal};
+ghost use Rattle.commands.specs.AlgorithmFaults.{number_of_text_fault, sentence_of};
 ghost use Rattle.commands.specs.Lines.{fault_line, IsTold};
 ghost use Rattle.commands.specs.Statuses.{status_of};
 
@@ -37,7 +38,8 @@ fn line_of_place(at: u64, cause: &str, number: u64) -> ArrayString<128>
 
 /// The line for a fault of a line of an algorithm's text.
 fn line_of_algorithm(at: u64, fault: LineFault) -> ArrayString<128>
-    ensures { result.bytes ≡ fault_line (CommandFault.Algorithm at fault) }
+    ensures { result.bytes ≡ codes "rmelab: algorithm line " ++ decimal at ++ codes ": fault " ++ decimal (number_of_text_fault fault)
+        ++ codes ": " ++ sentence_of fault ++ 10 ∷ [] }
 {
     let mut line = ArrayString::new();
     put(&mut line, "rmelab: algorithm line ", at);

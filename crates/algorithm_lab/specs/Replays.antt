@@ -23,7 +23,7 @@ run_unless (Some e) m lines = record { told = []; left = m; refused = Some (1, R
 abbrev pub run_of : Algorithm → ℕ → ℕ → List Line → Run (ℕ × RunRefusal)
 run_of a procs limit lines = run_unless (new_refusal a procs limit) (first_monitor a procs limit) lines
 
--- all that a replay writes of a run: its report, or what it reports before the line that is refused
+-- all that a replay writes of a run: its report, or what it reports before the refusal
 abbrev pub text_by : Option (ℕ × RunRefusal) → Run (ℕ × RunRefusal) → List ℕ
 text_by None run = report_text run.left.world run.told
 text_by (Some refusal) run = told_text run.left.world.algorithm run.told

@@ -32,26 +32,26 @@ call_of calls.Recover = Some Recover
 call_of calls.Withdraw = Some Withdraw
 call_of call = None
 
--- at most n steps of p, until its call ends or a step is refused: what they report, and what they leave
-abbrev pub after_step : Result Part RunRefusal → MonitorState → (MonitorState → List Told × MonitorState) → List Told × MonitorState
-after_step (Err e) m rest = ([], m)
-after_step (Ok part) m rest = if part.ended then (part.told, part.left) else (part.told ++ (rest part.left).0, (rest part.left).1)
-
-abbrev pub steps : ℕ → ℕ → MonitorState → List Told × MonitorState
-steps p zero m = ([], m)
-steps p (suc n) m = after_step (step_on m p) m (steps p n)
-
--- what a line reports, what it leaves, and why it is refused
+-- what a run reports, what it leaves, and why it is refused
 pub record Run (R : Type 0) : Type 0 where
   pub told : List Told
   pub left : MonitorState
   pub refused : Option R
 
-abbrev pub refusal_of : {A : Type 0} → Result A RunRefusal → Option RunRefusal
-refusal_of (Ok x) = None
-refusal_of (Err e) = Some e
+-- a run that reports this first
+abbrev pub preceded : {R : Type 0} → List Told → Run R → Run R
+preceded told run = record { told = told ++ run.told; left = run.left; refused = run.refused }
 
--- a refused line leaves what was there
+-- at most n steps of p, until its call ends or a step is refused
+abbrev pub after_step : Result Part RunRefusal → MonitorState → (MonitorState → Run RunRefusal) → Run RunRefusal
+after_step (Err e) m rest = record { told = []; left = m; refused = Some e }
+after_step (Ok part) m rest = if part.ended then record { told = part.told; left = part.left; refused = None } else preceded part.told (rest part.left)
+
+abbrev pub steps : ℕ → ℕ → MonitorState → Run RunRefusal
+steps p zero m = record { told = []; left = m; refused = None }
+steps p (suc n) m = after_step (step_on m p) m (steps p n)
+
+-- a start or a crash that is refused leaves what was there
 abbrev pub started : MonitorState → Result MonitorState RunRefusal → Run RunRefusal
 started m (Ok left) = record { told = []; left = left; refused = None }
 started m (Err e) = record { told = []; left = m; refused = Some e }
@@ -69,15 +69,15 @@ abbrev pub start_by : MonitorState → ℕ → Option AlgorithmCall → Result M
 start_by m p (Some call) = start_on m p call
 start_by m p None = Err (no_call (process_of m.world p))
 
--- one line. Steps are refused only where the first one is
+-- one line. A line of steps is refused where one of them is, and the steps before that one were taken
 abbrev pub line_on : MonitorState → Line → Run RunRefusal
 line_on m (Start p call) = started m (start_by m p (call_of call))
-line_on m (Step p n) = record { told = (steps p n m).0; left = (steps p n m).1; refused = refusal_of (step_on m p) }
+line_on m (Step p n) = steps p n m
 line_on m (Crash p) = crashed m (crash_on m p)
 
 -- line k, and then the rest of the run, unless the line is refused
 abbrev pub followed : ℕ → Run RunRefusal → Option RunRefusal → Run (ℕ × RunRefusal) → Run (ℕ × RunRefusal)
-followed k line None rest = record { told = line.told ++ rest.told; left = rest.left; refused = rest.refused }
+followed k line None rest = preceded line.told rest
 followed k line (Some e) rest = record { told = line.told; left = line.left; refused = Some (k, e) }
 
 -- the lines from number k on

@@ -1,8 +1,8 @@
 //! Plays the lines of a schedule on a world of an algorithm.
 
-ghost use Rattle.std.specs.Prelude.{◌≡◌, ◌≤◌, ◌++◌, None, Some, Ok, Err, IfOk, IfErr, OnOk, OnErr};
-ghost use Rattle.algorithm_lab.specs.Monitors.{IsRefusal, step_on, start_on, crash_on};
-ghost use Rattle.algorithm_lab.specs.Runs.{call_of, steps, start_by, refusal_of, line_on, run_on, IsRun};
+ghost use Rattle.std.specs.Prelude.{◌≡◌, None, Some, Ok, Err, IfOk, IfErr, OnOk, OnErr};
+ghost use Rattle.algorithm_lab.specs.Monitors.{IsRefusal};
+ghost use Rattle.algorithm_lab.specs.Runs.{call_of, steps, start_by, line_on, run_on, IsRun};
 
 use crate::monitor::Monitor;
 use crate::run_refusal::RunRefusal;
@@ -29,37 +29,18 @@ fn call_of(call: WorldCall) -> Option<Call>
     }
 }
 
-/// Takes at most n more steps of p, until its call ends. A refusal ends them, and is no fault.
-#[tactic(auto, using(crate::proofs::Runs::part_more, crate::proofs::Runs::part_last, crate::proofs::Runs::part_none))]
-fn more_steps(monitor: &mut Monitor, p: u64, n: u64, told: &mut Vec<Told>) -> Result<(), AllocError>
-    ensures told { OnOk result (told.new.items ≡ told.old.items ++ (steps p n monitor.old).0) }
-    ensures left { OnOk result (monitor.new ≡ (steps p n monitor.old).1) }
+/// Takes at most n steps of p, until its call ends or a step is refused.
+fn take_steps(monitor: &mut Monitor, p: u64, n: u64, told: &mut Vec<Told>) -> Result<(), RunRefusal>
+    ensures ok { OnOk result (IsRun (steps p n monitor.old) told.old.items told.new.items monitor.new) }
+    ensures accepted { OnOk result ((steps p n monitor.old).refused ≡ None) }
+    ensures err { IfErr result (λ e. IsRefusal e → IsRun (steps p n monitor.old) told.old.items told.new.items monitor.new) }
+    ensures refused { IfErr result (λ e. IsRefusal e → (steps p n monitor.old).refused ≡ Some e) }
 {
-    let mut left = n;
-    while left > 0 {
-        match monitor.step(p, told) {
-            Ok(true) => return Ok(()),
-            Ok(false) => left -= 1,
-            Err(RunRefusal::OutOfMemory) => return Err(AllocError),
-            Err(_) => return Ok(()),
+    for step in 0..n {
+        if monitor.step(p, told)? {
+            return Ok(());
         }
     }
-    Ok(())
-}
-
-/// Takes at most n steps of p, until its call ends. They are refused where the first one is.
-fn take_steps(monitor: &mut Monitor, p: u64, n: u64, told: &mut Vec<Told>) -> Result<(), RunRefusal>
-    requires { 1 ≤ n }
-    ensures told { OnOk result (told.new.items ≡ told.old.items ++ (steps p n monitor.old).0) }
-    ensures left { OnOk result (monitor.new ≡ (steps p n monitor.old).1) }
-    ensures accepted { OnOk result (refusal_of (step_on monitor.old p) ≡ None) }
-    ensures refused { IfErr result (λ e. IsRefusal e → step_on monitor.old p ≡ Err e) }
-    ensures err { IfErr result (λ e. IsRefusal e → (monitor.new ≡ monitor.old) × (told.new.items ≡ told.old.items)) }
-{
-    if monitor.step(p, told)? {
-        return Ok(());
-    }
-    more_steps(monitor, p, n - 1, told)?;
     Ok(())
 }
 

@@ -11,8 +11,8 @@ use thiserror::Error;
 /// Why a replay of an algorithm has no verdict. Lines count from 1.
 #[derive(Clone, Copy, Debug, PartialEq, Eq, Error)]
 pub enum AlgorithmReplayFault {
-    /// A line is refused. What the lines before it report was written. Line 1 is refused where the algorithm has no world of
-    /// the sizes that the schedule names.
+    /// A line is refused. What was reported before was written. Line 1 is refused where the algorithm has no world of the sizes
+    /// that the schedule names.
     #[error("line {line}: {refusal}")]
     Refused { line: u64, refusal: RunRefusal },
     /// The sink failed. It has taken a beginning of the report.

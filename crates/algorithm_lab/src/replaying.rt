@@ -51,8 +51,8 @@ fn played(alloc: Global, mut monitor: Monitor, schedule: &Schedule) -> Result<Re
 }
 
 /// Replays a schedule on a new world of an algorithm, before a judge of a new lock. It writes exactly the report of the run that
-/// the definitions give, and answers its verdict. Where a line is refused, it writes what the lines before it report. All of it
-/// is made before the first byte is written.
+/// the definitions give, and answers its verdict. Where a line is refused, it writes what was reported before. All of it is made
+/// before the first byte is written.
 pub fn replay_algorithm<W: Sink>(
     alloc: Global,
     algorithm: Algorithm,

@@ -5,5 +5,7 @@ mod bad_texts;
 mod bridge;
 mod hostile_texts;
 mod replays;
+mod reports;
 mod runs;
+mod schedules;
 pub mod texts;

@@ -287,9 +287,9 @@ const REFUSED: [(&[u8], &str, &str, &str); 6] = [
     ),
     (
         others::BAKERY_1974,
-        "rme 1 procs 2 limit 1 cap 1\nlock 0\nstep 0 9\nlock 1\nstep 1 9\nstep 1\n",
+        "rme 1 procs 2 limit 1 cap 1\nlock 0\nstep 0 9\nlock 1\nstep 1 9\n",
         "begin 0\nready 0\nenter 0\nanswer 0 done\nbegin 1\n",
-        "rmelab: line 6: refused 16\n",
+        "rmelab: line 5: refused 16\n",
     ),
 ];
 

@@ -39,145 +39,151 @@ const TWO_AT_ONCE: &str =
 const CRASH_IN_THE_ROOM: &str =
     "rme 1 procs 2 limit 1 cap 1\nlock 0\nstep 0 2\nlock 1\nstep 1 4\nstep 0 3\ncrash 0\nlock 0\nstep 1 2\nstep 0 2\nstep 1 2\nstep 0 3\n";
 
-/// A text, a schedule, its report, and the exit status.
-const RUNS: [(&[u8], &str, &str, u8); 21] = [
-    (
-        bakeries::BAKERY,
-        TURNS,
-        "begin 0\nready 0\nenter 0\nanswer 0 clean\nbegin 1\nready 1\nleave 0\nanswer 0 unlocked\nenter 1\nanswer 1 clean\nwords choosing 0 0\nwords number 0 2\nwords inside 0 1\nverdict fine\n",
-        0,
-    ),
-    (
-        bakeries::BAKERY_RUIN,
-        TURNS,
-        "begin 0\nready 0\nenter 0\nanswer 0 clean\nbegin 1\nready 1\nleave 0\nanswer 0 unlocked\nenter 1\nanswer 1 clean\nwords choosing 0 0\nwords number 0 2\nwords inside 0 1\nwords ruined 0\nverdict fine\n",
-        0,
-    ),
-    (
-        bakeries::NO_LOOK,
-        TURNS,
-        "begin 0\nready 0\nenter 0\nanswer 0 clean\nbegin 1\nready 1\nleave 0\nanswer 0 unlocked\nenter 1\nanswer 1 clean\nwords choosing 0 0\nwords number 0 2\nwords inside 0 1\nverdict fine\n",
-        0,
-    ),
-    (
-        bakeries::NO_TIES,
-        TURNS,
-        "begin 0\nready 0\nenter 0\nanswer 0 clean\nbegin 1\nready 1\nleave 0\nanswer 0 unlocked\nenter 1\nanswer 1 clean\nwords choosing 0 0\nwords number 0 2\nwords inside 0 1\nverdict fine\n",
-        0,
-    ),
-    (
-        bakeries::RENUMBER,
-        TURNS,
-        "begin 0\nready 0\nenter 0\nanswer 0 clean\nbegin 1\nready 1\nleave 0\nanswer 0 unlocked\nenter 1\nanswer 1 clean\nwords choosing 0 0\nwords number 0 2\nwords inside 0 1\nverdict fine\n",
-        0,
-    ),
-    (
-        bakeries::EXIT_ON_CRASH,
-        TURNS,
-        "begin 0\nready 0\nenter 0\nanswer 0 clean\nbegin 1\nready 1\nleave 0\nanswer 0 unlocked\nenter 1\nanswer 1 clean\nwords choosing 0 0\nwords number 0 2\nwords inside 0 1\nverdict fine\n",
-        0,
-    ),
-    (
-        others::BAKERY_1974,
-        TURNS,
-        "begin 0\nready 0\nenter 0\nanswer 0 done\nbegin 1\nready 1\nleave 0\nanswer 0 done\nenter 1\nanswer 1 done\nwords choosing 0 0\nwords number 0 2\nverdict fine\n",
-        0,
-    ),
-    (
-        others::PETERSON,
-        TURNS,
-        "begin 0\nready 0\nenter 0\nanswer 0 done\nleave 0\nanswer 0 done\nbegin 1\nready 1\nenter 1\nanswer 1 done\nwords flag 0 1\nwords turn 0\nverdict fine\n",
-        0,
-    ),
-    (
-        others::PETERSON_ORDER,
-        TURNS,
-        "begin 0\nready 0\nenter 0\nanswer 0 done\nbegin 1\nready 1\nleave 0\nanswer 0 done\nenter 1\nanswer 1 done\nwords flag 0 1\nwords turn 0\nverdict fine\n",
-        0,
-    ),
-    (
-        others::RECOVERABLE_PETERSON,
-        TURNS,
-        "begin 0\nready 0\nenter 0\nanswer 0 clean\nbegin 1\nready 1\nleave 0\nanswer 0 unlocked\nenter 1\nanswer 1 clean\nwords flag 0 3\nwords turn 0\nverdict fine\n",
-        0,
-    ),
-    (
-        others::FORGETFUL_PETERSON,
-        TURNS,
-        "begin 0\nready 0\nenter 0\nanswer 0 clean\nbegin 1\nready 1\nleave 0\nanswer 0 unlocked\nenter 1\nanswer 1 clean\nwords flag 0 2\nwords turn 0\nverdict fine\n",
-        0,
-    ),
-    (
-        others::ONE_WORD,
-        TURNS,
-        "begin 0\nready 0\nenter 0\nanswer 0 done\nleave 0\nanswer 0 done\nbegin 1\nready 1\nenter 1\nanswer 1 done\nwords held 1\nverdict fine\n",
-        0,
-    ),
-    (
-        others::LAMPORT_FAST,
-        TURNS,
-        "begin 0\nready 0\nenter 0\nanswer 0 done\nleave 0\nanswer 0 done\nbegin 1\nready 1\nenter 1\nanswer 1 done\nwords b 0 1\nwords x 1\nwords y 2\nverdict fine\n",
-        0,
-    ),
-    (
-        others::SZYMANSKI,
-        TURNS,
-        "begin 0\nready 0\nenter 0\nanswer 0 done\nleave 0\nanswer 0 done\nbegin 1\nready 1\nenter 1\nanswer 1 done\nwords flag 0 4\nverdict fine\n",
-        0,
-    ),
-    (
-        bakeries::NO_LOOK,
-        TWO_IN_THE_DOORWAY,
-        "begin 0\nbegin 1\nready 1\nenter 1\nanswer 1 clean\nready 0\nenter 0\nanswer 0 clean\nwords choosing 0 0\nwords number 1 1\nwords inside 1 1\nverdict against 2 at 6\n",
-        1,
-    ),
-    (
-        bakeries::NO_TIES,
-        TIE,
-        "begin 0\nbegin 1\nready 0\nready 1\nenter 1\nanswer 1 clean\nenter 0\nanswer 0 clean\nwords choosing 0 0\nwords number 1 1\nwords inside 1 1\nverdict against 2 at 6\n",
-        1,
-    ),
-    (
-        bakeries::RENUMBER,
-        BETWEEN_TWO_WORDS,
-        "begin 0\nready 0\ncrash 0\nbegin 1\nready 1\nenter 1\nanswer 1 clean\nwords choosing 0 0\nwords number 3 2\nwords inside 0 1\nverdict against 4 at 6 by 1 of 0\n",
-        1,
-    ),
-    (
-        others::PETERSON,
-        CRASH_INSIDE,
-        "begin 0\nready 0\nenter 0\nanswer 0 done\ncrash 0\nbegin 1\nready 1\nenter 1\nanswer 1 done\nwords flag 1 1\nwords turn 1\nverdict against 3 at 7\n",
-        1,
-    ),
-    (
-        others::FORGETFUL_PETERSON,
-        CRASH_IN_LINE,
-        "begin 0\nready 0\ncrash 0\nbegin 1\nready 1\nenter 1\nanswer 1 clean\nwords flag 1 2\nwords turn 1\nverdict against 4 at 6 by 1 of 0\n",
-        1,
-    ),
-    (
-        others::ONE_WORD,
-        TWO_AT_ONCE,
-        "begin 0\nready 0\nenter 0\nanswer 0 done\nbegin 1\nready 1\nenter 1\nanswer 1 done\nwords held 1\nverdict against 2 at 6\n",
-        1,
-    ),
-    (
-        others::SZYMANSKI,
-        CRASH_IN_THE_ROOM,
-        "begin 0\nready 0\nenter 0\nanswer 0 done\nleave 0\ncrash 0\nbegin 1\nready 1\nenter 1\nanswer 1 done\nbegin 0\nready 0\nenter 0\nanswer 0 done\nwords flag 4 4\nverdict against 2 at 11\n",
-        1,
-    ),
-];
+/// A run of this schedule on this text has this report and this exit status.
+fn runs(
+    rt: &HostRuntime,
+    text: &[u8],
+    schedule: &str,
+    report: &str,
+    status: u8,
+) -> Result<(), Fail> {
+    let row = invoked("rmelab replay --algorithm a.lock b.rme", "", report)
+        .among(("a.lock", str::from_utf8(text)?), ("b.rme", schedule))
+        .ends(status, "");
+    all_come_to(rt, rt.alloc(), &[row])
+}
+
+const BAKERY_IN_TURNS: &str =
+    "begin 0\nready 0\nenter 0\nanswer 0 clean\nbegin 1\nready 1\nleave 0\nanswer 0 unlocked\nenter 1\nanswer 1 clean\nwords choosing 0 0\nwords number 0 2\nwords inside 0 1\nverdict fine\n";
+
+const BAKERY_RUIN_IN_TURNS: &str =
+    "begin 0\nready 0\nenter 0\nanswer 0 clean\nbegin 1\nready 1\nleave 0\nanswer 0 unlocked\nenter 1\nanswer 1 clean\nwords choosing 0 0\nwords number 0 2\nwords inside 0 1\nwords ruined 0\nverdict fine\n";
+
+const NO_LOOK_TWO_IN_THE_DOORWAY: &str =
+    "begin 0\nbegin 1\nready 1\nenter 1\nanswer 1 clean\nready 0\nenter 0\nanswer 0 clean\nwords choosing 0 0\nwords number 1 1\nwords inside 1 1\nverdict against 2 at 6\n";
+
+const NO_TIES_TIE: &str =
+    "begin 0\nbegin 1\nready 0\nready 1\nenter 1\nanswer 1 clean\nenter 0\nanswer 0 clean\nwords choosing 0 0\nwords number 1 1\nwords inside 1 1\nverdict against 2 at 6\n";
+
+const RENUMBER_BETWEEN_TWO_WORDS: &str =
+    "begin 0\nready 0\ncrash 0\nbegin 1\nready 1\nenter 1\nanswer 1 clean\nwords choosing 0 0\nwords number 3 2\nwords inside 0 1\nverdict against 4 at 6 by 1 of 0\n";
+
+const BAKERY_1974_IN_TURNS: &str =
+    "begin 0\nready 0\nenter 0\nanswer 0 done\nbegin 1\nready 1\nleave 0\nanswer 0 done\nenter 1\nanswer 1 done\nwords choosing 0 0\nwords number 0 2\nverdict fine\n";
+
+const PETERSON_IN_TURNS: &str =
+    "begin 0\nready 0\nenter 0\nanswer 0 done\nleave 0\nanswer 0 done\nbegin 1\nready 1\nenter 1\nanswer 1 done\nwords flag 0 1\nwords turn 0\nverdict fine\n";
+
+const PETERSON_ORDER_IN_TURNS: &str =
+    "begin 0\nready 0\nenter 0\nanswer 0 done\nbegin 1\nready 1\nleave 0\nanswer 0 done\nenter 1\nanswer 1 done\nwords flag 0 1\nwords turn 0\nverdict fine\n";
+
+const RECOVERABLE_PETERSON_IN_TURNS: &str =
+    "begin 0\nready 0\nenter 0\nanswer 0 clean\nbegin 1\nready 1\nleave 0\nanswer 0 unlocked\nenter 1\nanswer 1 clean\nwords flag 0 3\nwords turn 0\nverdict fine\n";
+
+const FORGETFUL_PETERSON_IN_TURNS: &str =
+    "begin 0\nready 0\nenter 0\nanswer 0 clean\nbegin 1\nready 1\nleave 0\nanswer 0 unlocked\nenter 1\nanswer 1 clean\nwords flag 0 2\nwords turn 0\nverdict fine\n";
+
+const ONE_WORD_IN_TURNS: &str =
+    "begin 0\nready 0\nenter 0\nanswer 0 done\nleave 0\nanswer 0 done\nbegin 1\nready 1\nenter 1\nanswer 1 done\nwords held 1\nverdict fine\n";
+
+const LAMPORT_FAST_IN_TURNS: &str =
+    "begin 0\nready 0\nenter 0\nanswer 0 done\nleave 0\nanswer 0 done\nbegin 1\nready 1\nenter 1\nanswer 1 done\nwords b 0 1\nwords x 1\nwords y 2\nverdict fine\n";
+
+const SZYMANSKI_IN_TURNS: &str =
+    "begin 0\nready 0\nenter 0\nanswer 0 done\nleave 0\nanswer 0 done\nbegin 1\nready 1\nenter 1\nanswer 1 done\nwords flag 0 4\nverdict fine\n";
+
+const PETERSON_CRASH_INSIDE: &str =
+    "begin 0\nready 0\nenter 0\nanswer 0 done\ncrash 0\nbegin 1\nready 1\nenter 1\nanswer 1 done\nwords flag 1 1\nwords turn 1\nverdict against 3 at 7\n";
+
+const FORGETFUL_PETERSON_CRASH_IN_LINE: &str =
+    "begin 0\nready 0\ncrash 0\nbegin 1\nready 1\nenter 1\nanswer 1 clean\nwords flag 1 2\nwords turn 1\nverdict against 4 at 6 by 1 of 0\n";
+
+const ONE_WORD_TWO_AT_ONCE: &str =
+    "begin 0\nready 0\nenter 0\nanswer 0 done\nbegin 1\nready 1\nenter 1\nanswer 1 done\nwords held 1\nverdict against 2 at 6\n";
+
+const SZYMANSKI_CRASH_IN_THE_ROOM: &str =
+    "begin 0\nready 0\nenter 0\nanswer 0 done\nleave 0\ncrash 0\nbegin 1\nready 1\nenter 1\nanswer 1 done\nbegin 0\nready 0\nenter 0\nanswer 0 done\nwords flag 4 4\nverdict against 2 at 11\n";
 
 #[test]
-fn examples_of_algorithms(rt: HostRuntime) -> Result<(), Fail> {
-    for (text, schedule, report, status) in RUNS {
-        let text = str::from_utf8(text)?;
-        let row = invoked("rmelab replay --algorithm a.lock b.rme", "", report)
-            .among(("a.lock", text), ("b.rme", schedule))
-            .ends(status, "");
-        all_come_to(&rt, rt.alloc(), &[row])?;
+fn the_bakery_as_a_text_and_its_variants(rt: HostRuntime) -> Result<(), Fail> {
+    for text in [
+        bakeries::BAKERY,
+        bakeries::NO_LOOK,
+        bakeries::NO_TIES,
+        bakeries::RENUMBER,
+        bakeries::EXIT_ON_CRASH,
+    ] {
+        runs(&rt, text, TURNS, BAKERY_IN_TURNS, 0)?;
     }
+    runs(&rt, bakeries::BAKERY_RUIN, TURNS, BAKERY_RUIN_IN_TURNS, 0)?;
+    runs(
+        &rt,
+        bakeries::NO_LOOK,
+        TWO_IN_THE_DOORWAY,
+        NO_LOOK_TWO_IN_THE_DOORWAY,
+        1,
+    )?;
+    runs(&rt, bakeries::NO_TIES, TIE, NO_TIES_TIE, 1)?;
+    runs(
+        &rt,
+        bakeries::RENUMBER,
+        BETWEEN_TWO_WORDS,
+        RENUMBER_BETWEEN_TWO_WORDS,
+        1,
+    )?;
+    Ok(())
+}
+
+#[test]
+fn other_locks_as_texts(rt: HostRuntime) -> Result<(), Fail> {
+    runs(&rt, others::BAKERY_1974, TURNS, BAKERY_1974_IN_TURNS, 0)?;
+    runs(&rt, others::PETERSON, TURNS, PETERSON_IN_TURNS, 0)?;
+    runs(
+        &rt,
+        others::PETERSON_ORDER,
+        TURNS,
+        PETERSON_ORDER_IN_TURNS,
+        0,
+    )?;
+    runs(
+        &rt,
+        others::RECOVERABLE_PETERSON,
+        TURNS,
+        RECOVERABLE_PETERSON_IN_TURNS,
+        0,
+    )?;
+    runs(
+        &rt,
+        others::FORGETFUL_PETERSON,
+        TURNS,
+        FORGETFUL_PETERSON_IN_TURNS,
+        0,
+    )?;
+    runs(&rt, others::ONE_WORD, TURNS, ONE_WORD_IN_TURNS, 0)?;
+    runs(&rt, others::LAMPORT_FAST, TURNS, LAMPORT_FAST_IN_TURNS, 0)?;
+    runs(&rt, others::SZYMANSKI, TURNS, SZYMANSKI_IN_TURNS, 0)?;
+    runs(
+        &rt,
+        others::PETERSON,
+        CRASH_INSIDE,
+        PETERSON_CRASH_INSIDE,
+        1,
+    )?;
+    runs(
+        &rt,
+        others::FORGETFUL_PETERSON,
+        CRASH_IN_LINE,
+        FORGETFUL_PETERSON_CRASH_IN_LINE,
+        1,
+    )?;
+    runs(&rt, others::ONE_WORD, TWO_AT_ONCE, ONE_WORD_TWO_AT_ONCE, 1)?;
+    runs(
+        &rt,
+        others::SZYMANSKI,
+        CRASH_IN_THE_ROOM,
+        SZYMANSKI_CRASH_IN_THE_ROOM,
+        1,
+    )?;
     Ok(())
 }
 

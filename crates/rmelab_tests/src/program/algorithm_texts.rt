@@ -135,8 +135,7 @@ fn the_bakery_as_a_text_and_its_variants(rt: HostRuntime) -> Result<(), Fail> {
 }
 
 #[test]
-fn other_locks_as_texts(rt: HostRuntime) -> Result<(), Fail> {
-    runs(&rt, others::BAKERY_1974, TURNS, BAKERY_1974_IN_TURNS, 0)?;
+fn petersons_locks_as_texts(rt: HostRuntime) -> Result<(), Fail> {
     runs(&rt, others::PETERSON, TURNS, PETERSON_IN_TURNS, 0)?;
     runs(
         &rt,
@@ -159,9 +158,6 @@ fn other_locks_as_texts(rt: HostRuntime) -> Result<(), Fail> {
         FORGETFUL_PETERSON_IN_TURNS,
         0,
     )?;
-    runs(&rt, others::ONE_WORD, TURNS, ONE_WORD_IN_TURNS, 0)?;
-    runs(&rt, others::LAMPORT_FAST, TURNS, LAMPORT_FAST_IN_TURNS, 0)?;
-    runs(&rt, others::SZYMANSKI, TURNS, SZYMANSKI_IN_TURNS, 0)?;
     runs(
         &rt,
         others::PETERSON,
@@ -176,6 +172,15 @@ fn other_locks_as_texts(rt: HostRuntime) -> Result<(), Fail> {
         FORGETFUL_PETERSON_CRASH_IN_LINE,
         1,
     )?;
+    Ok(())
+}
+
+#[test]
+fn other_locks_as_texts(rt: HostRuntime) -> Result<(), Fail> {
+    runs(&rt, others::BAKERY_1974, TURNS, BAKERY_1974_IN_TURNS, 0)?;
+    runs(&rt, others::ONE_WORD, TURNS, ONE_WORD_IN_TURNS, 0)?;
+    runs(&rt, others::LAMPORT_FAST, TURNS, LAMPORT_FAST_IN_TURNS, 0)?;
+    runs(&rt, others::SZYMANSKI, TURNS, SZYMANSKI_IN_TURNS, 0)?;
     runs(&rt, others::ONE_WORD, TWO_AT_ONCE, ONE_WORD_TWO_AT_ONCE, 1)?;
     runs(
         &rt,

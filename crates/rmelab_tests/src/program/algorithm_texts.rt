@@ -5,7 +5,10 @@ use crate::support::fake::Failing;
 use crate::support::invocation::{all_come_to, comes_to, words_of};
 use crate::support::row::{ProgramRow, invoked};
 use algorithms_tests::texts::{bakeries, others};
+use std::alloc::Global;
+use std::sync::Wait;
 use std::test::Fail;
+use std::thread::Threads;
 
 /// One enters and leaves, and then the other one does.
 const TURNS: &str =
@@ -41,7 +44,8 @@ const CRASH_IN_THE_ROOM: &str =
 
 /// A run of this schedule on this text has this report and this exit status.
 fn runs(
-    rt: &HostRuntime,
+    rt: &(impl Threads + Wait + Sync),
+    alloc: Global,
     text: &[u8],
     schedule: &str,
     report: &str,
@@ -50,7 +54,7 @@ fn runs(
     let row = invoked("rmelab replay --algorithm a.lock b.rme", "", report)
         .among(("a.lock", str::from_utf8(text)?), ("b.rme", schedule))
         .ends(status, "");
-    all_come_to(rt, rt.alloc(), &[row])
+    all_come_to(rt, alloc, &[row])
 }
 
 const BAKERY_IN_TURNS: &str =
@@ -113,19 +117,28 @@ fn the_bakery_as_a_text_and_its_variants(rt: HostRuntime) -> Result<(), Fail> {
         bakeries::RENUMBER,
         bakeries::EXIT_ON_CRASH,
     ] {
-        runs(&rt, text, TURNS, BAKERY_IN_TURNS, 0)?;
+        runs(&rt, rt.alloc(), text, TURNS, BAKERY_IN_TURNS, 0)?;
     }
-    runs(&rt, bakeries::BAKERY_RUIN, TURNS, BAKERY_RUIN_IN_TURNS, 0)?;
     runs(
         &rt,
+        rt.alloc(),
+        bakeries::BAKERY_RUIN,
+        TURNS,
+        BAKERY_RUIN_IN_TURNS,
+        0,
+    )?;
+    runs(
+        &rt,
+        rt.alloc(),
         bakeries::NO_LOOK,
         TWO_IN_THE_DOORWAY,
         NO_LOOK_TWO_IN_THE_DOORWAY,
         1,
     )?;
-    runs(&rt, bakeries::NO_TIES, TIE, NO_TIES_TIE, 1)?;
+    runs(&rt, rt.alloc(), bakeries::NO_TIES, TIE, NO_TIES_TIE, 1)?;
     runs(
         &rt,
+        rt.alloc(),
         bakeries::RENUMBER,
         BETWEEN_TWO_WORDS,
         RENUMBER_BETWEEN_TWO_WORDS,
@@ -136,9 +149,17 @@ fn the_bakery_as_a_text_and_its_variants(rt: HostRuntime) -> Result<(), Fail> {
 
 #[test]
 fn petersons_locks_as_texts(rt: HostRuntime) -> Result<(), Fail> {
-    runs(&rt, others::PETERSON, TURNS, PETERSON_IN_TURNS, 0)?;
     runs(
         &rt,
+        rt.alloc(),
+        others::PETERSON,
+        TURNS,
+        PETERSON_IN_TURNS,
+        0,
+    )?;
+    runs(
+        &rt,
+        rt.alloc(),
         others::PETERSON_ORDER,
         TURNS,
         PETERSON_ORDER_IN_TURNS,
@@ -146,6 +167,7 @@ fn petersons_locks_as_texts(rt: HostRuntime) -> Result<(), Fail> {
     )?;
     runs(
         &rt,
+        rt.alloc(),
         others::RECOVERABLE_PETERSON,
         TURNS,
         RECOVERABLE_PETERSON_IN_TURNS,
@@ -153,6 +175,7 @@ fn petersons_locks_as_texts(rt: HostRuntime) -> Result<(), Fail> {
     )?;
     runs(
         &rt,
+        rt.alloc(),
         others::FORGETFUL_PETERSON,
         TURNS,
         FORGETFUL_PETERSON_IN_TURNS,
@@ -160,6 +183,7 @@ fn petersons_locks_as_texts(rt: HostRuntime) -> Result<(), Fail> {
     )?;
     runs(
         &rt,
+        rt.alloc(),
         others::PETERSON,
         CRASH_INSIDE,
         PETERSON_CRASH_INSIDE,
@@ -167,6 +191,7 @@ fn petersons_locks_as_texts(rt: HostRuntime) -> Result<(), Fail> {
     )?;
     runs(
         &rt,
+        rt.alloc(),
         others::FORGETFUL_PETERSON,
         CRASH_IN_LINE,
         FORGETFUL_PETERSON_CRASH_IN_LINE,
@@ -177,13 +202,49 @@ fn petersons_locks_as_texts(rt: HostRuntime) -> Result<(), Fail> {
 
 #[test]
 fn other_locks_as_texts(rt: HostRuntime) -> Result<(), Fail> {
-    runs(&rt, others::BAKERY_1974, TURNS, BAKERY_1974_IN_TURNS, 0)?;
-    runs(&rt, others::ONE_WORD, TURNS, ONE_WORD_IN_TURNS, 0)?;
-    runs(&rt, others::LAMPORT_FAST, TURNS, LAMPORT_FAST_IN_TURNS, 0)?;
-    runs(&rt, others::SZYMANSKI, TURNS, SZYMANSKI_IN_TURNS, 0)?;
-    runs(&rt, others::ONE_WORD, TWO_AT_ONCE, ONE_WORD_TWO_AT_ONCE, 1)?;
     runs(
         &rt,
+        rt.alloc(),
+        others::BAKERY_1974,
+        TURNS,
+        BAKERY_1974_IN_TURNS,
+        0,
+    )?;
+    runs(
+        &rt,
+        rt.alloc(),
+        others::ONE_WORD,
+        TURNS,
+        ONE_WORD_IN_TURNS,
+        0,
+    )?;
+    runs(
+        &rt,
+        rt.alloc(),
+        others::LAMPORT_FAST,
+        TURNS,
+        LAMPORT_FAST_IN_TURNS,
+        0,
+    )?;
+    runs(
+        &rt,
+        rt.alloc(),
+        others::SZYMANSKI,
+        TURNS,
+        SZYMANSKI_IN_TURNS,
+        0,
+    )?;
+    runs(
+        &rt,
+        rt.alloc(),
+        others::ONE_WORD,
+        TWO_AT_ONCE,
+        ONE_WORD_TWO_AT_ONCE,
+        1,
+    )?;
+    runs(
+        &rt,
+        rt.alloc(),
         others::SZYMANSKI,
         CRASH_IN_THE_ROOM,
         SZYMANSKI_CRASH_IN_THE_ROOM,

@@ -110,146 +110,79 @@ const SZYMANSKI_CRASH_IN_THE_ROOM: &str =
 
 #[test]
 fn the_bakery_as_a_text_and_its_variants(rt: HostRuntime) -> Result<(), Fail> {
-    for text in [
-        bakeries::BAKERY,
-        bakeries::NO_LOOK,
-        bakeries::NO_TIES,
-        bakeries::RENUMBER,
-        bakeries::EXIT_ON_CRASH,
+    for (text, schedule, report, status) in [
+        (bakeries::BAKERY, TURNS, BAKERY_IN_TURNS, 0),
+        (bakeries::NO_LOOK, TURNS, BAKERY_IN_TURNS, 0),
+        (bakeries::NO_TIES, TURNS, BAKERY_IN_TURNS, 0),
+        (bakeries::RENUMBER, TURNS, BAKERY_IN_TURNS, 0),
+        (bakeries::EXIT_ON_CRASH, TURNS, BAKERY_IN_TURNS, 0),
+        (bakeries::BAKERY_RUIN, TURNS, BAKERY_RUIN_IN_TURNS, 0),
+        (
+            bakeries::NO_LOOK,
+            TWO_IN_THE_DOORWAY,
+            NO_LOOK_TWO_IN_THE_DOORWAY,
+            1,
+        ),
+        (bakeries::NO_TIES, TIE, NO_TIES_TIE, 1),
+        (
+            bakeries::RENUMBER,
+            BETWEEN_TWO_WORDS,
+            RENUMBER_BETWEEN_TWO_WORDS,
+            1,
+        ),
     ] {
-        runs(&rt, rt.alloc(), text, TURNS, BAKERY_IN_TURNS, 0)?;
+        runs(&rt, rt.alloc(), text, schedule, report, status)?;
     }
-    runs(
-        &rt,
-        rt.alloc(),
-        bakeries::BAKERY_RUIN,
-        TURNS,
-        BAKERY_RUIN_IN_TURNS,
-        0,
-    )?;
-    runs(
-        &rt,
-        rt.alloc(),
-        bakeries::NO_LOOK,
-        TWO_IN_THE_DOORWAY,
-        NO_LOOK_TWO_IN_THE_DOORWAY,
-        1,
-    )?;
-    runs(&rt, rt.alloc(), bakeries::NO_TIES, TIE, NO_TIES_TIE, 1)?;
-    runs(
-        &rt,
-        rt.alloc(),
-        bakeries::RENUMBER,
-        BETWEEN_TWO_WORDS,
-        RENUMBER_BETWEEN_TWO_WORDS,
-        1,
-    )?;
     Ok(())
 }
 
 #[test]
 fn petersons_locks_as_texts(rt: HostRuntime) -> Result<(), Fail> {
-    runs(
-        &rt,
-        rt.alloc(),
-        others::PETERSON,
-        TURNS,
-        PETERSON_IN_TURNS,
-        0,
-    )?;
-    runs(
-        &rt,
-        rt.alloc(),
-        others::PETERSON_ORDER,
-        TURNS,
-        PETERSON_ORDER_IN_TURNS,
-        0,
-    )?;
-    runs(
-        &rt,
-        rt.alloc(),
-        others::RECOVERABLE_PETERSON,
-        TURNS,
-        RECOVERABLE_PETERSON_IN_TURNS,
-        0,
-    )?;
-    runs(
-        &rt,
-        rt.alloc(),
-        others::FORGETFUL_PETERSON,
-        TURNS,
-        FORGETFUL_PETERSON_IN_TURNS,
-        0,
-    )?;
-    runs(
-        &rt,
-        rt.alloc(),
-        others::PETERSON,
-        CRASH_INSIDE,
-        PETERSON_CRASH_INSIDE,
-        1,
-    )?;
-    runs(
-        &rt,
-        rt.alloc(),
-        others::FORGETFUL_PETERSON,
-        CRASH_IN_LINE,
-        FORGETFUL_PETERSON_CRASH_IN_LINE,
-        1,
-    )?;
+    for (text, schedule, report, status) in [
+        (others::PETERSON, TURNS, PETERSON_IN_TURNS, 0),
+        (others::PETERSON_ORDER, TURNS, PETERSON_ORDER_IN_TURNS, 0),
+        (
+            others::RECOVERABLE_PETERSON,
+            TURNS,
+            RECOVERABLE_PETERSON_IN_TURNS,
+            0,
+        ),
+        (
+            others::FORGETFUL_PETERSON,
+            TURNS,
+            FORGETFUL_PETERSON_IN_TURNS,
+            0,
+        ),
+        (others::PETERSON, CRASH_INSIDE, PETERSON_CRASH_INSIDE, 1),
+        (
+            others::FORGETFUL_PETERSON,
+            CRASH_IN_LINE,
+            FORGETFUL_PETERSON_CRASH_IN_LINE,
+            1,
+        ),
+    ] {
+        runs(&rt, rt.alloc(), text, schedule, report, status)?;
+    }
     Ok(())
 }
 
 #[test]
 fn other_locks_as_texts(rt: HostRuntime) -> Result<(), Fail> {
-    runs(
-        &rt,
-        rt.alloc(),
-        others::BAKERY_1974,
-        TURNS,
-        BAKERY_1974_IN_TURNS,
-        0,
-    )?;
-    runs(
-        &rt,
-        rt.alloc(),
-        others::ONE_WORD,
-        TURNS,
-        ONE_WORD_IN_TURNS,
-        0,
-    )?;
-    runs(
-        &rt,
-        rt.alloc(),
-        others::LAMPORT_FAST,
-        TURNS,
-        LAMPORT_FAST_IN_TURNS,
-        0,
-    )?;
-    runs(
-        &rt,
-        rt.alloc(),
-        others::SZYMANSKI,
-        TURNS,
-        SZYMANSKI_IN_TURNS,
-        0,
-    )?;
-    runs(
-        &rt,
-        rt.alloc(),
-        others::ONE_WORD,
-        TWO_AT_ONCE,
-        ONE_WORD_TWO_AT_ONCE,
-        1,
-    )?;
-    runs(
-        &rt,
-        rt.alloc(),
-        others::SZYMANSKI,
-        CRASH_IN_THE_ROOM,
-        SZYMANSKI_CRASH_IN_THE_ROOM,
-        1,
-    )?;
+    for (text, schedule, report, status) in [
+        (others::BAKERY_1974, TURNS, BAKERY_1974_IN_TURNS, 0),
+        (others::ONE_WORD, TURNS, ONE_WORD_IN_TURNS, 0),
+        (others::LAMPORT_FAST, TURNS, LAMPORT_FAST_IN_TURNS, 0),
+        (others::SZYMANSKI, TURNS, SZYMANSKI_IN_TURNS, 0),
+        (others::ONE_WORD, TWO_AT_ONCE, ONE_WORD_TWO_AT_ONCE, 1),
+        (
+            others::SZYMANSKI,
+            CRASH_IN_THE_ROOM,
+            SZYMANSKI_CRASH_IN_THE_ROOM,
+            1,
+        ),
+    ] {
+        runs(&rt, rt.alloc(), text, schedule, report, status)?;
+    }
     Ok(())
 }
 

@@ -1,8 +1,7 @@
 -- The run of a schedule, step by step and line by line.
-use Rattle.std.proofs.Common.{◌≡◌, ℕ, suc, ◌+◌, true, false, List, [], ◌∷◌, ◌++◌, Option, Some, None, Err, Ok, Result, refl, sym, ap, ◌∙◌, append_assoc, append-nil}
-use Rattle.schedule.specs.declared.lines.line.Line.{Line}
+use Rattle.std.proofs.Common.{◌≡◌, ℕ, suc, true, false, List, ◌++◌, Option, Some, None, Err, Ok, Result, refl, sym, ap, ◌∙◌, append_assoc, append-nil}
 use Rattle.algorithm_lab.specs.Monitors.{MonitorState, Part, step_on, IsPart, has_ended}
-use Rattle.algorithm_lab.specs.Runs.{after_step, steps, Run, line_on, run_on, IsRun}
+use Rattle.algorithm_lab.specs.Runs.{after_step, steps, Run, IsRun}
 use Rattle.algorithm_lab.specs.declared.run_refusal.RunRefusal.{RunRefusal}
 use Rattle.algorithm_lab.specs.declared.told.Told.{Told}
 

@@ -1,10 +1,11 @@
 //! Replays of schedules, against the reference program's reports.
 
-use crate::reports::{Reported, bakeries as bakery_reports, others as other_reports};
 use crate::reports::refusals::{
     REFUSED_BY_BAKERY_1974, REFUSED_BY_PETERSON, REFUSED_BY_RECOVERABLE_PETERSON,
 };
-use crate::reports::variants as variant_reports;
+use crate::reports::{
+    Reported, bakeries as bakery_reports, others as other_reports, variants as variant_reports,
+};
 use crate::texts::{bakeries, others};
 use algorithm_lab::{AlgorithmReplayFault, replay_algorithm};
 use algorithms::{Algorithm, read_algorithm};
@@ -29,12 +30,7 @@ fn replayed<W: Sink>(
 }
 
 /// Replays a schedule, and compares the whole report.
-fn compare<R: Abort>(
-    rt: &R,
-    alloc: Global,
-    text: &[u8],
-    reported: Reported,
-) -> Result<(), Fail> {
+fn compare<R: Abort>(rt: &R, alloc: Global, text: &[u8], reported: Reported) -> Result<(), Fail> {
     let mut page = Page::new(alloc);
     replayed(alloc, text, reported.schedule, &mut page)??;
     assert_eq!(rt; std::str::from_utf8(page.as_slice())?, reported.report);
@@ -45,7 +41,12 @@ fn compare<R: Abort>(
 fn bakeries_report(rt: HostRuntime) -> Result<(), Fail> {
     let alloc = rt.alloc();
     compare(&rt, alloc, bakeries::BAKERY, bakery_reports::BAKERY)?;
-    compare(&rt, alloc, bakeries::BAKERY_RUIN, bakery_reports::BAKERY_RUIN)?;
+    compare(
+        &rt,
+        alloc,
+        bakeries::BAKERY_RUIN,
+        bakery_reports::BAKERY_RUIN,
+    )?;
     compare(&rt, alloc, others::BAKERY_1974, bakery_reports::BAKERY_1974)
 }
 
@@ -55,14 +56,24 @@ fn wrong_bakeries_report(rt: HostRuntime) -> Result<(), Fail> {
     compare(&rt, alloc, bakeries::NO_LOOK, variant_reports::NO_LOOK)?;
     compare(&rt, alloc, bakeries::NO_TIES, variant_reports::NO_TIES)?;
     compare(&rt, alloc, bakeries::RENUMBER, variant_reports::RENUMBER)?;
-    compare(&rt, alloc, bakeries::EXIT_ON_CRASH, variant_reports::EXIT_ON_CRASH)
+    compare(
+        &rt,
+        alloc,
+        bakeries::EXIT_ON_CRASH,
+        variant_reports::EXIT_ON_CRASH,
+    )
 }
 
 #[test]
 fn petersons_locks_report(rt: HostRuntime) -> Result<(), Fail> {
     let alloc = rt.alloc();
     compare(&rt, alloc, others::PETERSON, other_reports::PETERSON)?;
-    compare(&rt, alloc, others::PETERSON_ORDER, other_reports::PETERSON_ORDER)?;
+    compare(
+        &rt,
+        alloc,
+        others::PETERSON_ORDER,
+        other_reports::PETERSON_ORDER,
+    )?;
     compare(
         &rt,
         alloc,
@@ -80,7 +91,12 @@ fn petersons_locks_report(rt: HostRuntime) -> Result<(), Fail> {
 #[test]
 fn other_locks_report(rt: HostRuntime) -> Result<(), Fail> {
     let alloc = rt.alloc();
-    compare(&rt, alloc, others::LAMPORT_FAST, other_reports::LAMPORT_FAST)?;
+    compare(
+        &rt,
+        alloc,
+        others::LAMPORT_FAST,
+        other_reports::LAMPORT_FAST,
+    )?;
     compare(&rt, alloc, others::ONE_WORD, other_reports::ONE_WORD)?;
     compare(&rt, alloc, others::SZYMANSKI, other_reports::SZYMANSKI)
 }

@@ -1,8 +1,7 @@
 -- The run of a schedule, step by step and line by line.
-use Rattle.std.proofs.Common.{◌≡◌, ℕ, suc, ◌+◌, true, false, List, [], ◌∷◌, ◌++◌, Option, Some, None, Err, Ok, Result, refl, sym, ap, ◌∙◌, append_assoc, append-nil}
-use Rattle.schedule.specs.declared.lines.line.Line.{Line}
+use Rattle.std.proofs.Common.{◌≡◌, ℕ, suc, true, false, List, ◌++◌, Option, Some, None, Err, Ok, Result, refl, sym, ap, ◌∙◌, append_assoc, append-nil}
 use Rattle.algorithm_lab.specs.Monitors.{MonitorState, Part, step_on, IsPart, has_ended}
-use Rattle.algorithm_lab.specs.Runs.{after_step, steps, Run, line_on, run_on, IsRun}
+use Rattle.algorithm_lab.specs.Runs.{after_step, steps, Run, IsRun}
 use Rattle.algorithm_lab.specs.declared.run_refusal.RunRefusal.{RunRefusal}
 use Rattle.algorithm_lab.specs.declared.told.Told.{Told}
 
@@ -12,20 +11,15 @@ pub record Continues (R : Type 0) (before now : List Told) (whole rest : Run R) 
   pub left : rest.left ≡ whole.left
   pub refused : rest.refused ≡ whole.refused
 
-pub continues_first : {R : Type 0} (before : List Told) (run : Run R) → Continues R before before run run
-continues_first before run = record { told = refl; left = refl; refused = refl }
-
-pub continues_more : {R : Type 0} (before mid now : List Told) (whole rest more : Run R) → Continues R before mid whole rest → Continues R mid now rest more → Continues R before now whole more
+continues_more : {R : Type 0} (before mid now : List Told) (whole rest more : Run R) → Continues R before mid whole rest → Continues R mid now rest more → Continues R before now whole more
 continues_more before mid now whole rest more first second =
     record { told = second.told ∙ first.told; left = second.left ∙ first.left; refused = second.refused ∙ first.refused }
 
 -- the rest of the run was all of it
-pub continues_last : {R : Type 0} (before mid now : List Told) (whole rest : Run R) (left : MonitorState) (refused : Option R) → Continues R before mid whole rest → IsRun rest mid now left → rest.refused ≡ refused
+continues_last : {R : Type 0} (before mid now : List Told) (whole rest : Run R) (left : MonitorState) (refused : Option R) → Continues R before mid whole rest → IsRun rest mid now left → rest.refused ≡ refused
     → IsRun whole before now left × (whole.refused ≡ refused)
 continues_last before mid now whole rest left refused first is why =
     ((is.0 ∙ first.told, is.1 ∙ first.left), sym first.refused ∙ why)
-
--- ---- steps
 
 -- a step that does not end its call, and the steps after it
 part_more : (before now : List Told) (left m : MonitorState) (r : Result Part RunRefusal) (rest : MonitorState → Run RunRefusal) → IsPart r before now left → has_ended r ≡ false
@@ -49,33 +43,22 @@ part_none before m r e rest is = rw is ((sym (append-nil before), refl), refl)
 steps_count : (p n k : ℕ) (m : MonitorState) → n ≡ suc k → steps p n m ≡ after_step (step_on m p) m (steps p k)
 steps_count p n k m e = ap (λ x. steps p x m) e
 
-pub steps_more : (p n k : ℕ) (before now : List Told) (left m : MonitorState) → n ≡ suc k → IsPart (step_on m p) before now left → has_ended (step_on m p) ≡ false
-    → Continues RunRefusal before now (steps p n m) (steps p k left)
-steps_more p n k before now left m count is going = rw (steps_count p n k m count) (part_more before now left m (step_on m p) (steps p k) is going)
+-- the steps go on after one that does not end its call
+pub steps_more : (p n k : ℕ) (before mid now : List Told) (m left : MonitorState) (whole : Run RunRefusal) → n ≡ suc k → Continues RunRefusal before mid whole (steps p n m) → IsPart (step_on m p) mid now left → has_ended (step_on m p) ≡ false
+    → Continues RunRefusal before now whole (steps p k left)
+steps_more p n k before mid now m left whole count so_far is going =
+    continues_more before mid now whole (steps p n m) (steps p k left) so_far (rw (steps_count p n k m count) (part_more mid now left m (step_on m p) (steps p k) is going))
 
-pub steps_last : (p n k : ℕ) (before now : List Told) (left m : MonitorState) → n ≡ suc k → IsPart (step_on m p) before now left → has_ended (step_on m p) ≡ true
-    → IsRun (steps p n m) before now left × ((steps p n m).refused ≡ None)
-steps_last p n k before now left m count is going = rw (steps_count p n k m count) (part_last before now left m (step_on m p) (steps p k) is going)
+-- they end with one that ends its call
+pub steps_last : (p n k : ℕ) (before mid now : List Told) (m left : MonitorState) (whole : Run RunRefusal) → n ≡ suc k → Continues RunRefusal before mid whole (steps p n m) → IsPart (step_on m p) mid now left → has_ended (step_on m p) ≡ true
+    → IsRun whole before now left × (whole.refused ≡ None)
+steps_last p n k before mid now m left whole count so_far is ended =
+    let last : IsRun (steps p n m) mid now left × ((steps p n m).refused ≡ None) = rw (steps_count p n k m count) (part_last mid now left m (step_on m p) (steps p k) is ended) in
+    continues_last before mid now whole (steps p n m) left None so_far last.0 last.1
 
-pub steps_refused : (p n k : ℕ) (before : List Told) (m : MonitorState) (e : RunRefusal) → n ≡ suc k → step_on m p ≡ Err e
-    → IsRun (steps p n m) before before m × ((steps p n m).refused ≡ Some e)
-steps_refused p n k before m e count is = rw (steps_count p n k m count) (part_none before m (step_on m p) e (steps p k) is)
-
-pub steps_none : (p n : ℕ) (before : List Told) (m : MonitorState) → n ≡ 0 → IsRun (steps p n m) before before m × ((steps p n m).refused ≡ None)
-steps_none p n before m none = rw none ((sym (append-nil before), refl), refl)
-
--- ---- lines
-
--- a line that is played, and the lines after it
-pub line_more : (k : ℕ) (before now : List Told) (left m : MonitorState) (line : Line) (lines : List Line) → IsRun (line_on m line) before now left → (line_on m line).refused ≡ None
-    → Continues (ℕ × RunRefusal) before now (run_on k m (line ∷ lines)) (run_on (k + 1) left lines)
-line_more k before now left m line lines is accepted =
-    rw (accepted, is.0, is.1) record { told = append_assoc before (line_on m line).told (run_on (k + 1) (line_on m line).left lines).told; left = refl; refused = refl }
-
--- a line that is refused
-pub line_refused : (k : ℕ) (before now : List Told) (left m : MonitorState) (line : Line) (lines : List Line) (e : RunRefusal) → IsRun (line_on m line) before now left → (line_on m line).refused ≡ Some e
-    → IsRun (run_on k m (line ∷ lines)) before now left × ((run_on k m (line ∷ lines)).refused ≡ Some (k, e))
-line_refused k before now left m line lines e is refused = rw refused (is, refl)
-
-pub lines_none : (k : ℕ) (before : List Told) (m : MonitorState) (lines : List Line) → lines ≡ [] → IsRun (run_on k m lines) before before m × ((run_on k m lines).refused ≡ None)
-lines_none k before m lines none = rw none ((sym (append-nil before), refl), refl)
+-- they end before one that is refused
+pub steps_refused : (p n k : ℕ) (before mid now : List Told) (m left : MonitorState) (whole : Run RunRefusal) (e : RunRefusal) → n ≡ suc k → Continues RunRefusal before mid whole (steps p n m) → step_on m p ≡ Err e → (left ≡ m) × (now ≡ mid)
+    → IsRun whole before now left × (whole.refused ≡ Some e)
+steps_refused p n k before mid now m left whole e count so_far is same =
+    let last : IsRun (steps p n m) mid mid m × ((steps p n m).refused ≡ Some e) = rw (steps_count p n k m count) (part_none mid m (step_on m p) e (steps p k) is) in
+    rw (same.0, same.1) (continues_last before mid mid whole (steps p n m) m (Some e) so_far last.0 last.1)

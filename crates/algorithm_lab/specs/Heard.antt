@@ -1,6 +1,6 @@
 -- What a judge hears of the deeds that the lines of an algorithm note. It rests on the promises of the text: without order
 -- nobody is ever ahead of anyone, and without re-entry a crash ends what was begun.
-use Rattle.std.specs.Prelude.{ℕ, true, false, if◌then◌else◌, List, [], ◌∷◌, ◌++◌, Option, Some, None}
+use Rattle.std.specs.Prelude.{ℕ, if◌then◌else◌, List, [], ◌∷◌, ◌++◌, Option, Some, None}
 use Rattle.rmecore.specs.declared.outer.Outer.TheVariants as outers
 use Rattle.rmecore.specs.declared.phase.Phase.{Phase}
 use Rattle.rmecore.specs.declared.phase.Phase.TheVariants as phases
@@ -10,7 +10,7 @@ use Rattle.algorithms.specs.declared.line.Deed.{Deed}
 use Rattle.algorithms.specs.declared.line.Deed.TheVariants as deeds
 use Rattle.algorithms.specs.declared.noted.Noted.{Noted}
 use Rattle.algorithm_lab.specs.declared.told.Told.{Told}
-use Rattle.algorithm_lab.specs.declared.told.Told.TheVariants.{Did, Answered}
+use Rattle.algorithm_lab.specs.declared.told.Told.TheVariants.{Did}
 
 -- a doorway that is begun again after a crash is heard the first time alone
 abbrev pub begun : ℕ → Phase → List Told

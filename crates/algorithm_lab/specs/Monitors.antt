@@ -1,12 +1,11 @@
 -- A world of an algorithm with a monitor: the phase of each process by the deeds of it that are heard.
-use Rattle.std.specs.Prelude.{◌≡◌, ℕ, Bool, true, false, if◌then◌else◌, List, [], ◌∷◌, ◌++◌, replicate, slice_get, slice_index_or, slice_set, Option, Some, None, is_some, Result, Ok, Err}
+use Rattle.std.specs.Prelude.{◌≡◌, ℕ, Bool, true, false, if◌then◌else◌, List, [], ◌∷◌, ◌++◌, replicate, slice_index_or, slice_set, Option, Some, None, is_some, Result, Ok, Err}
 use Rattle.rmecore.specs.declared.phase.Phase.{Phase}
 use Rattle.rmecore.specs.declared.phase.Phase.TheVariants.{Out, Inside}
 use Rattle.algorithms.specs.Worlds.{WorldState, first_world, process_of, entry_of, start, step, crash}
-use Rattle.algorithms.specs.declared.access.Taken.{Taken}
 use Rattle.algorithms.specs.declared.algorithm.Algorithm.{Algorithm}
 use Rattle.algorithms.specs.declared.algorithm.Call.{Call}
-use Rattle.algorithms.specs.declared.algorithm.Call.TheVariants.{Lock, Unlock, Recover, Withdraw}
+use Rattle.algorithms.specs.declared.algorithm.Call.TheVariants.{Lock, Unlock, Recover}
 use Rattle.algorithms.specs.declared.process.Place.{Place}
 use Rattle.algorithms.specs.declared.process.Place.TheVariants.{Rest, Dead, At}
 use Rattle.algorithms.specs.declared.process.Process.{Process}
@@ -15,7 +14,7 @@ use Rattle.algorithm_lab.specs.Heard.{Heard, heard, heard_of_crash}
 use Rattle.algorithm_lab.specs.declared.run_refusal.RunRefusal.{RunRefusal}
 use Rattle.algorithm_lab.specs.declared.run_refusal.RunRefusal.TheVariants.{Refused, NotOwner, AlreadyIn, OutOfMemory}
 use Rattle.algorithm_lab.specs.declared.told.Told.{Told}
-use Rattle.algorithm_lab.specs.declared.told.Told.TheVariants.{Did, Answered}
+use Rattle.algorithm_lab.specs.declared.told.Told.TheVariants.{Answered}
 
 pub record MonitorState : Type 0 where
   pub world : WorldState

@@ -1,5 +1,5 @@
 -- The report of a run of an algorithm: its deeds and answers, the shared words at the end, and the verdict.
-use Rattle.std.specs.Prelude.{◌≡◌, ℕ, true, false, if◌then◌else◌, List, [], ◌∷◌, ◌++◌, map, take, codes, Option, Some, None, slice_get, slice_index_or, ◌+◌, String, string_bytes}
+use Rattle.std.specs.Prelude.{ℕ, if◌then◌else◌, List, [], ◌∷◌, ◌++◌, take, codes, Option, Some, None, slice_get, slice_index_or, ◌+◌, String, string_bytes}
 use Rattle.std.specs.List.{flat_map}
 use Rattle.std.specs.Fmt.{decimal}
 use Rattle.std.specs.declared.alloc.Global.{Global}

@@ -1,11 +1,11 @@
-use Rattle.std.proofs.Common.{◌≡◌, ◌+◌, ◌++◌, ◌∷◌, [], take, refl, sym, ap, ◌∙◌, arith}
-use Rattle.std.proofs.lemmas.List.{take_more, take_all}
+use Rattle.std.proofs.Common.{◌≡◌, take, refl, ap, ◌∙◌, arith}
+use Rattle.std.proofs.lemmas.List.{take_all}
 use Rattle.schedule.proofs.Closing.{ruled_on}
 use Rattle.schedule.proofs.Heard.{hears_none}
 use Rattle.schedule.specs.RunningVerdicts.{opened}
 use Rattle.schedule.specs.Verdicts.{verdict_on}
 use Rattle.algorithm_lab.specs.Runs.{deeds_of}
-use Rattle.algorithm_lab.proofs.HeardDeeds.{hears_one}
+use Rattle.algorithm_lab.proofs.HeardDeeds.{hears_next}
 use Rattle.algorithm_lab.proofs.judging.judged.Goals as goal
 
 pub loop-one-init : goal.loop-one-init
@@ -13,11 +13,7 @@ loop-one-init c = hears_none _
 
 pub loop-one-preserved : goal.loop-one-preserved
 loop-one-preserved c =
-    let i = c.loop-one.one-index in
-    let told = c.args.told.now in
-    let item = c.one-item.result in
-    let more : take (i + 1) told ≡ take i told ++ item ∷ [] = take_more told i item c.loop-one-test.true ∙ ap (λ one. take i told ++ one ∷ []) (sym c.one-item.is) in
-    rw more (hears_one _ _ _ (take i told) item c.loop-one.invariant c.hear.ensures)
+    hears_next _ _ _ c.args.told.now c.loop-one.one-index _ c.loop-one-test.true c.loop-one.invariant c.hear.ensures
 
 pub returns : goal.returns
 returns c start keeps =

@@ -24,13 +24,13 @@ use Rattle.commands.specs.Settings.{IsNoSchedule}
 use Rattle.commands.specs.Statuses.{fault_on_page, status_of}
 
 -- why a replay to a page has no verdict: a line is refused, or memory has run out
-pub page_fault : (before now : Tape) (start : State) (image_of : WorldState → Image) (schedule : Scheduled) (fault : ReplayFault)
-    → CutShort before now start image_of (world_run schedule) fault
+pub page_fault : (before now : Tape) (start : State) (f : WorldState → Image) (schedule : Scheduled) (fault : ReplayFault)
+    → CutShort before now start f (world_run schedule) fault
     → (status_of (fault_on_page fault) ≡ 3) ⊎ IsRefusedLine schedule (fault_on_page fault)
-page_fault before now start image_of schedule (faults.Refused line number) (written, refusal, is, numbered) = inr (line, refusal, number, is, numbered, refl)
-page_fault before now start image_of schedule faults.Write h = inl refl
-page_fault before now start image_of schedule faults.OutOfMemory h = inl refl
-page_fault before now start image_of schedule _ h = absurd h
+page_fault before now start f schedule (faults.Refused line number) (written, (refusal, is, numbered)) = inr (line, refusal, number, is, numbered, refl)
+page_fault before now start f schedule faults.Write h = inl refl
+page_fault before now start f schedule faults.OutOfMemory h = inl refl
+page_fault before now start f schedule _ h = absurd h
 
 -- a replay that is cut short, as a fault of the command
 as_fault : (schedule : Scheduled) (fault : CommandFault) → (status_of fault ≡ 3) ⊎ IsRefusedLine schedule fault → (status_of fault ≡ 3) ⊎ CantPlay schedule fault
@@ -52,19 +52,19 @@ cut_short before now schedule judge world fault result made stands is same =
 pub cant_read : (start : Option (List ℕ)) (old now : Reading) (buffer text : List ℕ) (fault : CommandFault) → BeginsWith start old now buffer text
     → (status_of fault ≡ 3) ⊎ IsNoSchedule text fault → (status_of fault ≡ 3) ⊎ CantBegin start old now fault
 cant_read start old now buffer text fault begins (inl three) = inl three
-cant_read start old now buffer text fault begins (inr no) = inr (text, buffer, begins, inl no)
+cant_read start old now buffer text fault begins (inr cant) = inr (text, buffer, begins, inl cant)
 
 -- its schedule can't be played
 pub cant_play : (start : Option (List ℕ)) (old now : Reading) (buffer text : List ℕ) (schedule : Scheduled) (fault : CommandFault) → BeginsWith start old now buffer text
     → schedule_at text ≡ Ok schedule → (status_of fault ≡ 3) ⊎ CantPlay schedule fault → (status_of fault ≡ 3) ⊎ CantBegin start old now fault
 cant_play start old now buffer text schedule fault begins reads (inl three) = inl three
-cant_play start old now buffer text schedule fault begins reads (inr no) = inr (text, buffer, begins, inr (schedule, reads, no))
+cant_play start old now buffer text schedule fault begins reads (inr cant) = inr (text, buffer, begins, inr (schedule, reads, cant))
 
 -- a session that doesn't begin has written nothing
 pub not_begun : (start : Option (List ℕ)) (old now : Reading) (used : Used) (tape : Tape) (fault : CommandFault)
     → (status_of fault ≡ 3) ⊎ CantBegin start old now fault → SessionEnds start old now used used tape tape (Err fault)
 not_begun start old now used tape fault (inl three) = inl three
-not_begun start old now used tape fault (inr no) = inr (no, record { taken = refl; fine = refl }, refl)
+not_begun start old now used tape fault (inr cant) = inr (cant, record { taken = refl; fine = refl }, refl)
 
 -- a session reads standard input
 pub session_reads : (command : Command) → is_session command ≡ true → input_of command ≡ None

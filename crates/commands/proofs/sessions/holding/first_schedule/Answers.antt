@@ -1,4 +1,4 @@
-use Rattle.std.proofs.Common.{option_copied}
+use Rattle.std.proofs.Common.{rules, option_copied}
 use Rattle.std.proofs.lemmas.Result.{err_from_is_err_and}
 use Rattle.commands.proofs.Beginning.{cant_play}
 use Rattle.commands.proofs.sessions.holding.first_schedule.Goals as goal

@@ -277,6 +277,14 @@ impl Session {
         ensures session { OnOk result (self.new ≡ after_request self.old (request_in self.old line.now)) }
         ensures reply { IfOk result (λ reply. reply ≡ reply_to (request_in self.old line.now)) }
     {
-        Err(AllocError)
+        let head = self.schedule.head();
+        match read_request(head.width, line) {
+            Ok(request) => self.grant(alloc, &request, out),
+            Err(fault) => {
+                let next = self.schedule.lines().len() as u64 + 2;
+                put_fault(out, next, b"fault ", fault.number())?;
+                Ok(Reply::Goes)
+            }
+        }
     }
 }

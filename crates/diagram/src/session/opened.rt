@@ -56,7 +56,17 @@ fn play_all(
 ) -> Result<(), AllocError>
     ensures { OnOk result (watched.new ≡ watched_on watched.old lines.now) }
 {
-    Err(AllocError)
+    for line in lines {
+        page.clear();
+        play_line(
+            &mut watched.world,
+            &mut watched.last_steps,
+            layout,
+            page,
+            line,
+        )?;
+    }
+    Ok(())
 }
 
 /// The global state after a schedule. `Err`: out of memory, or no world has the sizes.

@@ -74,6 +74,7 @@ fn read_so_far(p: u64, last: Option<Happened>) -> u64
     }
 }
 
+#[tactic(auto, using(crate::proofs::Joined::joined_around))]
 fn put_doorway(
     out: &mut Vec<u8>,
     procs: u64,
@@ -82,7 +83,9 @@ fn put_doorway(
 ) -> Result<(), AllocError>
     ensures { OnOk result (out.new.items ≡ out.old.items ++ doorway_text procs p last) }
 {
-    Err(AllocError)
+    let read = read_so_far(p, last);
+    put_around(out, b"in the doorway, has read ", read, b" of ")?;
+    put_around(out, b"", procs.saturating_sub(1), b" numbers")
 }
 
 /// Whether the pair of p is before that of j.
@@ -102,10 +105,12 @@ fn put_look(out: &mut Vec<u8>, j: u64, value: u64) -> Result<(), AllocError>
 }
 
 /// Writes whom a process waits for, and the number of that one.
+#[tactic(auto, using(crate::proofs::Joined::joined_around))]
 fn put_waits_for(out: &mut Vec<u8>, j: u64, value: u64) -> Result<(), AllocError>
     ensures { OnOk result (out.new.items ≡ out.old.items ++ waits_for j value) }
 {
-    Err(AllocError)
+    put_around(out, b"waits for process ", j, b", which has number ")?;
+    put_around(out, b"", value, b"")
 }
 
 fn put_weigh(out: &mut Vec<u8>, p: u64, own: &Own, j: u64, value: u64) -> Result<(), AllocError>
@@ -220,6 +225,30 @@ fn put_processes(
     Ok(())
 }
 
+/// The first process whose words are inside.
+fn holder(owns: &[Own]) -> Option<u64>
+    ensures { result ≡ holder_in 0 owns.now }
+{
+    let mut p = 0;
+    for own in owns {
+        if is_inside(own) {
+            return Some(p);
+        }
+        p += 1;
+    }
+    None
+}
+
+/// Writes who is inside.
+fn put_inside(out: &mut Vec<u8>, holder: Option<u64>) -> Result<(), AllocError>
+    ensures { OnOk result (out.new.items ≡ out.old.items ++ inside_line holder) }
+{
+    match holder {
+        None => put_text(out, b"inside: nobody\n"),
+        Some(p) => put_around(out, b"inside: process ", p, b"\n"),
+    }
+}
+
 /// Writes where the processes with these words stand, and who is inside.
 pub fn put_state(
     out: &mut Vec<u8>,
@@ -229,5 +258,6 @@ pub fn put_state(
 ) -> Result<(), AllocError>
     ensures { OnOk result (out.new.items ≡ out.old.items ++ state_text procs owns.now last_steps.now) }
 {
-    Err(AllocError)
+    put_processes(out, procs, owns, last_steps)?;
+    put_inside(out, holder(owns))
 }

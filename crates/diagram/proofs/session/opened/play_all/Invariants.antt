@@ -1,0 +1,6 @@
+use Rattle.std.proofs.Common.{◌≡◌, drop}
+use Rattle.diagram.specs.Sessions.{watched_on}
+use Rattle.diagram.proofs.session.opened.play_all.Given as goal
+
+abbrev pub invariant-loop-line : goal.invariant-loop-line
+invariant-loop-line l = watched_on l.watched-inside (drop l.line-index l.lines) ≡ watched_on l.fn.watched l.lines

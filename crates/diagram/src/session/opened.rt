@@ -49,22 +49,18 @@ impl Model for Watched {
 
 /// Plays lines, and writes nothing. A line that is refused changes nothing.
 fn play_all(
-    watched: &mut Watched,
+    world: &mut World,
+    last_steps: &mut LastSteps,
     layout: &Layout,
     page: &mut Vec<u8>,
     lines: &[Line],
 ) -> Result<(), AllocError>
-    ensures { OnOk result (watched.new ≡ watched_on watched.old lines.now) }
+    ensures { OnOk result (record { world = world.new; last_steps = last_steps.new }
+        ≡ watched_on (record { world = world.old; last_steps = last_steps.old }) lines.now) }
 {
     for line in lines {
         page.clear();
-        play_line(
-            &mut watched.world,
-            &mut watched.last_steps,
-            layout,
-            page,
-            line,
-        )?;
+        play_line(world, last_steps, layout, page, line)?;
     }
     Ok(())
 }
@@ -76,7 +72,8 @@ fn watched_at(alloc: Global, schedule: &Schedule) -> Result<Watched, AllocError>
     let mut watched = first_watched_of(alloc, schedule)?;
     let layout = layout_of(schedule.head());
     let mut page = Vec::new(alloc);
-    play_all(&mut watched, &layout, &mut page, schedule.lines())?;
+    let Watched { world, last_steps } = &mut watched;
+    play_all(world, last_steps, &layout, &mut page, schedule.lines())?;
     Ok(watched)
 }
 

@@ -1,6 +1,6 @@
 -- A session: a schedule that grows by a line at a time, and goes back. What is written for a line is a function of the
 -- schedule before it, of what was undone, and of the line.
-use Rattle.std.specs.Prelude.{ℕ, zero, suc, ◌+◌, ◌-◌, List, [], ◌∷◌, ◌++◌, codes, length, take, Option, Some, None, is_some, if◌then◌else◌, Result, Ok, Err, slice_get}
+use Rattle.std.specs.Prelude.{ℕ, zero, suc, ◌+◌, ◌-◌, ◌≤◌, List, [], ◌∷◌, ◌++◌, codes, length, take, Option, Some, None, is_some, if◌then◌else◌, Result, Ok, Err, slice_get}
 use Rattle.rmeworld.specs.Behaviours.{Behaviour}
 use Rattle.rmeworld.specs.Replayed.{world_behaviour}
 use Rattle.rmeworld.specs.WorldState.{WorldState, new_world}
@@ -60,6 +60,10 @@ pub record SessionState : Type 0 where
   pub schedule : Scheduled
   pub undone : List Line
   pub watched : WatchedState
+
+-- a value has from 1 to 8 words, as in each schedule of a world
+abbrev pub HasWidth : Scheduled → Type 0
+HasWidth schedule = (1 ≤ schedule.width) × (schedule.width ≤ 8)
 
 -- a session at a schedule
 abbrev pub at_schedule : Scheduled → List Line → SessionState

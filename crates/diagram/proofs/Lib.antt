@@ -12,3 +12,4 @@ pub mod Lines
 pub mod Parts
 pub mod Seen
 pub mod Watching
+pub mod Undone

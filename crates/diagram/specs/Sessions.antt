@@ -1,6 +1,6 @@
 -- A session: a schedule that grows by a line at a time, and goes back. What is written for a line is a function of the
 -- schedule before it, of what was undone, and of the line.
-use Rattle.std.specs.Prelude.{ℕ, zero, suc, ◌+◌, ◌-◌, ◌≤◌, List, [], ◌∷◌, ◌++◌, codes, length, take, Option, Some, None, is_some, if◌then◌else◌, Result, Ok, Err, slice_get}
+use Rattle.std.specs.Prelude.{◌≡◌, ℕ, zero, suc, ◌+◌, ◌-◌, ◌≤◌, List, [], ◌∷◌, ◌++◌, codes, length, take, Option, Some, None, is_some, if◌then◌else◌, Result, Ok, Err, slice_get}
 use Rattle.rmeworld.specs.Behaviours.{Behaviour}
 use Rattle.rmeworld.specs.Replayed.{world_behaviour}
 use Rattle.rmeworld.specs.WorldState.{WorldState, new_world}
@@ -212,3 +212,14 @@ reply_to request = replies.Goes
 -- what a line asks for
 abbrev pub request_in : SessionState → List ℕ → Result Request LineFault
 request_in session line = request_at session.schedule.width (words_of line)
+
+-- ---- lines of the input, one after another
+
+-- the session after them
+abbrev pub session_after : SessionState → List (List ℕ) → SessionState
+session_after session [] = session
+session_after session (line ∷ lines) = session_after (after_request session (request_in session line)) lines
+
+-- what a session watches is the world of its schedule, played from its begin
+abbrev pub IsOfSchedule : SessionState → Type 0
+IsOfSchedule session = session.watched ≡ watched_of session.schedule

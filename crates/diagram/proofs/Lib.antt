@@ -13,3 +13,4 @@ pub mod Parts
 pub mod Seen
 pub mod Watching
 pub mod Undone
+pub mod LinesTold

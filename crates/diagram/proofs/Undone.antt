@@ -1,5 +1,5 @@
 -- A session watches the world of its schedule, and goes back and on again.
-use Rattle.std.proofs.Common.{◌≡◌, ℕ, ◌+◌, ◌-◌, ◌<◌, List, [], ◌∷◌, ◌++◌, length, take, get_or, Option, Some, None, Result, Ok, Err, refl, sym, ap, ◌∙◌, arith}
+use Rattle.std.proofs.Common.{◌≡◌, ℕ, ◌-◌, ◌<◌, List, [], ◌∷◌, ◌++◌, length, take, Option, Some, None, Result, Ok, Err, refl, sym, ap, ◌∙◌, arith}
 use Rattle.std.proofs.lemmas.List.{length-append}
 use Rattle.std.proofs.lemmas.Option.{slice_get-get_or}
 use Rattle.std.proofs.Math.Seq.{get_or-append_seam, take-append_seam}
@@ -9,7 +9,7 @@ use Rattle.schedule.specs.Schedules.{head_of}
 use Rattle.diagram.proofs.Common.{Line, Step}
 use Rattle.diagram.specs.declared.session.request.Request.{Request}
 use Rattle.diagram.specs.declared.session.request.Request.TheVariants as requests
-use Rattle.diagram.specs.Sessions.{IsOfSchedule, SessionState, WatchedState, after_redo, after_request, after_undo, answered_by, at_schedule, first_watched, last_line, played, played_by, redone_by, refusal_in, request_in, session_after, undone_by, watched_of, watched_on, watched_with, way_of, without_last}
+use Rattle.diagram.specs.Sessions.{IsOfSchedule, SessionState, WatchedState, after_redo, after_request, after_undo, answered_by, at_schedule, first_watched, last_line, played, played_by, redone_by, refusal_in, request_in, session_after, undone_by, watched_on, watched_with, way_of, without_last}
 
 -- ---- what is watched
 

@@ -1,4 +1,4 @@
-use Rattle.std.proofs.Common.{◌≡◌, ℕ, ◌+◌, List, ◌++◌, length, ap, subst}
+use Rattle.std.proofs.Common.{◌≡◌, ◌+◌, List, ◌++◌, length, ap, subst}
 use Rattle.diagram.proofs.Common.{Line}
 use Rattle.diagram.proofs.Watching.{fault_told}
 use Rattle.diagram.specs.Sessions.{SessionState, request_in, text_of_request}

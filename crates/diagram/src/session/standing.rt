@@ -74,7 +74,6 @@ fn read_so_far(p: u64, last: Option<Happened>) -> u64
     }
 }
 
-#[tactic(auto, using(crate::proofs::Joined::joined_around))]
 fn put_doorway(
     out: &mut Vec<u8>,
     procs: u64,
@@ -84,8 +83,8 @@ fn put_doorway(
     ensures { OnOk result (out.new.items ≡ out.old.items ++ doorway_text procs p last) }
 {
     let read = read_so_far(p, last);
-    put_around(out, b"in the doorway, has read ", read, b" of ")?;
-    put_around(out, b"", procs.saturating_sub(1), b" numbers")
+    put_piece(out, b"in the doorway, has read ", read)?;
+    put_around(out, b" of ", procs.saturating_sub(1), b" numbers")
 }
 
 /// Whether the pair of p is before that of j.
@@ -105,12 +104,11 @@ fn put_look(out: &mut Vec<u8>, j: u64, value: u64) -> Result<(), AllocError>
 }
 
 /// Writes whom a process waits for, and the number of that one.
-#[tactic(auto, using(crate::proofs::Joined::joined_around))]
 fn put_waits_for(out: &mut Vec<u8>, j: u64, value: u64) -> Result<(), AllocError>
     ensures { OnOk result (out.new.items ≡ out.old.items ++ waits_for j value) }
 {
-    put_around(out, b"waits for process ", j, b", which has number ")?;
-    put_around(out, b"", value, b"")
+    put_piece(out, b"waits for process ", j)?;
+    put_around(out, b", which has number ", value, b"")
 }
 
 fn put_weigh(out: &mut Vec<u8>, p: u64, own: &Own, j: u64, value: u64) -> Result<(), AllocError>

@@ -1,5 +1,5 @@
-use Rattle.std.proofs.Common.{◌≡◌, List, [], ◌∷◌, ◌++◌, refl, sym, ap, ◌∙◌}
-use Rattle.diagram.proofs.Common.{Crash, Did, Event, Fell, crash_part, events_of, followed, line_on}
+use Rattle.std.proofs.Common.{List, [], ◌∷◌, refl, sym, ap, ◌∙◌}
+use Rattle.diagram.proofs.Common.{Crash, Did, Event, Fell, crash_part}
 use Rattle.diagram.proofs.Seen.{crash_seen, left_refused, nothing_seen, refused_by, seen_last}
 use Rattle.diagram.proofs.Shown.{crash_refused, left_of}
 use Rattle.diagram.specs.LastSteps.{last_steps_after}

@@ -1,5 +1,5 @@
-use Rattle.std.proofs.Common.{◌≡◌, ℕ, List, [], ◌∷◌, ◌++◌, Option, Some, None, IfOk, OnOk, refl, sym, ap, subst, ◌∙◌}
-use Rattle.diagram.proofs.Common.{Did, Event, Refusal, crash_part, events_of, followed, line_on, start_part, step_part, steps, steps_of}
+use Rattle.std.proofs.Common.{◌≡◌, ℕ, List, [], ◌∷◌, ◌++◌, Option, IfOk, OnOk, sym, ap, subst, ◌∙◌}
+use Rattle.diagram.proofs.Common.{Did, Event, Refusal, crash_part, followed, start_part, step_part, steps, steps_of}
 use Rattle.diagram.proofs.Seen.{left_refused, nothing_seen, on_any}
 use Rattle.diagram.proofs.Shown.{left_of, refused_of, start_shows, step_shows}
 use Rattle.diagram.specs.LastSteps.{number_refused, last_steps_after}

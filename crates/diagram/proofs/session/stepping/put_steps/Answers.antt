@@ -1,5 +1,5 @@
-use Rattle.std.proofs.Common.{◌≡◌, ℕ, suc, ◌+◌, ◌-◌, List, [], ◌∷◌, ◌++◌, refl, sym, ap, subst, ◌∙◌, arith}
-use Rattle.diagram.proofs.Common.{append-nil, halted, steps, is_refused, DiagramRow, Event, Took, followed, row_told, steps_of}
+use Rattle.std.proofs.Common.{◌≡◌, suc, ◌+◌, ◌-◌, List, ◌++◌, refl, sym, ap, subst, ◌∙◌, arith}
+use Rattle.diagram.proofs.Common.{halted, steps, is_refused, DiagramRow, Event, Took, followed, row_told, steps_of}
 use Rattle.diagram.proofs.Seen.{nothing_seen, seen_event, seen_last}
 use Rattle.diagram.proofs.Shown.{steps_none, steps_refused, steps_ended, steps_go_on}
 use Rattle.diagram.specs.LastSteps.{LastStepsState, last_steps_after, last_steps_with}

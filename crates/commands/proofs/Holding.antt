@@ -289,7 +289,7 @@ got_none first s start buffer rest old now after before mid blank written tape l
 
 -- the line does not end the session
 pub goes_by : (ends : Bool) (P : Type 0) → (ends ≡ true ↔ P) → ends ≡ false → P → ⊥
-goes_by ends P iff is p = false≢true (sym is ∙ iff.0 p)
+goes_by ends P iff is p = false≢true (sym is ∙ iff.1 p)
 
 -- a page was written
 pub wrote_page : (written after : Tape) (bytes page : List ℕ) → bytes ≡ page → after.taken ≡ written.taken ++ bytes → after.failures ≡ written.failures → Writes written after page

@@ -68,7 +68,7 @@ abbrev pub SessionEndsIn : Command → Used → Used → Reading → Reading →
 SessionEndsIn command before now old new blank written end =
     IsBroken end
     ⊎ ((image : Option (List ℕ)) × (is_some image ≡ is_some (image_of command)) × (first : Used) × SavesNone before first
-        × SessionEnds image old new first now blank written end)
+    × SessionEnds image old new first now blank written end)
 
 -- without a fault, no write and no flush has failed
 abbrev pub IsWhole : Tape → Tape → Result Ending CommandFault → Type 0

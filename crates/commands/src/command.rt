@@ -11,8 +11,8 @@ ghost use Rattle.commands.specs.Folders.{is_session};
 ghost use Rattle.commands.specs.Statuses.{status_of};
 
 use crate::exploring::explore_command;
-use crate::jobs::jobs_of;
 use crate::folder::{Folder, NoFolder};
+use crate::jobs::jobs_of;
 use crate::progress::meter::Meter;
 use crate::progress::screen::{NoScreen, Screen};
 use crate::progress::work::Work;

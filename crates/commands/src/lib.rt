@@ -10,8 +10,8 @@ pub mod program;
 pub mod progress;
 pub mod running;
 pub mod schedules;
-mod stuck;
 pub mod sessions;
+mod stuck;
 pub mod tally;
 
 pub use progress::meter::Meter;

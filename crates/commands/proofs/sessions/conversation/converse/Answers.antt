@@ -62,16 +62,16 @@ loop-preserved g c =
     c.in_ok-line.field-0 c.in-Some.line c.in-Some.is c.deref-in-loop.ensures.value c.loop.invariant.0 c.in_ok-flush.ensures.taken c.in_ok-flush.ensures.fine
     c.in_ok-line.ensures.given c.in_ok-line.ensures.fine in (
       goes_on c.args.session.now c.loop.session c.reply.new.session c.args.buffer.now.items line c.next_line.new.buffer.items c.reply.new.page.items
-      (g.S.Source.reading c.args.r.now)
-      (g.S.Source.reading c.next_line.new.source)
-      (g.F.Folder.used c.args.folder.now)
-      (g.F.Folder.used c.loop.folder)
-      (g.F.Folder.used c.reply.new.folder)
-      (g.W.Sink.tape c.args.w.now)
-      (g.W.Sink.tape c.flush.new.self)
-      (g.W.Sink.tape c.write_all.new.sink)
-      got (goes_by c.in_ok-ends.ends _ c.in_ok-ends.ensures.ends c.if-ends.false) c.in_ok-ends.ensures.answer c.in_ok-ends.ensures.after
-      (wrote_page (g.W.Sink.tape c.flush.new.self) (g.W.Sink.tape c.write_all.new.sink) c.deref-in-loop-2.result.now c.reply.new.page.items
-      c.deref-in-loop-2.ensures.value c.in_ok-write_all.ensures.all c.in_ok-write_all.ensures.fine),
+          (g.S.Source.reading c.args.r.now)
+          (g.S.Source.reading c.next_line.new.source)
+          (g.F.Folder.used c.args.folder.now)
+          (g.F.Folder.used c.loop.folder)
+          (g.F.Folder.used c.reply.new.folder)
+          (g.W.Sink.tape c.args.w.now)
+          (g.W.Sink.tape c.flush.new.self)
+          (g.W.Sink.tape c.write_all.new.sink)
+          got (goes_by c.in_ok-ends.ends _ c.in_ok-ends.ensures.ends c.if-ends.false) c.in_ok-ends.ensures.answer c.in_ok-ends.ensures.after
+          (wrote_page (g.W.Sink.tape c.flush.new.self) (g.W.Sink.tape c.write_all.new.sink) c.deref-in-loop-2.result.now c.reply.new.page.items
+          c.deref-in-loop-2.ensures.value c.in_ok-write_all.ensures.all c.in_ok-write_all.ensures.fine),
       c.in_ok-ends.ensures.opened ∙ c.loop.invariant.1,
     )

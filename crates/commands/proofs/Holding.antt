@@ -1,5 +1,7 @@
 -- The lines of a session that were answered so far.
-use Rattle.std.proofs.Common.{◌≡◌, ◌+◌, ◌-◌, ◌^◌, min, Result, Ok, Err, ℕ, List, [], ◌∷◌, ◌++◌, refl, sym, ap, subst, ◌∙◌, append_assoc, inl, inr, length, eqb, arith}
+use Rattle.std.proofs.Common.{◌≡◌, ◌↔◌, ◌+◌, ◌-◌, ◌^◌, min, Bool, true, false, Option, Some, None, IfSome, IfNone, Vec, Result, Ok, Err, ℕ, List, [], ◌∷◌, ◌++◌, refl, sym, ap, subst, ◌∙◌, append_assoc, inl, inr, length, eqb, arith}
+use Rattle.std.proofs.lemmas.Bool.{false≢true}
+use Rattle.std.specs.declared.alloc.Global.{Global}
 use Rattle.std.proofs.lemmas.List.{append-nil}
 use Rattle.std.proofs.lemmas.List.Splits.{length-slice_split}
 use Rattle.schedule.proofs.Cutting.{parts_of-pieces}
@@ -15,13 +17,13 @@ use Rattle.diagram.specs.Sessions.{SessionState, after_request, reply_to, reques
 use Rattle.schedule.specs.declared.replays.replay_fault.ReplayFault.{ReplayFault}
 use Rattle.schedule.specs.declared.replays.replay_fault.ReplayFault.TheVariants as faults
 use Rattle.commands.specs.Statuses.{fault_of_replay, status_of}
-use Rattle.commands.specs.Conversations.{AreAnswers, Converses, HoldsSession, IsAnswer, IsAnswerBy, after_line, last_text}
+use Rattle.commands.specs.Conversations.{AreAnswers, Converses, HoldsSession, IsAnswer, IsAnswerBy, IsKept, WritesFile, WritesOr, after_line, last_text}
 use Rattle.commands.specs.Folders.{Used}
 
 -- ---- pieces of a text
 
 -- a list is empty, or has a last element
-Ends : List (List ℕ) → Type 0
+abbrev Ends : List (List ℕ) → Type 0
 Ends parts = (front : List (List ℕ)) × (last : List ℕ) × (parts ≡ front ++ last ∷ [])
 
 ends_more : (part : List ℕ) (parts : List (List ℕ)) → Ends (part ∷ parts)
@@ -90,7 +92,16 @@ pub flushed : (first s : SessionState) (start buffer : List ℕ) (old now : Read
     → Going first start old now before mid blank written s buffer → after.taken ≡ written.taken → after.failures ≡ written.failures
     → Going first start old now before mid blank after s buffer
 flushed first s start buffer old now before mid blank written after h taken fine =
-    record h { writes = record { taken = taken ∙ h.writes.taken; fine = fine ∙ h.writes.fine } }
+    record {
+      more = h.more;
+      given = h.given;
+      fine = h.fine;
+      lines = h.lines;
+      answers = h.answers;
+      parts = h.parts;
+      answered = h.answered;
+      writes = record { taken = taken ∙ h.writes.taken; fine = fine ∙ h.writes.fine };
+    }
 
 -- one more line was read
 pub record Got (first : SessionState) (start : List ℕ) (old now : Reading) (before mid : Used) (blank written : Tape) (session : SessionState) (line buffer : List ℕ) : Type 0 where
@@ -241,3 +252,50 @@ pub wants_memory : (first s : SessionState) (start buffer : List ℕ) (old now a
     → Going first start old now before mid blank written s buffer → after.failures ≡ now.failures → last.failures ≡ written.failures
     → HoldsSession first start old after before used blank last (Err faults.OutOfMemory)
 wants_memory first s start buffer old now after before mid used blank written last h read wrote = (read ∙ h.fine, wrote ∙ h.writes.fine)
+
+-- ---- what the calls of the loop say
+
+-- what `next_line` says of a line
+abbrev pub IsLine : Option (Vec ℕ Global) → List ℕ → List ℕ → Reading → Reading → Type 0
+IsLine line buffer rest now after =
+    (more : List ℕ) × (after.given ≡ now.given ++ more) × IfSome line (λ l. parts_of (buffer ++ more) ≡ l.items ∷ parts_of rest)
+    × IfNone line ((rest ≡ buffer ++ more) × (parts_of rest ≡ rest ∷ []))
+
+-- a line was read
+pub got_line : (first s : SessionState) (start buffer rest line : List ℕ) (old now after : Reading) (before mid : Used) (blank written tape : Tape) (read : Option (Vec ℕ Global)) (v : Vec ℕ Global)
+    → read ≡ Some v → line ≡ v.items → Going first start old now before mid blank written s buffer → tape.taken ≡ written.taken → tape.failures ≡ written.failures
+    → IsLine read buffer rest now after → after.failures ≡ now.failures → Got first start old after before mid blank tape s line rest
+got_line first s start buffer rest line old now after before mid blank written tape None v some value h taken fine is same = cc
+got_line first s start buffer rest line old now after before mid blank written tape (Some w) v some value h taken fine is same =
+    let items : w.items ≡ line = cc in
+    got first s start buffer line rest old now after before mid blank tape is.0 (flushed first s start buffer old now before mid blank written tape h taken fine) is.1 same
+    (is.2 ∙ ap (λ (l : List ℕ). l ∷ parts_of rest) items)
+
+-- no line was read
+pub got_none : (first s : SessionState) (start buffer rest : List ℕ) (old now after : Reading) (before mid : Used) (blank written tape last : Tape) (read : Option (Vec ℕ Global))
+    (result : Result (Unit {0}) ReplayFault)
+    → read ≡ None → Going first start old now before mid blank written s buffer → tape.taken ≡ written.taken → tape.failures ≡ written.failures
+    → IsLine read buffer rest now after → IfNone read (after.ended ≡ true) → after.failures ≡ now.failures → WritesOr tape last (last_text s rest) result
+    → HoldsSession first start old after before mid blank last result
+got_none first s start buffer rest old now after before mid blank written tape last (Some w) result none h taken fine is ended same wrote = cc
+got_none first s start buffer rest old now after before mid blank written tape last None (Ok x) none h taken fine is ended same wrote =
+    input_ends first s start buffer rest old now after before mid blank tape last is.0 (flushed first s start buffer old now before mid blank written tape h taken fine) is.1 same ended
+    is.3.0 is.3.1 wrote
+got_none first s start buffer rest old now after before mid blank written tape last None (Err faults.Write) none h taken fine is ended same wrote =
+    write_fails first s start buffer old now after before mid mid blank tape last (flushed first s start buffer old now before mid blank written tape h taken fine) wrote
+got_none first s start buffer rest old now after before mid blank written tape last None (Err faults.OutOfMemory) none h taken fine is ended same wrote =
+    wants_memory first s start buffer old now after before mid mid blank tape last (flushed first s start buffer old now before mid blank written tape h taken fine) same wrote
+got_none first s start buffer rest old now after before mid blank written tape last None (Err _) none h taken fine is ended same wrote = absurd wrote
+
+-- the line does not end the session
+pub goes_by : (ends : Bool) (P : Type 0) → (ends ≡ true ↔ P) → ends ≡ false → P → ⊥
+goes_by ends P iff is p = false≢true (sym is ∙ iff.1 p)
+
+-- a page was written
+pub wrote_page : (written after : Tape) (bytes page : List ℕ) → bytes ≡ page → after.taken ≡ written.taken ++ bytes → after.failures ≡ written.failures → Writes written after page
+wrote_page written after bytes page is taken fine = record { taken = taken ∙ ap (λ (t : List ℕ). written.taken ++ t) is; fine = fine }
+
+-- whether or not that was done, the text was to be written
+pub kept_by : (before now : Used) (file text : List ℕ) (done : Bool) → WritesFile before now file text → IsKept before now file text done
+kept_by before now file text true h = h
+kept_by before now file text false h = inr h

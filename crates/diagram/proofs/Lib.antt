@@ -12,3 +12,5 @@ pub mod Lines
 pub mod Parts
 pub mod Seen
 pub mod Watching
+pub mod Undone
+pub mod LinesTold

@@ -2,7 +2,6 @@
 use Rattle.std.specs.Prelude.{ℕ, List, [], ◌∷◌, drop, codes, slice_index, Option, Some, None, Result, Ok, Err, if◌then◌else◌}
 use Rattle.schedule.specs.declared.lines.fault.LineFault.{LineFault}
 use Rattle.schedule.specs.declared.lines.fault.LineFault.TheVariants.{BadWord}
-use Rattle.schedule.specs.declared.lines.line.Line.{Line}
 use Rattle.schedule.specs.Commands.{line_at}
 use Rattle.schedule.specs.Words.{◌>>=◌, any, begins_with, first_of, named, numbers_at}
 use Rattle.diagram.specs.declared.session.request.Request.{Request}

@@ -1,6 +1,7 @@
 -- A session: a schedule that grows by a line at a time, and goes back. What is written for a line is a function of the
 -- schedule before it, of what was undone, and of the line.
-use Rattle.std.specs.Prelude.{ℕ, zero, suc, ◌+◌, ◌-◌, List, [], ◌∷◌, ◌++◌, codes, length, take, Option, Some, None, is_some, if◌then◌else◌, Result, Ok, Err, slice_get}
+use Rattle.std.specs.Prelude.{◌≡◌, ℕ, zero, suc, ◌+◌, ◌-◌, ◌≤◌, List, [], ◌∷◌, ◌++◌, codes, length, take, Option, Some, None, is_some, if◌then◌else◌, Result, Ok, Err, slice_get}
+use Rattle.redomail.specs.declared.layout.Layout.{Layout}
 use Rattle.rmeworld.specs.Behaviours.{Behaviour}
 use Rattle.rmeworld.specs.Replayed.{world_behaviour}
 use Rattle.rmeworld.specs.WorldState.{WorldState, new_world}
@@ -61,6 +62,10 @@ pub record SessionState : Type 0 where
   pub undone : List Line
   pub watched : WatchedState
 
+-- a value has from 1 to 8 words, as in each schedule of a world
+abbrev pub HasWidth : Scheduled → Type 0
+HasWidth schedule = (1 ≤ schedule.width) × (schedule.width ≤ 8)
+
 -- a session at a schedule
 abbrev pub at_schedule : Scheduled → List Line → SessionState
 at_schedule schedule undone = record { schedule = schedule; undone = undone; watched = watched_of schedule }
@@ -95,11 +100,14 @@ refusal_in session line = number_refused (line_on world_behaviour session.watche
 abbrev pub fault_text : ℕ → List ℕ → ℕ → List ℕ
 fault_text line name number = around (codes "line ") line (codes ": ") ++ around name number (10 ∷ [])
 
--- the steps of the line, as `replay --each` writes them, and the state after it; or the line of its refusal
+-- the steps of a line, as `replay --each` writes them
+abbrev pub steps_told : Layout → WatchedState → Line → List ℕ
+steps_told l watched line = followed l watched.last_steps.phases (events_of world_behaviour watched.world line)
+
+-- the steps of the line, and the state after it; or the line of its refusal
 abbrev pub play_text_by : SessionState → Line → Option ℕ → List ℕ
 play_text_by session line None =
-    followed (layout_of (head_of session.schedule)) session.watched.last_steps.phases (events_of world_behaviour session.watched.world line)
-    ++ watched_text session.schedule (watched_with session.watched line)
+    steps_told (layout_of (head_of session.schedule)) session.watched line ++ watched_text session.schedule (watched_with session.watched line)
 play_text_by session line (Some number) = fault_text (next_number session) (codes "refused ") number
 
 abbrev pub play_text : SessionState → Line → List ℕ
@@ -208,3 +216,19 @@ reply_to request = replies.Goes
 -- what a line asks for
 abbrev pub request_in : SessionState → List ℕ → Result Request LineFault
 request_in session line = request_at session.schedule.width (words_of line)
+
+-- ---- lines of the input, one after another
+
+-- the session after them
+abbrev pub session_after : SessionState → List (List ℕ) → SessionState
+session_after session [] = session
+session_after session (line ∷ lines) = session_after (after_request session (request_in session line)) lines
+
+-- the steps that are written for lines of a schedule
+abbrev pub lines_told : Layout → WatchedState → List Line → List ℕ
+lines_told l watched [] = []
+lines_told l watched (line ∷ lines) = steps_told l watched line ++ lines_told l (watched_with watched line) lines
+
+-- what a session watches is the world of its schedule, played from its begin
+abbrev pub IsOfSchedule : SessionState → Type 0
+IsOfSchedule session = session.watched ≡ watched_of session.schedule

@@ -1,6 +1,7 @@
 //! A session: a schedule that grows by a line at a time, and goes back.
 
 mod last_steps;
+pub mod laws;
 pub mod opened;
 pub mod request;
 pub mod saying;

@@ -4,7 +4,7 @@ ghost use Rattle.std.specs.Prelude.{◌≡◌, ◌++◌, [], IfOk, Ok, OnOk, is_
 ghost use Rattle.rmeworld.specs.Replayed.{world_behaviour};
 ghost use Rattle.schedule.specs.Runs.{run_on};
 ghost use Rattle.schedule.specs.Schedules.{head_of};
-ghost use Rattle.diagram.specs.Sessions.{after_redo, after_request, after_undo, answer_text_by, answered_by, at_schedule, first_watched, last_line as last_line_in, next_number, play_text, played, redo_text, refusal_in, reply_to, request_in, watched_of, watched_on, watched_text as watched_text_in, shortened as shortened_in, text_of_request, undo_text, way_of, without_last};
+ghost use Rattle.diagram.specs.Sessions.{HasWidth, after_redo, after_request, after_undo, answer_text_by, answered_by, at_schedule, first_watched, last_line as last_line_in, next_number, play_text, played, redo_text, refusal_in, reply_to, request_in, watched_of, watched_on, watched_text as watched_text_in, shortened as shortened_in, text_of_request, undo_text, way_of, without_last};
 ghost use Rattle.diagram.specs.LastSteps.{number_refused};
 
 use crate::diagram_layout::layout_of;
@@ -49,30 +49,39 @@ impl Model for Watched {
 
 /// Plays lines, and writes nothing. A line that is refused changes nothing.
 fn play_all(
-    watched: &mut Watched,
+    world: &mut World,
+    last_steps: &mut LastSteps,
     layout: &Layout,
     page: &mut Vec<u8>,
     lines: &[Line],
 ) -> Result<(), AllocError>
-    ensures { OnOk result (watched.new ≡ watched_on watched.old lines.now) }
+    ensures { OnOk result (record { world = world.new; last_steps = last_steps.new }
+        ≡ watched_on (record { world = world.old; last_steps = last_steps.old }) lines.now) }
 {
-    Err(AllocError)
+    for line in lines {
+        page.clear();
+        play_line(world, last_steps, layout, page, line)?;
+    }
+    Ok(())
 }
 
 /// The global state after a schedule. `Err`: out of memory, or no world has the sizes.
 fn watched_at(alloc: Global, schedule: &Schedule) -> Result<Watched, AllocError>
-    ensures { IfOk result (λ watched. watched ≡ watched_of schedule.now) }
+    ensures watched { IfOk result (λ watched. watched ≡ watched_of schedule.now) }
+    ensures width { OnOk result (HasWidth schedule.now) }
 {
     let mut watched = first_watched_of(alloc, schedule)?;
     let layout = layout_of(schedule.head());
     let mut page = Vec::new(alloc);
-    play_all(&mut watched, &layout, &mut page, schedule.lines())?;
+    let Watched { world, last_steps } = &mut watched;
+    play_all(world, last_steps, &layout, &mut page, schedule.lines())?;
     Ok(watched)
 }
 
 /// A new world with the sizes of a schedule, of which nothing has been seen.
 fn first_watched_of(alloc: Global, schedule: &Schedule) -> Result<Watched, AllocError>
-    ensures { IfOk result (λ watched. watched ≡ first_watched (head_of schedule.now)) }
+    ensures watched { IfOk result (λ watched. watched ≡ first_watched (head_of schedule.now)) }
+    ensures width { OnOk result (HasWidth schedule.now) }
 {
     let head = schedule.head();
     let Ok(world) = World::new(alloc, head.procs, head.limit, head.cap, head.width) else {
@@ -119,11 +128,13 @@ pub struct Session {
 }
 
 impl Model for Session {
-    ghost use Rattle.diagram.specs.Sessions.{SessionState};
+    ghost use Rattle.diagram.specs.Sessions.{HasWidth, SessionState};
 
     ghost Value = { SessionState };
 
     ghost view = { λ s. record { schedule = s.schedule; undone = s.undone.items; watched = s.watched } };
+
+    ghost invariant = { λ s. HasWidth s.schedule };
 }
 
 impl Session {

@@ -82,7 +82,9 @@ fn put_doorway(
 ) -> Result<(), AllocError>
     ensures { OnOk result (out.new.items ≡ out.old.items ++ doorway_text procs p last) }
 {
-    Err(AllocError)
+    let read = read_so_far(p, last);
+    put_piece(out, b"in the doorway, has read ", read)?;
+    put_around(out, b" of ", procs.saturating_sub(1), b" numbers")
 }
 
 /// Whether the pair of p is before that of j.
@@ -105,7 +107,8 @@ fn put_look(out: &mut Vec<u8>, j: u64, value: u64) -> Result<(), AllocError>
 fn put_waits_for(out: &mut Vec<u8>, j: u64, value: u64) -> Result<(), AllocError>
     ensures { OnOk result (out.new.items ≡ out.old.items ++ waits_for j value) }
 {
-    Err(AllocError)
+    put_piece(out, b"waits for process ", j)?;
+    put_around(out, b", which has number ", value, b"")
 }
 
 fn put_weigh(out: &mut Vec<u8>, p: u64, own: &Own, j: u64, value: u64) -> Result<(), AllocError>
@@ -220,6 +223,30 @@ fn put_processes(
     Ok(())
 }
 
+/// The first process whose words are inside.
+fn holder(owns: &[Own]) -> Option<u64>
+    ensures { result ≡ holder_in 0 owns.now }
+{
+    let mut p = 0;
+    for own in owns {
+        if is_inside(own) {
+            return Some(p);
+        }
+        p += 1;
+    }
+    None
+}
+
+/// Writes who is inside.
+fn put_inside(out: &mut Vec<u8>, holder: Option<u64>) -> Result<(), AllocError>
+    ensures { OnOk result (out.new.items ≡ out.old.items ++ inside_line holder) }
+{
+    match holder {
+        None => put_text(out, b"inside: nobody\n"),
+        Some(p) => put_around(out, b"inside: process ", p, b"\n"),
+    }
+}
+
 /// Writes where the processes with these words stand, and who is inside.
 pub fn put_state(
     out: &mut Vec<u8>,
@@ -229,5 +256,6 @@ pub fn put_state(
 ) -> Result<(), AllocError>
     ensures { OnOk result (out.new.items ≡ out.old.items ++ state_text procs owns.now last_steps.now) }
 {
-    Err(AllocError)
+    put_processes(out, procs, owns, last_steps)?;
+    put_inside(out, holder(owns))
 }

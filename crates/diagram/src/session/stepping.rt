@@ -46,7 +46,20 @@ fn put_steps<M: Machine>(
     ensures last_steps { OnOk result (last_steps.new ≡ last_steps_after last_steps.old (steps_of M.behaviour p n machine.old)) }
     ensures left { OnOk result (machine.new ≡ (steps M.behaviour p n machine.old).1) }
 {
-    Err(AllocError)
+    for _ in 0..n {
+        let stepped = match machine.advance(p) {
+            Ok(stepped) => stepped,
+            Err(refusal) => match refusal.number() {
+                Some(_) => return Ok(()),
+                None => return Err(AllocError),
+            },
+        };
+        put_seen(out, layout, last_steps, &row_of(p, &stepped))?;
+        if stepped.answer.is_some() {
+            return Ok(());
+        }
+    }
+    Ok(())
 }
 
 /// The number of a refusal. Out of memory has none.
@@ -78,7 +91,15 @@ fn play_steps<M: Machine>(
     ensures same { IfOk result (λ number. IfSome number (λ k. (out.new.items ≡ out.old.items)
         × (last_steps.new ≡ last_steps.old) × (machine.new ≡ machine.old))) }
 {
-    Err(AllocError)
+    let stepped = match machine.advance(p) {
+        Ok(stepped) => stepped,
+        Err(refusal) => return refused(refusal),
+    };
+    put_seen(out, layout, last_steps, &row_of(p, &stepped))?;
+    if stepped.answer.is_none() {
+        put_steps(machine, last_steps, layout, out, p, n - 1)?;
+    }
+    Ok(None)
 }
 
 /// Crashes p, and writes the crash. Answers the number of a refusal.
@@ -98,7 +119,13 @@ fn play_crash<M: Machine>(
     ensures same { IfOk result (λ number. IfSome number (λ k. (out.new.items ≡ out.old.items)
         × (last_steps.new ≡ last_steps.old) × (machine.new ≡ machine.old))) }
 {
-    Err(AllocError)
+    let deed = match machine.crash(p) {
+        Ok(deed) => deed,
+        Err(refusal) => return refused(refusal),
+    };
+    let act = Act::Fell(deed);
+    put_seen(out, layout, last_steps, &DiagramRow { p, act })?;
+    Ok(None)
 }
 
 /// Plays one line, and writes each of its steps. Answers the number of a refusal; then nothing was changed or written.
@@ -117,5 +144,12 @@ pub fn play_line<M: Machine>(
     ensures same { IfOk result (λ number. IfSome number (λ k. (out.new.items ≡ out.old.items)
         × (last_steps.new ≡ last_steps.old) × (machine.new ≡ machine.old))) }
 {
-    Err(AllocError)
+    match *line {
+        Line::Start(p, call) => match machine.start(p, call) {
+            Ok(()) => Ok(None),
+            Err(refusal) => refused(refusal),
+        },
+        Line::Step(p, count) => play_steps(machine, last_steps, layout, out, p, count.get()),
+        Line::Crash(p) => play_crash(machine, last_steps, layout, out, p),
+    }
 }

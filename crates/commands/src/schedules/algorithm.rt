@@ -71,7 +71,7 @@ fn replay_on_algorithm<W: Sink>(
 
 /// Runs `replay --algorithm`: reads the algorithm from its text, then the schedule, and plays the schedule on a new world of the
 /// algorithm to its verdict. A fault says what can't be read, which line is refused, or that a device or memory has failed.
-#[tactic(auto, using(crate::proofs::AlgorithmReplays::no_algorithm, crate::proofs::AlgorithmReplays::no_schedule, crate::proofs::AlgorithmReplays::run_written))]
+#[tactic(auto, using(crate::proofs::AlgorithmReplays::no_algorithm))]
 pub fn algorithm_replay_command<R: Source, W: Sink>(
     alloc: Global,
     text: Option<&[u8]>,

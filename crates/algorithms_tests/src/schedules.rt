@@ -190,7 +190,10 @@ fn memory_is_refused(rt: HostRuntime) -> Result<(), Fail> {
     let mut algorithms = all_algorithms(alloc, others::ONE_WORD)?;
     let mut scarce_memory = ScarceMemory::new(alloc)?;
     let mut refused = 0u64;
-    while let Some(algorithm) = algorithms.pop() {
+    for _ in 0..TRIES {
+        let Some(algorithm) = algorithms.pop() else {
+            break;
+        };
         let mut printed = [0u8; 1024];
         let mut sink = ToWriter::new(Cursor::new(printed.as_mut_slice()));
         let result = replay_algorithm(alloc, algorithm, &schedule, &mut sink);

@@ -3,7 +3,7 @@ _rmelab() {
     local word=${COMP_WORDS[COMP_CWORD]} before=${COMP_WORDS[COMP_CWORD - 1]} names
     COMPREPLY=()
     if ((COMP_CWORD == 1)); then
-        mapfile -t COMPREPLY < <(compgen -W "replay run hunt explore judge draw shrink explain help -h --help -V --version" -- "$word")
+        mapfile -t COMPREPLY < <(compgen -W "replay run hunt explore judge draw shrink step explain help -h --help -V --version" -- "$word")
         return
     fi
     case ${COMP_WORDS[1]}:$before in
@@ -42,6 +42,7 @@ _rmelab() {
         judge) mapfile -t COMPREPLY < <(compgen -W "--json -h --help" -- "$word"; compgen -f -- "$word") ;;
         draw) mapfile -t COMPREPLY < <(compgen -W "--variant --image --svg --html -h --help" -- "$word"; compgen -f -- "$word") ;;
         shrink) mapfile -t COMPREPLY < <(compgen -W "--variant -h --help" -- "$word"; compgen -f -- "$word") ;;
+        step) mapfile -t COMPREPLY < <(compgen -W "-h --help" -- "$word"; compgen -f -- "$word") ;;
         explain)
             names=$("${COMP_WORDS[0]}" explain 2>/dev/null)
             names=$(awk -v at=$((COMP_CWORD - 1)) -v given="${COMP_WORDS[*]:2:COMP_CWORD-2}" \

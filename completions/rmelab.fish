@@ -7,6 +7,7 @@ complete -c rmelab -n __fish_use_subcommand -a explore -d 'Tries all schedules u
 complete -c rmelab -n __fish_use_subcommand -a judge -d 'Judges a trace of deeds, and prints the verdict'
 complete -c rmelab -n __fish_use_subcommand -a draw -d 'Draws the run of a schedule as a space-time diagram'
 complete -c rmelab -n __fish_use_subcommand -a shrink -d 'Makes a schedule that goes wrong on a variant of the lock least'
+complete -c rmelab -n __fish_use_subcommand -a step -d 'Holds a session: takes the lines of a schedule one by one, and goes back'
 complete -c rmelab -n __fish_use_subcommand -a explain -d 'Says what a number or a word of reports and faults means'
 complete -c rmelab -n __fish_use_subcommand -a help -d 'Print this message or the help of the given subcommand(s)'
 complete -c rmelab -n '__fish_use_subcommand' -s h -l help -d 'Print help'
@@ -55,6 +56,8 @@ complete -c rmelab -n '__fish_seen_subcommand_from draw' -F
 complete -c rmelab -n '__fish_seen_subcommand_from shrink' -l variant -x -a 'right no-look no-ties renumber exit-on-crash count-up last-skipped' -d 'right, no-look, no-ties, renumber, exit-on-crash, count-up or last-skipped'
 complete -c rmelab -n '__fish_seen_subcommand_from shrink' -s h -l help -d 'Print help'
 complete -c rmelab -n '__fish_seen_subcommand_from shrink' -F
+complete -c rmelab -n '__fish_seen_subcommand_from step' -s h -l help -d 'Print help'
+complete -c rmelab -n '__fish_seen_subcommand_from step' -F
 complete -c rmelab -n '__fish_seen_subcommand_from explain' -s h -l help -d 'Print help'
 function __rmelab_explained
     set -l words (commandline -opc)

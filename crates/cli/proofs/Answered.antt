@@ -9,7 +9,7 @@ use Rattle.crashlab.specs.declared.variant.Variant.{Variant}
 use Rattle.crashlab.specs.declared.variant.Variant.TheVariants.{Right, NoLook, NoTies, Renumber, ExitOnCrash, CountUp, LastSkipped}
 use Rattle.cli.specs.declared.arguments.args.Command.{Command}
 use Rattle.cli.specs.declared.arguments.args.ExploreArgs.{ExploreArgs}
-use Rattle.cli.specs.declared.arguments.args.Command.TheVariants.{Replay, Run, Hunt, Explore, Judge, Draw, Shrink, Explain}
+use Rattle.cli.specs.declared.arguments.args.Command.TheVariants.{Replay, Run, Hunt, Explore, Judge, Draw, Shrink, Step, Explain}
 use Rattle.cli.specs.declared.arguments.words.WordsFault.{WordsFault}
 use Rattle.cli.specs.declared.arguments.words.WordsFault.TheVariants.{Help, Refused, BadVariant, BadSize, Unreadable, OutOfMemory}
 use Rattle.cli.specs.CommandLine.{rmelab}
@@ -70,6 +70,7 @@ good_variant name given (Shrink args) h (inl bad) = takes_no_image (codes "shrin
 good_variant name given (Shrink args) h (inr bad) = bad.1 args.variant h.1.variant
 good_variant name given (Run args) h bad = neither (codes "run") name given h.0 refl refl refl refl refl bad
 good_variant name given (Judge file) h bad = neither (codes "judge") name given h.0 refl refl refl refl refl bad
+good_variant name given (Step file) h bad = neither (codes "step") name given h.0 refl refl refl refl refl bad
 good_variant name given (Explain entry) h bad = neither (codes "explain") name given h.0 refl refl refl refl refl bad
 
 sizeless : (a name : Text) (given : Given) → name ≡ a → bytes_eq a (codes "run") ≡ false → bytes_eq a (codes "hunt") ≡ false → bytes_eq a (codes "explore") ≡ false
@@ -100,6 +101,7 @@ good_size name given (Replay args) sized h bad = sizeless (codes "replay") name 
 good_size name given (Judge file) sized h bad = sizeless (codes "judge") name given h.0 refl refl refl bad
 good_size name given (Draw args) sized h bad = sizeless (codes "draw") name given h.0 refl refl refl bad
 good_size name given (Shrink args) sized h bad = sizeless (codes "shrink") name given h.0 refl refl refl bad
+good_size name given (Step file) sized h bad = sizeless (codes "step") name given h.0 refl refl refl bad
 good_size name given (Explain entry) sized h bad = sizeless (codes "explain") name given h.0 refl refl refl bad
 
 -- ---- the words

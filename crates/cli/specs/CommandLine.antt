@@ -80,6 +80,9 @@ draw = part (codes "draw") (variant ∷ option (codes "image") ∷ flag (codes "
 abbrev pub shrink : Shape
 shrink = part (codes "shrink") (required variant ∷ word (codes "FILE") ∷ [])
 
+abbrev pub step : Shape
+step = part (codes "step") (word (codes "FILE") ∷ [])
+
 abbrev pub explain : Shape
 explain = part (codes "explain") (words (codes "WORDS") ∷ [])
 
@@ -90,7 +93,7 @@ head = record (new_shape (codes "rmelab")) { has_version = true; subcommand_requ
 abbrev pub rmelab : App
 rmelab = record {
   top = record head { is_leaf = false };
-  subs = replay ∷ run ∷ hunt ∷ explore ∷ judge ∷ draw ∷ shrink ∷ explain ∷ [];
+  subs = replay ∷ run ∷ hunt ∷ explore ∷ judge ∷ draw ∷ shrink ∷ step ∷ explain ∷ [];
 }
 
 -- the parser reads this command line, and no argument of a command is one of the others too

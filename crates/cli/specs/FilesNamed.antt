@@ -2,12 +2,13 @@
 use Rattle.std.specs.Prelude.{String, Option, None}
 use Rattle.std.specs.declared.alloc.Global.{Global}
 use Rattle.cli.specs.declared.arguments.args.Command.{Command}
-use Rattle.cli.specs.declared.arguments.args.Command.TheVariants.{Replay, Judge, Draw, Shrink}
+use Rattle.cli.specs.declared.arguments.args.Command.TheVariants.{Replay, Judge, Draw, Shrink, Step}
 
--- the image that a world starts from
+-- the file that is read first: the image that a world starts from, or the schedule that a session starts from
 abbrev pub image_of : Command → Option (String Global)
 image_of (Replay args) = args.image
 image_of (Draw args) = args.image
+image_of (Step file) = file
 image_of command = None
 
 -- the text that is read; without a file, standard input

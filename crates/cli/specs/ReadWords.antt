@@ -10,7 +10,7 @@ use Rattle.clap.specs.declared.error.kind.ErrorKind.TheVariants as kinds
 use Rattle.crashlab.specs.declared.variant.Variant.{Variant}
 use Rattle.crashlab.specs.declared.variant.Variant.TheVariants.{Right}
 use Rattle.cli.specs.declared.arguments.args.Command.{Command}
-use Rattle.cli.specs.declared.arguments.args.Command.TheVariants.{Replay, Run, Hunt, Explore, Judge, Draw, Shrink, Explain}
+use Rattle.cli.specs.declared.arguments.args.Command.TheVariants.{Replay, Run, Hunt, Explore, Judge, Draw, Shrink, Step, Explain}
 use Rattle.cli.specs.declared.arguments.args.ReplayArgs.{ReplayArgs}
 use Rattle.cli.specs.declared.arguments.args.RunArgs.{RunArgs}
 use Rattle.cli.specs.declared.arguments.args.HuntArgs.{HuntArgs}
@@ -95,6 +95,7 @@ IsCommand name given (Run args) = (name ≡ codes "run") × (args ≡ run_of giv
 IsCommand name given (Hunt args) = (name ≡ codes "hunt") × IsHunt given args
 IsCommand name given (Explore args) = (name ≡ codes "explore") × IsExplore given args
 IsCommand name given (Judge args) = (name ≡ codes "judge") × IsJudge given args
+IsCommand name given (Step file) = (name ≡ codes "step") × (option_map string_bytes file ≡ first_of (codes "FILE") given)
 IsCommand name given (Draw args) = (name ≡ codes "draw") × IsDraw given args
 IsCommand name given (Shrink args) = (name ≡ codes "shrink") × IsShrink given args
 IsCommand name given (Explain entry) = (name ≡ codes "explain") × (option_map name_of entry ≡ entry_named given)

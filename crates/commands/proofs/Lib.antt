@@ -5,3 +5,5 @@ pub mod Leasts
 pub mod Pictures
 pub mod Runs
 pub mod Tapes
+pub mod Holding
+pub mod Beginning

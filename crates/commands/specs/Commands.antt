@@ -19,15 +19,17 @@ use Rattle.schedule.specs.declared.replays.verdict.Verdict.{Verdict}
 use Rattle.crashlab.specs.Shrunk.{Shrinks}
 use Rattle.diagram.specs.StepLines.{verdict_object}
 use Rattle.cli.specs.declared.arguments.args.Command.{Command}
-use Rattle.cli.specs.declared.arguments.args.Command.TheVariants.{Replay, Run, Hunt, Explore, Judge, Draw, Shrink, Explain}
+use Rattle.cli.specs.declared.arguments.args.Command.TheVariants.{Replay, Run, Hunt, Explore, Judge, Draw, Shrink, Step, Explain}
 use Rattle.cli.specs.declared.arguments.args.HuntArgs.{HuntArgs}
 use Rattle.cli.specs.declared.arguments.args.RunArgs.{RunArgs}
 use Rattle.cli.specs.Sizes.{HuntFits, RunFits}
 use Rattle.commands.specs.declared.schedules.ending.Ending.{Ending}
 use Rattle.commands.specs.declared.schedules.fault.CommandFault.{CommandFault}
 use Rattle.commands.specs.declared.schedules.fault.CommandFault.TheVariants.{BadSize, Write}
+use Rattle.commands.specs.Conversations.{SessionEnds}
 use Rattle.commands.specs.Draws.{DrawEnds}
 use Rattle.commands.specs.Endings.{IsBroken, TellsReads}
+use Rattle.commands.specs.Folders.{Used}
 use Rattle.commands.specs.Replays.{ReplayEnds}
 use Rattle.commands.specs.Shrinks.{ShrinkEnds}
 use Rattle.commands.specs.Statuses.{outcome, outcome_told, status_ended}
@@ -109,4 +111,5 @@ CommandEnds (Explore args) image old new before now end = ExploreEnds args befor
 CommandEnds (Judge args) image old new before now end = JudgeEnds args.json old new before now end
 CommandEnds (Draw args) image old new before now end = DrawEnds args image old new before now end × TellsReads old new end
 CommandEnds (Shrink args) image old new before now end = ShrinkEnds args old new before now end × TellsReads old new end
+CommandEnds (Step file) image old new before now end = (first : Used) × (last : Used) × SessionEnds image old new first last before now end
 CommandEnds (Explain dictionary_entry) image old new before now end = (new ≡ old) × ExplainEnds dictionary_entry before now end

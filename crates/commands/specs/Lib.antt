@@ -13,3 +13,5 @@ pub mod Faults
 pub mod Gates
 pub mod Programs
 pub mod Tallies
+pub mod Conversations
+pub mod Folders

@@ -9,19 +9,15 @@ use Rattle.cli.specs.declared.arguments.args.Command.{Command}
 use Rattle.cli.specs.declared.arguments.words.WordsFault.{WordsFault}
 use Rattle.cli.specs.declared.arguments.words.WordsFault.TheVariants as words
 use Rattle.commands.specs.Commands.{CommandEnds}
+use Rattle.commands.specs.Conversations.{SessionEnds}
 use Rattle.commands.specs.Endings.{IsBroken, IsEnded}
+pub use Rattle.commands.specs.Folders.{Used, is_session}
 use Rattle.cli.specs.FilesNamed.{image_of, input_of, save_of}
 use Rattle.commands.specs.Lines.{fault_line, IsTold}
 use Rattle.cli.specs.Sizes.{IsSized}
 use Rattle.commands.specs.Statuses.{save_ended, status_ended, status_of}
 
 -- ---- files
-
--- the names of the files that were opened, the names of those that were written, and what was written
-pub record Used : Type 0 where
-  pub opened : List (String Global)
-  pub saved : List (String Global)
-  pub texts : List (Vec ℕ Global)
 
 -- the image is opened, then the file to be read, and no other
 abbrev pub opens_all : Command → List (String Global) → List (String Global)
@@ -67,6 +63,13 @@ abbrev pub EndsOnFile : Command → Tape → Tape → Result Ending CommandFault
 EndsOnFile command before now end =
     IsBroken end ⊎ ((last : Reading) × EndsBeside command (record { given = []; ended = false; failures = 0 }) last before now end)
 
+-- a session on standard input, which begins where nothing was written to any file. A device or memory may fail as well
+abbrev pub SessionEndsIn : Command → Used → Used → Reading → Reading → Tape → Tape → Result Ending CommandFault → Type 0
+SessionEndsIn command before now old new blank written end =
+    IsBroken end
+    ⊎ ((image : Option (List ℕ)) × (is_some image ≡ is_some (image_of command)) × (first : Used) × SavesNone before first
+    × SessionEnds image old new first now blank written end)
+
 -- without a fault, no write and no flush has failed
 abbrev pub IsWhole : Tape → Tape → Result Ending CommandFault → Type 0
 IsWhole before now (Ok ending) = (ending.status ≤ 1) × (now.failures ≡ before.failures)
@@ -76,7 +79,8 @@ IsWhole before now (Err fault) = Unit {0}
 pub record Does (command : Command) (before now : Used) (old new : Reading) (blank written : Tape) (end : Result Ending CommandFault) : Type 0 where
   pub opens_all : OnOk end (now.opened ≡ opens_all command before.opened)
   pub opens_some : OpensSome command before.opened now.opened
-  pub saves : Saves command before now blank written end
+  pub saves : is_session command ≡ false → Saves command before now blank written end
+  pub session : is_session command ≡ true → SessionEndsIn command before now old new blank written end
   pub whole : IsWhole blank written end
   pub apart : is_some (input_of command) ≡ true → new ≡ old
   pub on_input : input_of command ≡ None → EndsOnInput command old new blank written end

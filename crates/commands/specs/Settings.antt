@@ -17,10 +17,13 @@ use Rattle.commands.specs.Statuses.{fault_of_header, fault_of_image}
 use Rattle.schedule.specs.Wholes.{WasRead, layout_of}
 use Rattle.schedule.specs.Tapes.{Reading}
 
+-- the text isn't a schedule
+abbrev pub IsNoSchedule : List ℕ → CommandFault → Type 0
+IsNoSchedule text fault = (line : ℕ) × (purpose : LineFault) × (schedule_at text ≡ Err (line, purpose)) × (fault ≡ Text line (number_of_line purpose))
+
 -- the text that was read isn't a schedule
 unfoldable pub IsWrongText : Reading → Reading → CommandFault → Type 0
-IsWrongText old new fault =
-    (text : List ℕ) × WasRead old new text × (line : ℕ) × (purpose : LineFault) × (schedule_at text ≡ Err (line, purpose)) × (fault ≡ Text line (number_of_line purpose))
+IsWrongText old new fault = (text : List ℕ) × WasRead old new text × IsNoSchedule text fault
 
 -- the image that a text spells. No text spells two images
 abbrev pub IsImageOf : List ℕ → Image → Type 0

@@ -3,12 +3,15 @@
 ghost use Rattle.std.specs.Prelude.{◌≡◌, IfErr, IfOk, OnOk, is_some, option_copied, true, false};
 ghost use Rattle.crashlab.specs.Hunts.{IsFound};
 ghost use Rattle.commands.specs.Commands.{CommandEnds, ExplainEnds, HuntEnds, JudgeEnds, TellsFound, verdict_told};
+ghost use Rattle.commands.specs.Conversations.{SessionEnds};
 ghost use Rattle.commands.specs.Endings.{IsEnded};
 ghost use Rattle.cli.specs.FilesNamed.{save_of};
 ghost use Rattle.commands.specs.Programs.{CarriesOut};
+ghost use Rattle.commands.specs.Folders.{is_session};
 ghost use Rattle.commands.specs.Statuses.{status_of};
 
 use crate::exploring::explore_command;
+use crate::folder::{Folder, NoFolder};
 use crate::jobs::jobs_of;
 use crate::progress::meter::Meter;
 use crate::progress::screen::{NoScreen, Screen};
@@ -20,6 +23,7 @@ use crate::schedules::fault::CommandFault;
 use crate::schedules::line::told;
 use crate::schedules::replaying::replay_command;
 use crate::schedules::shrunk::{shrink_command, write_lines};
+use crate::sessions::holding::session_command;
 use cli::arguments::args::{Command, HuntArgs};
 use cli::{DictionaryEntry, tell_all_names, tell_dictionary_entry};
 use crashlab::{HuntFault, Variant, hunt_in_parallel_watched, shrink_found};
@@ -162,11 +166,12 @@ fn explain_command<W: Sink>(
 
 /// Carries out a command. It reads the schedule or the trace from `r`, and writes to `w`. `image` is the text of the file
 /// that `--image` names. The progress of a search or a hunt is shown on the screen. A fault says why there is no verdict.
-pub fn ended<T: Threads + Wait + Sync, S: Screen, R: Source, W: Sink>(
+pub fn ended<T: Threads + Wait + Sync, F: Folder, S: Screen, R: Source, W: Sink>(
     rt: &T,
     alloc: Global,
     command: &Command,
     image: Option<&[u8]>,
+    folder: &mut F,
     screen: &mut S,
     r: &mut R,
     w: &mut W,
@@ -174,6 +179,10 @@ pub fn ended<T: Threads + Wait + Sync, S: Screen, R: Source, W: Sink>(
     ensures ends { CommandEnds command.now (option_copied image.entry) (R.reading r.old) (R.reading r.new) (W.tape w.old)
         (W.tape w.new) result }
     ensures ended { IfOk result (IsEnded (is_some (save_of command.now)) (W.tape w.old).failures (W.tape w.new).failures) }
+    ensures opened { (F.used folder.new).opened ≡ (F.used folder.old).opened }
+    ensures kept { is_session command.now ≡ false → F.used folder.new ≡ F.used folder.old }
+    ensures session { is_session command.now ≡ true → SessionEnds (option_copied image.entry) (R.reading r.old) (R.reading r.new)
+        (F.used folder.old) (F.used folder.new) (W.tape w.old) (W.tape w.new) result }
 {
     match command {
         Command::Replay(args) => replay_command(alloc, args, image, r, w),
@@ -183,6 +192,7 @@ pub fn ended<T: Threads + Wait + Sync, S: Screen, R: Source, W: Sink>(
         Command::Hunt(args) => hunt_command(rt, alloc, args, screen, w),
         Command::Explore(args) => explore_command(rt, alloc, args, screen, w),
         Command::Run(args) => run_command(rt, alloc, args, w),
+        Command::Step(_) => session_command(alloc, image, folder, r, w),
         Command::Explain(dictionary_entry) => explain_command(*dictionary_entry, w),
     }
 }
@@ -203,7 +213,8 @@ pub fn command_shown<T: Threads + Wait + Sync, S: Screen, R: Source, W: Sink, E:
         (W.tape w.new) (E.tape e.old) (E.tape e.new) result }
     ensures unsaved { is_some (save_of command.now) ≡ false → is_some result.save ≡ false }
 {
-    match ended(rt, alloc, command, image, screen, r, w) {
+    let mut folder = NoFolder::new();
+    match ended(rt, alloc, command, image, &mut folder, screen, r, w) {
         Ok(ending) => ending,
         Err(fault) => Ending {
             status: told(fault, e),

@@ -10,6 +10,7 @@ pub mod program;
 pub mod progress;
 pub mod running;
 pub mod schedules;
+pub mod sessions;
 mod stuck;
 pub mod tally;
 

@@ -1,12 +1,13 @@
 //! The whole program, over its words, a folder of files, its input and its two outputs.
 
-ghost use Rattle.std.specs.Prelude.{◌≡◌, ◌⊎◌, ◌++◌, ◌∷◌, [], true, None, is_some, option_to_list, IfErr, IfOk, OnOk};
+ghost use Rattle.std.specs.Prelude.{◌≡◌, ◌⊎◌, ◌++◌, ◌∷◌, [], true, false, None, is_some, option_to_list, IfErr, IfOk, OnOk};
 ghost use Rattle.commands.specs.Endings.{IsEnded};
 ghost use Rattle.schedule.specs.Tapes.{Writes};
 ghost use Rattle.cli.specs.FilesNamed.{image_of, input_of, save_of};
 ghost use Rattle.commands.specs.Lines.{IsTold};
 ghost use Rattle.commands.specs.declared.schedules.fault.CommandFault.TheVariants.{Write as WriteFault};
-ghost use Rattle.commands.specs.Programs.{Answers, Closes, Does, EndsOnFile, EndsOnInput, PrintsHelp, IsProgram, Obeys, opens_all, OpensSome, SavesAll, PrintsUsageError};
+ghost use Rattle.commands.specs.Folders.{is_session};
+ghost use Rattle.commands.specs.Programs.{Answers, Closes, Does, EndsOnFile, EndsOnInput, PrintsHelp, IsProgram, Obeys, opens_all, OpensSome, SavesAll, SessionEndsIn, PrintsUsageError};
 ghost use Rattle.cli.specs.Sizes.{IsSized};
 ghost use Rattle.commands.specs.Faults.{fault_of_opening, fault_of_saving};
 ghost use Rattle.commands.specs.Statuses.{status_of};
@@ -96,13 +97,13 @@ fn ended_on_file<T: Threads + Wait + Sync, F: Folder, S: Screen, W: Sink>(
 ) -> Result<Ending, CommandFault>
     requires { is_some image ≡ is_some (image_of command.now) }
     ensures opened { (F.used folder.new).opened ≡ (F.used folder.old).opened ++ name.now ∷ [] }
-    ensures saved { (F.used folder.new).saved ≡ (F.used folder.old).saved }
-    ensures texts { (F.used folder.new).texts ≡ (F.used folder.old).texts }
+    ensures saved { is_session command.now ≡ false → (F.used folder.new).saved ≡ (F.used folder.old).saved }
+    ensures texts { is_session command.now ≡ false → (F.used folder.new).texts ≡ (F.used folder.old).texts }
     ensures ends { EndsOnFile command.now (W.tape out.old) (W.tape out.new) result }
     ensures ended { IfOk result (IsEnded (is_some (save_of command.now)) (W.tape out.old).failures (W.tape out.new).failures) }
 {
     let mut file = folder.open(name).map_err(unopened)?;
-    ended(rt, alloc, command, image, screen, &mut file, out)
+    ended(rt, alloc, command, image, folder, screen, &mut file, out)
 }
 
 /// Carries out the command. The image is read first. The input is read if no file is named.
@@ -117,8 +118,10 @@ fn execute<T: Threads + Wait + Sync, F: Folder, S: Screen, R: Source, W: Sink>(
 ) -> Result<Ending, CommandFault>
     ensures all { OnOk result ((F.used folder.new).opened ≡ opens_all command.now (F.used folder.old).opened) }
     ensures opened { OpensSome command.now (F.used folder.old).opened (F.used folder.new).opened }
-    ensures saved { (F.used folder.new).saved ≡ (F.used folder.old).saved }
-    ensures texts { (F.used folder.new).texts ≡ (F.used folder.old).texts }
+    ensures saved { is_session command.now ≡ false → (F.used folder.new).saved ≡ (F.used folder.old).saved }
+    ensures texts { is_session command.now ≡ false → (F.used folder.new).texts ≡ (F.used folder.old).texts }
+    ensures session { is_session command.now ≡ true → SessionEndsIn command.now (F.used folder.old) (F.used folder.new)
+        (R.reading input.old) (R.reading input.new) (W.tape out.old) (W.tape out.new) result }
     ensures ended { IfOk result (IsEnded (is_some (save_of command.now)) (W.tape out.old).failures (W.tape out.new).failures) }
     ensures apart { is_some (input_of command.now) ≡ true → R.reading input.new ≡ R.reading input.old }
     ensures on_input { input_of command.now ≡ None → EndsOnInput command.now (R.reading input.old) (R.reading input.new)
@@ -137,7 +140,16 @@ fn execute<T: Threads + Wait + Sync, F: Folder, S: Screen, R: Source, W: Sink>(
             screen,
             out,
         ),
-        None => ended(rt, alloc, command, image.as_deref(), screen, input, out),
+        None => ended(
+            rt,
+            alloc,
+            command,
+            image.as_deref(),
+            folder,
+            screen,
+            input,
+            out,
+        ),
     }
 }
 
@@ -146,6 +158,7 @@ fn save<F: Folder>(folder: &mut F, command: &Command, ending: &Ending) -> Result
     requires { is_some ending.now.save ≡ is_some (save_of command.now) }
     ensures opened { (F.used folder.new).opened ≡ (F.used folder.old).opened }
     ensures saved { SavesAll command.now (F.used folder.old) (F.used folder.new) ending.now.save }
+    ensures unsaved { save_of command.now ≡ None → F.used folder.new ≡ F.used folder.old }
     ensures failed { IfErr result (λ fault. status_of fault ≡ 3) }
 {
     match (command.save_file(), &ending.save) {

@@ -6,5 +6,5 @@ pub mod fault;
 mod json;
 pub mod line;
 pub mod replaying;
-mod setting;
+pub(crate) mod setting;
 pub mod shrunk;

@@ -10,3 +10,7 @@ pub mod Steps
 pub mod Ended
 pub mod Lines
 pub mod Parts
+pub mod Seen
+pub mod Watching
+pub mod Undone
+pub mod LinesTold

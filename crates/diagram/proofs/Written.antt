@@ -1,7 +1,7 @@
 -- Texts that are written a part at a time.
 use Rattle.std.proofs.Common.{◌≡◌, ℕ, ◌+◌, ◌-◌, ◌^◌, min, List, [], ◌++◌, Result, Ok, Err, refl, sym, ap, ◌∙◌, append_assoc}
 use Rattle.diagram.proofs.Common.{append-nil, ReplayFault, WritesFront, Tape, Writes, begins_further, begins_wider, breaks_further, breaks_wider, breaks_nothing, Spells}
-use Rattle.schedule.specs.declared.replays.replay_fault.ReplayFault.TheVariants.{OutOfMemory, Read, Refused, Text, Write}
+use Rattle.schedule.specs.declared.replays.replay_fault.ReplayFault.TheVariants.{OutOfMemory, Write}
 
 -- a part after what was written, and no more
 pub spells_last : (t u v : Tape) (text part whole : List ℕ) (r : Result (Unit {0}) ReplayFault) → Writes t u text → whole ≡ text ++ part → Spells u v part r → Spells t v whole r

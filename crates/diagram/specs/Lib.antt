@@ -9,3 +9,8 @@ pub mod Drawings
 pub mod Followed
 pub mod StepLines
 pub mod Pages
+pub mod LastSteps
+pub mod Standings
+pub mod Requests
+pub mod Helps
+pub mod Sessions

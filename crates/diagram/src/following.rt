@@ -86,7 +86,7 @@ fn put_place(
 
 /// Writes a row, and what it reports.
 #[tactic(auto, unfolding(crate::specs::Followed::row_told))]
-fn put_row(
+pub fn put_row(
     out: &mut Vec<u8>,
     layout: &Layout,
     phases: &[LifelinePhase],

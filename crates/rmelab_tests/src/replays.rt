@@ -15,6 +15,8 @@ mod replays;
 #[cfg(test)]
 mod reports;
 #[cfg(test)]
+pub mod sessions;
+#[cfg(test)]
 pub mod stepwise;
 #[cfg(test)]
 mod texts;

@@ -69,6 +69,7 @@ pub fn runs_threads(read: &Command) -> bool {
         | Command::Judge(_)
         | Command::Draw(_)
         | Command::Shrink(_)
+        | Command::Step(_)
         | Command::Explain(_) => false,
     }
 }

@@ -2,8 +2,8 @@
 
 use crashlab::Variant;
 use diagram::{
-    Drawing, LifelinePhase, Style, draw, follow, follow_as_lines, put_verdict_object,
-    write_drawing, write_page,
+    Drawing, LifelinePhase, Reply, Session, Style, draw, follow, follow_as_lines,
+    put_verdict_object, write_drawing, write_page,
 };
 use explorer::{MoveVerdict, SearchFault, SearchOutcome, Space, Unwatched, Watch, search};
 use judge::Judge;
@@ -127,4 +127,11 @@ pub fn paged<W: Sink>(
 
 pub fn verdict_written(out: &mut Vec<u8>, verdict: Verdict) -> Result<(), AllocError> {
     put_verdict_object(out, verdict)
+}
+
+pub fn ends_at(alloc: Global, schedule: Schedule, line: &[u8]) -> Result<bool, AllocError> {
+    let mut session = Session::new(alloc, schedule)?;
+    let mut page = Vec::new(alloc);
+    session.put_state(&mut page)?;
+    Ok(session.answer(alloc, line, &mut page)? == Reply::Quits)
 }

@@ -125,6 +125,8 @@ pub enum Command {
     Judge(JudgeArgs),
     Draw(DrawArgs),
     Shrink(ShrinkArgs),
+    /// Holds a session over a schedule, which begins with the one in this file.
+    Step(Option<String>),
     /// Prints what this entry means; without one, the names of all entries.
     Explain(Option<DictionaryEntry>),
 }
@@ -145,13 +147,14 @@ impl Command {
         }
     }
 
-    /// The file of the image that the command starts from.
+    /// The file that the command starts from: an image, or the first schedule of a session.
     pub fn image_file(&self) -> Option<&String>
         ensures { option_copied result ≡ image_of self.now }
     {
         match self {
             Command::Replay(args) => args.image.as_ref(),
             Command::Draw(args) => args.image.as_ref(),
+            Command::Step(file) => file.as_ref(),
             _ => None,
         }
     }

@@ -1,7 +1,7 @@
 //! The command line for `clap`: its commands, their options and their help.
 
 ghost use Rattle.std.specs.Prelude.{map, IfOk};
-ghost use Rattle.cli.specs.CommandLine.{IsParser, AddsPart, alone, part, rule_of_argument, head, replay, run, hunt, explore, judge, draw, shrink, explain, rmelab};
+ghost use Rattle.cli.specs.CommandLine.{IsParser, AddsPart, alone, part, rule_of_argument, head, replay, run, hunt, explore, judge, draw, shrink, step, explain, rmelab};
 
 use crate::arguments::argument::{Argument, Form};
 use clap::Command as Parser;
@@ -63,6 +63,13 @@ const EXPLAIN_HELP: &str =
     "In: nothing.\nOut: what the words name, in two sentences, and the page that defines it; without words the names of \
 all that is explained, one a line.\nExit status: 0 where the words are a name, 2 where they are none, 3 after a fault of a device or \
 of memory.\n\nExample: rmelab explain fault 5";
+
+const STEP_HELP: &str =
+    "In: lines of a schedule, and undo, redo, to answer P, save FILE, help and quit, each answered at once. Without FILE the first \
+line is a header.\nOut: for a line of a schedule each of its steps, as replay --each tells them; then the words of each process, \
+the row of the restart table that they are, where it stands, and who is inside. A line that is refused or can't be read has its \
+fault, and changes nothing.\nExit status: 0 at the end of the session, 2 if it can't begin, 3 after a fault of a device or of \
+memory.\n\nExample: rmelab step examples/tie.rme";
 
 /// What `--version` prints.
 const VERSION: &str = "0.1.0";
@@ -200,6 +207,16 @@ fn shrink<'a>(alloc: Global) -> Result<Parser<'a>, AllocError>
     command(alloc, "shrink", about, SHRINK_HELP, &arguments)
 }
 
+fn step<'a>(alloc: Global) -> Result<Parser<'a>, AllocError>
+    ensures { IfOk result (IsParser (alone step)) }
+{
+    let about = "Holds a session: takes the lines of a schedule one by one, and goes back";
+    let arguments = [Argument::file(
+        "The schedule to begin with; without it, the first line is a header",
+    )];
+    command(alloc, "step", about, STEP_HELP, &arguments)
+}
+
 fn explain<'a>(alloc: Global) -> Result<Parser<'a>, AllocError>
     ensures { IfOk result (IsParser (alone explain)) }
 {
@@ -241,5 +258,6 @@ pub fn parser<'a>(alloc: Global) -> Result<Parser<'a>, AllocError>
     let whole = with(whole, judge(alloc));
     let whole = with(whole, draw(alloc));
     let whole = with(whole, shrink(alloc));
+    let whole = with(whole, step(alloc));
     with(whole, explain(alloc))
 }

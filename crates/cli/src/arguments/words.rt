@@ -346,6 +346,12 @@ fn judge_words(alloc: Global, matches: &ArgMatches<'_>) -> Result<Command, Words
     }))
 }
 
+fn step_words(alloc: Global, matches: &ArgMatches<'_>) -> Result<Command, WordsFault>
+    ensures { Reads (codes "step") (given_in matches.now) result }
+{
+    Ok(Command::Step(text_of(alloc, matches, "FILE")?))
+}
+
 /// The error text for words that name no entry.
 fn unnamed(alloc: Global, name: &str) -> Result<String, AllocError> {
     format!(in alloc;
@@ -402,6 +408,7 @@ fn command_of(alloc: Global, name: &str, matches: &ArgMatches<'_>) -> Result<Com
         "shrink" => shrink_words(alloc, matches),
         "explain" => explain_words(alloc, matches),
         "judge" => judge_words(alloc, matches),
+        "step" => step_words(alloc, matches),
         _ => unreachable!(),
     }
 }

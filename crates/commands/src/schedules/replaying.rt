@@ -33,7 +33,7 @@ use schedule::{Page, ReplayFault, Schedule, Sink, Source, Verdict, replay, repla
 use std::alloc::Global;
 
 /// The fault of a replay to a page in memory: the page refuses a write only when it is out of memory.
-fn on_page(fault: ReplayFault) -> CommandFault
+pub fn on_page(fault: ReplayFault) -> CommandFault
     ensures { result ≡ fault_on_page fault }
 {
     match fault {

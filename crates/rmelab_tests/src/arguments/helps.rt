@@ -16,6 +16,7 @@ Commands:
   judge    Judges a trace of deeds, and prints the verdict
   draw     Draws the run of a schedule as a space-time diagram
   shrink   Makes a schedule that goes wrong on a variant of the lock least
+  step     Holds a session: takes the lines of a schedule one by one, and goes back
   explain  Says what a number or a word of reports and faults means
   help     Print this message or the help of the given subcommand(s)
 
@@ -171,6 +172,23 @@ Exit status: 0 where the verdict is fine, 1 where it is against, 2 after a fault
 Example: rmelab shrink --variant no-look examples/two-in-the-doorway.rme
 ";
 
+const STEP: &str = "Holds a session: takes the lines of a schedule one by one, and goes back
+
+Usage: rmelab step [FILE]
+
+Arguments:
+  [FILE]  The schedule to begin with; without it, the first line is a header
+
+Options:
+  -h, --help  Print help
+
+In: lines of a schedule, and undo, redo, to answer P, save FILE, help and quit, each answered at once. Without FILE the first line is a header.
+Out: for a line of a schedule each of its steps, as replay --each tells them; then the words of each process, the row of the restart table that they are, where it stands, and who is inside. A line that is refused or can't be read has its fault, and changes nothing.
+Exit status: 0 at the end of the session, 2 if it can't begin, 3 after a fault of a device or of memory.
+
+Example: rmelab step examples/tie.rme
+";
+
 const EXPLAIN: &str = "Says what a number or a word of reports and faults means
 
 Usage: rmelab explain [WORDS]...
@@ -205,7 +223,7 @@ For more information, try '--help'.
 ";
 
 const NO_COMMAND: &str = "error: 'rmelab' requires a subcommand but one was not provided
-  [subcommands: replay, run, hunt, explore, judge, draw, shrink, explain, help]
+  [subcommands: replay, run, hunt, explore, judge, draw, shrink, step, explain, help]
 
 Usage: rmelab <COMMAND>
 
@@ -224,7 +242,7 @@ Usage: rmelab replay [OPTIONS] [FILE]
 For more information, try '--help'.
 ";
 
-const HELPS: [(&str, &str); 11] = [
+const HELPS: [(&str, &str); 12] = [
     ("rmelab --help", HELP),
     ("rmelab replay --help", REPLAY),
     ("rmelab run --help", RUN),
@@ -233,6 +251,7 @@ const HELPS: [(&str, &str); 11] = [
     ("rmelab judge --help", JUDGE),
     ("rmelab draw --help", DRAW),
     ("rmelab shrink --help", SHRINK),
+    ("rmelab step --help", STEP),
     ("rmelab explain --help", EXPLAIN),
     ("rmelab help", HELP),
     ("rmelab help judge", JUDGE),

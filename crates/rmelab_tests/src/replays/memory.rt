@@ -1,6 +1,7 @@
-//! Each request for memory of replays and of a trace is refused in turn.
+//! Each request for memory of replays, of a trace and of a session is refused in turn.
 
 use crate::replays::reports::{IN_ORDER, OBJECT, REPORT, SMALLEST};
+use crate::replays::sessions::{IN_AND_BACK, IN_AND_BACK_TOLD};
 use crate::replays::stepwise::{LINES, TOLD};
 use crate::support::row::invoked;
 use crate::support::wanting::all_want_memory;
@@ -14,6 +15,7 @@ fn want_of_memory(rt: HostRuntime) -> Result<(), Fail> {
         invoked("rmelab replay --each", SMALLEST, TOLD),
         invoked("rmelab replay --each --json", SMALLEST, LINES),
         invoked("rmelab judge", IN_ORDER, "verdict fine\n"),
+        invoked("rmelab step", IN_AND_BACK, IN_AND_BACK_TOLD),
     ];
     all_want_memory(&rt, rt.alloc(), &rows)
 }

@@ -40,3 +40,16 @@ returns-in-Shrink-clause-ends g c =
     c.shrink_command.result)
     (sym c.in-Shrink.is)
     (c.shrink_command.ensures.ends, c.shrink_command.ensures.reads)
+
+-- a session as `session_command` says
+pub returns-in-Step-clause-ends : goal.returns-in-Step-clause-ends
+returns-in-Step-clause-ends g c =
+    subst
+    (λ command. CommandEnds command (option_copied c.args.image)
+    (g.R.Source.reading c.args.r.now)
+    (g.R.Source.reading c.session_command.new.r)
+    (g.W.Sink.tape c.args.w.now)
+    (g.W.Sink.tape c.session_command.new.w)
+    c.session_command.result)
+    (sym c.in-Step.is)
+    (g.F.Folder.used c.args.folder.now, g.F.Folder.used c.session_command.new.folder, c.session_command.ensures.ends)

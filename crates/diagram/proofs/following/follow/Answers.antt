@@ -1,4 +1,4 @@
-use Rattle.std.proofs.Common.{◌≡◌, List, Err, refl, ap, subst, ◌∙◌, ℕ}
+use Rattle.std.proofs.Common.{◌≡◌, List, Err, ap, subst, ◌∙◌, ℕ}
 use Rattle.diagram.proofs.Common.{replicate, err_from_is_err_and, Writes, run_on, LifelinePhase, Spells, Event, events_on, followed, events_in, layout_of}
 use Rattle.schedule.specs.declared.texts.head.Head.{Head}
 use Rattle.schedule.specs.Schedules.{head_of}

@@ -1,4 +1,4 @@
-use Rattle.std.proofs.Common.{refl, subst, Err}
+use Rattle.std.proofs.Common.{subst, Err}
 use Rattle.diagram.proofs.Common.{err_from_is_err_and, Image, Judged, Ending}
 use Rattle.schedule.proofs.Closing.{closes_nothing}
 use Rattle.diagram.proofs.Ended.{not_closed}

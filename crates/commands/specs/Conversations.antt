@@ -1,0 +1,153 @@
+-- A session over its input: the lines are answered one after another, up to the one that ends it or to the end of the input.
+use Rattle.std.specs.Prelude.{◌≡◌, ◌⊎◌, ℕ, ◌+◌, ◌-◌, ◌^◌, min, Bool, true, false, List, [], ◌∷◌, ◌++◌, codes, get_or, String, string_bytes, Vec, Option, Some, None, Result, Ok, Err}
+use Rattle.std.specs.declared.alloc.Global.{Global}
+use Rattle.schedule.specs.declared.replays.replay_fault.ReplayFault.{ReplayFault}
+use Rattle.schedule.specs.declared.replays.replay_fault.ReplayFault.TheVariants.{Read, Write, OutOfMemory}
+use Rattle.schedule.specs.Schedules.{Scheduled, schedule_at, spelling}
+use Rattle.schedule.specs.Tapes.{Tape, Reading, Writes}
+use Rattle.schedule.specs.Words.{parts_of, words_of}
+use Rattle.diagram.specs.declared.session.opened.Reply.{Reply}
+use Rattle.diagram.specs.declared.session.opened.Reply.TheVariants as replies
+use Rattle.commands.specs.Folders.{Used}
+use Rattle.commands.specs.Statuses.{status_of}
+use Rattle.commands.specs.declared.schedules.ending.Ending.{Ending}
+use Rattle.commands.specs.declared.schedules.fault.CommandFault.{CommandFault}
+use Rattle.commands.specs.declared.schedules.fault.CommandFault.TheVariants.{Refused}
+use Rattle.commands.specs.Settings.{IsNoSchedule, IsUnmade}
+use Rattle.rmecore.specs.declared.refusal.Refusal.{Refusal}
+use Rattle.rmecore.specs.Refused.{number_of}
+use Rattle.schedule.specs.Wholes.{Silent, world_run}
+use Rattle.diagram.specs.Sessions.{SessionState, after_request, at_schedule, watched_of, watched_text, fault_text, next_number, reply_to, request_in, text_of_request}
+
+-- the file that a line names
+abbrev pub file_in : List ℕ → List ℕ
+file_in line = get_or (words_of line) 1 []
+
+-- what a session says of a file
+abbrev pub saved_text : Bool → List ℕ
+saved_text true = codes "saved" ++ 10 ∷ []
+saved_text false = codes "not saved" ++ 10 ∷ []
+
+-- this text was to be written to the file of this name
+pub record WritesFile (before now : Used) (file text : List ℕ) : Type 0 where
+  pub name : String Global
+  pub named : string_bytes name ≡ file
+  pub names : now.saved ≡ before.saved ++ name ∷ []
+  pub bytes : Vec ℕ Global
+  pub spelled : bytes.items ≡ text
+  pub texts : now.texts ≡ before.texts ++ bytes ∷ []
+  pub opened : now.opened ≡ before.opened
+
+-- the text was written to the file; or that has failed, or the name is no text
+abbrev pub IsKept : Used → Used → List ℕ → List ℕ → Bool → Type 0
+IsKept before now file text true = WritesFile before now file text
+IsKept before now file text false = (now ≡ before) ⊎ WritesFile before now file text
+
+-- the answer to one line, by what is to be done
+abbrev pub IsAnswerBy : Reply → SessionState → List ℕ → Used → Used → List ℕ → Type 0
+IsAnswerBy replies.Saves session line before now text =
+    (done : Bool) × IsKept before now (file_in line) (spelling session.schedule) done × (text ≡ saved_text done)
+IsAnswerBy reply session line before now text = (now ≡ before) × (text ≡ text_of_request session (request_in session line))
+
+abbrev pub IsAnswer : SessionState → List ℕ → Used → Used → List ℕ → Type 0
+IsAnswer session line before now text = IsAnswerBy (reply_to (request_in session line)) session line before now text
+
+-- the session after a line
+abbrev pub after_line : SessionState → List ℕ → SessionState
+after_line session line = after_request session (request_in session line)
+
+-- the answers to lines, none of which ends the session, and the session after them
+abbrev pub AreAnswers : SessionState → List (List ℕ) → Used → Used → SessionState → List ℕ → Type 0
+AreAnswers session [] before now after text = (now ≡ before) × (after ≡ session) × (text ≡ [])
+AreAnswers session (line ∷ lines) before now after text =
+    (mid : Used) × (front : List ℕ) × (rest : List ℕ) × (reply_to (request_in session line) ≡ replies.Quits → ⊥)
+    × IsAnswer session line before mid front × AreAnswers (after_line session line) lines mid now after rest × (text ≡ front ++ rest)
+
+-- an unfinished last line has the fault of one
+abbrev pub last_text : SessionState → List ℕ → List ℕ
+last_text session [] = []
+last_text session rest = fault_text (next_number session) (codes "fault ") 5
+
+-- the text was written, or a device or memory has failed
+abbrev pub WritesOr : Tape → Tape → List ℕ → Result (Unit {0}) ReplayFault → Type 0
+WritesOr before now text (Ok x) = Writes before now text
+WritesOr before now text (Err Write) = now.failures ≡ min (before.failures + 1) (2 ^ 64 - 1)
+WritesOr before now text (Err OutOfMemory) = now.failures ≡ before.failures
+WritesOr before now text (Err fault) = ⊥
+
+-- the input was read up to a line that ends the session, or to its end; all lines before were answered
+pub record Converses (session : SessionState) (input : List ℕ) (ended : Bool) (before now : Used) (said : List ℕ) : Type 0 where
+  pub lines : List (List ℕ)
+  pub after : SessionState
+  pub answers : List ℕ
+  pub last : List ℕ
+  pub more : List (List ℕ)
+  pub parts : parts_of input ≡ lines ++ last ∷ more
+  pub answered : AreAnswers session lines before now after answers
+  pub ends : ((reply_to (request_in after last) ≡ replies.Quits) × (said ≡ answers))
+      ⊎ ((more ≡ []) × (ended ≡ true) × (said ≡ answers ++ last_text after last))
+
+-- what was read, kept and written of the lines of a session
+abbrev pub HoldsSession : SessionState → List ℕ → Reading → Reading → Used → Used → Tape → Tape → Result (Unit {0}) ReplayFault → Type 0
+HoldsSession session buffer old new before now blank written (Ok x) =
+    (text : List ℕ) × (new.given ≡ old.given ++ text) × (new.failures ≡ old.failures)
+    × ((said : List ℕ) × Converses session (buffer ++ text) new.ended before now said × Writes blank written said)
+HoldsSession session buffer old new before now blank written (Err Read) = new.failures ≡ min (old.failures + 1) (2 ^ 64 - 1)
+HoldsSession session buffer old new before now blank written (Err Write) = written.failures ≡ min (blank.failures + 1) (2 ^ 64 - 1)
+HoldsSession session buffer old new before now blank written (Err OutOfMemory) = (new.failures ≡ old.failures) × (written.failures ≡ blank.failures)
+HoldsSession session buffer old new before now blank written (Err fault) = ⊥
+
+-- ---- the whole
+
+-- this is the first line of what was read, with its LF, and what was read after it
+abbrev pub IsFirst : List ℕ → List ℕ → List ℕ → Type 0
+IsFirst more buffer text = (line : List ℕ) × (parts_of more ≡ line ∷ parts_of buffer) × (text ≡ line ++ 10 ∷ [])
+
+-- no line was read up to the end of the input, and this is all
+abbrev pub IsAll : Bool → List ℕ → List ℕ → List ℕ → Type 0
+IsAll ended more buffer text = (ended ≡ true) × (parts_of more ≡ more ∷ []) × (buffer ≡ more) × (text ≡ more)
+
+-- the text of the schedule that a session begins with, and what was read after it: the text that is given; or the first line
+-- of the input, or all of an input that has none
+abbrev pub BeginsWith : Option (List ℕ) → Reading → Reading → List ℕ → List ℕ → Type 0
+BeginsWith (Some given) old now buffer text = (now ≡ old) × (buffer ≡ []) × (text ≡ given)
+BeginsWith None old now buffer text =
+    (more : List ℕ) × (now.given ≡ old.given ++ more) × (now.failures ≡ old.failures) × (IsFirst more buffer text ⊎ IsAll now.ended more buffer text)
+
+-- the schedule that a session begins with
+abbrev pub Opens : Option (List ℕ) → Reading → Reading → List ℕ → Scheduled → Type 0
+Opens start old now buffer schedule = (text : List ℕ) × BeginsWith start old now buffer text × (schedule_at text ≡ Ok schedule)
+
+-- the world refuses this line of the schedule
+abbrev pub IsRefusedLine : Scheduled → CommandFault → Type 0
+IsRefusedLine schedule fault =
+    (line : ℕ) × (refusal : Refusal) × (number : ℕ) × ((world_run schedule).refused ≡ Some (line, refusal)) × (number_of refusal ≡ Some number) × (fault ≡ Refused line number)
+
+-- the schedule can't be played: no world has its sizes, or a line of it is refused
+abbrev pub CantPlay : Scheduled → CommandFault → Type 0
+CantPlay schedule fault = IsUnmade schedule fault ⊎ IsRefusedLine schedule fault
+
+-- the text is no schedule, or one that can't be played
+abbrev pub IsAtFault : List ℕ → CommandFault → Type 0
+IsAtFault text fault = IsNoSchedule text fault ⊎ ((schedule : Scheduled) × (schedule_at text ≡ Ok schedule) × CantPlay schedule fault)
+
+-- why a session can't begin
+abbrev pub CantBegin : Option (List ℕ) → Reading → Reading → CommandFault → Type 0
+CantBegin start old now fault = (text : List ℕ) × (buffer : List ℕ) × BeginsWith start old now buffer text × IsAtFault text fault
+
+-- the state at its begin was written, and then the answers
+pub record IsHeld (start : Option (List ℕ)) (old new : Reading) (before now : Used) (blank written : Tape) : Type 0 where
+  pub schedule : Scheduled
+  pub opened : Reading
+  pub buffer : List ℕ
+  pub opens : Opens start old opened buffer schedule
+  pub accepted : (world_run schedule).refused ≡ None
+  pub opening : Tape
+  pub first : Writes blank opening (watched_text schedule (watched_of schedule))
+  pub holds : HoldsSession (at_schedule schedule []) buffer opened new before now opening written (Ok tt)
+
+-- how a session ends: at its end with status 0; or it can't begin, and nothing was written; or a device or memory has failed
+abbrev pub SessionEnds : Option (List ℕ) → Reading → Reading → Used → Used → Tape → Tape → Result Ending CommandFault → Type 0
+SessionEnds start old new before now blank written (Ok ending) = (ending.status ≡ 0) × IsHeld start old new before now blank written
+SessionEnds start old new before now blank written (Err fault) =
+    (status_of fault ≡ 3) ⊎ (CantBegin start old new fault × Silent blank written × (now ≡ before))

@@ -1,0 +1,4 @@
+//! The command `step`: a session over a schedule.
+
+pub mod conversation;
+pub mod holding;

@@ -1,0 +1,47 @@
+-- What the steps so far have shown of each process: its phase, and its last access since its last crash.
+use Rattle.std.specs.Prelude.{ℕ, List, [], ◌∷◌, map, Option, Some, None, slice_set}
+use Rattle.std.proofs.Math.ListN.{replicate}
+use Rattle.rmecore.specs.declared.happened.Happened.{Happened}
+use Rattle.rmecore.specs.declared.refusal.Refusal.{Refusal}
+use Rattle.rmecore.specs.Refused.{number_of}
+use Rattle.diagram.specs.declared.act.Act.{Act}
+use Rattle.diagram.specs.declared.act.Act.TheVariants.{Silent, Telling, Fell}
+use Rattle.diagram.specs.declared.act.DiagramRow.{DiagramRow}
+use Rattle.diagram.specs.declared.phase.LifelinePhase.{LifelinePhase}
+use Rattle.diagram.specs.declared.phase.LifelinePhase.TheVariants.{Rest}
+use Rattle.diagram.specs.Events.{Event}
+use Rattle.diagram.specs.Followed.{phases_with, row_of}
+
+-- the phases of the processes, and their last accesses
+pub record LastStepsState : Type 0 where
+  pub phases : List LifelinePhase
+  pub lasts : List (Option Happened)
+
+-- the access of a row; a crash has none
+abbrev pub access_in : Act → Option Happened
+access_in (Silent happened times) = Some happened
+access_in (Telling step) = Some step.happened
+access_in (Fell deed) = None
+
+-- after a row
+abbrev pub last_steps_with : LastStepsState → DiagramRow → LastStepsState
+last_steps_with last_steps row =
+    record { phases = phases_with last_steps.phases row; lasts = slice_set last_steps.lasts row.p (access_in row.act) }
+
+-- after rows
+abbrev pub last_steps_behind : LastStepsState → List DiagramRow → LastStepsState
+last_steps_behind last_steps [] = last_steps
+last_steps_behind last_steps (row ∷ rows) = last_steps_behind (last_steps_with last_steps row) rows
+
+-- after the steps and crashes of a run
+abbrev pub last_steps_after : LastStepsState → List Event → LastStepsState
+last_steps_after last_steps events = last_steps_behind last_steps (map row_of events)
+
+-- before the first step, all processes at rest
+abbrev pub no_last_steps : ℕ → LastStepsState
+no_last_steps procs = record { phases = replicate procs Rest; lasts = replicate procs None }
+
+-- the number of a refusal, if there is one
+abbrev pub number_refused : Option Refusal → Option ℕ
+number_refused None = None
+number_refused (Some refusal) = number_of refusal

@@ -1,5 +1,5 @@
 -- How a session begins, and what a command is that holds one.
-use Rattle.std.proofs.Common.{◌≡◌, ◌⊎◌, ℕ, List, [], sym, subst, String, Option, Result, Ok, Err, true, Some, None, is_some, refl, inl, inr}
+use Rattle.std.proofs.Common.{◌≡◌, ◌⊎◌, ℕ, List, [], sym, subst, String, Option, Result, Ok, Err, true, Some, None, is_some, refl, inl, inr, option_copied, Bor}
 use Rattle.std.specs.declared.alloc.Global.{Global}
 use Rattle.judge.specs.Kept.{Kept}
 use Rattle.judge.specs.Stands.{Keeps, StandsAfter}
@@ -90,3 +90,17 @@ pub in_folder : (command : Command) (image : Option (List ℕ)) (before first no
     → SessionEnds image old new first now blank written end → SessionEndsIn command before now old new blank written end
 in_folder command image before first now old new blank written end named saved texts ends =
     inr (image, named, first, record { names = saved; texts = texts }, ends)
+
+-- what is copied is there where it was
+pub copied_some : (image : Option (Bor (List ℕ))) → is_some (option_copied image) ≡ is_some image
+copied_some (Some x) = refl
+copied_some None = refl
+
+-- what is left as it was by a flush, and by a save of no image
+pub session_left : (command : Command) (before first now : Used) (old new : Reading) (blank early written : Tape) (end early_end : Result Ending CommandFault)
+    → now ≡ first → written ≡ early → end ≡ early_end
+    → SessionEndsIn command before first old new blank early early_end → SessionEndsIn command before now old new blank written end
+session_left command before first now old new blank early written end early_end same_used same_tape same_end ends =
+    subst (λ (u : Used). SessionEndsIn command before u old new blank written end) (sym same_used)
+    (subst (λ (t : Tape). SessionEndsIn command before first old new blank t end) (sym same_tape)
+    (subst (λ (e : Result Ending CommandFault). SessionEndsIn command before first old new blank early e) (sym same_end) ends))

@@ -80,6 +80,7 @@ pub record Does (command : Command) (before now : Used) (old new : Reading) (bla
   pub opens_all : OnOk end (now.opened ≡ opens_all command before.opened)
   pub opens_some : OpensSome command before.opened now.opened
   pub saves : is_session command ≡ false → Saves command before now blank written end
+  pub session : is_session command ≡ true → SessionEndsIn command before now old new blank written end
   pub whole : IsWhole blank written end
   pub apart : is_some (input_of command) ≡ true → new ≡ old
   pub on_input : input_of command ≡ None → EndsOnInput command old new blank written end

@@ -7,7 +7,7 @@ ghost use Rattle.cli.specs.FilesNamed.{image_of, input_of, save_of};
 ghost use Rattle.commands.specs.Lines.{IsTold};
 ghost use Rattle.commands.specs.declared.schedules.fault.CommandFault.TheVariants.{Write as WriteFault};
 ghost use Rattle.commands.specs.Folders.{is_session};
-ghost use Rattle.commands.specs.Programs.{Answers, Closes, Does, EndsOnFile, EndsOnInput, PrintsHelp, IsProgram, Obeys, opens_all, OpensSome, SavesAll, PrintsUsageError};
+ghost use Rattle.commands.specs.Programs.{Answers, Closes, Does, EndsOnFile, EndsOnInput, PrintsHelp, IsProgram, Obeys, opens_all, OpensSome, SavesAll, SessionEndsIn, PrintsUsageError};
 ghost use Rattle.cli.specs.Sizes.{IsSized};
 ghost use Rattle.commands.specs.Faults.{fault_of_opening, fault_of_saving};
 ghost use Rattle.commands.specs.Statuses.{status_of};
@@ -120,6 +120,8 @@ fn execute<T: Threads + Wait + Sync, F: Folder, S: Screen, R: Source, W: Sink>(
     ensures opened { OpensSome command.now (F.used folder.old).opened (F.used folder.new).opened }
     ensures saved { is_session command.now ≡ false → (F.used folder.new).saved ≡ (F.used folder.old).saved }
     ensures texts { is_session command.now ≡ false → (F.used folder.new).texts ≡ (F.used folder.old).texts }
+    ensures session { is_session command.now ≡ true → SessionEndsIn command.now (F.used folder.old) (F.used folder.new)
+        (R.reading input.old) (R.reading input.new) (W.tape out.old) (W.tape out.new) result }
     ensures ended { IfOk result (IsEnded (is_some (save_of command.now)) (W.tape out.old).failures (W.tape out.new).failures) }
     ensures apart { is_some (input_of command.now) ≡ true → R.reading input.new ≡ R.reading input.old }
     ensures on_input { input_of command.now ≡ None → EndsOnInput command.now (R.reading input.old) (R.reading input.new)

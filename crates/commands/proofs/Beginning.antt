@@ -1,5 +1,6 @@
 -- How a session begins, and what a command is that holds one.
-use Rattle.std.proofs.Common.{◌≡◌, ◌⊎◌, ℕ, List, [], sym, subst, Option, Ok, Err, true, None, refl, inl, inr}
+use Rattle.std.proofs.Common.{◌≡◌, ◌⊎◌, ℕ, List, [], sym, subst, String, Option, Result, Ok, Err, true, Some, None, is_some, refl, inl, inr, option_copied, Bor}
+use Rattle.std.specs.declared.alloc.Global.{Global}
 use Rattle.judge.specs.Kept.{Kept}
 use Rattle.judge.specs.Stands.{Keeps, StandsAfter}
 use Rattle.judge.specs.Table.{State, empty}
@@ -14,12 +15,14 @@ use Rattle.schedule.specs.Replays.{CutShort}
 use Rattle.schedule.specs.Schedules.{Scheduled, schedule_at}
 use Rattle.schedule.specs.Tapes.{Reading, Tape}
 use Rattle.schedule.specs.Wholes.{layout_of, world_run}
-use Rattle.cli.specs.FilesNamed.{input_of, save_of}
+use Rattle.cli.specs.FilesNamed.{image_of as image_of_command, input_of, save_of}
 use Rattle.cli.specs.declared.arguments.args.Command.{Command}
 use Rattle.cli.specs.declared.arguments.args.Command.TheVariants.{Step}
 use Rattle.commands.specs.declared.schedules.fault.CommandFault.{CommandFault}
+use Rattle.commands.specs.declared.schedules.ending.Ending.{Ending}
 use Rattle.commands.specs.Conversations.{BeginsWith, CantBegin, CantPlay, IsRefusedLine, SessionEnds}
 use Rattle.commands.specs.Folders.{Used, is_session}
+use Rattle.commands.specs.Programs.{SessionEndsIn}
 use Rattle.commands.specs.Settings.{IsNoSchedule}
 use Rattle.commands.specs.Statuses.{fault_on_page, status_of}
 
@@ -75,3 +78,29 @@ session_reads _ e = cc
 pub session_saves : (command : Command) → is_session command ≡ true → save_of command ≡ None
 session_saves (Step file) e = refl
 session_saves _ e = cc
+
+-- a session reads no file by name
+pub reads_no_file : (command : Command) (file : Option (String Global)) (name : String Global) (A : Type 0) → is_session command ≡ true → file ≡ input_of command → file ≡ Some name → A
+reads_no_file (Step start) file name A e is some = cc
+reads_no_file _ file name A e is some = cc
+
+-- a session that begins where nothing was written
+pub in_folder : (command : Command) (image : Option (List ℕ)) (before first now : Used) (old new : Reading) (blank written : Tape) (end : Result Ending CommandFault)
+    → is_some image ≡ is_some (image_of_command command) → first.saved ≡ before.saved → first.texts ≡ before.texts
+    → SessionEnds image old new first now blank written end → SessionEndsIn command before now old new blank written end
+in_folder command image before first now old new blank written end named saved texts ends =
+    inr (image, named, first, record { names = saved; texts = texts }, ends)
+
+-- what is copied is there where it was
+pub copied_some : (image : Option (Bor (List ℕ))) → is_some (option_copied image) ≡ is_some image
+copied_some (Some x) = refl
+copied_some None = refl
+
+-- what is left as it was by a flush, and by a save of no image
+pub session_left : (command : Command) (before first now : Used) (old new : Reading) (blank early written : Tape) (end early_end : Result Ending CommandFault)
+    → now ≡ first → written ≡ early → end ≡ early_end
+    → SessionEndsIn command before first old new blank early early_end → SessionEndsIn command before now old new blank written end
+session_left command before first now old new blank early written end early_end same_used same_tape same_end ends =
+    subst (λ (u : Used). SessionEndsIn command before u old new blank written end) (sym same_used)
+    (subst (λ (t : Tape). SessionEndsIn command before first old new blank t end) (sym same_tape)
+    (subst (λ (e : Result Ending CommandFault). SessionEndsIn command before first old new blank early e) (sym same_end) ends))

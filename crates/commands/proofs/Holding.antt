@@ -17,7 +17,7 @@ use Rattle.diagram.specs.Sessions.{SessionState, after_request, reply_to, reques
 use Rattle.schedule.specs.declared.replays.replay_fault.ReplayFault.{ReplayFault}
 use Rattle.schedule.specs.declared.replays.replay_fault.ReplayFault.TheVariants as faults
 use Rattle.commands.specs.Statuses.{fault_of_replay, status_of}
-use Rattle.commands.specs.Conversations.{AreAnswers, Converses, HoldsSession, IsAnswer, IsAnswerBy, IsKept, WritesFile, WritesOr, after_line, last_text}
+use Rattle.commands.specs.Conversations.{AreAnswers, HoldsSession, IsAnswer, IsAnswerBy, IsKept, WritesFile, WritesOr, after_line, last_text}
 use Rattle.commands.specs.Folders.{Used}
 
 -- ---- pieces of a text

@@ -1,0 +1,13 @@
+use Rattle.std.proofs.Common.{◌∙◌, option_copied}
+use Rattle.commands.proofs.Beginning.{in_folder, copied_some}
+use Rattle.commands.proofs.program.execute.Goals as goal
+
+-- a session as `ended` says, over the image that was read
+pub returns-clause-session : goal.returns-clause-session
+returns-clause-session g c is =
+    in_folder c.args.command.now (option_copied c.as_deref-in-None.result)
+    (g.F.Folder.used c.args.folder.now) (g.F.Folder.used c.image_text.new.folder) (g.F.Folder.used c.ended.new.folder)
+    (g.R.Source.reading c.args.input.now) (g.R.Source.reading c.ended.new.r)
+    (g.W.Sink.tape c.args.out.now) (g.W.Sink.tape c.ended.new.w) c.ended.result
+    (copied_some c.as_deref-in-None.result ∙ c.as_deref-in-None.ensures.variant ∙ c.in_ok-image.ensures.named)
+    c.image_text.ensures.saved c.image_text.ensures.texts (c.ended.ensures.session is)

@@ -5,7 +5,7 @@ ghost use Rattle.rmecore.specs.Simulated.{tally_at};
 ghost use Rattle.rmeworld.specs.Replayed.{advanced, stepped, started, crashed, start_refusal, advance_refusal, crash_refusal, image_of};
 ghost use Rattle.rmeworld.specs.ImageRules.{IsLawfulImage};
 ghost use Rattle.rmeworld.specs.WorldState.{new_world};
-ghost use Rattle.one_lock.specs.Answers.{opened, Opens, Gives, Refuses, RefusesToOpen};
+ghost use Rattle.one_lock.specs.Answers.{crash_by, opened, Opens, Gives, Refuses, RefusesToOpen};
 ghost use Rattle.one_lock.specs.Execution.{AreSizes};
 
 use crate::opening::Opening;
@@ -63,6 +63,10 @@ impl<L: Ledger, S: Sizes> Shared<L, S> {
     /// the world's refusal: nothing was counted.
     pub fn step(&mut self, share: &mut Share<L>, p: u64, opening: Opening) -> Result<Turn, Refusal>
         requires { 0 < share.old.parts }
+        ensures world { OnOk result (self.new.world ≡ advanced (opened opening p self.old.world) p) }
+        ensures left { OnErr result ((self.new.world ≡ self.old.world)
+            ⊎ (self.new.world ≡ crash_by opening.crash p self.old.world)
+            ⊎ (self.new.world ≡ opened opening p self.old.world)) }
         ensures book { OnOk result (self.new.total ≡ self.old.total + 1) }
         ensures share { OnOk result (share.new.amount ≡ share.old.amount + 1) }
         ensures uncounted { OnErr result ((self.new.total ≡ self.old.total) × (share.new.amount ≡ share.old.amount)) }
@@ -88,6 +92,8 @@ impl<L: Ledger, S: Sizes> Shared<L, S> {
     fn open(&mut self, p: u64, opening: Opening) -> Result<(), Refusal>
         ensures ok { OnOk result (self.new.world ≡ opened opening p self.old.world) }
         ensures opens { OnOk result (Opens p opening self.old.world) }
+        ensures err { OnErr result ((self.new.world ≡ self.old.world)
+            ⊎ (self.new.world ≡ crash_by opening.crash p self.old.world)) }
         ensures refused { IfErr result (RefusesToOpen p opening self.old.world) }
         ensures book { self.new.total ≡ self.old.total }
     {

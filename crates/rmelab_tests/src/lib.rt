@@ -6,4 +6,5 @@ mod hunts;
 mod memory;
 mod program;
 mod replays;
+#[cfg(test)]
 pub mod support;

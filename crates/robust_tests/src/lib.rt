@@ -5,5 +5,6 @@
 #[cfg(test)]
 mod labs;
 mod plain;
+#[cfg(test)]
 pub mod support;
 mod table;

@@ -2,14 +2,25 @@
 //! none of them can move, change or go without this crate failing to compile. What the items do is tested elsewhere.
 #![tactic(auto)]
 
+#[cfg(test)]
 pub mod four_methods;
+#[cfg(test)]
 pub mod of_crashlab;
+#[cfg(test)]
 pub mod of_judge;
+#[cfg(test)]
 pub mod of_one_lock;
+#[cfg(test)]
 pub mod of_program;
+#[cfg(test)]
 pub mod of_redomail;
+#[cfg(test)]
 pub mod of_rmecore;
+#[cfg(test)]
 pub mod of_rmeworld;
+#[cfg(test)]
 pub mod of_robust;
+#[cfg(test)]
 pub mod of_schedule;
+#[cfg(test)]
 pub mod of_searches;

@@ -8,7 +8,8 @@ ghost use Rattle.schedule.specs.Schedules.{Scheduled};
 ghost use Rattle.schedule.specs.declared.lines.line.Line.{Line};
 ghost use Rattle.diagram.specs.Events.{events_on};
 ghost use Rattle.diagram.specs.Followed.{followed};
-ghost use Rattle.diagram.specs.Sessions.{IsOfSchedule, SessionState, WatchedState, after_redo, after_undo, at_schedule};
+ghost use Rattle.diagram.specs.Sessions.{IsOfSchedule, SessionState, WatchedState, after_redo, after_undo};
+ghost use Rattle.diagram.specs.Sessions.{at_schedule};
 ghost use Rattle.diagram.specs.Sessions.{lines_told, played, refusal_in, session_after, watched_on};
 
 /// Whatever lines a session was given: the world that it shows, and what its processes have shown, are those of its

@@ -1,11 +1,12 @@
 //! A session over a schedule.
 
 ghost use Rattle.std.specs.Prelude.{◌≡◌, ◌++◌, [], IfOk, Ok, OnOk, is_some, not};
-ghost use Rattle.rmeworld.specs.Replayed.{world_behaviour};
-ghost use Rattle.schedule.specs.Runs.{run_on};
 ghost use Rattle.schedule.specs.Schedules.{head_of};
-ghost use Rattle.diagram.specs.Sessions.{HasWidth, after_redo, after_request, after_undo, answer_text_by, answered_by, at_schedule, first_watched, last_line as last_line_in, next_number, play_text, played, redo_text, refusal_in, reply_to, request_in, watched_of, watched_on, watched_text as watched_text_in, shortened as shortened_in, text_of_request, undo_text, way_of, without_last};
-ghost use Rattle.diagram.specs.LastSteps.{number_refused};
+ghost use Rattle.diagram.specs.Sessions.{HasWidth, after_redo, after_request, after_undo, answer_text_by};
+ghost use Rattle.diagram.specs.Sessions.{answered_by, at_schedule, first_watched, last_line as last_line_in};
+ghost use Rattle.diagram.specs.Sessions.{play_text, played, redo_text, refusal_in, reply_to, request_in, watched_of};
+ghost use Rattle.diagram.specs.Sessions.{watched_on, watched_text as watched_text_in, shortened as shortened_in};
+ghost use Rattle.diagram.specs.Sessions.{text_of_request, undo_text, way_of};
 
 use crate::diagram_layout::layout_of;
 use crate::paging::{put_around, put_text};

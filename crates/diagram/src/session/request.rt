@@ -1,8 +1,9 @@
 //! Reads the lines of a session.
 
-ghost use Rattle.std.specs.Prelude.{◌≡◌, ◌≤◌, drop};
+ghost use Rattle.std.specs.Prelude.{◌≡◌, ◌≤◌};
 ghost use Rattle.schedule.specs.Words.{first_of, named, Reads, words_of};
-ghost use Rattle.diagram.specs.Requests.{alone as alone_in, asked_by, request_at, save_to, to_answer, verb_of as verb_in, verbs_by_name};
+ghost use Rattle.diagram.specs.Requests.{alone as alone_in, asked_by, request_at, save_to, to_answer};
+ghost use Rattle.diagram.specs.Requests.{verb_of as verb_in, verbs_by_name};
 
 use schedule::lines::reading::read_line;
 use schedule::lines::words::Words;

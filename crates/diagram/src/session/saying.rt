@@ -1,6 +1,6 @@
 //! The lines of a session that tell no step.
 
-ghost use Rattle.std.specs.Prelude.{◌≡◌, ◌++◌, OnOk, codes};
+ghost use Rattle.std.specs.Prelude.{◌≡◌, ◌++◌, OnOk};
 ghost use Rattle.diagram.specs.Helps.{help_text};
 ghost use Rattle.diagram.specs.Sessions.{fault_text};
 

@@ -1,8 +1,13 @@
 //! Says where each process stands.
 
-ghost use Rattle.std.specs.Prelude.{◌≡◌, ◌++◌, ◌^◌, ◌<◌, OnOk, get_or, length, None};
+ghost use Rattle.std.specs.Prelude.{◌≡◌, ◌++◌, ◌<◌, OnOk, get_or, None};
 ghost use Rattle.rmecore.specs.Place.{is_before as is_before_in};
-ghost use Rattle.diagram.specs.Standings.{dead_text, doorway_text, holder as holder_in, inside_line, is_inside as is_inside_in, look_text, numbers_read as numbers_read_in, own_text, place_text, process_line, process_lines, read_so_far as read_so_far_in, restart_row as restart_row_in, row_with_number as row_with, row_without_number as row_without, state_text, waiting_text, waits_for, weigh_text};
+ghost use Rattle.diagram.specs.Standings.{dead_text, doorway_text, holder as holder_in, inside_line};
+ghost use Rattle.diagram.specs.Standings.{is_inside as is_inside_in, look_text, numbers_read as numbers_read_in};
+ghost use Rattle.diagram.specs.Standings.{own_text, place_text, process_line, process_lines};
+ghost use Rattle.diagram.specs.Standings.{read_so_far as read_so_far_in, restart_row as restart_row_in};
+ghost use Rattle.diagram.specs.Standings.{row_with_number as row_with, row_without_number as row_without, state_text};
+ghost use Rattle.diagram.specs.Standings.{waiting_text, waits_for, weigh_text};
 
 use crate::following::phase_of;
 use crate::paging::{put_around, put_decimal, put_piece, put_text};

@@ -5,7 +5,7 @@ ghost use Rattle.diagram.specs.Events.{events_of, steps_of};
 ghost use Rattle.diagram.specs.Followed.{followed, row_told};
 ghost use Rattle.diagram.specs.LastSteps.{number_refused, last_steps_after, last_steps_with};
 ghost use Rattle.rmecore.specs.declared.refusal.Refusal.TheVariants.{OutOfMemory as RefusalOutOfMemory};
-ghost use Rattle.schedule.specs.declared.lines.line.Line.TheVariants.{Crash as LineCrash, Step as LineStep};
+ghost use Rattle.schedule.specs.declared.lines.line.Line.TheVariants.{Crash as LineCrash};
 ghost use Rattle.schedule.specs.Runs.{line_on, steps};
 
 use crate::act::{Act, DiagramRow};

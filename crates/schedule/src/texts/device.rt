@@ -1,6 +1,6 @@
 //! Devices: sources of bytes, and sinks for bytes.
 
-ghost use Rattle.std.specs.Prelude.{◌≡◌, ◌+◌, ◌-◌, ◌^◌, ◌<◌, ◌≤◌, ◌++◌, List, ℕ, true, false, [], length, take, OnOk, OnErr, IfOk, IfErr, min};
+ghost use Rattle.std.specs.Prelude.{◌≡◌, ◌+◌, ◌-◌, ◌^◌, ◌<◌, ◌≤◌, ◌⊎◌, ◌++◌, List, ℕ, true, false, [], length, take, OnOk, OnErr, IfOk, IfErr, min};
 ghost use Rattle.schedule.specs.Tapes.{WritesFront, Reading, Tape};
 
 use std::alloc::{AllocError, Global};
@@ -21,9 +21,13 @@ pub trait Source {
         ensures bound { IfOk result (λ n. n ≤ length buf.new) }
         ensures given { IfOk result (λ n. (reading self.new).given ≡ (reading self.old).given ++ take n buf.new) }
         ensures end { IfOk result (λ n. n ≡ 0 → 0 < length buf.new → (reading self.new).ended ≡ true) }
+        // Nothing else tells its end.
+        ensures goes_on { IfOk result (λ n. (0 < n) ⊎ (length buf.new ≡ 0)
+            → (reading self.new).ended ≡ (reading self.old).ended) }
         ensures fine { OnOk result ((reading self.new).failures ≡ (reading self.old).failures) }
         ensures failed { OnErr result ((reading self.new).failures ≡ min ((reading self.old).failures + 1) (2 ^ 64 - 1)) }
         ensures kept { OnErr result ((reading self.new).given ≡ (reading self.old).given) }
+        ensures still { OnErr result ((reading self.new).ended ≡ (reading self.old).ended) }
         // A source has finitely many bytes.
         ensures finite { OnOk result (length (reading self.new).given ≤ 2 ^ 63) };
 }

@@ -51,6 +51,7 @@ impl<R> FromReader<R> {
 
     fn fail(&mut self) -> Failed
         ensures given { self.new.given.items ≡ self.old.given.items }
+        ensures ended { self.new.ended ≡ self.old.ended }
         ensures failures { self.new.failures ≡ min (self.old.failures + 1) (2 ^ 64 - 1) }
     {
         self.failures = self.failures.saturating_add(1);

@@ -1,5 +1,5 @@
 -- The faults of an algorithm's text and of its runs, as faults of a command.
-use Rattle.std.specs.Prelude.{◌≡◌, ◌⊎◌, ℕ, List, codes, Option, Some, None, unwrap_or}
+use Rattle.std.specs.Prelude.{ℕ, List, codes, unwrap_or}
 use Rattle.algorithms.specs.declared.fault.LineFault.{LineFault}
 use Rattle.algorithms.specs.declared.fault.LineFault.TheVariants as texts
 use Rattle.cli.specs.Names.{number_of_algorithm_fault}

@@ -8,4 +8,5 @@ mod replays;
 mod reports;
 mod runs;
 mod schedules;
+mod searches;
 mod texts;

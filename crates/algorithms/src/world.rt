@@ -183,7 +183,7 @@ fn all_at_rest(alloc: Global, count: usize) -> Result<Vec<Process>, AlgorithmRef
 }
 
 impl World {
-    ghost use Rattle.algorithms.specs.Worlds.{first_world, new_refusal, cause, constants_of, process_of, start, started, step, taken, crash};
+    ghost use Rattle.algorithms.specs.Worlds.{first_world, new_refusal, cause, constants_of, process_of, start, started, step, taken, crash, with_process};
 
     /// A world with all words 0 and all processes at rest. `limit` is the algorithm's `limit`.
     ///
@@ -285,6 +285,13 @@ impl World {
         self.words.as_slice()
     }
 
+    /// The private memory of each process.
+    pub fn processes(&self) -> &[Process]
+        ensures { result.now ≡ self.now.processes }
+    {
+        self.processes.as_slice()
+    }
+
     /// The algorithm.
     pub fn algorithm(&self) -> &Algorithm
         ensures { result.now ≡ self.now.algorithm }
@@ -304,6 +311,23 @@ impl World {
         ensures { result ≡ self.now.limit }
     {
         self.limit
+    }
+
+    /// For this workspace alone, to decode a world: sets a shared word. An address outside of the words changes nothing.
+    pub fn seam_set_word(&mut self, address: Address, value: u64)
+        ensures { self.new ≡ record self.old { words = stored self.old.words address (Some value) } }
+    {
+        let stores = Some(value);
+        store(self.words.as_mut_slice(), Access { address, stores });
+    }
+
+    /// For this workspace alone, as `seam_set_word`: sets the private memory of a process. One that is not there has none.
+    pub fn seam_set_process(&mut self, p: u64, process: Process)
+        ensures { self.new ≡ with_process self.old p process }
+    {
+        if let Some(place) = self.processes.get_mut(p as usize) {
+            *place = process;
+        }
     }
 
     fn constants(&self, p: u64) -> Constants

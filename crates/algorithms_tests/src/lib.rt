@@ -15,4 +15,6 @@ mod reports;
 mod runs;
 #[cfg(test)]
 mod schedules;
+#[cfg(test)]
+mod searches;
 pub mod texts;

@@ -8,6 +8,7 @@ _rmelab() {
     fi
     case ${COMP_WORDS[1]}:$before in
         replay:--variant) mapfile -t COMPREPLY < <(compgen -W "right no-look no-ties renumber exit-on-crash count-up last-skipped" -- "$word") && return ;;
+        replay:--algorithm) mapfile -t COMPREPLY < <(compgen -f -- "$word") && return ;;
         replay:--image) mapfile -t COMPREPLY < <(compgen -f -- "$word") && return ;;
         replay:--save) mapfile -t COMPREPLY < <(compgen -f -- "$word") && return ;;
         run:--procs) : && return ;;
@@ -35,7 +36,7 @@ _rmelab() {
         shrink:--variant) mapfile -t COMPREPLY < <(compgen -W "right no-look no-ties renumber exit-on-crash count-up last-skipped" -- "$word") && return ;;
     esac
     case ${COMP_WORDS[1]} in
-        replay) mapfile -t COMPREPLY < <(compgen -W "--json --each --variant --image --save -h --help" -- "$word"; compgen -f -- "$word") ;;
+        replay) mapfile -t COMPREPLY < <(compgen -W "--json --each --variant --algorithm --image --save -h --help" -- "$word"; compgen -f -- "$word") ;;
         run) mapfile -t COMPREPLY < <(compgen -W "--procs --messages --crash --seed --width -h --help" -- "$word") ;;
         hunt) mapfile -t COMPREPLY < <(compgen -W "--variant --seed --rounds --steps --shrink --jobs -h --help" -- "$word") ;;
         explore) mapfile -t COMPREPLY < <(compgen -W "--variant --procs --calls --crashes --moves --states --limit --cap --width --stuck --jobs -h --help" -- "$word") ;;

@@ -10,7 +10,7 @@ TOP = os.path.dirname(os.path.dirname(os.path.realpath(__file__)))
 ARCHITECTURE = "docs/dev/architecture.md"
 THEOREM = "docs/theory/theorem.md"
 
-MOST_CRATES = 27
+MOST_CRATES = 31
 MOST_LINES_OF_A_FILE = 500
 MOST_LINES_OF_A_BODY = 40
 WIDEST_CLAUSE = 140  # Bytes.
@@ -397,6 +397,17 @@ def mentions_of_no_page():
                 yield f"{name}:{line_at(text, mention.start())}: no page {mention[0]}"
 
 
+def algorithms_that_differ():
+    """The texts of examples/algorithms are those that the tests read."""
+    tests = "".join(text_of(name) for name in sources(".rt") if name.startswith("crates/algorithms_tests/src/texts/"))
+    for name in repository_files():
+        if name.startswith("examples/algorithms/") and name.endswith(".lock"):
+            constant = os.path.basename(name).removesuffix(".lock").replace("-", "_").upper()
+            written = re.search(rf'pub const {constant}: &\[u8\] =\s+br"([^"]*)";', tests)
+            if not written or written[1] != text_of(name):
+                yield f"{name}:1: not the text {constant} of crates/algorithms_tests"
+
+
 RULES = [
     refused_words,
     retired_names,
@@ -410,6 +421,7 @@ RULES = [
     unproved_said_elsewhere,
     links_that_lead_nowhere,
     mentions_of_no_page,
+    algorithms_that_differ,
 ]
 
 

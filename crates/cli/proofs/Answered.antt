@@ -1,5 +1,5 @@
 -- Words with a bad variant or a bad size are answered with that alone.
-use Rattle.std.proofs.Common.{◌≡◌, ◌⊎◌, ◌∙◌, false, List, [], Option, Some, None, Result, Ok, Err, IfOk, IfErr, IsNone, IsSome, IsSomeAnd, inl, inr, refl, sym, subst, subst₂, codes}
+use Rattle.std.proofs.Common.{◌≡◌, ◌⊎◌, ◌∙◌, false, List, [], Option, Some, None, Result, Ok, Err, IfOk, IfErr, IsNone, IsSome, IsSomeAnd, inl, inr, refl, sym, subst, subst₂, codes, unwrap_or}
 use Rattle.std.specs.Str.{bytes_eq}
 use Rattle.std.proofs.lemmas.Bool.{false≢true}
 use Rattle.clap.specs.Words.{Text, first_of, fault_of, subcommand_of, IsAmong}
@@ -9,12 +9,12 @@ use Rattle.crashlab.specs.declared.variant.Variant.{Variant}
 use Rattle.crashlab.specs.declared.variant.Variant.TheVariants.{Right, NoLook, NoTies, Renumber, ExitOnCrash, CountUp, LastSkipped}
 use Rattle.cli.specs.declared.arguments.args.Command.{Command}
 use Rattle.cli.specs.declared.arguments.args.ExploreArgs.{ExploreArgs}
-use Rattle.cli.specs.declared.arguments.args.Command.TheVariants.{Replay, Run, Hunt, Explore, Judge, Draw, Shrink, Step, Explain}
+use Rattle.cli.specs.declared.arguments.args.Command.TheVariants.{Replay, ReplayAlgorithm, Run, Hunt, Explore, Judge, Draw, Shrink, Step, Explain}
 use Rattle.cli.specs.declared.arguments.words.WordsFault.{WordsFault}
 use Rattle.cli.specs.declared.arguments.words.WordsFault.TheVariants.{Help, Refused, BadVariant, BadSize, Unreadable, OutOfMemory}
 use Rattle.cli.specs.CommandLine.{rmelab}
 use Rattle.cli.specs.Given.{Given, word_of_variant}
-use Rattle.cli.specs.ReadWords.{GoesWithImage, IsBadBesideImage, HasBadVariant, IsExplore, IsBadSearch, IsOutOfRange, HasBadSize, HasNoEntry, IsCommand, Takes, IsRefusal}
+use Rattle.cli.specs.ReadWords.{GoesWithImage, IsAlone, IsBadBesideImage, HasBadVariant, IsExplore, IsBadSearch, IsOutOfRange, HasBadSize, HasBadWords, IsCommand, Takes, IsRefusal}
 use Rattle.cli.specs.Sizes.{IsSized, RunFits, IsHuntSize}
 use Rattle.cli.proofs.Texts.{differ}
 
@@ -52,22 +52,44 @@ goes given variant h (inl none) = none variant h.0
 goes given variant h (inr other) =
     other.2 (only_right other.0 (other.1 ∙ sym h.0 ∙ subst (λ (v : Variant). word_of_variant v ≡ codes "right") (sym (h.1 other.3)) refl))
 
+no_both : {A : Type 0} (o : Option A) → IsNone o → IsSome o → ⊥
+no_both None none some = false≢true some
+no_both (Some x) none some = false≢true (sym none)
+
+unasked : (o : Option Text) → IsNone o → codes "right" ≡ unwrap_or o (codes "right")
+unasked None none = refl
+unasked (Some x) none = absurd (false≢true (sym none))
+
+-- beside an algorithm alone stands neither a variant nor an image
+alone_goes : (given : Given) → IsAlone given → IsBadBesideImage given → ⊥
+alone_goes given h (inl none) = none Right (unasked (first_of (codes "variant") given) h.variant)
+alone_goes given h (inr other) = no_both (first_of (codes "image") given) h.image other.3
+
 neither : (a name : Text) (given : Given) → name ≡ a → bytes_eq a (codes "replay") ≡ false → bytes_eq a (codes "draw") ≡ false → bytes_eq a (codes "hunt") ≡ false
     → bytes_eq a (codes "explore") ≡ false → bytes_eq a (codes "shrink") ≡ false → HasBadVariant name given → ⊥
 neither a name given is replay draw hunt explore shrink (inl bad) = takes_no_image a name is replay draw bad.0
-neither a name given is replay draw hunt explore shrink (inr bad) = needs_none a name is hunt explore shrink bad.0
+neither a name given is replay draw hunt explore shrink (inr (inl bad)) = needs_none a name is hunt explore shrink bad.0
+neither a name given is replay draw hunt explore shrink (inr (inr bad)) = other_name a (codes "replay") name is replay bad.0
 
 good_variant : (name : Text) (given : Given) (command : Command) → IsCommand name given command → HasBadVariant name given → ⊥
 good_variant name given (Replay args) h (inl bad) = goes given args.variant h.1.variant bad.1
-good_variant name given (Replay args) h (inr bad) = needs_none (codes "replay") name h.0 refl refl refl bad.0
+good_variant name given (Replay args) h (inr (inl bad)) = needs_none (codes "replay") name h.0 refl refl refl bad.0
+good_variant name given (Replay args) h (inr (inr bad)) = no_both (first_of (codes "algorithm") given) h.1.no_algorithm bad.1.0
+good_variant name given (ReplayAlgorithm args) h (inl bad) = alone_goes given h.1.alone bad.1
+good_variant name given (ReplayAlgorithm args) h (inr (inl bad)) = needs_none (codes "replay") name h.0 refl refl refl bad.0
+good_variant name given (ReplayAlgorithm args) h (inr (inr bad)) = bad.1.1 h.1.alone
 good_variant name given (Draw args) h (inl bad) = goes given args.variant h.1.variant bad.1
-good_variant name given (Draw args) h (inr bad) = needs_none (codes "draw") name h.0 refl refl refl bad.0
+good_variant name given (Draw args) h (inr (inl bad)) = needs_none (codes "draw") name h.0 refl refl refl bad.0
+good_variant name given (Draw args) h (inr (inr bad)) = other_name (codes "draw") (codes "replay") name h.0 refl bad.0
 good_variant name given (Hunt args) h (inl bad) = takes_no_image (codes "hunt") name h.0 refl refl bad.0
-good_variant name given (Hunt args) h (inr bad) = bad.1 args.variant h.1.variant
+good_variant name given (Hunt args) h (inr (inl bad)) = bad.1 args.variant h.1.variant
+good_variant name given (Hunt args) h (inr (inr bad)) = other_name (codes "hunt") (codes "replay") name h.0 refl bad.0
 good_variant name given (Explore args) h (inl bad) = takes_no_image (codes "explore") name h.0 refl refl bad.0
-good_variant name given (Explore args) h (inr bad) = bad.1 args.variant h.1.variant
+good_variant name given (Explore args) h (inr (inl bad)) = bad.1 args.variant h.1.variant
+good_variant name given (Explore args) h (inr (inr bad)) = other_name (codes "explore") (codes "replay") name h.0 refl bad.0
 good_variant name given (Shrink args) h (inl bad) = takes_no_image (codes "shrink") name h.0 refl refl bad.0
-good_variant name given (Shrink args) h (inr bad) = bad.1 args.variant h.1.variant
+good_variant name given (Shrink args) h (inr (inl bad)) = bad.1 args.variant h.1.variant
+good_variant name given (Shrink args) h (inr (inr bad)) = other_name (codes "shrink") (codes "replay") name h.0 refl bad.0
 good_variant name given (Run args) h bad = neither (codes "run") name given h.0 refl refl refl refl refl bad
 good_variant name given (Judge file) h bad = neither (codes "judge") name given h.0 refl refl refl refl refl bad
 good_variant name given (Step file) h bad = neither (codes "step") name given h.0 refl refl refl refl refl bad
@@ -78,10 +100,6 @@ sizeless : (a name : Text) (given : Given) → name ≡ a → bytes_eq a (codes 
 sizeless a name given is run hunt explore (inl bad) = other_name a (codes "run") name is run bad.0
 sizeless a name given is run hunt explore (inr (inl bad)) = other_name a (codes "hunt") name is hunt bad.0
 sizeless a name given is run hunt explore (inr (inr bad)) = other_name a (codes "explore") name is explore bad.0
-
-no_both : {A : Type 0} (o : Option A) → IsNone o → IsSome o → ⊥
-no_both None none some = false≢true some
-no_both (Some x) none some = false≢true (sym none)
 
 good_search : (given : Given) (args : ExploreArgs) → IsExplore given args → IsBadSearch given → ⊥
 good_search given args h (inl calls) = false≢true (sym calls ∙ h.known)
@@ -98,6 +116,7 @@ good_size name given (Explore args) sized h (inl bad) = other_name (codes "explo
 good_size name given (Explore args) sized h (inr (inl bad)) = other_name (codes "explore") (codes "hunt") name h.0 refl bad.0
 good_size name given (Explore args) sized h (inr (inr bad)) = good_search given args h.1 bad.1
 good_size name given (Replay args) sized h bad = sizeless (codes "replay") name given h.0 refl refl refl bad
+good_size name given (ReplayAlgorithm args) sized h bad = sizeless (codes "replay") name given h.0 refl refl refl bad
 good_size name given (Judge file) sized h bad = sizeless (codes "judge") name given h.0 refl refl refl bad
 good_size name given (Draw args) sized h bad = sizeless (codes "draw") name given h.0 refl refl refl bad
 good_size name given (Shrink args) sized h bad = sizeless (codes "shrink") name given h.0 refl refl refl bad
@@ -105,6 +124,16 @@ good_size name given (Step file) sized h bad = sizeless (codes "step") name give
 good_size name given (Explain entry) sized h bad = sizeless (codes "explain") name given h.0 refl refl refl bad
 
 -- ---- the words
+
+worded : (name : Text) (given : Given) → HasBadWords name given → HasBadVariant name given → ⊥
+worded name given (inl entry) bad = neither (codes "explain") name given entry.0 refl refl refl refl refl bad
+worded name given (inr steps) (inl bad) = alone_goes given steps.2 bad.1
+worded name given (inr steps) (inr (inl bad)) = needs_none (codes "replay") name steps.0 refl refl refl bad.0
+worded name given (inr steps) (inr (inr bad)) = bad.1.1 steps.2
+
+ranged : (name : Text) (given : Given) → HasBadWords name given → IsOutOfRange name given → ⊥
+ranged name given (inl entry) bad = sizeless (codes "explain") name given entry.0 refl refl refl bad
+ranged name given (inr steps) bad = sizeless (codes "replay") name given steps.0 refl refl refl bad
 
 both_of : (words : List Text) (P Q : Text → Given → Type 0) → Takes words P → Takes words Q → (name : Text) × (given : Given) × P name given × Q name given
 both_of words P Q p q = go (subcommand_of rmelab words) p.1 q.1
@@ -123,8 +152,8 @@ pub variant_refused : (words : List Text) (result : Result Command WordsFault) �
 variant_refused words (Ok command) bad ok err =
     let h = both_of words HasBadVariant (λ name given. IsCommand name given command) bad ok in absurd (good_variant h.0 h.1 command h.3 h.2)
 variant_refused words (Err (Help text)) bad ok err = absurd (no_kind (fault_of rmelab words) err.0 bad.0 err.1)
-variant_refused words (Err (Refused text)) bad ok (inl entry) =
-    let h = both_of words HasBadVariant HasNoEntry bad entry in absurd (neither (codes "explain") h.0 h.1 h.3.0 refl refl refl refl refl h.2)
+variant_refused words (Err (Refused text)) bad ok (inl refused) =
+    let h = both_of words HasBadVariant HasBadWords bad refused in absurd (worded h.0 h.1 h.3 h.2)
 variant_refused words (Err (Refused text)) bad ok (inr mistaken) = absurd (no_kind (fault_of rmelab words) mistaken.0 bad.0 mistaken.1)
 variant_refused words (Err BadVariant) bad ok err = inl refl
 variant_refused words (Err BadSize) bad ok err =
@@ -139,9 +168,8 @@ size_refused words (Ok command) bad sized ok err =
     let h = both_of words HasBadSize (λ name given. IsCommand name given command) bad ok in
     absurd (good_size h.0 h.1 command sized h.3 h.2.1)
 size_refused words (Err (Help text)) bad sized ok err = absurd (no_kind (fault_of rmelab words) err.0 bad.0 err.1)
-size_refused words (Err (Refused text)) bad sized ok (inl entry) =
-    let h = both_of words HasBadSize HasNoEntry bad entry in
-    absurd (sizeless (codes "explain") h.0 h.1 h.3.0 refl refl refl h.2.1)
+size_refused words (Err (Refused text)) bad sized ok (inl refused) =
+    let h = both_of words HasBadSize HasBadWords bad refused in absurd (ranged h.0 h.1 h.3 h.2.1)
 size_refused words (Err (Refused text)) bad sized ok (inr mistaken) = absurd (no_kind (fault_of rmelab words) mistaken.0 bad.0 mistaken.1)
 size_refused words (Err BadVariant) bad sized ok err =
     let h = both_of words HasBadSize HasBadVariant bad err in absurd (h.2.0 h.3)

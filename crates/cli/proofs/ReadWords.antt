@@ -16,7 +16,7 @@ use Rattle.cli.specs.declared.arguments.words.WordsFault.{WordsFault}
 use Rattle.cli.specs.declared.arguments.words.WordsFault.TheVariants.{Help, Refused, BadVariant, BadSize, Unreadable, OutOfMemory}
 use Rattle.cli.specs.CommandLine.{rmelab, IsParser}
 use Rattle.cli.specs.Given.{Given}
-use Rattle.cli.specs.ReadWords.{Reads, IsCommand, IsFault, IsName, Takes, IsRefusal, IsAnsweredBy, HasNoEntry, HasBadVariant, HasBadSize}
+use Rattle.cli.specs.ReadWords.{Reads, IsCommand, IsFault, IsName, Takes, IsRefusal, IsAnsweredBy, HasBadWords, HasBadVariant, HasBadSize}
 use Rattle.cli.proofs.Texts.{is_other}
 use Rattle.cli.proofs.Stops.{named}
 
@@ -102,7 +102,7 @@ taken P words command fine at h = (fine, subst (λ o. IsSomeAnd o (λ (c : Text 
 refusal_of : (words : List Text) (command : Text × Given) (e : WordsFault) → fault_of rmelab words ≡ [] → subcommand_of rmelab words ≡ Some command
     → IsFault command.0 command.1 e → IsRefusal words e
 refusal_of words command (Help text) fine at h = absurd h
-refusal_of words command (Refused text) fine at h = inl (taken HasNoEntry words command fine at h)
+refusal_of words command (Refused text) fine at h = inl (taken HasBadWords words command fine at h)
 refusal_of words command BadVariant fine at h = taken HasBadVariant words command fine at h
 refusal_of words command BadSize fine at h = taken HasBadSize words command fine at h
 refusal_of words command Unreadable fine at h = absurd h

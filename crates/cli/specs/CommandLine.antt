@@ -56,7 +56,8 @@ abbrev pub variant : Rule
 variant = option (codes "variant")
 
 abbrev pub replay : Shape
-replay = part (codes "replay") (flag (codes "json") ∷ flag (codes "each") ∷ variant ∷ option (codes "image") ∷ option (codes "save") ∷ word (codes "FILE") ∷ [])
+replay = part (codes "replay") (flag (codes "json") ∷ flag (codes "each") ∷ variant ∷ option (codes "algorithm") ∷ option (codes "image")
+    ∷ option (codes "save") ∷ word (codes "FILE") ∷ [])
 
 abbrev pub run : Shape
 run = part (codes "run") (required (number (codes "procs")) ∷ required (number (codes "messages")) ∷ required (number (codes "crash")) ∷ required (number (codes "seed")) ∷ number (codes "width") ∷ [])

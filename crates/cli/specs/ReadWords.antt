@@ -10,8 +10,9 @@ use Rattle.clap.specs.declared.error.kind.ErrorKind.TheVariants as kinds
 use Rattle.crashlab.specs.declared.variant.Variant.{Variant}
 use Rattle.crashlab.specs.declared.variant.Variant.TheVariants.{Right}
 use Rattle.cli.specs.declared.arguments.args.Command.{Command}
-use Rattle.cli.specs.declared.arguments.args.Command.TheVariants.{Replay, Run, Hunt, Explore, Judge, Draw, Shrink, Step, Explain}
+use Rattle.cli.specs.declared.arguments.args.Command.TheVariants.{Replay, ReplayAlgorithm, Run, Hunt, Explore, Judge, Draw, Shrink, Step, Explain}
 use Rattle.cli.specs.declared.arguments.args.ReplayArgs.{ReplayArgs}
+use Rattle.cli.specs.declared.arguments.args.AlgorithmReplayArgs.{AlgorithmReplayArgs}
 use Rattle.cli.specs.declared.arguments.args.RunArgs.{RunArgs}
 use Rattle.cli.specs.declared.arguments.args.HuntArgs.{HuntArgs}
 use Rattle.cli.specs.declared.arguments.args.ExploreArgs.{ExploreArgs}
@@ -39,6 +40,21 @@ pub record IsReplay (given : Given) (args : ReplayArgs) : Type 0 where
   pub image : option_map string_bytes args.image ≡ first_of (codes "image") given
   pub save : option_map string_bytes args.save ≡ first_of (codes "save") given
   pub file : option_map string_bytes args.file ≡ first_of (codes "FILE") given
+  pub no_algorithm : IsNone (first_of (codes "algorithm") given)
+
+-- no variant, no image and no file for the last image are given
+pub record IsAlone (given : Given) : Type 0 where
+  pub variant : IsNone (first_of (codes "variant") given)
+  pub image : IsNone (first_of (codes "image") given)
+  pub save : IsNone (first_of (codes "save") given)
+
+pub record IsAlgorithmReplay (given : Given) (args : AlgorithmReplayArgs) : Type 0 where
+  pub algorithm : Some (string_bytes args.algorithm) ≡ first_of (codes "algorithm") given
+  pub file : option_map string_bytes args.file ≡ first_of (codes "FILE") given
+  pub alone : IsAlone given
+  -- it prints the report alone
+  pub no_json : is_set (codes "json") given ≡ false
+  pub no_each : is_set (codes "each") given ≡ false
 
 abbrev pub run_of : Given → RunArgs
 run_of given = record {
@@ -91,6 +107,7 @@ pub record IsShrink (given : Given) (args : ShrinkArgs) : Type 0 where
 -- the command has this name, and its arguments are those that are given
 abbrev pub IsCommand : Text → Given → Command → Type 0
 IsCommand name given (Replay args) = (name ≡ codes "replay") × IsReplay given args
+IsCommand name given (ReplayAlgorithm args) = (name ≡ codes "replay") × IsAlgorithmReplay given args
 IsCommand name given (Run args) = (name ≡ codes "run") × (args ≡ run_of given)
 IsCommand name given (Hunt args) = (name ≡ codes "hunt") × IsHunt given args
 IsCommand name given (Explore args) = (name ≡ codes "explore") × IsExplore given args
@@ -107,9 +124,14 @@ abbrev pub IsBadBesideImage : Given → Type 0
 IsBadBesideImage given = AsksForNone (codes "right") given
     ⊎ ((variant : Variant) × AsksFor (codes "right") given variant × (variant ≢ Right) × IsSome (first_of (codes "image") given))
 
+-- an algorithm is given beside a variant, an image or a file for the last image
+abbrev pub IsBesideAlgorithm : Given → Type 0
+IsBesideAlgorithm given = IsSome (first_of (codes "algorithm") given) × (IsAlone given → ⊥)
+
 abbrev pub HasBadVariant : Text → Given → Type 0
 HasBadVariant name given = (((name ≡ codes "replay") ⊎ (name ≡ codes "draw")) × IsBadBesideImage given)
-    ⊎ (((name ≡ codes "hunt") ⊎ ((name ≡ codes "explore") ⊎ (name ≡ codes "shrink"))) × AsksForNone [] given)
+    ⊎ ((((name ≡ codes "hunt") ⊎ ((name ≡ codes "explore") ⊎ (name ≡ codes "shrink"))) × AsksForNone [] given)
+    ⊎ ((name ≡ codes "replay") × IsBesideAlgorithm given))
 
 -- a search for stuck states is given a bound on moves
 abbrev pub IsStuckWithin : Given → Type 0
@@ -135,10 +157,19 @@ abbrev pub HasNoEntry : Text → Given → Type 0
 HasNoEntry name given = (name ≡ codes "explain") × IsSome (entry_named given)
     × ((entry : DictionaryEntry) → Some (name_of entry) ≢ entry_named given)
 
+-- of a run of an algorithm each step is asked for, or JSON
+abbrev pub HasNoSteps : Text → Given → Type 0
+HasNoSteps name given = (name ≡ codes "replay") × IsSome (first_of (codes "algorithm") given) × IsAlone given
+    × ((is_set (codes "json") given ≡ true) ⊎ (is_set (codes "each") given ≡ true))
+
+-- words that `clap` takes are refused as it refuses words
+abbrev pub HasBadWords : Text → Given → Type 0
+HasBadWords name given = HasNoEntry name given ⊎ HasNoSteps name given
+
 -- out of memory comes at any time
 abbrev pub IsFault : Text → Given → WordsFault → Type 0
 IsFault name given (Help text) = ⊥
-IsFault name given (Refused text) = HasNoEntry name given
+IsFault name given (Refused text) = HasBadWords name given
 IsFault name given BadVariant = HasBadVariant name given
 IsFault name given BadSize = HasBadSize name given
 IsFault name given Unreadable = ⊥
@@ -175,7 +206,7 @@ IsMistaken words = (kind : ErrorKind) × IsAmong kind (fault_of rmelab words) ×
 
 abbrev pub IsRefusal : List Text → WordsFault → Type 0
 IsRefusal words (Help text) = AsksForHelp words
-IsRefusal words (Refused text) = Takes words HasNoEntry ⊎ IsMistaken words
+IsRefusal words (Refused text) = Takes words HasBadWords ⊎ IsMistaken words
 IsRefusal words BadVariant = Takes words HasBadVariant
 IsRefusal words BadSize = Takes words HasBadSize
 IsRefusal words Unreadable = ⊥

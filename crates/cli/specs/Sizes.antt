@@ -1,7 +1,7 @@
 -- The ranges of the program's numbers (the specification's "Limits").
 use Rattle.std.specs.Prelude.{◌≤◌, ℕ}
 use Rattle.cli.specs.declared.arguments.args.Command.{Command}
-use Rattle.cli.specs.declared.arguments.args.Command.TheVariants.{Replay, Run, Hunt, Explore, Judge, Draw, Shrink, Step, Explain}
+use Rattle.cli.specs.declared.arguments.args.Command.TheVariants.{Replay, ReplayAlgorithm, Run, Hunt, Explore, Judge, Draw, Shrink, Step, Explain}
 use Rattle.cli.specs.declared.arguments.args.HuntArgs.{HuntArgs}
 use Rattle.cli.specs.declared.arguments.args.RunArgs.{RunArgs}
 
@@ -20,6 +20,7 @@ RunFits args = ((1 ≤ args.procs) × (args.procs ≤ 16)) × ((1 ≤ args.messa
 -- the numbers of a command are in their ranges
 abbrev pub IsSized : Command → Type 0
 IsSized (Replay args) = Unit {0}
+IsSized (ReplayAlgorithm args) = Unit {0}
 IsSized (Run args) = RunFits args
 IsSized (Hunt args) = HuntFits args
 IsSized (Explore args) = Unit {0}

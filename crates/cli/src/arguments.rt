@@ -3,4 +3,5 @@
 pub mod args;
 mod argument;
 mod parser;
+mod replay_words;
 pub mod words;

@@ -6,6 +6,7 @@ pub mod explain;
 
 pub use arguments::args::Command;
 pub use arguments::words::{WordsFault, read_words};
+pub use explain::algorithm_refused::AlgorithmRefused;
 pub use explain::dictionary_entry::{DictionaryEntry, ENTRIES, dictionary_entry_named};
 pub use explain::meaning::{Meaning, meaning_of};
 pub use explain::rule::Rule;

@@ -1,3 +1,4 @@
+pub mod AlgorithmReplays
 pub mod Draws
 pub mod Replays
 pub mod Gates

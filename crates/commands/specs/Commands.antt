@@ -19,7 +19,7 @@ use Rattle.schedule.specs.declared.replays.verdict.Verdict.{Verdict}
 use Rattle.crashlab.specs.Shrunk.{Shrinks}
 use Rattle.diagram.specs.StepLines.{verdict_object}
 use Rattle.cli.specs.declared.arguments.args.Command.{Command}
-use Rattle.cli.specs.declared.arguments.args.Command.TheVariants.{Replay, Run, Hunt, Explore, Judge, Draw, Shrink, Step, Explain}
+use Rattle.cli.specs.declared.arguments.args.Command.TheVariants.{Replay, ReplayAlgorithm, Run, Hunt, Explore, Judge, Draw, Shrink, Step, Explain}
 use Rattle.cli.specs.declared.arguments.args.HuntArgs.{HuntArgs}
 use Rattle.cli.specs.declared.arguments.args.RunArgs.{RunArgs}
 use Rattle.cli.specs.Sizes.{HuntFits, RunFits}
@@ -27,6 +27,7 @@ use Rattle.commands.specs.declared.schedules.ending.Ending.{Ending}
 use Rattle.commands.specs.declared.schedules.fault.CommandFault.{CommandFault}
 use Rattle.commands.specs.declared.schedules.fault.CommandFault.TheVariants.{BadSize, Write}
 use Rattle.commands.specs.Conversations.{SessionEnds}
+use Rattle.commands.specs.AlgorithmReplays.{AlgorithmReplayEnds}
 use Rattle.commands.specs.Draws.{DrawEnds}
 use Rattle.commands.specs.Endings.{IsBroken, TellsReads}
 use Rattle.commands.specs.Folders.{Used}
@@ -105,6 +106,7 @@ ExplainEnds dictionary_entry before now end = (outcome end ≡ Ok 0) × Explains
 -- by the command and the text of its image; by what was read of the input and written, before and after
 abbrev pub CommandEnds : Command → Option (List ℕ) → Reading → Reading → Tape → Tape → Result Ending CommandFault → Type 0
 CommandEnds (Replay args) image old new before now end = ReplayEnds args image old new before now end
+CommandEnds (ReplayAlgorithm args) image old new before now end = AlgorithmReplayEnds old new before now end
 CommandEnds (Run args) image old new before now end = RunEnds args end
 CommandEnds (Hunt args) image old new before now end = HuntEnds args before now end
 CommandEnds (Explore args) image old new before now end = ExploreEnds args before now end

@@ -1,3 +1,5 @@
+pub mod AlgorithmFaults
+pub mod AlgorithmReplays
 pub mod Shown
 pub mod Draws
 pub mod Endings

@@ -2,7 +2,8 @@
 use Rattle.std.specs.Prelude.{◌≡◌, ℕ, ◌+◌, ◌-◌, ◌^◌, ◌⊎◌, min, List, [], ◌∷◌, ◌++◌, codes}
 use Rattle.std.specs.Fmt.{decimal}
 use Rattle.commands.specs.declared.schedules.fault.CommandFault.{CommandFault}
-use Rattle.commands.specs.declared.schedules.fault.CommandFault.TheVariants.{Text, Refused, Image, BadVariant, BadSize, Read, Write, OutOfMemory, Member, TooManyStates}
+use Rattle.commands.specs.declared.schedules.fault.CommandFault.TheVariants.{Text, Refused, Image, Algorithm, BadVariant, BadSize, Read, Write, OutOfMemory, Member, TooManyStates}
+use Rattle.commands.specs.AlgorithmFaults.{number_of_text_fault, sentence_of}
 use Rattle.schedule.specs.Words.{line_of}
 use Rattle.schedule.specs.Tapes.{Begins, Tape, Writes}
 
@@ -15,6 +16,9 @@ abbrev pub words_of_fault : CommandFault → List (List ℕ)
 words_of_fault (Text line number) = words_of_place line (codes "fault") number
 words_of_fault (Refused line number) = words_of_place line (codes "refused") number
 words_of_fault (Image rule) = codes "image:" ∷ codes "rule" ∷ decimal rule ∷ []
+words_of_fault (Algorithm line fault) =
+    codes "algorithm" ∷ codes "line" ∷ (decimal line ++ codes ":") ∷ codes "fault" ∷ (decimal (number_of_text_fault fault) ++ codes ":")
+    ∷ sentence_of fault ∷ []
 words_of_fault BadVariant = codes "bad" ∷ codes "variant" ∷ []
 words_of_fault BadSize = codes "bad" ∷ codes "size" ∷ []
 words_of_fault Read = codes "read" ∷ codes "failed" ∷ []

@@ -17,6 +17,7 @@ use crate::progress::meter::Meter;
 use crate::progress::screen::{NoScreen, Screen};
 use crate::progress::work::Work;
 use crate::running::run_command;
+use crate::schedules::algorithm::algorithm_replay_command;
 use crate::schedules::drawn::draw_command;
 use crate::schedules::ending::{Ending, status_after_verdict};
 use crate::schedules::fault::CommandFault;
@@ -186,6 +187,7 @@ pub fn ended<T: Threads + Wait + Sync, F: Folder, S: Screen, R: Source, W: Sink>
 {
     match command {
         Command::Replay(args) => replay_command(alloc, args, image, r, w),
+        Command::ReplayAlgorithm(_) => algorithm_replay_command(alloc, image, r, w),
         Command::Judge(args) => judge_command(alloc, args.json, r, w),
         Command::Draw(args) => draw_command(alloc, args, image, r, w),
         Command::Shrink(args) => shrink_command(alloc, args, r, w),

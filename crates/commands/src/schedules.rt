@@ -1,5 +1,6 @@
 //! The commands that read a schedule: `replay`, `draw` and `shrink`. And how any command ends, and the line of a fault.
 
+pub mod algorithm;
 pub mod drawn;
 pub mod ending;
 pub mod fault;

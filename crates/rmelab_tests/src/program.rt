@@ -2,6 +2,8 @@
 //! memory is refused in turn. Tests alone: each names public functions of `commands` and of the crates below it.
 
 #[cfg(test)]
+mod algorithm_texts;
+#[cfg(test)]
 mod drawings;
 #[cfg(test)]
 mod explains;

@@ -64,6 +64,7 @@ pub fn runs_threads(read: &Command) -> bool {
     match read {
         Command::Run(_) => true,
         Command::Replay(_)
+        | Command::ReplayAlgorithm(_)
         | Command::Hunt(_)
         | Command::Explore(_)
         | Command::Judge(_)

@@ -22,6 +22,15 @@ pub struct ReplayArgs {
     pub file: Option<String>,
 }
 
+/// `replay --algorithm`: runs a schedule on an algorithm, and prints its report.
+#[derive(Debug, Drop, PartialEq, Eq)]
+pub struct AlgorithmReplayArgs {
+    /// The file of the algorithm's text.
+    pub algorithm: String,
+    /// The schedule's file; without one, standard input.
+    pub file: Option<String>,
+}
+
 /// `run`: senders send through the running lock, each on a thread of its own, and crash at random.
 #[derive(Clone, Copy, Debug, PartialEq, Eq)]
 pub struct RunArgs {
@@ -119,6 +128,7 @@ pub struct ShrinkArgs {
 #[derive(Debug, Drop, PartialEq, Eq)]
 pub enum Command {
     Replay(ReplayArgs),
+    ReplayAlgorithm(AlgorithmReplayArgs),
     Run(RunArgs),
     Hunt(HuntArgs),
     Explore(ExploreArgs),
@@ -140,6 +150,7 @@ impl Command {
     {
         match self {
             Command::Replay(args) => args.file.as_ref(),
+            Command::ReplayAlgorithm(args) => args.file.as_ref(),
             Command::Judge(args) => args.file.as_ref(),
             Command::Draw(args) => args.file.as_ref(),
             Command::Shrink(args) => args.file.as_ref(),
@@ -153,6 +164,7 @@ impl Command {
     {
         match self {
             Command::Replay(args) => args.image.as_ref(),
+            Command::ReplayAlgorithm(args) => Some(&args.algorithm),
             Command::Draw(args) => args.image.as_ref(),
             Command::Step(file) => file.as_ref(),
             _ => None,

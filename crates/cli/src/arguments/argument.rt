@@ -93,6 +93,14 @@ impl<'a> Argument<'a> {
         Argument::text("variant", "V", names)
     }
 
+    /// `--algorithm FILE`.
+    pub fn algorithm() -> Argument<'a>
+        ensures { rule_of_argument result ≡ option (codes "algorithm") }
+    {
+        let help = "Run this algorithm, a text, in place of a variant";
+        Argument::text("algorithm", "FILE", help)
+    }
+
     /// `--image FILE`.
     pub fn image() -> Argument<'a>
         ensures { rule_of_argument result ≡ option (codes "image") }

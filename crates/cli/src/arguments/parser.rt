@@ -13,8 +13,8 @@ input, 3 a fault of a device, of memory or of a member, or too many states in `e
 
 const REPLAY_HELP: &str =
     "In: a schedule, as `rme 1 procs 2 limit 10 cap 1`, then lines such as `lock 0`, `step 0 5`, \
-`crash 0`, each ended by a line feed.\nOut: its report: the deeds and answers of each step, the last words, the mailbox and \
-the verdict; with --each --json an object for each step, between the images before and after them, and the verdict.\nExit status: 0 where the verdict is fine, 1 where it is against, 2 after a fault of the words, the schedule or the image, 3 \
+`crash 0`, each ended by a line feed. With --algorithm the algorithm's text is read first: docs/use/algorithms.md.\nOut: its report: the deeds and answers of each step, the last words, the mailbox and \
+the verdict; with --each --json an object for each step, between the images before and after them, and the verdict.\nExit status: 0 where the verdict is fine, 1 where it is against, 2 after a fault of the words, the schedule, the algorithm or the image, 3 \
 after one of a device or of memory.\n\nExample: rmelab replay examples/tie.rme";
 
 const RUN_HELP: &str =
@@ -105,6 +105,7 @@ fn replay<'a>(alloc: Global) -> Result<Parser<'a>, AllocError>
             "Tell each step, with its word and where its process stands",
         ),
         Argument::variant(),
+        Argument::algorithm(),
         Argument::image(),
         Argument::text("save", "FILE", "Write the last image to this file"),
         Argument::file("The schedule; without it, standard input is read"),

@@ -12,9 +12,10 @@ ghost use Rattle.cli.specs.ReadWords.{HasBadVariant, HasBadSize, IsCommand, Read
 ghost use Rattle.cli.specs.Sizes.{IsSized, HuntFits, RunFits};
 
 use crate::arguments::args::{
-    Alphabet, Command, DrawArgs, ExploreArgs, HuntArgs, JudgeArgs, ReplayArgs, RunArgs, ShrinkArgs,
+    Alphabet, Command, DrawArgs, ExploreArgs, HuntArgs, JudgeArgs, RunArgs, ShrinkArgs,
 };
 use crate::arguments::parser::parser;
+use crate::arguments::replay_words::replay_words;
 use crate::explain::dictionary_entry::{DictionaryEntry, dictionary_entry_named};
 use clap::error::ErrorKind;
 use clap::{ArgMatches, Error};
@@ -31,10 +32,12 @@ pub enum WordsFault {
     /// The help or the version that was asked for. It is printed; the exit status is 0.
     #[error("{text}")]
     Help { text: String },
-    /// The error text of `clap`, or that the words name no entry. It is printed to standard error; the exit status is 2.
+    /// The error text of `clap`, that the words name no entry, or that `--json` or `--each` is beside `--algorithm`. It is printed
+    /// to standard error; the exit status is 2.
     #[error("{text}")]
     Refused { text: String },
-    /// There is no such variant, or it isn't `right` and an image is given; the exit status is 2.
+    /// There is no such variant, it isn't `right` and an image is given, or an algorithm is given beside a variant, an image or a
+    /// file for the last image; the exit status is 2.
     #[error("bad variant")]
     BadVariant,
     /// A number of `run` or `hunt` is outside its range, a call of `explore` is none, or `--stuck` is beside `--moves`; the exit
@@ -88,13 +91,13 @@ fn variant_named(name: &str) -> Option<Variant>
 }
 
 /// The text with this name.
-fn str_of<'a>(matches: &ArgMatches<'a>, name: &str) -> Option<&'a str>
+pub(crate) fn str_of<'a>(matches: &ArgMatches<'a>, name: &str) -> Option<&'a str>
     ensures { option_map (λ text. text.now) result ≡ first_of name.now (given_in matches.now) }
 {
     matches.get_str(name)
 }
 
-fn text_of(
+pub(crate) fn text_of(
     alloc: Global,
     matches: &ArgMatches<'_>,
     name: &str,
@@ -107,7 +110,7 @@ fn text_of(
     }
 }
 
-fn is_set(matches: &ArgMatches<'_>, name: &str) -> bool
+pub(crate) fn is_set(matches: &ArgMatches<'_>, name: &str) -> bool
     ensures { result ≡ is_set name.now (given_in matches.now) }
 {
     matches.get_one::<bool>(name).unwrap_or(false)
@@ -136,7 +139,7 @@ fn variant_of(matches: &ArgMatches<'_>, without: &str) -> Result<Variant, WordsF
 }
 
 /// The variant that is asked for; without one, `right`. Only `right` goes with an image.
-fn variant_beside_image(matches: &ArgMatches<'_>) -> Result<Variant, WordsFault>
+pub(crate) fn variant_beside_image(matches: &ArgMatches<'_>) -> Result<Variant, WordsFault>
     ensures found { IfOk result (GoesWithImage (given_in matches.now)) }
     ensures bad { OnErr result (IsErrOf result WordsFault.BadVariant × IsBadBesideImage (given_in matches.now)) }
 {
@@ -145,19 +148,6 @@ fn variant_beside_image(matches: &ArgMatches<'_>) -> Result<Variant, WordsFault>
         return Err(WordsFault::BadVariant);
     }
     Ok(variant)
-}
-
-fn replay_words(alloc: Global, matches: &ArgMatches<'_>) -> Result<Command, WordsFault>
-    ensures { Reads (codes "replay") (given_in matches.now) result }
-{
-    Ok(Command::Replay(ReplayArgs {
-        json: is_set(matches, "json"),
-        each: is_set(matches, "each"),
-        variant: variant_beside_image(matches)?,
-        image: text_of(alloc, matches, "image")?,
-        save: text_of(alloc, matches, "save")?,
-        file: text_of(alloc, matches, "FILE")?,
-    }))
 }
 
 fn style_of(matches: &ArgMatches<'_>) -> Style
@@ -440,7 +430,8 @@ fn refused(alloc: Global, error: &Error) -> Result<WordsFault, AllocError>
 }
 
 /// Reads the words of a command line. The first word is the program's name. A refusal by `clap` is found first, then a bad
-/// variant, then a bad size. Words of `explain` that name no entry are refused in the same way as by `clap`.
+/// variant, then a bad size. Words of `explain` that name no entry are refused in the same way as by `clap`, and so are `--json`
+/// and `--each` with `--algorithm`.
 pub fn read_words(alloc: Global, words: &[String]) -> Result<Command, WordsFault>
     ensures sized { IfOk result IsSized }
     ensures command { IfOk result (λ command. Takes (texts_of words.now) (λ name given. IsCommand name given command)) }

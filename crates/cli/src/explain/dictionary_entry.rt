@@ -3,8 +3,10 @@
 ghost use Rattle.std.specs.Prelude.{◌≡◌, ◌≢◌, ◌↔◌, All, IfSome, IsNone, true};
 ghost use Rattle.cli.specs.Names.{name_of};
 
+use crate::explain::algorithm_refused::AlgorithmRefused;
 use crate::explain::meaning::meaning_of;
 use crate::explain::rule::Rule;
+use algorithms::LineFault as AlgorithmFault;
 use redomail::Reply;
 use rmecore::{Fault, Found, Kind, Refusal};
 use rmeworld::Answer;
@@ -17,6 +19,8 @@ pub enum DictionaryEntry {
     Fault(LineFault),
     /// A refusal of a call.
     Refused(Refusal),
+    /// A refusal that runs of an algorithm's text have alone.
+    AlgorithmRefused(AlgorithmRefused),
     /// A rule of an image.
     Rule(Rule),
     /// A fault that a judge finds.
@@ -25,10 +29,12 @@ pub enum DictionaryEntry {
     Answer(Answer),
     /// A kind of step.
     Step(Kind),
+    /// A fault of an algorithm's text.
+    AlgorithmFault(AlgorithmFault),
 }
 
 /// All entries that can be explained: one for each name.
-pub const ENTRIES: [DictionaryEntry; 74] = [
+pub const ENTRIES: [DictionaryEntry; 95] = [
     DictionaryEntry::Fault(LineFault::NoHeader),
     DictionaryEntry::Fault(LineFault::BadWord),
     DictionaryEntry::Fault(LineFault::BadNumber),
@@ -50,6 +56,9 @@ pub const ENTRIES: [DictionaryEntry; 74] = [
     DictionaryEntry::Refused(Refusal::BadIndex),
     DictionaryEntry::Refused(Refusal::NotWaiting),
     DictionaryEntry::Refused(Refusal::BadWidth),
+    DictionaryEntry::AlgorithmRefused(AlgorithmRefused::OutOfRange),
+    DictionaryEntry::AlgorithmRefused(AlgorithmRefused::NoSuchCall),
+    DictionaryEntry::AlgorithmRefused(AlgorithmRefused::Malformed),
     DictionaryEntry::Refused(Refusal::OutOfMemory),
     DictionaryEntry::Rule(Rule::Form),
     DictionaryEntry::Rule(Rule::Version),
@@ -103,6 +112,24 @@ pub const ENTRIES: [DictionaryEntry; 74] = [
     DictionaryEntry::Step(Kind::Get),
     DictionaryEntry::Step(Kind::Put),
     DictionaryEntry::Step(Kind::Glance),
+    DictionaryEntry::AlgorithmFault(AlgorithmFault::NoHeader),
+    DictionaryEntry::AlgorithmFault(AlgorithmFault::BadCharacter),
+    DictionaryEntry::AlgorithmFault(AlgorithmFault::NoNewline),
+    DictionaryEntry::AlgorithmFault(AlgorithmFault::BadForm),
+    DictionaryEntry::AlgorithmFault(AlgorithmFault::NameTaken),
+    DictionaryEntry::AlgorithmFault(AlgorithmFault::UnknownName),
+    DictionaryEntry::AlgorithmFault(AlgorithmFault::TwoAccesses),
+    DictionaryEntry::AlgorithmFault(AlgorithmFault::NotAssignable),
+    DictionaryEntry::AlgorithmFault(AlgorithmFault::BadBlock),
+    DictionaryEntry::AlgorithmFault(AlgorithmFault::BadLabel),
+    DictionaryEntry::AlgorithmFault(AlgorithmFault::Unset),
+    DictionaryEntry::AlgorithmFault(AlgorithmFault::Endless),
+    DictionaryEntry::AlgorithmFault(AlgorithmFault::NoStep),
+    DictionaryEntry::AlgorithmFault(AlgorithmFault::FallsOff),
+    DictionaryEntry::AlgorithmFault(AlgorithmFault::BadDeed),
+    DictionaryEntry::AlgorithmFault(AlgorithmFault::TooBig),
+    DictionaryEntry::AlgorithmFault(AlgorithmFault::BadCall),
+    DictionaryEntry::AlgorithmFault(AlgorithmFault::NeverReached),
 ];
 
 /// Whether the entry has this name.

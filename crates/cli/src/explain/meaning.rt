@@ -3,6 +3,7 @@
 ghost use Rattle.std.specs.Prelude.{◌≡◌};
 ghost use Rattle.cli.specs.Names.{name_of};
 
+use crate::explain::algorithm_texts::{of_algorithm_fault, of_algorithm_refused};
 use crate::explain::answers::of_answer;
 use crate::explain::dictionary_entry::DictionaryEntry;
 use crate::explain::refusals::of_refusal;
@@ -27,9 +28,11 @@ pub fn meaning_of(dictionary_entry: DictionaryEntry) -> Meaning
     match dictionary_entry {
         DictionaryEntry::Fault(fault) => of_line_fault(fault),
         DictionaryEntry::Refused(refusal) => of_refusal(refusal),
+        DictionaryEntry::AlgorithmRefused(refused) => of_algorithm_refused(refused),
         DictionaryEntry::Rule(rule) => of_rule(rule),
         DictionaryEntry::Against(fault) => of_judge_fault(fault),
         DictionaryEntry::Answer(answer) => of_answer(answer),
         DictionaryEntry::Step(kind) => of_kind(kind),
+        DictionaryEntry::AlgorithmFault(fault) => of_algorithm_fault(fault),
     }
 }

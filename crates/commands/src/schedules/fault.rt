@@ -4,6 +4,7 @@ ghost use Rattle.std.specs.Prelude.{◌≡◌, ◌≤◌};
 ghost use Rattle.commands.specs.declared.schedules.fault.CommandFault.TheVariants.{OutOfMemory};
 ghost use Rattle.commands.specs.Statuses.{fault_of_replay, fault_of_text};
 
+use algorithms::LineFault;
 use schedule::{OutOfMemory as NoMemory, ReplayFault, TextFault};
 use std::alloc::{AllocError, AllocFailed};
 use thiserror::Error;
@@ -20,6 +21,9 @@ pub enum CommandFault {
     /// The image breaks this rule.
     #[error("image: rule {rule}")]
     Image { rule: u64 },
+    /// This line of the algorithm's text is at fault; lines count from 1.
+    #[error("algorithm line {line}: {fault}")]
+    Algorithm { line: u64, fault: LineFault },
     /// There is no such variant, or it isn't `right` and an image is given.
     #[error("bad variant")]
     BadVariant,
@@ -55,6 +59,7 @@ impl CommandFault {
             CommandFault::Text { .. }
             | CommandFault::Refused { .. }
             | CommandFault::Image { .. }
+            | CommandFault::Algorithm { .. }
             | CommandFault::BadVariant
             | CommandFault::BadSize => 2,
             CommandFault::Read

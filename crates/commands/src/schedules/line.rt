@@ -2,10 +2,13 @@
 
 ghost use Rattle.std.specs.Prelude.{◌≡◌, ◌+◌, ◌≤◌, ◌++◌, ◌∷◌, [], codes, length};
 ghost use Rattle.std.specs.Fmt.{decimal};
+ghost use Rattle.commands.specs.AlgorithmFaults.{number_of_text_fault, sentence_of};
 ghost use Rattle.commands.specs.Lines.{fault_line, IsTold};
 ghost use Rattle.commands.specs.Statuses.{status_of};
 
+use crate::algorithm_fault::{number_of_text_fault, sentence_of};
 use crate::schedules::fault::CommandFault;
+use algorithms::LineFault;
 use arrayvec::ArrayString;
 use itoa::Buffer;
 use schedule::Sink;
@@ -29,6 +32,20 @@ fn line_of_place(at: u64, cause: &str, number: u64) -> ArrayString<128>
     let mut line = ArrayString::new();
     put(&mut line, "rmelab: line ", at);
     put(&mut line, cause, number);
+    line.push_str("\n");
+    line
+}
+
+/// The line for a fault of a line of an algorithm's text.
+fn line_of_algorithm(at: u64, fault: LineFault) -> ArrayString<128>
+    ensures { result.bytes ≡ codes "rmelab: algorithm line " ++ decimal at ++ codes ": fault " ++ decimal (number_of_text_fault fault)
+        ++ codes ": " ++ sentence_of fault ++ 10 ∷ [] }
+{
+    let mut line = ArrayString::new();
+    put(&mut line, "rmelab: algorithm line ", at);
+    put(&mut line, ": fault ", number_of_text_fault(fault));
+    line.push_str(": ");
+    line.push_str(sentence_of(fault));
     line.push_str("\n");
     line
 }
@@ -60,6 +77,7 @@ pub fn line_of(fault: CommandFault) -> ArrayString<128>
     match fault {
         CommandFault::Text { line, number } => line_of_place(line, ": fault ", number),
         CommandFault::Refused { line, number } => line_of_place(line, ": refused ", number),
+        CommandFault::Algorithm { line, fault } => line_of_algorithm(line, fault),
         CommandFault::Image { rule } => line_around("rmelab: image: rule ", rule, "\n"),
         CommandFault::Member { p } => line_around("rmelab: member ", p, " failed\n"),
         CommandFault::BadVariant => line_of_text("rmelab: bad variant\n"),

@@ -35,16 +35,17 @@ Arguments:
   [FILE]  The schedule; without it, standard input is read
 
 Options:
-      --json          Print one JSON object of the report's lines; with --each an object for each step
-      --each          Tell each step, with its word and where its process stands
-      --variant <V>   right, no-look, no-ties, renumber, exit-on-crash, count-up or last-skipped
-      --image <FILE>  Begin with the words of this image, every process crashed
-      --save <FILE>   Write the last image to this file
-  -h, --help          Print help
+      --json              Print one JSON object of the report's lines; with --each an object for each step
+      --each              Tell each step, with its word and where its process stands
+      --variant <V>       right, no-look, no-ties, renumber, exit-on-crash, count-up or last-skipped
+      --algorithm <FILE>  Run this algorithm, a text, in place of a variant
+      --image <FILE>      Begin with the words of this image, every process crashed
+      --save <FILE>       Write the last image to this file
+  -h, --help              Print help
 
-In: a schedule, as `rme 1 procs 2 limit 10 cap 1`, then lines such as `lock 0`, `step 0 5`, `crash 0`, each ended by a line feed.
+In: a schedule, as `rme 1 procs 2 limit 10 cap 1`, then lines such as `lock 0`, `step 0 5`, `crash 0`, each ended by a line feed. With --algorithm the algorithm's text is read first: docs/use/algorithms.md.
 Out: its report: the deeds and answers of each step, the last words, the mailbox and the verdict; with --each --json an object for each step, between the images before and after them, and the verdict.
-Exit status: 0 where the verdict is fine, 1 where it is against, 2 after a fault of the words, the schedule or the image, 3 after one of a device or of memory.
+Exit status: 0 where the verdict is fine, 1 where it is against, 2 after a fault of the words, the schedule, the algorithm or the image, 3 after one of a device or of memory.
 
 Example: rmelab replay examples/tie.rme
 ";

@@ -26,6 +26,9 @@ refused 12
 refused 13
 refused 14
 refused 15
+refused 16
+refused 17
+refused 18
 out of memory
 rule 1
 rule 2
@@ -79,6 +82,24 @@ step reread
 step get
 step put
 step glance
+algorithm fault 1
+algorithm fault 2
+algorithm fault 3
+algorithm fault 4
+algorithm fault 5
+algorithm fault 6
+algorithm fault 7
+algorithm fault 8
+algorithm fault 9
+algorithm fault 10
+algorithm fault 11
+algorithm fault 12
+algorithm fault 13
+algorithm fault 14
+algorithm fault 15
+algorithm fault 16
+algorithm fault 17
+algorithm fault 18
 ";
 
 pub const NO_NEWLINE: &str =
@@ -125,6 +146,16 @@ const LOOK: &str =
 See docs/theory/model.md, Step.
 ";
 
+const OUT_OF_RANGE: &str =
+    "refused 16: A value leaves 0 to 18446744073709551615, a division is by 0, an index is no process, or a store is above its bound. The start or the step is refused, and nothing changes.
+See docs/use/algorithms.md, Meaning.
+";
+
+const TWO_ACCESSES: &str =
+    "algorithm fault 7: A shared word stands within a value, a condition or an index, or is stored into another. One line is one access: read the word into a private name in a line of its own.
+See docs/use/algorithms.md, Faults of a text.
+";
+
 #[test]
 fn explanations(rt: HostRuntime) -> Result<(), Fail> {
     let rows = [
@@ -138,6 +169,8 @@ fn explanations(rt: HostRuntime) -> Result<(), Fail> {
         invoked("rmelab explain answer found left", "", FOUND_LEFT),
         invoked("rmelab explain answer already", "", ALREADY),
         invoked("rmelab explain step look", "", LOOK),
+        invoked("rmelab explain refused 16", "", OUT_OF_RANGE),
+        invoked("rmelab explain algorithm fault 7", "", TWO_ACCESSES),
     ];
     all_come_to(&rt, rt.alloc(), &rows)
 }

@@ -15,6 +15,19 @@ returns-in-Replay-clause-ends g c =
     (sym c.in-Replay.is)
     c.replay_command.ensures.ends
 
+-- a replay on an algorithm as `algorithm_replay_command` says
+pub returns-in-ReplayAlgorithm-clause-ends : goal.returns-in-ReplayAlgorithm-clause-ends
+returns-in-ReplayAlgorithm-clause-ends g c =
+    subst
+    (λ command. CommandEnds command (option_copied c.args.image)
+    (g.R.Source.reading c.args.r.now)
+    (g.R.Source.reading c.algorithm_replay_command.new.r)
+    (g.W.Sink.tape c.args.w.now)
+    (g.W.Sink.tape c.algorithm_replay_command.new.w)
+    c.algorithm_replay_command.result)
+    (sym c.in-ReplayAlgorithm.is)
+    c.algorithm_replay_command.ensures.ends
+
 -- a drawing as `draw_command` says
 pub returns-in-Draw-clause-ends : goal.returns-in-Draw-clause-ends
 returns-in-Draw-clause-ends g c =

@@ -1,0 +1,6 @@
+pub mod Refusals
+pub mod Heard
+pub mod Monitors
+pub mod Runs
+pub mod Reports
+pub mod Replays

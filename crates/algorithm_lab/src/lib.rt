@@ -1,0 +1,19 @@
+//! The laboratory over algorithms as texts: runs of schedules before the judge, and their reports.
+#![tactic(auto)]
+
+mod heard;
+pub mod judging;
+pub mod monitor;
+pub mod playing;
+pub mod replay_fault;
+pub mod replaying;
+mod report;
+pub mod run_refusal;
+pub mod told;
+
+pub use monitor::Monitor;
+pub use playing::play_lines;
+pub use replay_fault::AlgorithmReplayFault;
+pub use replaying::replay_algorithm;
+pub use run_refusal::RunRefusal;
+pub use told::Told;

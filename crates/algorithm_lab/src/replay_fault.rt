@@ -1,0 +1,40 @@
+//! Why a replay of an algorithm has no verdict.
+
+ghost use Rattle.std.specs.Prelude.{◌≡◌};
+ghost use Rattle.algorithm_lab.specs.declared.replay_fault.AlgorithmReplayFault.TheVariants.{OutOfMemory as ReplayOutOfMemory, Write as ReplayWrite};
+
+use crate::run_refusal::RunRefusal;
+use schedule::Failed;
+use std::alloc::AllocError;
+use thiserror::Error;
+
+/// Why a replay of an algorithm has no verdict. Lines count from 1.
+#[derive(Clone, Copy, Debug, PartialEq, Eq, Error)]
+pub enum AlgorithmReplayFault {
+    /// A line is refused. What was reported before was written. Line 1 is refused where the algorithm has no world of the sizes
+    /// that the schedule names.
+    #[error("line {line}: {refusal}")]
+    Refused { line: u64, refusal: RunRefusal },
+    /// The sink failed. It has taken a beginning of the report.
+    #[error("write failed")]
+    Write,
+    /// Out of memory. Nothing was written.
+    #[error("out of memory")]
+    OutOfMemory,
+}
+
+impl From<AllocError> for AlgorithmReplayFault {
+    ghost from_gives = { λ _ e. e ≡ ReplayOutOfMemory };
+
+    fn from(_e: AllocError) -> AlgorithmReplayFault {
+        AlgorithmReplayFault::OutOfMemory
+    }
+}
+
+impl From<Failed> for AlgorithmReplayFault {
+    ghost from_gives = { λ _ e. e ≡ ReplayWrite };
+
+    fn from(_e: Failed) -> AlgorithmReplayFault {
+        AlgorithmReplayFault::Write
+    }
+}

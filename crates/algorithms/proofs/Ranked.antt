@@ -1,0 +1,148 @@
+-- Lines that fall: a run of local lines ends.
+use Rattle.std.proofs.Common.{ℕ, zero, suc, ◌+◌, ◌^◌, ◌<◌, ◌≤◌, ◌≡◌, Bool, true, false, cond, ◌&&◌, ◌||◌, nat_lt, nat_eq, refl, sym, ◌∙◌, ap, List, length, Option, Some, None, Ok, Err, ok_or, slice_get, slice_index, option_and_then, arith}
+use Rattle.std.proofs.lemmas.Bool.{leb-true, lt-ltb, ltb-true}
+use Rattle.std.proofs.lemmas.Option.{slice_get_within}
+use Rattle.algorithms.specs.Values.{evaluated, holds, fitting}
+use Rattle.algorithms.specs.LocalRuns.{at_place, with_value, with_deed, least_from, member_from, round_at, local_line_done}
+use Rattle.algorithms.specs.Arrivals.{arrives, arrives_after, local_step_of, ◌>>=◌}
+use Rattle.algorithms.specs.Ranked.{rank_of, is_line_below, is_below, has_round, ways_pass, is_line, form_falls, AllFall, LocalLinesEnd, AccessesLeadOn}
+use Rattle.algorithms.specs.declared.algorithm.Algorithm.{Algorithm}
+use Rattle.algorithms.specs.declared.constants.Constants.{Constants}
+use Rattle.algorithms.specs.declared.line.Form.{Form}
+use Rattle.algorithms.specs.declared.line.Form.TheVariants.{Access, Local, Done}
+use Rattle.algorithms.specs.declared.line.Line.{Line}
+use Rattle.algorithms.specs.declared.line.LocalLine.{LocalLine}
+use Rattle.algorithms.specs.declared.line.LocalLine.TheVariants.{Assign, Note, Goto, Branch, First, Next}
+use Rattle.algorithms.specs.declared.line.Members.{Members}
+use Rattle.algorithms.specs.declared.line.Members.TheVariants.{All, Others, Lower, Higher}
+use Rattle.algorithms.specs.declared.local.LocalState.{LocalState}
+use Rattle.algorithms.specs.declared.local.LocalStep.TheVariants.{GoesOn}
+use Rattle.algorithms.specs.declared.refusal.AlgorithmRefusal.TheVariants.{OutOfRange, Malformed}
+
+-- both parts of a test that passes
+left_of : (a b : Bool) → a && b ≡ true → a ≡ true
+left_of true b h = refl
+left_of false b h = h
+
+right_of : (a b : Bool) → a && b ≡ true → b ≡ true
+right_of true b h = h
+right_of false b h = absurd (cc)
+
+-- what is so of the value that a chain has is so of its end
+bind_lands : {A : Type 0} (test : ℕ → Bool) (o : Option A) (g : A → Option LocalState) (t : LocalState) → option_and_then g o ≡ Some t
+    → ((v : A) → g v ≡ Some t → test t.at ≡ true) → test t.at ≡ true
+bind_lands test None g t e h = absurd (cc)
+bind_lands test (Some v) g t e h = h v e
+
+some_lands : (test : ℕ → Bool) (u t : LocalState) → Some u ≡ Some t → test u.at ≡ true → test t.at ≡ true
+some_lands test u t e h = let same : u ≡ t = cc in ap (λ x. test x.at) (sym same) ∙ h
+
+-- a loop leads to its body or past its end
+round_lands : (test : ℕ → Bool) (name body after : ℕ) (s : LocalState) (o : Option ℕ) → test body ≡ true → (o ≡ None → test after ≡ true) → test (round_at name body after s o).at ≡ true
+round_lands test name body after s (Some j) b a = b
+round_lands test name body after s None b a = a refl
+
+fitting_some : (n m : ℕ) → n < m → fitting (nat_lt n m) n ≡ None → ⊥
+fitting_some n m low e = let h : fitting true n ≡ None = ap (λ b. fitting b n) (sym (lt-ltb n m low)) ∙ e in cc
+
+one_or_none : (b : Bool) (n : ℕ) → 2 ≤ n → cond b (0 + 1) 0 < n
+one_or_none true n h = omega arith
+one_or_none false n h = omega arith
+
+others_some : (c : Constants) → c.me < c.procs → 2 ≤ c.procs → least_from c Others 0 ≡ None → ⊥
+others_some c own two e = fitting_some (member_from c Others 0) c.procs (one_or_none (nat_eq 0 c.me) c.procs two) e
+
+-- a loop that has a round in each world has a first member
+first_member : (least : ℕ) (members : Members) (c : Constants) → has_round least members ≡ true → c.me < c.procs → least ≤ c.procs → least_from c members 0 ≡ None → ⊥
+first_member least All c r own many e = fitting_some 0 c.procs (omega arith) e
+first_member least Others c r own many e = let two : 2 ≤ least = leb-true 2 least r in others_some c own (omega arith) e
+first_member least Lower c r own many e = absurd (cc)
+first_member least Higher c r own many e = absurd (cc)
+
+or_first : (a b : Bool) → a || b ≡ true → (a ≡ true → ⊥) → b ≡ true
+or_first true b h never = absurd (never refl)
+or_first false b h never = h
+
+-- a local line leads to one of its ways
+goes_a_way : (test : ℕ → Bool) (least next : ℕ) (c : Constants) (s t : LocalState) (line : LocalLine) → c.me < c.procs → least ≤ c.procs
+    → ways_pass test least next line ≡ true → local_line_done c next line s ≡ Some t → test t.at ≡ true
+goes_a_way test least next c s t (Assign name value) own many w e =
+    bind_lands test (evaluated c s.store value) (λ v. Some (at_place next (with_value name v s))) t e (λ v f. some_lands test (at_place next (with_value name v s)) t f w)
+goes_a_way test least next c s t (Note deed) own many w e =
+    bind_lands test (with_deed deed s) (λ u. Some (at_place next u)) t e (λ u f. some_lands test (at_place next u) t f w)
+goes_a_way test least next c s t (Goto place) own many w e = some_lands test (at_place place s) t e w
+goes_a_way test least next c s t (Branch condition otherwise) own many w e =
+    bind_lands test (holds c s.store condition) (λ b. Some (at_place (cond b next otherwise) s)) t e
+    (λ b f. some_lands test (at_place (cond b next otherwise) s) t f
+    (elim b as (λ v. test (cond v next otherwise) ≡ true) [ true ↦ left_of (test next) (test otherwise) w | false ↦ right_of (test next) (test otherwise) w ]))
+goes_a_way test least next c s t (First name members after) own many w e =
+    some_lands test (round_at name next after s (least_from c members 0)) t e
+    (round_lands test name next after s (least_from c members 0) (left_of (test next) (has_round least members || test after) w)
+    (λ none. or_first (has_round least members) (test after) (right_of (test next) (has_round least members || test after) w)
+    (λ r. first_member least members c r own many none)))
+goes_a_way test least next c s t (Next name members body) own many w e =
+    bind_lands test (slice_get s.store name) (λ j. option_and_then (λ further. Some (round_at name body next s (least_from c members further))) (fitting (nat_lt (j + 1) (2 ^ 64)) (j + 1))) t e
+    (λ j f. bind_lands test (fitting (nat_lt (j + 1) (2 ^ 64)) (j + 1)) (λ further. Some (round_at name body next s (least_from c members further))) t f
+    (λ further g. some_lands test (round_at name body next s (least_from c members further)) t g
+    (round_lands test name body next s (least_from c members further) (left_of (test body) (test next) w) (λ none. right_of (test body) (test next) w))))
+
+-- the line at a place that is below a rank
+line_below : (ranks : List ℕ) (rank place : ℕ) (o : Option Line) → is_line_below ranks rank place o ≡ true
+    → (line : Line) × ((o ≡ Some line) × (rank_of (slice_index ranks place) line.form < rank))
+line_below ranks rank place None h = absurd (cc)
+line_below ranks rank place (Some line) h = (line, (refl, ltb-true _ _ h))
+
+-- one line of a run: it stops, is refused for a value, or goes on at a line of lower rank
+by_next : (lines : List Line) (c : Constants) (m place p : ℕ) (s : LocalState) (o : Option LocalState)
+    → ((t : LocalState) → Some t ≡ o → arrives lines c m t ≡ Err (Malformed p) → ⊥)
+    → ((ok_or o (OutOfRange place) >>= (λ next. Ok (GoesOn next))) >>= arrives_after (arrives lines c m) s) ≡ Err (Malformed p) → ⊥
+by_next lines c m place p s None rest e = cc
+by_next lines c m place p s (Some t) rest e = rest t refl e
+
+-- a line of a run, where the run ends from every line of lower rank with one line less
+ends_at : (lines : List Line) (least : ℕ) (ranks : List ℕ) (c : Constants) (n p : ℕ) (s : LocalState) (form : Form) → c.me < c.procs → least ≤ c.procs
+    → ((t : LocalState) (line : Line) → slice_get lines t.at ≡ Some line → rank_of (slice_index ranks t.at) line.form < n → arrives lines c n t ≡ Err (Malformed p) → ⊥)
+    → form_falls lines least ranks s.at form ≡ true → rank_of (slice_index ranks s.at) form < suc n
+    → (local_step_of c form s >>= arrives_after (arrives lines c n) s) ≡ Err (Malformed p) → ⊥
+ends_at lines least ranks c n p s (Access access) own many rest f low e = cc
+ends_at lines least ranks c n p s (Done answer) own many rest f low e = cc
+ends_at lines least ranks c n p s (Local local) own many rest f low e =
+    by_next lines c n s.at p s (local_line_done c (s.at + 1) local s) (λ t done more.
+    let test : ℕ → Bool = is_below lines ranks (slice_index ranks s.at) in
+    let way = goes_a_way test least (s.at + 1) c s t local own many (left_of (ways_pass test least (s.at + 1) local) (nat_lt (slice_index ranks s.at) (length lines)) f) (sym done) in
+    let there = line_below ranks (slice_index ranks s.at) t.at (slice_get lines t.at) way in
+    rest t there.0 there.1.0 (omega (arith, there.1.1)) more) e
+
+falls_end : (lines : List Line) (least : ℕ) (ranks : List ℕ) (c : Constants) → AllFall lines least ranks → c.me < c.procs → least ≤ c.procs
+    → (n p : ℕ) (s : LocalState) (line : Line) → slice_get lines s.at ≡ Some line → rank_of (slice_index ranks s.at) line.form < n → arrives lines c n s ≡ Err (Malformed p) → ⊥
+falls_end lines least ranks c all own many zero p s line here low e = absurd (omega arith)
+falls_end lines least ranks c all own many (suc n) p s line here low e =
+    ends_at lines least ranks c n p s line.form own many (falls_end lines least ranks c all own many n p) (all s.at line here) low
+    (ap (λ o. (ok_or o (Malformed s.at) >>= (λ l. local_step_of c l.form s)) >>= arrives_after (arrives lines c n) s) (sym here) ∙ e)
+
+-- the rank of a line that falls is below the number of lines
+rank_low : (lines : List Line) (least : ℕ) (ranks : List ℕ) (place : ℕ) (form : Form) → 0 < length lines → form_falls lines least ranks place form ≡ true → rank_of (slice_index ranks place) form < length lines
+rank_low lines least ranks place (Access access) some f = some
+rank_low lines least ranks place (Done answer) some f = some
+rank_low lines least ranks place (Local local) some f =
+    ltb-true _ _ (right_of (ways_pass (is_below lines ranks (slice_index ranks place)) least (place + 1) local) (nat_lt (slice_index ranks place) (length lines)) f)
+
+-- local lines that fall end
+pub all_end : (a : Algorithm) (ranks : List ℕ) → AllFall a.lines.items a.least ranks → LocalLinesEnd a
+all_end a ranks all = record {
+  each = λ c s line p own many here e.
+      falls_end a.lines.items a.least ranks c all own many (length a.lines.items) p s line here
+      (rank_low a.lines.items a.least ranks s.at line.form (omega (arith, slice_get_within a.lines.items s.at line here)) (all s.at line here)) e;
+}
+
+is_there : (lines : List Line) (place : ℕ) (o : Option Line) → slice_get lines place ≡ o → is_line o ≡ true → place < length lines
+is_there lines place None e h = absurd (cc)
+is_there lines place (Some line) e h = slice_get_within lines place line e
+
+-- after an access there is a line
+pub all_lead : (a : Algorithm) (ranks : List ℕ) → AllFall a.lines.items a.least ranks → AccessesLeadOn a
+all_lead a ranks all = record {
+  each = λ place line access here form.
+      is_there a.lines.items (place + 1) (slice_get a.lines.items (place + 1)) refl
+      (ap (form_falls a.lines.items a.least ranks place) (sym form) ∙ all place line here);
+}

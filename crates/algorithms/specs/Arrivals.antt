@@ -1,0 +1,47 @@
+-- Where the local lines of a process lead it: to its next access, or to the end of its call.
+use Rattle.std.specs.Prelude.{ℕ, zero, suc, ◌+◌, List, slice_get, Some, None, Result, Ok, Err, ok_or}
+use Rattle.algorithms.specs.LocalRuns.{local_line_done}
+use Rattle.algorithms.specs.declared.constants.Constants.{Constants}
+use Rattle.algorithms.specs.declared.line.Line.{Line}
+use Rattle.algorithms.specs.declared.line.Form.{Form}
+use Rattle.algorithms.specs.declared.line.Form.TheVariants.{Access, Local, Done}
+use Rattle.algorithms.specs.declared.local.LocalState.{LocalState}
+use Rattle.algorithms.specs.declared.local.LocalStep.{LocalStep}
+use Rattle.algorithms.specs.declared.local.LocalStep.TheVariants.{GoesOn, Stops}
+use Rattle.algorithms.specs.declared.local.Landing.{Landing}
+use Rattle.algorithms.specs.declared.refusal.AlgorithmRefusal.{AlgorithmRefusal}
+use Rattle.algorithms.specs.declared.refusal.AlgorithmRefusal.TheVariants.{OutOfRange, Malformed}
+
+infixl 10 ◌>>=◌
+abbrev pub ◌>>=◌ : {A B : Type 0} → Result A AlgorithmRefusal → (A → Result B AlgorithmRefusal) → Result B AlgorithmRefusal
+(Ok x) >>= f = f x
+(Err e) >>= f = Err e
+
+-- the line at a place
+abbrev pub line_at : List Line → ℕ → Result Line AlgorithmRefusal
+line_at lines at = ok_or (slice_get lines at) (Malformed at)
+
+-- what a line of this form does to a process between two accesses
+abbrev pub local_step_of : Constants → Form → LocalState → Result LocalStep AlgorithmRefusal
+local_step_of c (Access access) s = Ok (Stops None)
+local_step_of c (Done answer) s = Ok (Stops (Some answer))
+local_step_of c (Local local) s = do
+  next ← ok_or (local_line_done c (s.at + 1) local s) (OutOfRange s.at)
+  Ok (GoesOn next)
+
+abbrev pub local_step_at : List Line → Constants → LocalState → Result LocalStep AlgorithmRefusal
+local_step_at lines c s = do
+  line ← line_at lines s.at
+  local_step_of c line.form s
+
+-- a process that stops has come to where it is. One that goes on comes to where it comes from the next line
+abbrev pub arrives_after : (LocalState → Result Landing AlgorithmRefusal) → LocalState → LocalStep → Result Landing AlgorithmRefusal
+arrives_after rest s (GoesOn next) = rest next
+arrives_after rest s (Stops answer) = Ok (record { answer = answer; state = s })
+
+-- where a process comes to by at most n local lines. Lines that lead on in no circle are done once each
+abbrev pub arrives : List Line → Constants → ℕ → LocalState → Result Landing AlgorithmRefusal
+arrives lines c zero s = Err (Malformed s.at)
+arrives lines c (suc n) s = do
+  step ← local_step_at lines c s
+  arrives_after (arrives lines c n) s step

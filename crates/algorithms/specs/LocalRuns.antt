@@ -1,0 +1,76 @@
+-- The local lines of a process: what it does between two accesses, as a function of its names and its place.
+use Rattle.std.specs.Prelude.{ℕ, ◌+◌, ◌^◌, max, nat_lt, nat_eq, if◌then◌else◌, slice_get, slice_set, Option, Some, None}
+use Rattle.algorithms.specs.Values.{evaluated, holds, fitting, ◌>>=◌}
+use Rattle.algorithms.specs.declared.constants.Constants.{Constants}
+use Rattle.algorithms.specs.declared.line.Deed.{Deed}
+use Rattle.algorithms.specs.declared.line.Members.{Members}
+use Rattle.algorithms.specs.declared.line.Members.TheVariants.{All, Others, Lower, Higher}
+use Rattle.algorithms.specs.declared.line.LocalLine.{LocalLine}
+use Rattle.algorithms.specs.declared.line.LocalLine.TheVariants.{Assign, Note, Goto, Branch, First, Next}
+use Rattle.algorithms.specs.declared.noted.Noted.{Noted}
+use Rattle.algorithms.specs.declared.local.LocalState.{LocalState}
+
+abbrev pub nothing_noted : Noted
+nothing_noted = record { first = None; second = None; third = None }
+
+abbrev pub noting_after : Deed → Option Deed → Option Deed → Option Deed → Option Noted
+noting_after d None b c = Some (record { first = Some d; second = b; third = c })
+noting_after d (Some a) None c = Some (record { first = Some a; second = Some d; third = c })
+noting_after d (Some a) (Some b) None = Some (record { first = Some a; second = Some b; third = Some d })
+noting_after d (Some a) (Some b) (Some c) = None
+
+-- the deeds and one more. A fourth has no place
+abbrev pub noting : Deed → Noted → Option Noted
+noting d noted = noting_after d noted.first noted.second noted.third
+
+-- a number that is a process where it is below the end of its set
+abbrev pub member_from : Constants → Members → ℕ → ℕ
+member_from c All from = from
+member_from c Others from = if nat_eq from c.me then from + 1 else from
+member_from c Lower from = from
+member_from c Higher from = max from (c.me + 1)
+
+-- the end of a set of processes
+abbrev pub end_of : Constants → Members → ℕ
+end_of c Lower = c.me
+end_of c All = c.procs
+end_of c Others = c.procs
+end_of c Higher = c.procs
+
+-- the least process of a set that is not below a number
+abbrev pub least_from : Constants → Members → ℕ → Option ℕ
+least_from c members from = fitting (nat_lt (member_from c members from) (end_of c members)) (member_from c members from)
+
+abbrev pub at_place : ℕ → LocalState → LocalState
+at_place at s = record { at = at; store = s.store; noted = s.noted }
+
+abbrev pub with_value : ℕ → ℕ → LocalState → LocalState
+with_value name v s = record { at = s.at; store = slice_set s.store name v; noted = s.noted }
+
+abbrev pub with_deed : Deed → LocalState → Option LocalState
+with_deed deed s = do
+  noted ← noting deed s.noted
+  Some (record { at = s.at; store = s.store; noted = noted })
+
+-- the next round of a loop, or its end
+abbrev pub round_at : ℕ → ℕ → ℕ → LocalState → Option ℕ → LocalState
+round_at name body after s (Some j) = at_place body (with_value name j s)
+round_at name body after s None = at_place after (with_value name 0 s)
+
+-- where a local line leads, with the place of the line after it. None where a value is out of range
+abbrev pub local_line_done : Constants → ℕ → LocalLine → LocalState → Option LocalState
+local_line_done c next (Assign name value) s = do
+  v ← evaluated c s.store value
+  Some (at_place next (with_value name v s))
+local_line_done c next (Note deed) s = do
+  noted ← with_deed deed s
+  Some (at_place next noted)
+local_line_done c next (Goto place) s = Some (at_place place s)
+local_line_done c next (Branch condition otherwise) s = do
+  b ← holds c s.store condition
+  Some (at_place (if b then next else otherwise) s)
+local_line_done c next (First name members after) s = Some (round_at name next after s (least_from c members 0))
+local_line_done c next (Next name members body) s = do
+  j ← slice_get s.store name
+  further ← fitting (nat_lt (j + 1) (2 ^ 64)) (j + 1)
+  Some (round_at name body next s (least_from c members further))

@@ -1,0 +1,58 @@
+-- One step of a process: one access, and the local lines after it.
+use Rattle.std.specs.Prelude.{ℕ, ◌+◌, ◌-◌, true, false, if◌then◌else◌, List, ◌++◌, length, take, replicate, slice_get, Option, Some, None, option_and_then, Result, Ok, ok_or}
+use Rattle.std.specs.Option.{option_or}
+use Rattle.algorithms.specs.Accesses.{access_of, received, passes}
+use Rattle.algorithms.specs.Arrivals.{arrives, ◌>>=◌}
+use Rattle.algorithms.specs.LocalRuns.{nothing_noted}
+use Rattle.algorithms.specs.declared.access.Access.{Access}
+use Rattle.algorithms.specs.declared.access.Address.{Address}
+use Rattle.algorithms.specs.declared.access.Moved.{Moved}
+use Rattle.algorithms.specs.declared.access.Taken.{Taken}
+use Rattle.algorithms.specs.declared.algorithm.Algorithm.{Algorithm}
+use Rattle.algorithms.specs.declared.constants.Constants.{Constants}
+use Rattle.algorithms.specs.declared.line.AccessLine.{AccessLine}
+use Rattle.algorithms.specs.declared.local.LocalState.{LocalState}
+use Rattle.algorithms.specs.declared.local.Landing.{Landing}
+use Rattle.algorithms.specs.declared.process.Place.TheVariants.{Rest, At}
+use Rattle.algorithms.specs.declared.process.Process.{Process}
+use Rattle.algorithms.specs.declared.refusal.AlgorithmRefusal.{AlgorithmRefusal}
+use Rattle.algorithms.specs.declared.refusal.AlgorithmRefusal.TheVariants.{OutOfRange, Malformed}
+
+-- what a call leaves of the names: the first ones stay, the others are 0
+abbrev pub kept : ℕ → List ℕ → List ℕ
+kept lasting store = take lasting store ++ replicate (32 - lasting) 0
+
+-- a process before the access at a place, or at rest after its call
+abbrev pub process_landed : ℕ → LocalState → Option ℕ → Process
+process_landed lasting s None = record { place = At s.at; store = s.store }
+process_landed lasting s (Some answer) = record { place = Rest; store = kept lasting s.store }
+
+abbrev pub landed : ℕ → Landing → Moved
+landed lasting l = record { process = process_landed lasting l.state l.answer; noted = l.state.noted; answer = l.answer; blocked = false }
+
+-- where a process comes to from a place by its local lines, with these names. No way among them has more lines than there are
+abbrev pub goes_on : Algorithm → Constants → ℕ → List ℕ → Result Moved AlgorithmRefusal
+goes_on a c at store = do
+  l ← arrives a.lines.items c (length a.lines.items) (record { at = at; store = store; noted = nothing_noted })
+  Ok (landed a.lasting l)
+
+-- a blocked reading leaves the process as it was
+abbrev pub stays : ℕ → List ℕ → Moved
+stays at store = record { process = record { place = At at; store = store }; noted = nothing_noted; answer = None; blocked = true }
+
+-- the word at an address
+abbrev pub word_at : List (List ℕ) → Address → Option ℕ
+word_at words address = option_and_then (λ row. slice_get row address.index) (slice_get words address.declaration)
+
+-- the value that an access stores, or the word that it loads
+abbrev pub value_of : List (List ℕ) → Access → Option ℕ
+value_of words access = option_or access.stores (word_at words access.address)
+
+-- the step of a process before the access at a place
+abbrev pub acted : Algorithm → Constants → List (List ℕ) → ℕ → AccessLine → List ℕ → Result Taken AlgorithmRefusal
+acted a c words at line store = do
+  access ← ok_or (access_of a.declarations.items c store line) (OutOfRange at)
+  value ← ok_or (value_of words access) (Malformed at)
+  goes ← ok_or (passes c (received line.action value store) line.action) (OutOfRange at)
+  moved ← if goes then goes_on a c (at + 1) (received line.action value store) else Ok (stays at store)
+  Ok (record { at = at; access = access; value = value; moved = moved })

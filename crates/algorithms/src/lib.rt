@@ -1,0 +1,30 @@
+//! Algorithms of mutual exclusion as data: their lines, and the worlds in which processes take them one access at a time.
+#![tactic(auto)]
+
+pub mod access;
+pub mod algorithm;
+pub mod condition;
+pub mod constants;
+pub mod expression;
+pub mod fault;
+pub mod line;
+mod local;
+pub mod noted;
+pub mod process;
+mod ranks;
+pub mod reading;
+pub mod refusal;
+pub mod world;
+
+pub use access::{Access, Address, Moved, Taken};
+pub use algorithm::{Algorithm, Call, Declaration, Entries, Promises};
+pub use condition::{Comparison, Condition, Pair};
+pub use constants::{Constants, MOST_PROCS};
+pub use expression::{Expression, NAMES, Operator};
+pub use fault::{AlgorithmFault, LineFault};
+pub use line::{AccessLine, Action, Deed, Form, Line, LocalLine, Members, WordOf};
+pub use noted::Noted;
+pub use process::{Place, Process};
+pub use reading::whole::read_algorithm;
+pub use refusal::AlgorithmRefusal;
+pub use world::World;

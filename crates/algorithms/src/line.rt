@@ -1,0 +1,99 @@
+//! The lines of an algorithm: accesses of shared words, and the local lines between them.
+
+use crate::condition::Condition;
+use crate::expression::Expression;
+
+/// What a step says of its process, for a judge of histories.
+#[derive(Clone, Copy, Debug, PartialEq, Eq)]
+pub enum Deed {
+    Begin,
+    Ready,
+    Enter,
+    Reenter,
+    Leave,
+    Quit,
+}
+
+/// Which processes a loop goes over, by rising number.
+#[derive(Clone, Copy, Debug, PartialEq, Eq)]
+pub enum Members {
+    All,
+    /// All but the process itself.
+    Others,
+    /// Those with a lower number.
+    Lower,
+    /// Those with a higher number.
+    Higher,
+}
+
+/// A shared word: its declaration, and which of the declaration's words it is.
+#[derive(Debug, Drop)]
+pub struct WordOf {
+    pub declaration: usize,
+    /// Where the declaration has a word for each process.
+    pub index: Option<Expression>,
+}
+
+/// What an access does with its word.
+#[derive(Debug, Drop)]
+pub enum Action {
+    /// Loads it into a private name.
+    Load { name: usize },
+    /// Stores this value.
+    Store { value: Expression },
+    /// Loads it into a private name, and goes on where the condition then holds. Else the reading was blocked.
+    Await { name: usize, until: Condition },
+}
+
+/// One access of one shared word.
+#[derive(Debug, Drop)]
+pub struct AccessLine {
+    pub word: WordOf,
+    pub action: Action,
+    /// Whether a withdraw may begin here.
+    pub may_withdraw: bool,
+}
+
+/// A line that touches no shared word.
+#[derive(Debug, Drop)]
+pub enum LocalLine {
+    Assign {
+        name: usize,
+        value: Expression,
+    },
+    Note(Deed),
+    Goto(usize),
+    /// Goes on with the next line where the condition holds.
+    Branch {
+        condition: Condition,
+        otherwise: usize,
+    },
+    /// The head of a loop. It goes on after the loop where there is no member.
+    First {
+        name: usize,
+        members: Members,
+        after: usize,
+    },
+    /// The end of a loop. It goes on after the loop where there is no further member.
+    Next {
+        name: usize,
+        members: Members,
+        body: usize,
+    },
+}
+
+/// What a line is. Lines that it leads to are given by their places among the lines, from 0.
+#[derive(Debug, Drop)]
+pub enum Form {
+    Access(AccessLine),
+    Local(LocalLine),
+    /// The end of the call, with an answer by its index.
+    Done(usize),
+}
+
+/// A line of an algorithm, with its number in the text.
+#[derive(Debug, Drop)]
+pub struct Line {
+    pub number: u64,
+    pub form: Form,
+}

@@ -1,0 +1,32 @@
+//! One process of a world.
+
+ghost use Rattle.std.specs.Prelude.{◌≡◌};
+ghost use Rattle.algorithms.specs.Steps.{kept};
+
+use crate::expression::NAMES;
+
+/// Where a process is.
+#[derive(Clone, Copy, Debug, PartialEq, Eq)]
+pub enum Place {
+    Rest,
+    Dead,
+    /// Before an access, by the place of its line.
+    At(usize),
+}
+
+/// The private memory of a process: its place, and the values of its names.
+#[derive(Clone, Copy, Debug)]
+pub struct Process {
+    pub place: Place,
+    pub store: [u64; NAMES],
+}
+
+/// What a call leaves of the names: the first `lasting` of them. The others are 0.
+pub fn kept(mut store: [u64; NAMES], lasting: usize) -> [u64; NAMES]
+    ensures { result ≡ kept lasting store }
+{
+    for name in lasting..NAMES {
+        store[name] = 0;
+    }
+    store
+}

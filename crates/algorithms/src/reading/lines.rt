@@ -1,0 +1,485 @@
+//! The lines of a call, one after the other.
+
+use crate::algorithm::{Algorithm, Call};
+use crate::condition::Condition;
+use crate::expression::Expression;
+use crate::fault::LineFault;
+use crate::line::{AccessLine, Action, Deed, Form, Line, LocalLine, Members, WordOf};
+use crate::reading::names::{declaration_of, name_set, new_name};
+use crate::reading::tokens::{Sign, Token, Tokens, Word, is_sign, is_word};
+use crate::reading::values::{condition, value};
+use std::alloc::Global;
+
+/// How deep blocks stand in one another at most, and loops.
+const DEEPEST_BLOCK: usize = 16;
+
+const DEEPEST_LOOP: usize = 2;
+
+/// A block whose end is not read yet: the place of its first line, and what it is.
+#[derive(Clone, Copy, Debug)]
+pub struct Opened {
+    pub place: usize,
+    pub kind: Block,
+    /// Its index among all blocks.
+    pub block: usize,
+}
+
+#[derive(Clone, Copy, Debug, PartialEq, Eq)]
+pub enum Block {
+    If,
+    Else,
+    For { name: usize, members: Members },
+}
+
+/// A label: its name, its place, the block in which it stands, and its line.
+#[derive(Clone, Copy, Debug)]
+pub struct Label {
+    pub name: Word,
+    pub place: usize,
+    pub block: Option<usize>,
+    pub number: u64,
+}
+
+/// A goto: its place, and the label that it names.
+#[derive(Clone, Copy, Debug)]
+pub struct Jump {
+    pub place: usize,
+    pub name: Word,
+}
+
+/// A call that was read: its lines, from a place to a place, and the number of the line that begins it.
+#[derive(Clone, Copy, Debug)]
+pub struct CallRead {
+    pub call: Call,
+    pub from: usize,
+    pub to: usize,
+    pub number: u64,
+    /// The number of its last line.
+    pub last: u64,
+}
+
+/// An algorithm as far as its text was read.
+#[derive(Drop)]
+pub struct Draft {
+    pub algorithm: Algorithm,
+    pub opened: Vec<Opened>,
+    /// The first place of each block, and the place after it.
+    pub blocks: Vec<(usize, usize)>,
+    pub labels: Vec<Label>,
+    pub jumps: Vec<Jump>,
+    pub calls: Vec<CallRead>,
+    /// The number of the line that is read.
+    pub number: u64,
+}
+
+/// The tokens after the first ones.
+pub fn after(tokens: &[Token], count: usize) -> &[Token] {
+    if count <= tokens.len() {
+        &tokens[count..]
+    } else {
+        &tokens[..0]
+    }
+}
+
+/// The tokens after a word that has to come next.
+pub fn after_word<'t>(tokens: &'t [Token], word: &[u8]) -> Result<&'t [Token], LineFault> {
+    if is_word(tokens.first(), word) {
+        Ok(after(tokens, 1))
+    } else {
+        Err(LineFault::BadForm)
+    }
+}
+
+/// The tokens after a sign that has to come next.
+fn after_sign(tokens: &[Token], sign: Sign) -> Result<&[Token], LineFault> {
+    if is_sign(tokens.first(), sign) {
+        Ok(after(tokens, 1))
+    } else {
+        Err(LineFault::BadForm)
+    }
+}
+
+/// `BadForm` where a token is left.
+pub fn ended(tokens: &[Token]) -> Result<(), LineFault> {
+    if tokens.is_empty() {
+        Ok(())
+    } else {
+        Err(LineFault::BadForm)
+    }
+}
+
+/// Whether a value or a condition ends before this token.
+fn ends_value(token: &Token) -> bool {
+    is_word(Some(token), b"then")
+        || is_word(Some(token), b"may")
+        || is_word(Some(token), b"this")
+        || is_word(Some(token), b"until")
+        || is_word(Some(token), b"done")
+        || is_sign(Some(token), Sign::Assign)
+        || is_sign(Some(token), Sign::CloseIndex)
+        || is_sign(Some(token), Sign::OpenIndex)
+}
+
+/// The tokens of a value or a condition, and those after it.
+pub fn split_value(tokens: &[Token]) -> (&[Token], &[Token]) {
+    match tokens.iter().position(ends_value) {
+        Some(end) => tokens.split_at(end),
+        None => tokens.split_at(tokens.len()),
+    }
+}
+
+/// The deed that a token names.
+fn deed_of(token: Option<&Token>) -> Result<Deed, LineFault> {
+    if is_word(token, b"begin") {
+        Ok(Deed::Begin)
+    } else if is_word(token, b"ready") {
+        Ok(Deed::Ready)
+    } else if is_word(token, b"enter") {
+        Ok(Deed::Enter)
+    } else if is_word(token, b"reenter") {
+        Ok(Deed::Reenter)
+    } else if is_word(token, b"leave") {
+        Ok(Deed::Leave)
+    } else if is_word(token, b"quit") {
+        Ok(Deed::Quit)
+    } else {
+        Err(LineFault::BadForm)
+    }
+}
+
+/// The processes that a token names.
+fn members_of(token: Option<&Token>) -> Result<Members, LineFault> {
+    if is_word(token, b"all") {
+        Ok(Members::All)
+    } else if is_word(token, b"others") {
+        Ok(Members::Others)
+    } else if is_word(token, b"lower") {
+        Ok(Members::Lower)
+    } else if is_word(token, b"higher") {
+        Ok(Members::Higher)
+    } else {
+        Err(LineFault::BadForm)
+    }
+}
+
+impl Draft {
+    /// Adds a line, and answers its place.
+    fn add(&mut self, form: Form) -> Result<usize, LineFault> {
+        let place = self.algorithm.lines.len();
+        let number = self.number;
+        self.algorithm.lines.push(Line { number, form })?;
+        Ok(place)
+    }
+
+    /// Lets a line that leads past a block lead to the next place.
+    fn land(&mut self, place: usize) {
+        let next = self.algorithm.lines.len();
+        if let Some(line) = self.algorithm.lines.get_mut(place) {
+            match &mut line.form {
+                Form::Local(LocalLine::Branch { otherwise, .. }) => *otherwise = next,
+                Form::Local(LocalLine::First { after, .. }) => *after = next,
+                Form::Local(LocalLine::Goto(target)) => *target = next,
+                _ => {}
+            }
+        }
+    }
+
+    fn open(&mut self, place: usize, kind: Block) -> Result<(), LineFault> {
+        if self.opened.len() >= DEEPEST_BLOCK {
+            return Err(LineFault::TooBig);
+        }
+        let block = self.blocks.len();
+        let from = self.algorithm.lines.len();
+        self.blocks.push((from, from))?;
+        self.opened.push(Opened { place, kind, block })?;
+        Ok(())
+    }
+
+    /// Ends the innermost block.
+    fn close(&mut self) -> Result<Opened, LineFault> {
+        let opened = self.opened.pop().ok_or(LineFault::BadBlock)?;
+        let to = self.algorithm.lines.len();
+        if let Some(block) = self.blocks.get_mut(opened.block) {
+            block.1 = to;
+        }
+        Ok(opened)
+    }
+
+    /// A shared word at the front, with its index, and the tokens after it.
+    fn word<'t>(
+        &mut self,
+        alloc: Global,
+        tokens: &'t [Token],
+    ) -> Result<(WordOf, &'t [Token]), LineFault> {
+        let Some(Token::Word(name)) = tokens.first() else {
+            return Err(LineFault::BadForm);
+        };
+        let declaration = declaration_of(&self.algorithm, name.as_bytes()).ok_or(
+            LineFault::UnknownName,
+        )?;
+        let each = self
+            .algorithm
+            .declarations
+            .get(declaration)
+            .is_some_and(|declared| declared.each);
+        let rest = after(tokens, 1);
+        if !each {
+            return Ok((
+                WordOf {
+                    declaration,
+                    index: None,
+                },
+                rest,
+            ));
+        }
+        let rest = after_sign(rest, Sign::OpenIndex)?;
+        let (index, rest) = split_value(rest);
+        let index = value(alloc, &mut self.algorithm, index)?;
+        let rest = after_sign(rest, Sign::CloseIndex)?;
+        Ok((
+            WordOf {
+                declaration,
+                index: Some(index),
+            },
+            rest,
+        ))
+    }
+
+    /// Adds an access, with what may follow it in its line: `may withdraw`, and a deed.
+    fn access(&mut self, word: WordOf, action: Action, tokens: &[Token]) -> Result<(), LineFault> {
+        let may_withdraw = is_word(tokens.first(), b"may");
+        let rest = if may_withdraw {
+            after_word(after(tokens, 1), b"withdraw")?
+        } else {
+            tokens
+        };
+        self.add(Form::Access(AccessLine {
+            word,
+            action,
+            may_withdraw,
+        }))?;
+        if rest.is_empty() {
+            Ok(())
+        } else {
+            self.deed(rest)
+        }
+    }
+
+    fn deed(&mut self, tokens: &[Token]) -> Result<(), LineFault> {
+        let rest = after_word(after_word(tokens, b"this")?, b"is")?;
+        let deed = deed_of(rest.first())?;
+        ended(after(rest, 1))?;
+        self.add(Form::Local(LocalLine::Note(deed)))?;
+        Ok(())
+    }
+
+    /// `await NAME := WORD until CONDITION`.
+    fn awaits(&mut self, alloc: Global, tokens: &[Token]) -> Result<(), LineFault> {
+        let name = name_set(alloc, &mut self.algorithm, tokens.first())?;
+        let rest = after_sign(after(tokens, 1), Sign::Assign)?;
+        let (word, rest) = self.word(alloc, rest)?;
+        let (until, rest) = split_value(after_word(rest, b"until")?);
+        let until = condition(alloc, &mut self.algorithm, until)?;
+        self.access(word, Action::Await { name, until }, rest)
+    }
+
+    /// `WORD := VALUE`, `NAME := WORD` or `NAME := VALUE`.
+    fn assignment(&mut self, alloc: Global, tokens: &[Token]) -> Result<(), LineFault> {
+        let Some(Token::Word(first)) = tokens.first() else {
+            return Err(LineFault::BadForm);
+        };
+        if declaration_of(&self.algorithm, first.as_bytes()).is_some() {
+            let (word, rest) = self.word(alloc, tokens)?;
+            let (stored, rest) = split_value(after_sign(rest, Sign::Assign)?);
+            let value = value(alloc, &mut self.algorithm, stored)?;
+            return self.access(word, Action::Store { value }, rest);
+        }
+        if is_sign(tokens.get(1), Sign::OpenIndex) {
+            return Err(LineFault::UnknownName);
+        }
+        if !is_sign(tokens.get(1), Sign::Assign) {
+            return Err(LineFault::BadForm);
+        }
+        let name = name_set(alloc, &mut self.algorithm, tokens.first())?;
+        let rest = after_sign(after(tokens, 1), Sign::Assign)?;
+        self.assigned(alloc, name, rest)
+    }
+
+    /// What is assigned to a private name: a shared word, or a value.
+    fn assigned(&mut self, alloc: Global, name: usize, tokens: &[Token]) -> Result<(), LineFault> {
+        let loads = match tokens.first() {
+            Some(Token::Word(word)) => {
+                declaration_of(&self.algorithm, word.as_bytes()).is_some()
+                    || is_sign(tokens.get(1), Sign::OpenIndex)
+            }
+            _ => false,
+        };
+        if loads {
+            let (word, rest) = self.word(alloc, tokens)?;
+            if matches!(rest.first(), Some(Token::Sign(_) | Token::Number(_))) {
+                return Err(LineFault::TwoAccesses);
+            }
+            return self.access(word, Action::Load { name }, rest);
+        }
+        let (assigned, rest) = split_value(tokens);
+        let value = value(alloc, &mut self.algorithm, assigned)?;
+        if is_word(rest.first(), b"this") || is_word(rest.first(), b"may") {
+            return Err(LineFault::BadDeed);
+        }
+        ended(rest)?;
+        self.add(Form::Local(LocalLine::Assign { name, value }))?;
+        Ok(())
+    }
+
+    /// `done WORDS`.
+    fn done(&mut self, alloc: Global, rest: &[Token], answer: &[u8]) -> Result<(), LineFault> {
+        ended(rest)?;
+        let answers = &mut self.algorithm.answers;
+        let place = answers.iter().position(|other| other.as_bytes() == answer);
+        let place = match place {
+            Some(place) => place,
+            None => {
+                answers.push(String::from_utf8_lossy(alloc, answer)?)?;
+                answers.len().saturating_sub(1)
+            }
+        };
+        self.add(Form::Done(place))?;
+        Ok(())
+    }
+
+    /// A statement that is no block.
+    fn simple(&mut self, alloc: Global, tokens: &[Token], answer: &[u8]) -> Result<(), LineFault> {
+        let first = tokens.first();
+        if is_word(first, b"goto") {
+            let rest = after(tokens, 1);
+            let name = new_name(rest.first())?;
+            ended(after(rest, 1))?;
+            let place = self.add(Form::Local(LocalLine::Goto(0)))?;
+            self.jumps.push(Jump { place, name })?;
+            Ok(())
+        } else if is_word(first, b"done") {
+            self.done(alloc, after(tokens, 1), answer)
+        } else if is_word(first, b"this") {
+            self.deed(tokens)
+        } else if is_word(first, b"await") {
+            self.awaits(alloc, after(tokens, 1))
+        } else {
+            self.assignment(alloc, tokens)
+        }
+    }
+
+    /// `if CONDITION then`, with a statement in the same line or a block after it.
+    fn branch(&mut self, alloc: Global, tokens: &[Token], answer: &[u8]) -> Result<(), LineFault> {
+        let (test, rest) = split_value(tokens);
+        let condition: Condition = condition(alloc, &mut self.algorithm, test)?;
+        let rest = after_word(rest, b"then")?;
+        let place = self.add(Form::Local(LocalLine::Branch {
+            condition,
+            otherwise: 0,
+        }))?;
+        if rest.is_empty() {
+            return self.open(place, Block::If);
+        }
+        if is_word(rest.first(), b"if")
+            || is_word(rest.first(), b"for")
+            || is_sign(rest.get(1), Sign::Colon)
+        {
+            return Err(LineFault::BadForm);
+        }
+        self.simple(alloc, rest, answer)?;
+        self.land(place);
+        Ok(())
+    }
+
+    /// `for NAME in MEMBERS`.
+    fn loop_head(&mut self, alloc: Global, tokens: &[Token]) -> Result<(), LineFault> {
+        let name = name_set(alloc, &mut self.algorithm, tokens.first())?;
+        if name < self.algorithm.lasting {
+            return Err(LineFault::NameTaken);
+        }
+        let rest = after_word(after(tokens, 1), b"in")?;
+        let members = members_of(rest.first())?;
+        ended(after(rest, 1))?;
+        let mut loops: usize = 0;
+        for opened in &self.opened {
+            if let Block::For { name: outer, .. } = opened.kind {
+                if outer == name {
+                    return Err(LineFault::NameTaken);
+                }
+                loops = loops.saturating_add(1);
+            }
+        }
+        if loops >= DEEPEST_LOOP {
+            return Err(LineFault::TooBig);
+        }
+        let place = self.add(Form::Local(LocalLine::First {
+            name,
+            members,
+            after: 0,
+        }))?;
+        self.open(place, Block::For { name, members })
+    }
+
+    /// `else`.
+    fn other(&mut self, tokens: &[Token]) -> Result<(), LineFault> {
+        ended(tokens)?;
+        if !self
+            .opened
+            .last()
+            .is_some_and(|opened| opened.kind == Block::If)
+        {
+            return Err(LineFault::BadBlock);
+        }
+        let place = self.add(Form::Local(LocalLine::Goto(0)))?;
+        let opened = self.close()?;
+        self.land(opened.place);
+        self.open(place, Block::Else)
+    }
+
+    /// `end`.
+    fn end(&mut self, tokens: &[Token]) -> Result<(), LineFault> {
+        ended(tokens)?;
+        let opened = self.opened.last().copied().ok_or(LineFault::BadBlock)?;
+        if let Block::For { name, members } = opened.kind {
+            let body = opened.place.saturating_add(1);
+            self.add(Form::Local(LocalLine::Next {
+                name,
+                members,
+                body,
+            }))?;
+        }
+        self.close()?;
+        self.land(opened.place);
+        Ok(())
+    }
+
+    /// Reads a line of a call.
+    pub fn statement(&mut self, alloc: Global, line: &Tokens) -> Result<(), LineFault> {
+        let tokens = line.all.as_slice();
+        let first = tokens.first();
+        if is_word(first, b"if") {
+            self.branch(alloc, after(tokens, 1), line.answer)
+        } else if is_word(first, b"for") {
+            self.loop_head(alloc, after(tokens, 1))
+        } else if is_word(first, b"else") {
+            self.other(after(tokens, 1))
+        } else if is_word(first, b"end") {
+            self.end(after(tokens, 1))
+        } else if is_sign(tokens.get(1), Sign::Colon) {
+            let name = new_name(first)?;
+            ended(after(tokens, 2))?;
+            let place = self.algorithm.lines.len();
+            let block = self.opened.last().map(|opened| opened.block);
+            let number = self.number;
+            self.labels.push(Label {
+                name,
+                place,
+                block,
+                number,
+            })?;
+            Ok(())
+        } else {
+            self.simple(alloc, tokens, line.answer)
+        }
+    }
+}

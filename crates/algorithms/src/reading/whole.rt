@@ -1,0 +1,183 @@
+//! A whole text.
+
+ghost use Rattle.std.specs.Prelude.{IfOk, OnOk};
+ghost use Rattle.algorithms.specs.Ranked.{LocalLinesEnd, AccessesLeadOn};
+
+use crate::algorithm::{Algorithm, Call};
+use crate::fault::{AlgorithmFault, LineFault};
+use crate::ranks::lines_end;
+use crate::reading::calls::{head, promises};
+use crate::reading::flow::Flow;
+use crate::reading::lines::{CallRead, Draft};
+use crate::reading::tokens::{Tokens, tokens_of};
+use std::alloc::Global;
+
+/// The most lines of a text, and of those that are not empty.
+const MOST_LINES: usize = 4096;
+
+const MOST_FILLED: usize = 1024;
+
+/// The most characters of a line.
+const LONGEST_LINE: usize = 1000;
+
+/// A line that is not empty, with its number.
+#[derive(Drop)]
+struct Filled<'a> {
+    number: u64,
+    tokens: Tokens<'a>,
+}
+
+/// The tokens of one line, with its number.
+fn read_tokens<'a>(
+    alloc: Global,
+    number: u64,
+    line: &'a [u8],
+) -> Result<Filled<'a>, AlgorithmFault> {
+    if line.len() > LONGEST_LINE {
+        return Err(LineFault::TooBig.at(number));
+    }
+    match tokens_of(alloc, line) {
+        Ok(tokens) => Ok(Filled { number, tokens }),
+        Err(fault) => Err(fault.at(number)),
+    }
+}
+
+/// The lines of a text that are not empty.
+fn lines_of(alloc: Global, text: &[u8]) -> Result<Vec<Filled<'_>>, AlgorithmFault> {
+    let mut lines = Vec::new(alloc);
+    let mut number: u64 = 1;
+    let mut rest = text;
+    while let Some(end) = rest.iter().position(|byte| *byte == b'\n') {
+        if number > MOST_LINES as u64 {
+            return Err(LineFault::TooBig.at(number));
+        }
+        let line = read_tokens(alloc, number, &rest[..end])?;
+        if !line.tokens.all.is_empty() {
+            if lines.len() >= MOST_FILLED {
+                return Err(LineFault::TooBig.at(number));
+            }
+            lines.push(line).map_err(|_| AlgorithmFault::OutOfMemory)?;
+        }
+        rest = &rest[end + 1..];
+        number = number.saturating_add(1);
+    }
+    if rest.is_empty() {
+        Ok(lines)
+    } else {
+        Err(LineFault::NoNewline.at(number))
+    }
+}
+
+/// The draft of a text of which the first two lines are read.
+fn draft(alloc: Global, lines: &[Filled]) -> Result<Draft, AlgorithmFault> {
+    let Some(first) = lines.first() else {
+        return Err(LineFault::NoHeader.at(1));
+    };
+    let mut algorithm = head(alloc, &first.tokens).map_err(|fault| fault.at(first.number))?;
+    let Some(second) = lines.get(1) else {
+        return Err(LineFault::NoHeader.at(first.number));
+    };
+    algorithm.promises = promises(&second.tokens).map_err(|fault| fault.at(second.number))?;
+    Ok(Draft {
+        algorithm,
+        opened: Vec::new(alloc),
+        blocks: Vec::new(alloc),
+        labels: Vec::new(alloc),
+        jumps: Vec::new(alloc),
+        calls: Vec::new(alloc),
+        number: second.number,
+    })
+}
+
+/// Reads all lines after the first two.
+fn forms(alloc: Global, lines: &[Filled]) -> Result<Draft, AlgorithmFault> {
+    let mut draft = draft(alloc, lines)?;
+    for line in lines.get(2..).unwrap_or(&[]) {
+        let last = draft.number;
+        draft.number = line.number;
+        draft
+            .line(alloc, &line.tokens, last)
+            .map_err(|fault| fault.at(line.number))?;
+    }
+    let last = draft.number;
+    draft.end_call(last).map_err(|fault| fault.at(last))?;
+    Ok(draft)
+}
+
+/// A call of the draft.
+fn call_of(draft: &Draft, call: Call) -> Option<CallRead> {
+    draft.calls.iter().find(|read| read.call == call).copied()
+}
+
+/// Where each call begins. `BadCall` where there is no lock or no unlock, `FallsOff` where a call has no lines.
+fn entries(draft: &mut Draft) -> Result<(), AlgorithmFault> {
+    for call in &draft.calls {
+        if call.from == call.to {
+            return Err(LineFault::FallsOff.at(call.number));
+        }
+    }
+    match (call_of(draft, Call::Lock), call_of(draft, Call::Unlock)) {
+        (Some(lock), Some(unlock)) => {
+            draft.algorithm.entries.lock = lock.from;
+            draft.algorithm.entries.unlock = unlock.from;
+        }
+        _ => return Err(LineFault::BadCall.at(draft.number)),
+    }
+    draft.algorithm.entries.recover = call_of(draft, Call::Recover).map(|call| call.from);
+    draft.algorithm.entries.withdraw = call_of(draft, Call::Withdraw).map(|call| call.from);
+    Ok(())
+}
+
+/// The calls that a text has, in the order in which they are checked.
+const CALLS: [Call; 4] = [Call::Lock, Call::Unlock, Call::Recover, Call::Withdraw];
+
+/// Checks what the runs of all calls may do, and answers a rank for each line.
+fn ranks(alloc: Global, draft: &Draft) -> Result<Vec<u64>, AlgorithmFault> {
+    let lines = draft.algorithm.lines.as_slice();
+    let mut ranks = vec![in alloc; 0; lines.len()]?;
+    for call in CALLS {
+        if let Some(call) = call_of(draft, call) {
+            let flow = Flow::of(lines, call, draft.algorithm.least);
+            flow.check(alloc, draft.jumps.as_slice(), draft.algorithm.lasting)?;
+            flow.rank(ranks.as_mut_slice());
+        }
+    }
+    Ok(ranks)
+}
+
+/// Checks what the runs of all calls may do, and that the local lines after each access end.
+fn check_flow(alloc: Global, draft: &Draft) -> Result<(), AlgorithmFault>
+    ensures ends { OnOk result (LocalLinesEnd draft.now.algorithm) }
+    ensures leads { OnOk result (AccessesLeadOn draft.now.algorithm) }
+{
+    let ranks = ranks(alloc, draft)?;
+    if lines_end(&draft.algorithm, ranks.as_slice()) {
+        Ok(())
+    } else {
+        Err(LineFault::Endless.at(draft.number))
+    }
+}
+
+/// Reads an algorithm from a text.
+///
+/// The faults of all characters come first, then those of forms, then those of labels, names and deeds, and at last those of
+/// what runs may do. Of the first kind that there is, the first line is named.
+pub fn read_algorithm(alloc: Global, text: &[u8]) -> Result<Algorithm, AlgorithmFault>
+    ensures ends { IfOk result LocalLinesEnd }
+    ensures leads { IfOk result AccessesLeadOn }
+{
+    if text.is_empty() {
+        return Err(LineFault::NoHeader.at(1));
+    }
+    let lines = lines_of(alloc, text)?;
+    let mut draft = forms(alloc, lines.as_slice())?;
+    entries(&mut draft)?;
+    for call in CALLS {
+        if let Some(call) = call_of(&draft, call) {
+            draft.check_call(call)?;
+        }
+    }
+    draft.check_withdraw()?;
+    check_flow(alloc, &draft)?;
+    Ok(draft.algorithm)
+}

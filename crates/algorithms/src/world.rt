@@ -1,0 +1,342 @@
+//! The worlds of an algorithm.
+
+ghost use Rattle.std.specs.Prelude.{◌≡◌, ◌<◌, Some, None, Ok, Err, IfOk, IfErr, OnOk, OnErr, length, replicate};
+ghost use Rattle.algorithms.specs.Worlds.{access_at, start_refusal, entry_of, stored, begun, taken_by, resting};
+
+use crate::access::{Access, Address, Taken, act};
+use crate::algorithm::{Algorithm, Call, Entries};
+use crate::constants::{Constants, MOST_PROCS};
+use crate::expression::NAMES;
+use crate::line::{AccessLine, Form};
+use crate::local::{LocalState, arrive};
+use crate::noted::Noted;
+use crate::process::{Place, Process, kept};
+use crate::refusal::AlgorithmRefusal;
+use std::alloc::Global;
+use std::marker::Model;
+
+/// The greatest limit of numbers, 2^62.
+pub const MOST_LIMIT: u64 = 4_611_686_018_427_387_904;
+
+/// The processes of an algorithm and the words that they share. A caller starts a call and then steps it until a step carries
+/// its answer. A crash may come before any step. Only `new` allocates.
+#[derive(Drop)]
+pub struct World {
+    algorithm: Algorithm,
+    procs: u64,
+    limit: u64,
+    words: Vec<[u64; MOST_PROCS]>,
+    processes: Vec<Process>,
+}
+
+impl Model for World {
+    ghost use Rattle.std.specs.Prelude.{◌≡◌, vec_len};
+    ghost use Rattle.std.specs.Coded.{codes};
+    ghost use Rattle.algorithms.specs.contracts.condition.Condition as condition;
+    ghost use Rattle.algorithms.specs.contracts.expression.Expression as expression;
+    ghost use Rattle.algorithms.specs.Worlds.{WorldState};
+
+    ghost Value = { WorldState };
+
+    ghost coded = { Prim.hlevel (codes, expression.the_row.coded, condition.the_row.coded) };
+
+    ghost view = { λ w. record { algorithm = w.algorithm; procs = w.procs; limit = w.limit; words = w.words.items; processes = w.processes.items } };
+
+    ghost invariant = { λ w. vec_len w.processes ≡ w.procs };
+}
+
+/// The access line at a place.
+fn access_at(algorithm: &Algorithm, at: usize) -> Result<&AccessLine, AlgorithmRefusal>
+    ensures ok { IfOk result (λ line. access_at algorithm.now at ≡ Ok line.now) }
+    ensures err { IfErr result (λ e. access_at algorithm.now at ≡ Err e) }
+    ensures place { OnOk result (at < length algorithm.now.lines.items) }
+{
+    match algorithm.lines.get(at) {
+        None => Err(AlgorithmRefusal::Malformed { place: at }),
+        Some(line) => match &line.form {
+            Form::Access(access) => Ok(access),
+            Form::Local(_) | Form::Done(_) => Err(AlgorithmRefusal::Malformed { place: at }),
+        },
+    }
+}
+
+/// Why a process at this place may not start the call.
+fn start_refusal(algorithm: &Algorithm, place: Place, call: Call) -> Option<AlgorithmRefusal>
+    ensures { result ≡ start_refusal algorithm.now place call }
+{
+    match (place, call) {
+        (Place::At(at), Call::Withdraw) => match access_at(algorithm, at) {
+            Ok(line) if line.may_withdraw => None,
+            _ => Some(AlgorithmRefusal::NotWaiting),
+        },
+        (Place::Rest | Place::Dead, Call::Withdraw) => Some(AlgorithmRefusal::NotWaiting),
+        (Place::At(_), Call::Lock | Call::Unlock | Call::Recover) => Some(
+            AlgorithmRefusal::CallUnderWay,
+        ),
+        (Place::Rest | Place::Dead, Call::Lock | Call::Unlock | Call::Recover) => None,
+    }
+}
+
+impl Entries {
+    /// Where a call begins, if there is such a call.
+    pub fn of(self, call: Call) -> Option<usize>
+        ensures { result ≡ entry_of self call }
+    {
+        match call {
+            Call::Lock => Some(self.lock),
+            Call::Unlock => Some(self.unlock),
+            Call::Recover => self.recover,
+            Call::Withdraw => self.withdraw,
+        }
+    }
+}
+
+/// Stores the value of an access, if it has one.
+fn store(words: &mut [[u64; MOST_PROCS]], access: Access)
+    ensures { words.new ≡ stored words.old access.address access.stores }
+{
+    let Address { declaration, index } = access.address;
+    let Some(value) = access.stores else {
+        return;
+    };
+    if index < MOST_PROCS as u64 && declaration < words.len() {
+        let row = &mut words[declaration];
+        row[index as usize] = value;
+    }
+}
+
+/// What the start of a call makes of a process.
+fn begin(
+    algorithm: &Algorithm,
+    constants: Constants,
+    process: Process,
+    call: Call,
+) -> Result<Process, AlgorithmRefusal>
+    requires { constants.me < constants.procs }
+    ensures { result ≡ begun algorithm.now constants process call }
+{
+    let entry = algorithm
+        .entries
+        .of(call)
+        .ok_or(AlgorithmRefusal::NoSuchCall)?;
+    if let Some(refusal) = start_refusal(algorithm, process.place, call) {
+        return Err(refusal);
+    }
+    let from = LocalState {
+        at: entry,
+        store: kept(process.store, algorithm.lasting),
+        noted: Noted::nothing(),
+    };
+    let landing = arrive(algorithm.lines.as_slice(), constants, from)?;
+    let LocalState { at, store, .. } = landing.state;
+    match landing.answer {
+        None => Ok(Process {
+            place: Place::At(at),
+            store,
+        }),
+        Some(_) => Err(AlgorithmRefusal::Malformed { place: at }),
+    }
+}
+
+/// The step of one process, with the words as they are.
+fn take(
+    algorithm: &Algorithm,
+    constants: Constants,
+    words: &[[u64; MOST_PROCS]],
+    process: Process,
+) -> Result<Taken, AlgorithmRefusal>
+    requires { constants.me < constants.procs }
+    ensures { result ≡ taken_by algorithm.now constants words.now process }
+{
+    let Place::At(at) = process.place else {
+        return Err(AlgorithmRefusal::NothingToDo);
+    };
+    let line = access_at(algorithm, at)?;
+    act(algorithm, constants, words, at, line, process.store)
+}
+
+#[tactic(auto, using(std::proofs::lemmas::List::replicate_more))]
+fn all_zero(alloc: Global, count: usize) -> Result<Vec<[u64; MOST_PROCS]>, AlgorithmRefusal>
+    ensures rows { IfOk result (λ rows. rows.items ≡ replicate count (replicate 64 0)) }
+    ensures memory { IfErr result (λ e. e ≡ AlgorithmRefusal.OutOfMemory) }
+{
+    let mut rows = Vec::with_capacity(alloc, count)?;
+    for row in 0..count {
+        rows.push([0; MOST_PROCS])?;
+    }
+    Ok(rows)
+}
+
+#[tactic(auto, using(std::proofs::lemmas::List::replicate_more))]
+fn all_at_rest(alloc: Global, count: usize) -> Result<Vec<Process>, AlgorithmRefusal>
+    ensures rows { IfOk result (λ processes. processes.items ≡ replicate count resting) }
+    ensures memory { IfErr result (λ e. e ≡ AlgorithmRefusal.OutOfMemory) }
+{
+    let mut processes = Vec::with_capacity(alloc, count)?;
+    for process in 0..count {
+        processes.push(Process {
+            place: Place::Rest,
+            store: [0; NAMES],
+        })?;
+    }
+    Ok(processes)
+}
+
+impl World {
+    ghost use Rattle.algorithms.specs.Worlds.{first_world, new_refusal, cause, constants_of, process_of, start, started, step, taken, crash, with_process};
+
+    /// A world with all words 0 and all processes at rest. `limit` is the algorithm's `limit`.
+    ///
+    /// `BadProcs`: the algorithm is not for this number of processes. `BadLimit`: not 1 to 2^62.
+    pub fn new(
+        alloc: Global,
+        algorithm: Algorithm,
+        procs: u64,
+        limit: u64,
+    ) -> Result<World, AlgorithmRefusal>
+        ensures accepted { OnOk result (new_refusal algorithm procs limit ≡ None) }
+        ensures refused { IfErr result (λ e. new_refusal algorithm procs limit ≡ cause e) }
+        ensures world { IfOk result (λ w. w ≡ first_world algorithm procs limit) }
+    {
+        if procs < algorithm.least
+            || procs > algorithm.most
+            || procs == 0
+            || procs > MOST_PROCS as u64
+        {
+            return Err(AlgorithmRefusal::BadProcs);
+        }
+        if limit == 0 || limit > MOST_LIMIT {
+            return Err(AlgorithmRefusal::BadLimit);
+        }
+        let words = all_zero(alloc, algorithm.declarations.len())?;
+        let processes = all_at_rest(alloc, procs as usize)?;
+        Ok(World {
+            algorithm,
+            procs,
+            limit,
+            words,
+            processes,
+        })
+    }
+
+    /// Starts a call of a process. A withdraw replaces the lock under way, which is never answered.
+    ///
+    /// `NoSuchProcess`, then `NoSuchCall`: the algorithm has no such call. `CallUnderWay`: another call has to end first.
+    /// `NotWaiting`: a withdraw where the process is at no line with `may withdraw`. Which calls a process may make by what
+    /// it has done, as an unlock only where it is inside, is not asked here.
+    pub fn start(&mut self, p: u64, call: Call) -> Result<(), AlgorithmRefusal>
+        ensures ok { OnOk result (start self.old p call ≡ Ok self.new) }
+        ensures refused { IfErr result (λ e. start self.old p call ≡ Err e) }
+        ensures err { OnErr result (self.new ≡ self.old) }
+    {
+        let process = self.process(p)?;
+        let constants = self.constants(p);
+        let process = begin(&self.algorithm, constants, process, call)?;
+        self.processes[p as usize] = process;
+        Ok(())
+    }
+
+    /// Takes the next step of a process: one load or one store of one word, and the local lines after it. A blocked reading
+    /// is a step too, and the next step reads the same word again.
+    ///
+    /// `NoSuchProcess`, then `NothingToDo`: no call of the process is under way. `OutOfRange`: the algorithm leaves its
+    /// bounds here.
+    pub fn step(&mut self, p: u64) -> Result<Taken, AlgorithmRefusal>
+        ensures ok { IfOk result (λ t. step self.old p ≡ Ok (t, self.new)) }
+        ensures refused { IfErr result (λ e. step self.old p ≡ Err e) }
+        ensures err { OnErr result (self.new ≡ self.old) }
+    {
+        let process = self.process(p)?;
+        let constants = self.constants(p);
+        let taken = take(&self.algorithm, constants, self.words.as_slice(), process)?;
+        store(self.words.as_mut_slice(), taken.access);
+        self.processes[p as usize] = taken.moved.process;
+        Ok(taken)
+    }
+
+    /// Crashes a process. It loses its place and its names.
+    pub fn crash(&mut self, p: u64) -> Result<(), AlgorithmRefusal>
+        ensures ok { OnOk result (crash self.old p ≡ Ok self.new) }
+        ensures refused { IfErr result (λ e. crash self.old p ≡ Err e) }
+        ensures err { OnErr result (self.new ≡ self.old) }
+    {
+        self.process(p)?;
+        self.processes[p as usize] = Process {
+            place: Place::Dead,
+            store: [0; NAMES],
+        };
+        Ok(())
+    }
+
+    /// The private memory of a process.
+    pub fn process(&self, p: u64) -> Result<Process, AlgorithmRefusal>
+        ensures value { result ≡ process_of self.now p }
+        ensures within { OnOk result (p < self.now.procs) }
+    {
+        let process = self.processes.get(p as usize);
+        process.copied().ok_or(AlgorithmRefusal::NoSuchProcess)
+    }
+
+    /// The shared words, a row for each declaration. A declaration of one word uses the first of its row, another the first
+    /// of it, one for each process.
+    pub fn words(&self) -> &[[u64; MOST_PROCS]]
+        ensures { result.now ≡ self.now.words }
+    {
+        self.words.as_slice()
+    }
+
+    /// The private memory of each process.
+    pub fn processes(&self) -> &[Process]
+        ensures { result.now ≡ self.now.processes }
+    {
+        self.processes.as_slice()
+    }
+
+    /// The algorithm.
+    pub fn algorithm(&self) -> &Algorithm
+        ensures { result.now ≡ self.now.algorithm }
+    {
+        &self.algorithm
+    }
+
+    /// The number of processes.
+    pub fn procs(&self) -> u64
+        ensures { result ≡ self.now.procs }
+    {
+        self.procs
+    }
+
+    /// The algorithm's `limit`.
+    pub fn limit(&self) -> u64
+        ensures { result ≡ self.now.limit }
+    {
+        self.limit
+    }
+
+    /// For this workspace alone, to decode a world: sets a shared word. An address outside of the words changes nothing.
+    pub fn seam_set_word(&mut self, address: Address, value: u64)
+        ensures { self.new ≡ record self.old { words = stored self.old.words address (Some value) } }
+    {
+        let stores = Some(value);
+        store(self.words.as_mut_slice(), Access { address, stores });
+    }
+
+    /// For this workspace alone, as `seam_set_word`: sets the private memory of a process. One that is not there has none.
+    pub fn seam_set_process(&mut self, p: u64, process: Process)
+        ensures { self.new ≡ with_process self.old p process }
+    {
+        if let Some(place) = self.processes.get_mut(p as usize) {
+            *place = process;
+        }
+    }
+
+    fn constants(&self, p: u64) -> Constants
+        ensures { result ≡ constants_of self.now p }
+    {
+        Constants {
+            me: p,
+            procs: self.procs,
+            limit: self.limit,
+        }
+    }
+}

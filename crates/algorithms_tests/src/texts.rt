@@ -1,0 +1,4 @@
+//! The texts of examples/algorithms.
+
+pub mod bakeries;
+pub mod others;

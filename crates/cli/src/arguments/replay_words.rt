@@ -1,0 +1,81 @@
+//! Reads the words of `replay`.
+
+ghost use Rattle.std.specs.Prelude.{◌≡◌, ◌↔◌, true, Some, IsNone, is_some, string_bytes, codes};
+ghost use Rattle.clap.specs.Words.{first_of};
+ghost use Rattle.cli.specs.Given.{given_in};
+ghost use Rattle.cli.specs.ReadWords.{IsAlone, Reads};
+
+use crate::arguments::args::{AlgorithmReplayArgs, Command, ReplayArgs};
+use crate::arguments::words::{WordsFault, is_set, str_of, text_of, variant_beside_image};
+use clap::ArgMatches;
+use std::alloc::{AllocError, Global};
+
+/// Whether the option with this name is given.
+fn is_given(matches: &ArgMatches<'_>, name: &str) -> bool
+    ensures { result ≡ is_some (first_of name.now (given_in matches.now)) }
+{
+    str_of(matches, name).is_some()
+}
+
+/// Whether no variant, no image and no file for the last image are given.
+fn is_alone(matches: &ArgMatches<'_>) -> bool
+    ensures { result ≡ true ↔ IsAlone (given_in matches.now) }
+{
+    !is_given(matches, "variant") && !is_given(matches, "image") && !is_given(matches, "save")
+}
+
+/// The error text for an option that a run of an algorithm does not have.
+fn without_steps(alloc: Global) -> Result<String, AllocError> {
+    String::from_str(
+        alloc,
+        "error: with '--algorithm <FILE>' there is no '--json' and no '--each'\n\nFor more information, try '--help'.\n",
+    )
+}
+
+/// A replay on the algorithm with this text.
+fn algorithm_words(
+    alloc: Global,
+    matches: &ArgMatches<'_>,
+    algorithm: String,
+) -> Result<Command, WordsFault>
+    requires { Some (string_bytes algorithm) ≡ first_of (codes "algorithm") (given_in matches.now) }
+    ensures { Reads (codes "replay") (given_in matches.now) result }
+{
+    if !is_alone(matches) {
+        return Err(WordsFault::BadVariant);
+    }
+    if is_set(matches, "json") || is_set(matches, "each") {
+        return Err(WordsFault::Refused {
+            text: without_steps(alloc)?,
+        });
+    }
+    Ok(Command::ReplayAlgorithm(AlgorithmReplayArgs {
+        algorithm,
+        file: text_of(alloc, matches, "FILE")?,
+    }))
+}
+
+/// A replay on a variant of the lock.
+fn variant_words(alloc: Global, matches: &ArgMatches<'_>) -> Result<Command, WordsFault>
+    requires { IsNone (first_of (codes "algorithm") (given_in matches.now)) }
+    ensures { Reads (codes "replay") (given_in matches.now) result }
+{
+    Ok(Command::Replay(ReplayArgs {
+        json: is_set(matches, "json"),
+        each: is_set(matches, "each"),
+        variant: variant_beside_image(matches)?,
+        image: text_of(alloc, matches, "image")?,
+        save: text_of(alloc, matches, "save")?,
+        file: text_of(alloc, matches, "FILE")?,
+    }))
+}
+
+/// A replay on a variant of the lock, or on an algorithm.
+pub(crate) fn replay_words(alloc: Global, matches: &ArgMatches<'_>) -> Result<Command, WordsFault>
+    ensures { Reads (codes "replay") (given_in matches.now) result }
+{
+    match text_of(alloc, matches, "algorithm")? {
+        Some(algorithm) => algorithm_words(alloc, matches, algorithm),
+        None => variant_words(alloc, matches),
+    }
+}

@@ -1,0 +1,146 @@
+//! The meanings of the faults of algorithms' texts, and of what their runs refuse.
+
+ghost use Rattle.std.specs.Prelude.{◌≡◌};
+ghost use Rattle.cli.specs.declared.explain.dictionary_entry.DictionaryEntry.TheVariants.{AlgorithmFault as OfAlgorithm, AlgorithmRefused as OfRefused};
+ghost use Rattle.cli.specs.Names.{name_of};
+
+use crate::explain::algorithm_refused::AlgorithmRefused;
+use crate::explain::meaning::Meaning;
+use crate::explain::refusals::of_refusal;
+use algorithms::LineFault;
+use rmecore::Refusal;
+
+const NO_HEADER: &str =
+    "The text is empty, its first line is no header, or its second names no promises. It begins as `algorithm NAME for 2 \
+processes` and `promises exclusion`.";
+
+const BAD_CHARACTER: &str =
+    "A byte is no printable ASCII, as a tab, or a character is in no word, number or sign of the format. Comments may have \
+any printable character.";
+
+const NO_NEWLINE: &str =
+    "The last line is not ended by a line feed. Each line of an algorithm ends with one, the last one too.";
+
+const BAD_FORM: &str =
+    "The line has none of the forms, or a part of it is not what is expected there. An access, an assignment, a condition and \
+each other line has one form.";
+
+const NAME_TAKEN: &str =
+    "The name is declared already, or is a word of the format. A label stands once in its call, and a loop in a loop has \
+another name.";
+
+const UNKNOWN_NAME: &str =
+    "No such shared word is declared, or the call never sets this name. A loop's name is known within its loop alone.";
+
+const TWO_ACCESSES: &str =
+    "A shared word stands within a value, a condition or an index, or is stored into another. One line is one access: read \
+the word into a private name in a line of its own.";
+
+const NOT_ASSIGNABLE: &str =
+    "This can't be set: `me`, `procs`, `limit`, the name of a loop, or a shared word without its index. A private name can.";
+
+const BAD_BLOCK: &str =
+    "An `end` is missing or one too many, an `else` has no `if`, or a call begins within a block. Each `if` of several lines \
+and each `for` has its own `end`.";
+
+const BAD_LABEL: &str =
+    "The call has no such label, or the label is within a block that the goto is not in. A goto leads out of blocks, never \
+into one.";
+
+const UNSET: &str =
+    "A name may be read here before it is set. On each way to this line it has to be set, which an `if` or a loop that may \
+have no round does not do.";
+
+const ENDLESS: &str =
+    "Local lines can go round without a step. Each way back has to come by an access, as an `await` or a load.";
+
+const NO_STEP: &str =
+    "A `done` or a deed can come before the first step of the call. Its first access has to come first.";
+
+const FALLS_OFF: &str =
+    "A run can pass the last line of the call, or the call has no lines. Each way ends with `done` or goes back.";
+
+const BAD_DEED: &str =
+    "The deed does not fit the promises, or comes after a line that takes no step. Without order there are `enter` and \
+`leave` alone; `reenter` needs order and re-entry.";
+
+const TOO_BIG: &str =
+    "A number is greater than 18446744073709551615, or a limit of the format is passed. The limits are on lines, their length, \
+names, words, depth and processes.";
+
+const BAD_CALL: &str =
+    "There is no lock or no unlock, or a call stands twice. `may withdraw` is for lines of the lock, and goes with a `call \
+withdraw`.";
+
+const NEVER_REACHED: &str =
+    "No run comes to this line. A `goto` or a `done` before it leads elsewhere, and no label leads here.";
+
+const OUT_OF_RANGE: &str =
+    "A value leaves 0 to 18446744073709551615, a division is by 0, an index is no process, or a store is above its bound. The \
+start or the step is refused, and nothing changes.";
+
+const NO_SUCH_CALL: &str =
+    "The text of the algorithm has no such call. The calls of the mailbox and its board are in no text.";
+
+const MALFORMED: &str =
+    "The algorithm is wrong at a line: one that is not there, or local lines that go round. No text that was read has this.";
+
+fn of_text(name: &'static str, text: &'static str) -> Meaning
+    ensures { result.name.now ≡ name.now }
+{
+    Meaning {
+        name,
+        text,
+        page: "docs/use/algorithms.md, Faults of a text",
+    }
+}
+
+fn of_run(name: &'static str, text: &'static str) -> Meaning
+    ensures { result.name.now ≡ name.now }
+{
+    Meaning {
+        name,
+        text,
+        page: "docs/use/algorithms.md, Meaning",
+    }
+}
+
+/// The meaning of a fault of an algorithm's text.
+#[tactic(auto, unfolding(crate::proofs::ExplainCommon::digits))]
+pub fn of_algorithm_fault(fault: LineFault) -> Meaning
+    ensures { result.name.now ≡ name_of (OfAlgorithm fault) }
+{
+    match fault {
+        LineFault::NoHeader => of_text("algorithm fault 1", NO_HEADER),
+        LineFault::BadCharacter => of_text("algorithm fault 2", BAD_CHARACTER),
+        LineFault::NoNewline => of_text("algorithm fault 3", NO_NEWLINE),
+        LineFault::BadForm => of_text("algorithm fault 4", BAD_FORM),
+        LineFault::NameTaken => of_text("algorithm fault 5", NAME_TAKEN),
+        LineFault::UnknownName => of_text("algorithm fault 6", UNKNOWN_NAME),
+        LineFault::TwoAccesses => of_text("algorithm fault 7", TWO_ACCESSES),
+        LineFault::NotAssignable => of_text("algorithm fault 8", NOT_ASSIGNABLE),
+        LineFault::BadBlock => of_text("algorithm fault 9", BAD_BLOCK),
+        LineFault::BadLabel => of_text("algorithm fault 10", BAD_LABEL),
+        LineFault::Unset => of_text("algorithm fault 11", UNSET),
+        LineFault::Endless => of_text("algorithm fault 12", ENDLESS),
+        LineFault::NoStep => of_text("algorithm fault 13", NO_STEP),
+        LineFault::FallsOff => of_text("algorithm fault 14", FALLS_OFF),
+        LineFault::BadDeed => of_text("algorithm fault 15", BAD_DEED),
+        LineFault::TooBig => of_text("algorithm fault 16", TOO_BIG),
+        LineFault::BadCall => of_text("algorithm fault 17", BAD_CALL),
+        LineFault::NeverReached => of_text("algorithm fault 18", NEVER_REACHED),
+        LineFault::OutOfMemory => of_refusal(Refusal::OutOfMemory),
+    }
+}
+
+/// The meaning of what a run of an algorithm's text refuses.
+#[tactic(auto, unfolding(crate::proofs::ExplainCommon::digits))]
+pub fn of_algorithm_refused(refused: AlgorithmRefused) -> Meaning
+    ensures { result.name.now ≡ name_of (OfRefused refused) }
+{
+    match refused {
+        AlgorithmRefused::OutOfRange => of_run("refused 16", OUT_OF_RANGE),
+        AlgorithmRefused::NoSuchCall => of_run("refused 17", NO_SUCH_CALL),
+        AlgorithmRefused::Malformed => of_run("refused 18", MALFORMED),
+    }
+}

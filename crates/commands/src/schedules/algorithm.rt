@@ -1,0 +1,87 @@
+//! The command `replay` on an algorithm's text.
+
+ghost use Rattle.std.specs.Prelude.{◌≡◌, IfErr, IfOk, false};
+ghost use Rattle.algorithms.specs.Ranked.{LocalLinesEnd, AccessesLeadOn};
+ghost use Rattle.commands.specs.AlgorithmReplays.{fault_of_run, IsAlgorithmFault, TellsAlgorithm, AlgorithmReplayEnds};
+ghost use Rattle.commands.specs.Endings.{IsEnded};
+
+use crate::algorithm_fault::fault_numbered;
+use crate::schedules::ending::{Ending, status_after_verdict};
+use crate::schedules::fault::CommandFault;
+use crate::schedules::setting::schedule_read;
+use algorithm_lab::{AlgorithmReplayFault, replay_algorithm};
+use algorithms::{Algorithm, AlgorithmFault, read_algorithm};
+use schedule::{Schedule, Sink, Source};
+use std::alloc::Global;
+
+/// The command's fault for a fault of an algorithm's text.
+fn unread(fault: AlgorithmFault) -> CommandFault
+    ensures { IsAlgorithmFault result }
+{
+    match fault {
+        AlgorithmFault::At { line, number } => CommandFault::Algorithm {
+            line,
+            fault: fault_numbered(number),
+        },
+        AlgorithmFault::OutOfMemory => CommandFault::OutOfMemory,
+    }
+}
+
+/// The command's fault for a fault of a replay on an algorithm.
+fn unplayed(fault: AlgorithmReplayFault) -> CommandFault
+    ensures { result ≡ fault_of_run fault }
+{
+    match fault {
+        AlgorithmReplayFault::Refused { line, refusal } => match refusal.number() {
+            Some(number) => CommandFault::Refused { line, number },
+            None => CommandFault::OutOfMemory,
+        },
+        AlgorithmReplayFault::Write => CommandFault::Write,
+        AlgorithmReplayFault::OutOfMemory => CommandFault::OutOfMemory,
+    }
+}
+
+/// The algorithm that this text spells. A text that spells none is a fault, of its first faulty line.
+fn algorithm_read(alloc: Global, text: &[u8]) -> Result<Algorithm, CommandFault>
+    ensures ends { IfOk result LocalLinesEnd }
+    ensures leads { IfOk result AccessesLeadOn }
+    ensures unread { IfErr result IsAlgorithmFault }
+{
+    read_algorithm(alloc, text).map_err(unread)
+}
+
+/// Plays the schedule on the algorithm, and writes its report.
+fn replay_on_algorithm<W: Sink>(
+    alloc: Global,
+    algorithm: Algorithm,
+    schedule: &Schedule,
+    w: &mut W,
+) -> Result<Ending, CommandFault>
+    ensures told { TellsAlgorithm algorithm schedule.now (W.tape w.old) (W.tape w.new) result }
+    ensures ended { IfOk result (IsEnded false (W.tape w.old).failures (W.tape w.new).failures) }
+{
+    match replay_algorithm(alloc, algorithm, schedule, w) {
+        Ok(verdict) => Ok(Ending {
+            status: status_after_verdict(verdict),
+            save: None,
+        }),
+        Err(fault) => Err(unplayed(fault)),
+    }
+}
+
+/// Runs `replay --algorithm`: reads the algorithm from its text, then the schedule, and plays the schedule on a new world of the
+/// algorithm to its verdict. A fault says what can't be read, which line is refused, or that a device or memory has failed.
+#[tactic(auto, using(crate::proofs::AlgorithmReplays::no_algorithm))]
+pub fn algorithm_replay_command<R: Source, W: Sink>(
+    alloc: Global,
+    text: Option<&[u8]>,
+    r: &mut R,
+    w: &mut W,
+) -> Result<Ending, CommandFault>
+    ensures ends { AlgorithmReplayEnds (R.reading r.old) (R.reading r.new) (W.tape w.old) (W.tape w.new) result }
+    ensures ended { IfOk result (IsEnded false (W.tape w.old).failures (W.tape w.new).failures) }
+{
+    let algorithm = algorithm_read(alloc, text.unwrap_or(&[]))?;
+    let schedule = schedule_read(alloc, r)?;
+    replay_on_algorithm(alloc, algorithm, &schedule, w)
+}

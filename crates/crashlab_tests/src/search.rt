@@ -2,6 +2,8 @@
 
 pub mod jugs;
 #[cfg(test)]
+mod scarce_memory;
+#[cfg(test)]
 mod schedules;
 #[cfg(test)]
 mod searches;

@@ -3,6 +3,9 @@
 #![tactic(auto)]
 
 use std::alloc::{AllocError, Global};
+use std::sync::atomic::{AtomicU64, Ordering};
+use std::thread;
+use std::thread::Threads;
 
 const LARGEST: usize = 8 * 1024 * 1024 * 1024;
 
@@ -13,21 +16,53 @@ pub const PIECES: usize = 400;
 
 const PIECE: usize = 240;
 
+/// The threads that take memory: this one, the four whose arenas are left to others, and one more, whose arena this one takes
+/// over when its own has nothing left.
+const THREADS: usize = 6;
+
+/// How often a thread looks whether the others have begun.
+const LOOKS: u64 = 1_000_000;
+
+/// Blocks that are taken.
+#[derive(Drop)]
+struct Taken {
+    blocks: Vec<Vec<u8>>,
+}
+
 /// All memory, taken, with a reserve.
 #[derive(Drop)]
 pub struct ScarceMemory {
     reserve: Vec<Vec<u8>>,
-    taken: Vec<Vec<u8>>,
+    taken: Vec<Taken>,
 }
 
 impl ScarceMemory {
     /// Takes all memory that is free. `AllocError`: there is not even enough for the reserve.
     pub fn new(alloc: Global) -> Result<ScarceMemory, AllocError> {
-        let mut reserve = Vec::with_capacity(alloc, PIECES)?;
-        for _ in 0..PIECES {
-            reserve.push(Vec::<u8>::with_capacity(alloc, PIECE)?)?;
+        let mut taken = nothing_taken(alloc, 1)?;
+        let reserve = reserve(alloc)?;
+        if let Some(last) = taken.last_mut() {
+            last.take_all(alloc);
         }
-        let taken = all_that_is_left(alloc)?;
+        Ok(ScarceMemory { reserve, taken })
+    }
+
+    /// The same for calls that have as many as four other threads at once. The C library has an arena for each thread: what is
+    /// free there is taken too. It keeps the stacks of four threads that have ended, so that as many can be made while memory
+    /// is scarce.
+    pub fn of_threads<R: Threads + Sync>(
+        rt: &R,
+        alloc: Global,
+    ) -> Result<ScarceMemory, AllocError> {
+        let mut of_others = nothing_taken(alloc, THREADS)?;
+        let mut taken = nothing_taken(alloc, 1)?;
+        taken.reserve(THREADS)?;
+        let reserve = reserve(alloc)?;
+        take_in_threads(rt, alloc, of_others.as_mut_slice());
+        if let Some(last) = taken.last_mut() {
+            last.take_all(alloc);
+        }
+        taken.append(&mut of_others)?;
         Ok(ScarceMemory { reserve, taken })
     }
 
@@ -45,20 +80,69 @@ impl ScarceMemory {
     }
 }
 
-/// Allocates smaller and smaller blocks, until the smallest fails.
-fn all_that_is_left(alloc: Global) -> Result<Vec<Vec<u8>>, AllocError> {
-    let mut blocks = Vec::with_capacity(alloc, BLOCKS)?;
-    let mut size = LARGEST;
-    for _ in 0..2 * BLOCKS {
-        if blocks.len() + 1 >= BLOCKS {
-            break;
-        }
-        match Vec::<u8>::with_capacity(alloc, size) {
-            Ok(block) => blocks.push(block)?,
-            Err(_) if size <= 16 => break,
-            Err(_) if size <= 4096 => size -= 16,
-            Err(_) => size /= 2,
+/// The pieces of the reserve.
+fn reserve(alloc: Global) -> Result<Vec<Vec<u8>>, AllocError> {
+    let mut reserve = Vec::with_capacity(alloc, PIECES)?;
+    for _ in 0..PIECES {
+        reserve.push(Vec::<u8>::with_capacity(alloc, PIECE)?)?;
+    }
+    Ok(reserve)
+}
+
+/// Room for the blocks that this many threads take.
+fn nothing_taken(alloc: Global, threads: usize) -> Result<Vec<Taken>, AllocError> {
+    let mut taken = Vec::with_capacity(alloc, threads)?;
+    for _ in 0..threads {
+        taken.push(Taken {
+            blocks: Vec::with_capacity(alloc, BLOCKS)?,
+        })?;
+    }
+    Ok(taken)
+}
+
+/// Takes all memory in as many threads.
+fn take_in_threads<R: Threads + Sync>(rt: &R, alloc: Global, taken: &mut [Taken]) {
+    let begun = AtomicU64::new(0);
+    thread::for_each_mut(
+        rt,
+        taken,
+        THREADS,
+        &|_, one| { one.take_beside(alloc, &begun) },
+    );
+}
+
+impl Taken {
+    /// Allocates smaller and smaller blocks, until the smallest fails.
+    fn take_all(&mut self, alloc: Global) {
+        let mut size = LARGEST;
+        for _ in 0..2 * BLOCKS {
+            if self.blocks.len() + 1 >= BLOCKS {
+                break;
+            }
+            match Vec::<u8>::with_capacity(alloc, size) {
+                Ok(block) => {
+                    if self.blocks.push(block).is_err() {
+                        break;
+                    }
+                }
+                Err(_) if size <= 16 => break,
+                Err(_) if size <= 4096 => size -= 16,
+                Err(_) => size /= 2,
+            }
         }
     }
-    Ok(blocks)
+
+    /// The same once all the threads have an arena, so that none takes the arena of another.
+    fn take_beside(&mut self, alloc: Global, begun: &AtomicU64) {
+        let first = Vec::<u8>::with_capacity(alloc, PIECE);
+        begun.fetch_add(1, Ordering::SeqCst);
+        for _ in 0..LOOKS {
+            if begun.load(Ordering::SeqCst) >= THREADS as u64 {
+                break;
+            }
+            thread::yield_now();
+        }
+        self.take_all(alloc);
+        drop(first);
+    }
 }

@@ -147,7 +147,8 @@ fn take(
 ) -> Result<Advanced, AlgorithmRefusal>
     requires own { constants.me < constants.procs }
     requires first { state.old.noted ≡ nothing_noted }
-    ensures ok { IfOk result (λ a. taken_by algorithm.now constants words.now (stopped state.old None) ≡ Ok (taken state.old a state.new)) }
+    ensures ok { IfOk result (λ a. taken_by algorithm.now constants words.now (stopped state.old None)
+        ≡ Ok (taken state.old a state.new)) }
     ensures refused { IfErr result (λ e. taken_by algorithm.now constants words.now (stopped state.old None) ≡ Err e) }
 {
     let line = access_at(algorithm, state.at)?;

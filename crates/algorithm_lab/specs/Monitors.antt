@@ -2,7 +2,7 @@
 use Rattle.std.specs.Prelude.{◌≡◌, ℕ, Bool, true, false, if◌then◌else◌, List, [], ◌∷◌, ◌++◌, replicate, slice_index_or, slice_set, Option, Some, None, is_some, Result, Ok, Err}
 use Rattle.rmecore.specs.declared.phase.Phase.{Phase}
 use Rattle.rmecore.specs.declared.phase.Phase.TheVariants.{Out, Inside}
-use Rattle.algorithms.specs.Worlds.{WorldState, first_world, process_of, entry_of, start, step, crash}
+use Rattle.algorithms.specs.Worlds.{WorldState, first_world, process_of, entry_of, start, advance, crash}
 use Rattle.algorithms.specs.declared.algorithm.Algorithm.{Algorithm}
 use Rattle.algorithms.specs.declared.algorithm.Call.{Call}
 use Rattle.algorithms.specs.declared.algorithm.Call.TheVariants.{Lock, Unlock, Recover}
@@ -92,7 +92,7 @@ part_of m p world h answer =
 -- a step reports what is heard of it, and then the answer of its call
 abbrev pub step_on : MonitorState → ℕ → Result Part RunRefusal
 step_on m p =
-    then_in (λ s. part_of m p s.1 (heard m.world.algorithm.promises p (phase_of m p) s.0.moved.noted) s.0.moved.answer) (step m.world p)
+    then_in (λ s. part_of m p s.1 (heard m.world.algorithm.promises p (phase_of m p) s.0.noted) s.0.answer) (advance m.world p)
 
 -- a crash
 abbrev pub crash_on : MonitorState → ℕ → Result Part RunRefusal

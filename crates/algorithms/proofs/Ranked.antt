@@ -4,7 +4,7 @@ use Rattle.std.proofs.lemmas.Bool.{leb-true, lt-ltb, ltb-true}
 use Rattle.std.proofs.lemmas.Option.{slice_get_within}
 use Rattle.algorithms.specs.Values.{evaluated, holds, fitting}
 use Rattle.algorithms.specs.LocalRuns.{at_place, with_value, with_deed, least_from, member_from, round_at, local_line_done}
-use Rattle.algorithms.specs.Arrivals.{arrives, arrives_after, local_step_of, ◌>>=◌}
+use Rattle.algorithms.specs.Arrivals.{GoesOn, arrives, arrives_after, local_step_of, ◌>>=◌}
 use Rattle.algorithms.specs.Ranked.{rank_of, is_line_below, is_below, has_round, ways_pass, is_line, form_falls, AllFall, LocalLinesEnd, AccessesLeadOn}
 use Rattle.algorithms.specs.declared.algorithm.Algorithm.{Algorithm}
 use Rattle.algorithms.specs.declared.constants.Constants.{Constants}
@@ -16,7 +16,6 @@ use Rattle.algorithms.specs.declared.line.LocalLine.TheVariants.{Assign, Note, G
 use Rattle.algorithms.specs.declared.line.Members.{Members}
 use Rattle.algorithms.specs.declared.line.Members.TheVariants.{All, Others, Lower, Higher}
 use Rattle.algorithms.specs.declared.local.LocalState.{LocalState}
-use Rattle.algorithms.specs.declared.local.LocalStep.TheVariants.{GoesOn}
 use Rattle.algorithms.specs.declared.refusal.AlgorithmRefusal.TheVariants.{OutOfRange, Malformed}
 
 -- both parts of a test that passes

@@ -1,14 +1,13 @@
 -- Where the local lines of a process lead it: to its next access, or to the end of its call.
-use Rattle.std.specs.Prelude.{ℕ, zero, suc, ◌+◌, List, slice_get, Some, None, Result, Ok, Err, ok_or}
+use Rattle.std.specs.Prelude.{◌≡◌, ℕ, zero, suc, ◌+◌, List, slice_get, Option, Some, None, Result, Ok, Err, ok_or}
 use Rattle.algorithms.specs.LocalRuns.{local_line_done}
 use Rattle.algorithms.specs.declared.constants.Constants.{Constants}
 use Rattle.algorithms.specs.declared.line.Line.{Line}
 use Rattle.algorithms.specs.declared.line.Form.{Form}
 use Rattle.algorithms.specs.declared.line.Form.TheVariants.{Access, Local, Done}
+use Rattle.algorithms.specs.declared.local.LineStep.{LineStep}
+use Rattle.algorithms.specs.declared.local.LineStep.TheVariants as line
 use Rattle.algorithms.specs.declared.local.LocalState.{LocalState}
-use Rattle.algorithms.specs.declared.local.LocalStep.{LocalStep}
-use Rattle.algorithms.specs.declared.local.LocalStep.TheVariants.{GoesOn, Stops}
-use Rattle.algorithms.specs.declared.local.Landing.{Landing}
 use Rattle.algorithms.specs.declared.refusal.AlgorithmRefusal.{AlgorithmRefusal}
 use Rattle.algorithms.specs.declared.refusal.AlgorithmRefusal.TheVariants.{OutOfRange, Malformed}
 
@@ -16,6 +15,20 @@ infixl 10 ◌>>=◌
 abbrev pub ◌>>=◌ : {A B : Type 0} → Result A AlgorithmRefusal → (A → Result B AlgorithmRefusal) → Result B AlgorithmRefusal
 (Ok x) >>= f = f x
 (Err e) >>= f = Err e
+
+-- what one line does to a process between two accesses: it goes on, or stops before an access or with an answer at the end of
+-- its call
+pub data LocalStep : Type 0 where
+  GoesOn : LocalState → LocalStep
+  Stops : Option ℕ → LocalStep
+
+-- a process that stops: before an access, or with an answer at the end of its call
+pub record Landing : Type 0 where
+  pub answer : Option ℕ
+  pub state : LocalState
+
+abbrev pub landing : Option ℕ → LocalState → Landing
+landing answer s = record { answer = answer; state = s }
 
 -- the line at a place
 abbrev pub line_at : List Line → ℕ → Result Line AlgorithmRefusal
@@ -31,13 +44,18 @@ local_step_of c (Local local) s = do
 
 abbrev pub local_step_at : List Line → Constants → LocalState → Result LocalStep AlgorithmRefusal
 local_step_at lines c s = do
-  line ← line_at lines s.at
-  local_step_of c line.form s
+  l ← line_at lines s.at
+  local_step_of c l.form s
+
+-- a line that is done in place: the process has gone on, or stops as it was
+abbrev pub IsDone : Result LocalStep AlgorithmRefusal → LineStep → LocalState → LocalState → Type 0
+IsDone r line.GoesOn before now = r ≡ Ok (GoesOn now)
+IsDone r (line.Stops answer) before now = (r ≡ Ok (Stops answer)) × (now ≡ before)
 
 -- a process that stops has come to where it is. One that goes on comes to where it comes from the next line
 abbrev pub arrives_after : (LocalState → Result Landing AlgorithmRefusal) → LocalState → LocalStep → Result Landing AlgorithmRefusal
 arrives_after rest s (GoesOn next) = rest next
-arrives_after rest s (Stops answer) = Ok (record { answer = answer; state = s })
+arrives_after rest s (Stops answer) = Ok (landing answer s)
 
 -- where a process comes to by at most n local lines. Lines that lead on in no circle are done once each
 abbrev pub arrives : List Line → Constants → ℕ → LocalState → Result Landing AlgorithmRefusal

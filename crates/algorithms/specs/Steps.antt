@@ -1,18 +1,18 @@
 -- One step of a process: one access, and the local lines after it.
-use Rattle.std.specs.Prelude.{ℕ, ◌+◌, ◌-◌, true, false, if◌then◌else◌, List, ◌++◌, length, take, replicate, slice_get, Option, Some, None, option_and_then, Result, Ok, ok_or}
+use Rattle.std.specs.Prelude.{ℕ, ◌+◌, ◌-◌, Bool, true, false, if◌then◌else◌, List, ◌++◌, length, take, replicate, slice_get, Option, Some, None, option_and_then, Result, Ok, ok_or}
 use Rattle.std.specs.Option.{option_or}
 use Rattle.algorithms.specs.Accesses.{access_of, received, passes}
-use Rattle.algorithms.specs.Arrivals.{arrives, ◌>>=◌}
+use Rattle.algorithms.specs.Arrivals.{Landing, arrives, ◌>>=◌}
 use Rattle.algorithms.specs.LocalRuns.{nothing_noted}
 use Rattle.algorithms.specs.declared.access.Access.{Access}
 use Rattle.algorithms.specs.declared.access.Address.{Address}
+use Rattle.algorithms.specs.declared.access.Advanced.{Advanced}
 use Rattle.algorithms.specs.declared.access.Moved.{Moved}
 use Rattle.algorithms.specs.declared.access.Taken.{Taken}
 use Rattle.algorithms.specs.declared.algorithm.Algorithm.{Algorithm}
 use Rattle.algorithms.specs.declared.constants.Constants.{Constants}
 use Rattle.algorithms.specs.declared.line.AccessLine.{AccessLine}
 use Rattle.algorithms.specs.declared.local.LocalState.{LocalState}
-use Rattle.algorithms.specs.declared.local.Landing.{Landing}
 use Rattle.algorithms.specs.declared.process.Place.TheVariants.{Rest, At}
 use Rattle.algorithms.specs.declared.process.Process.{Process}
 use Rattle.algorithms.specs.declared.refusal.AlgorithmRefusal.{AlgorithmRefusal}
@@ -56,3 +56,30 @@ acted a c words at line store = do
   goes ← ok_or (passes c (received line.action value store) line.action) (OutOfRange at)
   moved ← if goes then goes_on a c (at + 1) (received line.action value store) else Ok (stays at store)
   Ok (record { at = at; access = access; value = value; moved = moved })
+
+-- ---- a step in place: what it says, and what it has made of its process
+
+-- a process before the access at its place
+abbrev pub before_step : ℕ → Process → LocalState
+before_step at process = record { at = at; store = process.store; noted = nothing_noted }
+
+-- a process at the end of its local lines, with its names as they are
+abbrev pub stopped : LocalState → Option ℕ → Process
+stopped s None = record { place = At s.at; store = s.store }
+stopped s (Some answer) = record { place = Rest; store = s.store }
+
+abbrev pub moved : LocalState → Option ℕ → Moved
+moved s answer = record { process = stopped s answer; noted = s.noted; answer = answer; blocked = false }
+
+-- the process that a step leaves: after a blocked reading the one that was there before
+abbrev pub left : LocalState → Advanced → LocalState → Process
+left before a s = if a.blocked then stopped before None else stopped s a.answer
+
+-- the step that says this
+abbrev pub taken : LocalState → Advanced → LocalState → Taken
+taken before a s =
+    record { at = before.at; access = a.access; value = a.value; moved = record { process = left before a s; noted = a.noted; answer = a.answer; blocked = a.blocked } }
+
+-- what a step says, without the process that it leaves
+abbrev pub advanced : Taken → Advanced
+advanced t = record { access = t.access; value = t.value; noted = t.moved.noted; answer = t.moved.answer; blocked = t.moved.blocked }

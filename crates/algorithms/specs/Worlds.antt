@@ -2,8 +2,9 @@
 use Rattle.std.specs.Prelude.{ℕ, ◌^◌, nat_lt, nat_le, Bool, false, ◌&&◌, if◌then◌else◌, List, length, replicate, slice_get, slice_set, Option, Some, None, Result, Ok, Err, ok_or}
 use Rattle.algorithms.specs.Arrivals.{arrives, line_at, ◌>>=◌}
 use Rattle.algorithms.specs.LocalRuns.{nothing_noted}
-use Rattle.algorithms.specs.Steps.{kept, acted}
+use Rattle.algorithms.specs.Steps.{kept, acted, advanced}
 use Rattle.algorithms.specs.declared.access.Address.{Address}
+use Rattle.algorithms.specs.declared.access.Advanced.{Advanced}
 use Rattle.algorithms.specs.declared.access.Taken.{Taken}
 use Rattle.algorithms.specs.declared.algorithm.Algorithm.{Algorithm}
 use Rattle.algorithms.specs.declared.algorithm.Call.{Call}
@@ -115,6 +116,13 @@ abbrev pub step : WorldState → ℕ → Result (Taken × WorldState) AlgorithmR
 step w p = do
   t ← taken w p
   Ok (t, after_step w p t)
+
+-- what a step says, without the process that it leaves, and the world after it
+abbrev pub said : Taken × WorldState → Result (Advanced × WorldState) AlgorithmRefusal
+said s = Ok (advanced s.0, s.1)
+
+abbrev pub advance : WorldState → ℕ → Result (Advanced × WorldState) AlgorithmRefusal
+advance w p = step w p >>= said
 
 -- where a call begins
 abbrev pub entry_of : Entries → Call → Option ℕ

@@ -1,16 +1,17 @@
 //! The access that a process makes next, and what its value leads to.
 
-ghost use Rattle.std.specs.Prelude.{◌≡◌, ◌<◌, ◌-◌, ◌^◌};
+ghost use Rattle.std.specs.Prelude.{◌≡◌, ◌<◌, ◌-◌, ◌^◌, Ok, Err, IfOk, IfErr};
 ghost use Rattle.algorithms.specs.Accesses.{index_of, bound_of, value_stored, access_of, received, passes};
-ghost use Rattle.algorithms.specs.Steps.{landed, goes_on, stays, value_of, acted};
+ghost use Rattle.algorithms.specs.LocalRuns.{nothing_noted};
+ghost use Rattle.algorithms.specs.Steps.{goes_on, value_of, acted, stopped, moved, taken};
 
 use crate::algorithm::{Algorithm, Declaration};
 use crate::constants::{Constants, MOST_PROCS};
 use crate::expression::{Expression, NAMES};
 use crate::line::{AccessLine, Action, WordOf};
-use crate::local::{Landing, LocalState, arrive, with_name};
+use crate::local::{LocalState, arrive, set_name};
 use crate::noted::Noted;
-use crate::process::{Place, Process, kept};
+use crate::process::{Process, keep};
 use crate::refusal::AlgorithmRefusal;
 
 /// A shared word of a world: its declaration, and which of the declaration's words it is.
@@ -117,13 +118,13 @@ impl AccessLine {
 }
 
 impl Action {
-    /// The names once the value is read.
-    fn received(&self, value: u64, store: [u64; NAMES]) -> [u64; NAMES]
-        ensures { result ≡ received self.now value store }
+    /// Reads the value into its name, if it has one.
+    fn receive(&self, value: u64, store: &mut [u64; NAMES])
+        ensures { store.new ≡ received self.now value store.old }
     {
         match self {
-            Action::Store { .. } => store,
-            Action::Load { name } | Action::Await { name, .. } => with_name(store, *name, value),
+            Action::Store { .. } => {}
+            Action::Load { name } | Action::Await { name, .. } => set_name(store, *name, value),
         }
     }
 
@@ -138,61 +139,34 @@ impl Action {
     }
 }
 
-/// What a process is where it stops.
-fn landed(lasting: usize, landing: Landing) -> Moved
-    ensures { result ≡ landed lasting landing }
-{
-    let LocalState { at, store, noted } = landing.state;
-    let process = match landing.answer {
-        None => Process {
-            place: Place::At(at),
-            store,
-        },
-        Some(_) => Process {
-            place: Place::Rest,
-            store: kept(store, lasting),
-        },
-    };
-    Moved {
-        process,
-        noted,
-        answer: landing.answer,
-        blocked: false,
-    }
+/// What a step says, beside the process that it leaves.
+#[derive(Clone, Copy, Debug)]
+pub struct Advanced {
+    pub access: Access,
+    pub value: u64,
+    pub noted: Noted,
+    /// The answer of the call, by its index, where the step ends it.
+    pub answer: Option<usize>,
+    /// The reading was blocked. The next step reads the same word again.
+    pub blocked: bool,
 }
 
-/// Where a process comes to by its local lines, from this place on.
-pub fn go_on(
+/// Goes on by the local lines from this place to the next access, or to the end of the call, with its answer.
+fn go_on(
     algorithm: &Algorithm,
     constants: Constants,
-    at: usize,
-    store: [u64; NAMES],
-) -> Result<Moved, AlgorithmRefusal>
-    requires { constants.me < constants.procs }
-    ensures { result ≡ goes_on algorithm.now constants at store }
+    state: &mut LocalState,
+) -> Result<Option<usize>, AlgorithmRefusal>
+    requires own { constants.me < constants.procs }
+    requires first { state.old.noted ≡ nothing_noted }
+    ensures ok { IfOk result (λ answer. goes_on algorithm.now constants state.old.at state.old.store ≡ Ok (moved state.new answer)) }
+    ensures refused { IfErr result (λ e. goes_on algorithm.now constants state.old.at state.old.store ≡ Err e) }
 {
-    let from = LocalState {
-        at,
-        store,
-        noted: Noted::nothing(),
-    };
-    let landing = arrive(algorithm.lines.as_slice(), constants, from)?;
-    Ok(landed(algorithm.lasting, landing))
-}
-
-/// A process whose reading was blocked. It keeps its place and its names.
-fn stay(at: usize, store: [u64; NAMES]) -> Moved
-    ensures { result ≡ stays at store }
-{
-    Moved {
-        process: Process {
-            place: Place::At(at),
-            store,
-        },
-        noted: Noted::nothing(),
-        answer: None,
-        blocked: true,
+    let answer = arrive(algorithm.lines.as_slice(), constants, state)?;
+    if answer.is_some() {
+        keep(&mut state.store, algorithm.lasting);
     }
+    Ok(answer)
 }
 
 /// The value that an access reads, or the one that it stores.
@@ -208,33 +182,40 @@ fn value_of(words: &[[u64; MOST_PROCS]], access: Access) -> Option<u64>
     }
 }
 
-/// Takes the step of a process before the access at this place.
+/// Takes the step of a process before the access at its place. After a blocked reading the process is as it was, whatever
+/// `state` is.
 pub fn act(
     algorithm: &Algorithm,
     constants: Constants,
     words: &[[u64; MOST_PROCS]],
-    at: usize,
     line: &AccessLine,
-    store: [u64; NAMES],
-) -> Result<Taken, AlgorithmRefusal>
+    state: &mut LocalState,
+) -> Result<Advanced, AlgorithmRefusal>
     requires own { constants.me < constants.procs }
-    requires place { at < 2 ^ 64 - 1 }
-    ensures { result ≡ acted algorithm.now constants words.now at line.now store }
+    requires place { state.old.at < 2 ^ 64 - 1 }
+    requires first { state.old.noted ≡ nothing_noted }
+    ensures ok { IfOk result (λ a. acted algorithm.now constants words.now state.old.at line.now state.old.store
+        ≡ Ok (taken state.old a state.new)) }
+    ensures refused { IfErr result (λ e. acted algorithm.now constants words.now state.old.at line.now state.old.store ≡ Err e) }
 {
-    let access = line.access(algorithm.declarations.as_slice(), constants, &store);
+    let at = state.at;
+    let access = line.access(algorithm.declarations.as_slice(), constants, &state.store);
     let access = access.ok_or(AlgorithmRefusal::OutOfRange { place: at })?;
     let value = value_of(words, access).ok_or(AlgorithmRefusal::Malformed { place: at })?;
-    let received = line.action.received(value, store);
-    let passes = line.action.passes(constants, &received);
-    let moved = if passes.ok_or(AlgorithmRefusal::OutOfRange { place: at })? {
-        go_on(algorithm, constants, at + 1, received)?
+    line.action.receive(value, &mut state.store);
+    let passes = line.action.passes(constants, &state.store);
+    let passes = passes.ok_or(AlgorithmRefusal::OutOfRange { place: at })?;
+    let answer = if passes {
+        state.at = at + 1;
+        go_on(algorithm, constants, state)?
     } else {
-        stay(at, store)
+        None
     };
-    Ok(Taken {
-        at,
+    Ok(Advanced {
         access,
         value,
-        moved,
+        noted: state.noted,
+        answer,
+        blocked: !passes,
     })
 }

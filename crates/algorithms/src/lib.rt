@@ -16,7 +16,7 @@ pub mod reading;
 pub mod refusal;
 pub mod world;
 
-pub use access::{Access, Address, Moved, Taken};
+pub use access::{Access, Address, Advanced, Moved, Taken};
 pub use algorithm::{Algorithm, Call, Declaration, Entries, Promises};
 pub use condition::{Comparison, Condition, Pair};
 pub use constants::{Constants, MOST_PROCS};

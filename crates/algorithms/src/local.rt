@@ -1,8 +1,8 @@
 //! What a process does between two accesses. It is local and free, and it ends.
 
-ghost use Rattle.std.specs.Prelude.{◌≡◌, ◌<◌, length, slice_set};
+ghost use Rattle.std.specs.Prelude.{◌≡◌, ◌<◌, Some, None, Ok, Err, IfOk, IfErr, IfSome, length, slice_set};
 ghost use Rattle.algorithms.specs.LocalRuns.{at_place, with_value, with_deed, least_from, round_at, local_line_done};
-ghost use Rattle.algorithms.specs.Arrivals.{local_step_at, arrives};
+ghost use Rattle.algorithms.specs.Arrivals.{local_step_at, arrives, landing, IsDone};
 
 use crate::constants::Constants;
 use crate::expression::NAMES;
@@ -18,30 +18,22 @@ pub struct LocalState {
     pub noted: Noted,
 }
 
-/// What one line does to a process between two accesses.
+/// What one line does to a process between two accesses: it goes on, or the line is an access, or with an answer the end of the
+/// call.
 #[derive(Clone, Copy, Debug)]
-pub enum LocalStep {
-    GoesOn(LocalState),
-    /// Nothing: the line is an access, or with an answer the end of the call.
+pub enum LineStep {
+    GoesOn,
     Stops(Option<usize>),
 }
 
-/// A process that stops: at an access, or with an answer at the end of its call.
-#[derive(Clone, Copy, Debug)]
-pub struct Landing {
-    pub answer: Option<usize>,
-    pub state: LocalState,
-}
-
-/// The private names with one of them set. An index that is no name changes nothing.
+/// Sets a private name. An index that is no name changes nothing.
 #[tactic(auto, using(std::proofs::lemmas::List::set_past))]
-pub fn with_name(mut store: [u64; NAMES], name: usize, value: u64) -> [u64; NAMES]
-    ensures { result ≡ slice_set store name value }
+pub fn set_name(store: &mut [u64; NAMES], name: usize, value: u64)
+    ensures { store.new ≡ slice_set store.old name value }
 {
     if name < NAMES {
         store[name] = value;
     }
-    store
 }
 
 impl Members {
@@ -64,125 +56,131 @@ impl Members {
 }
 
 impl LocalState {
-    /// The same at another place.
-    fn to(self, place: usize) -> LocalState
-        ensures { result ≡ at_place place self }
+    /// Goes to another place.
+    fn go_to(&mut self, place: usize)
+        ensures { self.new ≡ at_place place self.old }
     {
-        LocalState { at: place, ..self }
+        self.at = place;
     }
 
-    /// The same with a name set.
-    fn set(self, name: usize, value: u64) -> LocalState
-        ensures { result ≡ with_value name value self }
+    /// Sets a name.
+    fn set(&mut self, name: usize, value: u64)
+        ensures { self.new ≡ with_value name value self.old }
     {
-        LocalState {
-            store: with_name(self.store, name, value),
-            ..self
-        }
+        set_name(&mut self.store, name, value);
     }
 
-    /// The same with one deed more. `None` where it is the fourth of the step.
-    fn note(self, deed: Deed) -> Option<LocalState>
-        ensures { result ≡ with_deed deed self }
+    /// Notes one deed more. `None` where it is the fourth of the step.
+    fn note(&mut self, deed: Deed) -> Option<()>
+        ensures noted { IfSome result (λ done. with_deed deed self.old ≡ Some self.new) }
+        ensures full { result ≡ None → with_deed deed self.old ≡ None }
     {
-        let noted = self.noted.and(deed)?;
-        Some(LocalState { noted, ..self })
+        self.noted = self.noted.and(deed)?;
+        Some(())
     }
 
-    /// The next round of a loop with this member, or the line after the loop where there is none.
-    fn go_round(self, member: Option<u64>, name: usize, body: usize, after: usize) -> LocalState
-        ensures { result ≡ round_at name body after self member }
+    /// Begins the next round of a loop with this member, or goes to the line after the loop where there is none.
+    fn go_round(&mut self, member: Option<u64>, name: usize, body: usize, after: usize)
+        ensures { self.new ≡ round_at name body after self.old member }
     {
         match member {
-            Some(member) => self.set(name, member).to(body),
-            None => self.set(name, 0).to(after),
+            Some(member) => {
+                self.set(name, member);
+                self.go_to(body);
+            }
+            None => {
+                self.set(name, 0);
+                self.go_to(after);
+            }
         }
+    }
+
+    /// Does one local line, of which `next` is the place of the line after it. `None` where a value is out of range.
+    fn do_local(&mut self, line: &LocalLine, constants: Constants, next: usize) -> Option<()>
+        requires { constants.me < constants.procs }
+        ensures done { IfSome result (λ done. local_line_done constants next line.now self.old ≡ Some self.new) }
+        ensures out { result ≡ None → local_line_done constants next line.now self.old ≡ None }
+    {
+        match line {
+            LocalLine::Assign { name, value } => {
+                let value = value.evaluate(constants, &self.store)?;
+                self.set(*name, value);
+                self.go_to(next);
+            }
+            LocalLine::Note(deed) => {
+                self.note(*deed)?;
+                self.go_to(next);
+            }
+            LocalLine::Goto(place) => self.go_to(*place),
+            LocalLine::Branch {
+                condition,
+                otherwise,
+            } => {
+                let holds = condition.holds(constants, &self.store)?;
+                self.go_to(if holds { next } else { *otherwise });
+            }
+            LocalLine::First {
+                name,
+                members,
+                after,
+            } => {
+                let member = members.least_from(constants, 0);
+                self.go_round(member, *name, next, *after);
+            }
+            LocalLine::Next {
+                name,
+                members,
+                body,
+            } => {
+                let further = self.store.get(*name).copied()?.checked_add(1)?;
+                let member = members.least_from(constants, further);
+                self.go_round(member, *name, *body, next);
+            }
+        }
+        Some(())
     }
 }
 
-/// Does one local line, of which `next` is the place of the line after it. `None` where a value is out of range.
-fn do_local(
-    line: &LocalLine,
-    constants: Constants,
-    next: usize,
-    state: LocalState,
-) -> Option<LocalState>
-    requires { constants.me < constants.procs }
-    ensures { result ≡ local_line_done constants next line.now state }
-{
-    match line {
-        LocalLine::Assign { name, value } => {
-            let value = value.evaluate(constants, &state.store)?;
-            Some(state.set(*name, value).to(next))
-        }
-        LocalLine::Note(deed) => Some(state.note(*deed)?.to(next)),
-        LocalLine::Goto(place) => Some(state.to(*place)),
-        LocalLine::Branch {
-            condition,
-            otherwise,
-        } => {
-            let holds = condition.holds(constants, &state.store)?;
-            Some(state.to(if holds { next } else { *otherwise }))
-        }
-        LocalLine::First {
-            name,
-            members,
-            after,
-        } => {
-            let member = members.least_from(constants, 0);
-            Some(state.go_round(member, *name, next, *after))
-        }
-        LocalLine::Next {
-            name,
-            members,
-            body,
-        } => {
-            let further = state.store.get(*name).copied()?.checked_add(1)?;
-            let member = members.least_from(constants, further);
-            Some(state.go_round(member, *name, *body, next))
-        }
-    }
-}
-
-/// Does the line at which the process is.
+/// Does the line at which the process is. At a line that is not local it changes nothing.
 fn do_line(
     lines: &[Line],
     constants: Constants,
-    state: LocalState,
-) -> Result<LocalStep, AlgorithmRefusal>
+    state: &mut LocalState,
+) -> Result<LineStep, AlgorithmRefusal>
     requires { constants.me < constants.procs }
-    ensures { result ≡ local_step_at lines.now constants state }
+    ensures done { IfOk result (λ step. IsDone (local_step_at lines.now constants state.old) step state.old state.new) }
+    ensures refused { IfErr result (λ e. local_step_at lines.now constants state.old ≡ Err e) }
 {
+    let at = state.at;
     let line = lines
-        .get(state.at)
-        .ok_or(AlgorithmRefusal::Malformed { place: state.at })?;
+        .get(at)
+        .ok_or(AlgorithmRefusal::Malformed { place: at })?;
     match &line.form {
-        Form::Access(_) => Ok(LocalStep::Stops(None)),
-        Form::Done(answer) => Ok(LocalStep::Stops(Some(*answer))),
-        Form::Local(local) => {
-            let next = do_local(local, constants, state.at + 1, state);
-            let next = next.ok_or(AlgorithmRefusal::OutOfRange { place: state.at })?;
-            Ok(LocalStep::GoesOn(next))
-        }
+        Form::Access(_) => Ok(LineStep::Stops(None)),
+        Form::Done(answer) => Ok(LineStep::Stops(Some(*answer))),
+        Form::Local(local) => match state.do_local(local, constants, at + 1) {
+            Some(()) => Ok(LineStep::GoesOn),
+            None => Err(AlgorithmRefusal::OutOfRange { place: at }),
+        },
     }
 }
 
-/// Where a process comes to from here by its local lines. `Malformed` where it does as many lines as there are and has not
-/// come to an access or to the end of its call.
+/// Goes on by the local lines of a process to where it stops: before an access, or at the end of its call, with its answer.
+/// `Malformed` where it does as many lines as there are and has not come to one.
 pub fn arrive(
     lines: &[Line],
     constants: Constants,
-    from: LocalState,
-) -> Result<Landing, AlgorithmRefusal>
+    state: &mut LocalState,
+) -> Result<Option<usize>, AlgorithmRefusal>
     requires { constants.me < constants.procs }
-    ensures { result ≡ arrives lines.now constants (length lines.now) from }
+    ensures stops { IfOk result (λ answer. arrives lines.now constants (length lines.now) state.old ≡ Ok (landing answer state.new)) }
+    ensures refused { IfErr result (λ e. arrives lines.now constants (length lines.now) state.old ≡ Err e) }
 {
-    let mut state = from;
     let mut left = lines.len();
     while left > 0 {
         match do_line(lines, constants, state)? {
-            LocalStep::GoesOn(next) => state = next,
-            LocalStep::Stops(answer) => return Ok(Landing { answer, state }),
+            LineStep::GoesOn => {}
+            LineStep::Stops(answer) => return Ok(answer),
         }
         left -= 1;
     }

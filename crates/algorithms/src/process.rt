@@ -21,12 +21,11 @@ pub struct Process {
     pub store: [u64; NAMES],
 }
 
-/// What a call leaves of the names: the first `lasting` of them. The others are 0.
-pub fn kept(mut store: [u64; NAMES], lasting: usize) -> [u64; NAMES]
-    ensures { result ≡ kept lasting store }
+/// Leaves of the names what lasts over the end of a call: the first `lasting` of them. The others are 0.
+pub fn keep(store: &mut [u64; NAMES], lasting: usize)
+    ensures { store.new ≡ kept lasting store.old }
 {
     for name in lasting..NAMES {
         store[name] = 0;
     }
-    store
 }

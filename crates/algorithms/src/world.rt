@@ -1,16 +1,18 @@
 //! The worlds of an algorithm.
 
 ghost use Rattle.std.specs.Prelude.{◌≡◌, ◌<◌, Some, None, Ok, Err, IfOk, IfErr, OnOk, OnErr, length, replicate};
+ghost use Rattle.algorithms.specs.LocalRuns.{nothing_noted};
+ghost use Rattle.algorithms.specs.Steps.{before_step, stopped, taken};
 ghost use Rattle.algorithms.specs.Worlds.{access_at, start_refusal, entry_of, stored, begun, taken_by, resting};
 
-use crate::access::{Access, Address, Taken, act};
+use crate::access::{Access, Address, Advanced, Moved, Taken, act};
 use crate::algorithm::{Algorithm, Call, Entries};
 use crate::constants::{Constants, MOST_PROCS};
 use crate::expression::NAMES;
 use crate::line::{AccessLine, Form};
 use crate::local::{LocalState, arrive};
 use crate::noted::Noted;
-use crate::process::{Place, Process, kept};
+use crate::process::{Place, Process, keep};
 use crate::refusal::AlgorithmRefusal;
 use std::alloc::Global;
 use std::marker::Model;
@@ -105,15 +107,16 @@ fn store(words: &mut [[u64; MOST_PROCS]], access: Access)
     }
 }
 
-/// What the start of a call makes of a process.
+/// Starts a call of a process.
 fn begin(
     algorithm: &Algorithm,
     constants: Constants,
-    process: Process,
+    process: &Process,
     call: Call,
-) -> Result<Process, AlgorithmRefusal>
+) -> Result<LocalState, AlgorithmRefusal>
     requires { constants.me < constants.procs }
-    ensures { result ≡ begun algorithm.now constants process call }
+    ensures ok { IfOk result (λ s. begun algorithm.now constants process.now call ≡ Ok (stopped s None)) }
+    ensures refused { IfErr result (λ e. begun algorithm.now constants process.now call ≡ Err e) }
 {
     let entry = algorithm
         .entries
@@ -122,37 +125,81 @@ fn begin(
     if let Some(refusal) = start_refusal(algorithm, process.place, call) {
         return Err(refusal);
     }
-    let from = LocalState {
+    let store = process.store;
+    let mut state = LocalState {
         at: entry,
-        store: kept(process.store, algorithm.lasting),
+        store,
         noted: Noted::nothing(),
     };
-    let landing = arrive(algorithm.lines.as_slice(), constants, from)?;
-    let LocalState { at, store, .. } = landing.state;
-    match landing.answer {
-        None => Ok(Process {
-            place: Place::At(at),
-            store,
-        }),
-        Some(_) => Err(AlgorithmRefusal::Malformed { place: at }),
+    keep(&mut state.store, algorithm.lasting);
+    match arrive(algorithm.lines.as_slice(), constants, &mut state)? {
+        None => Ok(state),
+        Some(_) => Err(AlgorithmRefusal::Malformed { place: state.at }),
     }
 }
 
-/// The step of one process, with the words as they are.
+/// Takes the step of a process with this state, with the words as they are.
 fn take(
     algorithm: &Algorithm,
     constants: Constants,
     words: &[[u64; MOST_PROCS]],
-    process: Process,
-) -> Result<Taken, AlgorithmRefusal>
-    requires { constants.me < constants.procs }
-    ensures { result ≡ taken_by algorithm.now constants words.now process }
+    state: &mut LocalState,
+) -> Result<Advanced, AlgorithmRefusal>
+    requires own { constants.me < constants.procs }
+    requires first { state.old.noted ≡ nothing_noted }
+    ensures ok { IfOk result (λ a. taken_by algorithm.now constants words.now (stopped state.old None)
+        ≡ Ok (taken state.old a state.new)) }
+    ensures refused { IfErr result (λ e. taken_by algorithm.now constants words.now (stopped state.old None) ≡ Err e) }
 {
-    let Place::At(at) = process.place else {
-        return Err(AlgorithmRefusal::NothingToDo);
+    let line = access_at(algorithm, state.at)?;
+    act(algorithm, constants, words, line, state)
+}
+
+/// A process before the access at this place.
+fn state_at(at: usize, process: &Process) -> LocalState
+    ensures { result ≡ before_step at process.now }
+{
+    let store = process.store;
+    LocalState {
+        at,
+        store,
+        noted: Noted::nothing(),
+    }
+}
+
+/// The place of a process that has stopped here, with the answer of its call where that has ended.
+fn place_of(state: &LocalState, answer: Option<usize>) -> Place
+    ensures { result ≡ (stopped state.now answer).place }
+{
+    match answer {
+        None => Place::At(state.at),
+        Some(_) => Place::Rest,
+    }
+}
+
+/// The step that says this, of a process that was before at one place, and has stopped at another.
+fn taken(before: &LocalState, advanced: &Advanced, state: &LocalState) -> Taken
+    ensures { result ≡ taken before.now advanced.now state.now }
+{
+    let (place, store) = if advanced.blocked {
+        let store = before.store;
+        (Place::At(before.at), store)
+    } else {
+        let store = state.store;
+        (place_of(state, advanced.answer), store)
     };
-    let line = access_at(algorithm, at)?;
-    act(algorithm, constants, words, at, line, process.store)
+    let process = Process { place, store };
+    Taken {
+        at: before.at,
+        access: advanced.access,
+        value: advanced.value,
+        moved: Moved {
+            process,
+            noted: advanced.noted,
+            answer: advanced.answer,
+            blocked: advanced.blocked,
+        },
+    }
 }
 
 #[tactic(auto, using(std::proofs::lemmas::List::replicate_more))]
@@ -183,7 +230,7 @@ fn all_at_rest(alloc: Global, count: usize) -> Result<Vec<Process>, AlgorithmRef
 }
 
 impl World {
-    ghost use Rattle.algorithms.specs.Worlds.{first_world, new_refusal, cause, constants_of, process_of, start, started, step, taken, crash, with_process};
+    ghost use Rattle.algorithms.specs.Worlds.{first_world, new_refusal, cause, constants_of, process_of, start, started, step, advance, crash, with_process};
 
     /// A world with all words 0 and all processes at rest. `limit` is the algorithm's `limit`.
     ///
@@ -229,10 +276,12 @@ impl World {
         ensures refused { IfErr result (λ e. start self.old p call ≡ Err e) }
         ensures err { OnErr result (self.new ≡ self.old) }
     {
-        let process = self.process(p)?;
-        let constants = self.constants(p);
-        let process = begin(&self.algorithm, constants, process, call)?;
-        self.processes[p as usize] = process;
+        let process = self.process_at(p)?;
+        let state = begin(&self.algorithm, self.constants(p), process, call)?;
+        let process = &mut self.processes[p as usize];
+        process.place = Place::At(state.at);
+        let names = state.store;
+        process.store = names;
         Ok(())
     }
 
@@ -246,12 +295,61 @@ impl World {
         ensures refused { IfErr result (λ e. step self.old p ≡ Err e) }
         ensures err { OnErr result (self.new ≡ self.old) }
     {
-        let process = self.process(p)?;
+        let process = self.process_at(p)?;
+        let Place::At(at) = process.place else {
+            return Err(AlgorithmRefusal::NothingToDo);
+        };
+        let before = state_at(at, process);
+        let mut state = before;
         let constants = self.constants(p);
-        let taken = take(&self.algorithm, constants, self.words.as_slice(), process)?;
+        let advanced = take(
+            &self.algorithm,
+            constants,
+            self.words.as_slice(),
+            &mut state,
+        )?;
+        let taken = taken(&before, &advanced, &state);
         store(self.words.as_mut_slice(), taken.access);
         self.processes[p as usize] = taken.moved.process;
         Ok(taken)
+    }
+
+    /// As `step`, and answers what the step says without the process that it leaves, which is not copied.
+    pub fn advance(&mut self, p: u64) -> Result<Advanced, AlgorithmRefusal>
+        ensures ok { IfOk result (λ a. advance self.old p ≡ Ok (a, self.new)) }
+        ensures refused { IfErr result (λ e. advance self.old p ≡ Err e) }
+        ensures err { OnErr result (self.new ≡ self.old) }
+    {
+        let process = self.process_at(p)?;
+        let Place::At(at) = process.place else {
+            return Err(AlgorithmRefusal::NothingToDo);
+        };
+        let mut state = state_at(at, process);
+        let constants = self.constants(p);
+        let advanced = take(
+            &self.algorithm,
+            constants,
+            self.words.as_slice(),
+            &mut state,
+        )?;
+        store(self.words.as_mut_slice(), advanced.access);
+        if !advanced.blocked {
+            let process = &mut self.processes[p as usize];
+            process.place = place_of(&state, advanced.answer);
+            let names = state.store;
+            process.store = names;
+        }
+        Ok(advanced)
+    }
+
+    fn process_at(&self, p: u64) -> Result<&Process, AlgorithmRefusal>
+        ensures ok { IfOk result (λ process. process_of self.now p ≡ Ok process.now) }
+        ensures within { OnOk result (p < self.now.procs) }
+        ensures refused { IfErr result (λ e. process_of self.now p ≡ Err e) }
+    {
+        self.processes
+            .get(p as usize)
+            .ok_or(AlgorithmRefusal::NoSuchProcess)
     }
 
     /// Crashes a process. It loses its place and its names.

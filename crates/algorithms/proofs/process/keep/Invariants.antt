@@ -1,6 +1,6 @@
 use Rattle.std.proofs.Common.{◌≡◌, ◌-◌, ◌<◌, replicate}
 use Rattle.std.proofs.Math.Seq.{paste}
-use Rattle.algorithms.proofs.process.kept.Given as goal
+use Rattle.algorithms.proofs.process.keep.Given as goal
 
 -- the names after those that last are 0, as far as the loop has come
 abbrev pub invariant-loop-name : goal.invariant-loop-name

@@ -1,20 +1,19 @@
 -- What the contract of a core says of a step names one move alone: the processes of a scan are read by rising index.
-use Rattle.std.proofs.Common.{◌≡◌, ◌≢◌, ℕ, zero, suc, ◌+◌, ◌-◌, ◌<◌, ◌≤◌, max, Bool, true, false, ◌&&◌, ◌||◌, ◌==◌, if◌then◌else◌, nat_lt, nat_le, List, [], ◌∷◌, Option, Some, None, IsSome, IfSome, unwrap_or, refl, sym, ap, ◌∙◌, subst, inl, inr, arith, eqb-true, eq-eqb, ne_eqb, lt-ltb, ltb-true, leb-true, ◌++◌}
+use Rattle.std.proofs.Common.{◌≡◌, ℕ, zero, suc, ◌+◌, ◌-◌, ◌<◌, ◌≤◌, max, Bool, true, false, ◌&&◌, ◌||◌, ◌==◌, if◌then◌else◌, nat_lt, nat_le, List, [], ◌∷◌, Option, Some, None, IsSome, IfSome, unwrap_or, refl, sym, ap, ◌∙◌, subst, inl, inr, arith, eqb-true, lt-ltb, leb-true, ◌++◌}
 use Rattle.std.specs.Prelude.{option_map}
-use Rattle.std.proofs.lemmas.Bool.{cases_Bool, cases_eq, cases_lt, and_parts, or_cases, le-ltb, or_right}
+use Rattle.std.proofs.lemmas.Bool.{cases_Bool, cases_eq, and_parts, or_cases, le-ltb}
 use Rattle.rmecore.specs.declared.access.Access.{Access}
 use Rattle.rmecore.specs.declared.access.Access.TheVariants.{Load, Store}
 use Rattle.rmecore.specs.declared.core_call.CoreCall.{CoreCall}
 use Rattle.rmecore.specs.declared.core_call.CoreCall.TheVariants.{Lock, Unlock, Withdraw, Recover}
 use Rattle.rmecore.specs.declared.kind.Kind.{Kind}
 use Rattle.rmecore.specs.declared.kind.Kind.TheVariants.{Take as Taking, Shut as Shuts, Reread as Rereads, Open as Opens, Peek as Peeks, Look as Looks, Weigh as Weighs, Mark as Marks, Drop as Drops, Glance as Glances}
-use Rattle.rmecore.specs.declared.own.Own.{Own}
 use Rattle.rmecore.specs.declared.word.Word.{Word}
-use Rattle.rmecore.specs.declared.word.Word.TheVariants.{Choosing as ChoosingOf, Number as NumberOf, Inside as InsideOf, Data as DataAt}
+use Rattle.rmecore.specs.declared.word.Word.TheVariants.{Choosing as ChoosingOf, Number as NumberOf, Inside as InsideOf}
 use Rattle.rmecore.specs.Machine.{access, kind_of, word_of, carried, answer, owner}
 use Rattle.rmecore.specs.Needs.{put}
 use Rattle.rmecore.specs.Paid.{is_glance}
-use Rattle.rmecore.specs.Place.{Place, Rest, Dead, Reread, Opening, Door, Shutting, Wait, Inside, Leaving, Withdrawing, Unmarking, has, above, others, span, without, only, next, Event, Starts, Crashes, Steps, restart, started, shut, unmarked, is_before}
+use Rattle.rmecore.specs.Place.{Place, Rest, Dead, Reread, Opening, Door, Shutting, Wait, Inside, Leaving, Withdrawing, Unmarking, has, others, span, without, only, next, Event, Starts, Crashes, Steps, restart, started, shut, unmarked, is_before}
 use Rattle.rmecore.specs.World.{World, at_rest, is_store, read, May, after, Run, final, IsReached, deed, step_deed}
 use Rattle.rmecore.specs.Refused.{start_refusal, is_idle}
 use Rattle.rmecore.specs.Simulated.{Simulated, Takes, world_of, place_at, event_of, ChoosesLeast, refusal_at, step_refusal}
@@ -25,7 +24,7 @@ use Rattle.rmecore.specs.declared.refusal.Refusal.{Refusal}
 use Rattle.rmecore.specs.declared.refusal.Refusal.TheVariants.{NoSuchProcess, NothingToDo}
 use Rattle.rmecore.proofs.Accesses.{passed}
 use Rattle.rmecore.proofs.CoreSteps.{KindFits, kind_fits}
-use Rattle.rmecore.proofs.Invariant.{eqb_self, put_same, put_other}
+use Rattle.rmecore.proofs.Invariant.{put_same, put_other}
 use Rattle.rmecore.proofs.Runs.{guard}
 use Rattle.rmecore.proofs.Scans.{has-span-low, without_has, has-first}
 
@@ -195,6 +194,8 @@ pinned n limit p Withdrawing Drops (NumberOf q) v some calm h least =
     let m = mine q p (v == 0) Rest some in record { acc = Store Drops (NumberOf p) 0; is = refl; kind_is = refl; word_is = ap NumberOf m.0; value_is = eqb-true v 0 m.1 }
 pinned n limit p (Unmarking call) Marks (InsideOf q) v some calm h least =
     let m = mine q p (v == 0) (unmarked call) some in record { acc = Store Marks (InsideOf p) 0; is = refl; kind_is = refl; word_is = ap InsideOf m.0; value_is = eqb-true v 0 m.1 }
+pinned n limit p (Door [] m) Peeks (NumberOf q) v some calm h least = absurd (cc)
+pinned n limit p (Wait k [] None) Looks (ChoosingOf q) v some calm h least = absurd (cc)
 pinned n limit p s Glances (ChoosingOf q) v some calm h least = absurd (cc)
 pinned n limit p s Glances (NumberOf q) v some calm h least = absurd (cc)
 pinned n limit p s Glances (InsideOf q) v some calm h least = absurd (cc)

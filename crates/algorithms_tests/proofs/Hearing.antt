@@ -1,6 +1,6 @@
 -- What is heard of a deed that the lock allows: the deed itself, and its phase in the abstract lock.
-use Rattle.std.proofs.Common.{◌≡◌, ℕ, ◌<◌, Bool, true, false, List, [], ◌∷◌, ◌++◌, Option, Some, None, refl, sym, ap, ◌∙◌, subst}
-use Rattle.rmecore.specs.AbstractLock.{Abstract, done, crashed}
+use Rattle.std.proofs.Common.{◌≡◌, ℕ, true, [], ◌∷◌, ◌++◌, Option, Some, None, refl, sym, ap, ◌∙◌, subst}
+use Rattle.rmecore.specs.AbstractLock.{Abstract, done}
 use Rattle.rmecore.specs.Needs.{put}
 use Rattle.rmecore.specs.Turn.{Turn, Plain}
 use Rattle.rmecore.specs.Place.{Place}
@@ -10,7 +10,7 @@ use Rattle.rmecore.specs.declared.phase.Phase.{Phase}
 use Rattle.rmecore.specs.declared.phase.Phase.TheVariants as phases
 use Rattle.rmecore.proofs.Invariant.{put_same, put_other}
 use Rattle.rmecore.proofs.Rows.{Allowed, after_deed}
-use Rattle.algorithm_lab.specs.Heard.{Heard, heard, heard_of_crash, begun, readied, phase_begun}
+use Rattle.algorithm_lab.specs.Heard.{heard, begun, readied, phase_begun}
 use Rattle.algorithms_tests.specs.Runs.{deed_told}
 use Rattle.algorithms.specs.declared.algorithm.Promises.{Promises}
 use Rattle.algorithm_lab.specs.declared.told.Told.TheVariants.{Did}

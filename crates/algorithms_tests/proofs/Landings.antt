@@ -1,21 +1,18 @@
 -- Where the local lines of the Bakery lead it, as places of the lock.
-use Rattle.std.proofs.Common.{◌≡◌, ℕ, zero, suc, ◌+◌, ◌^◌, ◌<◌, ◌≤◌, max, Bool, true, false, List, [], ◌∷◌, Option, Some, None, Ok, refl, sym, ap, ◌∙◌, subst, inl, inr, arith}
+use Rattle.std.proofs.Common.{◌≡◌, ℕ, zero, suc, ◌+◌, ◌^◌, ◌<◌, ◌≤◌, max, true, List, [], ◌∷◌, Option, Some, None, Ok, refl, ap, ◌∙◌, inl, inr, arith}
 use Rattle.std.specs.Prelude.{option_map}
 use Rattle.std.proofs.lemmas.Bool.{cases_eq}
-use Rattle.rmecore.specs.Place.{Place, Rest, Opening, Door, Shutting, Wait, Inside, Withdrawing, Unmarking, above, others, has, relocked, recovered}
+use Rattle.rmecore.specs.Place.{Place, Door, Wait, above, others, has, relocked, recovered}
 use Rattle.rmecore.specs.Machine.{first, again, found}
 use Rattle.rmecore.specs.World.{reentry}
-use Rattle.rmecore.specs.declared.core_call.CoreCall.TheVariants.{Lock, Unlock, Recover}
 use Rattle.rmecore.specs.declared.core_done.CoreDone.{CoreDone}
 use Rattle.rmecore.specs.declared.outer.Outer.{Outer}
-use Rattle.rmecore.specs.declared.outer.Outer.TheVariants as outers
 use Rattle.rmecore.proofs.Scans.{above_first, lined_above, has-first}
 use Rattle.algorithms_tests.specs.Bakery.{IsBakery}
 use Rattle.algorithms.specs.LocalRuns.{nothing_noted, least_from}
 use Rattle.algorithms.specs.Steps.{process_landed}
 use Rattle.algorithms_tests.specs.Runs.{answer_number}
 use Rattle.algorithms.specs.declared.algorithm.Algorithm.{Algorithm}
-use Rattle.algorithms.specs.declared.line.Deed.TheVariants.{Begin}
 use Rattle.algorithms.specs.declared.line.Members.TheVariants.{Others}
 use Rattle.algorithms.specs.declared.local.Landing.{Landing}
 use Rattle.algorithms.specs.declared.local.LocalState.{LocalState}
@@ -23,7 +20,7 @@ use Rattle.algorithms.specs.declared.noted.Noted.{Noted}
 use Rattle.algorithms_tests.proofs.Comparisons.{constants, least_is}
 use Rattle.algorithms_tests.proofs.LocalRuns as runs
 use Rattle.algorithms_tests.proofs.LocalRuns.{Names, names, local, Stops, From, one}
-use Rattle.algorithms_tests.proofs.Places.{before, all_names, AtEnd, IsLoop, Stands, noted_by}
+use Rattle.algorithms_tests.proofs.Places.{before, IsLoop, Stands, noted_by}
 
 -- a list of processes from a number on, by its first
 pub heads : (n p from j : ℕ) (js : List ℕ) → above n p from ≡ j ∷ js → IsLoop n p j js × (first (above n p from) ≡ Some j)

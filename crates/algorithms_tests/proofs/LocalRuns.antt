@@ -1,5 +1,5 @@
 -- The local runs of the Bakery: where it comes to from the line after an access.
-use Rattle.std.proofs.Common.{◌≡◌, ℕ, zero, suc, ◌+◌, ◌-◌, ◌^◌, ◌<◌, ◌≤◌, max, nat_lt, Bool, true, false, cond, List, [], ◌∷◌, Option, Some, None, Result, Ok, refl, sym, ap, ◌∙◌, arith}
+use Rattle.std.proofs.Common.{◌≡◌, ℕ, suc, ◌+◌, ◌-◌, ◌^◌, ◌<◌, max, true, false, cond, List, ◌∷◌, Option, Some, None, Result, Ok, refl, ap, ◌∙◌, arith}
 use Rattle.std.specs.Prelude.{option_and_then, replicate}
 use Rattle.std.proofs.lemmas.Bool.{lt-ltb}
 use Rattle.algorithms.specs.Arrivals.{arrives}
@@ -11,8 +11,7 @@ use Rattle.algorithms.specs.declared.constants.Constants.{Constants}
 use Rattle.algorithms.specs.declared.line.Deed.{Deed}
 use Rattle.algorithms.specs.declared.line.Deed.TheVariants.{Begin, Ready, Enter, Reenter, Leave, Quit}
 use Rattle.algorithms.specs.declared.line.Form.TheVariants.{Local}
-use Rattle.algorithms.specs.declared.line.Line.{Line}
-use Rattle.algorithms.specs.declared.line.LocalLine.TheVariants.{Branch, First, Next}
+use Rattle.algorithms.specs.declared.line.LocalLine.TheVariants.{Branch, Next}
 use Rattle.algorithms.specs.declared.line.Members.TheVariants.{Others}
 use Rattle.algorithms.specs.declared.local.LocalState.{LocalState}
 use Rattle.algorithms.specs.declared.local.Landing.{Landing}

@@ -1,5 +1,5 @@
 -- Which line of the text a place of the lock is.
-use Rattle.std.proofs.Common.{◌≡◌, ℕ, zero, suc, ◌+◌, ◌<◌, ◌⊎◌, Bool, true, false, List, [], ◌∷◌, Option, Some, None, unwrap_or}
+use Rattle.std.proofs.Common.{◌≡◌, ℕ, ◌+◌, ◌<◌, ◌⊎◌, Bool, true, false, List, [], ◌∷◌, Option, Some, None, unwrap_or}
 use Rattle.rmecore.specs.Place.{Place, Rest, Dead, Reread, Opening, Door, Shutting, Wait, Inside, Leaving, Withdrawing, Unmarking, above, only}
 use Rattle.rmecore.specs.declared.core_call.CoreCall.TheVariants.{Lock, Unlock, Recover}
 use Rattle.rmecore.specs.declared.outer.Outer.{Outer}

@@ -1,7 +1,7 @@
 -- A start on the text and on the lock: both are refused alike, or lead to the same place.
-use Rattle.std.proofs.Common.{◌≡◌, ℕ, zero, suc, ◌+◌, ◌<◌, ◌≤◌, ◌⊎◌, Bool, true, false, cond, if◌then◌else◌, List, [], ◌∷◌, Option, Some, None, Result, Ok, Err, unwrap_or, refl, sym, ap, ◌∙◌, subst, inl, inr, arith}
-use Rattle.std.specs.Prelude.{ok_or, take, length}
-use Rattle.rmecore.specs.Place.{Place, Rest, Dead, Reread, Opening, Door, Shutting, Wait, Inside, Leaving, Withdrawing, Unmarking, above, started as lock_started}
+use Rattle.std.proofs.Common.{◌≡◌, ℕ, ◌⊎◌, Bool, true, false, if◌then◌else◌, List, [], ◌∷◌, Option, Some, None, Result, Ok, Err, unwrap_or, refl, sym, ap, ◌∙◌, subst, inl, inr}
+use Rattle.std.specs.Prelude.{ok_or}
+use Rattle.rmecore.specs.Place.{Place, Rest, Dead, Reread, Opening, Door, Shutting, Wait, Inside, Leaving, Withdrawing, Unmarking, started as lock_started}
 use Rattle.rmecore.specs.Refused.{start_refusal as lock_refusal, number_of as lock_number}
 use Rattle.rmecore.specs.declared.core_call.CoreCall.TheVariants as cores
 use Rattle.rmecore.specs.declared.phase.Phase.{Phase}
@@ -15,7 +15,7 @@ use Rattle.algorithm_lab.specs.Monitors.{is_idle, phase_refusal}
 use Rattle.algorithm_lab.specs.Refusals.{number_of}
 use Rattle.algorithms_tests.specs.Runs.{core_call}
 use Rattle.algorithms.specs.Steps.{kept}
-use Rattle.algorithms.specs.Worlds.{access_at, begun, begun_at, begun_from, entry_of, may_withdraw, no_names, resting, start_refusal, unless}
+use Rattle.algorithms.specs.Worlds.{begun, begun_at, begun_from, entry_of, may_withdraw, no_names, resting, start_refusal, unless}
 use Rattle.algorithms.specs.declared.algorithm.Algorithm.{Algorithm}
 use Rattle.algorithms.specs.declared.algorithm.Call.{Call}
 use Rattle.algorithms.specs.declared.algorithm.Call.TheVariants.{Lock, Unlock, Recover, Withdraw}
@@ -29,8 +29,8 @@ use Rattle.algorithm_lab.specs.declared.run_refusal.RunRefusal.{RunRefusal}
 use Rattle.algorithm_lab.specs.declared.run_refusal.RunRefusal.TheVariants.{Refused, NotOwner, AlreadyIn}
 use Rattle.algorithms_tests.proofs.Lines.{HasForm, has_form, access_there, sixty, stops}
 use Rattle.algorithms_tests.proofs.Comparisons.{constants}
-use Rattle.algorithms_tests.proofs.LocalRuns.{Names, names, local}
-use Rattle.algorithms_tests.proofs.Places.{before, dead, all_names, Stands}
+use Rattle.algorithms_tests.proofs.LocalRuns.{local}
+use Rattle.algorithms_tests.proofs.Places.{before, dead, Stands}
 
 pub by_call : (P : Call → Type 0) → P Lock → P Unlock → P Recover → P Withdraw → (call : Call) → P call
 by_call P l u r w Lock = l

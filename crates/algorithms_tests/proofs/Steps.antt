@@ -1,6 +1,6 @@
 -- A step of the text and the step of the lock at the same place: the same access, deed and answer, and they lead to the same place.
-use Rattle.std.proofs.Common.{◌≡◌, ℕ, zero, suc, ◌+◌, ◌^◌, ◌<◌, ◌≤◌, ◌==◌, ◌||◌, nat_lt, nat_le, Bool, true, false, cond, if◌then◌else◌, max, List, [], ◌∷◌, Option, Some, None, Result, Ok, Err, unwrap_or, refl, sym, ap, ◌∙◌, subst, inl, inr, arith, le-leb}
-use Rattle.std.specs.Prelude.{option_map, option_and_then, ok_or, length, slice_get}
+use Rattle.std.proofs.Common.{◌≡◌, ℕ, ◌+◌, ◌^◌, ◌<◌, ◌≤◌, ◌==◌, ◌||◌, nat_lt, nat_le, Bool, true, false, if◌then◌else◌, max, List, [], ◌∷◌, Option, Some, None, Result, Ok, Err, unwrap_or, refl, sym, ap, ◌∙◌, subst, inl, inr, arith, le-leb}
+use Rattle.std.specs.Prelude.{option_map, option_and_then, ok_or, slice_get}
 use Rattle.std.specs.Option.{option_or}
 use Rattle.std.specs.Ordering.{nat_cmp, ordering_then, is_eq, is_lt}
 use Rattle.std.proofs.lemmas.Bool.{lt-ltb, le-ltb}
@@ -18,7 +18,7 @@ use Rattle.rmecore.specs.declared.word.Word.{Word}
 use Rattle.rmecore.specs.declared.word.Word.TheVariants.{Choosing as ChoosingOf, Number as NumberOf, Inside as InsideOf, Data as DataAt}
 use Rattle.rmecore.proofs.Bounds.{Within}
 use Rattle.rmecore.proofs.Invariant.{eqb_self}
-use Rattle.rmecore.proofs.Scans.{without-first, without-next, has-first}
+use Rattle.rmecore.proofs.Scans.{without-first, has-first}
 use Rattle.algorithms.specs.Accesses.{access_of, index_of, bound_of, value_stored, received, passes}
 use Rattle.algorithms.specs.Arrivals.{arrives, ◌>>=◌}
 use Rattle.algorithms_tests.specs.Bakery.{IsBakery, may_pass}
@@ -26,7 +26,7 @@ use Rattle.algorithms.specs.LocalRuns.{nothing_noted}
 use Rattle.algorithms_tests.specs.Runs.{answer_number}
 use Rattle.algorithms.specs.Steps.{acted, goes_on, stays, landed, value_of, word_at, process_landed}
 use Rattle.algorithms.specs.Values.{evaluated, fitting}
-use Rattle.algorithms.specs.Worlds.{taken_by, access_at, access_line, under_way, no_names, resting}
+use Rattle.algorithms.specs.Worlds.{taken_by, under_way, no_names}
 use Rattle.algorithms.specs.declared.access.Access.{Access}
 use Rattle.algorithms.specs.declared.access.Address.{Address}
 use Rattle.algorithms.specs.declared.access.Moved.{Moved}
@@ -50,7 +50,7 @@ use Rattle.algorithms_tests.proofs.Lines.{HasForm, has_form, HasBound, has_bound
 use Rattle.algorithms_tests.proofs.Comparisons.{constants, eq_cmp, pair_cmp, or_test}
 use Rattle.algorithms_tests.proofs.LocalRuns as runs
 use Rattle.algorithms_tests.proofs.LocalRuns.{Names, names, local, one, From}
-use Rattle.algorithms_tests.proofs.Places.{before, dead, all_names, AtEnd, IsLoop, Stands, noted_by}
+use Rattle.algorithms_tests.proofs.Places.{before, all_names, IsLoop, Stands, noted_by}
 use Rattle.algorithms_tests.proofs.Landings as lands
 use Rattle.algorithms_tests.proofs.Landings.{Halts, Lands, halted}
 

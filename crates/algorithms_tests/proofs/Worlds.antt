@@ -1,5 +1,5 @@
 -- The world of the text beside that of the lock, move by move.
-use Rattle.std.proofs.Common.{◌≡◌, ◌≢◌, ℕ, zero, suc, ◌+◌, ◌^◌, ◌<◌, ◌≤◌, ◌⊎◌, Bool, true, false, cond, if◌then◌else◌, nat_lt, List, [], ◌∷◌, ◌++◌, length, replicate, Option, Some, None, IsSome, Result, Ok, Err, unwrap_or, refl, sym, ap, ◌∙◌, subst, inl, inr, arith, slice_index_or, slice_set, IfSome, get_or-set_same, get_or-set_other}
+use Rattle.std.proofs.Common.{◌≡◌, ◌≢◌, ℕ, zero, suc, ◌^◌, ◌<◌, ◌≤◌, true, false, if◌then◌else◌, nat_lt, List, [], ◌∷◌, ◌++◌, length, replicate, Option, Some, None, IsSome, Result, Ok, Err, unwrap_or, refl, sym, ap, ◌∙◌, subst, inl, inr, arith, slice_index_or, slice_set, IfSome, get_or-set_same, get_or-set_other}
 use Rattle.std.specs.Prelude.{ok_or, option_map, slice_get, is_some}
 use Rattle.std.proofs.lemmas.Bool.{cases_eq, cases_lt, cases_Bool, lt-ltb, le-ltb}
 use Rattle.std.proofs.lemmas.List.{length-set, length-replicate, get_or-replicate}
@@ -7,9 +7,9 @@ use Rattle.std.proofs.lemmas.Option.{slice_get_past}
 use Rattle.rmecore.specs.AbstractLock.{Abstract, done, crashed, nobody}
 use Rattle.rmecore.specs.Machine.{access, kind_of, word_of, carried, answer, InLock}
 use Rattle.rmecore.specs.Needs.{put}
-use Rattle.rmecore.specs.Place.{Place, Rest, Dead, Reread, Opening, Door, Shutting, Wait, Inside, Leaving, Withdrawing, Unmarking, Event, Starts, Crashes, Steps, next, started as lock_started, above}
+use Rattle.rmecore.specs.Place.{Place, Rest, Dead, Reread, Opening, Door, Shutting, Wait, Inside, Leaving, Withdrawing, Unmarking, Event, Starts, Crashes, Steps, next, started as lock_started}
 use Rattle.rmecore.specs.Refused.{start_refusal as lock_refusal, number_of as lock_number}
-use Rattle.rmecore.specs.World.{World, at_rest, read, after, May, step_deed, stored as lock_stored, write, is_store}
+use Rattle.rmecore.specs.World.{World, at_rest, read, after, May, step_deed, stored as lock_stored, write}
 use Rattle.rmecore.specs.declared.access.Access.{Access as LockAccess}
 use Rattle.rmecore.specs.declared.access.Access.TheVariants.{Load as Loads, Store as Stores}
 use Rattle.rmecore.specs.declared.core_call.CoreCall.{CoreCall}
@@ -26,7 +26,7 @@ use Rattle.rmecore.proofs.Accesses.{allowed}
 use Rattle.rmecore.proofs.Bounds.{Bounded, final_bounded, rest_bounded}
 use Rattle.rmecore.proofs.CoreSteps.{KindFits, kind_fits, reads}
 use Rattle.rmecore.proofs.Invariant.{Tied, Fits, phase_of as lock_phase, phase_at, put_same, put_other, within_means, phase_within}
-use Rattle.rmecore.proofs.Rows.{Allowed, after_deed}
+use Rattle.rmecore.proofs.Rows.{after_deed}
 use Rattle.rmecore.proofs.Runs.{kept as keeps, at_first}
 use Rattle.rmecore.proofs.Turns.{turn}
 use Rattle.algorithms.specs.Arrivals.{◌>>=◌}
@@ -34,15 +34,13 @@ use Rattle.algorithms_tests.specs.Bakery.{IsBakery}
 use Rattle.algorithm_lab.specs.Heard.{Heard, heard, heard_of_crash}
 use Rattle.algorithm_lab.specs.Monitors.{MonitorState, Part, answered, first_monitor, is_idle, is_idle_process, part_of, phase_refusal, start_on, step_on, crash_on, then_in, unless as unless_heard}
 use Rattle.algorithm_lab.specs.Refusals.{number_of as number_of_run}
-use Rattle.algorithms_tests.specs.Runs.{Move, Start, Step, Crash, Said, Tells, Refuses, Outcome, all_said, left_by, core_call, answer_number, deed_told, refused, unless, if_there, told_of, stepped, step_by, lock_move, begun_by, moved_by, text_move, SameWords}
-use Rattle.algorithms.specs.Steps.{word_at}
-use Rattle.algorithms.specs.Worlds.{WorldState, access_at, after_step, begun, entry_of, new_refusal, no_names, process_of, resting, stored, taken_by, under_way, with_process}
+use Rattle.algorithms_tests.specs.Runs.{Move, Start, Step, Crash, Tells, Refuses, Outcome, all_said, left_by, core_call, answer_number, deed_told, refused, unless, stepped, step_by, lock_move, begun_by, moved_by, text_move, SameWords}
+use Rattle.algorithms.specs.Worlds.{WorldState, access_at, after_step, begun, entry_of, resting, stored, taken_by, under_way, with_process}
 use Rattle.algorithms.specs.Steps.{acted}
 use Rattle.algorithms.specs.declared.access.Access.{Access}
 use Rattle.algorithms.specs.declared.access.Taken.{Taken}
 use Rattle.algorithms.specs.declared.algorithm.Algorithm.{Algorithm}
 use Rattle.algorithms.specs.declared.algorithm.Call.{Call}
-use Rattle.algorithms.specs.declared.algorithm.Call.TheVariants as calls
 use Rattle.algorithms.specs.declared.constants.Constants.{Constants}
 use Rattle.algorithms.specs.declared.process.Process.{Process}
 use Rattle.algorithms.specs.declared.refusal.AlgorithmRefusal.{AlgorithmRefusal}
@@ -51,11 +49,11 @@ use Rattle.algorithm_lab.specs.declared.run_refusal.RunRefusal.{RunRefusal}
 use Rattle.algorithm_lab.specs.declared.run_refusal.RunRefusal.TheVariants.{Refused}
 use Rattle.algorithms_tests.proofs.Lines.{three}
 use Rattle.algorithms_tests.proofs.Comparisons.{constants}
-use Rattle.algorithms_tests.proofs.Places.{dead, IsLoop, Stands, noted_by}
+use Rattle.algorithms_tests.proofs.Places.{dead, Stands}
 use Rattle.algorithms_tests.proofs.Steps.{address_of, stores_of, access_by, Follows, Known, StepIf, steps_alike}
 use Rattle.algorithms_tests.proofs.Words.{AlikeWords, IsRowOf, told, stores_alike, set_here, set_there, replicated}
 use Rattle.algorithms_tests.proofs.Hearing.{promised, OfStep, of_turn, hears, phase_kept}
-use Rattle.algorithms_tests.proofs.Starts.{by_call, phase_part, PhaseFits, IsRefused, IsBegun, StartIf, starts_alike}
+use Rattle.algorithms_tests.proofs.Starts.{by_call, phase_part, PhaseFits, IsRefused, StartIf, starts_alike}
 
 -- ---- the lock's side
 

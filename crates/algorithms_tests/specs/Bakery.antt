@@ -1,16 +1,12 @@
 -- The recoverable Bakery as lines: what the text examples/algorithms/bakery.lock spells.
-use Rattle.std.specs.Prelude.{◌≡◌, ℕ, true, false, List, [], ◌∷◌, map, Option, Some, None, Box}
+use Rattle.std.specs.Prelude.{◌≡◌, ℕ, true, false, List, [], ◌∷◌, map, Option, Some, Box}
 use Rattle.std.specs.declared.alloc.Global.{Global}
 use Rattle.algorithms.specs.declared.algorithm.Algorithm.{Algorithm}
 use Rattle.algorithms.specs.declared.algorithm.Declaration.{Declaration}
-use Rattle.algorithms.specs.declared.algorithm.Entries.{Entries}
-use Rattle.algorithms.specs.declared.algorithm.Promises.{Promises}
 use Rattle.algorithms.specs.declared.condition.Comparison.TheVariants.{Equal, Less, Greater}
 use Rattle.algorithms.specs.declared.condition.Condition.{Condition, Compare, ComparePairs, And', Or'}
-use Rattle.algorithms.specs.declared.condition.Pair.{Pair}
 use Rattle.algorithms.specs.declared.expression.Expression.{Expression, Number, Private, Me, Limit, Joined'}
 use Rattle.algorithms.specs.declared.expression.Operator.TheVariants.{Sum, Maximum}
-use Rattle.algorithms.specs.declared.line.AccessLine.{AccessLine}
 use Rattle.algorithms.specs.declared.line.Action.{Action}
 use Rattle.algorithms.specs.declared.line.Action.TheVariants.{Load, Store, Await}
 use Rattle.algorithms.specs.declared.line.Deed.TheVariants.{Begin, Ready, Enter, Reenter, Leave, Quit}
@@ -19,7 +15,6 @@ use Rattle.algorithms.specs.declared.line.Form.TheVariants.{Access, Local, Done}
 use Rattle.algorithms.specs.declared.line.Line.{Line}
 use Rattle.algorithms.specs.declared.line.LocalLine.TheVariants.{Assign, Note, Goto, Branch, First, Next}
 use Rattle.algorithms.specs.declared.line.Members.TheVariants.{Others}
-use Rattle.algorithms.specs.declared.line.WordOf.{WordOf}
 
 -- the boxes of the parts of values and conditions. They mean nothing
 abbrev pub Boxes : Type 0

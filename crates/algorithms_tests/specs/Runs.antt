@@ -1,7 +1,7 @@
 -- The runs of a schedule on the proved lock and on the text of an algorithm: what each move says, and what is left.
 use Rattle.std.specs.Prelude.{◌≡◌, ℕ, ◌<◌, nat_lt, if◌then◌else◌, List, [], ◌∷◌, ◌++◌, Option, Some, None, option_map, Result, Ok, Err}
 use Rattle.rmecore.specs.Machine.{access, kind_of, word_of, carried, answer}
-use Rattle.rmecore.specs.Place.{Event, Starts, Crashes, Steps}
+use Rattle.rmecore.specs.Place.{Starts, Crashes, Steps}
 use Rattle.rmecore.specs.Refused.{start_refusal, number_of}
 use Rattle.rmecore.specs.World.{World, read, after, step_deed}
 use Rattle.rmecore.specs.declared.access.Access.{Access}

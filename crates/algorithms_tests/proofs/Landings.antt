@@ -38,7 +38,7 @@ module _ (a : Algorithm) (b : IsBakery a) (n limit p : ℕ) (own : p < n) (most 
   Run fuel s t = From a b (constants p n limit) fuel s ≡ Stops t
 
   -- it stops where a process of the lock at this place is
-  pub record Halts (fuel : ℕ) (s : LocalState) (place : Place) : Type 0 where
+  pub record StopsAt (fuel : ℕ) (s : LocalState) (place : Place) : Type 0 where
     pub state : LocalState
     pub run : Run fuel s state
     pub noted : state.noted ≡ s.noted
@@ -50,7 +50,7 @@ module _ (a : Algorithm) (b : IsBakery a) (n limit p : ℕ) (own : p < n) (most 
   least_none : (from : ℕ) → above n p from ≡ [] → least_from (constants p n limit) Others from ≡ None
   least_none from e = least_is p n limit from own ∙ none n p from e
 
-  door_end : (fuel x k i m j v : ℕ) (d : Noted) → m ≤ limit → Halts (suc (suc (suc fuel))) (local 21 (names x k i m j v) d) (Door [] m)
+  door_end : (fuel x k i m j v : ℕ) (d : Noted) → m ≤ limit → StopsAt (suc (suc (suc fuel))) (local 21 (names x k i m j v) d) (Door [] m)
   door_end fuel x k i m j v d low =
       let c = constants p n limit in
       elim (cases_eq m limit) [
@@ -59,7 +59,7 @@ module _ (a : Algorithm) (b : IsBakery a) (n limit p : ℕ) (own : p < n) (most 
       ]
 
   -- the doorway from its first line on
-  pub door_starts : (fuel x k i j v : ℕ) (d : Noted) (js : List ℕ) → above n p 0 ≡ js → Halts (suc (suc (suc (suc fuel)))) (local 17 (names x k i 0 j v) d) (Door js 0)
+  pub door_starts : (fuel x k i j v : ℕ) (d : Noted) (js : List ℕ) → above n p 0 ≡ js → StopsAt (suc (suc (suc (suc fuel)))) (local 17 (names x k i 0 j v) d) (Door js 0)
   door_starts fuel x k i j v d [] e =
       let c = constants p n limit in
       let h = door_end fuel x k i 0 0 v d (omega arith) in
@@ -76,7 +76,7 @@ module _ (a : Algorithm) (b : IsBakery a) (n limit p : ℕ) (own : p < n) (most 
 
   -- after a peek
   pub peeked : (fuel x k i m j v : ℕ) (js : List ℕ) → j < n → m ≤ limit → v ≤ limit → above n p (j + 1) ≡ js
-      → Halts (suc (suc (suc (suc (suc fuel))))) (local 19 (names x k i m j v) nothing_noted) (Door js (max m v))
+      → StopsAt (suc (suc (suc (suc (suc fuel))))) (local 19 (names x k i m j v) nothing_noted) (Door js (max m v))
   peeked fuel x k i m j v [] here low small e =
       let c = constants p n limit in
       let h = door_end fuel x k i (max m v) 0 v nothing_noted (omega arith) in
@@ -92,7 +92,7 @@ module _ (a : Algorithm) (b : IsBakery a) (n limit p : ℕ) (own : p < n) (most 
       }
 
   -- waiting from its first line on
-  pub wait_starts : (fuel x k i m j v : ℕ) (d : Noted) (js : List ℕ) → above n p 0 ≡ js → Halts (suc (suc fuel)) (local 29 (names x k i m j v) d) (Wait k js None)
+  pub wait_starts : (fuel x k i m j v : ℕ) (d : Noted) (js : List ℕ) → above n p 0 ≡ js → StopsAt (suc (suc fuel)) (local 29 (names x k i m j v) d) (Wait k js None)
   wait_starts fuel x k i m j v d [] e =
       let c = constants p n limit in
       record { state = local 33 (names x k i m 0 v) d; run = runs.waits_none a b c fuel x k i m j v d (least_none 0 e); noted = refl; stands = (record { c = x; k = k; i = i; m = m; j = 0; v = v }, refl) }
@@ -107,7 +107,7 @@ module _ (a : Algorithm) (b : IsBakery a) (n limit p : ℕ) (own : p < n) (most 
       }
 
   -- after a weigh that passes
-  pub passed : (fuel x k i m j v : ℕ) (js : List ℕ) → j < n → above n p (j + 1) ≡ js → Halts (suc (suc fuel)) (local 32 (names x k i m j v) nothing_noted) (Wait k js None)
+  pub passed : (fuel x k i m j v : ℕ) (js : List ℕ) → j < n → above n p (j + 1) ≡ js → StopsAt (suc (suc fuel)) (local 32 (names x k i m j v) nothing_noted) (Wait k js None)
   passed fuel x k i m j v [] here e =
       let c = constants p n limit in
       record { state = local 33 (names x k i m 0 v) nothing_noted; run = runs.passed_last a b c fuel x k i m j v (omega arith) (least_none (j + 1) e); noted = refl; stands = (record { c = x; k = k; i = i; m = m; j = 0; v = v }, refl) }
@@ -129,9 +129,9 @@ module _ (a : Algorithm) (b : IsBakery a) (n limit p : ℕ) (own : p < n) (most 
     pub answer : landing.answer ≡ option_map answer_number done
     pub stands : Stands n limit p place (process_landed 0 landing.state landing.answer)
 
-  -- after a halt without a deed or an answer
-  pub halted : (fuel at : ℕ) (store : List ℕ) (place : Place) → Halts fuel (local at store nothing_noted) place → Lands fuel at store place None None
-  halted fuel at store place h = record { landing = record { answer = None; state = h.state }; run = h.run; noted = h.noted; answer = refl; stands = h.stands }
+  -- after a stop without a deed or an answer
+  pub stopped : (fuel at : ℕ) (store : List ℕ) (place : Place) → StopsAt fuel (local at store nothing_noted) place → Lands fuel at store place None None
+  stopped fuel at store place h = record { landing = record { answer = None; state = h.state }; run = h.run; noted = h.noted; answer = refl; stands = h.stands }
 
   -- the restart table of a lock
   pub relocks : (c k i : ℕ) → c ≤ 1 → i ≤ 1 → Lands 60 3 (names c k i 0 0 0) (relocked n p c k i) (reentry p c k i) (again c k i)
@@ -141,12 +141,12 @@ module _ (a : Algorithm) (b : IsBakery a) (n limit p : ℕ) (own : p < n) (most 
       record { landing = _; run = runs.relocks_marked a b (constants p n limit) 54 0 0 0; noted = refl; answer = refl; stands = (record { c = 0; k = 0; i = 1; m = 0; j = 0; v = 0 }, refl) }
   relocks zero (suc k) zero low small =
       let h = wait_starts 54 0 (suc k) 0 0 0 0 nothing_noted (above n p 0) refl in
-      halted 60 3 (names 0 (suc k) 0 0 0 0) (Wait (suc k) (others n p) None) (record { state = h.state; run = runs.relocks_waiting a b (constants p n limit) 56 (suc k) 0 0 0 (omega arith) ∙ h.run; noted = h.noted; stands = h.stands })
+      stopped 60 3 (names 0 (suc k) 0 0 0 0) (Wait (suc k) (others n p) None) (record { state = h.state; run = runs.relocks_waiting a b (constants p n limit) 56 (suc k) 0 0 0 (omega arith) ∙ h.run; noted = h.noted; stands = h.stands })
   relocks zero (suc k) (suc zero) low small =
       record { landing = _; run = runs.relocks_inside a b (constants p n limit) 54 (suc k) 0 0 0 (omega arith); noted = refl; answer = refl; stands = refl }
   relocks (suc zero) zero i low small =
       let h = door_starts 53 1 0 i 0 0 nothing_noted (above n p 0) refl in
-      halted 60 3 (names 1 0 i 0 0 0) (Door (others n p) 0) (record { state = h.state; run = runs.relocks_doorway a b (constants p n limit) 57 0 i 0 0 0 refl ∙ h.run; noted = h.noted; stands = h.stands })
+      stopped 60 3 (names 1 0 i 0 0 0) (Door (others n p) 0) (record { state = h.state; run = runs.relocks_doorway a b (constants p n limit) 57 0 i 0 0 0 refl ∙ h.run; noted = h.noted; stands = h.stands })
   relocks (suc zero) (suc k) i low small =
       record { landing = _; run = runs.relocks_shut a b (constants p n limit) 56 (suc k) i 0 0 0 (omega arith); noted = refl; answer = refl; stands = (record { c = 1; k = suc k; i = i; m = 0; j = 0; v = 0 }, refl) }
   relocks (suc (suc c)) k i low small = absurd (omega arith)

@@ -5,7 +5,7 @@ pub mod Places
 pub mod Landings
 pub mod Steps
 pub mod Words
-pub mod Hearing
+pub mod Deeds
 pub mod Starts
 pub mod Worlds
 pub mod Sizes

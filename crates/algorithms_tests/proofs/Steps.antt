@@ -52,7 +52,7 @@ use Rattle.algorithms_tests.proofs.LocalRuns as runs
 use Rattle.algorithms_tests.proofs.LocalRuns.{Names, names, local, one, From}
 use Rattle.algorithms_tests.proofs.Places.{before, all_names, IsLoop, Stands, noted_by}
 use Rattle.algorithms_tests.proofs.Landings as lands
-use Rattle.algorithms_tests.proofs.Landings.{Halts, Lands, halted}
+use Rattle.algorithms_tests.proofs.Landings.{StopsAt, Lands, stopped}
 
 -- the address of a lock word, and what an access of the lock stores
 abbrev pub address_of : Word → Address
@@ -75,11 +75,11 @@ pub record Follows (n limit p : ℕ) (place : Place) (acc : LockAccess) (v : ℕ
   pub answer : t.moved.answer ≡ option_map answer_number (answer place (kind_of acc) (carried acc v))
   pub stands : Stands n limit p (unwrap_or (next n limit p place (kind_of acc) (word_of acc) (carried acc v)) place) t.moved.process
 
--- what the values of a run are known to be
-abbrev pub Known : ℕ → Place → ℕ → Type 0
-Known limit (Reread call (c ∷ k ∷ [])) v = (c ≤ 1) × (v ≤ 1)
-Known limit (Door (j ∷ js) m) v = v ≤ limit
-Known limit place v = Unit {0}
+-- what is so of the value that a step reads in a run
+abbrev pub ValueFits : ℕ → Place → ℕ → Type 0
+ValueFits limit (Reread call (c ∷ k ∷ [])) v = (c ≤ 1) × (v ≤ 1)
+ValueFits limit (Door (j ∷ js) m) v = v ≤ limit
+ValueFits limit place v = Unit {0}
 
 abbrev access_with : ℕ → ℕ → Option ℕ → Access
 access_with d i stores = record { address = record { declaration = d; index = i }; stores = stores }
@@ -173,10 +173,11 @@ module _ (a : Algorithm) (b : IsBakery a) (n limit p : ℕ) (own : p < n) (most 
       → access_of a.declarations.items me store line ≡ Some (access_by acc) → value_of words (access_by acc) ≡ Some x → passes me (received line.action x store) line.action ≡ Some true
       → Lands a b n limit p own most high 60 (at + 1) (received line.action x store) to (step_deed p place (kind_of acc) (carried acc v)) (answer place (kind_of acc) (carried acc v))
       → Leads place acc v to → Step place (before at store) acc v
-  steps_on place to acc v at x store line h e1 e2 e3 l leads =
-      (taken_with at (access_by acc) x (landed 0 l.landing),
-      begins at store line (access_by acc) x true h e1 e2 e3 ∙ ap (λ r. r >>= (λ moved. Ok (taken_with at (access_by acc) x moved))) (went_on (at + 1) (received line.action x store) l.landing l.run),
-      record { access = refl; noted = l.noted; answer = l.answer; stands = arrived place to acc v _ leads l.stands })
+  steps_on place to acc v at x store line h e1 e2 e3 l leads = (
+    taken_with at (access_by acc) x (landed 0 l.landing),
+    begins at store line (access_by acc) x true h e1 e2 e3 ∙ ap (λ r. r >>= (λ moved. Ok (taken_with at (access_by acc) x moved))) (went_on (at + 1) (received line.action x store) l.landing l.run),
+    record { access = refl; noted = l.noted; answer = l.answer; stands = arrived place to acc v _ leads l.stands },
+  )
 
   -- a blocked reading
   blocks : (place : Place) (acc : LockAccess) (v at x : ℕ) (store : List ℕ) (line : AccessLine) → HasForm a.lines.items at (forms.Access line)
@@ -202,7 +203,7 @@ module _ (a : Algorithm) (b : IsBakery a) (n limit p : ℕ) (own : p < n) (most 
 
   abbrev pub StepIf : Place → Process → Option LockAccess → Type 0
   StepIf place t None = under_way t.place ≡ Err NothingToDo
-  StepIf place t (Some acc) = (v : ℕ) → Known limit place v → Told acc v → Step place t acc v
+  StepIf place t (Some acc) = (v : ℕ) → ValueFits limit place v → Told acc v → Step place t acc v
 
   -- the three rereads
   rereads : (place to : Place) (acc : LockAccess) (v at d name : ℕ) (store : List ℕ) (bound : Option Expression)
@@ -264,7 +265,7 @@ module _ (a : Algorithm) (b : IsBakery a) (n limit p : ℕ) (own : p < n) (most 
   peeks x j m js v low small loop told =
       steps_on (Door (j ∷ js) m) (Door js (max m v)) (Loads Peeks (NumberOf j)) v 18 v (names x.c x.k x.i m j x.v) _ (has_form a b 18 _ refl)
       (loads 1 j (Private 4) 5 (names x.c x.k x.i m j x.v) _ (bounded 1 _ refl) refl loop.0) told refl
-      (halted a b n limit p own most high 60 19 (names x.c x.k x.i m j v) (Door js (max m v)) (lands.peeked a b n limit p own most high 55 x.c x.k x.i m j v js loop.0 low small (sym loop.1)))
+      (stopped a b n limit p own most high 60 19 (names x.c x.k x.i m j v) (Door js (max m v)) (lands.peeked a b n limit p own most high 55 x.c x.k x.i m j v js loop.0 low small (sym loop.1)))
       (ap (λ t. only t (Door (without j (j ∷ js)) (max m v))) (has-first j js) ∙ ap (λ l. Some (Door l (max m v))) (ap (λ l. without j (j ∷ l)) loop.1 ∙ without-first n p j ∙ sym loop.1))
 
   takes : (x : Names) (m v : ℕ) → m < limit → Step (Door [] m) (before 26 (names x.c (m + 1) x.i m x.j x.v)) (Stores Takes (NumberOf p) (m + 1)) v
@@ -285,7 +286,7 @@ module _ (a : Algorithm) (b : IsBakery a) (n limit p : ℕ) (own : p < n) (most 
   shuts x k v =
       stores (Shutting Lock k) (Wait k (others n p) None) (Stores Shuts (ChoosingOf p) 0) v 28 0 (names x.c k x.i x.m x.j x.v) 0 (Number 0) false (has_form a b 28 _ refl)
       (marks 0 0 false (names x.c k x.i x.m x.j x.v) (bounded 0 _ refl) (omega arith)) refl
-      (halted a b n limit p own most high 60 29 (names x.c k x.i x.m x.j x.v) (Wait k (others n p) None) (lands.wait_starts a b n limit p own most high 58 x.c k x.i x.m x.j x.v nothing_noted (above n p 0) refl))
+      (stopped a b n limit p own most high 60 29 (names x.c k x.i x.m x.j x.v) (Wait k (others n p) None) (lands.wait_starts a b n limit p own most high 58 x.c k x.i x.m x.j x.v nothing_noted (above n p 0) refl))
       (rw (eqb_self p))
 
   recover_shuts : (x : Names) (k v : ℕ) → Step (Shutting Recover k) (before 46 (all_names x)) (Stores Shuts (ChoosingOf p) 0) v
@@ -318,7 +319,7 @@ module _ (a : Algorithm) (b : IsBakery a) (n limit p : ℕ) (own : p < n) (most 
   weighs x k j unpassed v true e low is told =
       steps_on (Wait k unpassed (Some j)) (Wait k (above n p (j + 1)) None) (Loads Weighs (NumberOf j)) v 31 v (names x.c k x.i x.m j x.v) _ (has_form a b 31 _ refl)
       (awaits 1 j 5 (names x.c k x.i x.m j x.v) (may_pass b.lock_boxes) _ (bounded 1 _ refl) refl low) told (passes_test x k j v ∙ ap Some e)
-      (halted a b n limit p own most high 60 32 (names x.c k x.i x.m j v) (Wait k (above n p (j + 1)) None) (lands.passed a b n limit p own most high 58 x.c k x.i x.m j v (above n p (j + 1)) low refl))
+      (stopped a b n limit p own most high 60 32 (names x.c k x.i x.m j v) (Wait k (above n p (j + 1)) None) (lands.passed a b n limit p own most high 58 x.c k x.i x.m j v (above n p (j + 1)) low refl))
       (rw (eqb_self j, e) (ap (λ l. Some (Wait k l None)) (ap (without j) is ∙ without-first n p j)))
   weighs x k j unpassed v false e low is told =
       blocks (Wait k unpassed (Some j)) (Loads Weighs (NumberOf j)) v 31 v (names x.c k x.i x.m j x.v) _ (has_form a b 31 _ refl)
@@ -370,32 +371,32 @@ module _ (a : Algorithm) (b : IsBakery a) (n limit p : ℕ) (own : p < n) (most 
   steps_alike Rest t low e = ap (λ t. under_way t.place) e
   steps_alike Dead t low e = ap (λ t. under_way t.place) e
   steps_alike Inside t low e = ap (λ t. under_way t.place) e
-  steps_alike (Reread Lock []) t low e = at_process (Reread Lock []) t _ e (λ v known told. lock_choosing v told)
-  steps_alike (Reread Lock (c ∷ [])) t low e = at_process (Reread Lock (c ∷ [])) t _ e (λ v known told. lock_number c v told)
-  steps_alike (Reread Lock (c ∷ k ∷ [])) t low e = at_process (Reread Lock (c ∷ k ∷ [])) t _ e (λ v known told. lock_inside c k v known.0 known.1 told)
-  steps_alike (Reread Recover []) t low e = at_process (Reread Recover []) t _ e (λ v known told. recover_choosing v told)
-  steps_alike (Reread Recover (c ∷ [])) t low e = at_process (Reread Recover (c ∷ [])) t _ e (λ v known told. recover_number c v told)
-  steps_alike (Reread Recover (c ∷ k ∷ [])) t low e = at_process (Reread Recover (c ∷ k ∷ [])) t _ e (λ v known told. recover_inside c k v known.0 known.1 told)
+  steps_alike (Reread Lock []) t low e = at_process (Reread Lock []) t _ e (λ v fits told. lock_choosing v told)
+  steps_alike (Reread Lock (c ∷ [])) t low e = at_process (Reread Lock (c ∷ [])) t _ e (λ v fits told. lock_number c v told)
+  steps_alike (Reread Lock (c ∷ k ∷ [])) t low e = at_process (Reread Lock (c ∷ k ∷ [])) t _ e (λ v fits told. lock_inside c k v fits.0 fits.1 told)
+  steps_alike (Reread Recover []) t low e = at_process (Reread Recover []) t _ e (λ v fits told. recover_choosing v told)
+  steps_alike (Reread Recover (c ∷ [])) t low e = at_process (Reread Recover (c ∷ [])) t _ e (λ v fits told. recover_number c v told)
+  steps_alike (Reread Recover (c ∷ k ∷ [])) t low e = at_process (Reread Recover (c ∷ k ∷ [])) t _ e (λ v fits told. recover_inside c k v fits.0 fits.1 told)
   steps_alike (Reread call seen) t low e = absurd e
-  steps_alike Opening t low e = at_process Opening t _ e.1 (λ v known told. opens e.0 v)
-  steps_alike (Door (j ∷ js) m) t low e = at_process (Door (j ∷ js) m) t _ e.1 (λ v known told. peeks e.0 j m js v low known e.2 told)
+  steps_alike Opening t low e = at_process Opening t _ e.1 (λ v fits told. opens e.0 v)
+  steps_alike (Door (j ∷ js) m) t low e = at_process (Door (j ∷ js) m) t _ e.1 (λ v fits told. peeks e.0 j m js v low fits e.2 told)
   steps_alike (Door [] m) t low e =
       elim e.1 [
-        | inl spent ↦ let no : nat_lt m limit ≡ false = le-ltb m limit (omega (arith, spent.0)) in at_process (Door [] m) t _ spent.1 (rw no (λ v known told. spends e.0 m v (omega (arith, spent.0))))
-        | inr more ↦ at_process (Door [] m) t _ more.1 (rw (lt-ltb m limit (below m low more.0)) (λ v known told. takes e.0 m v (below m low more.0)))
+        | inl spent ↦ let no : nat_lt m limit ≡ false = le-ltb m limit (omega (arith, spent.0)) in at_process (Door [] m) t _ spent.1 (rw no (λ v fits told. spends e.0 m v (omega (arith, spent.0))))
+        | inr more ↦ at_process (Door [] m) t _ more.1 (rw (lt-ltb m limit (below m low more.0)) (λ v fits told. takes e.0 m v (below m low more.0)))
       ]
     where
       below : (m : ℕ) → m ≤ limit → (m ≡ limit → ⊥) → m < limit
       below m le ne = omega arith
-  steps_alike (Shutting Lock k) t low e = at_process (Shutting Lock k) t _ e.1 (λ v known told. shuts e.0 k v)
-  steps_alike (Shutting Recover k) t low e = at_process (Shutting Recover k) t _ e.1 (λ v known told. recover_shuts e.0 k v)
+  steps_alike (Shutting Lock k) t low e = at_process (Shutting Lock k) t _ e.1 (λ v fits told. shuts e.0 k v)
+  steps_alike (Shutting Recover k) t low e = at_process (Shutting Recover k) t _ e.1 (λ v fits told. recover_shuts e.0 k v)
   steps_alike (Shutting call k) t low e = absurd e
-  steps_alike (Wait k [] None) t low e = at_process (Wait k [] None) t _ e.1 (λ v known told. enters e.0 k v)
-  steps_alike (Wait k (j ∷ js) None) t low e = at_process (Wait k (j ∷ js) None) t _ e.1 (λ v known told. looks e.0 k j js v (v == 0) refl e.2 told)
-  steps_alike (Wait k unpassed (Some j)) t low e = at_process (Wait k unpassed (Some j)) t _ e.1 (λ v known told. weighs e.0 k j unpassed v ((v == 0) || is_before k p v j) refl e.2 e.3 told)
-  steps_alike Leaving t low e = at_process Leaving t _ e (λ v known told. leaves v)
-  steps_alike Withdrawing t low e = at_process Withdrawing t _ e (λ v known told. withdraws v)
-  steps_alike (Unmarking Lock) t low e = at_process (Unmarking Lock) t _ e.1 (λ v known told. lock_unmarks e.0 v)
-  steps_alike (Unmarking Unlock) t low e = at_process (Unmarking Unlock) t _ e (λ v known told. unlock_unmarks v)
-  steps_alike (Unmarking Recover) t low e = at_process (Unmarking Recover) t _ e.1 (λ v known told. recover_unmarks e.0 v)
+  steps_alike (Wait k [] None) t low e = at_process (Wait k [] None) t _ e.1 (λ v fits told. enters e.0 k v)
+  steps_alike (Wait k (j ∷ js) None) t low e = at_process (Wait k (j ∷ js) None) t _ e.1 (λ v fits told. looks e.0 k j js v (v == 0) refl e.2 told)
+  steps_alike (Wait k unpassed (Some j)) t low e = at_process (Wait k unpassed (Some j)) t _ e.1 (λ v fits told. weighs e.0 k j unpassed v ((v == 0) || is_before k p v j) refl e.2 e.3 told)
+  steps_alike Leaving t low e = at_process Leaving t _ e (λ v fits told. leaves v)
+  steps_alike Withdrawing t low e = at_process Withdrawing t _ e (λ v fits told. withdraws v)
+  steps_alike (Unmarking Lock) t low e = at_process (Unmarking Lock) t _ e.1 (λ v fits told. lock_unmarks e.0 v)
+  steps_alike (Unmarking Unlock) t low e = at_process (Unmarking Unlock) t _ e (λ v fits told. unlock_unmarks v)
+  steps_alike (Unmarking Recover) t low e = at_process (Unmarking Recover) t _ e.1 (λ v fits told. recover_unmarks e.0 v)
   steps_alike (Unmarking call) t low e = absurd e

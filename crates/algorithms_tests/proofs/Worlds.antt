@@ -50,32 +50,32 @@ use Rattle.algorithm_lab.specs.declared.run_refusal.RunRefusal.TheVariants.{Refu
 use Rattle.algorithms_tests.proofs.Lines.{three}
 use Rattle.algorithms_tests.proofs.Comparisons.{constants}
 use Rattle.algorithms_tests.proofs.Places.{dead, Stands}
-use Rattle.algorithms_tests.proofs.Steps.{address_of, stores_of, access_by, Follows, Known, StepIf, steps_alike}
+use Rattle.algorithms_tests.proofs.Steps.{address_of, stores_of, access_by, Follows, ValueFits, StepIf, steps_alike}
 use Rattle.algorithms_tests.proofs.Words.{AlikeWords, IsRowOf, told, stores_alike, set_here, set_there, replicated}
-use Rattle.algorithms_tests.proofs.Hearing.{promised, OfStep, of_turn, hears, phase_kept}
+use Rattle.algorithms_tests.proofs.Deeds.{promised, OfStep, of_turn, hears, phase_kept}
 use Rattle.algorithms_tests.proofs.Starts.{by_call, phase_part, PhaseFits, IsRefused, StartIf, starts_alike}
 
 -- ---- the lock's side
 
 -- what the invariant of the lock knows of the value of a load
-known : (limit n p : ℕ) (w : World) (place : Place) → Fits (w.words p) place → Bounded limit w → IfSome (access limit p place) (λ acc. Known limit place (read w.words (word_of acc)))
-known limit n p w (Reread call []) fits bounded = tt
-known limit n p w (Reread call (c ∷ [])) fits bounded = tt
-known limit n p w (Reread call (c ∷ k ∷ [])) fits bounded = (subst (λ x. x ≤ 1) fits.1 (bounded.small p).choosing, (bounded.small p).inside)
-known limit n p w (Reread call (c ∷ k ∷ i ∷ seen)) fits bounded = tt
-known limit n p w (Door (j ∷ js) m) fits bounded = (bounded.small j).number
-known limit n p w (Door [] m) fits bounded = elim (cases_Bool (nat_lt m limit)) [ inl e ↦ rw e tt | inr e ↦ rw e tt ]
-known limit n p w (Wait k [] None) fits bounded = tt
-known limit n p w (Wait k (j ∷ js) None) fits bounded = tt
-known limit n p w (Wait k unpassed (Some j)) fits bounded = tt
-known limit n p w Rest fits bounded = tt
-known limit n p w Dead fits bounded = tt
-known limit n p w Opening fits bounded = tt
-known limit n p w (Shutting call k) fits bounded = tt
-known limit n p w Inside fits bounded = tt
-known limit n p w Leaving fits bounded = tt
-known limit n p w Withdrawing fits bounded = tt
-known limit n p w (Unmarking call) fits bounded = tt
+value_fits : (limit n p : ℕ) (w : World) (place : Place) → Fits (w.words p) place → Bounded limit w → IfSome (access limit p place) (λ acc. ValueFits limit place (read w.words (word_of acc)))
+value_fits limit n p w (Reread call []) fits bounded = tt
+value_fits limit n p w (Reread call (c ∷ [])) fits bounded = tt
+value_fits limit n p w (Reread call (c ∷ k ∷ [])) fits bounded = (subst (λ x. x ≤ 1) fits.1 (bounded.small p).choosing, (bounded.small p).inside)
+value_fits limit n p w (Reread call (c ∷ k ∷ i ∷ seen)) fits bounded = tt
+value_fits limit n p w (Door (j ∷ js) m) fits bounded = (bounded.small j).number
+value_fits limit n p w (Door [] m) fits bounded = elim (cases_Bool (nat_lt m limit)) [ inl e ↦ rw e tt | inr e ↦ rw e tt ]
+value_fits limit n p w (Wait k [] None) fits bounded = tt
+value_fits limit n p w (Wait k (j ∷ js) None) fits bounded = tt
+value_fits limit n p w (Wait k unpassed (Some j)) fits bounded = tt
+value_fits limit n p w Rest fits bounded = tt
+value_fits limit n p w Dead fits bounded = tt
+value_fits limit n p w Opening fits bounded = tt
+value_fits limit n p w (Shutting call k) fits bounded = tt
+value_fits limit n p w Inside fits bounded = tt
+value_fits limit n p w Leaving fits bounded = tt
+value_fits limit n p w Withdrawing fits bounded = tt
+value_fits limit n p w (Unmarking call) fits bounded = tt
 
 -- the word of an access is a lock word
 in_lock : (limit n p : ℕ) (place : Place) (t : Process) → p < n → Stands n limit p place t → IfSome (access limit p place) (λ acc. InLock n (word_of acc))
@@ -347,7 +347,7 @@ module _ (a : Algorithm) (b : IsBakery a) (n limit : ℕ) (most : n ≤ 64) (hig
         let x : ℕ = carried acc v in
         let low : InLock n (word_of acc) = at_some (access limit p place) acc (λ acc. InLock n (word_of acc)) e (in_lock limit n p place t own stands) in
         let fits : KindFits acc = at_some (access limit p place) acc KindFits e (kind_fits limit p place) in
-        let given : Known limit place v = at_some (access limit p place) acc (λ acc. Known limit place (read w.words (word_of acc))) e (known limit n p w place (h.tied.fits p own) h.bounded) in
+        let given : ValueFits limit place v = at_some (access limit p place) acc (λ acc. ValueFits limit place (read w.words (word_of acc))) e (value_fits limit n p w place (h.tied.fits p own) h.bounded) in
         let some : IsSome (next n limit p place (kind_of acc) (word_of acc) x) = at_some (access limit p place) acc (λ acc. IsSome (next n limit p place (kind_of acc) (word_of acc) (carried acc v))) e (allowed n limit p place v) in
         let event : Event = Steps p (kind_of acc) (word_of acc) x in
         let may : May n limit w event = (own, some, reads w.words acc x fits refl) in
@@ -360,13 +360,13 @@ module _ (a : Algorithm) (b : IsBakery a) (n limit : ℕ) (most : n ≤ 64) (hig
         let taken : Taken = s.0 in
         let f : Follows n limit p place acc v taken = s.2 in
         let hear : heard a.promises p (phase_now p) taken.moved.noted ≡ record { told = deed_told deed; phase = lock.phase p } =
-            ap (λ y. heard y p (phase_now p) taken.moved.noted) b.promises ∙ ap (heard promised p (phase_now p)) f.noted ∙ hears n ab p (phase_now p) deed (h.phase p own) of kept.0 in
+        ap (λ y. heard y p (phase_now p) taken.moved.noted) b.promises ∙ ap (heard promised p (phase_now p)) f.noted ∙ hears n ab p (phase_now p) deed (h.phase p own) of kept.0 in
         let said : moved_by m (step_on m p) ≡ reported p taken.moved.process (access_by acc) (record { told = deed_told deed; phase = lock.phase p }) (option_map answer_number (answer place (kind_of acc) x)) =
-            ap (λ o. moved_by m (step_from p o)) there
-            ∙ ap (λ r. moved_by m (step_done p r)) s.1
-            ∙ ap (λ y. reported p taken.moved.process y (heard a.promises p (phase_now p) taken.moved.noted) taken.moved.answer) f.access
-            ∙ ap (λ y. reported p taken.moved.process (access_by acc) y taken.moved.answer) hear
-            ∙ ap (reported p taken.moved.process (access_by acc) (record { told = deed_told deed; phase = lock.phase p })) f.answer in
+        ap (λ o. moved_by m (step_from p o)) there
+        ∙ ap (λ r. moved_by m (step_done p r)) s.1
+        ∙ ap (λ y. reported p taken.moved.process y (heard a.promises p (phase_now p) taken.moved.noted) taken.moved.answer) f.access
+        ∙ ap (λ y. reported p taken.moved.process (access_by acc) y taken.moved.answer) hear
+        ∙ ap (reported p taken.moved.process (access_by acc) (record { told = deed_told deed; phase = lock.phase p })) f.answer in
         record {
           rows = stored rows (address_of (word_of acc)) (stores_of acc);
           processes = slice_set ts p taken.moved.process;

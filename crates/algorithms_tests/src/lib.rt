@@ -1,4 +1,4 @@
-//! Tests of algorithms as texts.
+//! Tests of algorithms as texts, and a law of one of them.
 #![tactic(auto)]
 
 #[cfg(test)]
@@ -7,6 +7,7 @@ mod bad_texts;
 mod bridge;
 #[cfg(test)]
 mod hostile_texts;
+pub mod laws;
 #[cfg(test)]
 mod replays;
 #[cfg(test)]
@@ -17,4 +18,6 @@ mod runs;
 mod schedules;
 #[cfg(test)]
 mod searches;
+#[cfg(test)]
+mod spelling;
 pub mod texts;

@@ -1,0 +1,84 @@
+-- What is heard of a deed that the lock allows: the deed itself, and its phase in the abstract lock.
+use Rattle.std.proofs.Common.{◌≡◌, ℕ, true, [], ◌∷◌, ◌++◌, Option, Some, None, refl, sym, ap, ◌∙◌, subst}
+use Rattle.rmecore.specs.AbstractLock.{Abstract, done}
+use Rattle.rmecore.specs.Needs.{put}
+use Rattle.rmecore.specs.Turn.{Turn, Plain}
+use Rattle.rmecore.specs.Place.{Place}
+use Rattle.rmecore.specs.declared.outer.Outer.{Outer}
+use Rattle.rmecore.specs.declared.outer.Outer.TheVariants as outers
+use Rattle.rmecore.specs.declared.phase.Phase.{Phase}
+use Rattle.rmecore.specs.declared.phase.Phase.TheVariants as phases
+use Rattle.rmecore.proofs.Invariant.{put_same, put_other}
+use Rattle.rmecore.proofs.Rows.{Allowed, after_deed}
+use Rattle.algorithm_lab.specs.Heard.{heard, begun, readied, phase_begun}
+use Rattle.algorithms_tests.specs.Runs.{deed_told}
+use Rattle.algorithms.specs.declared.algorithm.Promises.{Promises}
+use Rattle.algorithm_lab.specs.declared.told.Told.TheVariants.{Did}
+use Rattle.algorithms_tests.proofs.Places.{noted_by}
+
+abbrev pub promised : Promises
+promised = record { reentry = true; order = true }
+
+-- no deed, or one of a step of p
+abbrev pub OfStep : ℕ → Option Outer → Type 0
+OfStep p None = Unit {0}
+OfStep p (Some (outers.Begin q)) = q ≡ p
+OfStep p (Some (outers.Ready q)) = q ≡ p
+OfStep p (Some (outers.Enter q)) = q ≡ p
+OfStep p (Some (outers.Crash q)) = ⊥
+OfStep p (Some (outers.Reenter q)) = q ≡ p
+OfStep p (Some (outers.Leave q)) = q ≡ p
+OfStep p (Some (outers.Quit q)) = q ≡ p
+
+plain_of : (p : ℕ) (d : Option Outer) → Plain p d → OfStep p d
+plain_of p None h = tt
+plain_of p (Some (outers.Begin q)) h = h
+plain_of p (Some (outers.Ready q)) h = h
+plain_of p (Some (outers.Quit q)) h = h
+plain_of p (Some (outers.Enter q)) h = absurd h
+plain_of p (Some (outers.Crash q)) h = absurd h
+plain_of p (Some (outers.Reenter q)) h = absurd h
+plain_of p (Some (outers.Leave q)) h = absurd h
+
+pub of_turn : (p : ℕ) (s t : Place) (d : Option Outer) → Turn p s t d → OfStep p d
+of_turn p s t d (Turn.Enters number unpassed looked from to is) = subst (OfStep p) (sym is) refl
+of_turn p s t d (Turn.Reenters call seen from to is) = subst (OfStep p) (sym is) refl
+of_turn p s t d (Turn.Exits from else is) = subst (OfStep p) (sym is) refl
+of_turn p s t d (Turn.Same same is) = subst (OfStep p) (sym is) tt
+of_turn p s t d (Turn.Else else plain) = plain_of p d plain
+
+-- what is heard of a step, in the phase of the abstract lock
+pub hears : (n : ℕ) (a : Abstract) (p : ℕ) (phase : Phase) (d : Option Outer) → phase ≡ a.phase p → OfStep p d → Allowed n a d → heard promised p phase (noted_by d) ≡ record { told = deed_told d; phase = (after_deed a d).phase p }
+hears n a p phase None e of allowed = ap (λ x. record { told = []; phase = x }) e
+hears n a p phase (Some (outers.Begin q)) e of allowed =
+    let out : phase ≡ phases.Out = e ∙ ap a.phase (sym of) ∙ allowed.1 in
+    let after : (done a (outers.Begin q)).phase p ≡ phases.Door = ap (λ r. put a.phase q phases.Door r) (sym of) ∙ put_same a.phase q phases.Door in
+    ap (λ x. record { told = begun p x ++ []; phase = phase_begun x }) out ∙ ap (λ r. record { told = Did (outers.Begin r) ∷ []; phase = phases.Door }) (sym of) ∙ ap (λ x. record { told = Did (outers.Begin q) ∷ []; phase = x }) (sym after)
+hears n a p phase (Some (outers.Ready q)) e of allowed =
+    let out : phase ≡ phases.Door = e ∙ ap a.phase (sym of) ∙ allowed.1 in
+    let after : (done a (outers.Ready q)).phase p ≡ phases.Ready = ap (λ r. put a.phase q phases.Ready r) (sym of) ∙ put_same a.phase q phases.Ready in
+    ap (λ x. record { told = readied p x ++ []; phase = phases.Ready }) out ∙ ap (λ r. record { told = Did (outers.Ready r) ∷ []; phase = phases.Ready }) (sym of) ∙ ap (λ x. record { told = Did (outers.Ready q) ∷ []; phase = x }) (sym after)
+hears n a p phase (Some (outers.Enter q)) e of allowed =
+    let after : (done a (outers.Enter q)).phase p ≡ phases.Inside = ap (λ r. put a.phase q phases.Inside r) (sym of) ∙ put_same a.phase q phases.Inside in
+    ap (λ r. record { told = Did (outers.Enter r) ∷ []; phase = phases.Inside }) (sym of) ∙ ap (λ x. record { told = Did (outers.Enter q) ∷ []; phase = x }) (sym after)
+hears n a p phase (Some (outers.Crash q)) e of allowed = absurd of
+hears n a p phase (Some (outers.Reenter q)) e of allowed =
+    let after : (done a (outers.Reenter q)).phase p ≡ phases.Inside = ap (λ r. put a.phase q phases.Inside r) (sym of) ∙ put_same a.phase q phases.Inside in
+    ap (λ r. record { told = Did (outers.Reenter r) ∷ []; phase = phases.Inside }) (sym of) ∙ ap (λ x. record { told = Did (outers.Reenter q) ∷ []; phase = x }) (sym after)
+hears n a p phase (Some (outers.Leave q)) e of allowed =
+    let after : (done a (outers.Leave q)).phase p ≡ phases.Out = ap (λ r. put a.phase q phases.Out r) (sym of) ∙ put_same a.phase q phases.Out in
+    ap (λ r. record { told = Did (outers.Leave r) ∷ []; phase = phases.Out }) (sym of) ∙ ap (λ x. record { told = Did (outers.Leave q) ∷ []; phase = x }) (sym after)
+hears n a p phase (Some (outers.Quit q)) e of allowed =
+    let after : (done a (outers.Quit q)).phase p ≡ phases.Out = ap (λ r. put a.phase q phases.Out r) (sym of) ∙ put_same a.phase q phases.Out in
+    ap (λ r. record { told = Did (outers.Quit r) ∷ []; phase = phases.Out }) (sym of) ∙ ap (λ x. record { told = Did (outers.Quit q) ∷ []; phase = x }) (sym after)
+
+-- no other phase changes
+pub phase_kept : (a : Abstract) (p q : ℕ) (d : Option Outer) → OfStep p d → (q ≡ p → ⊥) → (after_deed a d).phase q ≡ a.phase q
+phase_kept a p q None of ne = refl
+phase_kept a p q (Some (outers.Begin r)) of ne = put_other a.phase r _ q (λ e. ne (e ∙ of))
+phase_kept a p q (Some (outers.Ready r)) of ne = put_other a.phase r _ q (λ e. ne (e ∙ of))
+phase_kept a p q (Some (outers.Enter r)) of ne = put_other a.phase r _ q (λ e. ne (e ∙ of))
+phase_kept a p q (Some (outers.Crash r)) of ne = absurd of
+phase_kept a p q (Some (outers.Reenter r)) of ne = put_other a.phase r _ q (λ e. ne (e ∙ of))
+phase_kept a p q (Some (outers.Leave r)) of ne = put_other a.phase r _ q (λ e. ne (e ∙ of))
+phase_kept a p q (Some (outers.Quit r)) of ne = put_other a.phase r _ q (λ e. ne (e ∙ of))

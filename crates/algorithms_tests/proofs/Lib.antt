@@ -1,0 +1,12 @@
+pub mod Comparisons
+pub mod Lines
+pub mod LocalRuns
+pub mod Places
+pub mod Landings
+pub mod Steps
+pub mod Words
+pub mod Deeds
+pub mod Starts
+pub mod Worlds
+pub mod Sizes
+pub mod CoreMoves

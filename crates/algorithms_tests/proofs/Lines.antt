@@ -1,0 +1,83 @@
+-- The lines of the Bakery, and what one of them does to a process between two accesses.
+use Rattle.std.proofs.Common.{◌≡◌, ℕ, zero, suc, ◌+◌, List, [], ◌∷◌, map, length, Option, Some, None, Ok, refl, sym, ap, ◌∙◌}
+use Rattle.std.specs.Prelude.{slice_get, ok_or}
+use Rattle.algorithms.specs.Arrivals.{arrives, arrives_after, local_step_of, ◌>>=◌}
+use Rattle.algorithms.specs.LocalRuns.{local_line_done}
+use Rattle.algorithms.specs.Worlds.{access_at, access_line}
+use Rattle.algorithms_tests.specs.Bakery.{IsBakery, form_of, bound_of, lines}
+use Rattle.algorithms.specs.declared.algorithm.Algorithm.{Algorithm}
+use Rattle.algorithms.specs.declared.algorithm.Declaration.{Declaration}
+use Rattle.algorithms.specs.declared.constants.Constants.{Constants}
+use Rattle.algorithms.specs.declared.expression.Expression.{Expression}
+use Rattle.algorithms.specs.declared.line.AccessLine.{AccessLine}
+use Rattle.algorithms.specs.declared.line.Form.{Form}
+use Rattle.algorithms.specs.declared.line.Form.TheVariants.{Access, Local, Done}
+use Rattle.algorithms.specs.declared.line.Line.{Line}
+use Rattle.algorithms.specs.declared.line.LocalLine.{LocalLine}
+use Rattle.algorithms.specs.declared.local.LocalState.{LocalState}
+use Rattle.algorithms.specs.declared.local.LocalStep.TheVariants.{GoesOn}
+use Rattle.algorithms.specs.declared.refusal.AlgorithmRefusal.TheVariants.{OutOfRange, Malformed}
+
+-- the line at a place has this form
+pub record HasForm (all : List Line) (at : ℕ) (f : Form) : Type 0 where
+  pub line : Line
+  pub there : slice_get all at ≡ Some line
+  pub form : line.form ≡ f
+
+mapped_form : (all : List Line) (at : ℕ) (f : Form) → slice_get (map form_of all) at ≡ Some f → HasForm all at f
+mapped_form [] at f e = cc
+mapped_form (line ∷ all) zero f e = record { line = line; there = refl; form = cc }
+mapped_form (line ∷ all) (suc at) f e = let rest = mapped_form all at f e in record { line = rest.line; there = rest.there; form = rest.form }
+
+pub has_form : (a : Algorithm) → (b : IsBakery a) → (at : ℕ) (f : Form) → slice_get (lines b.lock_boxes b.recover_boxes) at ≡ Some f → HasForm a.lines.items at f
+has_form a b at f e = mapped_form a.lines.items at f (ap (λ all. slice_get all at) b.lines ∙ e)
+
+mapped_length : (all : List Line) → length (map form_of all) ≡ length all
+mapped_length [] = refl
+mapped_length (line ∷ all) = ap suc (mapped_length all)
+
+pub sixty : (a : Algorithm) → IsBakery a → length a.lines.items ≡ 60
+sixty a b = sym (mapped_length a.lines.items) ∙ ap length b.lines
+
+mapped_bounds : (all : List Declaration) → length (map bound_of all) ≡ length all
+mapped_bounds [] = refl
+mapped_bounds (d ∷ all) = ap suc (mapped_bounds all)
+
+pub three : (a : Algorithm) → IsBakery a → length a.declarations.items ≡ 3
+three a b = sym (mapped_bounds a.declarations.items) ∙ ap length b.bounds
+
+-- the declaration of a word has this bound
+pub record HasBound (all : List Declaration) (index : ℕ) (bound : Option Expression) : Type 0 where
+  pub declaration : Declaration
+  pub there : slice_get all index ≡ Some declaration
+  pub is : declaration.bound ≡ bound
+
+mapped_bound : (all : List Declaration) (at : ℕ) (f : Option Expression) → slice_get (map bound_of all) at ≡ Some f → HasBound all at f
+mapped_bound [] at f e = cc
+mapped_bound (d ∷ all) zero f e = record { declaration = d; there = refl; is = cc }
+mapped_bound (d ∷ all) (suc at) f e = let rest = mapped_bound all at f e in record { declaration = rest.declaration; there = rest.there; is = rest.is }
+
+pub has_bound : (all : List Declaration) (bounds : List (Option Expression)) (at : ℕ) (f : Option Expression) → map bound_of all ≡ bounds → slice_get bounds at ≡ Some f → HasBound all at f
+has_bound all bounds at f is e = mapped_bound all at f (ap (λ all. slice_get all at) is ∙ e)
+
+-- the access line at a place
+pub access_there : (a : Algorithm) (at : ℕ) (line : AccessLine) → HasForm a.lines.items at (Access line) → access_at a at ≡ Ok line
+access_there a at line h =
+    ap (λ o. ok_or o (Malformed at) >>= (λ l. access_line at l.form)) h.there ∙ ap (λ f. access_line at f) h.form
+
+-- one line of a run
+formed : (all : List Line) (c : Constants) (n : ℕ) (s : LocalState) (f : Form) → HasForm all s.at f → arrives all c (suc n) s ≡ (local_step_of c f s >>= arrives_after (arrives all c n) s)
+formed all c n s f h =
+    ap (λ o. (ok_or o (Malformed s.at) >>= (λ l. local_step_of c l.form s)) >>= arrives_after (arrives all c n) s) h.there
+    ∙ ap (λ g. local_step_of c g s >>= arrives_after (arrives all c n) s) h.form
+
+pub goes : (all : List Line) (c : Constants) (n : ℕ) (s t : LocalState) (line : LocalLine) → HasForm all s.at (Local line) → local_line_done c (s.at + 1) line s ≡ Some t → arrives all c (suc n) s ≡ arrives all c n t
+goes all c n s t line h done =
+    formed all c n s (Local line) h
+    ∙ ap (λ o. (ok_or o (OutOfRange s.at) >>= (λ next. Ok (GoesOn next))) >>= arrives_after (arrives all c n) s) done
+
+pub stops : (all : List Line) (c : Constants) (n : ℕ) (s : LocalState) (line : AccessLine) → HasForm all s.at (Access line) → arrives all c (suc n) s ≡ Ok (record { answer = None; state = s })
+stops all c n s line h = formed all c n s (Access line) h
+
+pub ends : (all : List Line) (c : Constants) (n : ℕ) (s : LocalState) (answer : ℕ) → HasForm all s.at (Done answer) → arrives all c (suc n) s ≡ Ok (record { answer = Some answer; state = s })
+ends all c n s answer h = formed all c n s (Done answer) h

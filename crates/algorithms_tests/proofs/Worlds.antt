@@ -1,0 +1,462 @@
+-- The world of the text beside that of the lock, move by move.
+use Rattle.std.proofs.Common.{◌≡◌, ◌≢◌, ℕ, zero, suc, ◌^◌, ◌<◌, ◌≤◌, true, false, if◌then◌else◌, nat_lt, List, [], ◌∷◌, ◌++◌, length, replicate, Option, Some, None, IsSome, Result, Ok, Err, unwrap_or, refl, sym, ap, ◌∙◌, subst, inl, inr, arith, slice_index_or, slice_set, IfSome, get_or-set_same, get_or-set_other}
+use Rattle.std.specs.Prelude.{ok_or, option_map, slice_get, is_some}
+use Rattle.std.proofs.lemmas.Bool.{cases_eq, cases_lt, cases_Bool, lt-ltb, le-ltb}
+use Rattle.std.proofs.lemmas.List.{length-set, length-replicate, get_or-replicate}
+use Rattle.std.proofs.lemmas.Option.{slice_get_past}
+use Rattle.rmecore.specs.AbstractLock.{Abstract, done, crashed, nobody}
+use Rattle.rmecore.specs.Machine.{access, kind_of, word_of, carried, answer, InLock}
+use Rattle.rmecore.specs.Needs.{put}
+use Rattle.rmecore.specs.Place.{Place, Rest, Dead, Reread, Opening, Door, Shutting, Wait, Inside, Leaving, Withdrawing, Unmarking, Event, Starts, Crashes, Steps, next, started as lock_started}
+use Rattle.rmecore.specs.Refused.{start_refusal as lock_refusal, number_of as lock_number}
+use Rattle.rmecore.specs.World.{World, at_rest, read, after, May, step_deed, stored as lock_stored, write}
+use Rattle.rmecore.specs.declared.access.Access.{Access as LockAccess}
+use Rattle.rmecore.specs.declared.access.Access.TheVariants.{Load as Loads, Store as Stores}
+use Rattle.rmecore.specs.declared.core_call.CoreCall.{CoreCall}
+use Rattle.rmecore.specs.declared.core_call.CoreCall.TheVariants as cores
+use Rattle.rmecore.specs.declared.outer.Outer.{Outer}
+use Rattle.rmecore.specs.declared.outer.Outer.TheVariants as outers
+use Rattle.rmecore.specs.declared.own.Own.{Own}
+use Rattle.rmecore.specs.declared.phase.Phase.{Phase}
+use Rattle.rmecore.specs.declared.phase.Phase.TheVariants as phases
+use Rattle.rmecore.specs.declared.refusal.Refusal.{Refusal}
+use Rattle.rmecore.specs.declared.refusal.Refusal.TheVariants as refusals
+use Rattle.rmecore.specs.declared.word.Word.TheVariants.{Choosing as ChoosingOf, Number as NumberOf, Inside as InsideOf}
+use Rattle.rmecore.proofs.Accesses.{allowed}
+use Rattle.rmecore.proofs.Bounds.{Bounded, final_bounded, rest_bounded}
+use Rattle.rmecore.proofs.CoreSteps.{KindFits, kind_fits, reads}
+use Rattle.rmecore.proofs.Invariant.{Tied, Fits, phase_of as lock_phase, phase_at, put_same, put_other, within_means, phase_within}
+use Rattle.rmecore.proofs.Rows.{after_deed}
+use Rattle.rmecore.proofs.Runs.{kept as keeps, at_first}
+use Rattle.rmecore.proofs.Turns.{turn}
+use Rattle.algorithms.specs.Arrivals.{◌>>=◌}
+use Rattle.algorithms_tests.specs.Bakery.{IsBakery}
+use Rattle.algorithm_lab.specs.Heard.{Heard, heard, heard_of_crash}
+use Rattle.algorithm_lab.specs.Monitors.{MonitorState, Part, answered, first_monitor, is_idle, is_idle_process, part_of, phase_refusal, start_on, step_on, crash_on, then_in, unless as unless_heard}
+use Rattle.algorithm_lab.specs.Refusals.{number_of as number_of_run}
+use Rattle.algorithms_tests.specs.Runs.{Move, Start, Step, Crash, Tells, Refuses, Outcome, all_said, left_by, core_call, answer_number, deed_told, refused, unless, stepped, step_by, lock_move, begun_by, moved_by, text_move, SameWords}
+use Rattle.algorithms.specs.Worlds.{WorldState, access_at, after_step, begun, entry_of, resting, stored, taken_by, under_way, with_process}
+use Rattle.algorithms.specs.Steps.{acted}
+use Rattle.algorithms.specs.declared.access.Access.{Access}
+use Rattle.algorithms.specs.declared.access.Taken.{Taken}
+use Rattle.algorithms.specs.declared.algorithm.Algorithm.{Algorithm}
+use Rattle.algorithms.specs.declared.algorithm.Call.{Call}
+use Rattle.algorithms.specs.declared.constants.Constants.{Constants}
+use Rattle.algorithms.specs.declared.process.Process.{Process}
+use Rattle.algorithms.specs.declared.refusal.AlgorithmRefusal.{AlgorithmRefusal}
+use Rattle.algorithms.specs.declared.refusal.AlgorithmRefusal.TheVariants.{NoSuchProcess, NothingToDo}
+use Rattle.algorithm_lab.specs.declared.run_refusal.RunRefusal.{RunRefusal}
+use Rattle.algorithm_lab.specs.declared.run_refusal.RunRefusal.TheVariants.{Refused}
+use Rattle.algorithms_tests.proofs.Lines.{three}
+use Rattle.algorithms_tests.proofs.Comparisons.{constants}
+use Rattle.algorithms_tests.proofs.Places.{dead, Stands}
+use Rattle.algorithms_tests.proofs.Steps.{address_of, stores_of, access_by, Follows, ValueFits, StepIf, steps_alike}
+use Rattle.algorithms_tests.proofs.Words.{AlikeWords, IsRowOf, told, stores_alike, set_here, set_there, replicated}
+use Rattle.algorithms_tests.proofs.Deeds.{promised, OfStep, of_turn, hears, phase_kept}
+use Rattle.algorithms_tests.proofs.Starts.{by_call, phase_part, PhaseFits, IsRefused, StartIf, starts_alike}
+
+-- ---- the lock's side
+
+-- what the invariant of the lock knows of the value of a load
+value_fits : (limit n p : ℕ) (w : World) (place : Place) → Fits (w.words p) place → Bounded limit w → IfSome (access limit p place) (λ acc. ValueFits limit place (read w.words (word_of acc)))
+value_fits limit n p w (Reread call []) fits bounded = tt
+value_fits limit n p w (Reread call (c ∷ [])) fits bounded = tt
+value_fits limit n p w (Reread call (c ∷ k ∷ [])) fits bounded = (subst (λ x. x ≤ 1) fits.1 (bounded.small p).choosing, (bounded.small p).inside)
+value_fits limit n p w (Reread call (c ∷ k ∷ i ∷ seen)) fits bounded = tt
+value_fits limit n p w (Door (j ∷ js) m) fits bounded = (bounded.small j).number
+value_fits limit n p w (Door [] m) fits bounded = elim (cases_Bool (nat_lt m limit)) [ inl e ↦ rw e tt | inr e ↦ rw e tt ]
+value_fits limit n p w (Wait k [] None) fits bounded = tt
+value_fits limit n p w (Wait k (j ∷ js) None) fits bounded = tt
+value_fits limit n p w (Wait k unpassed (Some j)) fits bounded = tt
+value_fits limit n p w Rest fits bounded = tt
+value_fits limit n p w Dead fits bounded = tt
+value_fits limit n p w Opening fits bounded = tt
+value_fits limit n p w (Shutting call k) fits bounded = tt
+value_fits limit n p w Inside fits bounded = tt
+value_fits limit n p w Leaving fits bounded = tt
+value_fits limit n p w Withdrawing fits bounded = tt
+value_fits limit n p w (Unmarking call) fits bounded = tt
+
+-- the word of an access is a lock word
+in_lock : (limit n p : ℕ) (place : Place) (t : Process) → p < n → Stands n limit p place t → IfSome (access limit p place) (λ acc. InLock n (word_of acc))
+in_lock limit n p (Reread call []) t own stands = own
+in_lock limit n p (Reread call (c ∷ [])) t own stands = own
+in_lock limit n p (Reread call (c ∷ k ∷ [])) t own stands = own
+in_lock limit n p (Reread call (c ∷ k ∷ i ∷ seen)) t own stands = tt
+in_lock limit n p (Door (j ∷ js) m) t own stands = stands.2.0
+in_lock limit n p (Door [] m) t own stands = elim (cases_Bool (nat_lt m limit)) [ inl e ↦ rw e own | inr e ↦ rw e own ]
+in_lock limit n p (Wait k [] None) t own stands = own
+in_lock limit n p (Wait k (j ∷ js) None) t own stands = stands.2.0
+in_lock limit n p (Wait k unpassed (Some j)) t own stands = stands.2
+in_lock limit n p Rest t own stands = tt
+in_lock limit n p Dead t own stands = tt
+in_lock limit n p Opening t own stands = own
+in_lock limit n p (Shutting call k) t own stands = own
+in_lock limit n p Inside t own stands = tt
+in_lock limit n p Leaving t own stands = own
+in_lock limit n p Withdrawing t own stands = own
+in_lock limit n p (Unmarking call) t own stands = own
+
+dead_outside : (c k i : ℕ) → phase_at c k i true ≡ phases.Inside → ⊥
+dead_outside zero zero i e = cc
+dead_outside (suc c) zero i e = cc
+dead_outside zero (suc k) zero e = cc
+dead_outside (suc c) (suc k) zero e = cc
+dead_outside zero (suc k) (suc i) e = cc
+dead_outside (suc c) (suc k) (suc i) e = cc
+
+phase_fits : (place : Place) (x : Own) (phase : Phase) → Fits x place → phase ≡ lock_phase x place → PhaseFits place phase
+phase_fits Rest x phase fits e = λ is. let some = within_means x.choosing x.number x.inside false (sym e ∙ is) in omega (arith, some, fits.0)
+phase_fits Dead x phase fits e = λ is. dead_outside x.choosing x.number x.inside (sym e ∙ is)
+phase_fits Inside x phase fits e = e ∙ phase_within x.choosing x.number x.inside fits.1 fits.2
+phase_fits (Reread call seen) x phase fits e = tt
+phase_fits Opening x phase fits e = tt
+phase_fits (Door u m) x phase fits e = tt
+phase_fits (Shutting call k) x phase fits e = tt
+phase_fits (Wait k u l) x phase fits e = tt
+phase_fits Leaving x phase fits e = tt
+phase_fits Withdrawing x phase fits e = tt
+phase_fits (Unmarking call) x phase fits e = tt
+
+-- a start that is not refused is allowed
+may_start : (call : CoreCall) (place : Place) → lock_refusal place call ≡ None → IsSome (lock_started place call)
+may_start cores.Lock Rest e = refl
+may_start cores.Lock Dead e = refl
+may_start cores.Recover Rest e = refl
+may_start cores.Recover Dead e = refl
+may_start cores.Unlock Inside e = refl
+may_start cores.Withdraw (Wait k u l) e = refl
+may_start _ _ e = cc
+
+some_is : {A : Type 0} (o : Option A) → IsSome o → (x : A) × (o ≡ Some x)
+some_is None h = absurd (cc)
+some_is (Some x) h = (x, refl)
+
+at_some : {A : Type 0} (o : Option A) (x : A) (P : A → Type 0) → o ≡ Some x → IfSome o P → P x
+at_some o x P e h = subst (λ r. IfSome r P) e h
+
+-- ---- both sides
+
+module _ (a : Algorithm) (b : IsBakery a) (n limit : ℕ) (most : n ≤ 64) (high : limit ≤ 2 ^ 62) where
+  abbrev pub world : List (List ℕ) → List Process → WorldState
+  world rows ts = record { algorithm = a; procs = n; limit = limit; words = rows; processes = ts }
+
+  abbrev pub state : List (List ℕ) → List Process → List Phase → MonitorState
+  state rows ts ps = record { world = world rows ts; phases = ps }
+
+  pub record HasProcess (p : ℕ) (place : Place) (ts : List Process) : Type 0 where
+    pub process : Process
+    pub there : slice_get ts p ≡ Some process
+    pub stands : Stands n limit p place process
+
+  pub record Alike (w : World) (ab : Abstract) (rows : List (List ℕ)) (ts : List Process) (ps : List Phase) : Type 0 where
+    pub tied : Tied n w ab
+    pub bounded : Bounded limit w
+    pub long : length ts ≡ n
+    pub phases_long : length ps ≡ n
+    pub phase : (p : ℕ) → p < n → slice_index_or ps p phases.Out ≡ ab.phase p
+    pub process : (p : ℕ) → p < n → HasProcess p (w.places p) ts
+    pub words : AlikeWords n w.words rows
+
+  -- what a move does on both sides
+  pub record Matches (o : Outcome World) (q : Outcome MonitorState) : Type 0 where
+    pub rows : List (List ℕ)
+    pub processes : List Process
+    pub now : List Phase
+    pub lock : Abstract
+    pub is : q ≡ record { said = o.said; left = state rows processes now }
+    pub alike : Alike o.left lock rows processes now
+
+  process_set : (p : ℕ) (places : ℕ → Place) (s : Place) (ts : List Process) (t : Process) → p < n → length ts ≡ n → ((q : ℕ) → q < n → HasProcess q (places q) ts) → Stands n limit p s t
+      → (q : ℕ) → q < n → HasProcess q (put places p s q) (slice_set ts p t)
+  process_set p places s ts t own long each stands q low =
+      elim (cases_eq q p) [
+        | inl e ↦ subst (λ r. HasProcess r (put places p s r) (slice_set ts p t)) (sym e) (record { process = t; there = set_here ts p t (omega (arith, long)); stands = subst (λ x. Stands n limit p x t) (sym (put_same places p s)) stands })
+        | inr ne ↦ let h = each q low in record { process = h.process; there = set_there ts p q t ne ∙ h.there; stands = subst (λ x. Stands n limit q x h.process) (sym (put_other places p s q ne)) h.stands }
+      ]
+
+  phase_set : (p : ℕ) (f g : ℕ → Phase) (ps : List Phase) → p < n → length ps ≡ n → ((q : ℕ) → q < n → slice_index_or ps q phases.Out ≡ f q) → ((q : ℕ) → q ≢ p → g q ≡ f q)
+      → (q : ℕ) → q < n → slice_index_or (slice_set ps p (g p)) q phases.Out ≡ g q
+  phase_set p f g ps own long each other q low =
+      elim (cases_eq q p) [
+        | inl e ↦ subst (λ r. slice_index_or (slice_set ps p (g p)) r phases.Out ≡ g r) (sym e) (get_or-set_same ps p (g p) phases.Out (omega (arith, long)))
+        | inr ne ↦ get_or-set_other ps p q (g p) phases.Out ne ∙ each q low ∙ sym (other q ne)
+      ]
+
+  module _ (w : World) (ab : Abstract) (rows : List (List ℕ)) (ts : List Process) (ps : List Phase) (h : Alike w ab rows ts ps) where
+    abbrev m : MonitorState
+    m = state rows ts ps
+
+    abbrev me : ℕ → Constants
+    me p = constants p n limit
+
+    abbrev phase_now : ℕ → Phase
+    phase_now p = slice_index_or ps p phases.Out
+
+    refuses : (r : Refusal) (number : Option ℕ) → number ≡ lock_number r → Matches (refused w r) (record { said = Refuses number; left = m })
+    refuses r number e = record { rows = rows; processes = ts; now = ps; lock = ab; is = ap (λ k. record { said = Refuses k; left = m }) e; alike = h }
+
+    gone : (p : ℕ) → n ≤ p → slice_get ts p ≡ None
+    gone p past = slice_get_past ts p (omega (arith, h.long))
+
+    -- ---- starts
+
+    abbrev start_by : ℕ → Option RunRefusal → Result Process AlgorithmRefusal → Result MonitorState RunRefusal
+    start_by p r x = unless_heard r (then_in (λ w. record { world = w; phases = ps }) (x >>= (λ process. Ok (with_process (world rows ts) p process))))
+
+    abbrev start_from : ℕ → Call → Option Process → Result MonitorState RunRefusal
+    start_from p call o =
+        start_by p (if is_idle_process (ok_or o NoSuchProcess) then (if is_some (entry_of a.entries call) then phase_refusal (phase_now p) call else None) else None) (ok_or o NoSuchProcess >>= (λ process. begun a (me p) process call))
+
+    entries_there : (call : Call) → is_some (entry_of a.entries call) ≡ true
+    entries_there call =
+        ap (λ es. is_some (entry_of es call)) b.entries
+        ∙ by_call (λ call. is_some (entry_of (record { lock = 0; unlock = 36; recover = Some 40; withdraw = Some 57 }) call) ≡ true) refl refl refl refl call
+
+    start_gone : (p : ℕ) (call : Call) → n ≤ p → start_on m p call ≡ Err (Refused NoSuchProcess)
+    start_gone p call past = ap (start_from p call) (gone p past)
+
+    start_there : (p : ℕ) (call : Call) (t : Process) → slice_get ts p ≡ Some t → start_on m p call ≡ start_by p (phase_part t (phase_now p) call) (begun a (me p) t call)
+    start_there p call t there =
+        ap (start_from p call) there
+        ∙ ap (λ s. start_by p (if is_idle t.place then (if s then phase_refusal (phase_now p) call else None) else None) (begun a (me p) t call)) (entries_there call)
+
+    refused_by : (p : ℕ) (call : Call) (t : Process) (number : Option ℕ) → (s : IsRefused a b n limit p t (phase_now p) call number) → start_by p (phase_part t (phase_now p) call) (begun a (me p) t call) ≡ Err s.refusal
+    refused_by p call t number s =
+        elim s.by [
+          | inl by ↦ ap (λ x. start_by p x (begun a (me p) t call)) by
+          | inr by ↦ ap (λ x. start_by p x (begun a (me p) t call)) by.0 ∙ ap (start_by p None) by.1.1 ∙ ap Err (sym by.1.2)
+        ]
+
+    started_by : (p : ℕ) (call : Call) (t : Process) (o : Option Refusal) → p < n → slice_get ts p ≡ Some t → lock_refusal (w.places p) (core_call call) ≡ o
+        → StartIf a b n limit p t (phase_now p) call (unwrap_or (lock_started (w.places p) (core_call call)) (w.places p)) o
+        → Matches (unless o w (record { said = Tells []; left = after n limit w (Starts p (core_call call)) })) (begun_by m (start_on m p call))
+    started_by p call t (Some r) own there e s =
+        let why : start_on m p call ≡ Err s.refusal = start_there p call t there ∙ refused_by p call t (lock_number r) s in
+        subst (λ x. Matches (refused w r) (begun_by m x)) (sym why) (refuses r (number_of_run s.refusal) s.number_is)
+    started_by p call t None own there e s =
+        let event : Event = Starts p (core_call call) in
+        let may : May n limit w event = (own, may_start (core_call call) (w.places p) e, tt) in
+        let kept = keeps n limit w ab event may h.tied in
+        let why : start_on m p call ≡ Ok (state rows (slice_set ts p s.process) ps) = start_there p call t there ∙ ap (λ x. start_by p x (begun a (me p) t call)) s.allowed ∙ ap (start_by p None) s.is in
+        subst (λ x. Matches (record { said = Tells []; left = after n limit w event }) (begun_by m x)) (sym why)
+        (record {
+          rows = rows;
+          processes = slice_set ts p s.process;
+          now = ps;
+          lock = ab;
+          is = refl;
+          alike = record {
+            tied = kept.1;
+            bounded = final_bounded limit n w (event ∷ []) h.bounded (may, tt);
+            long = length-set ts p s.process ∙ h.long;
+            phases_long = h.phases_long;
+            phase = h.phase;
+            process = process_set p w.places _ ts s.process own h.long h.process s.stands;
+            words = h.words;
+          };
+        })
+
+    pub start_matches : (p : ℕ) (call : Call) → Matches (lock_move n limit w (Start p call)) (text_move m (Start p call))
+    start_matches p call =
+        elim (cases_lt p n) [
+          | inl own ↦
+              let there = h.process p own in
+              let fits = phase_fits (w.places p) (w.words p) (phase_now p) (h.tied.fits p own) (h.phase p own ∙ h.tied.phase p own) in
+              let o : Outcome World = unless (lock_refusal (w.places p) (core_call call)) w (record { said = Tells []; left = after n limit w (Starts p (core_call call)) }) in
+              subst (λ t. Matches (if t then o else refused w refusals.NoSuchProcess) (text_move m (Start p call))) (sym (lt-ltb p n own))
+              (started_by p call there.process _ own there.there refl (starts_alike a b n limit p (w.places p) there.process (phase_now p) there.stands fits call))
+          | inr past ↦
+              let o : Outcome World = unless (lock_refusal (w.places p) (core_call call)) w (record { said = Tells []; left = after n limit w (Starts p (core_call call)) }) in
+              subst (λ t. Matches (if t then o else refused w refusals.NoSuchProcess) (text_move m (Start p call))) (sym (le-ltb p n past))
+              (subst (λ x. Matches (refused w refusals.NoSuchProcess) (begun_by m x)) (sym (start_gone p call past)) (refuses refusals.NoSuchProcess (Some 3) refl))
+        ]
+
+    -- ---- crashes
+
+    abbrev crash_from : ℕ → Option Process → Result Part RunRefusal
+    crash_from p o = then_in (λ w. part_of m p w (heard_of_crash a.promises p (phase_now p)) None) (ok_or o NoSuchProcess >>= (λ process. Ok (with_process (world rows ts) p dead)))
+
+    crash_there : (p : ℕ) (t : Process) → slice_get ts p ≡ Some t → crash_on m p ≡ Ok (part_of m p (with_process (world rows ts) p dead) (heard_of_crash promised p (phase_now p)) None)
+    crash_there p t there = ap (crash_from p) there ∙ ap (λ x. Ok (part_of m p (with_process (world rows ts) p dead) (heard_of_crash x p (phase_now p)) None)) b.promises
+
+    crash_gone : (p : ℕ) → n ≤ p → crash_on m p ≡ Err (Refused NoSuchProcess)
+    crash_gone p past = ap (crash_from p) (gone p past)
+
+    pub crash_matches : (p : ℕ) → Matches (lock_move n limit w (Crash p)) (text_move m (Crash p))
+    crash_matches p =
+        let event : Event = Crashes p in
+        let o : Outcome World = record { said = Tells (deed_told (Some (outers.Crash p))); left = after n limit w event } in
+        elim (cases_lt p n) [
+          | inl own ↦
+              let there = h.process p own in
+              let may : May n limit w event = (own, refl, tt) in
+              let kept = keeps n limit w ab event may h.tied in
+              let lock : Abstract = done ab (outers.Crash p) in
+              let phase : crashed (phase_now p) ≡ lock.phase p = ap crashed (h.phase p own) ∙ sym (put_same ab.phase p (crashed (ab.phase p))) in
+              subst (λ t. Matches (if t then o else refused w refusals.NoSuchProcess) (text_move m (Crash p))) (sym (lt-ltb p n own))
+              (subst (λ x. Matches o (moved_by m x)) (sym (crash_there p there.process there.there))
+              (record {
+                rows = rows;
+                processes = slice_set ts p dead;
+                now = slice_set ps p (lock.phase p);
+                lock = lock;
+                is = ap (λ x. record { said = Tells (deed_told (Some (outers.Crash p))); left = state rows (slice_set ts p dead) (slice_set ps p x) }) phase;
+                alike = record {
+                  tied = kept.1;
+                  bounded = final_bounded limit n w (event ∷ []) h.bounded (may, tt);
+                  long = length-set ts p dead ∙ h.long;
+                  phases_long = length-set ps p (lock.phase p) ∙ h.phases_long;
+                  phase = phase_set p ab.phase lock.phase ps own h.phases_long h.phase (λ q ne. put_other ab.phase p (crashed (ab.phase p)) q ne);
+                  process = process_set p w.places Dead ts dead own h.long h.process refl;
+                  words = h.words;
+                };
+              }))
+          | inr past ↦
+              subst (λ t. Matches (if t then o else refused w refusals.NoSuchProcess) (text_move m (Crash p))) (sym (le-ltb p n past))
+              (subst (λ x. Matches (refused w refusals.NoSuchProcess) (moved_by m x)) (sym (crash_gone p past)) (refuses refusals.NoSuchProcess (Some 3) refl))
+        ]
+
+    -- ---- steps
+
+    abbrev step_done : ℕ → Result Taken AlgorithmRefusal → Result Part RunRefusal
+    step_done p r =
+        then_in (λ (s : Taken × WorldState). part_of m p s.1 (heard a.promises p (phase_now p) s.0.moved.noted) s.0.moved.answer) (r >>= (λ t. Ok (t, after_step (world rows ts) p t)))
+
+    abbrev step_from : ℕ → Option Process → Result Part RunRefusal
+    step_from p o = step_done p (ok_or o NoSuchProcess >>= (λ process. taken_by a (me p) rows process))
+
+    step_gone : (p : ℕ) → n ≤ p → step_on m p ≡ Err (Refused NoSuchProcess)
+    step_gone p past = ap (step_from p) (gone p past)
+
+    words_alike : (p : ℕ) (acc : LockAccess) (v : ℕ) → KindFits acc → InLock n (word_of acc)
+        → AlikeWords n (lock_stored w.words (Steps p (kind_of acc) (word_of acc) (carried acc v))) (stored rows (address_of (word_of acc)) (stores_of acc))
+    words_alike p (Loads kind word) v fits low = subst (λ t. AlikeWords n (if t then write w.words word v else w.words) rows) (sym fits) h.words
+    words_alike p (Stores kind word x) v fits low =
+        subst (λ t. AlikeWords n (if t then write w.words word x else w.words) (stored rows (address_of word) (Some x))) (sym fits) (stores_alike n w.words rows word x most low h.words)
+
+    -- what a step reports and leaves
+    abbrev reported : ℕ → Process → Access → Heard → Option ℕ → Outcome MonitorState
+    reported p t acc x done = record { said = Tells (x.told ++ answered p done); left = state (stored rows acc.address acc.stores) (slice_set ts p t) (slice_set ps p x.phase) }
+
+    moved_to : (p : ℕ) (acc : LockAccess) (own : p < n) (t : Process) → slice_get ts p ≡ Some t → Stands n limit p (w.places p) t → access limit p (w.places p) ≡ Some acc
+        → StepIf a b n limit p own most high rows (w.places p) t (Some acc) → Matches (stepped n limit w p acc (carried acc (read w.words (word_of acc)))) (moved_by m (step_on m p))
+    moved_to p acc own t there stands e step =
+        let place : Place = w.places p in
+        let v : ℕ = read w.words (word_of acc) in
+        let x : ℕ = carried acc v in
+        let low : InLock n (word_of acc) = at_some (access limit p place) acc (λ acc. InLock n (word_of acc)) e (in_lock limit n p place t own stands) in
+        let fits : KindFits acc = at_some (access limit p place) acc KindFits e (kind_fits limit p place) in
+        let given : ValueFits limit place v = at_some (access limit p place) acc (λ acc. ValueFits limit place (read w.words (word_of acc))) e (value_fits limit n p w place (h.tied.fits p own) h.bounded) in
+        let some : IsSome (next n limit p place (kind_of acc) (word_of acc) x) = at_some (access limit p place) acc (λ acc. IsSome (next n limit p place (kind_of acc) (word_of acc) (carried acc v))) e (allowed n limit p place v) in
+        let event : Event = Steps p (kind_of acc) (word_of acc) x in
+        let may : May n limit w event = (own, some, reads w.words acc x fits refl) in
+        let kept = keeps n limit w ab event may h.tied in
+        let deed : Option Outer = step_deed p place (kind_of acc) x in
+        let to = some_is (next n limit p place (kind_of acc) (word_of acc) x) some in
+        let of : OfStep p deed = of_turn p place to.0 deed (turn n limit p place (kind_of acc) (word_of acc) x to.0 to.1) in
+        let lock : Abstract = after_deed ab deed in
+        let s = step v given (told n w.words rows (word_of acc) low h.words) in
+        let taken : Taken = s.0 in
+        let f : Follows n limit p place acc v taken = s.2 in
+        let hear : heard a.promises p (phase_now p) taken.moved.noted ≡ record { told = deed_told deed; phase = lock.phase p } =
+        ap (λ y. heard y p (phase_now p) taken.moved.noted) b.promises ∙ ap (heard promised p (phase_now p)) f.noted ∙ hears n ab p (phase_now p) deed (h.phase p own) of kept.0 in
+        let said : moved_by m (step_on m p) ≡ reported p taken.moved.process (access_by acc) (record { told = deed_told deed; phase = lock.phase p }) (option_map answer_number (answer place (kind_of acc) x)) =
+        ap (λ o. moved_by m (step_from p o)) there
+        ∙ ap (λ r. moved_by m (step_done p r)) s.1
+        ∙ ap (λ y. reported p taken.moved.process y (heard a.promises p (phase_now p) taken.moved.noted) taken.moved.answer) f.access
+        ∙ ap (λ y. reported p taken.moved.process (access_by acc) y taken.moved.answer) hear
+        ∙ ap (reported p taken.moved.process (access_by acc) (record { told = deed_told deed; phase = lock.phase p })) f.answer in
+        record {
+          rows = stored rows (address_of (word_of acc)) (stores_of acc);
+          processes = slice_set ts p taken.moved.process;
+          now = slice_set ps p (lock.phase p);
+          lock = lock;
+          is = said;
+          alike = record {
+            tied = kept.1;
+            bounded = final_bounded limit n w (event ∷ []) h.bounded (may, tt);
+            long = length-set ts p taken.moved.process ∙ h.long;
+            phases_long = length-set ps p (lock.phase p) ∙ h.phases_long;
+            phase = phase_set p ab.phase lock.phase ps own h.phases_long h.phase (λ q ne. phase_kept ab p q deed of ne);
+            process = process_set p w.places _ ts taken.moved.process own h.long h.process f.stands;
+            words = words_alike p acc v fits low;
+          };
+        }
+
+    stays_idle : (p : ℕ) (own : p < n) (t : Process) → slice_get ts p ≡ Some t → under_way t.place ≡ Err NothingToDo → Matches (refused w refusals.NothingToDo) (moved_by m (step_on m p))
+    stays_idle p own t there e =
+        let why : step_on m p ≡ Err (Refused NothingToDo) = ap (step_from p) there ∙ ap (λ r. step_done p (r >>= (λ at. access_at a at >>= (λ line. acted a (me p) rows at line t.store)))) e in
+        subst (λ x. Matches (refused w refusals.NothingToDo) (moved_by m x))
+        (sym why) (refuses refusals.NothingToDo (Some 7) refl)
+
+    steps_by : (p : ℕ) (own : p < n) (t : Process) (o : Option LockAccess) → slice_get ts p ≡ Some t → Stands n limit p (w.places p) t → access limit p (w.places p) ≡ o
+        → StepIf a b n limit p own most high rows (w.places p) t o → Matches (step_by n limit w p o) (moved_by m (step_on m p))
+    steps_by p own t None there stands e step = stays_idle p own t there step
+    steps_by p own t (Some acc) there stands e step = moved_to p acc own t there stands e step
+
+    pub step_matches : (p : ℕ) → Matches (lock_move n limit w (Step p)) (text_move m (Step p))
+    step_matches p =
+        let o : Outcome World = step_by n limit w p (access limit p (w.places p)) in
+        elim (cases_lt p n) [
+          | inl own ↦
+              let there = h.process p own in
+              subst (λ t. Matches (if t then o else refused w refusals.NoSuchProcess) (text_move m (Step p))) (sym (lt-ltb p n own))
+              (steps_by p own there.process _ there.there there.stands refl (steps_alike a b n limit p own most high rows (w.places p) there.process (h.bounded.within p) there.stands))
+          | inr past ↦
+              subst (λ t. Matches (if t then o else refused w refusals.NoSuchProcess) (text_move m (Step p))) (sym (le-ltb p n past))
+              (subst (λ x. Matches (refused w refusals.NoSuchProcess) (moved_by m x)) (sym (step_gone p past)) (refuses refusals.NoSuchProcess (Some 3) refl))
+        ]
+
+    pub moves_match : (move : Move) → Matches (lock_move n limit w move) (text_move m move)
+    moves_match (Start p call) = start_matches p call
+    moves_match (Step p) = step_matches p
+    moves_match (Crash p) = crash_matches p
+
+    pub same_words : SameWords n w m
+    same_words p own = (told n w.words rows (ChoosingOf p) own h.words, told n w.words rows (NumberOf p) own h.words, told n w.words rows (InsideOf p) own h.words)
+
+  -- ---- runs
+
+  pub record SameRuns (w : World) (q : MonitorState) (moves : List Move) : Type 0 where
+    pub said : all_said text_move q moves ≡ all_said (lock_move n limit) w moves
+    pub words : SameWords n (left_by (lock_move n limit) w moves) (left_by text_move q moves)
+
+  pub runs_match : (moves : List Move) (w : World) (ab : Abstract) (rows : List (List ℕ)) (ts : List Process) (ps : List Phase) → Alike w ab rows ts ps → SameRuns w (state rows ts ps) moves
+  runs_match [] w ab rows ts ps h = record { said = refl; words = same_words w ab rows ts ps h }
+  runs_match (move ∷ moves) w ab rows ts ps h =
+      let x = moves_match w ab rows ts ps h move in
+      let rest = runs_match moves (lock_move n limit w move).left x.lock x.rows x.processes x.now x.alike in
+      record {
+        said = ap (λ o. o.said ∷ all_said text_move o.left moves) x.is ∙ ap (λ l. (lock_move n limit w move).said ∷ l) rest.said;
+        words = subst (λ o. SameWords n (left_by (lock_move n limit) (lock_move n limit w move).left moves) (left_by text_move o.left moves)) (sym x.is) rest.words;
+      }
+
+  first_words : AlikeWords n at_rest.words (replicate (length a.declarations.items) (replicate 64 0))
+  first_words = record {
+    choosing = replicate 64 0;
+    number = replicate 64 0;
+    inside = replicate 64 0;
+    is = ap (λ k. replicate k (replicate 64 0)) (three a b);
+    choosing_each = zeros;
+    number_each = zeros;
+    inside_each = zeros;
+  }
+    where
+      zeros : IsRowOf n (λ p. 0) (replicate 64 0)
+      zeros = record { long = length-replicate {A = ℕ} 64 0; each = λ p low. replicated 64 p 0 (omega arith) }
+
+  -- the first worlds are alike
+  pub first_alike : Alike at_rest nobody (replicate (length a.declarations.items) (replicate 64 0)) (replicate n resting) (replicate n phases.Out)
+  first_alike = record {
+    tied = at_first n;
+    bounded = rest_bounded limit;
+    long = length-replicate n resting;
+    phases_long = length-replicate n phases.Out;
+    phase = λ p own. get_or-replicate n p phases.Out phases.Out own;
+    process = λ p own. record { process = resting; there = replicated n p resting own; stands = refl };
+    words = first_words;
+  }
+
+  pub same_runs : (moves : List Move) → SameRuns at_rest (first_monitor a n limit) moves
+  same_runs moves = runs_match moves at_rest nobody (replicate (length a.declarations.items) (replicate 64 0)) (replicate n resting) (replicate n phases.Out) first_alike

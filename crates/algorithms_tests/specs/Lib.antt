@@ -1,0 +1,2 @@
+pub mod Bakery
+pub mod Runs

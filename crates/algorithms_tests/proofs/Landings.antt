@@ -9,12 +9,12 @@ use Rattle.rmecore.specs.declared.core_done.CoreDone.{CoreDone}
 use Rattle.rmecore.specs.declared.outer.Outer.{Outer}
 use Rattle.rmecore.proofs.Scans.{above_first, lined_above, has-first}
 use Rattle.algorithms_tests.specs.Bakery.{IsBakery}
+use Rattle.algorithms.specs.Arrivals.{Landing}
 use Rattle.algorithms.specs.LocalRuns.{nothing_noted, least_from}
 use Rattle.algorithms.specs.Steps.{process_landed}
 use Rattle.algorithms_tests.specs.Runs.{answer_number}
 use Rattle.algorithms.specs.declared.algorithm.Algorithm.{Algorithm}
 use Rattle.algorithms.specs.declared.line.Members.TheVariants.{Others}
-use Rattle.algorithms.specs.declared.local.Landing.{Landing}
 use Rattle.algorithms.specs.declared.local.LocalState.{LocalState}
 use Rattle.algorithms.specs.declared.noted.Noted.{Noted}
 use Rattle.algorithms_tests.proofs.Comparisons.{constants, least_is}

@@ -1,7 +1,7 @@
 -- The lines of the Bakery, and what one of them does to a process between two accesses.
 use Rattle.std.proofs.Common.{◌≡◌, ℕ, zero, suc, ◌+◌, List, [], ◌∷◌, map, length, Option, Some, None, Ok, refl, sym, ap, ◌∙◌}
 use Rattle.std.specs.Prelude.{slice_get, ok_or}
-use Rattle.algorithms.specs.Arrivals.{arrives, arrives_after, local_step_of, ◌>>=◌}
+use Rattle.algorithms.specs.Arrivals.{GoesOn, arrives, arrives_after, local_step_of, ◌>>=◌}
 use Rattle.algorithms.specs.LocalRuns.{local_line_done}
 use Rattle.algorithms.specs.Worlds.{access_at, access_line}
 use Rattle.algorithms_tests.specs.Bakery.{IsBakery, form_of, bound_of, lines}
@@ -15,7 +15,6 @@ use Rattle.algorithms.specs.declared.line.Form.TheVariants.{Access, Local, Done}
 use Rattle.algorithms.specs.declared.line.Line.{Line}
 use Rattle.algorithms.specs.declared.line.LocalLine.{LocalLine}
 use Rattle.algorithms.specs.declared.local.LocalState.{LocalState}
-use Rattle.algorithms.specs.declared.local.LocalStep.TheVariants.{GoesOn}
 use Rattle.algorithms.specs.declared.refusal.AlgorithmRefusal.TheVariants.{OutOfRange, Malformed}
 
 -- the line at a place has this form

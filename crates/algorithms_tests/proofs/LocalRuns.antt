@@ -2,7 +2,7 @@
 use Rattle.std.proofs.Common.{◌≡◌, ℕ, suc, ◌+◌, ◌-◌, ◌^◌, ◌<◌, max, true, false, cond, List, ◌∷◌, Option, Some, None, Result, Ok, refl, ap, ◌∙◌, arith}
 use Rattle.std.specs.Prelude.{option_and_then, replicate}
 use Rattle.std.proofs.lemmas.Bool.{lt-ltb}
-use Rattle.algorithms.specs.Arrivals.{arrives}
+use Rattle.algorithms.specs.Arrivals.{Landing, arrives}
 use Rattle.algorithms.specs.Values.{fitting, holds}
 use Rattle.algorithms_tests.specs.Bakery.{IsBakery}
 use Rattle.algorithms.specs.declared.algorithm.Algorithm.{Algorithm}
@@ -14,7 +14,6 @@ use Rattle.algorithms.specs.declared.line.Form.TheVariants.{Local}
 use Rattle.algorithms.specs.declared.line.LocalLine.TheVariants.{Branch, Next}
 use Rattle.algorithms.specs.declared.line.Members.TheVariants.{Others}
 use Rattle.algorithms.specs.declared.local.LocalState.{LocalState}
-use Rattle.algorithms.specs.declared.local.Landing.{Landing}
 use Rattle.algorithms.specs.declared.noted.Noted.{Noted}
 use Rattle.algorithms.specs.declared.refusal.AlgorithmRefusal.{AlgorithmRefusal}
 use Rattle.algorithms.specs.LocalRuns.{nothing_noted, least_from, round_at, at_place, local_line_done}

@@ -20,7 +20,7 @@ use Rattle.rmecore.proofs.Bounds.{Within}
 use Rattle.rmecore.proofs.Invariant.{eqb_self}
 use Rattle.rmecore.proofs.Scans.{without-first, has-first}
 use Rattle.algorithms.specs.Accesses.{access_of, index_of, bound_of, value_stored, received, passes}
-use Rattle.algorithms.specs.Arrivals.{arrives, ◌>>=◌}
+use Rattle.algorithms.specs.Arrivals.{Landing, arrives, ◌>>=◌}
 use Rattle.algorithms_tests.specs.Bakery.{IsBakery, may_pass}
 use Rattle.algorithms.specs.LocalRuns.{nothing_noted}
 use Rattle.algorithms_tests.specs.Runs.{answer_number}
@@ -42,7 +42,6 @@ use Rattle.algorithms.specs.declared.line.Action.{Action}
 use Rattle.algorithms.specs.declared.line.Action.TheVariants.{Load, Store, Await}
 use Rattle.algorithms.specs.declared.line.Deed.TheVariants.{Begin}
 use Rattle.algorithms.specs.declared.line.Form.TheVariants as forms
-use Rattle.algorithms.specs.declared.local.Landing.{Landing}
 use Rattle.algorithms.specs.declared.process.Process.{Process}
 use Rattle.algorithms.specs.declared.refusal.AlgorithmRefusal.{AlgorithmRefusal}
 use Rattle.algorithms.specs.declared.refusal.AlgorithmRefusal.TheVariants.{OutOfRange, Malformed, NothingToDo}

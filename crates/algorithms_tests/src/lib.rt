@@ -4,8 +4,6 @@
 #[cfg(test)]
 mod bad_texts;
 #[cfg(test)]
-mod bridge;
-#[cfg(test)]
 mod hostile_texts;
 pub mod laws;
 #[cfg(test)]

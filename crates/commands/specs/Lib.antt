@@ -1,3 +1,4 @@
+pub mod AlgorithmExplores
 pub mod AlgorithmFaults
 pub mod AlgorithmReplays
 pub mod Shown

@@ -1,7 +1,8 @@
 //! The command `explore` on an algorithm's text.
 
 ghost use Rattle.std.specs.Prelude.{◌≡◌, false, IfErr, IfOk, OnOk};
-ghost use Rattle.commands.specs.AlgorithmExplores.{AlgorithmExploreEnds, ExploresAlgorithm, calls_of as calls_asked, line_by, schedule_of as schedule_by, world_call};
+ghost use Rattle.commands.specs.AlgorithmExplores.{AlgorithmExploreEnds, ExploresAlgorithm, calls_of as calls_asked, schedule_of as schedule_by};
+ghost use Rattle.commands.specs.AlgorithmFindings.{line_by, world_call};
 ghost use Rattle.commands.specs.Endings.{FailsToWrite, IsEnded};
 ghost use Rattle.schedule.specs.Schedules.{spelling};
 ghost use Rattle.schedule.specs.Tapes.{Writes};

@@ -6,7 +6,9 @@ ghost use Rattle.clap.specs.Words.{first_of};
 ghost use Rattle.cli.specs.Given.{given_in, is_set, has_call, is_call, alphabet_of, is_algorithm_call, algorithm_calls_of, calls_of};
 ghost use Rattle.cli.specs.ReadWords.{IsAlgorithmSearch, IsFaultOfAlgorithmCalls, IsFaultOfCalls, IsStuckWithin, Reads};
 
-use crate::arguments::args::{AlgorithmCalls, AlgorithmExploreArgs, Alphabet, Command, ExploreArgs};
+use crate::arguments::args::{
+    AlgorithmCalls, AlgorithmExploreArgs, Alphabet, Command, ExploreArgs,
+};
 use crate::arguments::words::{
     WordsFault, is_given, is_set, number_of, number_or, str_of, text_of, variant_of,
 };
@@ -100,10 +102,7 @@ fn are_algorithm_calls(calls: &[&str]) -> bool
 }
 
 #[tactic(auto, using(crate::proofs::Reading::all_algorithm_calls))]
-fn algorithm_calls_of(
-    alloc: Global,
-    matches: &ArgMatches<'_>,
-) -> Result<AlgorithmCalls, WordsFault>
+fn algorithm_calls_of(alloc: Global, matches: &ArgMatches<'_>) -> Result<AlgorithmCalls, WordsFault>
     ensures ok { IfOk result (λ calls. calls ≡ algorithm_calls_of (calls_of (given_in matches.now))) }
     ensures known { OnOk result (list_all is_algorithm_call (calls_of (given_in matches.now)) ≡ true) }
     ensures bad { IfErr result (IsFaultOfAlgorithmCalls (given_in matches.now)) }

@@ -16,11 +16,7 @@ const CRASH_INSIDE: &str =
     "rme 1 procs 2 limit 1 cap 1\nlock 0\nstep 0\nstep 0\nstep 0\ncrash 0\nlock 0\nstep 0\nlock 1\nstep 1\nstep 1\nstep 0\nstep 1\nstep 1\n";
 
 /// A search of this algorithm.
-fn search<'a>(
-    line: &'a str,
-    text: &'a [u8],
-    printed: &'a str,
-) -> Result<ProgramRow<'a>, Fail> {
+fn search<'a>(line: &'a str, text: &'a [u8], printed: &'a str) -> Result<ProgramRow<'a>, Fail> {
     Ok(invoked(line, "", printed).beside(("a.lock", str::from_utf8(text)?)))
 }
 

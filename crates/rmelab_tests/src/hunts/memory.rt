@@ -31,7 +31,12 @@ fn want_of_memory(rt: HostRuntime) -> Result<(), Fail> {
         )
         .beside(("a.lock", str::from_utf8(others::ONE_WORD)?))
         .ends(1, ""),
-        invoked("rmelab explore --algorithm a.lock --procs 2 --stuck", "", "").ends(2, NO_MAILBOX),
+        invoked(
+            "rmelab explore --algorithm a.lock --procs 2 --stuck",
+            "",
+            "",
+        )
+        .ends(2, NO_MAILBOX),
         invoked("rmelab explore --procs 2", "", "").ends(2, NO_LOCK),
     ];
     all_want_memory(&rt, rt.alloc(), &rows)

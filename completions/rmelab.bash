@@ -22,6 +22,7 @@ _rmelab() {
         hunt:--steps) : && return ;;
         hunt:--jobs) : && return ;;
         explore:--variant) mapfile -t COMPREPLY < <(compgen -W "right no-look no-ties renumber exit-on-crash count-up last-skipped" -- "$word") && return ;;
+        explore:--algorithm) mapfile -t COMPREPLY < <(compgen -f -- "$word") && return ;;
         explore:--procs) : && return ;;
         explore:--calls) : && return ;;
         explore:--crashes) : && return ;;
@@ -39,7 +40,7 @@ _rmelab() {
         replay) mapfile -t COMPREPLY < <(compgen -W "--json --each --variant --algorithm --image --save -h --help" -- "$word"; compgen -f -- "$word") ;;
         run) mapfile -t COMPREPLY < <(compgen -W "--procs --messages --crash --seed --width -h --help" -- "$word") ;;
         hunt) mapfile -t COMPREPLY < <(compgen -W "--variant --seed --rounds --steps --shrink --jobs -h --help" -- "$word") ;;
-        explore) mapfile -t COMPREPLY < <(compgen -W "--variant --procs --calls --crashes --moves --states --limit --cap --width --stuck --jobs -h --help" -- "$word") ;;
+        explore) mapfile -t COMPREPLY < <(compgen -W "--variant --algorithm --procs --calls --crashes --moves --states --limit --cap --width --stuck --jobs -h --help" -- "$word") ;;
         judge) mapfile -t COMPREPLY < <(compgen -W "--json -h --help" -- "$word"; compgen -f -- "$word") ;;
         draw) mapfile -t COMPREPLY < <(compgen -W "--variant --image --svg --html -h --help" -- "$word"; compgen -f -- "$word") ;;
         shrink) mapfile -t COMPREPLY < <(compgen -W "--variant -h --help" -- "$word"; compgen -f -- "$word") ;;

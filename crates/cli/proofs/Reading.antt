@@ -12,7 +12,7 @@ use Rattle.clap.specs.Words.{Text, ReadsOne}
 use Rattle.clap.specs.ValueTests.{is_unsigned_in}
 use Rattle.clap.specs.declared.builder.value_parser.ValueParser.TheVariants.{Unsigned}
 use Rattle.clap.proofs.ValueTestLemmas.{accepts-Accepts, Accepts-accepts}
-use Rattle.cli.specs.Given.{is_call, number_in}
+use Rattle.cli.specs.Given.{is_call, is_algorithm_call, number_in}
 use Rattle.cli.proofs.Texts.{is_other}
 
 pub flag_read : (E : Type 0) (o : Option Text) (r : Option Bool) → (o ≡ None → r ≡ None)
@@ -53,3 +53,6 @@ joined separator (word ∷ words) = ap (λ rest. word.now ++ rest) (joined_on se
 -- a list of calls, as references and as texts
 pub all_calls : (calls : List (Bor Text)) → list_all is_call (map (λ call. call.now) calls) ≡ list_all (λ call. is_call call.now) calls
 all_calls calls = list_all-map is_call (λ (call : Bor Text). call.now) calls
+
+pub all_algorithm_calls : (calls : List (Bor Text)) → list_all is_algorithm_call (map (λ call. call.now) calls) ≡ list_all (λ call. is_algorithm_call call.now) calls
+all_algorithm_calls calls = list_all-map is_algorithm_call (λ (call : Bor Text). call.now) calls

@@ -68,9 +68,9 @@ hunt = part (codes "hunt") (required variant ∷ required (number (codes "seed")
 
 abbrev pub explore : Shape
 explore = part (codes "explore") (
-    required variant ∷ required (number (codes "procs")) ∷ option (codes "calls") ∷ number (codes "crashes") ∷ number (codes "moves")
-    ∷ number (codes "states") ∷ number (codes "limit") ∷ number (codes "cap") ∷ number (codes "width") ∷ flag (codes "stuck")
-    ∷ number (codes "jobs") ∷ [])
+    variant ∷ option (codes "algorithm") ∷ required (number (codes "procs")) ∷ option (codes "calls") ∷ number (codes "crashes")
+    ∷ number (codes "moves") ∷ number (codes "states") ∷ number (codes "limit") ∷ number (codes "cap") ∷ number (codes "width")
+    ∷ flag (codes "stuck") ∷ number (codes "jobs") ∷ [])
 
 abbrev pub judge : Shape
 judge = part (codes "judge") (flag (codes "json") ∷ word (codes "FILE") ∷ [])

@@ -2,13 +2,14 @@
 use Rattle.std.specs.Prelude.{String, Option, Some, None}
 use Rattle.std.specs.declared.alloc.Global.{Global}
 use Rattle.cli.specs.declared.arguments.args.Command.{Command}
-use Rattle.cli.specs.declared.arguments.args.Command.TheVariants.{Replay, ReplayAlgorithm, Judge, Draw, Shrink, Step}
+use Rattle.cli.specs.declared.arguments.args.Command.TheVariants.{Replay, ReplayAlgorithm, ExploreAlgorithm, Judge, Draw, Shrink, Step}
 
--- the file that is read first: the image that a world starts from, the algorithm that is run, or the schedule that a session
--- starts from
+-- the file that is read first: the image that a world starts from, the algorithm that is run or searched, or the schedule that
+-- a session starts from
 abbrev pub image_of : Command → Option (String Global)
 image_of (Replay args) = args.image
 image_of (ReplayAlgorithm args) = Some args.algorithm
+image_of (ExploreAlgorithm args) = Some args.algorithm
 image_of (Draw args) = args.image
 image_of (Step file) = file
 image_of command = None

@@ -12,6 +12,7 @@ use Rattle.crashlab.specs.declared.variant.Variant.TheVariants.{Right, NoLook, N
 use Rattle.diagram.specs.declared.diagram_layout.Style.{Style}
 use Rattle.diagram.specs.declared.diagram_layout.Style.TheVariants as styles
 use Rattle.cli.specs.declared.arguments.args.Alphabet.{Alphabet}
+use Rattle.cli.specs.declared.arguments.args.AlgorithmCalls.{AlgorithmCalls}
 
 abbrev pub Given : Type 0
 Given = List Row
@@ -71,6 +72,18 @@ alphabet_of calls = record {
   withdraw = has_call (codes "withdraw") calls;
   append = has_call (codes "append") calls;
   close = has_call (codes "close") calls;
+}
+
+-- the calls that a text of an algorithm can have
+abbrev pub is_algorithm_call : Text → Bool
+is_algorithm_call name = list_any (λ call. bytes_eq name call) (codes "lock" ∷ codes "unlock" ∷ codes "recover" ∷ codes "withdraw" ∷ [])
+
+abbrev pub algorithm_calls_of : List Text → AlgorithmCalls
+algorithm_calls_of calls = record {
+  lock = has_call (codes "lock") calls;
+  unlock = has_call (codes "unlock") calls;
+  recover = has_call (codes "recover") calls;
+  withdraw = has_call (codes "withdraw") calls;
 }
 
 -- the name of the entry that is to be explained: its words with a space between two

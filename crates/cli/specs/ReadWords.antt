@@ -10,12 +10,13 @@ use Rattle.clap.specs.declared.error.kind.ErrorKind.TheVariants as kinds
 use Rattle.crashlab.specs.declared.variant.Variant.{Variant}
 use Rattle.crashlab.specs.declared.variant.Variant.TheVariants.{Right}
 use Rattle.cli.specs.declared.arguments.args.Command.{Command}
-use Rattle.cli.specs.declared.arguments.args.Command.TheVariants.{Replay, ReplayAlgorithm, Run, Hunt, Explore, Judge, Draw, Shrink, Step, Explain}
+use Rattle.cli.specs.declared.arguments.args.Command.TheVariants.{Replay, ReplayAlgorithm, Run, Hunt, Explore, ExploreAlgorithm, Judge, Draw, Shrink, Step, Explain}
 use Rattle.cli.specs.declared.arguments.args.ReplayArgs.{ReplayArgs}
 use Rattle.cli.specs.declared.arguments.args.AlgorithmReplayArgs.{AlgorithmReplayArgs}
 use Rattle.cli.specs.declared.arguments.args.RunArgs.{RunArgs}
 use Rattle.cli.specs.declared.arguments.args.HuntArgs.{HuntArgs}
 use Rattle.cli.specs.declared.arguments.args.ExploreArgs.{ExploreArgs}
+use Rattle.cli.specs.declared.arguments.args.AlgorithmExploreArgs.{AlgorithmExploreArgs}
 use Rattle.cli.specs.declared.arguments.args.DrawArgs.{DrawArgs}
 use Rattle.cli.specs.declared.arguments.args.JudgeArgs.{JudgeArgs}
 use Rattle.cli.specs.declared.arguments.args.ShrinkArgs.{ShrinkArgs}
@@ -23,7 +24,7 @@ use Rattle.cli.specs.declared.arguments.words.WordsFault.{WordsFault}
 use Rattle.cli.specs.declared.arguments.words.WordsFault.TheVariants.{Help, Refused, BadVariant, BadSize, Unreadable, OutOfMemory}
 use Rattle.cli.specs.declared.explain.dictionary_entry.DictionaryEntry.{DictionaryEntry}
 use Rattle.cli.specs.CommandLine.{rmelab}
-use Rattle.cli.specs.Given.{Given, AsksFor, AsksForNone, is_set, number_or, style_of, calls_of, alphabet_of, is_call, entry_named}
+use Rattle.cli.specs.Given.{Given, AsksFor, AsksForNone, is_set, number_or, style_of, calls_of, alphabet_of, is_call, algorithm_calls_of, is_algorithm_call, entry_named}
 use Rattle.cli.specs.Names.{name_of}
 use Rattle.cli.specs.Sizes.{RunFits, IsHuntSize}
 
@@ -88,6 +89,27 @@ pub record IsExplore (given : Given) (args : ExploreArgs) : Type 0 where
   pub jobs : args.jobs ≡ number_or 0 (codes "jobs") given
   -- a search for stuck states has no bound on moves
   pub unbounded : args.stuck ≡ true → IsNone (first_of (codes "moves") given)
+  pub no_algorithm : IsNone (first_of (codes "algorithm") given)
+
+-- an algorithm is given to a search, and no option that its search does not have
+pub record IsAlgorithmSearch (given : Given) : Type 0 where
+  pub algorithm : IsSome (first_of (codes "algorithm") given)
+  pub no_stuck : is_set (codes "stuck") given ≡ false
+  pub no_cap : IsNone (first_of (codes "cap") given)
+  pub no_width : IsNone (first_of (codes "width") given)
+
+-- it is searched by one thread, however many are asked for
+pub record IsAlgorithmExplore (given : Given) (args : AlgorithmExploreArgs) : Type 0 where
+  pub algorithm : Some (string_bytes args.algorithm) ≡ first_of (codes "algorithm") given
+  pub no_variant : IsNone (first_of (codes "variant") given)
+  pub search : IsAlgorithmSearch given
+  pub procs : args.procs ≡ number_or 0 (codes "procs") given
+  pub calls : args.calls ≡ algorithm_calls_of (calls_of given)
+  pub known : list_all is_algorithm_call (calls_of given) ≡ true
+  pub crashes : args.crashes ≡ number_or 0 (codes "crashes") given
+  pub moves : args.moves ≡ number_or 18446744073709551615 (codes "moves") given
+  pub states : args.states ≡ number_or 10000000 (codes "states") given
+  pub limit : args.limit ≡ number_or 4 (codes "limit") given
 
 pub record IsJudge (given : Given) (args : JudgeArgs) : Type 0 where
   pub json : args.json ≡ is_set (codes "json") given
@@ -111,6 +133,7 @@ IsCommand name given (ReplayAlgorithm args) = (name ≡ codes "replay") × IsAlg
 IsCommand name given (Run args) = (name ≡ codes "run") × (args ≡ run_of given)
 IsCommand name given (Hunt args) = (name ≡ codes "hunt") × IsHunt given args
 IsCommand name given (Explore args) = (name ≡ codes "explore") × IsExplore given args
+IsCommand name given (ExploreAlgorithm args) = (name ≡ codes "explore") × IsAlgorithmExplore given args
 IsCommand name given (Judge args) = (name ≡ codes "judge") × IsJudge given args
 IsCommand name given (Step file) = (name ≡ codes "step") × (option_map string_bytes file ≡ first_of (codes "FILE") given)
 IsCommand name given (Draw args) = (name ≡ codes "draw") × IsDraw given args
@@ -128,25 +151,34 @@ IsBadBesideImage given = AsksForNone (codes "right") given
 abbrev pub IsBesideAlgorithm : Given → Type 0
 IsBesideAlgorithm given = IsSome (first_of (codes "algorithm") given) × (IsAlone given → ⊥)
 
+-- a variant is given to a search: there is no such variant, or an algorithm is given too
+abbrev pub IsBadForSearch : Given → Type 0
+IsBadForSearch given = IsSome (first_of (codes "variant") given) × (AsksForNone [] given ⊎ IsSome (first_of (codes "algorithm") given))
+
 abbrev pub HasBadVariant : Text → Given → Type 0
 HasBadVariant name given = (((name ≡ codes "replay") ⊎ (name ≡ codes "draw")) × IsBadBesideImage given)
-    ⊎ ((((name ≡ codes "hunt") ⊎ ((name ≡ codes "explore") ⊎ (name ≡ codes "shrink"))) × AsksForNone [] given)
-    ⊎ ((name ≡ codes "replay") × IsBesideAlgorithm given))
+    ⊎ ((((name ≡ codes "hunt") ⊎ (name ≡ codes "shrink")) × AsksForNone [] given)
+    ⊎ (((name ≡ codes "replay") × IsBesideAlgorithm given)
+    ⊎ ((name ≡ codes "explore") × IsBadForSearch given)))
 
 -- a search for stuck states is given a bound on moves
 abbrev pub IsStuckWithin : Given → Type 0
 IsStuckWithin given = (is_set (codes "stuck") given ≡ true) × IsSome (first_of (codes "moves") given)
 
--- a call of a search is none, or its bound on moves is one too many
+-- a call of a variant's search is none, or its bound on moves is one too many
 abbrev pub IsBadSearch : Given → Type 0
-IsBadSearch given = (list_all is_call (calls_of given) ≡ false) ⊎ IsStuckWithin given
+IsBadSearch given = IsSome (first_of (codes "variant") given) × ((list_all is_call (calls_of given) ≡ false) ⊎ IsStuckWithin given)
+
+-- a call of an algorithm's search is none of an algorithm
+abbrev pub IsBadAlgorithmSearch : Given → Type 0
+IsBadAlgorithmSearch given = IsAlgorithmSearch given × (list_all is_algorithm_call (calls_of given) ≡ false)
 
 -- a number is outside its range, or a search is bad
 abbrev pub IsOutOfRange : Text → Given → Type 0
 IsOutOfRange name given =
     ((name ≡ codes "run") × (RunFits (run_of given) → ⊥))
     ⊎ (((name ≡ codes "hunt") × (IsHuntSize (number_or 0 (codes "rounds") given) (number_or 0 (codes "steps") given) → ⊥))
-    ⊎ ((name ≡ codes "explore") × IsBadSearch given))
+    ⊎ ((name ≡ codes "explore") × (IsBadSearch given ⊎ IsBadAlgorithmSearch given)))
 
 -- the variant is good, and a size is bad
 abbrev pub HasBadSize : Text → Given → Type 0
@@ -162,9 +194,13 @@ abbrev pub HasNoSteps : Text → Given → Type 0
 HasNoSteps name given = (name ≡ codes "replay") × IsSome (first_of (codes "algorithm") given) × IsAlone given
     × ((is_set (codes "json") given ≡ true) ⊎ (is_set (codes "each") given ≡ true))
 
+-- neither a variant is searched nor an algorithm, or the search of an algorithm is given an option that it does not have
+abbrev pub HasNoSearch : Text → Given → Type 0
+HasNoSearch name given = (name ≡ codes "explore") × IsNone (first_of (codes "variant") given) × (IsAlgorithmSearch given → ⊥)
+
 -- words that `clap` takes are refused as it refuses words
 abbrev pub HasBadWords : Text → Given → Type 0
-HasBadWords name given = HasNoEntry name given ⊎ HasNoSteps name given
+HasBadWords name given = HasNoEntry name given ⊎ (HasNoSteps name given ⊎ HasNoSearch name given)
 
 -- out of memory comes at any time
 abbrev pub IsFault : Text → Given → WordsFault → Type 0
@@ -218,6 +254,11 @@ IsRefusal words OutOfMemory = Unit {0}
 abbrev pub IsFaultOfCalls : Given → WordsFault → Type 0
 IsFaultOfCalls given BadSize = list_all is_call (calls_of given) ≡ false
 IsFaultOfCalls given fault = fault ≡ OutOfMemory
+
+-- a list of an algorithm's calls is refused
+abbrev pub IsFaultOfAlgorithmCalls : Given → WordsFault → Type 0
+IsFaultOfAlgorithmCalls given BadSize = list_all is_algorithm_call (calls_of given) ≡ false
+IsFaultOfAlgorithmCalls given fault = fault ≡ OutOfMemory
 
 -- an error of `clap` of this kind is answered
 abbrev pub IsAnsweredBy : ErrorKind → WordsFault → Type 0

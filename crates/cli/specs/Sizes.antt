@@ -1,7 +1,7 @@
 -- The ranges of the program's numbers (the specification's "Limits").
 use Rattle.std.specs.Prelude.{◌≤◌, ℕ}
 use Rattle.cli.specs.declared.arguments.args.Command.{Command}
-use Rattle.cli.specs.declared.arguments.args.Command.TheVariants.{Replay, ReplayAlgorithm, Run, Hunt, Explore, Judge, Draw, Shrink, Step, Explain}
+use Rattle.cli.specs.declared.arguments.args.Command.TheVariants.{Replay, ReplayAlgorithm, Run, Hunt, Explore, ExploreAlgorithm, Judge, Draw, Shrink, Step, Explain}
 use Rattle.cli.specs.declared.arguments.args.HuntArgs.{HuntArgs}
 use Rattle.cli.specs.declared.arguments.args.RunArgs.{RunArgs}
 
@@ -24,6 +24,7 @@ IsSized (ReplayAlgorithm args) = Unit {0}
 IsSized (Run args) = RunFits args
 IsSized (Hunt args) = HuntFits args
 IsSized (Explore args) = Unit {0}
+IsSized (ExploreAlgorithm args) = Unit {0}
 IsSized (Judge file) = Unit {0}
 IsSized (Step file) = Unit {0}
 IsSized (Draw args) = Unit {0}

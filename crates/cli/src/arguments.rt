@@ -2,6 +2,7 @@
 
 pub mod args;
 mod argument;
+mod explore_words;
 mod parser;
 mod replay_words;
 pub mod words;

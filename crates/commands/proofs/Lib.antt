@@ -1,3 +1,5 @@
+pub mod AlgorithmExplores
+pub mod AlgorithmPaths
 pub mod AlgorithmReplays
 pub mod Draws
 pub mod Replays

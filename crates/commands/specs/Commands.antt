@@ -19,7 +19,7 @@ use Rattle.schedule.specs.declared.replays.verdict.Verdict.{Verdict}
 use Rattle.crashlab.specs.Shrunk.{Shrinks}
 use Rattle.diagram.specs.StepLines.{verdict_object}
 use Rattle.cli.specs.declared.arguments.args.Command.{Command}
-use Rattle.cli.specs.declared.arguments.args.Command.TheVariants.{Replay, ReplayAlgorithm, Run, Hunt, Explore, Judge, Draw, Shrink, Step, Explain}
+use Rattle.cli.specs.declared.arguments.args.Command.TheVariants.{Replay, ReplayAlgorithm, Run, Hunt, Explore, ExploreAlgorithm, Judge, Draw, Shrink, Step, Explain}
 use Rattle.cli.specs.declared.arguments.args.HuntArgs.{HuntArgs}
 use Rattle.cli.specs.declared.arguments.args.RunArgs.{RunArgs}
 use Rattle.cli.specs.Sizes.{HuntFits, RunFits}
@@ -27,6 +27,7 @@ use Rattle.commands.specs.declared.schedules.ending.Ending.{Ending}
 use Rattle.commands.specs.declared.schedules.fault.CommandFault.{CommandFault}
 use Rattle.commands.specs.declared.schedules.fault.CommandFault.TheVariants.{BadSize, Write}
 use Rattle.commands.specs.Conversations.{SessionEnds}
+use Rattle.commands.specs.AlgorithmExplores.{AlgorithmExploreEnds}
 use Rattle.commands.specs.AlgorithmReplays.{AlgorithmReplayEnds}
 use Rattle.commands.specs.Draws.{DrawEnds}
 use Rattle.commands.specs.Endings.{IsBroken, TellsReads}
@@ -110,6 +111,7 @@ CommandEnds (ReplayAlgorithm args) image old new before now end = AlgorithmRepla
 CommandEnds (Run args) image old new before now end = RunEnds args end
 CommandEnds (Hunt args) image old new before now end = HuntEnds args before now end
 CommandEnds (Explore args) image old new before now end = ExploreEnds args before now end
+CommandEnds (ExploreAlgorithm args) image old new before now end = (new ≡ old) × AlgorithmExploreEnds args before now end
 CommandEnds (Judge args) image old new before now end = JudgeEnds args.json old new before now end
 CommandEnds (Draw args) image old new before now end = DrawEnds args image old new before now end × TellsReads old new end
 CommandEnds (Shrink args) image old new before now end = ShrinkEnds args old new before now end × TellsReads old new end

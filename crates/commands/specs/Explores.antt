@@ -24,7 +24,7 @@ use Rattle.commands.specs.Endings.{FailsToWrite}
 use Rattle.commands.specs.Statuses.{outcome}
 
 -- these calls, if they are asked for
-abbrev pub asked : Bool → List Call → List Call
+abbrev pub asked : {C : Type 0} → Bool → List C → List C
 asked true calls = calls
 asked false calls = []
 

@@ -1,4 +1,6 @@
+pub mod AlgorithmExplores
 pub mod AlgorithmFaults
+pub mod AlgorithmFindings
 pub mod AlgorithmReplays
 pub mod Shown
 pub mod Draws

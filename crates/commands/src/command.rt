@@ -10,6 +10,7 @@ ghost use Rattle.commands.specs.Programs.{CarriesOut};
 ghost use Rattle.commands.specs.Folders.{is_session};
 ghost use Rattle.commands.specs.Statuses.{status_of};
 
+use crate::algorithm_exploring::algorithm_explore_command;
 use crate::exploring::explore_command;
 use crate::folder::{Folder, NoFolder};
 use crate::jobs::jobs_of;
@@ -166,7 +167,7 @@ fn explain_command<W: Sink>(
 }
 
 /// Carries out a command. It reads the schedule or the trace from `r`, and writes to `w`. `image` is the text of the file
-/// that `--image` names. The progress of a search or a hunt is shown on the screen. A fault says why there is no verdict.
+/// that `--image` or `--algorithm` names. The progress of a search or a hunt is shown on the screen. A fault says why there is no verdict.
 pub fn ended<T: Threads + Wait + Sync, F: Folder, S: Screen, R: Source, W: Sink>(
     rt: &T,
     alloc: Global,
@@ -193,6 +194,9 @@ pub fn ended<T: Threads + Wait + Sync, F: Folder, S: Screen, R: Source, W: Sink>
         Command::Shrink(args) => shrink_command(alloc, args, r, w),
         Command::Hunt(args) => hunt_command(rt, alloc, args, screen, w),
         Command::Explore(args) => explore_command(rt, alloc, args, screen, w),
+        Command::ExploreAlgorithm(args) => {
+            algorithm_explore_command(alloc, args, image, screen, w)
+        }
         Command::Run(args) => run_command(rt, alloc, args, w),
         Command::Step(_) => session_command(alloc, image, folder, r, w),
         Command::Explain(dictionary_entry) => explain_command(*dictionary_entry, w),

@@ -28,7 +28,11 @@ use std::alloc::{AllocError, Global};
 use std::thread::Threads;
 
 /// Adds a call to the list, if it is asked for.
-fn put_call(calls: &mut Vec<Call>, is_asked: bool, call: Call) -> Result<(), AllocError>
+pub(crate) fn put_call<C: Drop>(
+    calls: &mut Vec<C>,
+    is_asked: bool,
+    call: C,
+) -> Result<(), AllocError>
     ensures { OnOk result (calls.new.items ≡ calls.old.items ++ asked is_asked (call ∷ [])) }
 {
     if is_asked {
@@ -112,6 +116,24 @@ fn schedule_of(alloc: Global, args: &ExploreArgs, path: &[Move]) -> Result<Sched
     Ok(schedule)
 }
 
+/// Writes the schedule that was found.
+pub(crate) fn tell_schedule<W: Sink>(
+    alloc: Global,
+    schedule: &Schedule,
+    w: &mut W,
+) -> Result<Ending, CommandFault>
+    ensures told { OnOk result (Writes (W.tape w.old) (W.tape w.new) (spelling schedule.now)) }
+    ensures status { IfOk result (λ ending. ending.status ≡ 1) }
+    ensures ended { IfOk result (IsEnded false (W.tape w.old).failures (W.tape w.new).failures) }
+    ensures failed { IfErr result (FailsToWrite (W.tape w.old) (W.tape w.new)) }
+{
+    write_lines(alloc, schedule, w)?;
+    Ok(Ending {
+        status: 1,
+        save: None,
+    })
+}
+
 /// Writes the moves as a schedule.
 pub(crate) fn tell_path<W: Sink>(
     alloc: Global,
@@ -125,11 +147,7 @@ pub(crate) fn tell_path<W: Sink>(
     ensures failed { IfErr result (FailsToWrite (W.tape w.old) (W.tape w.new)) }
 {
     let schedule = schedule_of(alloc, args, path)?;
-    write_lines(alloc, &schedule, w)?;
-    Ok(Ending {
-        status: 1,
-        save: None,
-    })
+    tell_schedule(alloc, &schedule, w)
 }
 
 /// Writes that nothing was found, and how far the search got.
@@ -156,7 +174,7 @@ pub(crate) fn tell_none<W: Sink>(
 }
 
 /// Writes that nothing was found within this many moves.
-fn tell_within<W: Sink>(moves: u64, w: &mut W) -> Result<Ending, CommandFault>
+pub(crate) fn tell_within<W: Sink>(moves: u64, w: &mut W) -> Result<Ending, CommandFault>
     ensures told { OnOk result (Writes (W.tape w.old) (W.tape w.new) (within_line moves)) }
     ensures status { IfOk result (λ ending. ending.status ≡ 0) }
     ensures ended { IfOk result (IsEnded false (W.tape w.old).failures (W.tape w.new).failures) }
@@ -166,7 +184,7 @@ fn tell_within<W: Sink>(moves: u64, w: &mut W) -> Result<Ending, CommandFault>
 }
 
 /// Writes that nothing was found in this many states, which are all.
-fn tell_all<W: Sink>(states: u64, w: &mut W) -> Result<Ending, CommandFault>
+pub(crate) fn tell_all<W: Sink>(states: u64, w: &mut W) -> Result<Ending, CommandFault>
     ensures told { OnOk result (Writes (W.tape w.old) (W.tape w.new) (all_line states)) }
     ensures status { IfOk result (λ ending. ending.status ≡ 0) }
     ensures ended { IfOk result (IsEnded false (W.tape w.old).failures (W.tape w.new).failures) }

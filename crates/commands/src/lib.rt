@@ -1,6 +1,7 @@
 //! The commands of `rmelab`, and the whole program over its words, a folder of files, a reader and two writers.
 #![tactic(auto)]
 
+pub mod algorithm_exploring;
 pub mod algorithm_fault;
 pub mod command;
 pub mod disk;

@@ -67,6 +67,7 @@ pub fn runs_threads(read: &Command) -> bool {
         | Command::ReplayAlgorithm(_)
         | Command::Hunt(_)
         | Command::Explore(_)
+        | Command::ExploreAlgorithm(_)
         | Command::Judge(_)
         | Command::Draw(_)
         | Command::Shrink(_)

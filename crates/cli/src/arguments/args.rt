@@ -94,6 +94,31 @@ pub struct ExploreArgs {
     pub jobs: u64,
 }
 
+/// The calls of an algorithm that a search starts.
+#[derive(Clone, Copy, Debug, PartialEq, Eq)]
+pub struct AlgorithmCalls {
+    pub lock: bool,
+    pub unlock: bool,
+    pub recover: bool,
+    pub withdraw: bool,
+}
+
+/// `explore --algorithm`: tries all schedules of an algorithm up to a bound, the shorter before the longer.
+#[derive(Debug, Drop, PartialEq, Eq)]
+pub struct AlgorithmExploreArgs {
+    /// The file of the algorithm's text.
+    pub algorithm: String,
+    pub procs: u64,
+    pub calls: AlgorithmCalls,
+    /// The most crashes of a schedule.
+    pub crashes: u64,
+    /// The most moves of a schedule.
+    pub moves: u64,
+    /// The most states that are kept.
+    pub states: u64,
+    pub limit: u64,
+}
+
 /// `judge`: judges a trace of deeds.
 #[derive(Debug, Drop, PartialEq, Eq)]
 pub struct JudgeArgs {
@@ -132,6 +157,7 @@ pub enum Command {
     Run(RunArgs),
     Hunt(HuntArgs),
     Explore(ExploreArgs),
+    ExploreAlgorithm(AlgorithmExploreArgs),
     Judge(JudgeArgs),
     Draw(DrawArgs),
     Shrink(ShrinkArgs),
@@ -158,13 +184,14 @@ impl Command {
         }
     }
 
-    /// The file that the command starts from: an image, or the first schedule of a session.
+    /// The file that the command starts from: an image, an algorithm, or the first schedule of a session.
     pub fn image_file(&self) -> Option<&String>
         ensures { option_copied result ≡ image_of self.now }
     {
         match self {
             Command::Replay(args) => args.image.as_ref(),
             Command::ReplayAlgorithm(args) => Some(&args.algorithm),
+            Command::ExploreAlgorithm(args) => Some(&args.algorithm),
             Command::Draw(args) => args.image.as_ref(),
             Command::Step(file) => file.as_ref(),
             _ => None,

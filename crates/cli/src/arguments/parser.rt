@@ -30,15 +30,16 @@ second while it works.\nExit status: 0 where nothing was found, 1 where a schedu
 of memory.\n\nExample: rmelab hunt --variant no-look --seed 1 --rounds 10000 --steps 1000";
 
 const EXPLORE_HELP: &str =
-    "In: nothing. All schedules are tried whose moves are the start of a call of --calls, one step, or a crash, of which there \
-are at most --crashes: the shorter before the longer. Two worlds are one where their words, their processes, the judge and the \
-crashes left are.\nOut: the schedule of fewest moves that goes wrong, which `rmelab replay --variant V` replays to its fault; \
-`nothing found within K moves`; or, where all was tried, `nothing found: all N states`. With --stuck, where none goes wrong: the \
+    "In: nothing; with --algorithm the algorithm's text: docs/use/algorithms.md. All schedules are tried whose moves are the start \
+of a call of --calls, one step, or a crash, of which there are at most --crashes: the shorter before the longer. Two worlds are one \
+where their words, their processes, the judge and the crashes left are. An algorithm is searched by one thread.\nOut: the schedule \
+of fewest moves that goes wrong, which `rmelab replay` with the same --variant or --algorithm replays to its fault; `nothing found \
+within K moves`; or, where all was tried, `nothing found: all N states`. With --stuck, where none goes wrong: the \
 schedule of fewest moves to a state from which no starts and steps bring each process to rest with all lock words 0, which \
 replays to a fine verdict; or `never stuck: all N states`. Nothing is said of a greater size, limit \
 or number of crashes.\nShown: on standard error, where that is a terminal, the states, how many moves deep and the \
-states a second, once a second while it works.\nExit status: 0 where nothing was found, 1 where a schedule was, 2 after a fault of the words, 3 after one of \
-a device or of memory, or where there are more states than --states.\n\nExample: rmelab explore --variant no-look --procs 2";
+states a second, once a second while it works.\nExit status: 0 where nothing was found, 1 where a schedule was, 2 after a fault of the words or the algorithm, 3 after \
+one of a device or of memory, or where there are more states than --states.\n\nExample: rmelab explore --variant no-look --procs 2";
 
 const JUDGE_HELP: &str =
     "In: a trace, as `trace 1 procs 2 cap 1`, then deeds such as `begin 0`, `ready 0`, `enter 0`.\nOut: the verdict \
@@ -151,18 +152,30 @@ fn explore<'a>(alloc: Global) -> Result<Parser<'a>, AllocError>
 {
     let about = "Tries all schedules up to a bound, for the shortest that goes wrong";
     let calls =
-        "lock, unlock, recover, consistent, withdraw, append and close, with commas; lock,unlock without it";
+        "lock, unlock, recover, withdraw, and of a variant consistent, append and close, with commas; lock,unlock without it";
     let arguments = [
-        Argument::variant().required(),
+        Argument::variant(),
+        Argument::algorithm(),
         Argument::number("procs", "N", "1 to 64 processes").required(),
         Argument::text("calls", "LIST", calls),
         Argument::number("crashes", "C", "At most C crashes; 0 without it"),
         Argument::number("moves", "K", "At most K moves; no bound without it"),
         Argument::number("states", "S", "At most S states; 10000000 without it"),
         Argument::number("limit", "L", "Numbers up to L; 4 without it"),
-        Argument::number("cap", "M", "Room for M messages; 1 without it"),
-        Argument::number("width", "W", "1 to 8 words a message; 1 without it"),
-        Argument::flag("stuck", "Look for stuck states too; not with --moves"),
+        Argument::number(
+            "cap",
+            "M",
+            "Room for M messages; 1 without it; not with --algorithm",
+        ),
+        Argument::number(
+            "width",
+            "W",
+            "1 to 8 words a message; 1 without it; not with --algorithm",
+        ),
+        Argument::flag(
+            "stuck",
+            "Look for stuck states too; not with --moves or --algorithm",
+        ),
         Argument::number(
             "jobs",
             "N",

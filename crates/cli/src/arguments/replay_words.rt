@@ -1,21 +1,14 @@
 //! Reads the words of `replay`.
 
-ghost use Rattle.std.specs.Prelude.{◌≡◌, ◌↔◌, true, Some, IsNone, is_some, string_bytes, codes};
+ghost use Rattle.std.specs.Prelude.{◌≡◌, ◌↔◌, true, Some, IsNone, string_bytes, codes};
 ghost use Rattle.clap.specs.Words.{first_of};
 ghost use Rattle.cli.specs.Given.{given_in};
 ghost use Rattle.cli.specs.ReadWords.{IsAlone, Reads};
 
 use crate::arguments::args::{AlgorithmReplayArgs, Command, ReplayArgs};
-use crate::arguments::words::{WordsFault, is_set, str_of, text_of, variant_beside_image};
+use crate::arguments::words::{WordsFault, is_given, is_set, text_of, variant_beside_image};
 use clap::ArgMatches;
 use std::alloc::{AllocError, Global};
-
-/// Whether the option with this name is given.
-fn is_given(matches: &ArgMatches<'_>, name: &str) -> bool
-    ensures { result ≡ is_some (first_of name.now (given_in matches.now)) }
-{
-    str_of(matches, name).is_some()
-}
 
 /// Whether no variant, no image and no file for the last image are given.
 fn is_alone(matches: &ArgMatches<'_>) -> bool

@@ -1,19 +1,17 @@
 //! Reads the words of the command line.
 
-ghost use Rattle.std.specs.Prelude.{◌≡◌, ◌≢◌, ◌↔◌, ◌==◌, true, map, option_map, IfOk, IfErr, IfSome, IsNone, IsSomeAnd, IsOk, OnOk, OnErr, IsErrOf, string_bytes, codes};
-ghost use Rattle.std.specs.List.{list_all, slice_split};
+ghost use Rattle.std.specs.Prelude.{◌≡◌, ◌≢◌, ◌↔◌, option_map, is_some, IfOk, IfErr, IfSome, IsNone, IsSomeAnd, IsOk, OnErr, IsErrOf, string_bytes, codes};
 ghost use Rattle.clap.specs.Words.{first_of, kind_of, subcommand_rows_of};
 ghost use Rattle.crashlab.specs.declared.variant.Variant.{Variant as AnyVariant};
 ghost use Rattle.cli.specs.declared.explain.dictionary_entry.DictionaryEntry.{DictionaryEntry as AnyDictionaryEntry};
-ghost use Rattle.cli.specs.Given.{given_in, is_set, number_or, word_of_variant, AsksFor, AsksForNone, style_of, has_call, is_call, alphabet_of, calls_of, entry_named};
+ghost use Rattle.cli.specs.Given.{given_in, is_set, number_or, word_of_variant, AsksFor, AsksForNone, style_of, entry_named};
 ghost use Rattle.cli.specs.Names.{name_of};
-ghost use Rattle.cli.specs.ReadWords.{GoesWithImage, IsBadBesideImage, IsFaultOfCalls, IsStuckWithin, IsUnnamed, IsAnsweredBy};
+ghost use Rattle.cli.specs.ReadWords.{GoesWithImage, IsBadBesideImage, IsUnnamed, IsAnsweredBy};
 ghost use Rattle.cli.specs.ReadWords.{HasBadVariant, HasBadSize, IsCommand, Reads, IsName, Takes, IsRefusal, Refuses, texts_of};
 ghost use Rattle.cli.specs.Sizes.{IsSized, HuntFits, RunFits};
 
-use crate::arguments::args::{
-    Alphabet, Command, DrawArgs, ExploreArgs, HuntArgs, JudgeArgs, RunArgs, ShrinkArgs,
-};
+use crate::arguments::args::{Command, DrawArgs, HuntArgs, JudgeArgs, RunArgs, ShrinkArgs};
+use crate::arguments::explore_words::explore_words;
 use crate::arguments::parser::parser;
 use crate::arguments::replay_words::replay_words;
 use crate::explain::dictionary_entry::{DictionaryEntry, dictionary_entry_named};
@@ -32,16 +30,17 @@ pub enum WordsFault {
     /// The help or the version that was asked for. It is printed; the exit status is 0.
     #[error("{text}")]
     Help { text: String },
-    /// The error text of `clap`, that the words name no entry, or that `--json` or `--each` is beside `--algorithm`. It is printed
-    /// to standard error; the exit status is 2.
+    /// The error text of `clap`, that the words name no entry, that an option is beside `--algorithm` which a run or a search of
+    /// one does not have, or that `explore` has neither a variant nor an algorithm. It is printed to standard error; the exit
+    /// status is 2.
     #[error("{text}")]
     Refused { text: String },
     /// There is no such variant, it isn't `right` and an image is given, or an algorithm is given beside a variant, an image or a
     /// file for the last image; the exit status is 2.
     #[error("bad variant")]
     BadVariant,
-    /// A number of `run` or `hunt` is outside its range, a call of `explore` is none, or `--stuck` is beside `--moves`; the exit
-    /// status is 2.
+    /// A number of `run` or `hunt` is outside its range, a call of `explore` is none, or none of an algorithm, or `--stuck` is
+    /// beside `--moves`; the exit status is 2.
     #[error("bad size")]
     BadSize,
     /// A word isn't UTF-8 text.
@@ -116,21 +115,28 @@ pub(crate) fn is_set(matches: &ArgMatches<'_>, name: &str) -> bool
     matches.get_one::<bool>(name).unwrap_or(false)
 }
 
+/// Whether the option with this name is given.
+pub(crate) fn is_given(matches: &ArgMatches<'_>, name: &str) -> bool
+    ensures { result ≡ is_some (first_of name.now (given_in matches.now)) }
+{
+    str_of(matches, name).is_some()
+}
+
 /// The number with this name, or `without` if it is left out.
-fn number_or(matches: &ArgMatches<'_>, name: &str, without: u64) -> u64
+pub(crate) fn number_or(matches: &ArgMatches<'_>, name: &str, without: u64) -> u64
     ensures { result ≡ number_or without name.now (given_in matches.now) }
 {
     matches.get_one::<u64>(name).unwrap_or(without)
 }
 
-fn number_of(matches: &ArgMatches<'_>, name: &str) -> u64
+pub(crate) fn number_of(matches: &ArgMatches<'_>, name: &str) -> u64
     ensures { result ≡ number_or 0 name.now (given_in matches.now) }
 {
     number_or(matches, name, 0)
 }
 
 /// The variant that is asked for, or the one with the name `without`.
-fn variant_of(matches: &ArgMatches<'_>, without: &str) -> Result<Variant, WordsFault>
+pub(crate) fn variant_of(matches: &ArgMatches<'_>, without: &str) -> Result<Variant, WordsFault>
     ensures found { IfOk result (AsksFor without.now (given_in matches.now)) }
     ensures bad { OnErr result (IsErrOf result WordsFault.BadVariant × AsksForNone without.now (given_in matches.now)) }
 {
@@ -207,92 +213,6 @@ fn shrink_words(alloc: Global, matches: &ArgMatches<'_>) -> Result<Command, Word
     Ok(Command::Shrink(ShrinkArgs {
         variant: variant_of(matches, "")?,
         file: text_of(alloc, matches, "FILE")?,
-    }))
-}
-
-/// Whether a search can start this call.
-fn is_call(name: &str) -> bool
-    ensures { result ≡ is_call name.now }
-{
-    matches!(
-        name,
-        "lock" | "unlock" | "recover" | "consistent" | "withdraw" | "append" | "close"
-    )
-}
-
-fn has_call(calls: &[&str], name: &str) -> bool
-    ensures { result ≡ has_call name.now (map (λ call. call.now) calls.now) }
-{
-    calls.contains(&name)
-}
-
-fn are_calls(calls: &[&str]) -> bool
-    ensures { result ≡ list_all (λ call. is_call call.now) calls.now }
-{
-    for call in calls {
-        if !is_call(call) {
-            return false;
-        }
-    }
-    true
-}
-
-/// The calls of this list, which has commas between them.
-fn calls_in(alloc: Global, list: &str) -> Result<Vec<&str>, AllocError>
-    ensures { IfOk result (λ calls. map (λ call. call.now) calls.items ≡ slice_split (λ byte. byte == 44) list.now) }
-{
-    list.split(',').collect(alloc)
-}
-
-#[tactic(auto, using(crate::proofs::Reading::all_calls))]
-fn alphabet_of(alloc: Global, matches: &ArgMatches<'_>) -> Result<Alphabet, WordsFault>
-    ensures ok { IfOk result (λ calls. calls ≡ alphabet_of (calls_of (given_in matches.now))) }
-    ensures known { OnOk result (list_all is_call (calls_of (given_in matches.now)) ≡ true) }
-    ensures bad { IfErr result (IsFaultOfCalls (given_in matches.now)) }
-{
-    let calls = calls_in(alloc, str_of(matches, "calls").unwrap_or("lock,unlock"))?;
-    if !are_calls(&calls) {
-        return Err(WordsFault::BadSize);
-    }
-    Ok(Alphabet {
-        lock: has_call(&calls, "lock"),
-        unlock: has_call(&calls, "unlock"),
-        recover: has_call(&calls, "recover"),
-        consistent: has_call(&calls, "consistent"),
-        withdraw: has_call(&calls, "withdraw"),
-        append: has_call(&calls, "append"),
-        close: has_call(&calls, "close"),
-    })
-}
-
-/// Whether a search looks for stuck states. It does so without a bound on moves.
-fn stuck_of(matches: &ArgMatches<'_>) -> Result<bool, WordsFault>
-    ensures ok { IfOk result (λ stuck. stuck ≡ is_set (codes "stuck") (given_in matches.now)) }
-    ensures unbounded { IfOk result (λ stuck. stuck ≡ true → IsNone (first_of (codes "moves") (given_in matches.now))) }
-    ensures bad { OnErr result (IsErrOf result WordsFault.BadSize × IsStuckWithin (given_in matches.now)) }
-{
-    let stuck = is_set(matches, "stuck");
-    if stuck && str_of(matches, "moves").is_some() {
-        return Err(WordsFault::BadSize);
-    }
-    Ok(stuck)
-}
-
-fn explore_words(alloc: Global, matches: &ArgMatches<'_>) -> Result<Command, WordsFault>
-    ensures { Reads (codes "explore") (given_in matches.now) result }
-{
-    Ok(Command::Explore(ExploreArgs {
-        variant: variant_of(matches, "")?,
-        procs: number_of(matches, "procs"),
-        calls: alphabet_of(alloc, matches)?,
-        crashes: number_of(matches, "crashes"),
-        moves: number_or(matches, "moves", u64::MAX),
-        states: number_or(matches, "states", 10_000_000),
-        limit: number_or(matches, "limit", 4),
-        cap: number_or(matches, "cap", 1),
-        width: number_or(matches, "width", 1),
-        stuck: stuck_of(matches)?,
-        jobs: number_of(matches, "jobs"),
     }))
 }
 
@@ -430,8 +350,8 @@ fn refused(alloc: Global, error: &Error) -> Result<WordsFault, AllocError>
 }
 
 /// Reads the words of a command line. The first word is the program's name. A refusal by `clap` is found first, then a bad
-/// variant, then a bad size. Words of `explain` that name no entry are refused in the same way as by `clap`, and so are `--json`
-/// and `--each` with `--algorithm`.
+/// variant, then a bad size. Words of `explain` that name no entry are refused in the same way as by `clap`; so are options beside
+/// `--algorithm` that a run or a search of one does not have, before a bad size, and `explore` with nothing to search.
 pub fn read_words(alloc: Global, words: &[String]) -> Result<Command, WordsFault>
     ensures sized { IfOk result IsSized }
     ensures command { IfOk result (λ command. Takes (texts_of words.now) (λ name given. IsCommand name given command)) }

@@ -42,7 +42,7 @@ fn unplayed(fault: AlgorithmReplayFault) -> CommandFault
 }
 
 /// The algorithm that this text spells. A text that spells none is a fault, of its first faulty line.
-fn algorithm_read(alloc: Global, text: &[u8]) -> Result<Algorithm, CommandFault>
+pub(crate) fn algorithm_read(alloc: Global, text: &[u8]) -> Result<Algorithm, CommandFault>
     ensures ends { IfOk result LocalLinesEnd }
     ensures leads { IfOk result AccessesLeadOn }
     ensures unread { IfErr result IsAlgorithmFault }

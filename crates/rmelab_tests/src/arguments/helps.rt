@@ -92,26 +92,27 @@ Example: rmelab hunt --variant no-look --seed 1 --rounds 10000 --steps 1000
 
 const EXPLORE: &str = "Tries all schedules up to a bound, for the shortest that goes wrong
 
-Usage: rmelab explore [OPTIONS] --variant <V> --procs <N>
+Usage: rmelab explore [OPTIONS] --procs <N>
 
 Options:
-      --variant <V>   right, no-look, no-ties, renumber, exit-on-crash, count-up or last-skipped
-      --procs <N>     1 to 64 processes
-      --calls <LIST>  lock, unlock, recover, consistent, withdraw, append and close, with commas; lock,unlock without it
-      --crashes <C>   At most C crashes; 0 without it
-      --moves <K>     At most K moves; no bound without it
-      --states <S>    At most S states; 10000000 without it
-      --limit <L>     Numbers up to L; 4 without it
-      --cap <M>       Room for M messages; 1 without it
-      --width <W>     1 to 8 words a message; 1 without it
-      --stuck         Look for stuck states too; not with --moves
-      --jobs <N>      N threads at once; without it, or 0, as many as there are processors
-  -h, --help          Print help
+      --variant <V>       right, no-look, no-ties, renumber, exit-on-crash, count-up or last-skipped
+      --algorithm <FILE>  Run this algorithm, a text, in place of a variant
+      --procs <N>         1 to 64 processes
+      --calls <LIST>      lock, unlock, recover, withdraw, and of a variant consistent, append and close, with commas; lock,unlock without it
+      --crashes <C>       At most C crashes; 0 without it
+      --moves <K>         At most K moves; no bound without it
+      --states <S>        At most S states; 10000000 without it
+      --limit <L>         Numbers up to L; 4 without it
+      --cap <M>           Room for M messages; 1 without it; not with --algorithm
+      --width <W>         1 to 8 words a message; 1 without it; not with --algorithm
+      --stuck             Look for stuck states too; not with --moves or --algorithm
+      --jobs <N>          N threads at once; without it, or 0, as many as there are processors
+  -h, --help              Print help
 
-In: nothing. All schedules are tried whose moves are the start of a call of --calls, one step, or a crash, of which there are at most --crashes: the shorter before the longer. Two worlds are one where their words, their processes, the judge and the crashes left are.
-Out: the schedule of fewest moves that goes wrong, which `rmelab replay --variant V` replays to its fault; `nothing found within K moves`; or, where all was tried, `nothing found: all N states`. With --stuck, where none goes wrong: the schedule of fewest moves to a state from which no starts and steps bring each process to rest with all lock words 0, which replays to a fine verdict; or `never stuck: all N states`. Nothing is said of a greater size, limit or number of crashes.
+In: nothing; with --algorithm the algorithm's text: docs/use/algorithms.md. All schedules are tried whose moves are the start of a call of --calls, one step, or a crash, of which there are at most --crashes: the shorter before the longer. Two worlds are one where their words, their processes, the judge and the crashes left are. An algorithm is searched by one thread.
+Out: the schedule of fewest moves that goes wrong, which `rmelab replay` with the same --variant or --algorithm replays to its fault; `nothing found within K moves`; or, where all was tried, `nothing found: all N states`. With --stuck, where none goes wrong: the schedule of fewest moves to a state from which no starts and steps bring each process to rest with all lock words 0, which replays to a fine verdict; or `never stuck: all N states`. Nothing is said of a greater size, limit or number of crashes.
 Shown: on standard error, where that is a terminal, the states, how many moves deep and the states a second, once a second while it works.
-Exit status: 0 where nothing was found, 1 where a schedule was, 2 after a fault of the words, 3 after one of a device or of memory, or where there are more states than --states.
+Exit status: 0 where nothing was found, 1 where a schedule was, 2 after a fault of the words or the algorithm, 3 after one of a device or of memory, or where there are more states than --states.
 
 Example: rmelab explore --variant no-look --procs 2
 ";

@@ -27,7 +27,7 @@ const NOT_BACK: &str = "rme 1 procs 2 limit 1 cap 1\ncrash 0\n";
 const NO_PROCS: &str = "error: the following required arguments were not provided:
   --procs <N>
 
-Usage: rmelab explore --variant <V> --procs <N>
+Usage: rmelab explore --procs <N> --variant <V>
 
 For more information, try '--help'.
 ";

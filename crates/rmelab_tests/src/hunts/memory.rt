@@ -1,9 +1,11 @@
 //! Each request for memory of searches and of schedules that are shrunk is refused in turn.
 
+use crate::hunts::algorithm_explores::{NO_LOCK, NO_MAILBOX, TWO_AT_ONCE};
 use crate::hunts::explores::GONE_OUT;
 use crate::hunts::shrinks::{LEAST, SMALLEST, TWO_INSIDE};
 use crate::support::row::invoked;
 use crate::support::wanting::all_want_memory;
+use algorithms_tests::texts::others;
 use std::test::Fail;
 
 #[test]
@@ -22,6 +24,20 @@ fn want_of_memory(rt: HostRuntime) -> Result<(), Fail> {
             "",
             "nothing found within 3 moves\n",
         ),
+        invoked(
+            "rmelab explore --algorithm a.lock --procs 2",
+            "",
+            TWO_AT_ONCE,
+        )
+        .beside(("a.lock", str::from_utf8(others::ONE_WORD)?))
+        .ends(1, ""),
+        invoked(
+            "rmelab explore --algorithm a.lock --procs 2 --stuck",
+            "",
+            "",
+        )
+        .ends(2, NO_MAILBOX),
+        invoked("rmelab explore --procs 2", "", "").ends(2, NO_LOCK),
     ];
     all_want_memory(&rt, rt.alloc(), &rows)
 }

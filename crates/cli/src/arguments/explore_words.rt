@@ -1,0 +1,209 @@
+//! Reads the words of `explore`.
+
+ghost use Rattle.std.specs.Prelude.{◌≡◌, ◌↔◌, ◌==◌, true, map, Some, IfOk, IfErr, IsNone, OnOk, OnErr, IsErrOf, string_bytes, codes};
+ghost use Rattle.std.specs.List.{list_all, slice_split};
+ghost use Rattle.clap.specs.Words.{first_of};
+ghost use Rattle.cli.specs.Given.{given_in, is_set, has_call, is_call, alphabet_of, is_algorithm_call, algorithm_calls_of, calls_of};
+ghost use Rattle.cli.specs.ReadWords.{IsAlgorithmSearch, IsFaultOfAlgorithmCalls, IsFaultOfCalls, IsStuckWithin, Reads};
+
+use crate::arguments::args::{
+    AlgorithmCalls, AlgorithmExploreArgs, Alphabet, Command, ExploreArgs,
+};
+use crate::arguments::words::{
+    WordsFault, is_given, is_set, number_of, number_or, str_of, text_of, variant_of,
+};
+use clap::ArgMatches;
+use std::alloc::{AllocError, Global};
+
+/// Whether a search can start this call.
+fn is_call(name: &str) -> bool
+    ensures { result ≡ is_call name.now }
+{
+    matches!(
+        name,
+        "lock" | "unlock" | "recover" | "consistent" | "withdraw" | "append" | "close"
+    )
+}
+
+fn has_call(calls: &[&str], name: &str) -> bool
+    ensures { result ≡ has_call name.now (map (λ call. call.now) calls.now) }
+{
+    calls.contains(&name)
+}
+
+fn are_calls(calls: &[&str]) -> bool
+    ensures { result ≡ list_all (λ call. is_call call.now) calls.now }
+{
+    for call in calls {
+        if !is_call(call) {
+            return false;
+        }
+    }
+    true
+}
+
+/// The calls of this list, which has commas between them.
+fn calls_in(alloc: Global, list: &str) -> Result<Vec<&str>, AllocError>
+    ensures { IfOk result (λ calls. map (λ call. call.now) calls.items ≡ slice_split (λ byte. byte == 44) list.now) }
+{
+    list.split(',').collect(alloc)
+}
+
+#[tactic(auto, using(crate::proofs::Reading::all_calls))]
+fn alphabet_of(alloc: Global, matches: &ArgMatches<'_>) -> Result<Alphabet, WordsFault>
+    ensures ok { IfOk result (λ calls. calls ≡ alphabet_of (calls_of (given_in matches.now))) }
+    ensures known { OnOk result (list_all is_call (calls_of (given_in matches.now)) ≡ true) }
+    ensures bad { IfErr result (IsFaultOfCalls (given_in matches.now)) }
+{
+    let calls = calls_in(alloc, str_of(matches, "calls").unwrap_or("lock,unlock"))?;
+    if !are_calls(&calls) {
+        return Err(WordsFault::BadSize);
+    }
+    Ok(Alphabet {
+        lock: has_call(&calls, "lock"),
+        unlock: has_call(&calls, "unlock"),
+        recover: has_call(&calls, "recover"),
+        consistent: has_call(&calls, "consistent"),
+        withdraw: has_call(&calls, "withdraw"),
+        append: has_call(&calls, "append"),
+        close: has_call(&calls, "close"),
+    })
+}
+
+/// Whether a search looks for stuck states. It does so without a bound on moves.
+fn stuck_of(matches: &ArgMatches<'_>) -> Result<bool, WordsFault>
+    ensures ok { IfOk result (λ stuck. stuck ≡ is_set (codes "stuck") (given_in matches.now)) }
+    ensures unbounded { IfOk result (λ stuck. stuck ≡ true → IsNone (first_of (codes "moves") (given_in matches.now))) }
+    ensures bad { OnErr result (IsErrOf result WordsFault.BadSize × IsStuckWithin (given_in matches.now)) }
+{
+    let stuck = is_set(matches, "stuck");
+    if stuck && str_of(matches, "moves").is_some() {
+        return Err(WordsFault::BadSize);
+    }
+    Ok(stuck)
+}
+
+/// Whether a search of an algorithm can start this call.
+fn is_algorithm_call(name: &str) -> bool
+    ensures { result ≡ is_algorithm_call name.now }
+{
+    matches!(name, "lock" | "unlock" | "recover" | "withdraw")
+}
+
+fn are_algorithm_calls(calls: &[&str]) -> bool
+    ensures { result ≡ list_all (λ call. is_algorithm_call call.now) calls.now }
+{
+    for call in calls {
+        if !is_algorithm_call(call) {
+            return false;
+        }
+    }
+    true
+}
+
+#[tactic(auto, using(crate::proofs::Reading::all_algorithm_calls))]
+fn algorithm_calls_of(alloc: Global, matches: &ArgMatches<'_>) -> Result<AlgorithmCalls, WordsFault>
+    ensures ok { IfOk result (λ calls. calls ≡ algorithm_calls_of (calls_of (given_in matches.now))) }
+    ensures known { OnOk result (list_all is_algorithm_call (calls_of (given_in matches.now)) ≡ true) }
+    ensures bad { IfErr result (IsFaultOfAlgorithmCalls (given_in matches.now)) }
+{
+    let calls = calls_in(alloc, str_of(matches, "calls").unwrap_or("lock,unlock"))?;
+    if !are_algorithm_calls(&calls) {
+        return Err(WordsFault::BadSize);
+    }
+    Ok(AlgorithmCalls {
+        lock: has_call(&calls, "lock"),
+        unlock: has_call(&calls, "unlock"),
+        recover: has_call(&calls, "recover"),
+        withdraw: has_call(&calls, "withdraw"),
+    })
+}
+
+/// The error text where there is nothing to search.
+fn without_lock(alloc: Global) -> Result<String, AllocError> {
+    String::from_str(
+        alloc,
+        "error: there is neither '--variant <V>' nor '--algorithm <FILE>'\n\nFor more information, try '--help'.\n",
+    )
+}
+
+/// The error text for an option that a search of an algorithm does not have.
+fn without_mailbox(alloc: Global) -> Result<String, AllocError> {
+    String::from_str(
+        alloc,
+        "error: with '--algorithm <FILE>' there is no '--stuck', no '--cap' and no '--width'\n\nFor more information, try '--help'.\n",
+    )
+}
+
+/// Whether an algorithm is given, and no option that its search does not have.
+fn is_algorithm_search(matches: &ArgMatches<'_>) -> bool
+    ensures { result ≡ true ↔ IsAlgorithmSearch (given_in matches.now) }
+{
+    is_given(matches, "algorithm")
+        && !is_set(matches, "stuck")
+        && !is_given(matches, "cap")
+        && !is_given(matches, "width")
+}
+
+/// A search of the algorithm with this text.
+fn algorithm_words(
+    alloc: Global,
+    matches: &ArgMatches<'_>,
+    algorithm: String,
+) -> Result<Command, WordsFault>
+    requires { Some (string_bytes algorithm) ≡ first_of (codes "algorithm") (given_in matches.now) }
+    ensures { Reads (codes "explore") (given_in matches.now) result }
+{
+    if is_given(matches, "variant") {
+        return Err(WordsFault::BadVariant);
+    }
+    if !is_algorithm_search(matches) {
+        return Err(WordsFault::Refused {
+            text: without_mailbox(alloc)?,
+        });
+    }
+    Ok(Command::ExploreAlgorithm(AlgorithmExploreArgs {
+        algorithm,
+        procs: number_of(matches, "procs"),
+        calls: algorithm_calls_of(alloc, matches)?,
+        crashes: number_of(matches, "crashes"),
+        moves: number_or(matches, "moves", u64::MAX),
+        states: number_or(matches, "states", 10_000_000),
+        limit: number_or(matches, "limit", 4),
+    }))
+}
+
+/// A search of a variant of the lock.
+fn variant_words(alloc: Global, matches: &ArgMatches<'_>) -> Result<Command, WordsFault>
+    requires { IsNone (first_of (codes "algorithm") (given_in matches.now)) }
+    ensures { Reads (codes "explore") (given_in matches.now) result }
+{
+    if !is_given(matches, "variant") {
+        return Err(WordsFault::Refused {
+            text: without_lock(alloc)?,
+        });
+    }
+    Ok(Command::Explore(ExploreArgs {
+        variant: variant_of(matches, "")?,
+        procs: number_of(matches, "procs"),
+        calls: alphabet_of(alloc, matches)?,
+        crashes: number_of(matches, "crashes"),
+        moves: number_or(matches, "moves", u64::MAX),
+        states: number_or(matches, "states", 10_000_000),
+        limit: number_or(matches, "limit", 4),
+        cap: number_or(matches, "cap", 1),
+        width: number_or(matches, "width", 1),
+        stuck: stuck_of(matches)?,
+        jobs: number_of(matches, "jobs"),
+    }))
+}
+
+/// A search of a variant of the lock, or of an algorithm.
+pub(crate) fn explore_words(alloc: Global, matches: &ArgMatches<'_>) -> Result<Command, WordsFault>
+    ensures { Reads (codes "explore") (given_in matches.now) result }
+{
+    match text_of(alloc, matches, "algorithm")? {
+        Some(algorithm) => algorithm_words(alloc, matches, algorithm),
+        None => variant_words(alloc, matches),
+    }
+}

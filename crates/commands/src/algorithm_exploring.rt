@@ -1,0 +1,152 @@
+//! The command `explore` on an algorithm's text.
+
+ghost use Rattle.std.specs.Prelude.{◌≡◌, false, IfErr, IfOk, OnOk};
+ghost use Rattle.commands.specs.AlgorithmExplores.{AlgorithmExploreEnds, ExploresAlgorithm, calls_of as calls_asked, schedule_of as schedule_by};
+ghost use Rattle.commands.specs.AlgorithmFindings.{line_by, world_call};
+ghost use Rattle.commands.specs.Endings.{FailsToWrite, IsEnded};
+ghost use Rattle.schedule.specs.Schedules.{spelling};
+ghost use Rattle.schedule.specs.Tapes.{Writes};
+
+use crate::exploring::{put_call, tell_all, tell_schedule, tell_within};
+use crate::progress::meter::Meter;
+use crate::progress::screen::Screen;
+use crate::progress::work::Work;
+use crate::schedules::algorithm::algorithm_read;
+use crate::schedules::ending::Ending;
+use crate::schedules::fault::CommandFault;
+use algorithm_explorer::{
+    AlgorithmBounds, AlgorithmExploreFault, Move, SearchOutcome, shortest_algorithm_schedule,
+};
+use algorithms::{Algorithm, Call};
+use cli::arguments::args::{AlgorithmCalls, AlgorithmExploreArgs};
+use rmeworld::Call as WorldCall;
+use schedule::{Count, Line, Schedule, Sink};
+use std::alloc::{AllocError, Global};
+
+/// The calls that the search starts, always in this order.
+fn calls_of(alloc: Global, asked: AlgorithmCalls) -> Result<Vec<Call>, AllocError>
+    ensures { IfOk result (λ calls. calls.items ≡ calls_asked asked) }
+{
+    let mut calls = Vec::new(alloc);
+    put_call(&mut calls, asked.lock, Call::Lock)?;
+    put_call(&mut calls, asked.unlock, Call::Unlock)?;
+    put_call(&mut calls, asked.recover, Call::Recover)?;
+    put_call(&mut calls, asked.withdraw, Call::Withdraw)?;
+    Ok(calls)
+}
+
+/// A call as one of a schedule.
+fn world_call(call: Call) -> WorldCall
+    ensures { result ≡ world_call call }
+{
+    match call {
+        Call::Lock => WorldCall::Lock,
+        Call::Unlock => WorldCall::Unlock,
+        Call::Recover => WorldCall::Recover,
+        Call::Withdraw => WorldCall::Withdraw,
+    }
+}
+
+/// A move as a line of a schedule.
+fn line_of_move(made: &Move) -> Line
+    ensures { result ≡ line_by made.now }
+{
+    match *made {
+        Move::Start(p, call) => Line::Start(p, world_call(call)),
+        Move::Step(p) => Line::Step(p, Count::ONE),
+        Move::Crash(p) => Line::Crash(p),
+    }
+}
+
+/// The moves as a schedule.
+fn schedule_of(
+    alloc: Global,
+    args: &AlgorithmExploreArgs,
+    path: &[Move],
+) -> Result<Schedule, CommandFault>
+    ensures schedule { IfOk result (λ schedule. schedule ≡ schedule_by args.now path.now) }
+    ensures failed { IfErr result (λ fault. fault ≡ CommandFault.OutOfMemory) }
+{
+    let Ok(mut schedule) = Schedule::new(alloc, args.procs, args.limit, 1, 1) else {
+        return Err(CommandFault::OutOfMemory);
+    };
+    for made in path {
+        if schedule.push(line_of_move(made)).is_err() {
+            return Err(CommandFault::OutOfMemory);
+        }
+    }
+    Ok(schedule)
+}
+
+/// Writes the moves as a schedule.
+fn tell_path<W: Sink>(
+    alloc: Global,
+    args: &AlgorithmExploreArgs,
+    path: &[Move],
+    w: &mut W,
+) -> Result<Ending, CommandFault>
+    ensures told { OnOk result (Writes (W.tape w.old) (W.tape w.new) (spelling (schedule_by args.now path.now))) }
+    ensures status { IfOk result (λ ending. ending.status ≡ 1) }
+    ensures ended { IfOk result (IsEnded false (W.tape w.old).failures (W.tape w.new).failures) }
+    ensures failed { IfErr result (FailsToWrite (W.tape w.old) (W.tape w.new)) }
+{
+    let schedule = schedule_of(alloc, args, path)?;
+    tell_schedule(alloc, &schedule, w)
+}
+
+/// Writes the schedule of fewest moves of the algorithm that goes wrong, or that there is none.
+fn tell_shortest<S: Screen, W: Sink>(
+    alloc: Global,
+    algorithm: Algorithm,
+    args: &AlgorithmExploreArgs,
+    screen: &mut S,
+    w: &mut W,
+) -> Result<Ending, CommandFault>
+    ensures ends { ExploresAlgorithm algorithm args.now (W.tape w.old) (W.tape w.new) result }
+    ensures ended { IfOk result (IsEnded false (W.tape w.old).failures (W.tape w.new).failures) }
+{
+    let bounds = AlgorithmBounds {
+        moves: args.moves,
+        states: args.states,
+    };
+    let calls = calls_of(alloc, args.calls)?;
+    let mut meter = Meter::new(screen, Work::Search);
+    let found = shortest_algorithm_schedule(
+        alloc,
+        algorithm,
+        args.procs,
+        args.limit,
+        Some(args.crashes),
+        &calls,
+        &bounds,
+        &mut meter,
+    );
+    meter.end();
+    match found {
+        Ok(SearchOutcome::Path(path)) => tell_path(alloc, args, &path, w),
+        Ok(SearchOutcome::NoneWithin) => tell_within(args.moves, w),
+        Ok(SearchOutcome::Nowhere(states)) => tell_all(states, w),
+        Err(AlgorithmExploreFault::Refused(_)) => Err(CommandFault::BadSize),
+        Err(AlgorithmExploreFault::TooManyStates) => Err(CommandFault::TooManyStates),
+        Err(AlgorithmExploreFault::OutOfMemory) => Err(CommandFault::OutOfMemory),
+    }
+}
+
+/// Runs `explore --algorithm`: reads the algorithm from its text, searches its schedules in this thread, and writes the schedule
+/// of fewest moves that goes wrong, or that there is none. Progress is shown on the screen. `Algorithm`: the text's fault.
+/// `BadSize`: the algorithm is not for this number of processes, or the limit is outside its range. `TooManyStates`: the search
+/// reached more states than it may keep.
+#[tactic(auto, using(crate::proofs::AlgorithmExplores::no_algorithm))]
+pub fn algorithm_explore_command<S: Screen, W: Sink>(
+    alloc: Global,
+    args: &AlgorithmExploreArgs,
+    text: Option<&[u8]>,
+    screen: &mut S,
+    w: &mut W,
+) -> Result<Ending, CommandFault>
+    ensures ends { AlgorithmExploreEnds args.now (W.tape w.old) (W.tape w.new) result }
+    ensures ended { IfOk result (IsEnded false (W.tape w.old).failures (W.tape w.new).failures) }
+{
+    let algorithm = algorithm_read(alloc, text.unwrap_or(&[]))?;
+    tell_shortest(alloc, algorithm, args, screen, w)
+}

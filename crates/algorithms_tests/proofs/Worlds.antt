@@ -35,9 +35,10 @@ use Rattle.algorithm_lab.specs.Heard.{Heard, heard, heard_of_crash}
 use Rattle.algorithm_lab.specs.Monitors.{MonitorState, Part, answered, first_monitor, is_idle, is_idle_process, part_of, phase_refusal, start_on, step_on, crash_on, then_in, unless as unless_heard}
 use Rattle.algorithm_lab.specs.Refusals.{number_of as number_of_run}
 use Rattle.algorithms_tests.specs.Runs.{Move, Start, Step, Crash, Tells, Refuses, Outcome, all_said, left_by, core_call, answer_number, deed_told, refused, unless, stepped, step_by, lock_move, begun_by, moved_by, text_move, SameWords}
-use Rattle.algorithms.specs.Worlds.{WorldState, access_at, after_step, begun, entry_of, resting, stored, taken_by, under_way, with_process}
+use Rattle.algorithms.specs.Worlds.{WorldState, access_at, after_step, begun, entry_of, resting, said as said_of, stored, taken_by, under_way, with_process}
 use Rattle.algorithms.specs.Steps.{acted}
 use Rattle.algorithms.specs.declared.access.Access.{Access}
+use Rattle.algorithms.specs.declared.access.Advanced.{Advanced}
 use Rattle.algorithms.specs.declared.access.Taken.{Taken}
 use Rattle.algorithms.specs.declared.algorithm.Algorithm.{Algorithm}
 use Rattle.algorithms.specs.declared.algorithm.Call.{Call}
@@ -321,7 +322,8 @@ module _ (a : Algorithm) (b : IsBakery a) (n limit : ℕ) (most : n ≤ 64) (hig
 
     abbrev step_done : ℕ → Result Taken AlgorithmRefusal → Result Part RunRefusal
     step_done p r =
-        then_in (λ (s : Taken × WorldState). part_of m p s.1 (heard a.promises p (phase_now p) s.0.moved.noted) s.0.moved.answer) (r >>= (λ t. Ok (t, after_step (world rows ts) p t)))
+        then_in (λ (s : Advanced × WorldState). part_of m p s.1 (heard a.promises p (phase_now p) s.0.noted) s.0.answer)
+        ((r >>= (λ t. Ok (t, after_step (world rows ts) p t))) >>= said_of)
 
     abbrev step_from : ℕ → Option Process → Result Part RunRefusal
     step_from p o = step_done p (ok_or o NoSuchProcess >>= (λ process. taken_by a (me p) rows process))

@@ -123,9 +123,11 @@ pub fn rule_in(entry: DictionaryEntry) -> Option<Rule> {
         DictionaryEntry::Rule(rule) => Some(rule),
         DictionaryEntry::Fault(_)
         | DictionaryEntry::Refused(_)
+        | DictionaryEntry::AlgorithmRefused(_)
         | DictionaryEntry::Against(_)
         | DictionaryEntry::Answer(_)
-        | DictionaryEntry::Step(_) => None,
+        | DictionaryEntry::Step(_)
+        | DictionaryEntry::AlgorithmFault(_) => None,
     }
 }
 

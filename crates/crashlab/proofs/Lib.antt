@@ -29,3 +29,6 @@ pub mod Numbers
 pub mod Played
 pub mod JudgeTells
 pub mod SearchStateTells
+pub mod ReducedSteps
+pub mod ReducedVariants
+pub mod ReducedWorlds

@@ -22,3 +22,4 @@ pub mod Spaces
 pub mod Numbered
 pub mod FoundBy
 pub mod SearchStateWords
+pub mod Reduced

@@ -2,6 +2,8 @@
 
 pub mod jugs;
 #[cfg(test)]
+mod reduced;
+#[cfg(test)]
 mod schedules;
 #[cfg(test)]
 mod searches;

@@ -1,5 +1,5 @@
 use Rattle.std.proofs.Common.{subst, sym}
-use Rattle.crashlab.specs.Shrunk.{IsLowered}
+use Rattle.crashlab.specs.Least.{IsLowered}
 use Rattle.crashlab.proofs.Sizes.{without_line, with_lowered}
 use Rattle.crashlab.proofs.Needed.{needed_after, needed_whole}
 use Rattle.crashlab.proofs.shrinking.least.less_at.Goals as goal

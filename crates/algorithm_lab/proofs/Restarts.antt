@@ -121,16 +121,16 @@ start_by_leaves m p None = tt
 
 steps_leave : (p n : ℕ) (m : MonitorState) → restarted (steps p n m).left ≡ restarted m
 steps_leave p zero m = refl
-steps_leave p (suc n) m = by (step_on m p) (step_leaves m p)
+steps_leave p (suc n) m = by (step_on m p) (step_leaves m p) (steps_leave p n)
   where
-    ended : (part : Part) (b : Bool) → restarted part.left ≡ restarted m
+    ended : (part : Part) (b : Bool) → restarted part.left ≡ restarted m → restarted (steps p n part.left).left ≡ restarted part.left
         → restarted (if b then record { told = part.told; left = part.left; refused = None } else preceded part.told (steps p n part.left)).left ≡ restarted m
-    ended part true leaves = leaves
-    ended part false leaves = steps_leave p n part.left ∙ leaves
+    ended part true leaves rest = leaves
+    ended part false leaves rest = rest ∙ leaves
 
-    by : (r : Result Part RunRefusal) → LeavesPart m r → restarted (after_step r m (steps p n)).left ≡ restarted m
-    by (Ok part) leaves = ended part part.ended leaves
-    by (Err e) leaves = refl
+    by : (r : Result Part RunRefusal) → LeavesPart m r → ((other : MonitorState) → restarted (steps p n other).left ≡ restarted other) → restarted (after_step r m (steps p n)).left ≡ restarted m
+    by (Ok part) leaves rest = ended part part.ended leaves (rest part.left)
+    by (Err e) leaves rest = refl
 
 line_leaves : (m : MonitorState) (line : Line) → restarted (line_on m line).left ≡ restarted m
 line_leaves m (Start p call) = started_leaves m (start_by m p (call_of call)) (start_by_leaves m p (call_of call))
@@ -140,8 +140,9 @@ line_leaves m (Crash p) = crashed_leaves m (crash_on m p) (crash_leaves m p)
 -- what a run leaves begins anew as the monitor before it
 pub run_leaves : (k : ℕ) (m : MonitorState) (lines : List Line) → restarted (run_on k m lines).left ≡ restarted m
 run_leaves k m [] = refl
-run_leaves k m (line ∷ lines) = by (line_on m line).refused
+run_leaves k m (line ∷ lines) = by (line_on m line).refused (run_leaves (k + 1) (line_on m line).left lines)
   where
-    by : (o : Option RunRefusal) → restarted (followed k (line_on m line) o (run_on (k + 1) (line_on m line).left lines)).left ≡ restarted m
-    by None = run_leaves (k + 1) (line_on m line).left lines ∙ line_leaves m line
-    by (Some e) = line_leaves m line
+    by : (o : Option RunRefusal) → restarted (run_on (k + 1) (line_on m line).left lines).left ≡ restarted (line_on m line).left
+        → restarted (followed k (line_on m line) o (run_on (k + 1) (line_on m line).left lines)).left ≡ restarted m
+    by None rest = rest ∙ line_leaves m line
+    by (Some e) rest = line_leaves m line

@@ -8,6 +8,8 @@ mod bridge;
 #[cfg(test)]
 mod hostile_texts;
 #[cfg(test)]
+mod hunts;
+#[cfg(test)]
 mod replays;
 #[cfg(test)]
 mod reports;
@@ -17,4 +19,6 @@ mod runs;
 mod schedules;
 #[cfg(test)]
 mod searches;
+#[cfg(test)]
+mod shrinks;
 pub mod texts;

@@ -2,8 +2,7 @@
 
 use crate::texts::{bakeries, others};
 use algorithm_explorer::{
-    AlgorithmBounds, AlgorithmExploreFault, SearchOutcome, Unwatched,
-    shortest_algorithm_schedule,
+    AlgorithmBounds, AlgorithmExploreFault, SearchOutcome, Unwatched, shortest_algorithm_schedule,
 };
 use algorithms::{AlgorithmRefusal, Call, read_algorithm};
 use std::alloc::Global;
@@ -141,8 +140,9 @@ fn other_algorithms(rt: HostRuntime) -> Result<(), Fail> {
 #[test]
 fn refused_sizes(rt: HostRuntime) -> Result<(), Fail> {
     let alloc = rt.alloc();
-    let algorithm =
-        read_algorithm(alloc, others::PETERSON).map_err(|_| Fail::from("an algorithm"))?;
+    let algorithm = read_algorithm(alloc, others::PETERSON).map_err(|_| Fail::from(
+        "an algorithm",
+    ))?;
     let found = shortest_algorithm_schedule(
         alloc,
         algorithm,

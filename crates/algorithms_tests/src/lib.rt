@@ -6,6 +6,8 @@ mod bad_texts;
 #[cfg(test)]
 mod bridge;
 #[cfg(test)]
+mod drawings;
+#[cfg(test)]
 mod hostile_texts;
 #[cfg(test)]
 mod replays;

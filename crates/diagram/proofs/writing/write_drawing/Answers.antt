@@ -6,4 +6,4 @@ use Rattle.diagram.proofs.writing.write_drawing.Goals as goal
 pub returns-in_err-lifeline_state : goal.returns-in_err-lifeline_state
 returns-in_err-lifeline_state g c =
     let p = err_from_is_err_and c.from_residual.result c.from_residual.ensures.1 in
-    rw (p.1, p.2) (wants_memory (g.W.Sink.tape c.args.w.now) _ (drawing_some _ _ _ _))
+    rw (p.1, p.2) (wants_memory (g.W.Sink.tape c.args.w.now) _ (drawing_some _ _ _ _ _))

@@ -73,10 +73,14 @@ abbrev pub deed_line : Option Deed → List ℕ
 deed_line None = []
 deed_line (Some deed) = told_line (Did deed)
 
+-- the lines that a row reports
+abbrev pub reports : Option Deed → List ℕ → List ℕ
+reports deed answer = deed_line deed ++ answer
+
 -- the title of a row, which a viewer shows where the reader points at it
 unfoldable pub row_title : ShownRowState → List ℕ
 row_title row =
-    around (codes "<title>process ") row.p (codes " ") ++ row.sign ++ 10 ∷ (deed_line row.deed ++ row.answer ++ codes "</title>")
+    around (codes "<title>process ") row.p (codes " ") ++ row.sign ++ 10 ∷ (reports row.deed row.answer ++ codes "</title>")
 
 -- the dot of a step, with its access
 unfoldable pub step_mark : ℕ → List ℕ → List ℕ

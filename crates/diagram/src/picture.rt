@@ -1,7 +1,7 @@
 //! The rows of the SVG drawing.
 
 ghost use Rattle.std.specs.Prelude.{◌≡◌, ◌≤◌, ◌++◌, OnOk};
-ghost use Rattle.diagram.specs.Pictures.{deed_line, flag, join, joint, left_of, margin, marked_by, remarks, remarks_at, right_of, row_picture, row_title, step_mark};
+ghost use Rattle.diagram.specs.Pictures.{deed_line, flag, join, joint, left_of, margin, marked_by, remarks, remarks_at, reports, right_of, row_picture, row_title, step_mark};
 
 use crate::lifelines::{far_from, put_group, put_group_end, put_lifeline_if, x_of};
 use crate::mark::Mark;
@@ -21,6 +21,14 @@ fn put_deed_line(out: &mut Vec<u8>, deed: &Option<Deed>) -> Result<(), AllocErro
     }
 }
 
+/// Writes the lines that a row reports.
+fn put_reports(out: &mut Vec<u8>, deed: &Option<Deed>, answer: &[u8]) -> Result<(), AllocError>
+    ensures { OnOk result (out.new.items ≡ out.old.items ++ reports deed.now answer.now) }
+{
+    put_deed_line(out, deed)?;
+    put_text(out, answer)
+}
+
 /// Writes the title of a row, which a viewer shows where the reader points at it.
 #[tactic(auto, unfolding(crate::specs::Pictures::row_title))]
 fn put_title(out: &mut Vec<u8>, row: &ShownRow) -> Result<(), AllocError>
@@ -29,8 +37,7 @@ fn put_title(out: &mut Vec<u8>, row: &ShownRow) -> Result<(), AllocError>
     put_around(out, b"<title>process ", row.p, b" ")?;
     put_text(out, row.sign.as_slice())?;
     put_text(out, b"\n")?;
-    put_deed_line(out, &row.deed)?;
-    put_text(out, row.answer.as_slice())?;
+    put_reports(out, &row.deed, row.answer.as_slice())?;
     put_text(out, b"</title>")
 }
 

@@ -78,9 +78,9 @@ abbrev pub reports : Option Deed → List ℕ → List ℕ
 reports deed answer = deed_line deed ++ answer
 
 -- the title of a row, which a viewer shows where the reader points at it
-unfoldable pub row_title : ShownRowState → List ℕ
-row_title row =
-    around (codes "<title>process ") row.p (codes " ") ++ row.sign ++ 10 ∷ (reports row.deed row.answer ++ codes "</title>")
+unfoldable pub row_title : ℕ → List ℕ → Option Deed → List ℕ → List ℕ
+row_title p sign deed answer =
+    around (codes "<title>process ") p (codes " ") ++ sign ++ 10 ∷ (reports deed answer ++ codes "</title>")
 
 -- the dot of a step, with its access
 unfoldable pub step_mark : ℕ → List ℕ → List ℕ
@@ -125,7 +125,7 @@ flag marked far =
 
 -- the part of a row at the lifeline of its process, with this much room below it
 unfoldable pub left_of : ShownRowState → ℕ → List ℕ
-left_of row below = row_title row ++ lifeline_if row.phase below ++ marked_by row.mark row.p row.sign
+left_of row below = row_title row.p row.sign row.deed row.answer ++ lifeline_if row.phase below ++ marked_by row.mark row.p row.sign
 
 -- the part of a row at its right
 unfoldable pub right_of : ShownRowState → ℕ → Bool → List ℕ

@@ -31,13 +31,19 @@ fn put_reports(out: &mut Vec<u8>, deed: &Option<Deed>, answer: &[u8]) -> Result<
 
 /// Writes the title of a row, which a viewer shows where the reader points at it.
 #[tactic(auto, unfolding(crate::specs::Pictures::row_title))]
-fn put_title(out: &mut Vec<u8>, row: &ShownRow) -> Result<(), AllocError>
-    ensures { OnOk result (out.new.items ≡ out.old.items ++ row_title row.now) }
+fn put_title(
+    out: &mut Vec<u8>,
+    p: u64,
+    sign: &[u8],
+    deed: &Option<Deed>,
+    answer: &[u8],
+) -> Result<(), AllocError>
+    ensures { OnOk result (out.new.items ≡ out.old.items ++ row_title p sign.now deed.now answer.now) }
 {
-    put_around(out, b"<title>process ", row.p, b" ")?;
-    put_text(out, row.sign.as_slice())?;
+    put_around(out, b"<title>process ", p, b" ")?;
+    put_text(out, sign)?;
     put_text(out, b"\n")?;
-    put_reports(out, &row.deed, row.answer.as_slice())?;
+    put_reports(out, deed, answer)?;
     put_text(out, b"</title>")
 }
 
@@ -171,7 +177,13 @@ fn put_right(out: &mut Vec<u8>, row: &ShownRow, far: u64, marked: bool) -> Resul
 fn put_left(out: &mut Vec<u8>, row: &ShownRow, below: u64) -> Result<(), AllocError>
     ensures { OnOk result (out.new.items ≡ out.old.items ++ left_of row.now below) }
 {
-    put_title(out, row)?;
+    put_title(
+        out,
+        row.p,
+        row.sign.as_slice(),
+        &row.deed,
+        row.answer.as_slice(),
+    )?;
     put_lifeline_if(out, row.phase, below)?;
     put_mark(out, row.mark, row.p, row.sign.as_slice())
 }

@@ -5,7 +5,7 @@ use Rattle.algorithms.specs.Worlds.{WorldState, after_step, step, taken}
 use Rattle.algorithms.specs.declared.access.Taken.{Taken}
 use Rattle.algorithms.specs.declared.refusal.AlgorithmRefusal.{AlgorithmRefusal}
 
-first_of : Result (Taken × WorldState) AlgorithmRefusal → Result Taken AlgorithmRefusal
+abbrev first_of : Result (Taken × WorldState) AlgorithmRefusal → Result Taken AlgorithmRefusal
 first_of (Ok pair) = Ok pair.0
 first_of (Err e) = Err e
 

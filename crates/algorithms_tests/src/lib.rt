@@ -7,6 +7,8 @@ mod bad_texts;
 mod hostile_texts;
 pub mod laws;
 #[cfg(test)]
+mod hunts;
+#[cfg(test)]
 mod replays;
 #[cfg(test)]
 mod reports;
@@ -16,6 +18,8 @@ mod runs;
 mod schedules;
 #[cfg(test)]
 mod searches;
+#[cfg(test)]
+mod shrinks;
 #[cfg(test)]
 mod spelling;
 pub mod texts;

@@ -1,14 +1,15 @@
 -- Monitors that begin anew.
-use Rattle.std.proofs.Common.{◌≡◌, ℕ, zero, suc, ◌+◌, Bool, true, false, if◌then◌else◌, List, [], ◌∷◌, length, replicate, Option, Some, None, Result, Ok, Err, refl, sym, ap, ◌∙◌}
-use Rattle.std.specs.Prelude.{nat_lt, slice_get, slice_set}
+use Rattle.std.proofs.Common.{◌≡◌, ℕ, zero, suc, ◌+◌, Bool, true, false, if◌then◌else◌, List, [], ◌∷◌, length, replicate, Option, Some, None, Result, Ok, Err, refl, ◌∙◌}
+use Rattle.std.specs.Prelude.{slice_set}
 use Rattle.std.proofs.lemmas.List.{length-replicate, length-set}
 use Rattle.rmecore.specs.declared.phase.Phase.{Phase}
 use Rattle.rmecore.specs.declared.phase.Phase.TheVariants.{Out}
 use Rattle.schedule.specs.declared.lines.line.Line.{Line}
 use Rattle.schedule.specs.declared.lines.line.Line.TheVariants.{Start, Step, Crash}
 use Rattle.algorithms.specs.Arrivals.{◌>>=◌}
-use Rattle.algorithms.specs.Worlds.{no_names, resting, stored, stored_in, process_of, started as process_started, taken, after_step as world_after_step, with_process}
-use Rattle.algorithms.specs.declared.access.Address.{Address}
+use Rattle.algorithms.proofs.Worlds.{stored_many}
+use Rattle.algorithms.specs.Steps.{advanced}
+use Rattle.algorithms.specs.Worlds.{no_names, resting, stored, process_of, started as process_started, taken, after_step as world_after_step, said, with_process}
 use Rattle.algorithms.specs.declared.access.Taken.{Taken}
 use Rattle.algorithms.specs.declared.algorithm.Algorithm.{Algorithm}
 use Rattle.algorithms.specs.declared.algorithm.Call.{Call}
@@ -50,19 +51,6 @@ restarted_twice m =
     restarts_with m (replicate (length m.world.words) (replicate 64 0)) (replicate (length m.world.processes) resting) (replicate (length m.phases) Out)
     (length-replicate (length m.world.words) (replicate 64 0)) (length-replicate (length m.world.processes) resting) (length-replicate (length m.phases) Out)
 
-length_stored_in : (words : List (List ℕ)) (address : Address) (v : ℕ) (row : Option (List ℕ)) → length (stored_in words address v row) ≡ length words
-length_stored_in words address v None = refl
-length_stored_in words address v (Some row) = length-set words address.declaration (slice_set row address.index v)
-
-length_if : (b : Bool) (words others : List (List ℕ)) → length others ≡ length words → length (if b then others else words) ≡ length words
-length_if true words others same = same
-length_if false words others same = refl
-
-length_stored : (words : List (List ℕ)) (address : Address) (stores : Option ℕ) → length (stored words address stores) ≡ length words
-length_stored words address None = refl
-length_stored words address (Some v) =
-    length_if (nat_lt address.index 64) words (stored_in words address v (slice_get words address.declaration)) (length_stored_in words address v (slice_get words address.declaration))
-
 -- ---- starts, steps and crashes
 
 -- what it leaves begins anew as this monitor does
@@ -89,10 +77,12 @@ step_leaves : (m : MonitorState) (p : ℕ) → LeavesPart m (step_on m p)
 step_leaves m p = by (taken m.world p)
   where
     by : (r : Result Taken AlgorithmRefusal)
-        → LeavesPart m (then_in (λ s. part_of m p s.1 (heard m.world.algorithm.promises p (phase_of m p) s.0.moved.noted) s.0.moved.answer) (r >>= λ t. Ok (t, world_after_step m.world p t)))
+        → LeavesPart m (then_in (λ s. part_of m p s.1 (heard m.world.algorithm.promises p (phase_of m p) s.0.noted) s.0.answer) ((r >>= λ t. Ok (t, world_after_step m.world p t)) >>= said))
     by (Ok t) =
-        restarts_with m (stored m.world.words t.access.address t.access.stores) (slice_set m.world.processes p t.moved.process) (slice_set m.phases p (heard m.world.algorithm.promises p (phase_of m p) t.moved.noted).phase)
-        (length_stored m.world.words t.access.address t.access.stores) (length-set m.world.processes p t.moved.process) (length-set m.phases p (heard m.world.algorithm.promises p (phase_of m p) t.moved.noted).phase)
+        let after : List Phase = slice_set m.phases p (heard m.world.algorithm.promises p (phase_of m p) (advanced t).noted).phase in
+        restarts_with m (stored m.world.words t.access.address t.access.stores) (slice_set m.world.processes p t.moved.process) after
+        (stored_many m.world.words t.access.address t.access.stores) (length-set m.world.processes p t.moved.process)
+        (length-set m.phases p (heard m.world.algorithm.promises p (phase_of m p) (advanced t).noted).phase)
     by (Err e) = tt
 
 crash_leaves : (m : MonitorState) (p : ℕ) → LeavesPart m (crash_on m p)

@@ -1,6 +1,6 @@
 //! Hunts on algorithms. What the hunt of a seed finds was found with the reference program and the drawing rule.
 
-use crate::texts::others;
+use crate::texts::{bakeries, others};
 use algorithm_explorer::{AlgorithmHuntFault, hunt_algorithm_schedule};
 use algorithms::{Algorithm, AlgorithmRefusal, read_algorithm};
 use memory_limit::ScarceMemory;
@@ -75,6 +75,45 @@ fn found_schedules(rt: HostRuntime) -> Result<(), Fail> {
     let alloc = rt.alloc();
     compare(&rt, alloc, others::ONE_WORD, 2, FOUND_OF_SEED_2)?;
     compare(&rt, alloc, others::PETERSON, 1, FOUND_OF_SEED_1)
+}
+
+/// How many moves the schedule has that the hunt of a seed finds, with 20 rounds of 1000 moves.
+fn moves_of(
+    alloc: Global,
+    text: &[u8],
+    procs: u64,
+    limit: u64,
+    seed: u64,
+) -> Result<Option<usize>, Fail> {
+    let algorithm = read_algorithm(alloc, text)?;
+    let found = hunt_algorithm_schedule(alloc, algorithm, procs, limit, seed, 20, 1000)?;
+    Ok(found.map(|schedule| schedule.lines().len()))
+}
+
+#[test]
+fn wrong_bakeries(rt: HostRuntime) -> Result<(), Fail> {
+    let alloc = rt.alloc();
+    assert_eq!(rt; moves_of(alloc, bakeries::NO_LOOK, 2, 1, 2)?, Some(208));
+    assert_eq!(rt; moves_of(alloc, bakeries::NO_TIES, 2, 1, 1)?, Some(213));
+    assert_eq!(rt; moves_of(alloc, bakeries::RENUMBER, 2, 3, 1)?, Some(68));
+    assert_eq!(rt;
+        moves_of(alloc, bakeries::EXIT_ON_CRASH, 1, 1, 1)?,
+        Some(25)
+    );
+    assert_eq!(rt; moves_of(alloc, bakeries::BAKERY, 2, 1, 1)?, None);
+    Ok(())
+}
+
+#[test]
+fn the_same_seed(rt: HostRuntime) -> Result<(), Fail> {
+    let alloc = rt.alloc();
+    let first = hunted(alloc, others::PETERSON, 2, 20, 1000)??.ok_or("a schedule")?;
+    let second = hunted(alloc, others::PETERSON, 2, 20, 1000)??.ok_or("a schedule")?;
+    assert_eq!(rt; first.lines().len(), 302);
+    let first = write_schedule(alloc, &first)?;
+    let second = write_schedule(alloc, &second)?;
+    assert!(rt; first == second);
+    Ok(())
 }
 
 #[test]

@@ -5,9 +5,9 @@
 mod bad_texts;
 #[cfg(test)]
 mod hostile_texts;
-pub mod laws;
 #[cfg(test)]
 mod hunts;
+pub mod laws;
 #[cfg(test)]
 mod replays;
 #[cfg(test)]

@@ -1,5 +1,5 @@
 -- What is drawn of a run of an algorithm.
-use Rattle.std.specs.Prelude.{◌≡◌, ℕ, ◌+◌, ◌-◌, ◌^◌, min, false, List, [], map, Option, Some, None, Result, Ok, Err}
+use Rattle.std.specs.Prelude.{◌≡◌, ℕ, ◌+◌, ◌-◌, ◌^◌, min, false, List, [], map, Option, Some, None, unwrap_or, Result, Ok, Err}
 use Rattle.schedule.specs.Tapes.{Tape, Writes, Begins, BreaksOff}
 use Rattle.schedule.specs.declared.lines.line.Line.{Line}
 use Rattle.schedule.specs.declared.replays.replay_fault.ReplayFault.{ReplayFault}
@@ -25,15 +25,10 @@ use Rattle.diagram.specs.AlgorithmEvents.{events_on}
 use Rattle.diagram.specs.AlgorithmRows.{shown_in, with_events}
 use Rattle.diagram.specs.Drawings.{diagram_layout_of, spelled_from, undrawn}
 
--- the number of a refusal; 0 for out of memory, which is none of a run's
-abbrev pub number_shown : Option ℕ → ℕ
-number_shown None = 0
-number_shown (Some number) = number
-
--- how a run ends, with the verdict on what it reports
+-- how a run ends, with the verdict on what it reports. Out of memory, which has no number, refuses no line
 abbrev pub end_by : Option (ℕ × RunRefusal) → Verdict → End
 end_by None verdict = Judged verdict
-end_by (Some (line, refusal)) verdict = Refused line (number_shown (number_of refusal)) verdict
+end_by (Some (line, refusal)) verdict = Refused line (unwrap_or (number_of refusal) 0) verdict
 
 abbrev pub end_of : Run (ℕ × RunRefusal) → End
 end_of run = end_by run.refused (verdict_of run.left.world.procs run.told)

@@ -29,7 +29,8 @@ fn counted_row(row: &AlgorithmRow, p: u64, act: AlgorithmAct) -> Option<Algorith
     let AlgorithmAct::Blocked(again, read, _) = act else {
         return None;
     };
-    if p == row.p && is_same_word(again, word) && read == value && times < u64::MAX {
+    let is_again = is_same_word(again, word);
+    if p == row.p && is_again && read == value && times < u64::MAX {
         Some(AlgorithmRow {
             p: row.p,
             act: AlgorithmAct::Blocked(word, value, times + 1),

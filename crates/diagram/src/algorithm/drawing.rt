@@ -1,12 +1,11 @@
 //! Draws the run of a schedule on an algorithm.
 
-ghost use Rattle.std.specs.Prelude.{◌≡◌, [], IfOk, map};
-ghost use Rattle.algorithm_lab.specs.Reports.{verdict_of as verdict_for};
+ghost use Rattle.std.specs.Prelude.{◌≡◌, false, IfOk};
 ghost use Rattle.algorithm_lab.specs.Replays.{run_of};
 ghost use Rattle.algorithm_lab.specs.Runs.{run_on};
 ghost use Rattle.schedule.specs.Schedules.{head_of};
 ghost use Rattle.diagram.specs.AlgorithmDrawings.{algorithm_text, answer_by, drawn_text, DrawsRun, end_by, IsDrawing, run_text};
-ghost use Rattle.diagram.specs.Drawings.{Spells};
+ghost use Rattle.diagram.specs.Drawings.{diagram_layout_of as diagram_layout_for, Spells};
 
 use crate::algorithm::collecting::take_lines;
 use crate::algorithm::row::AlgorithmRow;
@@ -63,6 +62,22 @@ fn played(
     })
 }
 
+/// What a drawing has beside its rows.
+fn outline_of(style: Style, head: Head, drawing: &AlgorithmDrawing) -> Outline
+    ensures { let end = end_by drawing.now.refused drawing.now.verdict in result ≡ record {
+      diagram_layout = diagram_layout_for style head drawing.now.rows.items end;
+      mailbox = false;
+      end = end;
+    } }
+{
+    let end = end_of(drawing.refused, drawing.verdict);
+    Outline {
+        diagram_layout: layout_with(style, head, drawing.rows.len() as u64, &end),
+        mailbox: false,
+        end,
+    }
+}
+
 /// Writes the drawing of rows.
 fn write_algorithm<W: Sink>(
     alloc: Global,
@@ -75,12 +90,7 @@ fn write_algorithm<W: Sink>(
     ensures { Spells (W.tape w.old) (W.tape w.new) (algorithm_text style head algorithm.now drawing.now.rows.items
         (end_by drawing.now.refused drawing.now.verdict)) result }
 {
-    let end = end_of(drawing.refused, drawing.verdict);
-    let outline = Outline {
-        diagram_layout: layout_with(style, head, drawing.rows.len() as u64, &end),
-        mailbox: false,
-        end,
-    };
+    let outline = outline_of(style, head, drawing);
     let mut lifeline_state = LifelineState::new(alloc, head.procs, LifelinePhase::Rest)?;
     let mut buffers = Buffers::new(alloc);
     write_parts(

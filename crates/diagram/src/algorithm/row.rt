@@ -97,12 +97,12 @@ fn put_access(
 ) -> Result<(), AllocError>
     ensures { OnOk result (out.new.items ≡ out.old.items ++ access_sign algorithm.now access value) }
 {
-    if access.stores.is_none() {
-        return put_load(out, algorithm, access.address, value);
+    if access.stores.is_some() {
+        put_text(out, b"w ")?;
+        put_word(out, algorithm, access.address)?;
+        return put_piece(out, b"=", value);
     }
-    put_text(out, b"w ")?;
-    put_word(out, algorithm, access.address)?;
-    put_piece(out, b"=", value)
+    put_load(out, algorithm, access.address, value)
 }
 
 /// Writes a blocked reading: one that is repeated as `await turn 1 ×17`.

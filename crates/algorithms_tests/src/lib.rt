@@ -4,6 +4,8 @@
 #[cfg(test)]
 mod bad_texts;
 #[cfg(test)]
+mod drawings;
+#[cfg(test)]
 mod hostile_texts;
 pub mod laws;
 #[cfg(test)]

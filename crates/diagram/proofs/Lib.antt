@@ -14,3 +14,5 @@ pub mod Seen
 pub mod Watching
 pub mod Undone
 pub mod LinesTold
+pub mod AlgorithmSteps
+pub mod AlgorithmDrawn

@@ -47,6 +47,11 @@ impl Model for World {
     ghost invariant = { λ w. vec_len w.processes ≡ w.procs };
 }
 
+const RESTING: Process = Process {
+    place: Place::Rest,
+    store: [0; NAMES],
+};
+
 /// The access line at a place.
 fn access_at(algorithm: &Algorithm, at: usize) -> Result<&AccessLine, AlgorithmRefusal>
     ensures ok { IfOk result (λ line. access_at algorithm.now at ≡ Ok line.now) }
@@ -221,16 +226,30 @@ fn all_at_rest(alloc: Global, count: usize) -> Result<Vec<Process>, AlgorithmRef
 {
     let mut processes = Vec::with_capacity(alloc, count)?;
     for process in 0..count {
-        processes.push(Process {
-            place: Place::Rest,
-            store: [0; NAMES],
-        })?;
+        processes.push(RESTING)?;
     }
     Ok(processes)
 }
 
+#[tactic(auto, using(crate::proofs::Worlds::set_next))]
+fn zero_all(rows: &mut [[u64; MOST_PROCS]])
+    ensures { rows.new ≡ replicate (length rows.old) (replicate 64 0) }
+{
+    for row in 0..rows.len() {
+        rows[row] = [0; MOST_PROCS];
+    }
+}
+
+fn rest_all(processes: &mut [Process])
+    ensures { processes.new ≡ replicate (length processes.old) resting }
+{
+    for process in 0..processes.len() {
+        processes[process] = RESTING;
+    }
+}
+
 impl World {
-    ghost use Rattle.algorithms.specs.Worlds.{first_world, new_refusal, cause, constants_of, process_of, start, started, step, advance, crash, with_process};
+    ghost use Rattle.algorithms.specs.Worlds.{first_world, new_refusal, cause, constants_of, process_of, start, started, step, advance, crash, restarted, with_process};
 
     /// A world with all words 0 and all processes at rest. `limit` is the algorithm's `limit`.
     ///
@@ -364,6 +383,14 @@ impl World {
             store: [0; NAMES],
         };
         Ok(())
+    }
+
+    /// Makes all words 0 and puts all processes at rest, as in a new world of the same sizes.
+    pub fn restart(&mut self)
+        ensures { self.new ≡ restarted self.old }
+    {
+        zero_all(self.words.as_mut_slice());
+        rest_all(self.processes.as_mut_slice());
     }
 
     /// The private memory of a process.

@@ -7,6 +7,8 @@ mod bad_texts;
 mod drawings;
 #[cfg(test)]
 mod hostile_texts;
+#[cfg(test)]
+mod hunts;
 pub mod laws;
 #[cfg(test)]
 mod replays;
@@ -18,6 +20,8 @@ mod runs;
 mod schedules;
 #[cfg(test)]
 mod searches;
+#[cfg(test)]
+mod shrinks;
 #[cfg(test)]
 mod spelling;
 pub mod texts;

@@ -11,7 +11,7 @@ pub mod report;
 pub mod run_refusal;
 pub mod told;
 
-pub use monitor::Monitor;
+pub use monitor::{Monitor, MonitorCheckpoint};
 pub use playing::{play_line, play_lines};
 pub use replay_fault::AlgorithmReplayFault;
 pub use replaying::replay_algorithm;

@@ -20,3 +20,5 @@ pub mod Helps
 pub mod Semantics
 pub mod LockSimulations
 pub mod Sessions
+pub mod AlgorithmStandings
+pub mod AlgorithmSimulations

@@ -84,7 +84,7 @@ impl Simulation for LockSimulation {
 
     ghost begins_again = { λ s before head. refl };
 
-    fn restart(&mut self, alloc: Global, head: Head) -> Result<(), AllocError> {
+    fn begin(&mut self, alloc: Global, head: Head) -> Result<(), AllocError> {
         *self = LockSimulation::new(alloc, head)?;
         Ok(())
     }

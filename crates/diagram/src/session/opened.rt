@@ -55,7 +55,7 @@ fn go_to<S: Simulation>(
     ensures { OnOk result (simulation.new ≡ state_of S.semantics simulation.old schedule.now) }
 {
     let head = schedule.head();
-    simulation.restart(alloc, head)?;
+    simulation.begin(alloc, head)?;
     play_all(alloc, simulation, head, schedule.lines())
 }
 

@@ -15,7 +15,7 @@ pub trait Simulation: Drop {
     ghost semantics: { Semantics Self };
 
     /// Goes to where a schedule with this header begins. `Err`: out of memory, or no world has the sizes.
-    fn restart(&mut self, alloc: Global, head: Head) -> Result<(), AllocError>
+    fn begin(&mut self, alloc: Global, head: Head) -> Result<(), AllocError>
         ensures { OnOk result (self.new ≡ semantics.first self.old head) };
 
     /// Plays a line of a schedule with this header, and writes each of its steps. Answers the number of a refusal; then

@@ -1,9 +1,11 @@
 -- The simulation of an algorithm: a world of it with its monitor.
-use Rattle.std.specs.Prelude.{ℕ, zero, suc, ◌+◌, List, [], ◌∷◌, ◌++◌, codes, Option, Some, None, Result, Ok, Err, if◌then◌else◌}
+use Rattle.std.specs.Prelude.{◌≡◌, ℕ, zero, suc, ◌+◌, List, [], ◌∷◌, ◌++◌, codes, Option, Some, None, Result, Ok, Err, if◌then◌else◌, refl}
 use Rattle.std.specs.List.{flat_map}
 use Rattle.schedule.specs.declared.lines.line.Line.{Line}
+use Rattle.schedule.specs.Schedules.{Scheduled}
 use Rattle.algorithms.specs.declared.algorithm.Algorithm.{Algorithm}
-use Rattle.algorithm_lab.specs.Monitors.{MonitorState, Part, restarted, step_on}
+use Rattle.algorithm_lab.proofs.Restarts.{line_leaves}
+use Rattle.algorithm_lab.specs.Monitors.{MonitorState, Part, first_monitor, restarted, step_on}
 use Rattle.algorithm_lab.specs.Refusals.{number_of}
 use Rattle.algorithm_lab.specs.Reports.{told_text}
 use Rattle.algorithm_lab.specs.Runs.{Run, line_on}
@@ -16,6 +18,7 @@ use Rattle.diagram.specs.AlgorithmStandings.{algorithm_state_text}
 use Rattle.diagram.specs.LockSimulations.{most_steps}
 use Rattle.diagram.specs.Pictures.{around, class_of}
 use Rattle.diagram.specs.Semantics.{Semantics}
+use Rattle.diagram.specs.Sessions.{SessionState, at_schedule}
 
 -- ---- the steps of a line
 
@@ -50,6 +53,11 @@ abbrev pub text_by : Algorithm → List AlgorithmEvent → Option RunRefusal →
 text_by a events None = events_text a events
 text_by a events (Some refusal) = []
 
+-- a step or a crash leaves this
+abbrev pub IsLeft : Result Part RunRefusal → MonitorState → Type 0
+IsLeft (Ok part) left = left ≡ part.left
+IsLeft (Err refusal) left = ⊥
+
 -- ---- until a call is answered
 
 -- the number of a step is this one where it is refused or ends its call
@@ -74,3 +82,16 @@ algorithm_semantics =
       state_text = λ head m. algorithm_state_text m;
       steps_to_answer = λ schedule m p. count_on p 0 most_steps m;
     }
+
+-- a session over an algorithm at a schedule
+abbrev pub algorithm_session : Algorithm → Scheduled → SessionState MonitorState
+algorithm_session a schedule = at_schedule algorithm_semantics (first_monitor a schedule.procs schedule.limit) schedule []
+
+-- ---- a schedule begins in the same state whatever was played before
+
+begins_after_run : (m : MonitorState) (run : Run RunRefusal) (refused : Option RunRefusal) → restarted run.left ≡ restarted m → restarted (left_by m run refused) ≡ restarted m
+begins_after_run m run None same = same
+begins_after_run m run (Some refusal) same = refl
+
+pub begins_after_line : (m : MonitorState) (line : Line) → restarted (left_by m (line_on m line) (line_on m line).refused) ≡ restarted m
+begins_after_line m line = begins_after_run m (line_on m line) (line_on m line).refused (line_leaves m line)

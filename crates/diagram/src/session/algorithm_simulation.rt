@@ -1,8 +1,7 @@
 //! A world of an algorithm with its monitor, as a session plays it.
 
 ghost use Rattle.algorithm_lab.proofs.Restarts.{restarted_twice};
-ghost use Rattle.diagram.specs.AlgorithmSimulations.{algorithm_semantics};
-ghost use Rattle.diagram.proofs.AlgorithmSessions.{begins_after_line};
+ghost use Rattle.diagram.specs.AlgorithmSimulations.{algorithm_semantics, begins_after_line};
 
 use crate::session::algorithm_standing::put_algorithm_state;
 use crate::session::algorithm_stepping::{count_steps, put_line, refused};

@@ -4,7 +4,7 @@ ghost use Rattle.std.specs.Prelude.{◌≡◌, ◌≤◌, ◌++◌, [], None, So
 ghost use Rattle.algorithm_lab.specs.Monitors.{IsPart, IsRefusal, crash_on, has_ended, restarted, step_on};
 ghost use Rattle.algorithm_lab.specs.Runs.{line_on, steps};
 ghost use Rattle.diagram.specs.AlgorithmEvents.{crash_by, events_of, step_event, steps_of};
-ghost use Rattle.diagram.specs.AlgorithmSimulations.{access_text, count_on, event_line, event_text, events_text, number_by};
+ghost use Rattle.diagram.specs.AlgorithmSimulations.{IsLeft, access_text, count_on, event_line, event_text, events_text, number_by};
 
 use crate::algorithm::row::{AlgorithmAct, act_of, lifeline_phase, put_sign};
 use crate::lifelines::class_of;
@@ -17,11 +17,7 @@ use schedule::Line;
 use std::alloc::{AllocError, Global};
 
 /// Writes what is read or written.
-fn put_access(
-    out: &mut Vec<u8>,
-    algorithm: &Algorithm,
-    act: AlgorithmAct,
-) -> Result<(), AllocError>
+fn put_access(out: &mut Vec<u8>, algorithm: &Algorithm, act: AlgorithmAct) -> Result<(), AllocError>
     ensures { OnOk result (out.new.items ≡ out.old.items ++ access_text algorithm.now act) }
 {
     match act {
@@ -128,7 +124,14 @@ fn put_crash(
     let mut told = Vec::new(alloc);
     monitor.crash(p, &mut told)?;
     let algorithm = monitor.world().algorithm();
-    put_event(out, algorithm, p, AlgorithmAct::Crashed, LifelinePhase::Dead, told.as_slice())?;
+    put_event(
+        out,
+        algorithm,
+        p,
+        AlgorithmAct::Crashed,
+        LifelinePhase::Dead,
+        told.as_slice(),
+    )?;
     Ok(())
 }
 
@@ -147,7 +150,10 @@ pub fn put_line(
     ensures stopped { IfErr result (λ e. IsRefusal e → monitor.new ≡ (line_on monitor.old line.now).left) }
 {
     match *line {
-        Line::Start(..) => play_line(monitor, line, &mut Vec::new(alloc)),
+        Line::Start(..) => {
+            let mut told = Vec::new(alloc);
+            play_line(monitor, line, &mut told)
+        }
         Line::Step(p, count) => put_steps(alloc, monitor, out, p, count.get()),
         Line::Crash(p) => put_crash(alloc, monitor, out, p),
     }

@@ -21,6 +21,8 @@ mod schedules;
 #[cfg(test)]
 mod searches;
 #[cfg(test)]
+mod sessions;
+#[cfg(test)]
 mod shrinks;
 #[cfg(test)]
 mod spelling;

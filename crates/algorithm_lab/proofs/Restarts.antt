@@ -76,7 +76,7 @@ start_leaves m p call = unless_leaves m (start_refusal m p call) _ (by (process_
     by (Ok process) = restarts_with m m.world.words (slice_set m.world.processes p process) m.phases refl (length-set m.world.processes p process) refl
     by (Err e) = tt
 
-step_leaves : (m : MonitorState) (p : ℕ) → LeavesPart m (step_on m p)
+pub step_leaves : (m : MonitorState) (p : ℕ) → LeavesPart m (step_on m p)
 step_leaves m p = by (taken m.world p)
   where
     by : (r : Result Taken AlgorithmRefusal)
@@ -88,7 +88,7 @@ step_leaves m p = by (taken m.world p)
         (length-set m.phases p (heard m.world.algorithm.promises p (phase_of m p) (advanced t).noted).phase)
     by (Err e) = tt
 
-crash_leaves : (m : MonitorState) (p : ℕ) → LeavesPart m (crash_on m p)
+pub crash_leaves : (m : MonitorState) (p : ℕ) → LeavesPart m (crash_on m p)
 crash_leaves m p = by (process_of m.world p)
   where
     by : (r : Result Process AlgorithmRefusal)
@@ -125,7 +125,7 @@ steps_leave p (suc n) m = by (step_on m p) (step_leaves m p) (steps_leave p n)
     by (Ok part) leaves rest = ended part part.ended leaves (rest part.left)
     by (Err e) leaves rest = refl
 
-line_leaves : (m : MonitorState) (line : Line) → restarted (line_on m line).left ≡ restarted m
+pub line_leaves : (m : MonitorState) (line : Line) → restarted (line_on m line).left ≡ restarted m
 line_leaves m (Start p call) = started_leaves m (start_by m p (call_of call)) (start_by_leaves m p (call_of call))
 line_leaves m (Step p n) = steps_leave p n m
 line_leaves m (Crash p) = crashed_leaves m (crash_on m p) (crash_leaves m p)

@@ -3,6 +3,7 @@ use Rattle.std.specs.Prelude.{◌≡◌, ℕ, Bool, true, false, if◌then◌els
 use Rattle.rmecore.specs.declared.phase.Phase.{Phase}
 use Rattle.rmecore.specs.declared.phase.Phase.TheVariants.{Out, Inside}
 use Rattle.algorithms.specs.Worlds.{WorldState, first_world, process_of, entry_of, start, advance, crash, restarted as world_restarted}
+use Rattle.algorithms.specs.declared.access.Advanced.{Advanced}
 use Rattle.algorithms.specs.declared.algorithm.Algorithm.{Algorithm}
 use Rattle.algorithms.specs.declared.algorithm.Call.{Call}
 use Rattle.algorithms.specs.declared.algorithm.Call.TheVariants.{Lock, Unlock, Recover}
@@ -97,6 +98,10 @@ part_of m p world h answer =
 abbrev pub step_on : MonitorState → ℕ → Result Part RunRefusal
 step_on m p =
     then_in (λ s. part_of m p s.1 (heard m.world.algorithm.promises p (phase_of m p) s.0.noted) s.0.answer) (advance m.world p)
+
+-- what a step of p says
+abbrev pub advanced_on : MonitorState → ℕ → Result Advanced RunRefusal
+advanced_on m p = then_in (λ s. s.0) (advance m.world p)
 
 -- a crash
 abbrev pub crash_on : MonitorState → ℕ → Result Part RunRefusal

@@ -14,14 +14,14 @@ use crate::local::{LocalState, arrive};
 use crate::noted::Noted;
 use crate::process::{Place, Process, keep};
 use crate::refusal::AlgorithmRefusal;
-use std::alloc::Global;
+use std::alloc::{AllocError, Global};
 use std::marker::Model;
 
 /// The greatest limit of numbers, 2^62.
 pub const MOST_LIMIT: u64 = 4_611_686_018_427_387_904;
 
 /// The processes of an algorithm and the words that they share. A caller starts a call and then steps it until a step carries
-/// its answer. A crash may come before any step. Only `new` allocates.
+/// its answer. A crash may come before any step. Only `new` and `checkpoint` allocate.
 #[derive(Drop)]
 pub struct World {
     algorithm: Algorithm,
@@ -29,6 +29,13 @@ pub struct World {
     limit: u64,
     words: Vec<[u64; MOST_PROCS]>,
     processes: Vec<Process>,
+}
+
+/// What steps change in a world: its words and its processes.
+#[derive(Drop)]
+pub struct WorldCheckpoint {
+    pub words: Vec<[u64; MOST_PROCS]>,
+    pub processes: Vec<Process>,
 }
 
 impl Model for World {
@@ -391,6 +398,25 @@ impl World {
     {
         zero_all(self.words.as_mut_slice());
         rest_all(self.processes.as_mut_slice());
+    }
+
+    /// A copy of what steps change, to go back to.
+    pub fn checkpoint(&self, alloc: Global) -> Result<WorldCheckpoint, AllocError>
+        ensures copy { IfOk result (λ copy. (copy.words.items ≡ self.now.words) × (copy.processes.items ≡ self.now.processes)) }
+        ensures count { OnOk result (length self.now.processes ≡ self.now.procs) }
+    {
+        let words = Vec::from_slice(alloc, self.words.as_slice())?;
+        let processes = Vec::from_slice(alloc, self.processes.as_slice())?;
+        Ok(WorldCheckpoint { words, processes })
+    }
+
+    /// Goes back to a checkpoint, which has the processes of this world.
+    pub fn go_back(&mut self, checkpoint: WorldCheckpoint)
+        requires { length checkpoint.processes.items ≡ self.old.procs }
+        ensures { self.new ≡ record self.old { words = checkpoint.words.items; processes = checkpoint.processes.items } }
+    {
+        self.words = checkpoint.words;
+        self.processes = checkpoint.processes;
     }
 
     /// The private memory of a process.

@@ -4,6 +4,8 @@
 #[cfg(test)]
 mod bad_texts;
 #[cfg(test)]
+mod drawings;
+#[cfg(test)]
 mod hostile_texts;
 #[cfg(test)]
 mod hunts;
@@ -18,6 +20,8 @@ mod runs;
 mod schedules;
 #[cfg(test)]
 mod searches;
+#[cfg(test)]
+mod sessions;
 #[cfg(test)]
 mod shrinks;
 #[cfg(test)]

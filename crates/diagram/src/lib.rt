@@ -2,6 +2,7 @@
 #![tactic(auto)]
 
 pub mod act;
+pub mod algorithm;
 mod bars;
 mod blocked;
 mod collecting;
@@ -15,6 +16,7 @@ mod frame;
 mod lifeline_state;
 mod lifelines;
 mod lock_words;
+pub mod mark;
 mod page;
 pub mod page_text;
 mod paging;
@@ -22,18 +24,20 @@ pub mod phase;
 mod picture;
 mod places;
 pub mod session;
+pub mod shown_row;
 mod signs;
 mod step_lines;
 mod stop;
 mod writing;
 
 pub use act::{Act, DiagramRow};
+pub use algorithm::drawing::draw_algorithm;
 pub use diagram_layout::Style;
 pub use drawing::{Drawing, End, draw};
 pub use following::follow;
 pub use following_lines::follow_as_lines;
 pub use page::write_page;
 pub use phase::LifelinePhase;
-pub use session::{Reply, Request, Session};
+pub use session::{LockSimulation, Reply, Request, Session, Simulation};
 pub use step_lines::put_verdict_object;
 pub use writing::write_drawing;

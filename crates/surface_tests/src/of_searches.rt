@@ -50,7 +50,9 @@ pub fn searched_for_schedule<W: Watch>(
     bounds: &Bounds,
     watch: &mut W,
 ) -> Result<SearchOutcome<Move>, ExploreFault> {
-    shortest_schedule(alloc, variant, layout, limit, calls, variables, bounds, watch)
+    shortest_schedule(
+        alloc, variant, layout, limit, calls, variables, bounds, watch,
+    )
 }
 
 pub fn bounds_of(crashes: u64, moves: u64, states: u64) -> Bounds {

@@ -175,16 +175,7 @@ fn explored<R: Threads + Sync>(
         return shortest_schedule(alloc, variant, layout, 1, calls, variables, &bounds, watch);
     }
     shortest_schedule_in_parallel(
-        rt,
-        alloc,
-        jobs,
-        variant,
-        layout,
-        1,
-        calls,
-        variables,
-        &bounds,
-        watch,
+        rt, alloc, jobs, variant, layout, 1, calls, variables, &bounds, watch,
     )
 }
 

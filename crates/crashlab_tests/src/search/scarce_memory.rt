@@ -150,7 +150,7 @@ fn a_search_without_threads(rt: HostRuntime) -> Result<(), Fail> {
     Ok(())
 }
 
-/// A search of the lock by this many jobs; by one, where it is 0. These variables tell its states apart.
+/// A search of the lock by this many jobs; by one, where it is 0. These variables distinguish its states.
 fn explored<R: Threads + Sync>(
     rt: &R,
     alloc: Global,

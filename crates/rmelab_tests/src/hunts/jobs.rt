@@ -117,7 +117,7 @@ const SEARCHES: [(Variant, u64, u64, u64); 6] = [
     (Variant::ExitOnCrash, 2, 1, 1),
 ];
 
-/// Searches by one and by several jobs, with states told apart by these variables.
+/// Searches by one and by several jobs, with states distinguished by these variables.
 fn searches_the_same<R: Threads + Sync + Abort>(
     rt: &R,
     alloc: Global,

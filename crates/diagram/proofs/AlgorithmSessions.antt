@@ -1,5 +1,5 @@
 -- The steps of an algorithm that a session writes.
-use Rattle.std.proofs.Common.{◌≡◌, ℕ, zero, suc, ◌+◌, true, false, is_some, List, [], ◌∷◌, ◌++◌, map, length, Option, Some, None, Result, Ok, Err, OnOk, IfErr, refl, sym, ap, ◌∙◌, append_assoc}
+use Rattle.std.proofs.Common.{◌≡◌, ℕ, zero, suc, ◌+◌, true, false, List, [], ◌∷◌, ◌++◌, Option, Some, None, Result, Ok, Err, OnOk, IfErr, refl, sym, ap, ◌∙◌, append_assoc}
 use Rattle.diagram.proofs.Common.{append-nil, flat_map-cons, flat_map-append, Line}
 use Rattle.rmecore.specs.declared.phase.Phase.{Phase}
 use Rattle.algorithms.specs.Worlds.{WorldState}

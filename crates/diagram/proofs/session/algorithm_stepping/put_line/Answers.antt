@@ -1,5 +1,5 @@
 use Rattle.std.proofs.Common.{◌≡◌, ◌++◌, Some, None, OnOk, IfErr, sym, subst}
-use Rattle.algorithm_lab.specs.Monitors.{IsRefusal, crash_on}
+use Rattle.algorithm_lab.specs.Monitors.{IsRefusal}
 use Rattle.algorithm_lab.specs.Runs.{line_on, steps}
 use Rattle.diagram.proofs.AlgorithmSessions.{crash_halts, crash_taken, on_ok, on_refusal}
 use Rattle.diagram.specs.AlgorithmEvents.{events_of, steps_of}

@@ -16,3 +16,4 @@ pub mod Undone
 pub mod LinesTold
 pub mod AlgorithmSteps
 pub mod AlgorithmDrawn
+pub mod AlgorithmReported

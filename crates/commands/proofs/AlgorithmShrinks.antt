@@ -13,7 +13,7 @@ use Rattle.commands.specs.AlgorithmShrinks.{ShrinksAlgorithm}
 use Rattle.commands.specs.Endings.{FailsToWrite}
 use Rattle.commands.specs.Shrinks.{shrunk_text, shrunk_status}
 
--- what shrinking answers was told
+-- what shrinking answers was written
 pub shrunk_told : (a : Algorithm) (schedule : Scheduled) (answer : Option Scheduled) (before now : Tape) (r : Result Ending CommandFault) → Shrinks a schedule answer
     → OnOk r (Writes before now (shrunk_text answer)) → IfOk r (λ e. e.status ≡ shrunk_status answer) → IfErr r (FailsToWrite before now)
     → ShrinksAlgorithm a schedule before now r

@@ -15,7 +15,8 @@ use std::alloc::{AllocError, Global};
 
 /// The rounds of a hunt and the moves of each, if they are in their ranges.
 fn sizes_of(matches: &ArgMatches<'_>) -> Result<(u64, u64), WordsFault>
-    ensures given { IfOk result (λ sizes. (sizes.0 ≡ rounds_of (given_in matches.now)) × (sizes.1 ≡ steps_of (given_in matches.now))) }
+    ensures given { IfOk result (λ sizes. (sizes.0 ≡ rounds_of (given_in matches.now))
+        × (sizes.1 ≡ steps_of (given_in matches.now))) }
     ensures fits { IfOk result (λ sizes. IsHuntSize sizes.0 sizes.1) }
     ensures bad { OnErr result (IsErrOf result WordsFault.BadSize
         × (IsHuntSize (rounds_of (given_in matches.now)) (steps_of (given_in matches.now)) → ⊥)) }

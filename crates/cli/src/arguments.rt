@@ -8,5 +8,4 @@ mod hunt_words;
 mod parser;
 mod replay_words;
 mod shrink_words;
-mod step_words;
 pub mod words;

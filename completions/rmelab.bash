@@ -17,6 +17,9 @@ _rmelab() {
         run:--seed) : && return ;;
         run:--width) : && return ;;
         hunt:--variant) mapfile -t COMPREPLY < <(compgen -W "right no-look no-ties renumber exit-on-crash count-up last-skipped" -- "$word") && return ;;
+        hunt:--algorithm) mapfile -t COMPREPLY < <(compgen -f -- "$word") && return ;;
+        hunt:--procs) : && return ;;
+        hunt:--limit) : && return ;;
         hunt:--seed) : && return ;;
         hunt:--rounds) : && return ;;
         hunt:--steps) : && return ;;
@@ -33,17 +36,19 @@ _rmelab() {
         explore:--width) : && return ;;
         explore:--jobs) : && return ;;
         draw:--variant) mapfile -t COMPREPLY < <(compgen -W "right no-look no-ties renumber exit-on-crash count-up last-skipped" -- "$word") && return ;;
+        draw:--algorithm) mapfile -t COMPREPLY < <(compgen -f -- "$word") && return ;;
         draw:--image) mapfile -t COMPREPLY < <(compgen -f -- "$word") && return ;;
         shrink:--variant) mapfile -t COMPREPLY < <(compgen -W "right no-look no-ties renumber exit-on-crash count-up last-skipped" -- "$word") && return ;;
+        shrink:--algorithm) mapfile -t COMPREPLY < <(compgen -f -- "$word") && return ;;
     esac
     case ${COMP_WORDS[1]} in
         replay) mapfile -t COMPREPLY < <(compgen -W "--json --each --variant --algorithm --image --save -h --help" -- "$word"; compgen -f -- "$word") ;;
         run) mapfile -t COMPREPLY < <(compgen -W "--procs --messages --crash --seed --width -h --help" -- "$word") ;;
-        hunt) mapfile -t COMPREPLY < <(compgen -W "--variant --seed --rounds --steps --shrink --jobs -h --help" -- "$word") ;;
+        hunt) mapfile -t COMPREPLY < <(compgen -W "--variant --algorithm --procs --limit --seed --rounds --steps --shrink --jobs -h --help" -- "$word") ;;
         explore) mapfile -t COMPREPLY < <(compgen -W "--variant --algorithm --procs --calls --crashes --moves --states --limit --cap --width --stuck --all-variables --jobs -h --help" -- "$word") ;;
         judge) mapfile -t COMPREPLY < <(compgen -W "--json -h --help" -- "$word"; compgen -f -- "$word") ;;
-        draw) mapfile -t COMPREPLY < <(compgen -W "--variant --image --svg --html -h --help" -- "$word"; compgen -f -- "$word") ;;
-        shrink) mapfile -t COMPREPLY < <(compgen -W "--variant -h --help" -- "$word"; compgen -f -- "$word") ;;
+        draw) mapfile -t COMPREPLY < <(compgen -W "--variant --algorithm --image --svg --html -h --help" -- "$word"; compgen -f -- "$word") ;;
+        shrink) mapfile -t COMPREPLY < <(compgen -W "--variant --algorithm -h --help" -- "$word"; compgen -f -- "$word") ;;
         step) mapfile -t COMPREPLY < <(compgen -W "-h --help" -- "$word"; compgen -f -- "$word") ;;
         explain)
             names=$("${COMP_WORDS[0]}" explain 2>/dev/null)

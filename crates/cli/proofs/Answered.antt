@@ -8,22 +8,20 @@ use Rattle.clap.specs.declared.error.kind.ErrorKind.{ErrorKind}
 use Rattle.crashlab.specs.declared.variant.Variant.{Variant}
 use Rattle.crashlab.specs.declared.variant.Variant.TheVariants.{Right, NoLook, NoTies, Renumber, ExitOnCrash, CountUp, LastSkipped}
 use Rattle.cli.specs.declared.arguments.args.Command.{Command}
+use Rattle.cli.specs.declared.arguments.args.HuntArgs.{HuntArgs}
+use Rattle.cli.specs.declared.arguments.args.AlgorithmHuntArgs.{AlgorithmHuntArgs}
 use Rattle.cli.specs.declared.arguments.args.ExploreArgs.{ExploreArgs}
 use Rattle.cli.specs.declared.arguments.args.AlgorithmExploreArgs.{AlgorithmExploreArgs}
-use Rattle.cli.specs.declared.arguments.args.Command.TheVariants.{Replay, ReplayAlgorithm, Run, Hunt, Explore, ExploreAlgorithm, Judge, Draw, Shrink, Step, Explain}
+use Rattle.cli.specs.declared.arguments.args.Command.TheVariants.{Replay, ReplayAlgorithm, Run, Hunt, HuntAlgorithm, Explore, ExploreAlgorithm, Judge, Draw, DrawAlgorithm, Shrink, ShrinkAlgorithm, Step, Explain}
 use Rattle.cli.specs.declared.arguments.words.WordsFault.{WordsFault}
 use Rattle.cli.specs.declared.arguments.words.WordsFault.TheVariants.{Help, Refused, BadVariant, BadSize, Unreadable, OutOfMemory}
 use Rattle.cli.specs.CommandLine.{rmelab}
-use Rattle.cli.specs.Given.{Given, word_of_variant}
-use Rattle.cli.specs.ReadWords.{GoesWithImage, IsAlone, IsBadBesideImage, HasBadVariant, IsExplore, IsAlgorithmExplore, IsBadForSearch, IsBadSearch, IsBadAlgorithmSearch, IsOutOfRange, HasBadSize, HasBadWords, IsCommand, Takes, IsRefusal}
+use Rattle.cli.specs.Given.{Given, AsksFor, word_of_variant}
+use Rattle.cli.specs.ReadWords.{GoesWithImage, IsAlone, IsBadBesideImage, IsBesideAlgorithm, IsBadVariant, TakesImage, NeedsLock, HasBadVariant}
+use Rattle.cli.specs.ReadWords.{IsHunt, IsAlgorithmHunt, IsBadHunt, IsBadAlgorithmHunt, IsExplore, IsAlgorithmExplore, IsBadSearch, IsBadAlgorithmSearch}
+use Rattle.cli.specs.ReadWords.{IsOutOfRange, HasBadSize, HasNoLock, HasBadWords, IsCommand, Takes, IsRefusal}
 use Rattle.cli.specs.Sizes.{IsSized, RunFits, IsHuntSize}
 use Rattle.cli.proofs.Texts.{differ}
-
-abbrev TakesImage : Text → Type 0
-TakesImage name = (name ≡ codes "replay") ⊎ (name ≡ codes "draw")
-
-abbrev NeedsVariant : Text → Type 0
-NeedsVariant name = (name ≡ codes "hunt") ⊎ (name ≡ codes "shrink")
 
 -- a command of another name
 other_name : (a b name : Text) → name ≡ a → bytes_eq a b ≡ false → name ≡ b → ⊥
@@ -33,9 +31,11 @@ takes_no_image : (a name : Text) → name ≡ a → bytes_eq a (codes "replay") 
 takes_no_image a name is replay draw (inl e) = other_name a (codes "replay") name is replay e
 takes_no_image a name is replay draw (inr e) = other_name a (codes "draw") name is draw e
 
-needs_none : (a name : Text) → name ≡ a → bytes_eq a (codes "hunt") ≡ false → bytes_eq a (codes "shrink") ≡ false → NeedsVariant name → ⊥
-needs_none a name is hunt shrink (inl e) = other_name a (codes "hunt") name is hunt e
-needs_none a name is hunt shrink (inr e) = other_name a (codes "shrink") name is shrink e
+needs_none : (a name : Text) → name ≡ a → bytes_eq a (codes "hunt") ≡ false → bytes_eq a (codes "explore") ≡ false → bytes_eq a (codes "shrink") ≡ false
+    → NeedsLock name → ⊥
+needs_none a name is hunt explore shrink (inl e) = other_name a (codes "hunt") name is hunt e
+needs_none a name is hunt explore shrink (inr (inl e)) = other_name a (codes "explore") name is explore e
+needs_none a name is hunt explore shrink (inr (inr e)) = other_name a (codes "shrink") name is shrink e
 
 only_right : (variant : Variant) → word_of_variant variant ≡ codes "right" → variant ≡ Right
 only_right Right e = refl
@@ -60,51 +60,48 @@ unasked None none = refl
 unasked (Some x) none = absurd (false≢true (sym none))
 
 -- beside an algorithm alone stands neither a variant nor an image
-alone_goes : (given : Given) → IsAlone given → IsBadBesideImage given → ⊥
-alone_goes given h (inl none) = none Right (unasked (first_of (codes "variant") given) h.variant)
-alone_goes given h (inr other) = no_both (first_of (codes "image") given) h.image other.3
+alone_goes : (given : Given) → IsAlone given → IsBadBesideImage given ⊎ IsBesideAlgorithm given → ⊥
+alone_goes given h (inl (inl none)) = none Right (unasked (first_of (codes "variant") given) h.variant)
+alone_goes given h (inl (inr other)) = no_both (first_of (codes "image") given) h.image other.3
+alone_goes given h (inr beside) = beside.1 h
+
+-- a variant that goes with the image, and no algorithm
+variant_goes : (given : Given) (variant : Variant) → GoesWithImage given variant → IsNone (first_of (codes "algorithm") given)
+    → IsBadBesideImage given ⊎ IsBesideAlgorithm given → ⊥
+variant_goes given variant h none (inl bad) = goes given variant h bad
+variant_goes given variant h none (inr beside) = no_both (first_of (codes "algorithm") given) none beside.0
+
+-- a variant that there is, and no algorithm
+variant_asked : (given : Given) (variant : Variant) → AsksFor [] given variant → IsNone (first_of (codes "algorithm") given) → IsBadVariant given → ⊥
+variant_asked given variant h none (some, inl lacks) = lacks variant h
+variant_asked given variant h none (some, inr both) = no_both (first_of (codes "algorithm") given) none both
 
 neither : (a name : Text) (given : Given) → name ≡ a → bytes_eq a (codes "replay") ≡ false → bytes_eq a (codes "draw") ≡ false → bytes_eq a (codes "hunt") ≡ false
     → bytes_eq a (codes "explore") ≡ false → bytes_eq a (codes "shrink") ≡ false → HasBadVariant name given → ⊥
 neither a name given is replay draw hunt explore shrink (inl bad) = takes_no_image a name is replay draw bad.0
-neither a name given is replay draw hunt explore shrink (inr (inl bad)) = needs_none a name is hunt shrink bad.0
-neither a name given is replay draw hunt explore shrink (inr (inr (inl bad))) = other_name a (codes "replay") name is replay bad.0
-neither a name given is replay draw hunt explore shrink (inr (inr (inr bad))) = other_name a (codes "explore") name is explore bad.0
-
--- a variant that there is, alone
-searched : (given : Given) (args : ExploreArgs) → IsExplore given args → IsBadForSearch given → ⊥
-searched given args h (some, inl none) = none args.variant h.variant
-searched given args h (some, inr both) = no_both (first_of (codes "algorithm") given) h.no_algorithm both
+neither a name given is replay draw hunt explore shrink (inr bad) = needs_none a name is hunt explore shrink bad.0
 
 good_variant : (name : Text) (given : Given) (command : Command) → IsCommand name given command → HasBadVariant name given → ⊥
-good_variant name given (Replay args) h (inl bad) = goes given args.variant h.1.variant bad.1
-good_variant name given (Replay args) h (inr (inl bad)) = needs_none (codes "replay") name h.0 refl refl bad.0
-good_variant name given (Replay args) h (inr (inr (inl bad))) = no_both (first_of (codes "algorithm") given) h.1.no_algorithm bad.1.0
-good_variant name given (Replay args) h (inr (inr (inr bad))) = other_name (codes "replay") (codes "explore") name h.0 refl bad.0
+good_variant name given (Replay args) h (inl bad) = variant_goes given args.variant h.1.variant h.1.no_algorithm bad.1
+good_variant name given (Replay args) h (inr bad) = needs_none (codes "replay") name h.0 refl refl refl bad.0
 good_variant name given (ReplayAlgorithm args) h (inl bad) = alone_goes given h.1.alone bad.1
-good_variant name given (ReplayAlgorithm args) h (inr (inl bad)) = needs_none (codes "replay") name h.0 refl refl bad.0
-good_variant name given (ReplayAlgorithm args) h (inr (inr (inl bad))) = bad.1.1 h.1.alone
-good_variant name given (ReplayAlgorithm args) h (inr (inr (inr bad))) = other_name (codes "replay") (codes "explore") name h.0 refl bad.0
-good_variant name given (Draw args) h (inl bad) = goes given args.variant h.1.variant bad.1
-good_variant name given (Draw args) h (inr (inl bad)) = needs_none (codes "draw") name h.0 refl refl bad.0
-good_variant name given (Draw args) h (inr (inr (inl bad))) = other_name (codes "draw") (codes "replay") name h.0 refl bad.0
-good_variant name given (Draw args) h (inr (inr (inr bad))) = other_name (codes "draw") (codes "explore") name h.0 refl bad.0
+good_variant name given (ReplayAlgorithm args) h (inr bad) = needs_none (codes "replay") name h.0 refl refl refl bad.0
+good_variant name given (Draw args) h (inl bad) = variant_goes given args.variant h.1.variant h.1.no_algorithm bad.1
+good_variant name given (Draw args) h (inr bad) = needs_none (codes "draw") name h.0 refl refl refl bad.0
+good_variant name given (DrawAlgorithm args) h (inl bad) = alone_goes given h.1.alone bad.1
+good_variant name given (DrawAlgorithm args) h (inr bad) = needs_none (codes "draw") name h.0 refl refl refl bad.0
 good_variant name given (Hunt args) h (inl bad) = takes_no_image (codes "hunt") name h.0 refl refl bad.0
-good_variant name given (Hunt args) h (inr (inl bad)) = bad.1 args.variant h.1.variant
-good_variant name given (Hunt args) h (inr (inr (inl bad))) = other_name (codes "hunt") (codes "replay") name h.0 refl bad.0
-good_variant name given (Hunt args) h (inr (inr (inr bad))) = other_name (codes "hunt") (codes "explore") name h.0 refl bad.0
+good_variant name given (Hunt args) h (inr bad) = variant_asked given args.variant h.1.variant h.1.no_algorithm bad.1
+good_variant name given (HuntAlgorithm args) h (inl bad) = takes_no_image (codes "hunt") name h.0 refl refl bad.0
+good_variant name given (HuntAlgorithm args) h (inr bad) = no_both (first_of (codes "variant") given) h.1.no_variant bad.1.0
 good_variant name given (Explore args) h (inl bad) = takes_no_image (codes "explore") name h.0 refl refl bad.0
-good_variant name given (Explore args) h (inr (inl bad)) = needs_none (codes "explore") name h.0 refl refl bad.0
-good_variant name given (Explore args) h (inr (inr (inl bad))) = other_name (codes "explore") (codes "replay") name h.0 refl bad.0
-good_variant name given (Explore args) h (inr (inr (inr bad))) = searched given args h.1 bad.1
+good_variant name given (Explore args) h (inr bad) = variant_asked given args.variant h.1.variant h.1.no_algorithm bad.1
 good_variant name given (ExploreAlgorithm args) h (inl bad) = takes_no_image (codes "explore") name h.0 refl refl bad.0
-good_variant name given (ExploreAlgorithm args) h (inr (inl bad)) = needs_none (codes "explore") name h.0 refl refl bad.0
-good_variant name given (ExploreAlgorithm args) h (inr (inr (inl bad))) = other_name (codes "explore") (codes "replay") name h.0 refl bad.0
-good_variant name given (ExploreAlgorithm args) h (inr (inr (inr bad))) = no_both (first_of (codes "variant") given) h.1.no_variant bad.1.0
+good_variant name given (ExploreAlgorithm args) h (inr bad) = no_both (first_of (codes "variant") given) h.1.no_variant bad.1.0
 good_variant name given (Shrink args) h (inl bad) = takes_no_image (codes "shrink") name h.0 refl refl bad.0
-good_variant name given (Shrink args) h (inr (inl bad)) = bad.1 args.variant h.1.variant
-good_variant name given (Shrink args) h (inr (inr (inl bad))) = other_name (codes "shrink") (codes "replay") name h.0 refl bad.0
-good_variant name given (Shrink args) h (inr (inr (inr bad))) = other_name (codes "shrink") (codes "explore") name h.0 refl bad.0
+good_variant name given (Shrink args) h (inr bad) = variant_asked given args.variant h.1.variant h.1.no_algorithm bad.1
+good_variant name given (ShrinkAlgorithm args) h (inl bad) = takes_no_image (codes "shrink") name h.0 refl refl bad.0
+good_variant name given (ShrinkAlgorithm args) h (inr bad) = no_both (first_of (codes "variant") given) h.1.no_variant bad.1.0
 good_variant name given (Run args) h bad = neither (codes "run") name given h.0 refl refl refl refl refl bad
 good_variant name given (Judge file) h bad = neither (codes "judge") name given h.0 refl refl refl refl refl bad
 good_variant name given (Step file) h bad = neither (codes "step") name given h.0 refl refl refl refl refl bad
@@ -115,6 +112,17 @@ sizeless : (a name : Text) (given : Given) → name ≡ a → bytes_eq a (codes 
 sizeless a name given is run hunt explore (inl bad) = other_name a (codes "run") name is run bad.0
 sizeless a name given is run hunt explore (inr (inl bad)) = other_name a (codes "hunt") name is hunt bad.0
 sizeless a name given is run hunt explore (inr (inr bad)) = other_name a (codes "explore") name is explore bad.0
+
+good_hunt : (given : Given) (args : HuntArgs) → IsHunt given args → IsHuntSize args.rounds args.steps → IsBadHunt given ⊎ IsBadAlgorithmHunt given → ⊥
+good_hunt given args h sized (inl (some, inl size)) = size (subst₂ IsHuntSize h.rounds h.steps sized)
+good_hunt given args h sized (inl (some, inr (inl procs))) = no_both (first_of (codes "procs") given) h.no_procs procs
+good_hunt given args h sized (inl (some, inr (inr limit))) = no_both (first_of (codes "limit") given) h.no_limit limit
+good_hunt given args h sized (inr bad) = no_both (first_of (codes "algorithm") given) h.no_algorithm bad.0.algorithm
+
+good_algorithm_hunt : (given : Given) (args : AlgorithmHuntArgs) → IsAlgorithmHunt given args → IsHuntSize args.rounds args.steps
+    → IsBadHunt given ⊎ IsBadAlgorithmHunt given → ⊥
+good_algorithm_hunt given args h sized (inl bad) = no_both (first_of (codes "variant") given) h.no_variant bad.0
+good_algorithm_hunt given args h sized (inr bad) = bad.1 (subst₂ IsHuntSize h.rounds h.steps sized)
 
 good_search : (given : Given) (args : ExploreArgs) → IsExplore given args → IsBadSearch given ⊎ IsBadAlgorithmSearch given → ⊥
 good_search given args h (inl (some, inl calls)) = false≢true (sym calls ∙ h.known)
@@ -130,8 +138,11 @@ good_size name given (Run args) sized h (inl bad) = bad.1 (subst RunFits h.1 siz
 good_size name given (Run args) sized h (inr (inl bad)) = other_name (codes "run") (codes "hunt") name h.0 refl bad.0
 good_size name given (Run args) sized h (inr (inr bad)) = other_name (codes "run") (codes "explore") name h.0 refl bad.0
 good_size name given (Hunt args) sized h (inl bad) = other_name (codes "hunt") (codes "run") name h.0 refl bad.0
-good_size name given (Hunt args) sized h (inr (inl bad)) = bad.1 (subst₂ IsHuntSize h.1.rounds h.1.steps sized)
+good_size name given (Hunt args) sized h (inr (inl bad)) = good_hunt given args h.1 sized bad.1
 good_size name given (Hunt args) sized h (inr (inr bad)) = other_name (codes "hunt") (codes "explore") name h.0 refl bad.0
+good_size name given (HuntAlgorithm args) sized h (inl bad) = other_name (codes "hunt") (codes "run") name h.0 refl bad.0
+good_size name given (HuntAlgorithm args) sized h (inr (inl bad)) = good_algorithm_hunt given args h.1 sized bad.1
+good_size name given (HuntAlgorithm args) sized h (inr (inr bad)) = other_name (codes "hunt") (codes "explore") name h.0 refl bad.0
 good_size name given (Explore args) sized h (inl bad) = other_name (codes "explore") (codes "run") name h.0 refl bad.0
 good_size name given (Explore args) sized h (inr (inl bad)) = other_name (codes "explore") (codes "hunt") name h.0 refl bad.0
 good_size name given (Explore args) sized h (inr (inr bad)) = good_search given args h.1 bad.1
@@ -142,30 +153,44 @@ good_size name given (Replay args) sized h bad = sizeless (codes "replay") name 
 good_size name given (ReplayAlgorithm args) sized h bad = sizeless (codes "replay") name given h.0 refl refl refl bad
 good_size name given (Judge file) sized h bad = sizeless (codes "judge") name given h.0 refl refl refl bad
 good_size name given (Draw args) sized h bad = sizeless (codes "draw") name given h.0 refl refl refl bad
+good_size name given (DrawAlgorithm args) sized h bad = sizeless (codes "draw") name given h.0 refl refl refl bad
 good_size name given (Shrink args) sized h bad = sizeless (codes "shrink") name given h.0 refl refl refl bad
+good_size name given (ShrinkAlgorithm args) sized h bad = sizeless (codes "shrink") name given h.0 refl refl refl bad
 good_size name given (Step file) sized h bad = sizeless (codes "step") name given h.0 refl refl refl bad
 good_size name given (Explain entry) sized h bad = sizeless (codes "explain") name given h.0 refl refl refl bad
 
 -- ---- the words
 
+not_drawn : (name : Text) (given : Given) → HasNoLock name given → TakesImage name → ⊥
+not_drawn name given (none, inl (is, lacks)) takes = takes_no_image (codes "explore") name is refl refl takes
+not_drawn name given (none, inr (inl (is, lacks))) takes = takes_no_image (codes "hunt") name is refl refl takes
+not_drawn name given (none, inr (inr (is, lacks))) takes = takes_no_image (codes "shrink") name is refl refl takes
+
 worded : (name : Text) (given : Given) → HasBadWords name given → HasBadVariant name given → ⊥
 worded name given (inl entry) bad = neither (codes "explain") name given entry.0 refl refl refl refl refl bad
 worded name given (inr (inl steps)) (inl bad) = alone_goes given steps.2 bad.1
-worded name given (inr (inl steps)) (inr (inl bad)) = needs_none (codes "replay") name steps.0 refl refl bad.0
-worded name given (inr (inl steps)) (inr (inr (inl bad))) = bad.1.1 steps.2
-worded name given (inr (inl steps)) (inr (inr (inr bad))) = other_name (codes "replay") (codes "explore") name steps.0 refl bad.0
-worded name given (inr (inr search)) (inl bad) = takes_no_image (codes "explore") name search.0 refl refl bad.0
-worded name given (inr (inr search)) (inr (inl bad)) = needs_none (codes "explore") name search.0 refl refl bad.0
-worded name given (inr (inr search)) (inr (inr (inl bad))) = other_name (codes "explore") (codes "replay") name search.0 refl bad.0
-worded name given (inr (inr search)) (inr (inr (inr bad))) = no_both (first_of (codes "variant") given) search.1 bad.1.0
+worded name given (inr (inl steps)) (inr bad) = needs_none (codes "replay") name steps.0 refl refl refl bad.0
+worded name given (inr (inr (inl page))) (inl bad) = alone_goes given page.2 bad.1
+worded name given (inr (inr (inl page))) (inr bad) = needs_none (codes "draw") name page.0 refl refl refl bad.0
+worded name given (inr (inr (inr lock))) (inl bad) = not_drawn name given lock bad.0
+worded name given (inr (inr (inr lock))) (inr bad) = no_both (first_of (codes "variant") given) lock.0 bad.1.0
+
+without_range : (name : Text) (given : Given) → HasNoLock name given → IsOutOfRange name given → ⊥
+without_range name given (none, inl (is, lacks)) (inl bad) = other_name (codes "explore") (codes "run") name is refl bad.0
+without_range name given (none, inl (is, lacks)) (inr (inl bad)) = other_name (codes "explore") (codes "hunt") name is refl bad.0
+without_range name given (none, inl (is, lacks)) (inr (inr (too, inl bad))) = no_both (first_of (codes "variant") given) none bad.0
+without_range name given (none, inl (is, lacks)) (inr (inr (too, inr bad))) = lacks bad.0
+without_range name given (none, inr (inl (is, lacks))) (inl bad) = other_name (codes "hunt") (codes "run") name is refl bad.0
+without_range name given (none, inr (inl (is, lacks))) (inr (inl (too, inl bad))) = no_both (first_of (codes "variant") given) none bad.0
+without_range name given (none, inr (inl (is, lacks))) (inr (inl (too, inr bad))) = lacks bad.0
+without_range name given (none, inr (inl (is, lacks))) (inr (inr bad)) = other_name (codes "hunt") (codes "explore") name is refl bad.0
+without_range name given (none, inr (inr (is, lacks))) bad = sizeless (codes "shrink") name given is refl refl refl bad
 
 ranged : (name : Text) (given : Given) → HasBadWords name given → IsOutOfRange name given → ⊥
 ranged name given (inl entry) bad = sizeless (codes "explain") name given entry.0 refl refl refl bad
 ranged name given (inr (inl steps)) bad = sizeless (codes "replay") name given steps.0 refl refl refl bad
-ranged name given (inr (inr search)) (inl bad) = other_name (codes "explore") (codes "run") name search.0 refl bad.0
-ranged name given (inr (inr search)) (inr (inl bad)) = other_name (codes "explore") (codes "hunt") name search.0 refl bad.0
-ranged name given (inr (inr search)) (inr (inr (name_too, inl bad))) = no_both (first_of (codes "variant") given) search.1 bad.0
-ranged name given (inr (inr search)) (inr (inr (name_too, inr bad))) = search.2 bad.0
+ranged name given (inr (inr (inl page))) bad = sizeless (codes "draw") name given page.0 refl refl refl bad
+ranged name given (inr (inr (inr lock))) bad = without_range name given lock bad
 
 both_of : (words : List Text) (P Q : Text → Given → Type 0) → Takes words P → Takes words Q → (name : Text) × (given : Given) × P name given × Q name given
 both_of words P Q p q = go (subcommand_of rmelab words) p.1 q.1

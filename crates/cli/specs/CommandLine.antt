@@ -55,20 +55,24 @@ alone shape = record { top = shape; subs = [] }
 abbrev pub variant : Rule
 variant = option (codes "variant")
 
+abbrev pub algorithm : Rule
+algorithm = option (codes "algorithm")
+
 abbrev pub replay : Shape
-replay = part (codes "replay") (flag (codes "json") ∷ flag (codes "each") ∷ variant ∷ option (codes "algorithm") ∷ option (codes "image")
+replay = part (codes "replay") (flag (codes "json") ∷ flag (codes "each") ∷ variant ∷ algorithm ∷ option (codes "image")
     ∷ option (codes "save") ∷ word (codes "FILE") ∷ [])
 
 abbrev pub run : Shape
 run = part (codes "run") (required (number (codes "procs")) ∷ required (number (codes "messages")) ∷ required (number (codes "crash")) ∷ required (number (codes "seed")) ∷ number (codes "width") ∷ [])
 
 abbrev pub hunt : Shape
-hunt = part (codes "hunt") (required variant ∷ required (number (codes "seed")) ∷ required (number (codes "rounds")) ∷ required (number (codes "steps")) ∷ flag (codes "shrink")
-    ∷ number (codes "jobs") ∷ [])
+hunt = part (codes "hunt") (
+    variant ∷ algorithm ∷ number (codes "procs") ∷ number (codes "limit") ∷ required (number (codes "seed")) ∷ required (number (codes "rounds"))
+    ∷ required (number (codes "steps")) ∷ flag (codes "shrink") ∷ number (codes "jobs") ∷ [])
 
 abbrev pub explore : Shape
 explore = part (codes "explore") (
-    variant ∷ option (codes "algorithm") ∷ required (number (codes "procs")) ∷ option (codes "calls") ∷ number (codes "crashes")
+    variant ∷ algorithm ∷ required (number (codes "procs")) ∷ option (codes "calls") ∷ number (codes "crashes")
     ∷ number (codes "moves") ∷ number (codes "states") ∷ number (codes "limit") ∷ number (codes "cap") ∷ number (codes "width")
     ∷ flag (codes "stuck") ∷ flag (codes "all-variables") ∷ number (codes "jobs") ∷ [])
 
@@ -76,10 +80,10 @@ abbrev pub judge : Shape
 judge = part (codes "judge") (flag (codes "json") ∷ word (codes "FILE") ∷ [])
 
 abbrev pub draw : Shape
-draw = part (codes "draw") (variant ∷ option (codes "image") ∷ flag (codes "svg") ∷ flag (codes "html") ∷ word (codes "FILE") ∷ [])
+draw = part (codes "draw") (variant ∷ algorithm ∷ option (codes "image") ∷ flag (codes "svg") ∷ flag (codes "html") ∷ word (codes "FILE") ∷ [])
 
 abbrev pub shrink : Shape
-shrink = part (codes "shrink") (required variant ∷ word (codes "FILE") ∷ [])
+shrink = part (codes "shrink") (variant ∷ algorithm ∷ word (codes "FILE") ∷ [])
 
 abbrev pub step : Shape
 step = part (codes "step") (word (codes "FILE") ∷ [])

@@ -2,15 +2,18 @@
 use Rattle.std.specs.Prelude.{String, Option, Some, None}
 use Rattle.std.specs.declared.alloc.Global.{Global}
 use Rattle.cli.specs.declared.arguments.args.Command.{Command}
-use Rattle.cli.specs.declared.arguments.args.Command.TheVariants.{Replay, ReplayAlgorithm, ExploreAlgorithm, Judge, Draw, Shrink, Step}
+use Rattle.cli.specs.declared.arguments.args.Command.TheVariants.{Replay, ReplayAlgorithm, HuntAlgorithm, ExploreAlgorithm, Judge, Draw, DrawAlgorithm, Shrink, ShrinkAlgorithm, Step}
 
--- the file that is read first: the image that a world starts from, the algorithm that is run or searched, or the schedule that
--- a session starts from
+-- the file that is read first: the image that a world starts from, the algorithm that is run, hunted or searched, or the
+-- schedule that a session starts from
 abbrev pub image_of : Command → Option (String Global)
 image_of (Replay args) = args.image
 image_of (ReplayAlgorithm args) = Some args.algorithm
+image_of (HuntAlgorithm args) = Some args.algorithm
 image_of (ExploreAlgorithm args) = Some args.algorithm
 image_of (Draw args) = args.image
+image_of (DrawAlgorithm args) = Some args.algorithm
+image_of (ShrinkAlgorithm args) = Some args.algorithm
 image_of (Step file) = file
 image_of command = None
 
@@ -20,7 +23,9 @@ input_of (Replay args) = args.file
 input_of (ReplayAlgorithm args) = args.file
 input_of (Judge args) = args.file
 input_of (Draw args) = args.file
+input_of (DrawAlgorithm args) = args.file
 input_of (Shrink args) = args.file
+input_of (ShrinkAlgorithm args) = args.file
 input_of command = None
 
 -- the file to which the last image is written

@@ -1,6 +1,6 @@
 -- How the words of a command line are answered (docs/dev/texts.md, "The program `rmelab`"): what `clap` refuses first, then a bad variant, then
 -- a bad size.
-use Rattle.std.specs.Prelude.{◌≡◌, ◌≢◌, ◌⊎◌, true, false, List, [], map, Some, option_map, codes, Result, Err, MatchResult, IsNone, IsSome, IsSomeAnd, String, string_bytes}
+use Rattle.std.specs.Prelude.{◌≡◌, ◌≢◌, ◌⊎◌, ℕ, true, false, List, [], map, Some, option_map, codes, Result, Err, MatchResult, IsNone, IsSome, IsSomeAnd, String, string_bytes}
 use Rattle.std.specs.List.{list_all, list_any}
 use Rattle.std.specs.Str.{bytes_eq}
 use Rattle.std.specs.declared.alloc.Global.{Global}
@@ -10,16 +10,19 @@ use Rattle.clap.specs.declared.error.kind.ErrorKind.TheVariants as kinds
 use Rattle.crashlab.specs.declared.variant.Variant.{Variant}
 use Rattle.crashlab.specs.declared.variant.Variant.TheVariants.{Right}
 use Rattle.cli.specs.declared.arguments.args.Command.{Command}
-use Rattle.cli.specs.declared.arguments.args.Command.TheVariants.{Replay, ReplayAlgorithm, Run, Hunt, Explore, ExploreAlgorithm, Judge, Draw, Shrink, Step, Explain}
+use Rattle.cli.specs.declared.arguments.args.Command.TheVariants.{Replay, ReplayAlgorithm, Run, Hunt, HuntAlgorithm, Explore, ExploreAlgorithm, Judge, Draw, DrawAlgorithm, Shrink, ShrinkAlgorithm, Step, Explain}
 use Rattle.cli.specs.declared.arguments.args.ReplayArgs.{ReplayArgs}
 use Rattle.cli.specs.declared.arguments.args.AlgorithmReplayArgs.{AlgorithmReplayArgs}
 use Rattle.cli.specs.declared.arguments.args.RunArgs.{RunArgs}
 use Rattle.cli.specs.declared.arguments.args.HuntArgs.{HuntArgs}
+use Rattle.cli.specs.declared.arguments.args.AlgorithmHuntArgs.{AlgorithmHuntArgs}
 use Rattle.cli.specs.declared.arguments.args.ExploreArgs.{ExploreArgs}
 use Rattle.cli.specs.declared.arguments.args.AlgorithmExploreArgs.{AlgorithmExploreArgs}
 use Rattle.cli.specs.declared.arguments.args.DrawArgs.{DrawArgs}
+use Rattle.cli.specs.declared.arguments.args.AlgorithmDrawArgs.{AlgorithmDrawArgs}
 use Rattle.cli.specs.declared.arguments.args.JudgeArgs.{JudgeArgs}
 use Rattle.cli.specs.declared.arguments.args.ShrinkArgs.{ShrinkArgs}
+use Rattle.cli.specs.declared.arguments.args.AlgorithmShrinkArgs.{AlgorithmShrinkArgs}
 use Rattle.cli.specs.declared.arguments.words.WordsFault.{WordsFault}
 use Rattle.cli.specs.declared.arguments.words.WordsFault.TheVariants.{Help, Refused, BadVariant, BadSize, Unreadable, OutOfMemory}
 use Rattle.cli.specs.declared.explain.dictionary_entry.DictionaryEntry.{DictionaryEntry}
@@ -66,13 +69,41 @@ run_of given = record {
   width = number_or 1 (codes "width") given;
 }
 
+-- the rounds of a hunt
+abbrev pub rounds_of : Given → ℕ
+rounds_of given = number_or 0 (codes "rounds") given
+
+-- the moves of each round
+abbrev pub steps_of : Given → ℕ
+steps_of given = number_or 0 (codes "steps") given
+
 pub record IsHunt (given : Given) (args : HuntArgs) : Type 0 where
   pub variant : AsksFor [] given args.variant
   pub seed : args.seed ≡ number_or 0 (codes "seed") given
-  pub rounds : args.rounds ≡ number_or 0 (codes "rounds") given
-  pub steps : args.steps ≡ number_or 0 (codes "steps") given
+  pub rounds : args.rounds ≡ rounds_of given
+  pub steps : args.steps ≡ steps_of given
   pub shrink : args.shrink ≡ is_set (codes "shrink") given
   pub jobs : args.jobs ≡ number_or 0 (codes "jobs") given
+  pub no_algorithm : IsNone (first_of (codes "algorithm") given)
+  -- the sizes of a variant's worlds are fixed
+  pub no_procs : IsNone (first_of (codes "procs") given)
+  pub no_limit : IsNone (first_of (codes "limit") given)
+
+-- an algorithm is given to a hunt, and the schedule found is not to be made least
+pub record IsHuntOfAlgorithm (given : Given) : Type 0 where
+  pub algorithm : IsSome (first_of (codes "algorithm") given)
+  pub no_shrink : is_set (codes "shrink") given ≡ false
+
+-- it is hunted by one thread, however many are asked for
+pub record IsAlgorithmHunt (given : Given) (args : AlgorithmHuntArgs) : Type 0 where
+  pub algorithm : Some (string_bytes args.algorithm) ≡ first_of (codes "algorithm") given
+  pub no_variant : IsNone (first_of (codes "variant") given)
+  pub hunt : IsHuntOfAlgorithm given
+  pub procs : args.procs ≡ number_or 2 (codes "procs") given
+  pub limit : args.limit ≡ number_or 1000000 (codes "limit") given
+  pub seed : args.seed ≡ number_or 0 (codes "seed") given
+  pub rounds : args.rounds ≡ rounds_of given
+  pub steps : args.steps ≡ steps_of given
 
 pub record IsExplore (given : Given) (args : ExploreArgs) : Type 0 where
   pub variant : AsksFor [] given args.variant
@@ -123,9 +154,23 @@ pub record IsDraw (given : Given) (args : DrawArgs) : Type 0 where
   pub variant : GoesWithImage given args.variant
   pub image : option_map string_bytes args.image ≡ first_of (codes "image") given
   pub file : option_map string_bytes args.file ≡ first_of (codes "FILE") given
+  pub no_algorithm : IsNone (first_of (codes "algorithm") given)
+
+pub record IsAlgorithmDraw (given : Given) (args : AlgorithmDrawArgs) : Type 0 where
+  pub algorithm : Some (string_bytes args.algorithm) ≡ first_of (codes "algorithm") given
+  pub style : args.style ≡ style_of given
+  pub file : option_map string_bytes args.file ≡ first_of (codes "FILE") given
+  pub alone : IsAlone given
+  pub no_page : is_set (codes "html") given ≡ false
 
 pub record IsShrink (given : Given) (args : ShrinkArgs) : Type 0 where
   pub variant : AsksFor [] given args.variant
+  pub file : option_map string_bytes args.file ≡ first_of (codes "FILE") given
+  pub no_algorithm : IsNone (first_of (codes "algorithm") given)
+
+pub record IsAlgorithmShrink (given : Given) (args : AlgorithmShrinkArgs) : Type 0 where
+  pub algorithm : Some (string_bytes args.algorithm) ≡ first_of (codes "algorithm") given
+  pub no_variant : IsNone (first_of (codes "variant") given)
   pub file : option_map string_bytes args.file ≡ first_of (codes "FILE") given
 
 -- the command has this name, and its arguments are those that are given
@@ -134,12 +179,15 @@ IsCommand name given (Replay args) = (name ≡ codes "replay") × IsReplay given
 IsCommand name given (ReplayAlgorithm args) = (name ≡ codes "replay") × IsAlgorithmReplay given args
 IsCommand name given (Run args) = (name ≡ codes "run") × (args ≡ run_of given)
 IsCommand name given (Hunt args) = (name ≡ codes "hunt") × IsHunt given args
+IsCommand name given (HuntAlgorithm args) = (name ≡ codes "hunt") × IsAlgorithmHunt given args
 IsCommand name given (Explore args) = (name ≡ codes "explore") × IsExplore given args
 IsCommand name given (ExploreAlgorithm args) = (name ≡ codes "explore") × IsAlgorithmExplore given args
 IsCommand name given (Judge args) = (name ≡ codes "judge") × IsJudge given args
 IsCommand name given (Step file) = (name ≡ codes "step") × (option_map string_bytes file ≡ first_of (codes "FILE") given)
 IsCommand name given (Draw args) = (name ≡ codes "draw") × IsDraw given args
+IsCommand name given (DrawAlgorithm args) = (name ≡ codes "draw") × IsAlgorithmDraw given args
 IsCommand name given (Shrink args) = (name ≡ codes "shrink") × IsShrink given args
+IsCommand name given (ShrinkAlgorithm args) = (name ≡ codes "shrink") × IsAlgorithmShrink given args
 IsCommand name given (Explain entry) = (name ≡ codes "explain") × (option_map name_of entry ≡ entry_named given)
 
 -- ---- why what is given to a command is refused
@@ -153,15 +201,21 @@ IsBadBesideImage given = AsksForNone (codes "right") given
 abbrev pub IsBesideAlgorithm : Given → Type 0
 IsBesideAlgorithm given = IsSome (first_of (codes "algorithm") given) × (IsAlone given → ⊥)
 
--- a variant is given to a search: there is no such variant, or an algorithm is given too
-abbrev pub IsBadForSearch : Given → Type 0
-IsBadForSearch given = IsSome (first_of (codes "variant") given) × (AsksForNone [] given ⊎ IsSome (first_of (codes "algorithm") given))
+-- a variant is given that there is none of, or an algorithm too
+abbrev pub IsBadVariant : Given → Type 0
+IsBadVariant given = IsSome (first_of (codes "variant") given) × (AsksForNone [] given ⊎ IsSome (first_of (codes "algorithm") given))
+
+-- the command runs the right lock, where neither a variant nor an algorithm is given
+abbrev pub TakesImage : Text → Type 0
+TakesImage name = (name ≡ codes "replay") ⊎ (name ≡ codes "draw")
+
+-- the command wants a variant or an algorithm
+abbrev pub NeedsLock : Text → Type 0
+NeedsLock name = (name ≡ codes "hunt") ⊎ ((name ≡ codes "explore") ⊎ (name ≡ codes "shrink"))
 
 abbrev pub HasBadVariant : Text → Given → Type 0
-HasBadVariant name given = (((name ≡ codes "replay") ⊎ (name ≡ codes "draw")) × IsBadBesideImage given)
-    ⊎ ((((name ≡ codes "hunt") ⊎ (name ≡ codes "shrink")) × AsksForNone [] given)
-    ⊎ (((name ≡ codes "replay") × IsBesideAlgorithm given)
-    ⊎ ((name ≡ codes "explore") × IsBadForSearch given)))
+HasBadVariant name given =
+    (TakesImage name × (IsBadBesideImage given ⊎ IsBesideAlgorithm given)) ⊎ (NeedsLock name × IsBadVariant given)
 
 -- a search for stuck states is given a bound on moves
 abbrev pub IsStuckWithin : Given → Type 0
@@ -175,11 +229,23 @@ IsBadSearch given = IsSome (first_of (codes "variant") given) × ((list_all is_c
 abbrev pub IsBadAlgorithmSearch : Given → Type 0
 IsBadAlgorithmSearch given = IsAlgorithmSearch given × (list_all is_algorithm_call (calls_of given) ≡ false)
 
--- a number is outside its range, or a search is bad
+-- a size of its worlds is given to a hunt
+abbrev pub HasWorldSize : Given → Type 0
+HasWorldSize given = IsSome (first_of (codes "procs") given) ⊎ IsSome (first_of (codes "limit") given)
+
+-- the numbers of a variant's hunt are outside their ranges, or one too many
+abbrev pub IsBadHunt : Given → Type 0
+IsBadHunt given = IsSome (first_of (codes "variant") given) × ((IsHuntSize (rounds_of given) (steps_of given) → ⊥) ⊎ HasWorldSize given)
+
+-- the numbers of an algorithm's hunt are outside their ranges
+abbrev pub IsBadAlgorithmHunt : Given → Type 0
+IsBadAlgorithmHunt given = IsHuntOfAlgorithm given × (IsHuntSize (rounds_of given) (steps_of given) → ⊥)
+
+-- a number is outside its range, or a hunt or a search is bad
 abbrev pub IsOutOfRange : Text → Given → Type 0
 IsOutOfRange name given =
     ((name ≡ codes "run") × (RunFits (run_of given) → ⊥))
-    ⊎ (((name ≡ codes "hunt") × (IsHuntSize (number_or 0 (codes "rounds") given) (number_or 0 (codes "steps") given) → ⊥))
+    ⊎ (((name ≡ codes "hunt") × (IsBadHunt given ⊎ IsBadAlgorithmHunt given))
     ⊎ ((name ≡ codes "explore") × (IsBadSearch given ⊎ IsBadAlgorithmSearch given)))
 
 -- the variant is good, and a size is bad
@@ -196,13 +262,20 @@ abbrev pub HasNoSteps : Text → Given → Type 0
 HasNoSteps name given = (name ≡ codes "replay") × IsSome (first_of (codes "algorithm") given) × IsAlone given
     × ((is_set (codes "json") given ≡ true) ⊎ (is_set (codes "each") given ≡ true))
 
--- neither a variant is searched nor an algorithm, or the search of an algorithm is given an option that it does not have
-abbrev pub HasNoSearch : Text → Given → Type 0
-HasNoSearch name given = (name ≡ codes "explore") × IsNone (first_of (codes "variant") given) × (IsAlgorithmSearch given → ⊥)
+-- of a run of an algorithm a page is asked for
+abbrev pub HasNoPage : Text → Given → Type 0
+HasNoPage name given = (name ≡ codes "draw") × IsSome (first_of (codes "algorithm") given) × IsAlone given × (is_set (codes "html") given ≡ true)
+
+-- there is neither a variant nor an algorithm, or an algorithm is given an option that the command does not have for one
+abbrev pub HasNoLock : Text → Given → Type 0
+HasNoLock name given = IsNone (first_of (codes "variant") given)
+    × (((name ≡ codes "explore") × (IsAlgorithmSearch given → ⊥))
+    ⊎ (((name ≡ codes "hunt") × (IsHuntOfAlgorithm given → ⊥))
+    ⊎ ((name ≡ codes "shrink") × IsNone (first_of (codes "algorithm") given))))
 
 -- words that `clap` takes are refused as it refuses words
 abbrev pub HasBadWords : Text → Given → Type 0
-HasBadWords name given = HasNoEntry name given ⊎ (HasNoSteps name given ⊎ HasNoSearch name given)
+HasBadWords name given = HasNoEntry name given ⊎ (HasNoSteps name given ⊎ (HasNoPage name given ⊎ HasNoLock name given))
 
 -- out of memory comes at any time
 abbrev pub IsFault : Text → Given → WordsFault → Type 0

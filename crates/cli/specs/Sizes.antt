@@ -1,7 +1,7 @@
 -- The ranges of the program's numbers (the specification's "Limits").
 use Rattle.std.specs.Prelude.{◌≤◌, ℕ}
 use Rattle.cli.specs.declared.arguments.args.Command.{Command}
-use Rattle.cli.specs.declared.arguments.args.Command.TheVariants.{Replay, ReplayAlgorithm, Run, Hunt, Explore, ExploreAlgorithm, Judge, Draw, Shrink, Step, Explain}
+use Rattle.cli.specs.declared.arguments.args.Command.TheVariants.{Replay, ReplayAlgorithm, Run, Hunt, HuntAlgorithm, Explore, ExploreAlgorithm, Judge, Draw, DrawAlgorithm, Shrink, ShrinkAlgorithm, Step, Explain}
 use Rattle.cli.specs.declared.arguments.args.HuntArgs.{HuntArgs}
 use Rattle.cli.specs.declared.arguments.args.RunArgs.{RunArgs}
 
@@ -23,10 +23,13 @@ IsSized (Replay args) = Unit {0}
 IsSized (ReplayAlgorithm args) = Unit {0}
 IsSized (Run args) = RunFits args
 IsSized (Hunt args) = HuntFits args
+IsSized (HuntAlgorithm args) = IsHuntSize args.rounds args.steps
 IsSized (Explore args) = Unit {0}
 IsSized (ExploreAlgorithm args) = Unit {0}
 IsSized (Judge file) = Unit {0}
 IsSized (Step file) = Unit {0}
 IsSized (Draw args) = Unit {0}
+IsSized (DrawAlgorithm args) = Unit {0}
 IsSized (Shrink args) = Unit {0}
+IsSized (ShrinkAlgorithm args) = Unit {0}
 IsSized (Explain dictionary_entry) = Unit {0}

@@ -2,7 +2,10 @@
 
 pub mod args;
 mod argument;
+mod draw_words;
 mod explore_words;
+mod hunt_words;
 mod parser;
 mod replay_words;
+mod shrink_words;
 pub mod words;

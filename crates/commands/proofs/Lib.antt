@@ -1,6 +1,8 @@
 pub mod AlgorithmExplores
+pub mod AlgorithmHunts
 pub mod AlgorithmPaths
-pub mod AlgorithmReplays
+pub mod AlgorithmShrinks
+pub mod AlgorithmTexts
 pub mod Draws
 pub mod Replays
 pub mod Gates

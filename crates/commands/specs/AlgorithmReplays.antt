@@ -1,23 +1,18 @@
 -- How a replay on an algorithm's text ends.
-use Rattle.std.specs.Prelude.{◌≡◌, ◌⊎◌, ℕ, List, Option, Some, None, Result, Ok, Err}
-use Rattle.algorithms.specs.Ranked.{LocalLinesEnd, AccessesLeadOn}
+use Rattle.std.specs.Prelude.{◌≡◌, ℕ, Option, Some, None, Result, Ok, Err}
 use Rattle.algorithms.specs.declared.algorithm.Algorithm.{Algorithm}
-use Rattle.algorithms.specs.declared.fault.LineFault.{LineFault}
 use Rattle.algorithm_lab.specs.Refusals.{number_of}
 use Rattle.algorithm_lab.specs.Replays.{Replays, run_of}
 use Rattle.algorithm_lab.specs.declared.replay_fault.AlgorithmReplayFault.{AlgorithmReplayFault}
 use Rattle.algorithm_lab.specs.declared.replay_fault.AlgorithmReplayFault.TheVariants as of_run
-use Rattle.schedule.specs.Schedules.{Scheduled, schedule_at}
+use Rattle.schedule.specs.Schedules.{Scheduled}
 use Rattle.schedule.specs.Tapes.{Tape, Reading}
-use Rattle.schedule.specs.Wholes.{WasRead}
 use Rattle.schedule.specs.declared.replays.verdict.Verdict.{Verdict}
 use Rattle.commands.specs.declared.schedules.ending.Ending.{Ending}
 use Rattle.commands.specs.declared.schedules.fault.CommandFault.{CommandFault}
 use Rattle.commands.specs.declared.schedules.fault.CommandFault.TheVariants as faults
-use Rattle.commands.specs.Endings.{TellsReads}
-use Rattle.commands.specs.Settings.{IsWrongText}
-use Rattle.commands.specs.Statuses.{outcome, status_after, status_of}
-use Rattle.commands.specs.Tellings.{Refuses}
+use Rattle.commands.specs.AlgorithmTexts.{EndsOnBoth}
+use Rattle.commands.specs.Statuses.{outcome, status_after}
 
 -- the fault for a line that is refused, by the number of the refusal
 abbrev pub refused_at : ℕ → Option ℕ → CommandFault
@@ -41,27 +36,7 @@ TellsAlgorithm algorithm schedule before now end =
     (answer : Result Verdict AlgorithmReplayFault)
     × Replays before now (run_of algorithm schedule.procs schedule.limit schedule.lines) answer × (outcome end ≡ outcome_of_run answer)
 
--- an algorithm was read from its text, and its local lines end. The run of the schedule that was read is written
-pub record TellsAlgorithmText (old new : Reading) (before now : Tape) (end : Result Ending CommandFault) : Type 0 where
-  pub algorithm : Algorithm
-  pub ends : LocalLinesEnd algorithm
-  pub leads : AccessesLeadOn algorithm
-  pub text : List ℕ
-  pub read : WasRead old new text
-  pub schedule : Scheduled
-  pub spelled_so : schedule_at text ≡ Ok schedule
-  pub told : TellsAlgorithm algorithm schedule before now end
-
--- the algorithm's text is at fault, or there is no memory
-abbrev pub IsAlgorithmFault : CommandFault → Type 0
-IsAlgorithmFault fault = (fault ≡ faults.OutOfMemory) ⊎ ((line : ℕ) × (purpose : LineFault) × (fault ≡ faults.Algorithm line purpose))
-
--- what is wrong with what was read: the algorithm's text or the schedule's; or a device or memory has failed
-abbrev pub IsUnreadAlgorithm : Reading → Reading → CommandFault → Type 0
-IsUnreadAlgorithm old new fault = IsAlgorithmFault fault ⊎ ((status_of fault ≡ 3) ⊎ IsWrongText old new fault)
-
--- the run is written, or the fault of what was to be read is answered and nothing is written. A failed read isn't taken for
--- the end of the schedule
+-- the run is written, or the fault of what was to be read is answered
 abbrev pub AlgorithmReplayEnds : Reading → Reading → Tape → Tape → Result Ending CommandFault → Type 0
 AlgorithmReplayEnds old new before now end =
-    (Refuses before now (IsUnreadAlgorithm old new) end ⊎ TellsAlgorithmText old new before now end) × TellsReads old new end
+    EndsOnBoth (λ algorithm schedule. TellsAlgorithm algorithm schedule before now end) old new before now end

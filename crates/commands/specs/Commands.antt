@@ -1,5 +1,5 @@
 -- How a command ends: what its exit status, or its fault, says of what was read, written and is to be saved.
-use Rattle.std.specs.Prelude.{◌≡◌, ◌≢◌, ◌⊎◌, ℕ, ◌+◌, ◌-◌, ◌*◌, ◌^◌, ◌≤◌, min, Bool, true, false, List, [], ◌∷◌, codes, length, Option, Some, None, Result, Ok, Err}
+use Rattle.std.specs.Prelude.{◌≡◌, ◌≢◌, ◌⊎◌, ℕ, ◌+◌, ◌-◌, ◌*◌, ◌^◌, ◌≤◌, min, Bool, true, false, List, [], length, Option, Some, None, Result, Ok, Err}
 use Rattle.crashlab.specs.declared.variant.Variant.{Variant}
 use Rattle.crashlab.specs.declared.variant.Variant.TheVariants.{Right}
 use Rattle.crashlab.specs.Hunted.{hunted}
@@ -9,7 +9,7 @@ use Rattle.cli.specs.declared.explain.dictionary_entry.TheConstants.{ENTRIES}
 use Rattle.cli.specs.Told.{list_of, TellsDictionaryEntry}
 use Rattle.one_lock.specs.declared.lab.spec.Spec.{Spec}
 use Rattle.schedule.specs.Schedules.{Scheduled, spelling}
-use Rattle.schedule.specs.Words.{line_of, parts_of}
+use Rattle.schedule.specs.Words.{parts_of}
 use Rattle.schedule.specs.Tapes.{Tape, Writes, Reading}
 use Rattle.schedule.specs.Reports.{verdict_line}
 use Rattle.schedule.specs.TraceJudges.{trace_answer}
@@ -19,7 +19,7 @@ use Rattle.schedule.specs.declared.replays.verdict.Verdict.{Verdict}
 use Rattle.crashlab.specs.Shrunk.{Shrinks}
 use Rattle.diagram.specs.StepLines.{verdict_object}
 use Rattle.cli.specs.declared.arguments.args.Command.{Command}
-use Rattle.cli.specs.declared.arguments.args.Command.TheVariants.{Replay, ReplayAlgorithm, Run, Hunt, Explore, ExploreAlgorithm, Judge, Draw, Shrink, Step, Explain}
+use Rattle.cli.specs.declared.arguments.args.Command.TheVariants.{Replay, ReplayAlgorithm, Run, Hunt, HuntAlgorithm, Explore, ExploreAlgorithm, Judge, Draw, DrawAlgorithm, Shrink, ShrinkAlgorithm, Step, Explain}
 use Rattle.cli.specs.declared.arguments.args.HuntArgs.{HuntArgs}
 use Rattle.cli.specs.declared.arguments.args.RunArgs.{RunArgs}
 use Rattle.cli.specs.Sizes.{HuntFits, RunFits}
@@ -27,15 +27,18 @@ use Rattle.commands.specs.declared.schedules.ending.Ending.{Ending}
 use Rattle.commands.specs.declared.schedules.fault.CommandFault.{CommandFault}
 use Rattle.commands.specs.declared.schedules.fault.CommandFault.TheVariants.{BadSize, Write}
 use Rattle.commands.specs.Conversations.{SessionEnds}
+use Rattle.commands.specs.AlgorithmDraws.{AlgorithmDrawEnds}
 use Rattle.commands.specs.AlgorithmExplores.{AlgorithmExploreEnds}
+use Rattle.commands.specs.AlgorithmHunts.{AlgorithmHuntEnds}
 use Rattle.commands.specs.AlgorithmReplays.{AlgorithmReplayEnds}
+use Rattle.commands.specs.AlgorithmShrinks.{AlgorithmShrinkEnds}
 use Rattle.commands.specs.Draws.{DrawEnds}
 use Rattle.commands.specs.Endings.{IsBroken, TellsReads}
 use Rattle.commands.specs.Folders.{Used}
 use Rattle.commands.specs.Replays.{ReplayEnds}
 use Rattle.commands.specs.Shrinks.{ShrinkEnds}
 use Rattle.commands.specs.Statuses.{outcome, outcome_told, status_ended}
-use Rattle.commands.specs.Explores.{ExploreEnds}
+use Rattle.commands.specs.Explores.{ExploreEnds, nothing_line}
 
 -- a verdict as a line, or as a JSON object
 abbrev pub verdict_told : Bool → Verdict → List ℕ
@@ -75,7 +78,7 @@ pub record TellsFind (args : HuntArgs) (before now : Tape) : Type 0 where
 -- how `hunt` ends: nothing found, a schedule found, sizes out of their ranges, or a failure
 abbrev pub HuntEnds : HuntArgs → Tape → Tape → Result Ending CommandFault → Type 0
 HuntEnds args before now end =
-    (outcome end ≡ Ok 0) × (None ≡ hunted args.variant args.seed args.rounds args.steps) × Writes before now (line_of (codes "nothing" ∷ codes "found" ∷ []))
+    (outcome end ≡ Ok 0) × (None ≡ hunted args.variant args.seed args.rounds args.steps) × Writes before now nothing_line
     ⊎ (outcome end ≡ Ok 1) × TellsFind args before now
     ⊎ (outcome end ≡ Err BadSize) × (HuntFits args → ⊥)
     ⊎ IsBroken end
@@ -110,10 +113,13 @@ CommandEnds (Replay args) image old new before now end = ReplayEnds args image o
 CommandEnds (ReplayAlgorithm args) image old new before now end = AlgorithmReplayEnds old new before now end
 CommandEnds (Run args) image old new before now end = RunEnds args end
 CommandEnds (Hunt args) image old new before now end = HuntEnds args before now end
+CommandEnds (HuntAlgorithm args) image old new before now end = (new ≡ old) × AlgorithmHuntEnds args before now end
 CommandEnds (Explore args) image old new before now end = ExploreEnds args before now end
 CommandEnds (ExploreAlgorithm args) image old new before now end = (new ≡ old) × AlgorithmExploreEnds args before now end
 CommandEnds (Judge args) image old new before now end = JudgeEnds args.json old new before now end
 CommandEnds (Draw args) image old new before now end = DrawEnds args image old new before now end × TellsReads old new end
+CommandEnds (DrawAlgorithm args) image old new before now end = AlgorithmDrawEnds args.style old new before now end
 CommandEnds (Shrink args) image old new before now end = ShrinkEnds args old new before now end × TellsReads old new end
+CommandEnds (ShrinkAlgorithm args) image old new before now end = AlgorithmShrinkEnds old new before now end
 CommandEnds (Step file) image old new before now end = (first : Used) × (last : Used) × SessionEnds image old new first last before now end
 CommandEnds (Explain dictionary_entry) image old new before now end = (new ≡ old) × ExplainEnds dictionary_entry before now end

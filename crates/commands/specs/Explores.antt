@@ -69,6 +69,10 @@ pub record TellsLeast (args : ExploreArgs) (before now : Tape) : Type 0 where
   pub few : length path ≤ args.moves
   pub text : Writes before now (spelling (schedule_of args path))
 
+-- the line `nothing found`
+abbrev pub nothing_line : List ℕ
+nothing_line = line_of (codes "nothing" ∷ codes "found" ∷ [])
+
 -- the line `nothing found within K moves`
 abbrev pub within_line : ℕ → List ℕ
 within_line moves = line_of (codes "nothing" ∷ codes "found" ∷ codes "within" ∷ decimal moves ∷ codes "moves" ∷ [])

@@ -1,7 +1,11 @@
+pub mod AlgorithmDraws
 pub mod AlgorithmExplores
 pub mod AlgorithmFaults
 pub mod AlgorithmFindings
+pub mod AlgorithmHunts
 pub mod AlgorithmReplays
+pub mod AlgorithmShrinks
+pub mod AlgorithmTexts
 pub mod Shown
 pub mod Draws
 pub mod Endings

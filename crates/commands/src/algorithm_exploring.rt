@@ -136,7 +136,7 @@ fn tell_shortest<S: Screen, W: Sink>(
 /// of fewest moves that goes wrong, or that there is none. Progress is shown on the screen. `Algorithm`: the text's fault.
 /// `BadSize`: the algorithm is not for this number of processes, or the limit is outside its range. `TooManyStates`: the search
 /// reached more states than it may keep.
-#[tactic(auto, using(crate::proofs::AlgorithmExplores::no_algorithm))]
+#[tactic(auto, using(crate::proofs::AlgorithmTexts::no_algorithm_alone))]
 pub fn algorithm_explore_command<S: Screen, W: Sink>(
     alloc: Global,
     args: &AlgorithmExploreArgs,

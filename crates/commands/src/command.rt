@@ -11,6 +11,7 @@ ghost use Rattle.commands.specs.Folders.{is_session};
 ghost use Rattle.commands.specs.Statuses.{status_of};
 
 use crate::algorithm_exploring::algorithm_explore_command;
+use crate::algorithm_hunting::algorithm_hunt_command;
 use crate::exploring::explore_command;
 use crate::folder::{Folder, NoFolder};
 use crate::jobs::jobs_of;
@@ -19,6 +20,8 @@ use crate::progress::screen::{NoScreen, Screen};
 use crate::progress::work::Work;
 use crate::running::run_command;
 use crate::schedules::algorithm::algorithm_replay_command;
+use crate::schedules::algorithm_drawn::algorithm_draw_command;
+use crate::schedules::algorithm_shrunk::algorithm_shrink_command;
 use crate::schedules::drawn::draw_command;
 use crate::schedules::ending::{Ending, status_after_verdict};
 use crate::schedules::fault::CommandFault;
@@ -191,8 +194,11 @@ pub fn ended<T: Threads + Wait + Sync, F: Folder, S: Screen, R: Source, W: Sink>
         Command::ReplayAlgorithm(_) => algorithm_replay_command(alloc, image, r, w),
         Command::Judge(args) => judge_command(alloc, args.json, r, w),
         Command::Draw(args) => draw_command(alloc, args, image, r, w),
+        Command::DrawAlgorithm(args) => algorithm_draw_command(alloc, args, image, r, w),
         Command::Shrink(args) => shrink_command(alloc, args, r, w),
+        Command::ShrinkAlgorithm(_) => algorithm_shrink_command(alloc, image, r, w),
         Command::Hunt(args) => hunt_command(rt, alloc, args, screen, w),
+        Command::HuntAlgorithm(args) => algorithm_hunt_command(alloc, args, image, w),
         Command::Explore(args) => explore_command(rt, alloc, args, screen, w),
         Command::ExploreAlgorithm(args) => {
             algorithm_explore_command(alloc, args, image, screen, w)

@@ -3,6 +3,7 @@
 
 pub mod algorithm_exploring;
 pub mod algorithm_fault;
+pub mod algorithm_hunting;
 pub mod command;
 pub mod disk;
 pub mod exploring;

@@ -1,6 +1,8 @@
 //! The commands that read a schedule: `replay`, `draw` and `shrink`. And how any command ends, and the line of a fault.
 
 pub mod algorithm;
+pub mod algorithm_drawn;
+pub mod algorithm_shrunk;
 pub mod drawn;
 pub mod ending;
 pub mod fault;

@@ -2,7 +2,7 @@
 //! turn. Tests alone: each names public functions of `commands` and of the crates below it.
 
 #[cfg(test)]
-mod algorithm_explores;
+pub mod algorithm_explores;
 #[cfg(test)]
 mod explores;
 #[cfg(test)]

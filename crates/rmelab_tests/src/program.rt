@@ -2,7 +2,9 @@
 //! memory is refused in turn. Tests alone: each names public functions of `commands` and of the crates below it.
 
 #[cfg(test)]
-mod algorithm_texts;
+pub mod algorithm_texts;
+#[cfg(test)]
+pub mod algorithms;
 #[cfg(test)]
 mod drawings;
 #[cfg(test)]

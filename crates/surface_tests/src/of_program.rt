@@ -66,11 +66,14 @@ pub fn runs_threads(read: &Command) -> bool {
         Command::Replay(_)
         | Command::ReplayAlgorithm(_)
         | Command::Hunt(_)
+        | Command::HuntAlgorithm(_)
         | Command::Explore(_)
         | Command::ExploreAlgorithm(_)
         | Command::Judge(_)
         | Command::Draw(_)
+        | Command::DrawAlgorithm(_)
         | Command::Shrink(_)
+        | Command::ShrinkAlgorithm(_)
         | Command::Step(_)
         | Command::Explain(_) => false,
     }

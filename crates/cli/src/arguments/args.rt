@@ -60,6 +60,19 @@ pub struct HuntArgs {
     pub jobs: u64,
 }
 
+/// `hunt --algorithm`: draws schedules until an algorithm goes wrong.
+#[derive(Debug, Drop, PartialEq, Eq)]
+pub struct AlgorithmHuntArgs {
+    /// The file of the algorithm's text.
+    pub algorithm: String,
+    pub procs: u64,
+    pub limit: u64,
+    pub seed: u64,
+    pub rounds: u64,
+    /// The number of moves of a round.
+    pub steps: u64,
+}
+
 /// The calls that a search starts.
 #[derive(Clone, Copy, Debug, PartialEq, Eq)]
 pub struct Alphabet {
@@ -143,10 +156,29 @@ pub struct DrawArgs {
     pub file: Option<String>,
 }
 
+/// `draw --algorithm`: runs a schedule on an algorithm, and draws its run.
+#[derive(Debug, Drop, PartialEq, Eq)]
+pub struct AlgorithmDrawArgs {
+    /// The file of the algorithm's text.
+    pub algorithm: String,
+    pub style: Style,
+    /// The schedule's file; without one, standard input.
+    pub file: Option<String>,
+}
+
 /// `shrink`: shrinks a schedule that goes wrong on a variant.
 #[derive(Debug, Drop, PartialEq, Eq)]
 pub struct ShrinkArgs {
     pub variant: Variant,
+    /// The schedule's file; without one, standard input.
+    pub file: Option<String>,
+}
+
+/// `shrink --algorithm`: shrinks a schedule that goes wrong on an algorithm.
+#[derive(Debug, Drop, PartialEq, Eq)]
+pub struct AlgorithmShrinkArgs {
+    /// The file of the algorithm's text.
+    pub algorithm: String,
     /// The schedule's file; without one, standard input.
     pub file: Option<String>,
 }
@@ -158,11 +190,14 @@ pub enum Command {
     ReplayAlgorithm(AlgorithmReplayArgs),
     Run(RunArgs),
     Hunt(HuntArgs),
+    HuntAlgorithm(AlgorithmHuntArgs),
     Explore(ExploreArgs),
     ExploreAlgorithm(AlgorithmExploreArgs),
     Judge(JudgeArgs),
     Draw(DrawArgs),
+    DrawAlgorithm(AlgorithmDrawArgs),
     Shrink(ShrinkArgs),
+    ShrinkAlgorithm(AlgorithmShrinkArgs),
     /// Holds a session over a schedule, which begins with the one in this file.
     Step(Option<String>),
     /// Prints what this entry means; without one, the names of all entries.
@@ -181,7 +216,9 @@ impl Command {
             Command::ReplayAlgorithm(args) => args.file.as_ref(),
             Command::Judge(args) => args.file.as_ref(),
             Command::Draw(args) => args.file.as_ref(),
+            Command::DrawAlgorithm(args) => args.file.as_ref(),
             Command::Shrink(args) => args.file.as_ref(),
+            Command::ShrinkAlgorithm(args) => args.file.as_ref(),
             _ => None,
         }
     }
@@ -193,8 +230,11 @@ impl Command {
         match self {
             Command::Replay(args) => args.image.as_ref(),
             Command::ReplayAlgorithm(args) => Some(&args.algorithm),
+            Command::HuntAlgorithm(args) => Some(&args.algorithm),
             Command::ExploreAlgorithm(args) => Some(&args.algorithm),
             Command::Draw(args) => args.image.as_ref(),
+            Command::DrawAlgorithm(args) => Some(&args.algorithm),
+            Command::ShrinkAlgorithm(args) => Some(&args.algorithm),
             Command::Step(file) => file.as_ref(),
             _ => None,
         }

@@ -2,7 +2,7 @@
 
 ghost use Rattle.std.specs.Prelude.{◌≡◌, false, codes};
 ghost use Rattle.clap.specs.Words.{rule_of};
-ghost use Rattle.cli.specs.CommandLine.{flag, option, number, word, variant, required, rule_of_argument, rule_of_form};
+ghost use Rattle.cli.specs.CommandLine.{algorithm, flag, option, number, word, variant, required, rule_of_argument, rule_of_form};
 
 use clap::{Arg, ArgAction, value_parser};
 use std::alloc::Global;
@@ -95,7 +95,7 @@ impl<'a> Argument<'a> {
 
     /// `--algorithm FILE`.
     pub fn algorithm() -> Argument<'a>
-        ensures { rule_of_argument result ≡ option (codes "algorithm") }
+        ensures { rule_of_argument result ≡ algorithm }
     {
         let help = "Run this algorithm, a text, in place of a variant";
         Argument::text("algorithm", "FILE", help)

@@ -10,7 +10,7 @@ use crate::arguments::args::{
     AlgorithmCalls, AlgorithmExploreArgs, Alphabet, Command, ExploreArgs,
 };
 use crate::arguments::words::{
-    WordsFault, is_given, is_set, number_of, number_or, str_of, text_of, variant_of,
+    WordsFault, is_given, is_set, number_of, number_or, str_of, text_of, variant_of, without_lock,
 };
 use clap::ArgMatches;
 use std::alloc::{AllocError, Global};
@@ -117,14 +117,6 @@ fn algorithm_calls_of(alloc: Global, matches: &ArgMatches<'_>) -> Result<Algorit
         recover: has_call(&calls, "recover"),
         withdraw: has_call(&calls, "withdraw"),
     })
-}
-
-/// The error text where there is nothing to search.
-fn without_lock(alloc: Global) -> Result<String, AllocError> {
-    String::from_str(
-        alloc,
-        "error: there is neither '--variant <V>' nor '--algorithm <FILE>'\n\nFor more information, try '--help'.\n",
-    )
 }
 
 /// The error text for an option that a search of an algorithm does not have.

@@ -24,10 +24,11 @@ total.\nExit status: 0 where each message stands once and in its order, 1 where 
 device, of memory or of a sender.\n\nExample: rmelab run --procs 4 --messages 50 --crash 20 --seed 7";
 
 const HUNT_HELP: &str =
-    "In: nothing.\nOut: the schedule found, which `rmelab replay --variant V` replays to its fault, or `nothing \
-found`.\nShown: on standard error, where that is a terminal, the rounds, the moves and the moves a second, once a \
-second while it works.\nExit status: 0 where nothing was found, 1 where a schedule was, 2 after a fault of the words, 3 after one of a device or \
-of memory.\n\nExample: rmelab hunt --variant no-look --seed 1 --rounds 10000 --steps 1000";
+    "In: nothing; with --algorithm the algorithm's text: docs/use/algorithms.md. An algorithm is hunted by one thread.\nOut: the \
+schedule found, which `rmelab replay` with the same --variant or --algorithm replays to its fault, or `nothing \
+found`.\nShown: of a variant, on standard error, where that is a terminal, the rounds, the moves and the moves a second, once a \
+second while it works.\nExit status: 0 where nothing was found, 1 where a schedule was, 2 after a fault of the words or the algorithm, 3 \
+after one of a device or of memory.\n\nExample: rmelab hunt --variant no-look --seed 1 --rounds 10000 --steps 1000";
 
 const EXPLORE_HELP: &str =
     "In: nothing; with --algorithm the algorithm's text: docs/use/algorithms.md. All schedules are tried whose moves are the start \
@@ -49,16 +50,18 @@ device or of memory.\n\nExample: rmelab judge examples/overtaken.trace";
 
 const DRAW_HELP: &str =
     "In: a schedule, as `rme 1 procs 2 limit 10 cap 1`, then lines such as `lock 0`, `step 0 5`, \
-`crash 0`, each ended by a line feed.\nOut: its run, time downward: a column for each process, a row for each step or crash, \
+`crash 0`, each ended by a line feed. With --algorithm the algorithm's text is read first: docs/use/algorithms.md.\nOut: its run, \
+time downward: a column for each process, a row for each step or crash, \
 and what it tells at the right; with --svg a picture of this, and \
 with --html a page for a browser with the picture and each step.\nExit status: 0 where the verdict is fine, 1 where it is against, 2 after \
-a fault of the words, the schedule or the image, 3 after one of a device or of memory.\n\nExample: rmelab draw examples/tie.rme";
+a fault of the words, the schedule, the algorithm or the image, 3 after one of a device or of memory.\n\nExample: rmelab draw examples/tie.rme";
 
 const SHRINK_HELP: &str =
     "In: a schedule, as `rme 1 procs 2 limit 10 cap 1`, then lines such as `lock 0`, `step 0 5`, \
-`crash 0`, each ended by a line feed.\nOut: where its verdict on the variant is against, a least schedule with a verdict against the same \
+`crash 0`, each ended by a line feed. With --algorithm the algorithm's text is read first: docs/use/algorithms.md.\nOut: where its \
+verdict on the variant or the algorithm is against, a least schedule with a verdict against the same \
 number: no line can be left out and no count of steps lowered by one. Else the verdict line.\nExit status: 0 where the verdict is \
-fine, 1 where it is against, 2 after a fault of the words or the schedule, 3 after one of a device or of memory.\n\nExample: rmelab \
+fine, 1 where it is against, 2 after a fault of the words, the schedule or the algorithm, 3 after one of a device or of memory.\n\nExample: rmelab \
 shrink --variant no-look examples/two-in-the-doorway.rme";
 
 const EXPLAIN_HELP: &str =
@@ -132,13 +135,27 @@ fn run<'a>(alloc: Global) -> Result<Parser<'a>, AllocError>
 fn hunt<'a>(alloc: Global) -> Result<Parser<'a>, AllocError>
     ensures { IfOk result (IsParser (alone hunt)) }
 {
-    let about = "Draws schedules until a variant of the lock goes wrong";
+    let about = "Draws schedules until a variant of the lock, or an algorithm, goes wrong";
     let arguments = [
-        Argument::variant().required(),
+        Argument::variant(),
+        Argument::algorithm(),
+        Argument::number(
+            "procs",
+            "N",
+            "1 to 64 processes; 2 without it; with --algorithm alone",
+        ),
+        Argument::number(
+            "limit",
+            "L",
+            "Numbers up to L; 1000000 without it; with --algorithm alone",
+        ),
         Argument::number("seed", "S", "The seed of the moves").required(),
         Argument::number("rounds", "R", "1 to 10000 rounds").required(),
         Argument::number("steps", "K", "1 to 10000 moves a round").required(),
-        Argument::flag("shrink", "Make the schedule found least, as `shrink` does"),
+        Argument::flag(
+            "shrink",
+            "Make the schedule found least, as `shrink` does; not with --algorithm",
+        ),
         Argument::number(
             "jobs",
             "N",
@@ -207,9 +224,13 @@ fn draw<'a>(alloc: Global) -> Result<Parser<'a>, AllocError>
     let about = "Draws the run of a schedule as a space-time diagram";
     let arguments = [
         Argument::variant(),
+        Argument::algorithm(),
         Argument::image(),
         Argument::flag("svg", "Write a picture, as SVG"),
-        Argument::flag("html", "Write a page that shows the run step by step"),
+        Argument::flag(
+            "html",
+            "Write a page that shows the run step by step; not with --algorithm",
+        ),
         Argument::file("The schedule; without it, standard input is read"),
     ];
     command(alloc, "draw", about, DRAW_HELP, &arguments)
@@ -218,9 +239,11 @@ fn draw<'a>(alloc: Global) -> Result<Parser<'a>, AllocError>
 fn shrink<'a>(alloc: Global) -> Result<Parser<'a>, AllocError>
     ensures { IfOk result (IsParser (alone shrink)) }
 {
-    let about = "Makes a schedule that goes wrong on a variant of the lock least";
+    let about =
+        "Makes a schedule least that goes wrong on a variant of the lock, or on an algorithm";
     let arguments = [
-        Argument::variant().required(),
+        Argument::variant(),
+        Argument::algorithm(),
         Argument::file("The schedule; without it, standard input is read"),
     ];
     command(alloc, "shrink", about, SHRINK_HELP, &arguments)

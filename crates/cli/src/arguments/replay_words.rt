@@ -1,21 +1,14 @@
 //! Reads the words of `replay`.
 
-ghost use Rattle.std.specs.Prelude.{◌≡◌, ◌↔◌, true, Some, IsNone, string_bytes, codes};
+ghost use Rattle.std.specs.Prelude.{◌≡◌, Some, IsNone, string_bytes, codes};
 ghost use Rattle.clap.specs.Words.{first_of};
 ghost use Rattle.cli.specs.Given.{given_in};
-ghost use Rattle.cli.specs.ReadWords.{IsAlone, Reads};
+ghost use Rattle.cli.specs.ReadWords.{Reads};
 
 use crate::arguments::args::{AlgorithmReplayArgs, Command, ReplayArgs};
-use crate::arguments::words::{WordsFault, is_given, is_set, text_of, variant_beside_image};
+use crate::arguments::words::{WordsFault, is_alone, is_set, text_of, variant_beside_image};
 use clap::ArgMatches;
 use std::alloc::{AllocError, Global};
-
-/// Whether no variant, no image and no file for the last image are given.
-fn is_alone(matches: &ArgMatches<'_>) -> bool
-    ensures { result ≡ true ↔ IsAlone (given_in matches.now) }
-{
-    !is_given(matches, "variant") && !is_given(matches, "image") && !is_given(matches, "save")
-}
 
 /// The error text for an option that a run of an algorithm does not have.
 fn without_steps(alloc: Global) -> Result<String, AllocError> {

@@ -1,24 +1,26 @@
 //! Reads the words of the command line.
 
-ghost use Rattle.std.specs.Prelude.{◌≡◌, ◌≢◌, ◌↔◌, option_map, is_some, IfOk, IfErr, IfSome, IsNone, IsSomeAnd, IsOk, OnErr, IsErrOf, string_bytes, codes};
+ghost use Rattle.std.specs.Prelude.{◌≡◌, ◌≢◌, ◌↔◌, true, option_map, is_some, IfOk, IfErr, IfSome, IsNone, IsSomeAnd, IsOk, OnErr, IsErrOf, string_bytes, codes};
 ghost use Rattle.clap.specs.Words.{first_of, kind_of, subcommand_rows_of};
 ghost use Rattle.crashlab.specs.declared.variant.Variant.{Variant as AnyVariant};
 ghost use Rattle.cli.specs.declared.explain.dictionary_entry.DictionaryEntry.{DictionaryEntry as AnyDictionaryEntry};
-ghost use Rattle.cli.specs.Given.{given_in, is_set, number_or, word_of_variant, AsksFor, AsksForNone, style_of, entry_named};
+ghost use Rattle.cli.specs.Given.{given_in, is_set, number_or, word_of_variant, AsksFor, AsksForNone, entry_named};
 ghost use Rattle.cli.specs.Names.{name_of};
-ghost use Rattle.cli.specs.ReadWords.{GoesWithImage, IsBadBesideImage, IsUnnamed, IsAnsweredBy};
+ghost use Rattle.cli.specs.ReadWords.{GoesWithImage, IsAlone, IsBadBesideImage, IsUnnamed, IsAnsweredBy};
 ghost use Rattle.cli.specs.ReadWords.{HasBadVariant, HasBadSize, IsCommand, Reads, IsName, Takes, IsRefusal, Refuses, texts_of};
-ghost use Rattle.cli.specs.Sizes.{IsSized, HuntFits, RunFits};
+ghost use Rattle.cli.specs.Sizes.{IsSized, RunFits};
 
-use crate::arguments::args::{Command, DrawArgs, HuntArgs, JudgeArgs, RunArgs, ShrinkArgs};
+use crate::arguments::args::{Command, JudgeArgs, RunArgs};
+use crate::arguments::draw_words::draw_words;
 use crate::arguments::explore_words::explore_words;
+use crate::arguments::hunt_words::hunt_words;
 use crate::arguments::parser::parser;
 use crate::arguments::replay_words::replay_words;
+use crate::arguments::shrink_words::shrink_words;
 use crate::explain::dictionary_entry::{DictionaryEntry, dictionary_entry_named};
 use clap::error::ErrorKind;
 use clap::{ArgMatches, Error};
 use crashlab::Variant;
-use diagram::Style;
 use std::alloc::{AllocError, Global};
 use std::io;
 use std::rt::Env;
@@ -30,17 +32,17 @@ pub enum WordsFault {
     /// The help or the version that was asked for. It is printed; the exit status is 0.
     #[error("{text}")]
     Help { text: String },
-    /// The error text of `clap`, that the words name no entry, that an option is beside `--algorithm` which a run or a search of
-    /// one does not have, or that `explore` has neither a variant nor an algorithm. It is printed to standard error; the exit
-    /// status is 2.
+    /// The error text of `clap`, that the words name no entry, that an option is beside `--algorithm` which the command does not
+    /// have there, or that `explore`, `hunt` or `shrink` has neither a variant nor an algorithm. It is printed to standard error;
+    /// the exit status is 2.
     #[error("{text}")]
     Refused { text: String },
     /// There is no such variant, it isn't `right` and an image is given, or an algorithm is given beside a variant, an image or a
     /// file for the last image; the exit status is 2.
     #[error("bad variant")]
     BadVariant,
-    /// A number of `run` or `hunt` is outside its range, a call of `explore` is none, or none of an algorithm, or `--stuck` is
-    /// beside `--moves`; the exit status is 2.
+    /// A number of `run` or `hunt` is outside its range, `--procs` or `--limit` of `hunt` is beside a variant, a call of `explore`
+    /// is none, or none of an algorithm, or `--stuck` is beside `--moves`; the exit status is 2.
     #[error("bad size")]
     BadSize,
     /// A word isn't UTF-8 text.
@@ -156,64 +158,19 @@ pub(crate) fn variant_beside_image(matches: &ArgMatches<'_>) -> Result<Variant, 
     Ok(variant)
 }
 
-fn style_of(matches: &ArgMatches<'_>) -> Style
-    ensures { result ≡ style_of (given_in matches.now) }
+/// Whether no variant, no image and no file for the last image are given.
+pub(crate) fn is_alone(matches: &ArgMatches<'_>) -> bool
+    ensures { result ≡ true ↔ IsAlone (given_in matches.now) }
 {
-    if is_set(matches, "svg") {
-        Style::Svg
-    } else {
-        Style::Text
-    }
+    !is_given(matches, "variant") && !is_given(matches, "image") && !is_given(matches, "save")
 }
 
-fn draw_words(alloc: Global, matches: &ArgMatches<'_>) -> Result<Command, WordsFault>
-    ensures { Reads (codes "draw") (given_in matches.now) result }
-{
-    Ok(Command::Draw(DrawArgs {
-        html: is_set(matches, "html"),
-        style: style_of(matches),
-        variant: variant_beside_image(matches)?,
-        image: text_of(alloc, matches, "image")?,
-        file: text_of(alloc, matches, "FILE")?,
-    }))
-}
-
-/// The arguments of a hunt, if its numbers are in their ranges.
-fn hunt_of(args: HuntArgs) -> Result<HuntArgs, WordsFault>
-    ensures fits { IsOk result ↔ HuntFits args }
-    ensures same { IfOk result (λ sized. sized ≡ args) }
-    ensures size { OnErr result (IsErrOf result WordsFault.BadSize) }
-{
-    let fits = (1..=10_000).contains(&args.rounds) && (1..=10_000).contains(&args.steps);
-    if fits {
-        Ok(args)
-    } else {
-        Err(WordsFault::BadSize)
-    }
-}
-
-fn hunt_words(matches: &ArgMatches<'_>) -> Result<Command, WordsFault>
-    ensures sized { IfOk result IsSized }
-    ensures reads { Reads (codes "hunt") (given_in matches.now) result }
-{
-    let args = hunt_of(HuntArgs {
-        variant: variant_of(matches, "")?,
-        seed: number_of(matches, "seed"),
-        rounds: number_of(matches, "rounds"),
-        steps: number_of(matches, "steps"),
-        shrink: is_set(matches, "shrink"),
-        jobs: number_of(matches, "jobs"),
-    })?;
-    Ok(Command::Hunt(args))
-}
-
-fn shrink_words(alloc: Global, matches: &ArgMatches<'_>) -> Result<Command, WordsFault>
-    ensures { Reads (codes "shrink") (given_in matches.now) result }
-{
-    Ok(Command::Shrink(ShrinkArgs {
-        variant: variant_of(matches, "")?,
-        file: text_of(alloc, matches, "FILE")?,
-    }))
+/// The error text where there is nothing to run.
+pub(crate) fn without_lock(alloc: Global) -> Result<String, AllocError> {
+    String::from_str(
+        alloc,
+        "error: there is neither '--variant <V>' nor '--algorithm <FILE>'\n\nFor more information, try '--help'.\n",
+    )
 }
 
 /// The arguments of a run, if its numbers are in their ranges.
@@ -312,7 +269,7 @@ fn command_of(alloc: Global, name: &str, matches: &ArgMatches<'_>) -> Result<Com
     match name {
         "replay" => replay_words(alloc, matches),
         "run" => run_words(matches),
-        "hunt" => hunt_words(matches),
+        "hunt" => hunt_words(alloc, matches),
         "explore" => explore_words(alloc, matches),
         "draw" => draw_words(alloc, matches),
         "shrink" => shrink_words(alloc, matches),
@@ -351,7 +308,7 @@ fn refused(alloc: Global, error: &Error) -> Result<WordsFault, AllocError>
 
 /// Reads the words of a command line. The first word is the program's name. A refusal by `clap` is found first, then a bad
 /// variant, then a bad size. Words of `explain` that name no entry are refused in the same way as by `clap`; so are options beside
-/// `--algorithm` that a run or a search of one does not have, before a bad size, and `explore` with nothing to search.
+/// `--algorithm` that the command does not have there, before a bad size, and `explore`, `hunt` or `shrink` with nothing to run.
 pub fn read_words(alloc: Global, words: &[String]) -> Result<Command, WordsFault>
     ensures sized { IfOk result IsSized }
     ensures command { IfOk result (λ command. Takes (texts_of words.now) (λ name given. IsCommand name given command)) }

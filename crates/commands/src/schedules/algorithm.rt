@@ -2,7 +2,8 @@
 
 ghost use Rattle.std.specs.Prelude.{◌≡◌, IfErr, IfOk, false};
 ghost use Rattle.algorithms.specs.Ranked.{LocalLinesEnd, AccessesLeadOn};
-ghost use Rattle.commands.specs.AlgorithmReplays.{fault_of_run, IsAlgorithmFault, TellsAlgorithm, AlgorithmReplayEnds};
+ghost use Rattle.commands.specs.AlgorithmReplays.{AlgorithmReplayEnds, fault_of_run, TellsAlgorithm};
+ghost use Rattle.commands.specs.AlgorithmTexts.{IsAlgorithmFault};
 ghost use Rattle.commands.specs.Endings.{IsEnded};
 
 use crate::algorithm_fault::fault_numbered;
@@ -28,7 +29,7 @@ fn unread(fault: AlgorithmFault) -> CommandFault
 }
 
 /// The command's fault for a fault of a replay on an algorithm.
-fn unplayed(fault: AlgorithmReplayFault) -> CommandFault
+pub(crate) fn unplayed(fault: AlgorithmReplayFault) -> CommandFault
     ensures { result ≡ fault_of_run fault }
 {
     match fault {
@@ -71,7 +72,7 @@ fn replay_on_algorithm<W: Sink>(
 
 /// Runs `replay --algorithm`: reads the algorithm from its text, then the schedule, and plays the schedule on a new world of the
 /// algorithm to its verdict. A fault says what can't be read, which line is refused, or that a device or memory has failed.
-#[tactic(auto, using(crate::proofs::AlgorithmReplays::no_algorithm))]
+#[tactic(auto, using(crate::proofs::AlgorithmTexts::no_algorithm))]
 pub fn algorithm_replay_command<R: Source, W: Sink>(
     alloc: Global,
     text: Option<&[u8]>,

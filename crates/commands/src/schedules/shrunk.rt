@@ -38,6 +38,7 @@ pub fn write_lines<W: Sink>(
 fn write_fine<W: Sink>(alloc: Global, w: &mut W) -> Result<(), CommandFault>
     ensures written { OnOk result (Writes (W.tape w.old) (W.tape w.new) (verdict_line Verdict.Fine)) }
     ensures failed { IfErr result (λ fault. status_of fault ≡ 3) }
+    ensures unwritten { IfErr result (FailsToWrite (W.tape w.old) (W.tape w.new)) }
 {
     let mut line = Vec::new(alloc);
     put_verdict(&mut line, Verdict::Fine)?;
@@ -45,6 +46,20 @@ fn write_fine<W: Sink>(alloc: Global, w: &mut W) -> Result<(), CommandFault>
         return Err(CommandFault::Write);
     }
     Ok(())
+}
+
+/// Writes that there is nothing to shrink.
+pub(crate) fn tell_fine<W: Sink>(alloc: Global, w: &mut W) -> Result<Ending, CommandFault>
+    ensures told { OnOk result (Writes (W.tape w.old) (W.tape w.new) (verdict_line Verdict.Fine)) }
+    ensures status { IfOk result (λ ending. ending.status ≡ 0) }
+    ensures ended { IfOk result (IsEnded false (W.tape w.old).failures (W.tape w.new).failures) }
+    ensures failed { IfErr result (FailsToWrite (W.tape w.old) (W.tape w.new)) }
+{
+    write_fine(alloc, w)?;
+    Ok(Ending {
+        status: 0,
+        save: None,
+    })
 }
 
 /// Shrinks the schedule and writes it, or writes the line of a fine verdict.

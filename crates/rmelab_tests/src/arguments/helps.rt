@@ -11,11 +11,11 @@ Usage: rmelab <COMMAND>
 Commands:
   replay   Runs a schedule of steps and crashes, and prints its report
   run      Runs senders on threads, with drawn crashes, and counts what came through
-  hunt     Draws schedules until a variant of the lock goes wrong
+  hunt     Draws schedules until a variant of the lock, or an algorithm, goes wrong
   explore  Tries all schedules up to a bound, for the shortest that goes wrong
   judge    Judges a trace of deeds, and prints the verdict
   draw     Draws the run of a schedule as a space-time diagram
-  shrink   Makes a schedule that goes wrong on a variant of the lock least
+  shrink   Makes a schedule least that goes wrong on a variant of the lock, or on an algorithm
   step     Holds a session: takes the lines of a schedule one by one, and goes back
   explain  Says what a number or a word of reports and faults means
   help     Print this message or the help of the given subcommand(s)
@@ -69,23 +69,26 @@ Exit status: 0 where each message stands once and in its order, 1 where not, 2 a
 Example: rmelab run --procs 4 --messages 50 --crash 20 --seed 7
 ";
 
-const HUNT: &str = "Draws schedules until a variant of the lock goes wrong
+const HUNT: &str = "Draws schedules until a variant of the lock, or an algorithm, goes wrong
 
-Usage: rmelab hunt [OPTIONS] --variant <V> --seed <S> --rounds <R> --steps <K>
+Usage: rmelab hunt [OPTIONS] --seed <S> --rounds <R> --steps <K>
 
 Options:
-      --variant <V>  right, no-look, no-ties, renumber, exit-on-crash, count-up or last-skipped
-      --seed <S>     The seed of the moves
-      --rounds <R>   1 to 10000 rounds
-      --steps <K>    1 to 10000 moves a round
-      --shrink       Make the schedule found least, as `shrink` does
-      --jobs <N>     N threads at once; without it, or 0, as many as there are processors
-  -h, --help         Print help
+      --variant <V>       right, no-look, no-ties, renumber, exit-on-crash, count-up or last-skipped
+      --algorithm <FILE>  Run this algorithm, a text, in place of a variant
+      --procs <N>         1 to 64 processes; 2 without it; with --algorithm alone
+      --limit <L>         Numbers up to L; 1000000 without it; with --algorithm alone
+      --seed <S>          The seed of the moves
+      --rounds <R>        1 to 10000 rounds
+      --steps <K>         1 to 10000 moves a round
+      --shrink            Make the schedule found least, as `shrink` does; not with --algorithm
+      --jobs <N>          N threads at once; without it, or 0, as many as there are processors
+  -h, --help              Print help
 
-In: nothing.
-Out: the schedule found, which `rmelab replay --variant V` replays to its fault, or `nothing found`.
-Shown: on standard error, where that is a terminal, the rounds, the moves and the moves a second, once a second while it works.
-Exit status: 0 where nothing was found, 1 where a schedule was, 2 after a fault of the words, 3 after one of a device or of memory.
+In: nothing; with --algorithm the algorithm's text: docs/use/algorithms.md. An algorithm is hunted by one thread.
+Out: the schedule found, which `rmelab replay` with the same --variant or --algorithm replays to its fault, or `nothing found`.
+Shown: of a variant, on standard error, where that is a terminal, the rounds, the moves and the moves a second, once a second while it works.
+Exit status: 0 where nothing was found, 1 where a schedule was, 2 after a fault of the words or the algorithm, 3 after one of a device or of memory.
 
 Example: rmelab hunt --variant no-look --seed 1 --rounds 10000 --steps 1000
 ";
@@ -144,33 +147,36 @@ Arguments:
   [FILE]  The schedule; without it, standard input is read
 
 Options:
-      --variant <V>   right, no-look, no-ties, renumber, exit-on-crash, count-up or last-skipped
-      --image <FILE>  Begin with the words of this image, every process crashed
-      --svg           Write a picture, as SVG
-      --html          Write a page that shows the run step by step
-  -h, --help          Print help
+      --variant <V>       right, no-look, no-ties, renumber, exit-on-crash, count-up or last-skipped
+      --algorithm <FILE>  Run this algorithm, a text, in place of a variant
+      --image <FILE>      Begin with the words of this image, every process crashed
+      --svg               Write a picture, as SVG
+      --html              Write a page that shows the run step by step; not with --algorithm
+  -h, --help              Print help
 
-In: a schedule, as `rme 1 procs 2 limit 10 cap 1`, then lines such as `lock 0`, `step 0 5`, `crash 0`, each ended by a line feed.
+In: a schedule, as `rme 1 procs 2 limit 10 cap 1`, then lines such as `lock 0`, `step 0 5`, `crash 0`, each ended by a line feed. With --algorithm the algorithm's text is read first: docs/use/algorithms.md.
 Out: its run, time downward: a column for each process, a row for each step or crash, and what it tells at the right; with --svg a picture of this, and with --html a page for a browser with the picture and each step.
-Exit status: 0 where the verdict is fine, 1 where it is against, 2 after a fault of the words, the schedule or the image, 3 after one of a device or of memory.
+Exit status: 0 where the verdict is fine, 1 where it is against, 2 after a fault of the words, the schedule, the algorithm or the image, 3 after one of a device or of memory.
 
 Example: rmelab draw examples/tie.rme
 ";
 
-const SHRINK: &str = "Makes a schedule that goes wrong on a variant of the lock least
+const SHRINK: &str =
+    "Makes a schedule least that goes wrong on a variant of the lock, or on an algorithm
 
-Usage: rmelab shrink --variant <V> [FILE]
+Usage: rmelab shrink [OPTIONS] [FILE]
 
 Arguments:
   [FILE]  The schedule; without it, standard input is read
 
 Options:
-      --variant <V>  right, no-look, no-ties, renumber, exit-on-crash, count-up or last-skipped
-  -h, --help         Print help
+      --variant <V>       right, no-look, no-ties, renumber, exit-on-crash, count-up or last-skipped
+      --algorithm <FILE>  Run this algorithm, a text, in place of a variant
+  -h, --help              Print help
 
-In: a schedule, as `rme 1 procs 2 limit 10 cap 1`, then lines such as `lock 0`, `step 0 5`, `crash 0`, each ended by a line feed.
-Out: where its verdict on the variant is against, a least schedule with a verdict against the same number: no line can be left out and no count of steps lowered by one. Else the verdict line.
-Exit status: 0 where the verdict is fine, 1 where it is against, 2 after a fault of the words or the schedule, 3 after one of a device or of memory.
+In: a schedule, as `rme 1 procs 2 limit 10 cap 1`, then lines such as `lock 0`, `step 0 5`, `crash 0`, each ended by a line feed. With --algorithm the algorithm's text is read first: docs/use/algorithms.md.
+Out: where its verdict on the variant or the algorithm is against, a least schedule with a verdict against the same number: no line can be left out and no count of steps lowered by one. Else the verdict line.
+Exit status: 0 where the verdict is fine, 1 where it is against, 2 after a fault of the words, the schedule or the algorithm, 3 after one of a device or of memory.
 
 Example: rmelab shrink --variant no-look examples/two-in-the-doorway.rme
 ";
@@ -220,7 +226,7 @@ For more information, try '--help'.
 const SEEDLESS_HUNT: &str = "error: the following required arguments were not provided:
   --seed <S>
 
-Usage: rmelab hunt --variant <V> --seed <S> --rounds <R> --steps <K>
+Usage: rmelab hunt --seed <S> --rounds <R> --steps <K>
 
 For more information, try '--help'.
 ";

@@ -2,7 +2,7 @@
 
 use crate::arguments::kit::words_of;
 use cli::arguments::args::{Alphabet, Command, HuntArgs, ReplayArgs, RunArgs};
-use cli::arguments::words::{WordsFault, read_words};
+use cli::arguments::words::read_words;
 use crashlab::Variant;
 use std::test::Fail;
 
@@ -68,29 +68,6 @@ fn runs(rt: HostRuntime) -> Result<(), Fail> {
     Ok(())
 }
 
-/// Only the right lock goes with an image.
-#[test]
-fn variants_beside_an_image(rt: HostRuntime) -> Result<(), Fail> {
-    let alloc = rt.alloc();
-    for name in [
-        "no-look",
-        "no-ties",
-        "renumber",
-        "exit-on-crash",
-        "count-up",
-        "last-skipped",
-        "wrong",
-    ] {
-        for command in ["replay", "draw"] {
-            let line = format!(in alloc; "rmelab {command} --variant {name} --image a.json")?;
-            let words = words_of(alloc, &line)?;
-            let is_bad = matches!(read_words(alloc, &words), Err(WordsFault::BadVariant));
-            assert!(rt; is_bad, "{line}");
-        }
-    }
-    Ok(())
-}
-
 #[test]
 fn the_right_lock_beside_an_image(rt: HostRuntime) -> Result<(), Fail> {
     for line in [
@@ -142,20 +119,6 @@ fn variants_without_an_image(rt: HostRuntime) -> Result<(), Fail> {
 }
 
 #[test]
-fn sizes_of_hunts(rt: HostRuntime) -> Result<(), Fail> {
-    for (rounds, steps) in [("0", "1"), ("10001", "1"), ("1", "0"), ("1", "10001")] {
-        let alloc = rt.alloc();
-        let line = format!(in alloc;
-            "rmelab hunt --variant right --seed 0 --rounds {rounds} --steps {steps}"
-        )?;
-        let words = words_of(alloc, &line)?;
-        let is_bad = matches!(read_words(alloc, &words), Err(WordsFault::BadSize));
-        assert!(rt; is_bad, "{line}");
-    }
-    Ok(())
-}
-
-#[test]
 fn calls_of_a_search(rt: HostRuntime) -> Result<(), Fail> {
     let none = Alphabet {
         lock: false,
@@ -192,19 +155,6 @@ fn calls_of_a_search(rt: HostRuntime) -> Result<(), Fail> {
             panic!(&rt; "no search: {line}");
         };
         assert_eq!(rt; args.calls, calls, "{line}");
-    }
-    Ok(())
-}
-
-/// What is no call, and an empty name, is a bad size.
-#[test]
-fn names_that_are_no_call(rt: HostRuntime) -> Result<(), Fail> {
-    let alloc = rt.alloc();
-    for calls in ["look", "lock,", ",lock", "lock,,unlock", "Lock"] {
-        let line = format!(in alloc; "rmelab explore --variant right --procs 2 --calls {calls}")?;
-        let words = words_of(alloc, &line)?;
-        let is_bad = matches!(read_words(alloc, &words), Err(WordsFault::BadSize));
-        assert!(rt; is_bad, "{line}");
     }
     Ok(())
 }

@@ -3,6 +3,7 @@
 use crate::hunts::algorithm_explores::{NO_LOCK, NO_MAILBOX, TWO_AT_ONCE};
 use crate::hunts::explores::GONE_OUT;
 use crate::hunts::shrinks::{LEAST, SMALLEST, TWO_INSIDE};
+use crate::program::algorithms::{ALONE, ALONE_DRAWN, NO_PAGE};
 use crate::support::row::invoked;
 use crate::support::wanting::all_want_memory;
 use algorithms_tests::texts::others;
@@ -10,6 +11,10 @@ use std::test::Fail;
 
 #[test]
 fn want_of_memory(rt: HostRuntime) -> Result<(), Fail> {
+    let peterson = ("a.lock", str::from_utf8(others::PETERSON)?);
+    let hunt = "rmelab hunt --algorithm a.lock --seed 1 --rounds 1 --steps 3";
+    let shrink = "rmelab shrink --algorithm a.lock";
+    let draw = "rmelab draw --algorithm a.lock";
     let rows = [
         invoked("rmelab shrink --variant right", SMALLEST, "verdict fine\n"),
         invoked("rmelab shrink --variant no-look", TWO_INSIDE, LEAST).ends(1, ""),
@@ -38,6 +43,10 @@ fn want_of_memory(rt: HostRuntime) -> Result<(), Fail> {
         )
         .ends(2, NO_MAILBOX),
         invoked("rmelab explore --procs 2", "", "").ends(2, NO_LOCK),
+        invoked(hunt, "", "nothing found\n").beside(peterson),
+        invoked(shrink, ALONE, "verdict fine\n").beside(peterson),
+        invoked(draw, ALONE, ALONE_DRAWN).beside(peterson),
+        invoked("rmelab draw --algorithm a.lock --html", "", "").ends(2, NO_PAGE),
     ];
     all_want_memory(&rt, rt.alloc(), &rows)
 }

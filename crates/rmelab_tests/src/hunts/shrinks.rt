@@ -21,14 +21,6 @@ const MENDED_FIRST: &str = "rme 1 procs 1 limit 10 cap 1\nlock 0\nstep 0 8\ncons
 
 const OTHER: &str = "a text that no command reads\n";
 
-const NO_VARIANT: &str = "error: the following required arguments were not provided:
-  --variant <V>
-
-Usage: rmelab shrink --variant <V> [FILE]
-
-For more information, try '--help'.
-";
-
 const SHRINK: &str = "rmelab shrink --variant no-look";
 
 const SHRINK_FILE: &str = "rmelab shrink --variant no-look s.rme";
@@ -68,7 +60,6 @@ fn shrinks_refused(rt: HostRuntime) -> Result<(), Fail> {
             "rmelab: line 2: fault 3\n",
         ),
         invoked("rmelab shrink --variant wrong", TWO_INSIDE, "").ends(2, "rmelab: bad variant\n"),
-        invoked("rmelab shrink", TWO_INSIDE, "").ends(2, NO_VARIANT),
     ];
     all_come_to(&rt, rt.alloc(), &rows)
 }

@@ -9,7 +9,7 @@ use std::sync::Wait;
 use std::test::Fail;
 use std::thread::Threads;
 
-const HIDDEN: &str =
+pub const HIDDEN: &str =
     "algorithm hidden for 2 processes\npromises exclusion\nshared flag[procs]\ncall lock\n  flag[me] := 1\n  if flag[1 - me] = 0 then goto in_now\nin_now:\n  this is enter\n  done\ncall unlock\n  flag[me] := 0 this is leave\n  done\n";
 
 const ALONE: &str = "rme 1 procs 2 limit 1 cap 1\nlock 0\nstep 0 9\n";

@@ -1,7 +1,9 @@
-use Rattle.commands.proofs.AlgorithmExplores.{searched}
+use Rattle.algorithms.specs.declared.algorithm.Algorithm.{Algorithm}
+use Rattle.commands.specs.AlgorithmExplores.{ExploresAlgorithm}
+use Rattle.commands.proofs.AlgorithmTexts.{algorithm_read}
 use Rattle.commands.proofs.algorithm_exploring.algorithm_explore_command.Goals as goal
 
 pub returns-clause-ends : goal.returns-clause-ends
 returns-clause-ends g c =
-    searched c.in_ok-algorithm.algorithm c.args.args.now _ _ c.tell_shortest.result
-    c.in_ok-algorithm.ensures.ends c.in_ok-algorithm.ensures.leads c.tell_shortest.ensures.ends
+    algorithm_read (λ (a : Algorithm). ExploresAlgorithm a c.args.args.now (g.W.Sink.tape c.args.w.now) (g.W.Sink.tape c.tell_shortest.new.w) c.tell_shortest.result)
+    _ _ c.tell_shortest.result c.in_ok-algorithm.algorithm c.in_ok-algorithm.ensures.ends c.in_ok-algorithm.ensures.leads c.tell_shortest.ensures.ends

@@ -41,6 +41,19 @@ returns-in-Draw-clause-ends g c =
     (sym c.in-Draw.is)
     (c.draw_command.ensures.ends, c.draw_command.ensures.reads)
 
+-- a drawing on an algorithm as `algorithm_draw_command` says
+pub returns-in-DrawAlgorithm-clause-ends : goal.returns-in-DrawAlgorithm-clause-ends
+returns-in-DrawAlgorithm-clause-ends g c =
+    subst
+    (λ command. CommandEnds command (option_copied c.args.image)
+    (g.R.Source.reading c.args.r.now)
+    (g.R.Source.reading c.algorithm_draw_command.new.r)
+    (g.W.Sink.tape c.args.w.now)
+    (g.W.Sink.tape c.algorithm_draw_command.new.w)
+    c.algorithm_draw_command.result)
+    (sym c.in-DrawAlgorithm.is)
+    c.algorithm_draw_command.ensures.ends
+
 -- shrinking ends as `shrink_command` says
 pub returns-in-Shrink-clause-ends : goal.returns-in-Shrink-clause-ends
 returns-in-Shrink-clause-ends g c =
@@ -53,6 +66,19 @@ returns-in-Shrink-clause-ends g c =
     c.shrink_command.result)
     (sym c.in-Shrink.is)
     (c.shrink_command.ensures.ends, c.shrink_command.ensures.reads)
+
+-- shrinking on an algorithm as `algorithm_shrink_command` says
+pub returns-in-ShrinkAlgorithm-clause-ends : goal.returns-in-ShrinkAlgorithm-clause-ends
+returns-in-ShrinkAlgorithm-clause-ends g c =
+    subst
+    (λ command. CommandEnds command (option_copied c.args.image)
+    (g.R.Source.reading c.args.r.now)
+    (g.R.Source.reading c.algorithm_shrink_command.new.r)
+    (g.W.Sink.tape c.args.w.now)
+    (g.W.Sink.tape c.algorithm_shrink_command.new.w)
+    c.algorithm_shrink_command.result)
+    (sym c.in-ShrinkAlgorithm.is)
+    c.algorithm_shrink_command.ensures.ends
 
 -- a session as `session_command` says
 pub returns-in-Step-clause-ends : goal.returns-in-Step-clause-ends

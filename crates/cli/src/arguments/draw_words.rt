@@ -1,0 +1,78 @@
+//! Reads the words of `draw`.
+
+ghost use Rattle.std.specs.Prelude.{◌≡◌, Some, IsNone, string_bytes, codes};
+ghost use Rattle.clap.specs.Words.{first_of};
+ghost use Rattle.cli.specs.Given.{given_in, style_of};
+ghost use Rattle.cli.specs.ReadWords.{Reads};
+
+use crate::arguments::args::{AlgorithmDrawArgs, Command, DrawArgs};
+use crate::arguments::words::{WordsFault, is_alone, is_set, text_of, variant_beside_image};
+use clap::ArgMatches;
+use diagram::Style;
+use std::alloc::{AllocError, Global};
+
+fn style_of(matches: &ArgMatches<'_>) -> Style
+    ensures { result ≡ style_of (given_in matches.now) }
+{
+    if is_set(matches, "svg") {
+        Style::Svg
+    } else {
+        Style::Text
+    }
+}
+
+/// The error text for a page of a run of an algorithm.
+fn without_page(alloc: Global) -> Result<String, AllocError> {
+    String::from_str(
+        alloc,
+        "error: with '--algorithm <FILE>' there is no '--html'\n\nFor more information, try '--help'.\n",
+    )
+}
+
+/// A drawing of a run of the algorithm with this text.
+fn algorithm_words(
+    alloc: Global,
+    matches: &ArgMatches<'_>,
+    algorithm: String,
+) -> Result<Command, WordsFault>
+    requires { Some (string_bytes algorithm) ≡ first_of (codes "algorithm") (given_in matches.now) }
+    ensures { Reads (codes "draw") (given_in matches.now) result }
+{
+    if !is_alone(matches) {
+        return Err(WordsFault::BadVariant);
+    }
+    if is_set(matches, "html") {
+        return Err(WordsFault::Refused {
+            text: without_page(alloc)?,
+        });
+    }
+    Ok(Command::DrawAlgorithm(AlgorithmDrawArgs {
+        algorithm,
+        style: style_of(matches),
+        file: text_of(alloc, matches, "FILE")?,
+    }))
+}
+
+/// A drawing of a run of a variant of the lock.
+fn variant_words(alloc: Global, matches: &ArgMatches<'_>) -> Result<Command, WordsFault>
+    requires { IsNone (first_of (codes "algorithm") (given_in matches.now)) }
+    ensures { Reads (codes "draw") (given_in matches.now) result }
+{
+    Ok(Command::Draw(DrawArgs {
+        html: is_set(matches, "html"),
+        style: style_of(matches),
+        variant: variant_beside_image(matches)?,
+        image: text_of(alloc, matches, "image")?,
+        file: text_of(alloc, matches, "FILE")?,
+    }))
+}
+
+/// A drawing of a run of a variant of the lock, or of an algorithm.
+pub(crate) fn draw_words(alloc: Global, matches: &ArgMatches<'_>) -> Result<Command, WordsFault>
+    ensures { Reads (codes "draw") (given_in matches.now) result }
+{
+    match text_of(alloc, matches, "algorithm")? {
+        Some(algorithm) => algorithm_words(alloc, matches, algorithm),
+        None => variant_words(alloc, matches),
+    }
+}

@@ -1,0 +1,105 @@
+//! Reads the words of `hunt`.
+
+ghost use Rattle.std.specs.Prelude.{◌≡◌, Some, IfOk, IsNone, OnErr, IsErrOf, string_bytes, codes};
+ghost use Rattle.clap.specs.Words.{first_of};
+ghost use Rattle.cli.specs.Given.{given_in};
+ghost use Rattle.cli.specs.ReadWords.{Reads, rounds_of, steps_of};
+ghost use Rattle.cli.specs.Sizes.{IsSized, IsHuntSize};
+
+use crate::arguments::args::{AlgorithmHuntArgs, Command, HuntArgs};
+use crate::arguments::words::{
+    WordsFault, is_given, is_set, number_of, number_or, text_of, variant_of, without_lock,
+};
+use clap::ArgMatches;
+use std::alloc::{AllocError, Global};
+
+/// The rounds of a hunt and the moves of each, if they are in their ranges.
+fn sizes_of(matches: &ArgMatches<'_>) -> Result<(u64, u64), WordsFault>
+    ensures given { IfOk result (λ sizes. (sizes.0 ≡ rounds_of (given_in matches.now))
+        × (sizes.1 ≡ steps_of (given_in matches.now))) }
+    ensures fits { IfOk result (λ sizes. IsHuntSize sizes.0 sizes.1) }
+    ensures bad { OnErr result (IsErrOf result WordsFault.BadSize
+        × (IsHuntSize (rounds_of (given_in matches.now)) (steps_of (given_in matches.now)) → ⊥)) }
+{
+    let rounds = number_of(matches, "rounds");
+    let steps = number_of(matches, "steps");
+    if (1..=10_000).contains(&rounds) && (1..=10_000).contains(&steps) {
+        Ok((rounds, steps))
+    } else {
+        Err(WordsFault::BadSize)
+    }
+}
+
+/// The error text for a least schedule of an algorithm.
+fn without_shrink(alloc: Global) -> Result<String, AllocError> {
+    String::from_str(
+        alloc,
+        "error: with '--algorithm <FILE>' there is no '--shrink'; 'rmelab shrink' makes the schedule found least\n\nFor more information, try '--help'.\n",
+    )
+}
+
+/// A hunt on the algorithm with this text.
+fn algorithm_words(
+    alloc: Global,
+    matches: &ArgMatches<'_>,
+    algorithm: String,
+) -> Result<Command, WordsFault>
+    requires { Some (string_bytes algorithm) ≡ first_of (codes "algorithm") (given_in matches.now) }
+    ensures sized { IfOk result IsSized }
+    ensures reads { Reads (codes "hunt") (given_in matches.now) result }
+{
+    if is_given(matches, "variant") {
+        return Err(WordsFault::BadVariant);
+    }
+    if is_set(matches, "shrink") {
+        return Err(WordsFault::Refused {
+            text: without_shrink(alloc)?,
+        });
+    }
+    let (rounds, steps) = sizes_of(matches)?;
+    Ok(Command::HuntAlgorithm(AlgorithmHuntArgs {
+        algorithm,
+        procs: number_or(matches, "procs", 2),
+        limit: number_or(matches, "limit", 1_000_000),
+        seed: number_of(matches, "seed"),
+        rounds,
+        steps,
+    }))
+}
+
+/// A hunt on a variant of the lock.
+fn variant_words(alloc: Global, matches: &ArgMatches<'_>) -> Result<Command, WordsFault>
+    requires { IsNone (first_of (codes "algorithm") (given_in matches.now)) }
+    ensures sized { IfOk result IsSized }
+    ensures reads { Reads (codes "hunt") (given_in matches.now) result }
+{
+    if !is_given(matches, "variant") {
+        return Err(WordsFault::Refused {
+            text: without_lock(alloc)?,
+        });
+    }
+    let variant = variant_of(matches, "")?;
+    if is_given(matches, "procs") || is_given(matches, "limit") {
+        return Err(WordsFault::BadSize);
+    }
+    let (rounds, steps) = sizes_of(matches)?;
+    Ok(Command::Hunt(HuntArgs {
+        variant,
+        seed: number_of(matches, "seed"),
+        rounds,
+        steps,
+        shrink: is_set(matches, "shrink"),
+        jobs: number_of(matches, "jobs"),
+    }))
+}
+
+/// A hunt on a variant of the lock, or on an algorithm.
+pub(crate) fn hunt_words(alloc: Global, matches: &ArgMatches<'_>) -> Result<Command, WordsFault>
+    ensures sized { IfOk result IsSized }
+    ensures reads { Reads (codes "hunt") (given_in matches.now) result }
+{
+    match text_of(alloc, matches, "algorithm")? {
+        Some(algorithm) => algorithm_words(alloc, matches, algorithm),
+        None => variant_words(alloc, matches),
+    }
+}

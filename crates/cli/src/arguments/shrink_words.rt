@@ -1,0 +1,55 @@
+//! Reads the words of `shrink`.
+
+ghost use Rattle.std.specs.Prelude.{◌≡◌, Some, IsNone, string_bytes, codes};
+ghost use Rattle.clap.specs.Words.{first_of};
+ghost use Rattle.cli.specs.Given.{given_in};
+ghost use Rattle.cli.specs.ReadWords.{Reads};
+
+use crate::arguments::args::{AlgorithmShrinkArgs, Command, ShrinkArgs};
+use crate::arguments::words::{WordsFault, is_given, text_of, variant_of, without_lock};
+use clap::ArgMatches;
+use std::alloc::Global;
+
+/// A schedule that goes wrong on the algorithm with this text.
+fn algorithm_words(
+    alloc: Global,
+    matches: &ArgMatches<'_>,
+    algorithm: String,
+) -> Result<Command, WordsFault>
+    requires { Some (string_bytes algorithm) ≡ first_of (codes "algorithm") (given_in matches.now) }
+    ensures { Reads (codes "shrink") (given_in matches.now) result }
+{
+    if is_given(matches, "variant") {
+        return Err(WordsFault::BadVariant);
+    }
+    Ok(Command::ShrinkAlgorithm(AlgorithmShrinkArgs {
+        algorithm,
+        file: text_of(alloc, matches, "FILE")?,
+    }))
+}
+
+/// A schedule that goes wrong on a variant of the lock.
+fn variant_words(alloc: Global, matches: &ArgMatches<'_>) -> Result<Command, WordsFault>
+    requires { IsNone (first_of (codes "algorithm") (given_in matches.now)) }
+    ensures { Reads (codes "shrink") (given_in matches.now) result }
+{
+    if !is_given(matches, "variant") {
+        return Err(WordsFault::Refused {
+            text: without_lock(alloc)?,
+        });
+    }
+    Ok(Command::Shrink(ShrinkArgs {
+        variant: variant_of(matches, "")?,
+        file: text_of(alloc, matches, "FILE")?,
+    }))
+}
+
+/// A schedule that goes wrong on a variant of the lock, or on an algorithm.
+pub(crate) fn shrink_words(alloc: Global, matches: &ArgMatches<'_>) -> Result<Command, WordsFault>
+    ensures { Reads (codes "shrink") (given_in matches.now) result }
+{
+    match text_of(alloc, matches, "algorithm")? {
+        Some(algorithm) => algorithm_words(alloc, matches, algorithm),
+        None => variant_words(alloc, matches),
+    }
+}

@@ -1,0 +1,44 @@
+-- How a command ends that reads an algorithm, from what was read.
+use Rattle.std.proofs.Common.{◌≡◌, ◌⊎◌, ℕ, List, Result, Ok, Err, refl, inl, inr}
+use Rattle.algorithms.specs.Ranked.{LocalLinesEnd, AccessesLeadOn}
+use Rattle.algorithms.specs.declared.algorithm.Algorithm.{Algorithm}
+use Rattle.schedule.specs.Schedules.{Scheduled, schedule_at}
+use Rattle.schedule.specs.Tapes.{Tape, Reading}
+use Rattle.schedule.specs.Wholes.{WasRead}
+use Rattle.commands.specs.declared.schedules.ending.Ending.{Ending}
+use Rattle.commands.specs.declared.schedules.fault.CommandFault.{CommandFault}
+use Rattle.commands.specs.AlgorithmTexts.{EndsOnAlgorithm, EndsOnBoth, IsAlgorithmFault, IsUnreadAlgorithm}
+use Rattle.commands.specs.Endings.{TellsReads}
+use Rattle.commands.specs.Settings.{IsWrongText}
+use Rattle.commands.specs.Statuses.{status_of}
+use Rattle.commands.specs.Tellings.{Refuses}
+
+-- the algorithm's text is at fault: nothing was written
+pub no_algorithm_alone : {B : Type 0} (now : Tape) (fault : CommandFault) → IsAlgorithmFault fault → Refuses now now IsAlgorithmFault (Err fault) ⊎ B
+no_algorithm_alone now fault is = inl (record { taken = refl; fine = refl }, (fault, refl, is))
+
+-- it was read
+pub algorithm_read : (Holds : Algorithm → Type 0) (before now : Tape) (end : Result Ending CommandFault) (a : Algorithm) → LocalLinesEnd a → AccessesLeadOn a
+    → Holds a → EndsOnAlgorithm Holds before now end
+algorithm_read Holds before now end a ends leads holds = inr (record { algorithm = a; ends = ends; leads = leads; holds = holds })
+
+-- the algorithm's text is at fault: nothing was read or written
+pub no_algorithm : {B : Type 0} (old : Reading) (now : Tape) (fault : CommandFault) → IsAlgorithmFault fault
+    → (Refuses now now (IsUnreadAlgorithm old old) (Err fault) ⊎ B) × TellsReads old old (Err fault)
+no_algorithm old now fault is = (inl (record { taken = refl; fine = refl }, (fault, refl, inl is)), inl refl)
+
+-- the schedule's text is at fault: nothing was written
+pub no_schedule : {B : Type 0} (old new : Reading) (now : Tape) (fault : CommandFault) → (status_of fault ≡ 3) ⊎ IsWrongText old new fault
+    → TellsReads old new (Err fault) → (Refuses now now (IsUnreadAlgorithm old new) (Err fault) ⊎ B) × TellsReads old new (Err fault)
+no_schedule old new now fault wrong reads = (inl (record { taken = refl; fine = refl }, (fault, refl, inr wrong)), reads)
+
+fine_reads : (old new : Reading) (end : Result Ending CommandFault) → new.failures ≡ old.failures → TellsReads old new end
+fine_reads old new (Ok ending) fine = fine
+fine_reads old new (Err fault) fine = inl fine
+
+-- both were read
+pub both_read : (Holds : Algorithm → Scheduled → Type 0) (old new : Reading) (before now : Tape) (end : Result Ending CommandFault) (a : Algorithm)
+    (schedule : Scheduled) (text : List ℕ) → LocalLinesEnd a → AccessesLeadOn a → WasRead old new text → schedule_at text ≡ Ok schedule
+    → Holds a schedule → EndsOnBoth Holds old new before now end
+both_read Holds old new before now end a schedule text ends leads read spelled holds =
+    (inr (record { algorithm = a; ends = ends; leads = leads; text = text; read = read; schedule = schedule; spelled_so = spelled; holds = holds }), fine_reads old new end read.fine)

@@ -1,0 +1,42 @@
+-- How shrinking a schedule on an algorithm's text ends.
+use Rattle.std.specs.Prelude.{◌≡◌, ◌⊎◌, ℕ, Option, Some, Result, Ok, Err, IsErrAnd}
+use Rattle.algorithms.specs.declared.algorithm.Algorithm.{Algorithm}
+use Rattle.algorithm_explorer.specs.Shrunk.{Shrinks, schedule_run}
+use Rattle.algorithm_lab.specs.Refusals.{number_of}
+use Rattle.algorithm_lab.specs.declared.run_refusal.RunRefusal.{RunRefusal}
+use Rattle.schedule.specs.Schedules.{Scheduled}
+use Rattle.schedule.specs.Tapes.{Tape, Writes, Reading}
+use Rattle.schedule.specs.Wholes.{Silent}
+use Rattle.commands.specs.declared.schedules.ending.Ending.{Ending}
+use Rattle.commands.specs.declared.schedules.fault.CommandFault.{CommandFault}
+use Rattle.commands.specs.AlgorithmReplays.{refused_at}
+use Rattle.commands.specs.AlgorithmTexts.{EndsOnBoth}
+use Rattle.commands.specs.Endings.{FailsToWrite}
+use Rattle.commands.specs.Shrinks.{shrunk_text, shrunk_status}
+use Rattle.commands.specs.Statuses.{outcome}
+
+-- what shrinking answers was written
+pub record TellsShrunk (algorithm : Algorithm) (schedule : Scheduled) (before now : Tape) (end : Result Ending CommandFault) : Type 0 where
+  pub answer : Option Scheduled
+  pub shrinks : Shrinks algorithm schedule answer
+  pub written : Writes before now (shrunk_text answer)
+  pub status : outcome end ≡ Ok (shrunk_status answer)
+
+-- the fault is the line that the run refuses, or the header, and nothing is written
+pub record TellsRefused (algorithm : Algorithm) (schedule : Scheduled) (before now : Tape) (end : Result Ending CommandFault) : Type 0 where
+  pub line : ℕ
+  pub refusal : RunRefusal
+  pub refused : (schedule_run algorithm schedule).refused ≡ Some (line, refusal)
+  pub fault : end ≡ Err (refused_at line (number_of refusal))
+  pub silent : Silent before now
+
+-- the schedule is shrunk, a line of it is refused, or a device or memory has failed
+abbrev pub ShrinksAlgorithm : Algorithm → Scheduled → Tape → Tape → Result Ending CommandFault → Type 0
+ShrinksAlgorithm algorithm schedule before now end =
+    TellsShrunk algorithm schedule before now end
+    ⊎ (TellsRefused algorithm schedule before now end ⊎ IsErrAnd end (FailsToWrite before now))
+
+-- how `shrink --algorithm` ends
+abbrev pub AlgorithmShrinkEnds : Reading → Reading → Tape → Tape → Result Ending CommandFault → Type 0
+AlgorithmShrinkEnds old new before now end =
+    EndsOnBoth (λ algorithm schedule. ShrinksAlgorithm algorithm schedule before now end) old new before now end

@@ -1,0 +1,53 @@
+//! The command `draw` on an algorithm's text.
+
+ghost use Rattle.std.specs.Prelude.{IfOk, false};
+ghost use Rattle.commands.specs.AlgorithmDraws.{AlgorithmDrawEnds, DrawsAlgorithm};
+ghost use Rattle.commands.specs.Endings.{IsEnded};
+
+use crate::schedules::algorithm::{algorithm_read, unplayed};
+use crate::schedules::ending::{Ending, status_after_verdict};
+use crate::schedules::fault::CommandFault;
+use crate::schedules::setting::schedule_read;
+use algorithms::Algorithm;
+use cli::arguments::args::AlgorithmDrawArgs;
+use diagram::{Style, draw_algorithm};
+use schedule::{Schedule, Sink, Source};
+use std::alloc::Global;
+
+/// Plays the schedule on the algorithm, and writes the drawing of its run.
+fn draw_on_algorithm<W: Sink>(
+    alloc: Global,
+    algorithm: Algorithm,
+    schedule: &Schedule,
+    style: Style,
+    w: &mut W,
+) -> Result<Ending, CommandFault>
+    ensures told { DrawsAlgorithm style algorithm schedule.now (W.tape w.old) (W.tape w.new) result }
+    ensures ended { IfOk result (IsEnded false (W.tape w.old).failures (W.tape w.new).failures) }
+{
+    match draw_algorithm(alloc, algorithm, schedule, style, w) {
+        Ok(verdict) => Ok(Ending {
+            status: status_after_verdict(verdict),
+            save: None,
+        }),
+        Err(fault) => Err(unplayed(fault)),
+    }
+}
+
+/// Runs `draw --algorithm`: reads the algorithm from its text, then the schedule; then it draws the schedule's run on a new world
+/// of the algorithm and judges it. A fault says what can't be read, which line is refused, or that a device or memory has failed.
+#[tactic(auto, using(crate::proofs::AlgorithmTexts::no_algorithm))]
+pub fn algorithm_draw_command<R: Source, W: Sink>(
+    alloc: Global,
+    args: &AlgorithmDrawArgs,
+    text: Option<&[u8]>,
+    r: &mut R,
+    w: &mut W,
+) -> Result<Ending, CommandFault>
+    ensures ends { AlgorithmDrawEnds args.now.style (R.reading r.old) (R.reading r.new) (W.tape w.old) (W.tape w.new) result }
+    ensures ended { IfOk result (IsEnded false (W.tape w.old).failures (W.tape w.new).failures) }
+{
+    let algorithm = algorithm_read(alloc, text.unwrap_or(&[]))?;
+    let schedule = schedule_read(alloc, r)?;
+    draw_on_algorithm(alloc, algorithm, &schedule, args.style, w)
+}

@@ -13,6 +13,7 @@ use Rattle.diagram.specs.declared.session.opened.Reply.TheVariants.{Quits}
 use Rattle.diagram.specs.declared.session.request.Request.{Request}
 use Rattle.diagram.specs.declared.session.request.Request.TheVariants as requests
 use Rattle.diagram.specs.declared.session.opened.Reply.TheVariants as replies
+use Rattle.diagram.specs.Semantics.{Semantics}
 use Rattle.diagram.specs.Sessions.{SessionState, after_request, reply_to, request_in, text_of_request}
 use Rattle.schedule.specs.declared.replays.replay_fault.ReplayFault.{ReplayFault}
 use Rattle.schedule.specs.declared.replays.replay_fault.ReplayFault.TheVariants as faults
@@ -45,247 +46,248 @@ parts_further a rest more lines so_far =
     parts_of-pieces a more last.1 (lines ++ last.0) all ∙ append_assoc lines last.0 (parts_of (last.1 ++ more))
     ∙ ap (λ (ps : List (List ℕ)). lines ++ ps) (sym (parts_of-pieces rest more last.1 last.0 last.2))
 
--- ---- answers
+module _ {S : Type 0} (b : Semantics S) where
+  -- ---- answers
 
--- one more line is answered
-pub answers_more : (s : SessionState) (lines : List (List ℕ)) (line : List ℕ) (before mid now : Used) (after : SessionState) (text more : List ℕ)
-    → AreAnswers s lines before mid after text → (reply_to (request_in after line) ≡ Quits → ⊥) → IsAnswer after line mid now more
-    → AreAnswers s (lines ++ line ∷ []) before now (after_line after line) (text ++ more)
-answers_more s [] line before mid now after text more h goes is =
-    let here : reply_to (request_in s line) ≡ Quits → ⊥ = subst (λ (x : SessionState). reply_to (request_in x line) ≡ Quits → ⊥) h.1 goes in
-    let there : IsAnswer s line mid now more = subst (λ (x : SessionState). IsAnswer x line mid now more) h.1 is in
-    let first : IsAnswer s line before now more = subst (λ (u : Used). IsAnswer s line u now more) h.0 there in
-    (now, more, [], here, first, (refl, ap (λ (x : SessionState). after_line x line) h.1, refl), ap (λ (t : List ℕ). t ++ more) h.2 ∙ sym (append-nil more))
-answers_more s (first ∷ lines) line before mid now after text more h goes is =
-    let rest = answers_more (after_line s first) lines line h.0 mid now after h.2 more h.5 goes is in
-    (h.0, h.1, h.2 ++ more, h.3, h.4, rest, ap (λ (t : List ℕ). t ++ more) h.6 ∙ append_assoc h.1 h.2 more)
+  -- one more line is answered
+  pub answers_more : (s : SessionState S) (lines : List (List ℕ)) (line : List ℕ) (before mid now : Used) (after : SessionState S) (text more : List ℕ)
+      → AreAnswers b s lines before mid after text → (reply_to (request_in after line) ≡ Quits → ⊥) → IsAnswer b after line mid now more
+      → AreAnswers b s (lines ++ line ∷ []) before now (after_line b after line) (text ++ more)
+  answers_more s [] line before mid now after text more h goes is =
+      let here : reply_to (request_in s line) ≡ Quits → ⊥ = subst (λ (x : SessionState S). reply_to (request_in x line) ≡ Quits → ⊥) h.1 goes in
+      let there : IsAnswer b s line mid now more = subst (λ (x : SessionState S). IsAnswer b x line mid now more) h.1 is in
+      let first : IsAnswer b s line before now more = subst (λ (u : Used). IsAnswer b s line u now more) h.0 there in
+      (now, more, [], here, first, (refl, ap (λ (x : SessionState S). after_line b x line) h.1, refl), ap (λ (t : List ℕ). t ++ more) h.2 ∙ sym (append-nil more))
+  answers_more s (first ∷ lines) line before mid now after text more h goes is =
+      let rest = answers_more (after_line b s first) lines line h.0 mid now after h.2 more h.5 goes is in
+      (h.0, h.1, h.2 ++ more, h.3, h.4, rest, ap (λ (t : List ℕ). t ++ more) h.6 ∙ append_assoc h.1 h.2 more)
 
--- ---- the loop
+  -- ---- the loop
 
--- what was read and answered so far
-pub record Going (first : SessionState) (start : List ℕ) (old now : Reading) (before mid : Used) (blank written : Tape) (session : SessionState) (buffer : List ℕ) : Type 0 where
-  pub more : List ℕ
-  pub given : now.given ≡ old.given ++ more
-  pub fine : now.failures ≡ old.failures
-  pub lines : List (List ℕ)
-  pub answers : List ℕ
-  pub parts : parts_of (start ++ more) ≡ lines ++ parts_of buffer
-  pub answered : AreAnswers first lines before mid session answers
-  pub writes : Writes blank written answers
+  -- what was read and answered so far
+  pub record Going (first : SessionState S) (start : List ℕ) (old now : Reading) (before mid : Used) (blank written : Tape) (session : SessionState S) (buffer : List ℕ) : Type 0 where
+    pub more : List ℕ
+    pub given : now.given ≡ old.given ++ more
+    pub fine : now.failures ≡ old.failures
+    pub lines : List (List ℕ)
+    pub answers : List ℕ
+    pub parts : parts_of (start ++ more) ≡ lines ++ parts_of buffer
+    pub answered : AreAnswers b first lines before mid session answers
+    pub writes : Writes blank written answers
 
--- nothing yet
-pub begins : (s : SessionState) (buffer : List ℕ) (r : Reading) (u : Used) (t : Tape) → Going s buffer r r u u t t s buffer
-begins s buffer r u t =
-    record {
-      more = [];
-      given = sym (append-nil r.given);
-      fine = refl;
-      lines = [];
-      answers = [];
-      parts = ap parts_of (append-nil buffer);
-      answered = (refl, refl, refl);
-      writes = record { taken = sym (append-nil t.taken); fine = refl };
-    }
+  -- nothing yet
+  pub begins : (s : SessionState S) (buffer : List ℕ) (r : Reading) (u : Used) (t : Tape) → Going s buffer r r u u t t s buffer
+  begins s buffer r u t =
+      record {
+        more = [];
+        given = sym (append-nil r.given);
+        fine = refl;
+        lines = [];
+        answers = [];
+        parts = ap parts_of (append-nil buffer);
+        answered = (refl, refl, refl);
+        writes = record { taken = sym (append-nil t.taken); fine = refl };
+      }
 
--- the sink was flushed
-pub flushed : (first s : SessionState) (start buffer : List ℕ) (old now : Reading) (before mid : Used) (blank written after : Tape)
-    → Going first start old now before mid blank written s buffer → after.taken ≡ written.taken → after.failures ≡ written.failures
-    → Going first start old now before mid blank after s buffer
-flushed first s start buffer old now before mid blank written after h taken fine =
-    record {
-      more = h.more;
-      given = h.given;
-      fine = h.fine;
-      lines = h.lines;
-      answers = h.answers;
-      parts = h.parts;
-      answered = h.answered;
-      writes = record { taken = taken ∙ h.writes.taken; fine = fine ∙ h.writes.fine };
-    }
+  -- the sink was flushed
+  pub flushed : (first s : SessionState S) (start buffer : List ℕ) (old now : Reading) (before mid : Used) (blank written after : Tape)
+      → Going first start old now before mid blank written s buffer → after.taken ≡ written.taken → after.failures ≡ written.failures
+      → Going first start old now before mid blank after s buffer
+  flushed first s start buffer old now before mid blank written after h taken fine =
+      record {
+        more = h.more;
+        given = h.given;
+        fine = h.fine;
+        lines = h.lines;
+        answers = h.answers;
+        parts = h.parts;
+        answered = h.answered;
+        writes = record { taken = taken ∙ h.writes.taken; fine = fine ∙ h.writes.fine };
+      }
 
--- one more line was read
-pub record Got (first : SessionState) (start : List ℕ) (old now : Reading) (before mid : Used) (blank written : Tape) (session : SessionState) (line buffer : List ℕ) : Type 0 where
-  pub more : List ℕ
-  pub given : now.given ≡ old.given ++ more
-  pub fine : now.failures ≡ old.failures
-  pub lines : List (List ℕ)
-  pub answers : List ℕ
-  pub parts : parts_of (start ++ more) ≡ lines ++ line ∷ parts_of buffer
-  pub answered : AreAnswers first lines before mid session answers
-  pub writes : Writes blank written answers
+  -- one more line was read
+  pub record Got (first : SessionState S) (start : List ℕ) (old now : Reading) (before mid : Used) (blank written : Tape) (session : SessionState S) (line buffer : List ℕ) : Type 0 where
+    pub more : List ℕ
+    pub given : now.given ≡ old.given ++ more
+    pub fine : now.failures ≡ old.failures
+    pub lines : List (List ℕ)
+    pub answers : List ℕ
+    pub parts : parts_of (start ++ more) ≡ lines ++ line ∷ parts_of buffer
+    pub answered : AreAnswers b first lines before mid session answers
+    pub writes : Writes blank written answers
 
-pub got : (first s : SessionState) (start buffer line rest : List ℕ) (old now after : Reading) (before mid : Used) (blank written : Tape) (more : List ℕ)
-    → Going first start old now before mid blank written s buffer → after.given ≡ now.given ++ more → after.failures ≡ now.failures
-    → parts_of (buffer ++ more) ≡ line ∷ parts_of rest → Got first start old after before mid blank written s line rest
-got first s start buffer line rest old now after before mid blank written more h given fine parts =
-    record {
-      more = h.more ++ more;
-      given = given ∙ ap (λ (xs : List ℕ). xs ++ more) h.given ∙ append_assoc old.given h.more more;
-      fine = fine ∙ h.fine;
-      lines = h.lines;
-      answers = h.answers;
-      parts =
-          ap parts_of (sym (append_assoc start h.more more)) ∙ parts_further (start ++ h.more) buffer more h.lines h.parts
-          ∙ ap (λ (ps : List (List ℕ)). h.lines ++ ps) parts;
-      answered = h.answered;
-      writes = h.writes;
-    }
+  pub got : (first s : SessionState S) (start buffer line rest : List ℕ) (old now after : Reading) (before mid : Used) (blank written : Tape) (more : List ℕ)
+      → Going first start old now before mid blank written s buffer → after.given ≡ now.given ++ more → after.failures ≡ now.failures
+      → parts_of (buffer ++ more) ≡ line ∷ parts_of rest → Got first start old after before mid blank written s line rest
+  got first s start buffer line rest old now after before mid blank written more h given fine parts =
+      record {
+        more = h.more ++ more;
+        given = given ∙ ap (λ (xs : List ℕ). xs ++ more) h.given ∙ append_assoc old.given h.more more;
+        fine = fine ∙ h.fine;
+        lines = h.lines;
+        answers = h.answers;
+        parts =
+            ap parts_of (sym (append_assoc start h.more more)) ∙ parts_further (start ++ h.more) buffer more h.lines h.parts
+            ∙ ap (λ (ps : List (List ℕ)). h.lines ++ ps) parts;
+        answered = h.answered;
+        writes = h.writes;
+      }
 
--- and it was answered
-pub goes_on : (first s t : SessionState) (start line buffer page : List ℕ) (old now : Reading) (before mid used : Used) (blank written after : Tape)
-    → Got first start old now before mid blank written s line buffer → (reply_to (request_in s line) ≡ Quits → ⊥) → IsAnswer s line mid used page
-    → t ≡ after_line s line → Writes written after page → Going first start old now before used blank after t buffer
-goes_on first s t start line buffer page old now before mid used blank written after h goes is next wrote =
-    record {
-      more = h.more;
-      given = h.given;
-      fine = h.fine;
-      lines = h.lines ++ line ∷ [];
-      answers = h.answers ++ page;
-      parts = h.parts ∙ sym (append_assoc h.lines (line ∷ []) (parts_of buffer));
-      answered =
-          subst (λ (x : SessionState). AreAnswers first (h.lines ++ line ∷ []) before used x (h.answers ++ page)) (sym next)
-          (answers_more first h.lines line before mid used s h.answers page h.answered goes is);
-      writes =
+  -- and it was answered
+  pub goes_on : (first s t : SessionState S) (start line buffer page : List ℕ) (old now : Reading) (before mid used : Used) (blank written after : Tape)
+      → Got first start old now before mid blank written s line buffer → (reply_to (request_in s line) ≡ Quits → ⊥) → IsAnswer b s line mid used page
+      → t ≡ after_line b s line → Writes written after page → Going first start old now before used blank after t buffer
+  goes_on first s t start line buffer page old now before mid used blank written after h goes is next wrote =
+      record {
+        more = h.more;
+        given = h.given;
+        fine = h.fine;
+        lines = h.lines ++ line ∷ [];
+        answers = h.answers ++ page;
+        parts = h.parts ∙ sym (append_assoc h.lines (line ∷ []) (parts_of buffer));
+        answered =
+            subst (λ (x : SessionState S). AreAnswers b first (h.lines ++ line ∷ []) before used x (h.answers ++ page)) (sym next)
+            (answers_more first h.lines line before mid used s h.answers page h.answered goes is);
+        writes =
+            record {
+              taken = wrote.taken ∙ ap (λ (xs : List ℕ). xs ++ page) h.writes.taken ∙ append_assoc blank.taken h.answers page;
+              fine = wrote.fine ∙ h.writes.fine;
+            };
+      }
+
+  -- what is said where a session ends
+  silent_end : (s : SessionState S) (r : Result Request LineFault) → reply_to r ≡ Quits → text_of_request b s r ≡ []
+  silent_end s (Ok requests.Quit) e = refl
+  silent_end s _ e = cc
+
+  end_answer : (s : SessionState S) (line : List ℕ) (mid used : Used) (page : List ℕ) (reply : Reply) → reply ≡ Quits → reply_to (request_in s line) ≡ Quits
+      → IsAnswerBy b reply s line mid used page → (used ≡ mid) × (page ≡ [])
+  end_answer s line mid used page Quits e quits is = (is.0, is.1 ∙ silent_end s (request_in s line) quits)
+  end_answer s line mid used page _ e quits is = cc
+
+  -- the line ends the session
+  pub ends_here : (first s : SessionState S) (start line buffer page : List ℕ) (old now : Reading) (before mid used : Used) (blank written after : Tape)
+      → Got first start old now before mid blank written s line buffer → reply_to (request_in s line) ≡ Quits → IsAnswer b s line mid used page
+      → Writes written after page → HoldsSession b first start old now before used blank after (Ok tt)
+  ends_here first s start line buffer page old now before mid used blank written after h quits is wrote =
+      let no = end_answer s line mid used page (reply_to (request_in s line)) quits quits is in (
+        h.more,
+        h.given,
+        h.fine,
+        (
+          h.answers,
           record {
-            taken = wrote.taken ∙ ap (λ (xs : List ℕ). xs ++ page) h.writes.taken ∙ append_assoc blank.taken h.answers page;
+            lines = h.lines;
+            after = s;
+            answers = h.answers;
+            last = line;
+            more = parts_of buffer;
+            parts = h.parts;
+            answered = subst (λ (u : Used). AreAnswers b first h.lines before u s h.answers) (sym no.0) h.answered;
+            ends = inl (quits, refl);
+          },
+          record {
+            taken = wrote.taken ∙ ap (λ (xs : List ℕ). written.taken ++ xs) no.1 ∙ append-nil written.taken ∙ h.writes.taken;
             fine = wrote.fine ∙ h.writes.fine;
-          };
-    }
+          },
+        ),
+      )
 
--- what is said where a session ends
-silent_end : (s : SessionState) (r : Result Request LineFault) → reply_to r ≡ Quits → text_of_request s r ≡ []
-silent_end s (Ok requests.Quit) e = refl
-silent_end s _ e = cc
+  -- the input ends
+  pub input_ends : (first s : SessionState S) (start buffer rest : List ℕ) (old now after : Reading) (before mid : Used) (blank written last : Tape) (more : List ℕ)
+      → Going first start old now before mid blank written s buffer → after.given ≡ now.given ++ more → after.failures ≡ now.failures
+      → after.ended ≡ true → rest ≡ buffer ++ more → parts_of rest ≡ rest ∷ [] → Writes written last (last_text s rest)
+      → HoldsSession b first start old after before mid blank last (Ok tt)
+  input_ends first s start buffer rest old now after before mid blank written last more h given fine ended is one wrote =
+      let parts : parts_of (start ++ (h.more ++ more)) ≡ h.lines ++ rest ∷ [] =
+      ap parts_of (sym (append_assoc start h.more more)) ∙ parts_further (start ++ h.more) buffer more h.lines h.parts
+      ∙ ap (λ (ps : List (List ℕ)). h.lines ++ ps) (ap parts_of (sym is) ∙ one) in (
+        h.more ++ more,
+        given ∙ ap (λ (xs : List ℕ). xs ++ more) h.given ∙ append_assoc old.given h.more more,
+        fine ∙ h.fine,
+        (
+          h.answers ++ last_text s rest,
+          record {
+            lines = h.lines;
+            after = s;
+            answers = h.answers;
+            last = rest;
+            more = [];
+            parts = parts;
+            answered = h.answered;
+            ends = inr (refl, ended, refl);
+          },
+          record {
+            taken = wrote.taken ∙ ap (λ (xs : List ℕ). xs ++ last_text s rest) h.writes.taken ∙ append_assoc blank.taken h.answers (last_text s rest);
+            fine = wrote.fine ∙ h.writes.fine;
+          },
+        ),
+      )
 
-end_answer : (s : SessionState) (line : List ℕ) (mid used : Used) (page : List ℕ) (reply : Reply) → reply ≡ Quits → reply_to (request_in s line) ≡ Quits
-    → IsAnswerBy reply s line mid used page → (used ≡ mid) × (page ≡ [])
-end_answer s line mid used page Quits e quits is = (is.0, is.1 ∙ silent_end s (request_in s line) quits)
-end_answer s line mid used page _ e quits is = cc
+  -- a fault of a session is of a device or of memory
+  pub held_fault : (first : SessionState S) (start : List ℕ) (old now : Reading) (before used : Used) (blank written : Tape) (fault : ReplayFault)
+      → HoldsSession b first start old now before used blank written (Err fault) → status_of (fault_of_replay fault) ≡ 3
+  held_fault first start old now before used blank written faults.Read h = refl
+  held_fault first start old now before used blank written faults.Write h = refl
+  held_fault first start old now before used blank written faults.OutOfMemory h = refl
+  held_fault first start old now before used blank written _ h = absurd h
 
--- the line ends the session
-pub ends_here : (first s : SessionState) (start line buffer page : List ℕ) (old now : Reading) (before mid used : Used) (blank written after : Tape)
-    → Got first start old now before mid blank written s line buffer → reply_to (request_in s line) ≡ Quits → IsAnswer s line mid used page
-    → Writes written after page → HoldsSession first start old now before used blank after (Ok tt)
-ends_here first s start line buffer page old now before mid used blank written after h quits is wrote =
-    let no = end_answer s line mid used page (reply_to (request_in s line)) quits quits is in (
-      h.more,
-      h.given,
-      h.fine,
-      (
-        h.answers,
-        record {
-          lines = h.lines;
-          after = s;
-          answers = h.answers;
-          last = line;
-          more = parts_of buffer;
-          parts = h.parts;
-          answered = subst (λ (u : Used). AreAnswers first h.lines before u s h.answers) (sym no.0) h.answered;
-          ends = inl (quits, refl);
-        },
-        record {
-          taken = wrote.taken ∙ ap (λ (xs : List ℕ). written.taken ++ xs) no.1 ∙ append-nil written.taken ∙ h.writes.taken;
-          fine = wrote.fine ∙ h.writes.fine;
-        },
-      ),
-    )
+  -- a request to save changes no schedule, and is answered by what comes of it
+  pub saves_only : (s : SessionState S) (r : Result Request LineFault) → reply_to r ≡ replies.Saves → (after_request b s r ≡ s) × (text_of_request b s r ≡ [])
+  saves_only s (Ok requests.Save) e = (refl, refl)
+  saves_only s _ e = cc
 
--- the input ends
-pub input_ends : (first s : SessionState) (start buffer rest : List ℕ) (old now after : Reading) (before mid : Used) (blank written last : Tape) (more : List ℕ)
-    → Going first start old now before mid blank written s buffer → after.given ≡ now.given ++ more → after.failures ≡ now.failures
-    → after.ended ≡ true → rest ≡ buffer ++ more → parts_of rest ≡ rest ∷ [] → Writes written last (last_text s rest)
-    → HoldsSession first start old after before mid blank last (Ok tt)
-input_ends first s start buffer rest old now after before mid blank written last more h given fine ended is one wrote =
-    let parts : parts_of (start ++ (h.more ++ more)) ≡ h.lines ++ rest ∷ [] =
-    ap parts_of (sym (append_assoc start h.more more)) ∙ parts_further (start ++ h.more) buffer more h.lines h.parts
-    ∙ ap (λ (ps : List (List ℕ)). h.lines ++ ps) (ap parts_of (sym is) ∙ one) in (
-      h.more ++ more,
-      given ∙ ap (λ (xs : List ℕ). xs ++ more) h.given ∙ append_assoc old.given h.more more,
-      fine ∙ h.fine,
-      (
-        h.answers ++ last_text s rest,
-        record {
-          lines = h.lines;
-          after = s;
-          answers = h.answers;
-          last = rest;
-          more = [];
-          parts = parts;
-          answered = h.answered;
-          ends = inr (refl, ended, refl);
-        },
-        record {
-          taken = wrote.taken ∙ ap (λ (xs : List ℕ). xs ++ last_text s rest) h.writes.taken ∙ append_assoc blank.taken h.answers (last_text s rest);
-          fine = wrote.fine ∙ h.writes.fine;
-        },
-      ),
-    )
+  -- where reading fails
+  pub read_fails : (first s : SessionState S) (start buffer : List ℕ) (old now after : Reading) (before mid used : Used) (blank written last : Tape)
+      → Going first start old now before mid blank written s buffer → after.failures ≡ min (now.failures + 1) (2 ^ 64 - 1)
+      → HoldsSession b first start old after before used blank last (Err faults.Read)
+  read_fails first s start buffer old now after before mid used blank written last h failed = rw (← h.fine) failed
 
--- a fault of a session is of a device or of memory
-pub held_fault : (first : SessionState) (start : List ℕ) (old now : Reading) (before used : Used) (blank written : Tape) (fault : ReplayFault)
-    → HoldsSession first start old now before used blank written (Err fault) → status_of (fault_of_replay fault) ≡ 3
-held_fault first start old now before used blank written faults.Read h = refl
-held_fault first start old now before used blank written faults.Write h = refl
-held_fault first start old now before used blank written faults.OutOfMemory h = refl
-held_fault first start old now before used blank written _ h = absurd h
+  -- where writing fails
+  pub write_fails : (first s : SessionState S) (start buffer : List ℕ) (old now after : Reading) (before mid used : Used) (blank written last : Tape)
+      → Going first start old now before mid blank written s buffer → last.failures ≡ min (written.failures + 1) (2 ^ 64 - 1)
+      → HoldsSession b first start old after before used blank last (Err faults.Write)
+  write_fails first s start buffer old now after before mid used blank written last h failed = rw (← h.writes.fine) failed
 
--- a request to save changes no schedule, and is answered by what comes of it
-pub saves_only : (s : SessionState) (r : Result Request LineFault) → reply_to r ≡ replies.Saves → (after_request s r ≡ s) × (text_of_request s r ≡ [])
-saves_only s (Ok requests.Save) e = (refl, refl)
-saves_only s _ e = cc
+  -- where there is no memory
+  pub wants_memory : (first s : SessionState S) (start buffer : List ℕ) (old now after : Reading) (before mid used : Used) (blank written last : Tape)
+      → Going first start old now before mid blank written s buffer → after.failures ≡ now.failures → last.failures ≡ written.failures
+      → HoldsSession b first start old after before used blank last (Err faults.OutOfMemory)
+  wants_memory first s start buffer old now after before mid used blank written last h read wrote = (read ∙ h.fine, wrote ∙ h.writes.fine)
 
--- where reading fails
-pub read_fails : (first s : SessionState) (start buffer : List ℕ) (old now after : Reading) (before mid used : Used) (blank written last : Tape)
-    → Going first start old now before mid blank written s buffer → after.failures ≡ min (now.failures + 1) (2 ^ 64 - 1)
-    → HoldsSession first start old after before used blank last (Err faults.Read)
-read_fails first s start buffer old now after before mid used blank written last h failed = rw (← h.fine) failed
+  -- ---- what the calls of the loop say
 
--- where writing fails
-pub write_fails : (first s : SessionState) (start buffer : List ℕ) (old now after : Reading) (before mid used : Used) (blank written last : Tape)
-    → Going first start old now before mid blank written s buffer → last.failures ≡ min (written.failures + 1) (2 ^ 64 - 1)
-    → HoldsSession first start old after before used blank last (Err faults.Write)
-write_fails first s start buffer old now after before mid used blank written last h failed = rw (← h.writes.fine) failed
+  -- what `next_line` says of a line
+  abbrev pub IsLine : Option (Vec ℕ Global) → List ℕ → List ℕ → Reading → Reading → Type 0
+  IsLine line buffer rest now after =
+      (more : List ℕ) × (after.given ≡ now.given ++ more) × IfSome line (λ l. parts_of (buffer ++ more) ≡ l.items ∷ parts_of rest)
+      × IfNone line ((rest ≡ buffer ++ more) × (parts_of rest ≡ rest ∷ []))
 
--- where there is no memory
-pub wants_memory : (first s : SessionState) (start buffer : List ℕ) (old now after : Reading) (before mid used : Used) (blank written last : Tape)
-    → Going first start old now before mid blank written s buffer → after.failures ≡ now.failures → last.failures ≡ written.failures
-    → HoldsSession first start old after before used blank last (Err faults.OutOfMemory)
-wants_memory first s start buffer old now after before mid used blank written last h read wrote = (read ∙ h.fine, wrote ∙ h.writes.fine)
+  -- a line was read
+  pub got_line : (first s : SessionState S) (start buffer rest line : List ℕ) (old now after : Reading) (before mid : Used) (blank written tape : Tape) (read : Option (Vec ℕ Global)) (v : Vec ℕ Global)
+      → read ≡ Some v → line ≡ v.items → Going first start old now before mid blank written s buffer → tape.taken ≡ written.taken → tape.failures ≡ written.failures
+      → IsLine read buffer rest now after → after.failures ≡ now.failures → Got first start old after before mid blank tape s line rest
+  got_line first s start buffer rest line old now after before mid blank written tape None v some value h taken fine is same = cc
+  got_line first s start buffer rest line old now after before mid blank written tape (Some w) v some value h taken fine is same =
+      let items : w.items ≡ line = cc in
+      got first s start buffer line rest old now after before mid blank tape is.0 (flushed first s start buffer old now before mid blank written tape h taken fine) is.1 same
+      (is.2 ∙ ap (λ (l : List ℕ). l ∷ parts_of rest) items)
 
--- ---- what the calls of the loop say
-
--- what `next_line` says of a line
-abbrev pub IsLine : Option (Vec ℕ Global) → List ℕ → List ℕ → Reading → Reading → Type 0
-IsLine line buffer rest now after =
-    (more : List ℕ) × (after.given ≡ now.given ++ more) × IfSome line (λ l. parts_of (buffer ++ more) ≡ l.items ∷ parts_of rest)
-    × IfNone line ((rest ≡ buffer ++ more) × (parts_of rest ≡ rest ∷ []))
-
--- a line was read
-pub got_line : (first s : SessionState) (start buffer rest line : List ℕ) (old now after : Reading) (before mid : Used) (blank written tape : Tape) (read : Option (Vec ℕ Global)) (v : Vec ℕ Global)
-    → read ≡ Some v → line ≡ v.items → Going first start old now before mid blank written s buffer → tape.taken ≡ written.taken → tape.failures ≡ written.failures
-    → IsLine read buffer rest now after → after.failures ≡ now.failures → Got first start old after before mid blank tape s line rest
-got_line first s start buffer rest line old now after before mid blank written tape None v some value h taken fine is same = cc
-got_line first s start buffer rest line old now after before mid blank written tape (Some w) v some value h taken fine is same =
-    let items : w.items ≡ line = cc in
-    got first s start buffer line rest old now after before mid blank tape is.0 (flushed first s start buffer old now before mid blank written tape h taken fine) is.1 same
-    (is.2 ∙ ap (λ (l : List ℕ). l ∷ parts_of rest) items)
-
--- no line was read
-pub got_none : (first s : SessionState) (start buffer rest : List ℕ) (old now after : Reading) (before mid : Used) (blank written tape last : Tape) (read : Option (Vec ℕ Global))
-    (result : Result (Unit {0}) ReplayFault)
-    → read ≡ None → Going first start old now before mid blank written s buffer → tape.taken ≡ written.taken → tape.failures ≡ written.failures
-    → IsLine read buffer rest now after → IfNone read (after.ended ≡ true) → after.failures ≡ now.failures → WritesOr tape last (last_text s rest) result
-    → HoldsSession first start old after before mid blank last result
-got_none first s start buffer rest old now after before mid blank written tape last (Some w) result none h taken fine is ended same wrote = cc
-got_none first s start buffer rest old now after before mid blank written tape last None (Ok x) none h taken fine is ended same wrote =
-    input_ends first s start buffer rest old now after before mid blank tape last is.0 (flushed first s start buffer old now before mid blank written tape h taken fine) is.1 same ended
-    is.3.0 is.3.1 wrote
-got_none first s start buffer rest old now after before mid blank written tape last None (Err faults.Write) none h taken fine is ended same wrote =
-    write_fails first s start buffer old now after before mid mid blank tape last (flushed first s start buffer old now before mid blank written tape h taken fine) wrote
-got_none first s start buffer rest old now after before mid blank written tape last None (Err faults.OutOfMemory) none h taken fine is ended same wrote =
-    wants_memory first s start buffer old now after before mid mid blank tape last (flushed first s start buffer old now before mid blank written tape h taken fine) same wrote
-got_none first s start buffer rest old now after before mid blank written tape last None (Err _) none h taken fine is ended same wrote = absurd wrote
+  -- no line was read
+  pub got_none : (first s : SessionState S) (start buffer rest : List ℕ) (old now after : Reading) (before mid : Used) (blank written tape last : Tape) (read : Option (Vec ℕ Global))
+      (result : Result (Unit {0}) ReplayFault)
+      → read ≡ None → Going first start old now before mid blank written s buffer → tape.taken ≡ written.taken → tape.failures ≡ written.failures
+      → IsLine read buffer rest now after → IfNone read (after.ended ≡ true) → after.failures ≡ now.failures → WritesOr tape last (last_text s rest) result
+      → HoldsSession b first start old after before mid blank last result
+  got_none first s start buffer rest old now after before mid blank written tape last (Some w) result none h taken fine is ended same wrote = cc
+  got_none first s start buffer rest old now after before mid blank written tape last None (Ok x) none h taken fine is ended same wrote =
+      input_ends first s start buffer rest old now after before mid blank tape last is.0 (flushed first s start buffer old now before mid blank written tape h taken fine) is.1 same ended
+      is.3.0 is.3.1 wrote
+  got_none first s start buffer rest old now after before mid blank written tape last None (Err faults.Write) none h taken fine is ended same wrote =
+      write_fails first s start buffer old now after before mid mid blank tape last (flushed first s start buffer old now before mid blank written tape h taken fine) wrote
+  got_none first s start buffer rest old now after before mid blank written tape last None (Err faults.OutOfMemory) none h taken fine is ended same wrote =
+      wants_memory first s start buffer old now after before mid mid blank tape last (flushed first s start buffer old now before mid blank written tape h taken fine) same wrote
+  got_none first s start buffer rest old now after before mid blank written tape last None (Err _) none h taken fine is ended same wrote = absurd wrote
 
 -- the line does not end the session
 pub goes_by : (ends : Bool) (P : Type 0) → (ends ≡ true ↔ P) → ends ≡ false → P → ⊥

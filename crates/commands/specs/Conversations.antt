@@ -17,7 +17,9 @@ use Rattle.commands.specs.Settings.{IsNoSchedule, IsUnmade}
 use Rattle.rmecore.specs.declared.refusal.Refusal.{Refusal}
 use Rattle.rmecore.specs.Refused.{number_of}
 use Rattle.schedule.specs.Wholes.{Silent, world_run}
-use Rattle.diagram.specs.Sessions.{SessionState, after_request, at_schedule, watched_of, watched_text, fault_text, next_number, reply_to, request_in, text_of_request}
+use Rattle.diagram.specs.LockSimulations.{lock_semantics, lock_session}
+use Rattle.diagram.specs.Semantics.{Semantics}
+use Rattle.diagram.specs.Sessions.{SessionState, after_request, standing_text, fault_text, next_number, reply_to, request_in, text_of_request}
 
 -- the file that a line names
 abbrev pub file_in : List ℕ → List ℕ
@@ -43,28 +45,8 @@ abbrev pub IsKept : Used → Used → List ℕ → List ℕ → Bool → Type 0
 IsKept before now file text true = WritesFile before now file text
 IsKept before now file text false = (now ≡ before) ⊎ WritesFile before now file text
 
--- the answer to one line, by what is to be done
-abbrev pub IsAnswerBy : Reply → SessionState → List ℕ → Used → Used → List ℕ → Type 0
-IsAnswerBy replies.Saves session line before now text =
-    (done : Bool) × IsKept before now (file_in line) (spelling session.schedule) done × (text ≡ saved_text done)
-IsAnswerBy reply session line before now text = (now ≡ before) × (text ≡ text_of_request session (request_in session line))
-
-abbrev pub IsAnswer : SessionState → List ℕ → Used → Used → List ℕ → Type 0
-IsAnswer session line before now text = IsAnswerBy (reply_to (request_in session line)) session line before now text
-
--- the session after a line
-abbrev pub after_line : SessionState → List ℕ → SessionState
-after_line session line = after_request session (request_in session line)
-
--- the answers to lines, none of which ends the session, and the session after them
-abbrev pub AreAnswers : SessionState → List (List ℕ) → Used → Used → SessionState → List ℕ → Type 0
-AreAnswers session [] before now after text = (now ≡ before) × (after ≡ session) × (text ≡ [])
-AreAnswers session (line ∷ lines) before now after text =
-    (mid : Used) × (front : List ℕ) × (rest : List ℕ) × (reply_to (request_in session line) ≡ replies.Quits → ⊥)
-    × IsAnswer session line before mid front × AreAnswers (after_line session line) lines mid now after rest × (text ≡ front ++ rest)
-
 -- an unfinished last line has the fault of one
-abbrev pub last_text : SessionState → List ℕ → List ℕ
+abbrev pub last_text : {S : Type 0} → SessionState S → List ℕ → List ℕ
 last_text session [] = []
 last_text session rest = fault_text (next_number session) (codes "fault ") 5
 
@@ -75,27 +57,48 @@ WritesOr before now text (Err Write) = now.failures ≡ min (before.failures + 1
 WritesOr before now text (Err OutOfMemory) = now.failures ≡ before.failures
 WritesOr before now text (Err fault) = ⊥
 
--- the input was read up to a line that ends the session, or to its end; all lines before were answered
-pub record Converses (session : SessionState) (input : List ℕ) (ended : Bool) (before now : Used) (said : List ℕ) : Type 0 where
-  pub lines : List (List ℕ)
-  pub after : SessionState
-  pub answers : List ℕ
-  pub last : List ℕ
-  pub more : List (List ℕ)
-  pub parts : parts_of input ≡ lines ++ last ∷ more
-  pub answered : AreAnswers session lines before now after answers
-  pub ends : ((reply_to (request_in after last) ≡ replies.Quits) × (said ≡ answers))
-      ⊎ ((more ≡ []) × (ended ≡ true) × (said ≡ answers ++ last_text after last))
+module _ {S : Type 0} (b : Semantics S) where
+  -- the answer to one line, by what is to be done
+  abbrev pub IsAnswerBy : Reply → SessionState S → List ℕ → Used → Used → List ℕ → Type 0
+  IsAnswerBy replies.Saves session line before now text =
+      (done : Bool) × IsKept before now (file_in line) (spelling session.schedule) done × (text ≡ saved_text done)
+  IsAnswerBy reply session line before now text = (now ≡ before) × (text ≡ text_of_request b session (request_in session line))
 
--- what was read, kept and written of the lines of a session
-abbrev pub HoldsSession : SessionState → List ℕ → Reading → Reading → Used → Used → Tape → Tape → Result (Unit {0}) ReplayFault → Type 0
-HoldsSession session buffer old new before now blank written (Ok x) =
-    (text : List ℕ) × (new.given ≡ old.given ++ text) × (new.failures ≡ old.failures)
-    × ((said : List ℕ) × Converses session (buffer ++ text) new.ended before now said × Writes blank written said)
-HoldsSession session buffer old new before now blank written (Err Read) = new.failures ≡ min (old.failures + 1) (2 ^ 64 - 1)
-HoldsSession session buffer old new before now blank written (Err Write) = written.failures ≡ min (blank.failures + 1) (2 ^ 64 - 1)
-HoldsSession session buffer old new before now blank written (Err OutOfMemory) = (new.failures ≡ old.failures) × (written.failures ≡ blank.failures)
-HoldsSession session buffer old new before now blank written (Err fault) = ⊥
+  abbrev pub IsAnswer : SessionState S → List ℕ → Used → Used → List ℕ → Type 0
+  IsAnswer session line before now text = IsAnswerBy (reply_to (request_in session line)) session line before now text
+
+  -- the session after a line
+  abbrev pub after_line : SessionState S → List ℕ → SessionState S
+  after_line session line = after_request b session (request_in session line)
+
+  -- the answers to lines, none of which ends the session, and the session after them
+  abbrev pub AreAnswers : SessionState S → List (List ℕ) → Used → Used → SessionState S → List ℕ → Type 0
+  AreAnswers session [] before now after text = (now ≡ before) × (after ≡ session) × (text ≡ [])
+  AreAnswers session (line ∷ lines) before now after text =
+      (mid : Used) × (front : List ℕ) × (rest : List ℕ) × (reply_to (request_in session line) ≡ replies.Quits → ⊥)
+      × IsAnswer session line before mid front × AreAnswers (after_line session line) lines mid now after rest × (text ≡ front ++ rest)
+
+  -- the input was read up to a line that ends the session, or to its end; all lines before were answered
+  pub record Converses (session : SessionState S) (input : List ℕ) (ended : Bool) (before now : Used) (said : List ℕ) : Type 0 where
+    pub lines : List (List ℕ)
+    pub after : SessionState S
+    pub answers : List ℕ
+    pub last : List ℕ
+    pub more : List (List ℕ)
+    pub parts : parts_of input ≡ lines ++ last ∷ more
+    pub answered : AreAnswers session lines before now after answers
+    pub ends : ((reply_to (request_in after last) ≡ replies.Quits) × (said ≡ answers))
+        ⊎ ((more ≡ []) × (ended ≡ true) × (said ≡ answers ++ last_text after last))
+
+  -- what was read, kept and written of the lines of a session
+  abbrev pub HoldsSession : SessionState S → List ℕ → Reading → Reading → Used → Used → Tape → Tape → Result (Unit {0}) ReplayFault → Type 0
+  HoldsSession session buffer old new before now blank written (Ok x) =
+      (text : List ℕ) × (new.given ≡ old.given ++ text) × (new.failures ≡ old.failures)
+      × ((said : List ℕ) × Converses session (buffer ++ text) new.ended before now said × Writes blank written said)
+  HoldsSession session buffer old new before now blank written (Err Read) = new.failures ≡ min (old.failures + 1) (2 ^ 64 - 1)
+  HoldsSession session buffer old new before now blank written (Err Write) = written.failures ≡ min (blank.failures + 1) (2 ^ 64 - 1)
+  HoldsSession session buffer old new before now blank written (Err OutOfMemory) = (new.failures ≡ old.failures) × (written.failures ≡ blank.failures)
+  HoldsSession session buffer old new before now blank written (Err fault) = ⊥
 
 -- ---- the whole
 
@@ -143,8 +146,8 @@ pub record IsHeld (start : Option (List ℕ)) (old new : Reading) (before now : 
   pub opens : Opens start old opened buffer schedule
   pub accepted : (world_run schedule).refused ≡ None
   pub opening : Tape
-  pub first : Writes blank opening (watched_text schedule (watched_of schedule))
-  pub holds : HoldsSession (at_schedule schedule []) buffer opened new before now opening written (Ok tt)
+  pub first : Writes blank opening (standing_text lock_semantics (lock_session schedule))
+  pub holds : HoldsSession lock_semantics (lock_session schedule) buffer opened new before now opening written (Ok tt)
 
 -- how a session ends: at its end with status 0; or it can't begin, and nothing was written; or a device or memory has failed
 abbrev pub SessionEnds : Option (List ℕ) → Reading → Reading → Used → Used → Tape → Tape → Result Ending CommandFault → Type 0

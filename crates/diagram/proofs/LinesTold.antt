@@ -6,7 +6,11 @@ use Rattle.diagram.proofs.Common.{DiagramRow, Event, LifelinePhase, Line, Refusa
 use Rattle.diagram.proofs.Shown.{line_ends, line_goes_on, lines_none}
 use Rattle.diagram.proofs.Steps.{rows_both, told_both}
 use Rattle.diagram.specs.LastSteps.{LastStepsState, last_steps_after, last_steps_behind, last_steps_with}
-use Rattle.diagram.specs.Sessions.{WatchedState, lines_told, steps_told, watched_on, watched_with}
+use Rattle.diagram.specs.DiagramLayouts.{layout_of}
+use Rattle.diagram.specs.LockSimulations.{LockSimulationState, lock_semantics, lock_with, steps_told}
+use Rattle.diagram.specs.Semantics.{lines_on}
+use Rattle.diagram.specs.Sessions.{lines_text}
+use Rattle.schedule.specs.declared.texts.head.Head.{Head}
 
 -- what rows show of the phases
 phases_seen : (last : LastStepsState) (rows : List DiagramRow) → (last_steps_behind last rows).phases ≡ phases_behind last.phases rows
@@ -21,28 +25,29 @@ followed_both l last es fs =
     ∙ ap (λ (phases : List LifelinePhase). followed l last.phases es ++ followed l phases fs) (sym (phases_seen last (map row_of es)))
 
 -- no line is refused where none of the run is
-first_accepted : (k : ℕ) (w : WatchedState) (line : Line) (lines : List Line) (o : Option Refusal) → (line_on world_behaviour w.world line).refused ≡ o
+first_accepted : (k : ℕ) (w : LockSimulationState) (line : Line) (lines : List Line) (o : Option Refusal) → (line_on world_behaviour w.world line).refused ≡ o
     → (run_on world_behaviour k w.world (line ∷ lines)).refused ≡ None → o ≡ None
 first_accepted k w line lines None is accepted = refl
 first_accepted k w line lines (Some e) is accepted =
     absurd (let no : None ≡ Some (k, e) = sym accepted ∙ (line_ends world_behaviour k w.world line (line ∷ lines) lines e refl is).1 in cc)
 
-pub told_of_run : (l : Layout) (k : ℕ) (w : WatchedState) (lines : List Line) → (run_on world_behaviour k w.world lines).refused ≡ None
-    → lines_told l w lines ≡ followed l w.last_steps.phases (events_on world_behaviour w.world lines)
-told_of_run l k w [] accepted = sym (ap (λ (es : List Event). followed l w.last_steps.phases es) (lines_none world_behaviour k w.world).0)
-told_of_run l k w (line ∷ lines) accepted =
-    let next = watched_with w line in
+pub told_of_run : (head : Head) (k : ℕ) (w : LockSimulationState) (lines : List Line) → (run_on world_behaviour k w.world lines).refused ≡ None
+    → lines_text lock_semantics head w lines ≡ followed (layout_of head) w.last_steps.phases (events_on world_behaviour w.world lines)
+told_of_run head k w [] accepted = sym (ap (λ (es : List Event). followed (layout_of head) w.last_steps.phases es) (lines_none world_behaviour k w.world).0)
+told_of_run head k w (line ∷ lines) accepted =
+    let l : Layout = layout_of head in
+    let next = lock_with w line in
     let first = first_accepted k w line lines (line_on world_behaviour w.world line).refused refl accepted in
     let more = line_goes_on world_behaviour k w.world next.world line (line ∷ lines) lines refl first refl in
-    ap (λ (t : List ℕ). steps_told l w line ++ t) (told_of_run l (k + 1) next lines (sym more.1 ∙ accepted))
+    ap (λ (t : List ℕ). steps_told l w line ++ t) (told_of_run head (k + 1) next lines (sym more.1 ∙ accepted))
     ∙ sym (followed_both l w.last_steps (events_of world_behaviour w.world line) (events_on world_behaviour next.world lines))
     ∙ ap (λ (es : List Event). followed l w.last_steps.phases es) (sym more.0)
 
-pub world_of_run : (k : ℕ) (w : WatchedState) (lines : List Line) → (run_on world_behaviour k w.world lines).refused ≡ None
-    → (watched_on w lines).world ≡ (run_on world_behaviour k w.world lines).left
+pub world_of_run : (k : ℕ) (w : LockSimulationState) (lines : List Line) → (run_on world_behaviour k w.world lines).refused ≡ None
+    → (lines_on lock_with w lines).world ≡ (run_on world_behaviour k w.world lines).left
 world_of_run k w [] accepted = sym (lines_none world_behaviour k w.world).2
 world_of_run k w (line ∷ lines) accepted =
-    let next = watched_with w line in
+    let next = lock_with w line in
     let first = first_accepted k w line lines (line_on world_behaviour w.world line).refused refl accepted in
     let more = line_goes_on world_behaviour k w.world next.world line (line ∷ lines) lines refl first refl in
     world_of_run (k + 1) next lines (sym more.1 ∙ accepted) ∙ sym more.2

@@ -4,8 +4,8 @@ use Rattle.rmecore.specs.declared.refusal.Refusal.TheVariants as refusals
 use Rattle.redomail.specs.declared.layout.Layout.{Layout}
 use Rattle.rmeworld.specs.declared.stepped.Stepped.{Stepped}
 use Rattle.diagram.proofs.Common.{append-nil, Behaviour, Crash, Deed, Event, Fell, Refusal, Told, events_of, followed, row_of, row_told, unless}
-use Rattle.diagram.specs.Sessions.{steps_to_answer}
 use Rattle.diagram.specs.LastSteps.{LastStepsState, last_steps_after, last_steps_with}
+use Rattle.diagram.specs.LockSimulations.{steps_to_answer}
 
 -- ---- events
 

@@ -13,4 +13,6 @@ pub mod LastSteps
 pub mod Standings
 pub mod Requests
 pub mod Helps
+pub mod Semantics
+pub mod LockSimulations
 pub mod Sessions

@@ -34,6 +34,6 @@ pub use following::follow;
 pub use following_lines::follow_as_lines;
 pub use page::write_page;
 pub use phase::LifelinePhase;
-pub use session::{Reply, Request, Session};
+pub use session::{LockSimulation, Reply, Request, Session, Simulation};
 pub use step_lines::put_verdict_object;
 pub use writing::write_drawing;

@@ -9,7 +9,7 @@ ghost use Rattle.diagram.specs.Sessions.{reply_to, request_in};
 
 use crate::folder::Folder;
 use diagram::session::saying::put_fault;
-use diagram::{Reply, Session};
+use diagram::{Reply, Session, Simulation};
 use schedule::lines::cut::cut_once;
 use schedule::lines::words::Words;
 use schedule::texts::device::write_all;
@@ -89,9 +89,9 @@ fn keep<F: Folder>(
 }
 
 /// Saves the schedule so far, and says whether that was done.
-fn save<F: Folder>(
+fn save<V: Simulation, F: Folder>(
     alloc: Global,
-    session: &Session,
+    session: &Session<V>,
     line: &[u8],
     folder: &mut F,
     page: &mut Vec<u8>,
@@ -110,16 +110,16 @@ fn save<F: Folder>(
 }
 
 /// Answers a line on a page, and whether it ends the session.
-fn reply<F: Folder>(
+fn reply<V: Simulation, F: Folder>(
     alloc: Global,
-    session: &mut Session,
+    session: &mut Session<V>,
     line: &[u8],
     folder: &mut F,
     page: &mut Vec<u8>,
 ) -> Result<bool, AllocError>
     requires { page.old.items ≡ [] }
-    ensures answer { OnOk result (IsAnswer session.old line.now (F.used folder.old) (F.used folder.new) page.new.items) }
-    ensures after { OnOk result (session.new ≡ after_line session.old line.now) }
+    ensures answer { OnOk result (IsAnswer V.semantics session.old line.now (F.used folder.old) (F.used folder.new) page.new.items) }
+    ensures after { OnOk result (session.new ≡ after_line V.semantics session.old line.now) }
     ensures opened { (F.used folder.new).opened ≡ (F.used folder.old).opened }
     ensures ends { IfOk result (λ ends. ends ≡ true ↔ (reply_to (request_in session.old line.now) ≡ ReplyQuits)) }
 {
@@ -134,9 +134,9 @@ fn reply<F: Folder>(
 }
 
 /// Says that an unfinished last line is not taken.
-fn write_last<W: Sink>(
+fn write_last<V: Simulation, W: Sink>(
     alloc: Global,
-    session: &Session,
+    session: &Session<V>,
     rest: &[u8],
     w: &mut W,
 ) -> Result<(), ReplayFault>
@@ -154,16 +154,16 @@ fn write_last<W: Sink>(
 
 /// Answers the lines of the input one after the other, up to the one that ends the session or to the end of the input. The
 /// buffer has what was read already. What is written is flushed before more is read.
-pub fn converse<S: Source, W: Sink, F: Folder>(
+pub fn converse<V: Simulation, S: Source, W: Sink, F: Folder>(
     alloc: Global,
-    session: &mut Session,
+    session: &mut Session<V>,
     folder: &mut F,
     r: &mut S,
     buffer: &mut Vec<u8>,
     w: &mut W,
 ) -> Result<(), ReplayFault>
-    ensures holds { HoldsSession session.old buffer.old.items (S.reading r.old) (S.reading r.new) (F.used folder.old) (F.used folder.new)
-        (W.tape w.old) (W.tape w.new) result }
+    ensures holds { HoldsSession V.semantics session.old buffer.old.items (S.reading r.old) (S.reading r.new)
+        (F.used folder.old) (F.used folder.new) (W.tape w.old) (W.tape w.new) result }
     ensures opened { (F.used folder.new).opened ≡ (F.used folder.old).opened }
 {
     let mut page = Vec::new(alloc);

@@ -4,7 +4,7 @@ ghost use Rattle.std.specs.Prelude.{◌≡◌, ◌⊎◌, [], Ok, None, IfErr, I
 ghost use Rattle.schedule.specs.Schedules.{schedule_at};
 ghost use Rattle.schedule.specs.Tapes.{Writes};
 ghost use Rattle.schedule.specs.Wholes.{world_run};
-ghost use Rattle.diagram.specs.Sessions.{watched_text};
+ghost use Rattle.diagram.specs.Sessions.{standing_text};
 ghost use Rattle.commands.specs.Conversations.{BeginsWith, CantBegin, CantPlay, Opens, SessionEnds};
 ghost use Rattle.commands.specs.Endings.{IsEnded};
 ghost use Rattle.commands.specs.Settings.{IsNoSchedule};
@@ -16,7 +16,7 @@ use crate::schedules::fault::CommandFault;
 use crate::schedules::replaying::on_page;
 use crate::schedules::setting::{new_judge, new_world};
 use crate::sessions::conversation::{converse, next_line};
-use diagram::Session;
+use diagram::{Session, Simulation};
 use schedule::texts::device::write_all;
 use schedule::{Page, ReplayFault, Schedule, Sink, Source, read_schedule, replay_on};
 use std::alloc::Global;
@@ -100,8 +100,12 @@ fn first_schedule<R: Source>(
 }
 
 /// Writes where the processes stand.
-fn write_state<W: Sink>(alloc: Global, session: &Session, w: &mut W) -> Result<(), CommandFault>
-    ensures written { OnOk result (Writes (W.tape w.old) (W.tape w.new) (watched_text session.now.schedule session.now.watched)) }
+pub fn write_state<V: Simulation, W: Sink>(
+    alloc: Global,
+    session: &Session<V>,
+    w: &mut W,
+) -> Result<(), CommandFault>
+    ensures written { OnOk result (Writes (W.tape w.old) (W.tape w.new) (standing_text V.semantics session.now)) }
     ensures failed { IfErr result (λ fault. status_of fault ≡ 3) }
 {
     let mut page = Vec::new(alloc);

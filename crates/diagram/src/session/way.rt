@@ -1,7 +1,7 @@
 //! How many steps a process takes alone until its call is answered.
 
 ghost use Rattle.std.specs.Prelude.{◌≡◌, ◌≤◌, IfOk, IfSome};
-ghost use Rattle.diagram.specs.Sessions.{steps_to_answer as steps_to_answer_in};
+ghost use Rattle.diagram.specs.LockSimulations.{steps_to_answer as steps_to_answer_in};
 
 use rmeworld::Machine;
 use std::alloc::AllocError;

@@ -5,7 +5,7 @@ use Rattle.commands.proofs.sessions.conversation.converse.Goals as goal
 -- the input ends
 pub returns-in_default-clause-holds : goal.returns-in_default-clause-holds
 returns-in_default-clause-holds g c =
-    got_none c.args.session.now c.loop.session c.args.buffer.now.items c.loop.buffer.items c.next_line.new.buffer.items
+    got_none g.V.Simulation.semantics c.args.session.now c.loop.session c.args.buffer.now.items c.loop.buffer.items c.next_line.new.buffer.items
     (g.S.Source.reading c.args.r.now)
     (g.S.Source.reading c.loop.r)
     (g.S.Source.reading c.next_line.new.source)
@@ -22,7 +22,7 @@ returns-in_default-clause-holds g c =
 pub returns-then-ends-clause-holds : goal.returns-then-ends-clause-holds
 returns-then-ends-clause-holds g c =
     let line : List ℕ = c.deref-in-loop.result.now in
-    let got = got_line c.args.session.now c.loop.session c.args.buffer.now.items c.loop.buffer.items c.next_line.new.buffer.items line
+    let got = got_line g.V.Simulation.semantics c.args.session.now c.loop.session c.args.buffer.now.items c.loop.buffer.items c.next_line.new.buffer.items line
     (g.S.Source.reading c.args.r.now)
     (g.S.Source.reading c.loop.r)
     (g.S.Source.reading c.next_line.new.source)
@@ -33,7 +33,7 @@ returns-then-ends-clause-holds g c =
     (g.W.Sink.tape c.flush.new.self)
     c.in_ok-line.field-0 c.in-Some.line c.in-Some.is c.deref-in-loop.ensures.value c.loop.invariant.0 c.in_ok-flush.ensures.taken c.in_ok-flush.ensures.fine
     c.in_ok-line.ensures.given c.in_ok-line.ensures.fine in
-    ends_here c.args.session.now c.loop.session c.args.buffer.now.items line c.next_line.new.buffer.items c.reply.new.page.items
+    ends_here g.V.Simulation.semantics c.args.session.now c.loop.session c.args.buffer.now.items line c.next_line.new.buffer.items c.reply.new.page.items
     (g.S.Source.reading c.args.r.now)
     (g.S.Source.reading c.next_line.new.source)
     (g.F.Folder.used c.args.folder.now)
@@ -50,7 +50,7 @@ returns-then-ends-clause-holds g c =
 pub loop-preserved : goal.loop-preserved
 loop-preserved g c =
     let line : List ℕ = c.deref-in-loop.result.now in
-    let got = got_line c.args.session.now c.loop.session c.args.buffer.now.items c.loop.buffer.items c.next_line.new.buffer.items line
+    let got = got_line g.V.Simulation.semantics c.args.session.now c.loop.session c.args.buffer.now.items c.loop.buffer.items c.next_line.new.buffer.items line
     (g.S.Source.reading c.args.r.now)
     (g.S.Source.reading c.loop.r)
     (g.S.Source.reading c.next_line.new.source)
@@ -61,7 +61,7 @@ loop-preserved g c =
     (g.W.Sink.tape c.flush.new.self)
     c.in_ok-line.field-0 c.in-Some.line c.in-Some.is c.deref-in-loop.ensures.value c.loop.invariant.0 c.in_ok-flush.ensures.taken c.in_ok-flush.ensures.fine
     c.in_ok-line.ensures.given c.in_ok-line.ensures.fine in (
-      goes_on c.args.session.now c.loop.session c.reply.new.session c.args.buffer.now.items line c.next_line.new.buffer.items c.reply.new.page.items
+      goes_on g.V.Simulation.semantics c.args.session.now c.loop.session c.reply.new.session c.args.buffer.now.items line c.next_line.new.buffer.items c.reply.new.page.items
           (g.S.Source.reading c.args.r.now)
           (g.S.Source.reading c.next_line.new.source)
           (g.F.Folder.used c.args.folder.now)

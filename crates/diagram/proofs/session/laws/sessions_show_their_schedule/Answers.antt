@@ -1,7 +1,5 @@
-use Rattle.std.proofs.Common.{[], refl}
-use Rattle.diagram.proofs.Undone.{kept_all}
-use Rattle.diagram.specs.Sessions.{at_schedule}
+use Rattle.diagram.proofs.Undone.{shows_schedule}
 use Rattle.diagram.proofs.session.laws.sessions_show_their_schedule.Goals as goal
 
 pub returns : goal.returns
-returns c = λ schedule inputs. kept_all (at_schedule schedule []) inputs refl
+returns g c = shows_schedule g.S.Simulation.semantics g.met.S.Simulation.begins_after g.met.S.Simulation.begins_again

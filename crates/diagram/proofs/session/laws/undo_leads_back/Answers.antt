@@ -2,7 +2,7 @@ use Rattle.diagram.proofs.Undone.{redo_undone, undo_played}
 use Rattle.diagram.proofs.session.laws.undo_leads_back.Goals as goal
 
 pub returns-clause-undo : goal.returns-clause-undo
-returns-clause-undo c = undo_played
+returns-clause-undo g c = undo_played g.S.Simulation.semantics g.met.S.Simulation.begins_after g.met.S.Simulation.begins_again
 
 pub returns-clause-redo : goal.returns-clause-redo
-returns-clause-redo c = redo_undone
+returns-clause-redo g c = redo_undone g.S.Simulation.semantics g.met.S.Simulation.begins_after g.met.S.Simulation.begins_again

@@ -1,5 +1,5 @@
 use Rattle.std.proofs.Common.{◌≡◌, ◌-◌}
-use Rattle.diagram.specs.Sessions.{steps_to_answer}
+use Rattle.diagram.specs.LockSimulations.{steps_to_answer}
 use Rattle.diagram.proofs.session.way.steps_to_answer.Given as goal
 
 abbrev pub invariant-loop-k : goal.invariant-loop-k

@@ -1,3 +1,4 @@
 pub mod Runs
 pub mod HeardDeeds
 pub mod Replays
+pub mod Restarts

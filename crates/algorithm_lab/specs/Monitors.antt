@@ -1,8 +1,9 @@
 -- A world of an algorithm with a monitor: the phase of each process by the deeds of it that are heard.
-use Rattle.std.specs.Prelude.{◌≡◌, ℕ, Bool, true, false, if◌then◌else◌, List, [], ◌∷◌, ◌++◌, replicate, slice_index_or, slice_set, Option, Some, None, is_some, Result, Ok, Err}
+use Rattle.std.specs.Prelude.{◌≡◌, ℕ, Bool, true, false, if◌then◌else◌, List, [], ◌∷◌, ◌++◌, length, replicate, slice_index_or, slice_set, Option, Some, None, is_some, Result, Ok, Err}
 use Rattle.rmecore.specs.declared.phase.Phase.{Phase}
 use Rattle.rmecore.specs.declared.phase.Phase.TheVariants.{Out, Inside}
-use Rattle.algorithms.specs.Worlds.{WorldState, first_world, process_of, entry_of, start, advance, crash}
+use Rattle.algorithms.specs.Worlds.{WorldState, first_world, process_of, entry_of, start, advance, crash, restarted as world_restarted}
+use Rattle.algorithms.specs.declared.access.Advanced.{Advanced}
 use Rattle.algorithms.specs.declared.algorithm.Algorithm.{Algorithm}
 use Rattle.algorithms.specs.declared.algorithm.Call.{Call}
 use Rattle.algorithms.specs.declared.algorithm.Call.TheVariants.{Lock, Unlock, Recover}
@@ -23,6 +24,10 @@ pub record MonitorState : Type 0 where
 -- a new world, in which all processes are out
 abbrev pub first_monitor : Algorithm → ℕ → ℕ → MonitorState
 first_monitor a procs limit = record { world = first_world a procs limit; phases = replicate procs Out }
+
+-- the same world and its monitor at their beginning
+abbrev pub restarted : MonitorState → MonitorState
+restarted m = record { world = world_restarted m.world; phases = replicate (length m.phases) Out }
 
 abbrev pub phase_of : MonitorState → ℕ → Phase
 phase_of m p = slice_index_or m.phases p Out
@@ -93,6 +98,10 @@ part_of m p world h answer =
 abbrev pub step_on : MonitorState → ℕ → Result Part RunRefusal
 step_on m p =
     then_in (λ s. part_of m p s.1 (heard m.world.algorithm.promises p (phase_of m p) s.0.noted) s.0.answer) (advance m.world p)
+
+-- what a step of p says
+abbrev pub advanced_on : MonitorState → ℕ → Result Advanced RunRefusal
+advanced_on m p = then_in (λ s. s.0) (advance m.world p)
 
 -- a crash
 abbrev pub crash_on : MonitorState → ℕ → Result Part RunRefusal

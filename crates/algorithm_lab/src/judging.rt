@@ -26,14 +26,22 @@ fn hear(running_verdict: &mut RunningVerdict, judge: &mut Judge, told: &Told)
     }
 }
 
+/// Gives the judge the deeds that are reported, one after another.
+pub fn hear_all(running_verdict: &mut RunningVerdict, judge: &mut Judge, told: &[Told])
+    ensures { Hears (running_judge judge.old running_verdict.old) (deeds_of told.now)
+        (running_judge judge.new running_verdict.new) }
+{
+    for one in told {
+        hear(running_verdict, judge, one);
+    }
+}
+
 /// The verdict of a judge on what is reported.
 fn judged(judge: &mut Judge, told: &[Told]) -> Verdict
     ensures { (start : State) → Keeps judge.old start → result ≡ verdict_on start (deeds_of told.now) }
 {
     let mut running_verdict = RunningVerdict::OPENED;
-    for one in told {
-        hear(&mut running_verdict, judge, one);
-    }
+    hear_all(&mut running_verdict, judge, told);
     running_verdict.verdict()
 }
 

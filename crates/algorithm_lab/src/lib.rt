@@ -7,12 +7,12 @@ pub mod monitor;
 pub mod playing;
 pub mod replay_fault;
 pub mod replaying;
-mod report;
+pub mod report;
 pub mod run_refusal;
 pub mod told;
 
-pub use monitor::Monitor;
-pub use playing::play_lines;
+pub use monitor::{Monitor, MonitorCheckpoint};
+pub use playing::{play_line, play_lines};
 pub use replay_fault::AlgorithmReplayFault;
 pub use replaying::replay_algorithm;
 pub use run_refusal::RunRefusal;

@@ -59,8 +59,8 @@ fn start(monitor: &mut Monitor, p: u64, call: WorldCall) -> Result<(), RunRefusa
     }
 }
 
-/// Plays one line.
-fn play_line(monitor: &mut Monitor, line: &Line, told: &mut Vec<Told>) -> Result<(), RunRefusal>
+/// Plays one line, and adds what it reports.
+pub fn play_line(monitor: &mut Monitor, line: &Line, told: &mut Vec<Told>) -> Result<(), RunRefusal>
     ensures ok { OnOk result (IsRun (line_on monitor.old line.now) told.old.items told.new.items monitor.new) }
     ensures accepted { OnOk result ((line_on monitor.old line.now).refused ≡ None) }
     ensures err { IfErr result (λ e. IsRefusal e → IsRun (line_on monitor.old line.now) told.old.items told.new.items monitor.new) }

@@ -1,5 +1,5 @@
 -- Worlds of an algorithm: the first one, and processes that stay.
-use Rattle.std.proofs.Common.{ℕ, zero, suc, ◌≡◌, ◌∙◌, sym, refl, ap, nat_lt, Bool, true, false, if◌then◌else◌, List, [], ◌∷◌, length, replicate, slice_get, slice_set, Option, Some, None, Result, Ok, ok_or}
+use Rattle.std.proofs.Common.{ℕ, zero, suc, ◌+◌, ◌<◌, ◌≡◌, ◌∙◌, sym, refl, ap, arith, add-one, nat_lt, Bool, true, false, if◌then◌else◌, List, [], ◌∷◌, ◌++◌, drop, length, replicate, slice_get, slice_set, Option, Some, None, Result, Ok, ok_or}
 use Rattle.std.proofs.lemmas.List.{length-set}
 use Rattle.algorithms.specs.Arrivals.{◌>>=◌}
 use Rattle.algorithms.specs.Steps.{before_step, stopped, taken}
@@ -58,3 +58,12 @@ blocked_step w now p at process a s there place step blocked after =
     ∙ ap (λ b. Ok (a, record w { words = words; processes = slice_set w.processes p (if b then before else stopped s a.answer) })) blocked
     ∙ ap (λ ps. Ok (a, record w { words = words; processes = ps })) (set_as_it_is w.processes p before same)
     ∙ ap (λ v. Ok (a, v)) (sym after)
+
+set_suc : {A : Type 0} (n : ℕ) (y : A) (ys : List A) → n < length ys → slice_set (replicate n y ++ drop n ys) n y ≡ replicate (suc n) y ++ drop (suc n) ys
+set_suc n y [] h = absurd (omega (arith, h))
+set_suc zero y (x ∷ xs) h = refl
+set_suc (suc n) y (x ∷ xs) h = ap (λ zs. y ∷ zs) (set_suc n y xs (omega (arith, h)))
+
+-- one more place is set to the value that those before it have
+pub set_next : {A : Type 0} (n : ℕ) (y : A) (ys : List A) → n < length ys → slice_set (replicate n y ++ drop n ys) n y ≡ replicate (n + 1) y ++ drop (n + 1) ys
+set_next n y ys h = rw (add-one n) (set_suc n y ys h)

@@ -45,6 +45,10 @@ first_world a procs limit = record {
   processes = replicate procs resting;
 }
 
+-- the same world at its beginning
+abbrev pub restarted : WorldState → WorldState
+restarted w = record w { words = replicate (length w.words) (replicate 64 0); processes = replicate (length w.processes) resting }
+
 -- the refusal of a world of this size. Out of memory is not among them
 abbrev pub new_refusal : Algorithm → ℕ → ℕ → Option AlgorithmRefusal
 new_refusal a procs limit =

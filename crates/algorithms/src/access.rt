@@ -184,7 +184,7 @@ fn value_of(words: &[[u64; MOST_PROCS]], access: Access) -> Option<u64>
 
 /// Takes the step of a process before the access at its place. After a blocked reading the process is as it was, whatever
 /// `state` is.
-pub fn act(
+pub(crate) fn act(
     algorithm: &Algorithm,
     constants: Constants,
     words: &[[u64; MOST_PROCS]],

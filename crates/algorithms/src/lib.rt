@@ -27,4 +27,4 @@ pub use noted::Noted;
 pub use process::{Place, Process};
 pub use reading::whole::read_algorithm;
 pub use refusal::AlgorithmRefusal;
-pub use world::World;
+pub use world::{World, WorldCheckpoint};

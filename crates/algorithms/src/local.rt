@@ -167,7 +167,7 @@ fn do_line(
 
 /// Goes on by the local lines of a process to where it stops: before an access, or at the end of its call, with its answer.
 /// `Malformed` where it does as many lines as there are and has not come to one.
-pub fn arrive(
+pub(crate) fn arrive(
     lines: &[Line],
     constants: Constants,
     state: &mut LocalState,

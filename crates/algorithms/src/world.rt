@@ -14,14 +14,14 @@ use crate::local::{LocalState, arrive};
 use crate::noted::Noted;
 use crate::process::{Place, Process, keep};
 use crate::refusal::AlgorithmRefusal;
-use std::alloc::Global;
+use std::alloc::{AllocError, Global};
 use std::marker::Model;
 
 /// The greatest limit of numbers, 2^62.
 pub const MOST_LIMIT: u64 = 4_611_686_018_427_387_904;
 
 /// The processes of an algorithm and the words that they share. A caller starts a call and then steps it until a step carries
-/// its answer. A crash may come before any step. Only `new` allocates.
+/// its answer. A crash may come before any step. Only `new` and `checkpoint` allocate.
 #[derive(Drop)]
 pub struct World {
     algorithm: Algorithm,
@@ -29,6 +29,13 @@ pub struct World {
     limit: u64,
     words: Vec<[u64; MOST_PROCS]>,
     processes: Vec<Process>,
+}
+
+/// What steps change in a world: its words and its processes.
+#[derive(Drop)]
+pub struct WorldCheckpoint {
+    pub words: Vec<[u64; MOST_PROCS]>,
+    pub processes: Vec<Process>,
 }
 
 impl Model for World {
@@ -46,6 +53,11 @@ impl Model for World {
 
     ghost invariant = { λ w. vec_len w.processes ≡ w.procs };
 }
+
+const RESTING: Process = Process {
+    place: Place::Rest,
+    store: [0; NAMES],
+};
 
 /// The access line at a place.
 fn access_at(algorithm: &Algorithm, at: usize) -> Result<&AccessLine, AlgorithmRefusal>
@@ -221,16 +233,30 @@ fn all_at_rest(alloc: Global, count: usize) -> Result<Vec<Process>, AlgorithmRef
 {
     let mut processes = Vec::with_capacity(alloc, count)?;
     for process in 0..count {
-        processes.push(Process {
-            place: Place::Rest,
-            store: [0; NAMES],
-        })?;
+        processes.push(RESTING)?;
     }
     Ok(processes)
 }
 
+#[tactic(auto, using(crate::proofs::Worlds::set_next))]
+fn zero_all(rows: &mut [[u64; MOST_PROCS]])
+    ensures { rows.new ≡ replicate (length rows.old) (replicate 64 0) }
+{
+    for row in 0..rows.len() {
+        rows[row] = [0; MOST_PROCS];
+    }
+}
+
+fn rest_all(processes: &mut [Process])
+    ensures { processes.new ≡ replicate (length processes.old) resting }
+{
+    for process in 0..processes.len() {
+        processes[process] = RESTING;
+    }
+}
+
 impl World {
-    ghost use Rattle.algorithms.specs.Worlds.{first_world, new_refusal, cause, constants_of, process_of, start, started, step, advance, crash, with_process};
+    ghost use Rattle.algorithms.specs.Worlds.{first_world, new_refusal, cause, constants_of, process_of, start, started, step, advance, crash, restarted, with_process};
 
     /// A world with all words 0 and all processes at rest. `limit` is the algorithm's `limit`.
     ///
@@ -364,6 +390,33 @@ impl World {
             store: [0; NAMES],
         };
         Ok(())
+    }
+
+    /// Makes all words 0 and puts all processes at rest, as in a new world of the same sizes.
+    pub fn restart(&mut self)
+        ensures { self.new ≡ restarted self.old }
+    {
+        zero_all(self.words.as_mut_slice());
+        rest_all(self.processes.as_mut_slice());
+    }
+
+    /// A copy of what steps change, to go back to.
+    pub fn checkpoint(&self, alloc: Global) -> Result<WorldCheckpoint, AllocError>
+        ensures copy { IfOk result (λ copy. (copy.words.items ≡ self.now.words) × (copy.processes.items ≡ self.now.processes)) }
+        ensures count { OnOk result (length self.now.processes ≡ self.now.procs) }
+    {
+        let words = Vec::from_slice(alloc, self.words.as_slice())?;
+        let processes = Vec::from_slice(alloc, self.processes.as_slice())?;
+        Ok(WorldCheckpoint { words, processes })
+    }
+
+    /// Goes back to a checkpoint, which has the processes of this world.
+    pub fn go_back(&mut self, checkpoint: WorldCheckpoint)
+        requires { length checkpoint.processes.items ≡ self.old.procs }
+        ensures { self.new ≡ record self.old { words = checkpoint.words.items; processes = checkpoint.processes.items } }
+    {
+        self.words = checkpoint.words;
+        self.processes = checkpoint.processes;
     }
 
     /// The private memory of a process.

@@ -4,7 +4,11 @@
 #[cfg(test)]
 mod bad_texts;
 #[cfg(test)]
+mod drawings;
+#[cfg(test)]
 mod hostile_texts;
+#[cfg(test)]
+mod hunts;
 pub mod laws;
 #[cfg(test)]
 mod replays;
@@ -16,6 +20,10 @@ mod runs;
 mod schedules;
 #[cfg(test)]
 mod searches;
+#[cfg(test)]
+mod sessions;
+#[cfg(test)]
+mod shrinks;
 #[cfg(test)]
 mod spelling;
 pub mod texts;

@@ -18,7 +18,7 @@ use Rattle.crashlab.specs.VariantWorlds.{VariantState, new_world, variant_behavi
 use Rattle.crashlab.specs.Shrunk.{Answers, at_header, variant_run}
 
 -- a judge that was given no deed is in its start state
-keeps_first : (start : State) (judge : Kept) → StandsAfter start [] judge → Keeps judge start
+pub keeps_first : (start : State) (judge : Kept) → StandsAfter start [] judge → Keeps judge start
 keeps_first start judge stands =
     let same : start ≡ stands.state = cc (stands.legal) in
     subst (Keeps judge) (sym same) stands.kept

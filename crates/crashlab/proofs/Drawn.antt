@@ -55,17 +55,17 @@ unfolding found_after first_words
 no_word variant moves g = refl
 
 -- jumps add up
-jumps : (m n : ℕ) (g : Lcg) → advance 64 multiplier_64 n (advance 64 multiplier_64 m g) ≡ advance 64 multiplier_64 (m + n) g
+pub jumps : (m n : ℕ) (g : Lcg) → advance 64 multiplier_64 n (advance 64 multiplier_64 m g) ≡ advance 64 multiplier_64 (m + n) g
 unfolding state_after
 jumps zero n g = ap (λ k. advance 64 multiplier_64 k g) (let e : n ≡ 0 + n = omega arith in e)
 jumps (suc m) n g = jumps m n (next 64 multiplier_64 g) ∙ ap (λ k. advance 64 multiplier_64 k g) (let e : suc (m + n) ≡ suc m + n = omega arith in e)
 
 -- a word is a jump of one
-one_jump : (k : ℕ) (start : Lcg) → (pcg32 (advance 64 multiplier_64 k start)).1 ≡ advance 64 multiplier_64 (k + 1) start
+pub one_jump : (k : ℕ) (start : Lcg) → (pcg32 (advance 64 multiplier_64 k start)).1 ≡ advance 64 multiplier_64 (k + 1) start
 unfolding state_after
 one_jump k start = jumps k 1 start
 
-no_jump : (g : Lcg) → g ≡ advance 64 multiplier_64 0 g
+pub no_jump : (g : Lcg) → g ≡ advance 64 multiplier_64 0 g
 unfolding state_after
 no_jump g = refl
 

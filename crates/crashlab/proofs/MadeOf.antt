@@ -6,7 +6,7 @@ use Rattle.std.proofs.lemmas.Option.{slice_get-get_or}
 use Rattle.schedule.specs.declared.lines.line.Line.{Line}
 use Rattle.schedule.specs.declared.lines.line.Line.TheVariants.{Step, Crash}
 use Rattle.schedule.specs.Schedules.{Scheduled}
-use Rattle.crashlab.specs.Shrunk.{replaced, IsLowered}
+use Rattle.crashlab.specs.Least.{replaced, IsLowered}
 use Rattle.crashlab.specs.MadeOf.{IsSubsequence, process_in, steps_by, moves_in, moves_by, moves_of, IsMadeOf, moves_left}
 
 pub sub_refl : {A : Type 0} (xs : List A) → IsSubsequence xs xs

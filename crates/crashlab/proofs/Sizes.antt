@@ -6,7 +6,7 @@ use Rattle.std.proofs.lemmas.Option.{slice_get_within, slice_get-get_or}
 use Rattle.schedule.specs.declared.lines.line.Line.{Line}
 use Rattle.schedule.specs.declared.lines.line.Line.TheVariants.{Step, Crash}
 use Rattle.schedule.specs.Schedules.{Scheduled}
-use Rattle.crashlab.specs.Shrunk.{steps_of, steps_asked, replaced, IsLowered, IsShorter}
+use Rattle.crashlab.specs.Least.{steps_of, steps_asked, replaced, IsLowered, IsShorter}
 use Rattle.crashlab.proofs.MadeOf.{made_without, made_lowered}
 
 steps_append : (xs ys : List Line) → steps_asked (xs ++ ys) ≡ steps_asked xs + steps_asked ys

@@ -14,6 +14,7 @@ pub mod Observed
 pub mod Hunted
 -- The definitions that the contracts cite.
 pub mod MadeOf
+pub mod Least
 pub mod Shrunk
 pub mod PlaceWords
 pub mod JobWords

@@ -24,6 +24,8 @@ pub use crash_plans::{At, Both, CrashPlan, Never, Seeded};
 pub use hunt_fault::HuntFault;
 pub use hunting::{hunt, hunt_watched};
 pub use parallel_hunting::{hunt_in_parallel, hunt_in_parallel_watched};
+pub use shrinking::minimizing::minimize;
+pub use shrinking::oracle::Oracle;
 pub use shrinking::whole::{shrink, shrink_found};
 pub use variant::Variant;
 pub use variant_memory::VariantMemory;

@@ -1,9 +1,11 @@
-//! Minimizes a schedule that goes wrong on a variant.
+//! Minimizes a schedule that goes wrong.
 
 mod change;
 mod large_steps;
 mod least;
 mod made_of;
+pub mod minimizing;
+pub mod oracle;
 mod played;
 mod replaced;
 mod size;

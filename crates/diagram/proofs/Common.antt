@@ -37,4 +37,5 @@ pub use Rattle.diagram.specs.Followed.{Ending, Follows, IsAllFollowed, row_of, r
 pub use Rattle.diagram.specs.Pictures.{around, key, class_of, lifeline_tops}
 unfoldable pub use Rattle.diagram.specs.Pictures.{keys, key_name, measured, line_looks, text_looks, step_mark, lifeline}
 pub use Rattle.diagram.specs.Rows.{events_in, PlaysOn, EndsAs, IsEndOf, IsJudged, events_shown, silent_step, deed_of, stopped, Adds, Plays}
-pub use Rattle.diagram.specs.DiagramLayouts.{LifelineStateState, layout_of, lifeline_state_with}
+pub use Rattle.diagram.specs.DiagramLayouts.{LifelineStateState, layout_of, lifeline_state_shown, lifeline_state_with}
+pub use Rattle.diagram.specs.ShownRows.{ShownRowState}

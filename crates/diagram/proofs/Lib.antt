@@ -14,3 +14,6 @@ pub mod Seen
 pub mod Watching
 pub mod Undone
 pub mod LinesTold
+pub mod AlgorithmSteps
+pub mod AlgorithmDrawn
+pub mod AlgorithmSessions

@@ -7,8 +7,9 @@ use Rattle.diagram.specs.declared.diagram_layout.Style.{Style}
 use Rattle.diagram.specs.declared.diagram_layout.Style.TheVariants.{Text, Svg}
 use Rattle.diagram.specs.Columns.{end_line}
 use Rattle.diagram.specs.Drawings.{row_spelled_in, spelled_from}
-use Rattle.diagram.specs.Followed.{access_of, place_line, row_told}
-use Rattle.diagram.specs.Pictures.{around, bottom_of, class_of, far_from, group_at, group_end, head_picture, held, last_picture, left_of, lifeline_tops, mailbox_top, right_of, row_picture, told_by, top_picture, x_of}
+use Rattle.diagram.specs.Followed.{access_of, place_line, row_told, told_by}
+use Rattle.diagram.specs.Pictures.{around, bottom_of, class_of, far_from, group_at, group_end, head_picture, held, keys, last_picture, left_of, lifeline_tops, line_looks, mailbox_if, measured, paper, right_of, row_picture, text_looks, top_picture, viewed, x_of}
+use Rattle.diagram.specs.ShownRows.{ShownRowState}
 
 pub cons_some : {A : Type 0} (x : A) (xs : List A) → x ∷ xs ≡ [] → ⊥
 cons_some x xs e = absurd cc
@@ -28,22 +29,29 @@ last_some y end e =
     (none_behind (codes "</text></svg>") (10 ∷ [])
     (none_behind (around (codes "<text x='20' y='") y (codes "'>") ++ end_line end) (codes "</text></svg>" ++ 10 ∷ []) e))
 
-picture_some : (l : Layout) (y below : ℕ) (marked : Bool) (row : DiagramRow) → row_picture l y below marked row ≡ [] → ⊥
-picture_some l y below marked row e =
-    group_end_some (none_behind (group_at (x_of row.p) y ++ left_of l row below ++ right_of row (far_from l.procs row.p) marked) group_end e)
+picture_some : (procs y below : ℕ) (marked : Bool) (row : ShownRowState) → row_picture procs y below marked row ≡ [] → ⊥
+picture_some procs y below marked row e =
+    group_end_some (none_behind (group_at (x_of row.p) y ++ left_of row below ++ right_of row (far_from procs row.p) marked) group_end e)
 
-mailbox_some : (x long : ℕ) → mailbox_top x long ≡ [] → ⊥
-unfolding mailbox_top
-mailbox_some x long e =
-    group_end_some
-    (none_behind
-    (group_at x 80 ++ around (codes "<title>mailbox</title><text class='p' text-anchor='middle' y='-8'>mailbox</text><path class='mailbox' d='M0 0V") long (codes "'/>")) group_end e)
+looks_some : text_looks ≡ [] → ⊥
+unfolding text_looks
+looks_some e = absurd cc
 
-top_picture_some : (procs bottom : ℕ) (phases : List LifelinePhase) → top_picture procs bottom phases ≡ [] → ⊥
-top_picture_some procs bottom phases e =
+head_some : (wide high : ℕ) → head_picture wide high ≡ [] → ⊥
+unfolding head_picture
+head_some wide high e =
+    let front = measured wide high ++ viewed wide high in
+    looks_some
+    (none_behind front text_looks
+    (append_none (front ++ text_looks) line_looks
+    (append_none (front ++ text_looks ++ line_looks) paper
+    (append_none (front ++ text_looks ++ line_looks ++ paper) keys e))))
+
+top_picture_some : (mailbox : Bool) (procs bottom : ℕ) (phases : List LifelinePhase) → top_picture mailbox procs bottom phases ≡ [] → ⊥
+top_picture_some mailbox procs bottom phases e =
     let head = head_picture (x_of procs + 300) (held (bottom + 40)) in
-    let mailbox = mailbox_top (x_of procs) (bottom - 80) in
-    mailbox_some (x_of procs) (bottom - 80) (none_behind head mailbox (append_none (head ++ mailbox) (lifeline_tops (bottom - 80) 0 phases) e))
+    let box = mailbox_if mailbox (x_of procs) (bottom - 80) in
+    head_some (x_of procs + 300) (held (bottom + 40)) (append_none head box (append_none (head ++ box) (lifeline_tops (bottom - 80) 0 phases) e))
 
 -- ---- a drawing
 
@@ -51,22 +59,22 @@ pub end_some : (style : Style) (d : DiagramLayout) (end : End) → end_in style 
 end_some Text d end e = cons_some _ _ (none_behind _ _ e)
 end_some Svg d end e = last_some (held (bottom_of d.rows + 24)) end e
 
-row_in_some : (style : Style) (d : DiagramLayout) (state : LifelineStateState) (row : DiagramRow) → row_spelled_in style d state row ≡ [] → ⊥
+row_in_some : (style : Style) (d : DiagramLayout) (state : LifelineStateState) (row : ShownRowState) → row_spelled_in style d state row ≡ [] → ⊥
 row_in_some Text d state row e = cons_some _ _ (none_behind _ _ e)
 row_in_some Svg d state row e = picture_some _ _ _ _ row e
 
-pub row_some : (d : DiagramLayout) (state : LifelineStateState) (row : DiagramRow) → row_spelled d state row ≡ [] → ⊥
+pub row_some : (d : DiagramLayout) (state : LifelineStateState) (row : ShownRowState) → row_spelled d state row ≡ [] → ⊥
 row_some d state row e = row_in_some d.style d state row e
 
 -- the part above the rows
-pub top_some : (style : Style) (d : DiagramLayout) (phases : List LifelinePhase) → top_in style d phases ≡ [] → ⊥
-top_some Text d phases e = cons_some _ _ (none_behind _ _ e)
-top_some Svg d phases e = top_picture_some d.layout.procs (bottom_of d.rows) phases e
+pub top_some : (style : Style) (mailbox : Bool) (d : DiagramLayout) (phases : List LifelinePhase) → top_in style mailbox d phases ≡ [] → ⊥
+top_some Text mailbox d phases e = cons_some _ _ (none_behind _ _ e)
+top_some Svg mailbox d phases e = top_picture_some mailbox d.layout.procs (bottom_of d.rows) phases e
 
-pub drawing_some : (d : DiagramLayout) (state : LifelineStateState) (rows : List DiagramRow) (end : End) → spelled_from d state rows end ≡ [] → ⊥
+pub drawing_some : (mailbox : Bool) (d : DiagramLayout) (state : LifelineStateState) (rows : List ShownRowState) (end : End) → spelled_from mailbox d state rows end ≡ [] → ⊥
 unfolding spelled_from
-drawing_some d state rows end e =
-    top_some d.style d state.phases (append_none (top_in d.style d state.phases) (rows_spelled d state rows ++ end_in d.style d end) e)
+drawing_some mailbox d state rows end e =
+    top_some d.style mailbox d state.phases (append_none (top_in d.style mailbox d state.phases) (rows_spelled d state rows ++ end_in d.style d end) e)
 
 -- ---- a run step by step
 

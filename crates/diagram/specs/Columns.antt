@@ -3,19 +3,15 @@ use Rattle.std.specs.Prelude.{ℕ, ◌+◌, ◌-◌, ◌==◌, Bool, List, [], �
 use Rattle.std.specs.Fmt.{decimal}
 use Rattle.std.proofs.Math.ListN.{replicate}
 use Rattle.redomail.specs.declared.deed.Deed.{Deed}
-use Rattle.redomail.specs.declared.layout.Layout.{Layout}
-use Rattle.rmeworld.specs.declared.answer.Answer.{Answer}
 use Rattle.schedule.specs.Reports.{told_line, verdict_line}
-use Rattle.schedule.specs.Runs.{Did, Answered}
-use Rattle.diagram.specs.declared.act.Act.{Act}
-use Rattle.diagram.specs.declared.act.Act.TheVariants.{Silent, Fell}
-use Rattle.diagram.specs.declared.act.DiagramRow.{DiagramRow}
+use Rattle.schedule.specs.Runs.{Did}
 use Rattle.diagram.specs.declared.drawing.End.{End}
 use Rattle.diagram.specs.declared.drawing.End.TheVariants.{Judged, Refused}
+use Rattle.diagram.specs.declared.mark.Mark.{Mark}
+use Rattle.diagram.specs.declared.mark.Mark.TheVariants.{Crash}
 use Rattle.diagram.specs.declared.phase.LifelinePhase.{LifelinePhase}
 use Rattle.diagram.specs.declared.phase.LifelinePhase.TheVariants.{Rest, Doorway, Waiting, Section, Dead}
-use Rattle.diagram.specs.Rows.{deed_of, answer_of}
-use Rattle.diagram.specs.Signs.{sign}
+use Rattle.diagram.specs.ShownRows.{ShownRowState}
 
 -- ---- the columns
 
@@ -36,31 +32,26 @@ bar_of Section = 35
 bar_of Dead = 32
 
 -- a crash is an x
-abbrev pub bar_at : Act → LifelinePhase → ℕ
-bar_at (Fell deed) phase = 120
-bar_at act phase = bar_of phase
-
--- the number of bytes of a cell's text. The sign of a repetition is one character of two bytes
-abbrev pub wide_of : Act → ℕ
-wide_of (Silent happened times) = if times == 1 then 24 else 25
-wide_of act = 24
+abbrev pub bar_at : Mark → LifelinePhase → ℕ
+bar_at Crash phase = 120
+bar_at mark phase = bar_of phase
 
 -- the cell of a row
-abbrev pub cell : Layout → DiagramRow → List ℕ
-cell l row = 32 ∷ filled (wide_of row.act) (sign l row.p row.act)
+abbrev pub cell : ShownRowState → List ℕ
+cell row = 32 ∷ filled row.wide row.sign
 
 -- a column without an access
 unfoldable pub blank : LifelinePhase → List ℕ
 blank phase = bar_of phase ∷ spaces 25
 
 -- the column of process q
-abbrev pub column : Layout → DiagramRow → ℕ → LifelinePhase → List ℕ
-column l row q phase = if q == row.p then bar_at row.act phase ∷ cell l row else blank phase
+abbrev pub column : ShownRowState → ℕ → LifelinePhase → List ℕ
+column row q phase = if q == row.p then bar_at row.mark phase ∷ cell row else blank phase
 
 -- the columns of the processes from q on
-abbrev pub columns : Layout → DiagramRow → ℕ → List LifelinePhase → List ℕ
-columns l row q [] = []
-columns l row q (phase ∷ phases) = column l row q phase ++ columns l row (q + 1) phases
+abbrev pub columns : ShownRowState → ℕ → List LifelinePhase → List ℕ
+columns row q [] = []
+columns row q (phase ∷ phases) = column row q phase ++ columns row (q + 1) phases
 
 -- columns without an access
 abbrev pub bars : List LifelinePhase → List ℕ
@@ -74,15 +65,14 @@ abbrev pub lead : Bool → List ℕ
 lead marked = if marked then codes " >>> " else codes " "
 
 -- what a row reports, as lines of the report. The second line has a row of its own
-abbrev pub telling : List LifelinePhase → Bool → ℕ → Option Deed → Option Answer → List ℕ
-telling phases marked p None None = 10 ∷ []
-telling phases marked p (Some deed) None = lead marked ++ told_line (Did deed)
-telling phases marked p None (Some answer) = 32 ∷ told_line (Answered p answer)
-telling phases marked p (Some deed) (Some answer) = lead marked ++ told_line (Did deed) ++ bars phases ++ 124 ∷ 32 ∷ told_line (Answered p answer)
+abbrev pub telling : List LifelinePhase → Bool → Option Deed → List ℕ → List ℕ
+telling phases marked None answer = if length answer == 0 then 10 ∷ [] else 32 ∷ answer
+telling phases marked (Some deed) answer =
+    lead marked ++ told_line (Did deed) ++ (if length answer == 0 then [] else bars phases ++ 124 ∷ 32 ∷ answer)
 
 -- a row, with what it reports at the right
-abbrev pub row_text : Layout → List LifelinePhase → Bool → DiagramRow → List ℕ
-row_text l phases marked row = columns l row 0 phases ++ 124 ∷ telling phases marked row.p (deed_of row.act) (answer_of row.act)
+abbrev pub row_text : List LifelinePhase → Bool → ShownRowState → List ℕ
+row_text phases marked row = columns row 0 phases ++ 124 ∷ telling phases marked row.deed row.answer
 
 -- ---- above and below
 

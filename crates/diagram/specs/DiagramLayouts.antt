@@ -12,6 +12,7 @@ use Rattle.diagram.specs.declared.drawing.End.TheVariants.{Judged, Refused}
 use Rattle.diagram.specs.declared.phase.LifelinePhase.{LifelinePhase}
 use Rattle.diagram.specs.Phases.{phase_shown, with_phase}
 use Rattle.diagram.specs.Rows.{deed_of}
+use Rattle.diagram.specs.ShownRows.{ShownRowState}
 
 -- the sizes that a header names, without the limit
 abbrev pub layout_of : Head → Layout
@@ -38,15 +39,23 @@ pub record LifelineStateState : Type 0 where
 abbrev pub deeds_with : Option Deed → ℕ → ℕ
 deeds_with deed n = if is_some deed then one_more n else n
 
--- the lifeline state after a row
-abbrev pub lifeline_state_with : LifelineStateState → DiagramRow → LifelineStateState
-lifeline_state_with lifeline_state row =
+-- the lifeline state after a row in which p shows this phase and this deed
+abbrev pub lifeline_state_by : LifelineStateState → ℕ → Option LifelinePhase → Option Deed → LifelineStateState
+lifeline_state_by lifeline_state p phase deed =
     record {
-      phases = with_phase lifeline_state.phases row.p (phase_shown row.act);
-      deeds = deeds_with (deed_of row.act) lifeline_state.deeds;
+      phases = with_phase lifeline_state.phases p phase;
+      deeds = deeds_with deed lifeline_state.deeds;
       rows = one_more lifeline_state.rows;
     }
 
+-- the lifeline state after a row of a run of the lock
+abbrev pub lifeline_state_with : LifelineStateState → DiagramRow → LifelineStateState
+lifeline_state_with lifeline_state row = lifeline_state_by lifeline_state row.p (phase_shown row.act) (deed_of row.act)
+
+-- the lifeline state after any row
+abbrev pub lifeline_state_shown : LifelineStateState → ShownRowState → LifelineStateState
+lifeline_state_shown lifeline_state row = lifeline_state_by lifeline_state row.p row.phase row.deed
+
 -- the row has the deed of this number
-abbrev pub is_deed : ℕ → LifelineStateState → DiagramRow → Bool
-is_deed at lifeline_state row = is_some (deed_of row.act) && lifeline_state.deeds == at
+abbrev pub is_deed : ℕ → LifelineStateState → ShownRowState → Bool
+is_deed at lifeline_state row = is_some row.deed && lifeline_state.deeds == at

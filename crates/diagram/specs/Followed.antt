@@ -13,8 +13,8 @@ use Rattle.schedule.specs.declared.replays.replay_fault.ReplayFault.{ReplayFault
 use Rattle.schedule.specs.declared.replays.replay_fault.ReplayFault.TheVariants.{Refused, Write, OutOfMemory}
 use Rattle.schedule.specs.declared.replays.verdict.Verdict.{Verdict}
 use Rattle.schedule.specs.Tapes.{Tape, Writes, Begins, BreaksOff}
-use Rattle.schedule.specs.Reports.{IsEnd}
-use Rattle.schedule.specs.Runs.{Part, deeds_of}
+use Rattle.schedule.specs.Reports.{IsEnd, told_text}
+use Rattle.schedule.specs.Runs.{Part, deeds_of, told_of}
 use Rattle.schedule.specs.Verdicts.{verdict_on}
 use Rattle.diagram.specs.declared.act.Act.{Act}
 use Rattle.diagram.specs.declared.act.Act.TheVariants as acts
@@ -27,7 +27,8 @@ use Rattle.diagram.specs.declared.phase.LifelinePhase.TheVariants.{Rest}
 use Rattle.diagram.specs.Drawings.{Spells}
 use Rattle.diagram.specs.Events.{Event, Took, Fell}
 use Rattle.diagram.specs.Phases.{phase_shown, with_phase}
-use Rattle.diagram.specs.Pictures.{around, class_of, told_by}
+use Rattle.diagram.specs.Pictures.{around, class_of}
+use Rattle.diagram.specs.Rows.{deed_of, answer_of}
 use Rattle.diagram.specs.Signs.{sign}
 
 -- ---- one event
@@ -51,6 +52,10 @@ access_of l p act = 32 ∷ sign l p act
 unfoldable pub place_line : Layout → List LifelinePhase → DiagramRow → List ℕ
 place_line l phases row =
     around (codes "at ") row.p (codes " ") ++ class_of (get_or phases row.p Rest) ++ access_of l row.p row.act ++ 10 ∷ []
+
+-- what a row reports
+abbrev pub told_by : ℕ → Act → List ℕ
+told_by p act = told_text (told_of p (deed_of act) (answer_of act))
 
 -- a row, after which the processes are in these phases
 unfoldable pub row_told : Layout → List LifelinePhase → DiagramRow → List ℕ

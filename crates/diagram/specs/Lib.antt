@@ -2,11 +2,15 @@ pub mod Events
 pub mod Rows
 pub mod Phases
 pub mod Signs
+pub mod ShownRows
 pub mod DiagramLayouts
 pub mod Columns
 pub mod Pictures
 pub mod Drawings
 pub mod Followed
+pub mod AlgorithmEvents
+pub mod AlgorithmRows
+pub mod AlgorithmDrawings
 pub mod StepLines
 pub mod Pages
 pub mod LastSteps
@@ -16,3 +20,5 @@ pub mod Helps
 pub mod Semantics
 pub mod LockSimulations
 pub mod Sessions
+pub mod AlgorithmStandings
+pub mod AlgorithmSimulations

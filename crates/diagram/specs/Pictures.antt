@@ -1,22 +1,17 @@
 -- The drawing as SVG: a lifeline for each process, time downward. What is drawn later covers what was drawn before.
-use Rattle.std.specs.Prelude.{ℕ, ◌+◌, ◌-◌, ◌*◌, ◌^◌, min, Bool, List, [], ◌∷◌, ◌++◌, codes, Option, Some, None, is_some, if◌then◌else◌, ◌||◌}
+use Rattle.std.specs.Prelude.{ℕ, ◌+◌, ◌-◌, ◌*◌, ◌^◌, ◌==◌, min, Bool, List, [], ◌∷◌, ◌++◌, length, codes, Option, Some, None, if◌then◌else◌}
 use Rattle.std.specs.Fmt.{decimal}
 use Rattle.redomail.specs.declared.deed.Deed.{Deed}
 use Rattle.redomail.specs.declared.deed.Deed.TheVariants.{Outer}
-use Rattle.redomail.specs.declared.layout.Layout.{Layout}
-use Rattle.rmeworld.specs.declared.answer.Answer.{Answer}
-use Rattle.schedule.specs.Reports.{told_line, told_text}
-use Rattle.schedule.specs.Runs.{Did, Answered, told_of}
-use Rattle.diagram.specs.declared.act.Act.{Act}
-use Rattle.diagram.specs.declared.act.Act.TheVariants.{Fell}
-use Rattle.diagram.specs.declared.act.DiagramRow.{DiagramRow}
+use Rattle.schedule.specs.Reports.{told_line}
+use Rattle.schedule.specs.Runs.{Did}
 use Rattle.diagram.specs.declared.drawing.End.{End}
+use Rattle.diagram.specs.declared.mark.Mark.{Mark}
+use Rattle.diagram.specs.declared.mark.Mark.TheVariants.{Step, Crash, Nothing}
 use Rattle.diagram.specs.declared.phase.LifelinePhase.{LifelinePhase}
 use Rattle.diagram.specs.declared.phase.LifelinePhase.TheVariants.{Rest, Doorway, Waiting, Section, Dead}
 use Rattle.diagram.specs.Columns.{end_line}
-use Rattle.diagram.specs.Phases.{phase_shown}
-use Rattle.diagram.specs.Rows.{deed_of, answer_of}
-use Rattle.diagram.specs.Signs.{sign}
+use Rattle.diagram.specs.ShownRows.{ShownRowState}
 
 -- ---- positions in pixels, which stop at the greatest u64
 
@@ -73,22 +68,29 @@ group_end = codes "</g>" ++ 10 ∷ []
 
 -- ---- a row
 
--- what a row reports
-abbrev pub told_by : ℕ → Act → List ℕ
-told_by p act = told_text (told_of p (deed_of act) (answer_of act))
+-- the line of a deed, if there is one
+abbrev pub deed_line : Option Deed → List ℕ
+deed_line None = []
+deed_line (Some deed) = told_line (Did deed)
+
+-- the lines that a row reports
+abbrev pub reports : Option Deed → List ℕ → List ℕ
+reports deed answer = deed_line deed ++ answer
 
 -- the title of a row, which a viewer shows where the reader points at it
-unfoldable pub row_title : Layout → DiagramRow → List ℕ
-row_title l row = around (codes "<title>process ") row.p (codes " ") ++ sign l row.p row.act ++ 10 ∷ (told_by row.p row.act ++ codes "</title>")
+unfoldable pub row_title : ℕ → List ℕ → Option Deed → List ℕ → List ℕ
+row_title p sign deed answer =
+    around (codes "<title>process ") p (codes " ") ++ sign ++ 10 ∷ (reports deed answer ++ codes "</title>")
 
 -- the dot of a step, with its access
-unfoldable pub step_mark : Layout → ℕ → Act → List ℕ
-step_mark l p act = around (codes "<circle r='3'/><text x='10' y='4'><tspan class='p'>") p (codes "</tspan> ") ++ sign l p act ++ codes "</text>"
+unfoldable pub step_mark : ℕ → List ℕ → List ℕ
+step_mark p sign = around (codes "<circle r='3'/><text x='10' y='4'><tspan class='p'>") p (codes "</tspan> ") ++ sign ++ codes "</text>"
 
 -- a step is a dot with its access beside it, a crash is a cross
-abbrev pub mark : Layout → ℕ → Act → List ℕ
-mark l p (Fell deed) = codes "<path class='crash' d='M-6 -6l12 12m0 -12l-12 12'/>"
-mark l p act = step_mark l p act
+abbrev pub marked_by : Mark → ℕ → List ℕ → List ℕ
+marked_by Step p sign = step_mark p sign
+marked_by Crash p sign = codes "<path class='crash' d='M-6 -6l12 12m0 -12l-12 12'/>"
+marked_by Nothing p sign = []
 
 -- the line from a deed to the mailbox, this long
 unfoldable pub joint : ℕ → List ℕ
@@ -101,19 +103,18 @@ join (Some (Outer outer)) far = []
 join (Some deed) far = joint far
 
 -- what a step reports, in one line
-abbrev pub remarks : ℕ → Option Deed → Option Answer → List ℕ
-remarks p None None = []
-remarks p (Some deed) None = told_line (Did deed)
-remarks p None (Some answer) = told_line (Answered p answer)
-remarks p (Some deed) (Some answer) = told_line (Did deed) ++ codes " / " ++ told_line (Answered p answer)
+abbrev pub remarks : Option Deed → List ℕ → List ℕ
+remarks None answer = answer
+remarks (Some deed) answer = told_line (Did deed) ++ (if length answer == 0 then [] else codes " / " ++ answer)
 
 -- what a step reports, at the right
-unfoldable pub remarks_at : ℕ → ℕ → Option Deed → Option Answer → List ℕ
-remarks_at far p deed answer = around (codes "<text y='4' x='") (far + 16) (codes "'>") ++ remarks p deed answer ++ codes "</text>"
+unfoldable pub remarks_at : ℕ → Option Deed → List ℕ → List ℕ
+remarks_at far deed answer = around (codes "<text y='4' x='") (far + 16) (codes "'>") ++ remarks deed answer ++ codes "</text>"
 
 -- this line at the right
-abbrev pub margin : ℕ → ℕ → Option Deed → Option Answer → List ℕ
-margin far p deed answer = if is_some deed || is_some answer then remarks_at far p deed answer else []
+abbrev pub margin : ℕ → Option Deed → List ℕ → List ℕ
+margin far None answer = if length answer == 0 then [] else remarks_at far None answer
+margin far deed answer = remarks_at far deed answer
 
 -- a frame around the deed that the verdict is against
 abbrev pub flag : Bool → ℕ → List ℕ
@@ -123,17 +124,17 @@ flag marked far =
     else []
 
 -- the part of a row at the lifeline of its process, with this much room below it
-unfoldable pub left_of : Layout → DiagramRow → ℕ → List ℕ
-left_of l row below = row_title l row ++ lifeline_if (phase_shown row.act) below ++ mark l row.p row.act
+unfoldable pub left_of : ShownRowState → ℕ → List ℕ
+left_of row below = row_title row.p row.sign row.deed row.answer ++ lifeline_if row.phase below ++ marked_by row.mark row.p row.sign
 
 -- the part of a row at its right
-unfoldable pub right_of : DiagramRow → ℕ → Bool → List ℕ
-right_of row far marked = join (deed_of row.act) far ++ margin far row.p (deed_of row.act) (answer_of row.act) ++ flag marked far
+unfoldable pub right_of : ShownRowState → ℕ → Bool → List ℕ
+right_of row far marked = join row.deed far ++ margin far row.deed row.answer ++ flag marked far
 
--- a row at this height
-abbrev pub row_picture : Layout → ℕ → ℕ → Bool → DiagramRow → List ℕ
-row_picture l y below marked row =
-    group_at (x_of row.p) y ++ left_of l row below ++ right_of row (far_from l.procs row.p) marked ++ group_end
+-- a row at this height, in a picture with this number of processes
+abbrev pub row_picture : ℕ → ℕ → ℕ → Bool → ShownRowState → List ℕ
+row_picture procs y below marked row =
+    group_at (x_of row.p) y ++ left_of row below ++ right_of row (far_from procs row.p) marked ++ group_end
 
 -- ---- above and below
 
@@ -201,10 +202,14 @@ mailbox_top x long =
     group_at x 80 ++ around (codes "<title>mailbox</title><text class='p' text-anchor='middle' y='-8'>mailbox</text><path class='mailbox' d='M0 0V") long (codes "'/>")
     ++ group_end
 
+-- the lifeline of the mailbox, where there is one
+abbrev pub mailbox_if : Bool → ℕ → ℕ → List ℕ
+mailbox_if mailbox x long = if mailbox then mailbox_top x long else []
+
 -- the part above the rows
-abbrev pub top_picture : ℕ → ℕ → List LifelinePhase → List ℕ
-top_picture procs bottom phases =
-    head_picture (x_of procs + 300) (held (bottom + 40)) ++ mailbox_top (x_of procs) (bottom - 80) ++ lifeline_tops (bottom - 80) 0 phases
+abbrev pub top_picture : Bool → ℕ → ℕ → List LifelinePhase → List ℕ
+top_picture mailbox procs bottom phases =
+    head_picture (x_of procs + 300) (held (bottom + 40)) ++ mailbox_if mailbox (x_of procs) (bottom - 80) ++ lifeline_tops (bottom - 80) 0 phases
 
 -- how the run ends, at this height, and the end of the file
 abbrev pub last_picture : ℕ → End → List ℕ

@@ -1,13 +1,12 @@
 //! The columns of the text drawing.
 
 ghost use Rattle.std.specs.Prelude.{◌≡◌, ◌++◌, ◌∷◌, [], OnOk};
-ghost use Rattle.diagram.specs.Columns.{bar_at as bar_in, bar_of as bar_for, bars, blank, cell, column, columns, head, heads, wide_of as wide_in};
+ghost use Rattle.diagram.specs.Columns.{bar_at as bar_in, bar_of as bar_for, bars, blank, cell, column, columns, head, heads};
 
-use crate::act::{Act, DiagramRow};
-use crate::paging::{fill, put_decimal, put_spaces};
+use crate::mark::Mark;
+use crate::paging::{fill, put_decimal, put_spaces, put_text};
 use crate::phase::LifelinePhase;
-use crate::signs::put_sign;
-use redomail::Layout;
+use crate::shown_row::ShownRow;
 use std::alloc::AllocError;
 
 fn bar_of(phase: LifelinePhase) -> u8
@@ -23,33 +22,23 @@ fn bar_of(phase: LifelinePhase) -> u8
 }
 
 /// The first byte of a cell: the bar of the phase, or `x` for a crash.
-fn bar_at(act: &Act, phase: LifelinePhase) -> u8
-    ensures { result ≡ bar_in act.now phase }
+fn bar_at(mark: Mark, phase: LifelinePhase) -> u8
+    ensures { result ≡ bar_in mark phase }
 {
-    match act {
-        Act::Fell(_) => b'x',
-        Act::Silent(..) | Act::Telling(_) => bar_of(phase),
-    }
-}
-
-/// The number of bytes of a cell's text. The sign of a repetition is one character of two bytes.
-fn wide_of(act: &Act) -> usize
-    ensures { result ≡ wide_in act.now }
-{
-    match act {
-        Act::Silent(_, times) => { if *times == 1 { 24 } else { 25 } }
-        Act::Telling(_) | Act::Fell(_) => 24,
+    match mark {
+        Mark::Crash => b'x',
+        Mark::Step | Mark::Nothing => bar_of(phase),
     }
 }
 
 /// Writes the cell of a row: what its process does.
-fn put_cell(out: &mut Vec<u8>, layout: &Layout, row: &DiagramRow) -> Result<(), AllocError>
-    ensures { OnOk result (out.new.items ≡ out.old.items ++ cell layout.now row.now) }
+fn put_cell(out: &mut Vec<u8>, row: &ShownRow) -> Result<(), AllocError>
+    ensures { OnOk result (out.new.items ≡ out.old.items ++ cell row.now) }
 {
     out.push(b' ')?;
     let start = out.len();
-    put_sign(out, layout, row)?;
-    fill(out, start, wide_of(&row.act))
+    put_text(out, row.sign.as_slice())?;
+    fill(out, start, row.wide)
 }
 
 /// Writes a column without an access.
@@ -64,16 +53,15 @@ fn put_blank(out: &mut Vec<u8>, phase: LifelinePhase) -> Result<(), AllocError>
 /// Writes the column of process q.
 fn put_column(
     out: &mut Vec<u8>,
-    layout: &Layout,
-    row: &DiagramRow,
+    row: &ShownRow,
     q: u64,
     phase: LifelinePhase,
 ) -> Result<(), AllocError>
-    ensures { OnOk result (out.new.items ≡ out.old.items ++ column layout.now row.now q phase) }
+    ensures { OnOk result (out.new.items ≡ out.old.items ++ column row.now q phase) }
 {
     if q == row.p {
-        out.push(bar_at(&row.act, phase))?;
-        return put_cell(out, layout, row);
+        out.push(bar_at(row.mark, phase))?;
+        return put_cell(out, row);
     }
     put_blank(out, phase)
 }
@@ -81,15 +69,14 @@ fn put_column(
 /// Writes the columns of a row.
 pub fn put_columns(
     out: &mut Vec<u8>,
-    layout: &Layout,
-    row: &DiagramRow,
+    row: &ShownRow,
     phases: &[LifelinePhase],
 ) -> Result<(), AllocError>
-    ensures { OnOk result (out.new.items ≡ out.old.items ++ columns layout.now row.now 0 phases.now) }
+    ensures { OnOk result (out.new.items ≡ out.old.items ++ columns row.now 0 phases.now) }
 {
     let mut q = 0;
     for phase in phases {
-        put_column(out, layout, row, q, *phase)?;
+        put_column(out, row, q, *phase)?;
         q += 1;
     }
     Ok(())

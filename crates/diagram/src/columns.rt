@@ -3,14 +3,13 @@
 ghost use Rattle.std.specs.Prelude.{◌≡◌, ◌++◌, OnOk};
 ghost use Rattle.diagram.specs.Columns.{end_line, end_text, lead as lead_in, row_text, telling, top_text};
 
-use crate::act::DiagramRow;
 use crate::bars::{put_bars, put_columns, put_heads};
 use crate::drawing::End;
 use crate::paging::{put_around, put_text};
 use crate::phase::LifelinePhase;
-use redomail::{Deed, Layout};
-use rmeworld::Answer;
-use schedule::lines::answer::{put_answer, put_deed};
+use crate::shown_row::ShownRow;
+use redomail::Deed;
+use schedule::lines::answer::put_deed;
 use schedule::put_verdict;
 use std::alloc::AllocError;
 
@@ -25,42 +24,40 @@ fn put_telling(
     out: &mut Vec<u8>,
     phases: &[LifelinePhase],
     marked: bool,
-    p: u64,
     deed: &Option<Deed>,
-    answer: Option<Answer>,
+    answer: &[u8],
 ) -> Result<(), AllocError>
-    ensures { OnOk result (out.new.items ≡ out.old.items ++ telling phases.now marked p deed.now answer) }
+    ensures { OnOk result (out.new.items ≡ out.old.items ++ telling phases.now marked deed.now answer.now) }
 {
     let Some(deed) = deed else {
-        let Some(answer) = answer else {
+        if answer.is_empty() {
             return put_text(out, b"\n");
-        };
+        }
         put_text(out, b" ")?;
-        return put_answer(out, p, answer);
+        return put_text(out, answer);
     };
     put_text(out, lead(marked))?;
     put_deed(out, deed)?;
-    let Some(answer) = answer else {
+    if answer.is_empty() {
         return Ok(());
-    };
+    }
     put_bars(out, phases)?;
     put_text(out, b"| ")?;
-    put_answer(out, p, answer)
+    put_text(out, answer)
 }
 
 /// Writes a row, with what it reports at the right.
 pub fn put_row(
     out: &mut Vec<u8>,
-    layout: &Layout,
     phases: &[LifelinePhase],
     marked: bool,
-    row: &DiagramRow,
+    row: &ShownRow,
 ) -> Result<(), AllocError>
-    ensures { OnOk result (out.new.items ≡ out.old.items ++ row_text layout.now phases.now marked row.now) }
+    ensures { OnOk result (out.new.items ≡ out.old.items ++ row_text phases.now marked row.now) }
 {
-    put_columns(out, layout, row, phases)?;
+    put_columns(out, row, phases)?;
     put_text(out, b"|")?;
-    put_telling(out, phases, marked, row.p, &row.deed(), row.answer())
+    put_telling(out, phases, marked, &row.deed, row.answer.as_slice())
 }
 
 /// Writes the numbers of the processes above their columns.

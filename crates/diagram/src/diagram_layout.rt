@@ -57,14 +57,21 @@ pub fn layout_of(head: Head) -> Layout
     }
 }
 
+/// What this number of rows is drawn with.
+pub fn layout_with(style: Style, head: Head, rows: u64, end: &End) -> DiagramLayout
+    ensures { result ≡ record { style = style; layout = layout_in head; rows = rows; against = against_in end.now } }
+{
+    DiagramLayout {
+        style,
+        layout: layout_of(head),
+        rows,
+        against: against(end),
+    }
+}
+
 /// What the rows of this drawing are drawn with.
 pub fn diagram_layout_of(style: Style, drawing: &Drawing) -> DiagramLayout
     ensures { result ≡ diagram_layout_for style drawing.now.head drawing.now.rows.items drawing.now.end }
 {
-    DiagramLayout {
-        style,
-        layout: layout_of(drawing.head),
-        rows: drawing.rows.len() as u64,
-        against: against(&drawing.end),
-    }
+    layout_with(style, drawing.head, drawing.rows.len() as u64, &drawing.end)
 }

@@ -8,7 +8,7 @@ ghost use Rattle.schedule.specs.Runs.{run_on};
 ghost use Rattle.schedule.specs.Schedules.{head_of};
 ghost use Rattle.diagram.specs.Drawings.{Spells};
 ghost use Rattle.diagram.specs.Events.{Took, events_on};
-ghost use Rattle.diagram.specs.Followed.{access_of, Ending, followed, Follows, place_line, row_of as row_for, row_told, Tells};
+ghost use Rattle.diagram.specs.Followed.{access_of, Ending, followed, Follows, place_line, row_of as row_for, row_told, Tells, told_by};
 ghost use Rattle.diagram.specs.Rows.{events_in, events_shown};
 ghost use Rattle.diagram.specs.DiagramLayouts.{layout_of as layout_in};
 
@@ -19,11 +19,11 @@ use crate::lifeline_state::LifelineState;
 use crate::lifelines::class_of;
 use crate::paging::{put_around, put_text};
 use crate::phase::LifelinePhase;
-use crate::picture::put_told;
 use crate::signs::put_sign;
 use judge::Judge;
 use redomail::Layout;
 use rmeworld::{Machine, Stepped};
+use schedule::lines::answer::{put_answer, put_deed};
 use schedule::replays::replaying::close;
 use schedule::texts::device::write_all;
 use schedule::{ReplayFault, Schedule, Sink, Verdict};
@@ -82,6 +82,19 @@ fn put_place(
     put_text(out, class_of(phase_of(phases, row.p)))?;
     put_access(out, layout, row)?;
     put_text(out, b"\n")
+}
+
+/// Writes what a row reports.
+fn put_told(out: &mut Vec<u8>, row: &DiagramRow) -> Result<(), AllocError>
+    ensures { OnOk result (out.new.items ≡ out.old.items ++ told_by row.now.p row.now.act) }
+{
+    if let Some(deed) = row.deed() {
+        put_deed(out, &deed)?;
+    }
+    if let Some(answer) = row.answer() {
+        put_answer(out, row.p, answer)?;
+    }
+    Ok(())
 }
 
 /// Writes a row, and what it reports.

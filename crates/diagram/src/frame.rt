@@ -1,7 +1,7 @@
 //! The parts of the SVG drawing above and below its rows. All sizes are in pixels.
 
 ghost use Rattle.std.specs.Prelude.{◌≡◌, ◌≤◌, ◌-◌, ◌++◌, OnOk};
-ghost use Rattle.diagram.specs.Pictures.{end_picture, head_picture, key, key_name, keys, last_picture, lifeline_name, lifeline_top, lifeline_tops, line_looks, mailbox_top, measured, paper, text_looks, top_picture, viewed};
+ghost use Rattle.diagram.specs.Pictures.{end_picture, head_picture, key, key_name, keys, last_picture, lifeline_name, lifeline_top, lifeline_tops, line_looks, mailbox_if, mailbox_top, measured, paper, text_looks, top_picture, viewed};
 
 use crate::columns::put_last;
 use crate::drawing::End;
@@ -184,18 +184,30 @@ fn put_head(out: &mut Vec<u8>, wide: u64, high: u64) -> Result<(), AllocError>
     put_keys(out)
 }
 
+/// Writes the lifeline of the mailbox, where there is one.
+fn put_mailbox_if(out: &mut Vec<u8>, mailbox: bool, x: u64, long: u64) -> Result<(), AllocError>
+    ensures { OnOk result (out.new.items ≡ out.old.items ++ mailbox_if mailbox x long) }
+{
+    if mailbox {
+        put_mailbox(out, x, long)
+    } else {
+        Ok(())
+    }
+}
+
 /// Writes the part above the rows, for this many processes, whose lifelines end at the bottom.
 pub fn put_top(
     out: &mut Vec<u8>,
+    mailbox: bool,
     procs: u64,
     bottom: u64,
     phases: &[LifelinePhase],
 ) -> Result<(), AllocError>
-    ensures { OnOk result (out.new.items ≡ out.old.items ++ top_picture procs bottom phases.now) }
+    ensures { OnOk result (out.new.items ≡ out.old.items ++ top_picture mailbox procs bottom phases.now) }
 {
     let long = bottom.saturating_sub(80);
     put_head(out, x_of(procs) + 300, bottom.saturating_add(40))?;
-    put_mailbox(out, x_of(procs), long)?;
+    put_mailbox_if(out, mailbox, x_of(procs), long)?;
     put_tops(out, long, phases)
 }
 

@@ -2,6 +2,7 @@
 #![tactic(auto)]
 
 pub mod act;
+pub mod algorithm;
 mod bars;
 mod blocked;
 mod collecting;
@@ -15,6 +16,7 @@ mod frame;
 mod lifeline_state;
 mod lifelines;
 mod lock_words;
+pub mod mark;
 mod page;
 pub mod page_text;
 mod paging;
@@ -22,12 +24,14 @@ pub mod phase;
 mod picture;
 mod places;
 pub mod session;
+pub mod shown_row;
 mod signs;
 mod step_lines;
 mod stop;
 mod writing;
 
 pub use act::{Act, DiagramRow};
+pub use algorithm::drawing::draw_algorithm;
 pub use diagram_layout::Style;
 pub use drawing::{Drawing, End, draw};
 pub use following::follow;

@@ -2,10 +2,12 @@
 
 ghost use Rattle.std.specs.Prelude.{◌≡◌, ◌≤◌, IfOk};
 ghost use Rattle.std.proofs.Math.ListN.{replicate};
-ghost use Rattle.diagram.specs.DiagramLayouts.{is_deed as is_deed_in, lifeline_state_with};
+ghost use Rattle.diagram.specs.DiagramLayouts.{is_deed as is_deed_in, lifeline_state_by, lifeline_state_shown, lifeline_state_with};
 
 use crate::act::DiagramRow;
 use crate::phase::{LifelinePhase, phase_shown};
+use crate::shown_row::ShownRow;
+use redomail::Deed;
 use std::alloc::{AllocError, Global};
 use std::marker::Model;
 
@@ -53,24 +55,38 @@ impl LifelineState {
     }
 
     /// Whether the row, the last that it has taken, has the deed of this number.
-    pub fn is_deed(&self, at: u64, row: &DiagramRow) -> bool
+    pub fn is_deed(&self, at: u64, row: &ShownRow) -> bool
         ensures { result ≡ is_deed_in at self.now row.now }
     {
-        row.deed().is_some() && self.deeds == at
+        row.deed.is_some() && self.deeds == at
     }
 
-    /// Takes the next row.
-    pub fn take(&mut self, row: &DiagramRow)
-        ensures { self.new ≡ lifeline_state_with self.old row.now }
+    /// Goes on after a row in which p shows this phase and this deed.
+    fn go_on(&mut self, p: u64, phase: Option<LifelinePhase>, deed: &Option<Deed>)
+        ensures { self.new ≡ lifeline_state_by self.old p phase deed.now }
     {
-        if let Some(phase) = phase_shown(row) {
-            if let Some(place) = self.phases.get_mut(row.p as usize) {
+        if let Some(phase) = phase {
+            if let Some(place) = self.phases.get_mut(p as usize) {
                 *place = phase;
             }
         }
-        if row.deed().is_some() {
+        if deed.is_some() {
             self.deeds = self.deeds.saturating_add(1);
         }
         self.rows = self.rows.saturating_add(1);
+    }
+
+    /// Takes the next row of a run of the lock.
+    pub fn take(&mut self, row: &DiagramRow)
+        ensures { self.new ≡ lifeline_state_with self.old row.now }
+    {
+        self.go_on(row.p, phase_shown(row), &row.deed());
+    }
+
+    /// Takes the next row.
+    pub fn take_shown(&mut self, row: &ShownRow)
+        ensures { self.new ≡ lifeline_state_shown self.old row.now }
+    {
+        self.go_on(row.p, row.phase, &row.deed);
     }
 }

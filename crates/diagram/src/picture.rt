@@ -1,65 +1,75 @@
 //! The rows of the SVG drawing.
 
 ghost use Rattle.std.specs.Prelude.{◌≡◌, ◌≤◌, ◌++◌, OnOk};
-ghost use Rattle.diagram.specs.Pictures.{flag, join, joint, left_of, margin, mark, remarks, remarks_at, right_of, row_picture, row_title, step_mark, told_by};
+ghost use Rattle.diagram.specs.Pictures.{deed_line, flag, join, joint, left_of, margin, marked_by, remarks, remarks_at, reports, right_of, row_picture, row_title, step_mark};
 
-use crate::act::{Act, DiagramRow};
 use crate::lifelines::{far_from, put_group, put_group_end, put_lifeline_if, x_of};
+use crate::mark::Mark;
 use crate::paging::{put_around, put_text};
-use crate::phase::phase_shown;
-use crate::signs::put_sign;
-use redomail::{Deed, Layout};
-use rmeworld::Answer;
-use schedule::lines::answer::{put_answer, put_deed};
+use crate::shown_row::ShownRow;
+use redomail::Deed;
+use schedule::lines::answer::put_deed;
 use std::alloc::AllocError;
 
-/// Writes what a row reports.
-pub fn put_told(out: &mut Vec<u8>, row: &DiagramRow) -> Result<(), AllocError>
-    ensures { OnOk result (out.new.items ≡ out.old.items ++ told_by row.now.p row.now.act) }
+/// Writes the line of a deed, if there is one.
+fn put_deed_line(out: &mut Vec<u8>, deed: &Option<Deed>) -> Result<(), AllocError>
+    ensures { OnOk result (out.new.items ≡ out.old.items ++ deed_line deed.now) }
 {
-    if let Some(deed) = row.deed() {
-        put_deed(out, &deed)?;
+    match deed {
+        Some(deed) => put_deed(out, deed),
+        None => Ok(()),
     }
-    if let Some(answer) = row.answer() {
-        put_answer(out, row.p, answer)?;
-    }
-    Ok(())
+}
+
+/// Writes the lines that a row reports.
+fn put_reports(out: &mut Vec<u8>, deed: &Option<Deed>, answer: &[u8]) -> Result<(), AllocError>
+    ensures { OnOk result (out.new.items ≡ out.old.items ++ reports deed.now answer.now) }
+{
+    put_deed_line(out, deed)?;
+    put_text(out, answer)
 }
 
 /// Writes the title of a row, which a viewer shows where the reader points at it.
 #[tactic(auto, unfolding(crate::specs::Pictures::row_title))]
-fn put_title(out: &mut Vec<u8>, layout: &Layout, row: &DiagramRow) -> Result<(), AllocError>
-    ensures { OnOk result (out.new.items ≡ out.old.items ++ row_title layout.now row.now) }
+fn put_title(
+    out: &mut Vec<u8>,
+    p: u64,
+    sign: &[u8],
+    deed: &Option<Deed>,
+    answer: &[u8],
+) -> Result<(), AllocError>
+    ensures { OnOk result (out.new.items ≡ out.old.items ++ row_title p sign.now deed.now answer.now) }
 {
-    put_around(out, b"<title>process ", row.p, b" ")?;
-    put_sign(out, layout, row)?;
+    put_around(out, b"<title>process ", p, b" ")?;
+    put_text(out, sign)?;
     put_text(out, b"\n")?;
-    put_told(out, row)?;
+    put_reports(out, deed, answer)?;
     put_text(out, b"</title>")
 }
 
 /// Writes the dot of a step, with its access.
 #[tactic(auto, unfolding(crate::specs::Pictures::step_mark))]
-fn put_step(out: &mut Vec<u8>, layout: &Layout, row: &DiagramRow) -> Result<(), AllocError>
-    ensures { OnOk result (out.new.items ≡ out.old.items ++ step_mark layout.now row.now.p row.now.act) }
+fn put_step(out: &mut Vec<u8>, p: u64, sign: &[u8]) -> Result<(), AllocError>
+    ensures { OnOk result (out.new.items ≡ out.old.items ++ step_mark p sign.now) }
 {
     put_around(
         out,
         b"<circle r='3'/><text x='10' y='4'><tspan class='p'>",
-        row.p,
+        p,
         b"</tspan> ",
     )?;
-    put_sign(out, layout, row)?;
+    put_text(out, sign)?;
     put_text(out, b"</text>")
 }
 
-/// Writes the dot of a step, or the cross of a crash.
-fn put_mark(out: &mut Vec<u8>, layout: &Layout, row: &DiagramRow) -> Result<(), AllocError>
-    ensures { OnOk result (out.new.items ≡ out.old.items ++ mark layout.now row.now.p row.now.act) }
+/// Writes the mark of a row: the dot of a step, or the cross of a crash.
+fn put_mark(out: &mut Vec<u8>, mark: Mark, p: u64, sign: &[u8]) -> Result<(), AllocError>
+    ensures { OnOk result (out.new.items ≡ out.old.items ++ marked_by mark p sign.now) }
 {
-    match row.act {
-        Act::Fell(_) => { put_text(out, b"<path class='crash' d='M-6 -6l12 12m0 -12l-12 12'/>") }
-        Act::Silent(..) | Act::Telling(_) => put_step(out, layout, row),
+    match mark {
+        Mark::Step => put_step(out, p, sign),
+        Mark::Crash => put_text(out, b"<path class='crash' d='M-6 -6l12 12m0 -12l-12 12'/>"),
+        Mark::Nothing => Ok(()),
     }
 }
 
@@ -89,26 +99,18 @@ fn put_join(out: &mut Vec<u8>, deed: &Option<Deed>, far: u64) -> Result<(), Allo
 }
 
 /// Writes what a step reports, in one line.
-fn put_remarks(
-    out: &mut Vec<u8>,
-    p: u64,
-    deed: &Option<Deed>,
-    answer: Option<Answer>,
-) -> Result<(), AllocError>
-    ensures { OnOk result (out.new.items ≡ out.old.items ++ remarks p deed.now answer) }
+fn put_remarks(out: &mut Vec<u8>, deed: &Option<Deed>, answer: &[u8]) -> Result<(), AllocError>
+    ensures { OnOk result (out.new.items ≡ out.old.items ++ remarks deed.now answer.now) }
 {
     let Some(deed) = deed else {
-        let Some(answer) = answer else {
-            return Ok(());
-        };
-        return put_answer(out, p, answer);
+        return put_text(out, answer);
     };
     put_deed(out, deed)?;
-    let Some(answer) = answer else {
+    if answer.is_empty() {
         return Ok(());
-    };
+    }
     put_text(out, b" / ")?;
-    put_answer(out, p, answer)
+    put_text(out, answer)
 }
 
 /// Writes this line at the right.
@@ -116,15 +118,14 @@ fn put_remarks(
 fn put_remarks_at(
     out: &mut Vec<u8>,
     far: u64,
-    p: u64,
     deed: &Option<Deed>,
-    answer: Option<Answer>,
+    answer: &[u8],
 ) -> Result<(), AllocError>
     requires { far ≤ 12348 }
-    ensures { OnOk result (out.new.items ≡ out.old.items ++ remarks_at far p deed.now answer) }
+    ensures { OnOk result (out.new.items ≡ out.old.items ++ remarks_at far deed.now answer.now) }
 {
     put_around(out, b"<text y='4' x='", far + 16, b"'>")?;
-    put_remarks(out, p, deed, answer)?;
+    put_remarks(out, deed, answer)?;
     put_text(out, b"</text>")
 }
 
@@ -132,17 +133,16 @@ fn put_remarks_at(
 fn put_margin(
     out: &mut Vec<u8>,
     far: u64,
-    p: u64,
     deed: &Option<Deed>,
-    answer: Option<Answer>,
+    answer: &[u8],
 ) -> Result<(), AllocError>
     requires { far ≤ 12348 }
-    ensures { OnOk result (out.new.items ≡ out.old.items ++ margin far p deed.now answer) }
+    ensures { OnOk result (out.new.items ≡ out.old.items ++ margin far deed.now answer.now) }
 {
-    if deed.is_none() && answer.is_none() {
+    if deed.is_none() && answer.is_empty() {
         return Ok(());
     }
-    put_remarks_at(out, far, p, deed, answer)
+    put_remarks_at(out, far, deed, answer)
 }
 
 /// Writes a frame around the deed that the verdict is against.
@@ -163,44 +163,45 @@ fn put_flag(out: &mut Vec<u8>, marked: bool, far: u64) -> Result<(), AllocError>
 
 /// Writes the part of a row at its right.
 #[tactic(auto, unfolding(crate::specs::Pictures::right_of))]
-fn put_right(out: &mut Vec<u8>, row: &DiagramRow, far: u64, marked: bool) -> Result<(), AllocError>
+fn put_right(out: &mut Vec<u8>, row: &ShownRow, far: u64, marked: bool) -> Result<(), AllocError>
     requires { far ≤ 12348 }
     ensures { OnOk result (out.new.items ≡ out.old.items ++ right_of row.now far marked) }
 {
-    put_join(out, &row.deed(), far)?;
-    put_margin(out, far, row.p, &row.deed(), row.answer())?;
+    put_join(out, &row.deed, far)?;
+    put_margin(out, far, &row.deed, row.answer.as_slice())?;
     put_flag(out, marked, far)
 }
 
 /// Writes the part of a row at the lifeline of its process.
 #[tactic(auto, unfolding(crate::specs::Pictures::left_of))]
-fn put_left(
-    out: &mut Vec<u8>,
-    layout: &Layout,
-    row: &DiagramRow,
-    below: u64,
-) -> Result<(), AllocError>
-    ensures { OnOk result (out.new.items ≡ out.old.items ++ left_of layout.now row.now below) }
+fn put_left(out: &mut Vec<u8>, row: &ShownRow, below: u64) -> Result<(), AllocError>
+    ensures { OnOk result (out.new.items ≡ out.old.items ++ left_of row.now below) }
 {
-    put_title(out, layout, row)?;
-    put_lifeline_if(out, phase_shown(row), below)?;
-    put_mark(out, layout, row)
+    put_title(
+        out,
+        row.p,
+        row.sign.as_slice(),
+        &row.deed,
+        row.answer.as_slice(),
+    )?;
+    put_lifeline_if(out, row.phase, below)?;
+    put_mark(out, row.mark, row.p, row.sign.as_slice())
 }
 
-/// Writes a row at the height `y`, with `below` pixels down to the end of its lifeline.
+/// Writes a row at the height `y`, with `below` pixels down to the end of its lifeline, among the lifelines of `procs` processes.
 pub fn put_row(
     out: &mut Vec<u8>,
-    layout: &Layout,
+    procs: u64,
     y: u64,
     below: u64,
     marked: bool,
-    row: &DiagramRow,
+    row: &ShownRow,
 ) -> Result<(), AllocError>
-    ensures { OnOk result (out.new.items ≡ out.old.items ++ row_picture layout.now y below marked row.now) }
+    ensures { OnOk result (out.new.items ≡ out.old.items ++ row_picture procs y below marked row.now) }
 {
-    let far = far_from(layout.procs, row.p);
+    let far = far_from(procs, row.p);
     put_group(out, x_of(row.p), y)?;
-    put_left(out, layout, row, below)?;
+    put_left(out, row, below)?;
     put_right(out, row, far, marked)?;
     put_group_end(out)
 }

@@ -1,5 +1,8 @@
 //! A session: a schedule that grows by a line at a time, and goes back.
 
+mod algorithm_simulation;
+mod algorithm_standing;
+mod algorithm_stepping;
 mod last_steps;
 pub mod laws;
 pub mod lock_simulation;

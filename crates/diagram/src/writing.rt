@@ -1,41 +1,52 @@
 //! Writes a drawing.
 
-ghost use Rattle.std.specs.Prelude.{◌≡◌, ◌++◌, OnOk};
+ghost use Rattle.std.specs.Prelude.{◌≡◌, ◌++◌, map, OnOk};
+ghost use Rattle.diagram.specs.DiagramLayouts.{lifeline_state_shown};
 ghost use Rattle.diagram.specs.Drawings.{end_in, row_spelled, rows_spelled, diagram_layout_of as diagram_layout_for, spelled, spelled_from, Spells, top_in};
 
-use crate::act::DiagramRow;
 use crate::diagram_layout::{DiagramLayout, Style, diagram_layout_of};
 use crate::drawing::{Drawing, End};
 use crate::lifeline_state::LifelineState;
 use crate::lifelines::{bottom_of, y_of};
 use crate::phase::LifelinePhase;
+use crate::shown_row::{Row, ShownRow};
 use crate::{columns, frame, picture};
 use schedule::texts::device::write_all;
 use schedule::{ReplayFault, Sink};
 use std::alloc::{AllocError, Global};
+
+/// The memory in which a drawing is written: a part of its text, and what a row shows.
+#[derive(Drop)]
+pub(crate) struct Buffers {
+    page: Vec<u8>,
+    shown: ShownRow,
+}
+
+impl Buffers {
+    pub(crate) fn new(alloc: Global) -> Buffers {
+        Buffers {
+            page: Vec::new(alloc),
+            shown: ShownRow::new(alloc),
+        }
+    }
+}
 
 /// Writes a row. The lifeline state has taken the row.
 fn put_row(
     out: &mut Vec<u8>,
     diagram_layout: &DiagramLayout,
     lifeline_state: &LifelineState,
-    row: &DiagramRow,
+    row: &ShownRow,
 ) -> Result<(), AllocError>
     ensures { OnOk result (out.new.items ≡ out.old.items ++ row_spelled diagram_layout.now lifeline_state.now row.now) }
 {
     let marked = lifeline_state.is_deed(diagram_layout.against, row);
     match diagram_layout.style {
-        Style::Text => columns::put_row(
-            out,
-            &diagram_layout.layout,
-            lifeline_state.phases(),
-            marked,
-            row,
-        ),
+        Style::Text => columns::put_row(out, lifeline_state.phases(), marked, row),
         Style::Svg => {
             let y = y_of(lifeline_state.rows());
             let below = bottom_of(diagram_layout.rows).saturating_sub(y);
-            picture::put_row(out, &diagram_layout.layout, y, below, marked, row)
+            picture::put_row(out, diagram_layout.layout.procs, y, below, marked, row)
         }
     }
 }
@@ -43,15 +54,17 @@ fn put_row(
 /// Writes the part above the rows.
 fn put_top(
     out: &mut Vec<u8>,
+    mailbox: bool,
     diagram_layout: &DiagramLayout,
     phases: &[LifelinePhase],
 ) -> Result<(), AllocError>
-    ensures { OnOk result (out.new.items ≡ out.old.items ++ top_in diagram_layout.now.style diagram_layout.now phases.now) }
+    ensures { OnOk result (out.new.items ≡ out.old.items ++ top_in diagram_layout.now.style mailbox diagram_layout.now phases.now) }
 {
     match diagram_layout.style {
         Style::Text => columns::put_top(out, phases),
         Style::Svg => frame::put_top(
             out,
+            mailbox,
             diagram_layout.layout.procs,
             bottom_of(diagram_layout.rows),
             phases,
@@ -72,24 +85,25 @@ fn put_end(out: &mut Vec<u8>, diagram_layout: &DiagramLayout, end: &End) -> Resu
 /// Writes the part above the rows to a sink.
 fn write_top<W: Sink>(
     page: &mut Vec<u8>,
+    mailbox: bool,
     diagram_layout: &DiagramLayout,
     phases: &[LifelinePhase],
     w: &mut W,
 ) -> Result<(), ReplayFault>
-    ensures { Spells (W.tape w.old) (W.tape w.new) (top_in diagram_layout.now.style diagram_layout.now phases.now) result }
+    ensures { Spells (W.tape w.old) (W.tape w.new) (top_in diagram_layout.now.style mailbox diagram_layout.now phases.now) result }
 {
     page.clear();
-    put_top(page, diagram_layout, phases)?;
+    put_top(page, mailbox, diagram_layout, phases)?;
     write_all(w, page)?;
     Ok(())
 }
 
-/// Writes a row to a sink.
-fn write_row<W: Sink>(
+/// Writes a row to a sink. The lifeline state has taken the row.
+fn write_shown<W: Sink>(
     page: &mut Vec<u8>,
     diagram_layout: &DiagramLayout,
     lifeline_state: &LifelineState,
-    row: &DiagramRow,
+    row: &ShownRow,
     w: &mut W,
 ) -> Result<(), ReplayFault>
     ensures { Spells (W.tape w.old) (W.tape w.new) (row_spelled diagram_layout.now lifeline_state.now row.now) result }
@@ -100,19 +114,44 @@ fn write_row<W: Sink>(
     Ok(())
 }
 
-/// Writes all rows to a sink.
-fn write_rows<W: Sink>(
-    page: &mut Vec<u8>,
+/// Takes what the next row shows, and writes the row to a sink.
+fn write_row<R: Row, W: Sink>(
+    buffers: &mut Buffers,
     diagram_layout: &DiagramLayout,
+    names: &R::Names,
     lifeline_state: &mut LifelineState,
-    rows: &[DiagramRow],
+    row: &R,
     w: &mut W,
 ) -> Result<(), ReplayFault>
-    ensures { Spells (W.tape w.old) (W.tape w.new) (rows_spelled diagram_layout.now lifeline_state.old rows.now) result }
+    ensures written { let shown = R.shows names.now row.now in Spells (W.tape w.old) (W.tape w.new)
+        (row_spelled diagram_layout.now (lifeline_state_shown lifeline_state.old shown) shown) result }
+    ensures taken { OnOk result (lifeline_state.new ≡ lifeline_state_shown lifeline_state.old (R.shows names.now row.now)) }
+{
+    row.show(names, &mut buffers.shown)?;
+    lifeline_state.take_shown(&buffers.shown);
+    write_shown(
+        &mut buffers.page,
+        diagram_layout,
+        lifeline_state,
+        &buffers.shown,
+        w,
+    )
+}
+
+/// Writes all rows to a sink.
+fn write_rows<R: Row, W: Sink>(
+    buffers: &mut Buffers,
+    diagram_layout: &DiagramLayout,
+    names: &R::Names,
+    lifeline_state: &mut LifelineState,
+    rows: &[R],
+    w: &mut W,
+) -> Result<(), ReplayFault>
+    ensures { Spells (W.tape w.old) (W.tape w.new)
+        (rows_spelled diagram_layout.now lifeline_state.old (map (R.shows names.now) rows.now)) result }
 {
     for row in rows {
-        lifeline_state.take(row);
-        write_row(page, diagram_layout, lifeline_state, row, w)?;
+        write_row(buffers, diagram_layout, names, lifeline_state, row, w)?;
     }
     Ok(())
 }
@@ -146,20 +185,37 @@ fn write_end<W: Sink>(
     Ok(())
 }
 
+/// What a drawing has beside its rows.
+#[derive(Clone, Copy)]
+pub(crate) struct Outline {
+    pub(crate) diagram_layout: DiagramLayout,
+    /// Whether there is a lifeline of the mailbox.
+    pub(crate) mailbox: bool,
+    pub(crate) end: End,
+}
+
 /// Writes all parts of a drawing, one after the other.
-fn write_parts<W: Sink>(
-    page: &mut Vec<u8>,
-    diagram_layout: &DiagramLayout,
+pub(crate) fn write_parts<R: Row, W: Sink>(
+    buffers: &mut Buffers,
+    outline: &Outline,
+    names: &R::Names,
     lifeline_state: &mut LifelineState,
-    rows: &[DiagramRow],
-    end: &End,
+    rows: &[R],
     w: &mut W,
 ) -> Result<(), ReplayFault>
-    ensures { Spells (W.tape w.old) (W.tape w.new) (spelled_from diagram_layout.now lifeline_state.old rows.now end.now) result }
+    ensures { Spells (W.tape w.old) (W.tape w.new) (spelled_from outline.now.mailbox outline.now.diagram_layout lifeline_state.old
+        (map (R.shows names.now) rows.now) outline.now.end) result }
 {
-    write_top(page, diagram_layout, lifeline_state.phases(), w)?;
-    write_rows(page, diagram_layout, lifeline_state, rows, w)?;
-    write_end(page, diagram_layout, end, w)
+    let diagram_layout = &outline.diagram_layout;
+    write_top(
+        &mut buffers.page,
+        outline.mailbox,
+        diagram_layout,
+        lifeline_state.phases(),
+        w,
+    )?;
+    write_rows(buffers, diagram_layout, names, lifeline_state, rows, w)?;
+    write_end(&mut buffers.page, diagram_layout, &outline.end, w)
 }
 
 /// Writes a drawing, a row at a time.
@@ -174,15 +230,19 @@ pub fn write_drawing<W: Sink>(
         (diagram_layout_for style drawing.now.head drawing.now.rows.items drawing.now.end)
         drawing.now.first drawing.now.rows.items drawing.now.end) result }
 {
-    let diagram_layout = diagram_layout_of(style, drawing);
-    let mut page = Vec::new(alloc);
+    let outline = Outline {
+        diagram_layout: diagram_layout_of(style, drawing),
+        mailbox: true,
+        end: drawing.end,
+    };
     let mut lifeline_state = LifelineState::new(alloc, drawing.head.procs, drawing.first)?;
+    let mut buffers = Buffers::new(alloc);
     write_parts(
-        &mut page,
-        &diagram_layout,
+        &mut buffers,
+        &outline,
+        &outline.diagram_layout.layout,
         &mut lifeline_state,
         drawing.rows.as_slice(),
-        &drawing.end,
         w,
     )
 }

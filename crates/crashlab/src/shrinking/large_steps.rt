@@ -1,19 +1,16 @@
 //! Large changes, so that few changes by one are left. Nothing is proved of them: their result is played once more.
 
-ghost use Rattle.std.specs.Prelude.{◌<◌};
+ghost use Rattle.std.specs.Prelude.{◌≡◌, ◌<◌, OnOk};
 
 use crate::shrinking::change::{Removal, both, process_of};
-use crate::shrinking::played::{Wanted, goes_wrong};
+use crate::shrinking::oracle::Oracle;
 use crate::shrinking::replaced::{copied, emptied};
 use schedule::{Line, OutOfMemory, Schedule};
+use std::alloc::Global;
 
 /// The schedule with a change.
-fn changed(
-    wanted: &Wanted,
-    schedule: &Schedule,
-    change: &Removal,
-) -> Result<Schedule, OutOfMemory> {
-    let mut changed = emptied(wanted.alloc, schedule)?;
+fn changed(alloc: Global, schedule: &Schedule, change: &Removal) -> Result<Schedule, OutOfMemory> {
+    let mut changed = emptied(alloc, schedule)?;
     for (index, line) in schedule.lines().iter().enumerate() {
         if let Some(line) = change.made(index, line) {
             if changed.push(line).is_err() {
@@ -25,9 +22,16 @@ fn changed(
 }
 
 /// Makes a change, if the schedule still goes wrong with it. Answers whether the change was made.
-fn make(wanted: &Wanted, schedule: &mut Schedule, change: Removal) -> Result<bool, OutOfMemory> {
-    let changed = changed(wanted, schedule, &change)?;
-    let wrong = goes_wrong(wanted, &changed)?;
+fn make<O: Oracle>(
+    alloc: Global,
+    oracle: &mut O,
+    schedule: &mut Schedule,
+    change: Removal,
+) -> Result<bool, OutOfMemory>
+    ensures { OnOk result (O.criterion_of oracle.new ≡ O.criterion_of oracle.old) }
+{
+    let changed = changed(alloc, schedule, &change)?;
+    let wrong = oracle.goes_wrong(&changed)?;
     if wrong {
         *schedule = changed;
     }
@@ -35,34 +39,57 @@ fn make(wanted: &Wanted, schedule: &mut Schedule, change: Removal) -> Result<boo
 }
 
 /// Leaves out `size` lines at a time, from the end on.
-fn sweep(wanted: &Wanted, schedule: &mut Schedule, size: usize) -> Result<(), OutOfMemory>
+fn sweep<O: Oracle>(
+    alloc: Global,
+    oracle: &mut O,
+    schedule: &mut Schedule,
+    size: usize,
+) -> Result<(), OutOfMemory>
     requires { 0 < size }
+    ensures { OnOk result (O.criterion_of oracle.new ≡ O.criterion_of oracle.old) }
 {
     let mut to = schedule.lines().len();
     while to > 0 {
         let from = to.saturating_sub(size);
-        make(wanted, schedule, Removal::LeaveOut { from, to })?;
+        make(alloc, oracle, schedule, Removal::LeaveOut { from, to })?;
         to = from;
     }
     Ok(())
 }
 
 /// Leaves out ranges of lines, each time half as long.
-fn sweep_all(wanted: &Wanted, schedule: &mut Schedule) -> Result<(), OutOfMemory> {
+fn sweep_all<O: Oracle>(
+    alloc: Global,
+    oracle: &mut O,
+    schedule: &mut Schedule,
+) -> Result<(), OutOfMemory>
+    ensures { OnOk result (O.criterion_of oracle.new ≡ O.criterion_of oracle.old) }
+{
     let mut size = schedule.lines().len();
     while size > 1 {
         size /= 2;
-        sweep(wanted, schedule, size)?;
+        sweep(alloc, oracle, schedule, size)?;
     }
     Ok(())
 }
 
 /// Leaves out all lines of a process, for each process.
-fn silence(wanted: &Wanted, schedule: &mut Schedule) -> Result<(), OutOfMemory> {
+fn silence<O: Oracle>(
+    alloc: Global,
+    oracle: &mut O,
+    schedule: &mut Schedule,
+) -> Result<(), OutOfMemory>
+    ensures { OnOk result (O.criterion_of oracle.new ≡ O.criterion_of oracle.old) }
+{
     for process in 0..schedule.head().procs {
         let to = schedule.lines().len();
         let from = 0;
-        make(wanted, schedule, Removal::Silence { process, from, to })?;
+        make(
+            alloc,
+            oracle,
+            schedule,
+            Removal::Silence { process, from, to },
+        )?;
     }
     Ok(())
 }
@@ -79,7 +106,14 @@ fn next_turn(lines: &[Line], process: u64, from: usize) -> usize {
 }
 
 /// Leaves out the lines of this line's process from it on, up to each of the next four starts or crashes of the process.
-fn silence_from(wanted: &Wanted, schedule: &mut Schedule, from: usize) -> Result<(), OutOfMemory> {
+fn silence_from<O: Oracle>(
+    alloc: Global,
+    oracle: &mut O,
+    schedule: &mut Schedule,
+    from: usize,
+) -> Result<(), OutOfMemory>
+    ensures { OnOk result (O.criterion_of oracle.new ≡ O.criterion_of oracle.old) }
+{
     let mut to = from;
     for _ in 0..4 {
         let Some(line) = schedule.lines().get(from) else {
@@ -87,15 +121,26 @@ fn silence_from(wanted: &Wanted, schedule: &mut Schedule, from: usize) -> Result
         };
         let process = process_of(line);
         to = next_turn(schedule.lines(), process, to.saturating_add(1));
-        make(wanted, schedule, Removal::Silence { process, from, to })?;
+        make(
+            alloc,
+            oracle,
+            schedule,
+            Removal::Silence { process, from, to },
+        )?;
     }
     Ok(())
 }
 
 /// Leaves out what a process does in one call, or in a few.
-fn silence_calls(wanted: &Wanted, schedule: &mut Schedule) -> Result<(), OutOfMemory> {
+fn silence_calls<O: Oracle>(
+    alloc: Global,
+    oracle: &mut O,
+    schedule: &mut Schedule,
+) -> Result<(), OutOfMemory>
+    ensures { OnOk result (O.criterion_of oracle.new ≡ O.criterion_of oracle.old) }
+{
     for at in (0..schedule.lines().len()).rev() {
-        silence_from(wanted, schedule, at)?;
+        silence_from(alloc, oracle, schedule, at)?;
     }
     Ok(())
 }
@@ -112,13 +157,16 @@ fn next_of(lines: &[Line], first: usize) -> Option<usize> {
 }
 
 /// Makes two lines of steps one line, in the place `at`.
-fn gather_into(
-    wanted: &Wanted,
+fn gather_into<O: Oracle>(
+    alloc: Global,
+    oracle: &mut O,
     schedule: &mut Schedule,
     first: usize,
     second: usize,
     at: usize,
-) -> Result<bool, OutOfMemory> {
+) -> Result<bool, OutOfMemory>
+    ensures { OnOk result (O.criterion_of oracle.new ≡ O.criterion_of oracle.old) }
+{
     let lines = schedule.lines();
     let (Some(before), Some(after)) = (lines.get(first), lines.get(second)) else {
         return Ok(false);
@@ -132,34 +180,54 @@ fn gather_into(
         at,
         line,
     };
-    make(wanted, schedule, change)
+    make(alloc, oracle, schedule, change)
 }
 
 /// Makes this line and the next of its process one, in the place of the first, else of the second.
-fn gather_at(wanted: &Wanted, schedule: &mut Schedule, first: usize) -> Result<bool, OutOfMemory> {
+fn gather_at<O: Oracle>(
+    alloc: Global,
+    oracle: &mut O,
+    schedule: &mut Schedule,
+    first: usize,
+) -> Result<bool, OutOfMemory>
+    ensures { OnOk result (O.criterion_of oracle.new ≡ O.criterion_of oracle.old) }
+{
     let Some(second) = next_of(schedule.lines(), first) else {
         return Ok(false);
     };
-    if gather_into(wanted, schedule, first, second, first)? {
+    if gather_into(alloc, oracle, schedule, first, second, first)? {
         return Ok(true);
     }
-    gather_into(wanted, schedule, first, second, second)
+    gather_into(alloc, oracle, schedule, first, second, second)
 }
 
 /// Makes two lines of steps one, wherever no other line of their process is between them.
-fn gather(wanted: &Wanted, schedule: &mut Schedule) -> Result<(), OutOfMemory> {
+fn gather<O: Oracle>(
+    alloc: Global,
+    oracle: &mut O,
+    schedule: &mut Schedule,
+) -> Result<(), OutOfMemory>
+    ensures { OnOk result (O.criterion_of oracle.new ≡ O.criterion_of oracle.old) }
+{
     for first in (0..schedule.lines().len()).rev() {
-        gather_at(wanted, schedule, first)?;
+        gather_at(alloc, oracle, schedule, first)?;
     }
     Ok(())
 }
 
 /// Lowers each count by `by`, where something is left.
-fn lower(wanted: &Wanted, schedule: &mut Schedule, by: u64) -> Result<(), OutOfMemory> {
+fn lower<O: Oracle>(
+    alloc: Global,
+    oracle: &mut O,
+    schedule: &mut Schedule,
+    by: u64,
+) -> Result<(), OutOfMemory>
+    ensures { OnOk result (O.criterion_of oracle.new ≡ O.criterion_of oracle.old) }
+{
     for at in 0..schedule.lines().len() {
         if let Some(Line::Step(_, count)) = schedule.lines().get(at) {
             if count.get() > by {
-                make(wanted, schedule, Removal::Lower { at, by })?;
+                make(alloc, oracle, schedule, Removal::Lower { at, by })?;
             }
         }
     }
@@ -167,24 +235,36 @@ fn lower(wanted: &Wanted, schedule: &mut Schedule, by: u64) -> Result<(), OutOfM
 }
 
 /// Lowers counts, each time by half as much.
-fn lower_all(wanted: &Wanted, schedule: &mut Schedule) -> Result<(), OutOfMemory> {
+fn lower_all<O: Oracle>(
+    alloc: Global,
+    oracle: &mut O,
+    schedule: &mut Schedule,
+) -> Result<(), OutOfMemory>
+    ensures { OnOk result (O.criterion_of oracle.new ≡ O.criterion_of oracle.old) }
+{
     let mut by = 1_000_000;
     while by > 1 {
         by /= 2;
-        lower(wanted, schedule, by)?;
+        lower(alloc, oracle, schedule, by)?;
     }
     Ok(())
 }
 
 /// The schedule with large changes made. It still goes wrong.
-pub fn shorten(wanted: &Wanted, schedule: &Schedule) -> Result<Schedule, OutOfMemory> {
-    let mut now = copied(wanted.alloc, schedule)?;
+pub fn shorten<O: Oracle>(
+    alloc: Global,
+    oracle: &mut O,
+    schedule: &Schedule,
+) -> Result<Schedule, OutOfMemory>
+    ensures { OnOk result (O.criterion_of oracle.new ≡ O.criterion_of oracle.old) }
+{
+    let mut now = copied(alloc, schedule)?;
     for _ in 0..3 {
-        silence(wanted, &mut now)?;
-        sweep_all(wanted, &mut now)?;
-        silence_calls(wanted, &mut now)?;
-        gather(wanted, &mut now)?;
-        lower_all(wanted, &mut now)?;
+        silence(alloc, oracle, &mut now)?;
+        sweep_all(alloc, oracle, &mut now)?;
+        silence_calls(alloc, oracle, &mut now)?;
+        gather(alloc, oracle, &mut now)?;
+        lower_all(alloc, oracle, &mut now)?;
     }
     Ok(now)
 }

@@ -1,28 +1,31 @@
 //! Changes by one: a line is left out, or a count is lowered by one.
 
-ghost use Rattle.std.specs.Prelude.{◌≡◌, ◌<◌, ◌∷◌, [], IfOk, MatchOption, length};
+ghost use Rattle.std.specs.Prelude.{◌≡◌, ◌<◌, ◌∷◌, [], IfOk, OnOk, MatchOption, length};
 ghost use Rattle.schedule.specs.declared.lines.line.Line.{Line as LineOf};
-ghost use Rattle.crashlab.specs.Shrunk.{GoesWrong, IsLeast, IsLess, IsLowered, IsNeeded, IsShorter, IsShrunk, Loses, replaced};
+ghost use Rattle.crashlab.specs.Least.{IsLeast, IsLess, IsLowered, IsNeeded, IsShorter, IsShrunk, Loses, replaced};
 
-use crate::shrinking::played::{Wanted, goes_wrong};
+use crate::shrinking::oracle::Oracle;
 use crate::shrinking::replaced::with_replaced;
 use schedule::{Count, Line, OutOfMemory, Schedule};
+use std::alloc::Global;
 
 /// The schedule with line `at` replaced by these, if it still goes wrong.
-fn tried(
-    wanted: &Wanted,
+fn tried<O: Oracle>(
+    alloc: Global,
+    oracle: &mut O,
     schedule: &Schedule,
     at: usize,
     new: &[Line],
 ) -> Result<Option<Schedule>, OutOfMemory>
     requires within { at < length schedule.now.lines }
     requires shorter { IsShorter schedule.now (replaced at new.now schedule.now) }
-    ensures { IfOk result (λ found. MatchOption found
-        (Loses wanted.now.variant wanted.now.number (replaced at new.now schedule.now))
-        (IsLess wanted.now.variant wanted.now.number schedule.now)) }
+    ensures found { IfOk result (λ found. MatchOption found
+        (Loses (O.is_wrong (O.criterion_of oracle.old)) (replaced at new.now schedule.now))
+        (IsLess (O.is_wrong (O.criterion_of oracle.old)) schedule.now)) }
+    ensures same { OnOk result (O.criterion_of oracle.new ≡ O.criterion_of oracle.old) }
 {
-    let changed = with_replaced(wanted.alloc, schedule, at, new)?;
-    if goes_wrong(wanted, &changed)? {
+    let changed = with_replaced(alloc, schedule, at, new)?;
+    if oracle.goes_wrong(&changed)? {
         return Ok(Some(changed));
     }
     Ok(None)
@@ -40,27 +43,38 @@ fn lowered(lines: &[Line], at: usize) -> Option<Line>
 }
 
 /// The schedule without this line, or else with its count lowered by one, if it still goes wrong.
-fn less_at(wanted: &Wanted, schedule: &Schedule, at: usize) -> Result<Option<Schedule>, OutOfMemory>
+fn less_at<O: Oracle>(
+    alloc: Global,
+    oracle: &mut O,
+    schedule: &Schedule,
+    at: usize,
+) -> Result<Option<Schedule>, OutOfMemory>
     requires { at < length schedule.now.lines }
-    ensures { IfOk result (λ found. MatchOption found (IsNeeded wanted.now.variant wanted.now.number schedule.now at)
-        (IsLess wanted.now.variant wanted.now.number schedule.now)) }
+    ensures found { IfOk result (λ found. MatchOption found (IsNeeded (O.is_wrong (O.criterion_of oracle.old)) schedule.now at)
+        (IsLess (O.is_wrong (O.criterion_of oracle.old)) schedule.now)) }
+    ensures same { OnOk result (O.criterion_of oracle.new ≡ O.criterion_of oracle.old) }
 {
-    if let Some(found) = tried(wanted, schedule, at, &[])? {
+    if let Some(found) = tried(alloc, oracle, schedule, at, &[])? {
         return Ok(Some(found));
     }
     match lowered(schedule.lines(), at) {
-        Some(line) => tried(wanted, schedule, at, &[line]),
+        Some(line) => tried(alloc, oracle, schedule, at, &[line]),
         None => Ok(None),
     }
 }
 
 /// A schedule that is smaller by one such change and still goes wrong. None where there is no such schedule.
-fn smaller(wanted: &Wanted, schedule: &Schedule) -> Result<Option<Schedule>, OutOfMemory>
-    ensures { IfOk result (λ found. MatchOption found (IsLeast wanted.now.variant wanted.now.number schedule.now)
-        (IsLess wanted.now.variant wanted.now.number schedule.now)) }
+fn smaller<O: Oracle>(
+    alloc: Global,
+    oracle: &mut O,
+    schedule: &Schedule,
+) -> Result<Option<Schedule>, OutOfMemory>
+    ensures found { IfOk result (λ found. MatchOption found (IsLeast (O.is_wrong (O.criterion_of oracle.old)) schedule.now)
+        (IsLess (O.is_wrong (O.criterion_of oracle.old)) schedule.now)) }
+    ensures same { OnOk result (O.criterion_of oracle.new ≡ O.criterion_of oracle.old) }
 {
     for at in 0..schedule.lines().len() {
-        if let Some(found) = less_at(wanted, schedule, at)? {
+        if let Some(found) = less_at(alloc, oracle, schedule, at)? {
             return Ok(Some(found));
         }
     }
@@ -68,12 +82,16 @@ fn smaller(wanted: &Wanted, schedule: &Schedule) -> Result<Option<Schedule>, Out
 }
 
 /// Makes such changes until none is left.
-pub fn least(wanted: &Wanted, schedule: Schedule) -> Result<Schedule, OutOfMemory>
-    requires { GoesWrong wanted.now.variant wanted.now.number schedule }
-    ensures { IfOk result (IsShrunk wanted.now.variant wanted.now.number schedule) }
+pub fn least<O: Oracle>(
+    alloc: Global,
+    oracle: &mut O,
+    schedule: Schedule,
+) -> Result<Schedule, OutOfMemory>
+    requires { O.is_wrong (O.criterion_of oracle.old) schedule }
+    ensures { IfOk result (IsShrunk (O.is_wrong (O.criterion_of oracle.old)) schedule) }
 {
     let mut now = schedule;
-    while let Some(found) = smaller(wanted, &now)? {
+    while let Some(found) = smaller(alloc, oracle, &now)? {
         now = found;
     }
     Ok(now)

@@ -1,10 +1,11 @@
 //! The verdict on a schedule that is played on a variant.
 
-ghost use Rattle.std.specs.Prelude.{◌≡◌, ◌↔◌, IfOk, IsTrue};
+ghost use Rattle.std.specs.Prelude.{◌≡◌};
 ghost use Rattle.rmecore.specs.Refused.{number_of};
 ghost use Rattle.schedule.specs.Wholes.{header_fault};
 ghost use Rattle.crashlab.specs.Shrunk.{Answers, GoesWrong};
 
+use crate::shrinking::oracle::Oracle;
 use crate::variant::Variant;
 use crate::variant_world::VariantWorld;
 use judge::Judge;
@@ -54,13 +55,21 @@ pub fn played(alloc: Global, variant: Variant, schedule: &Schedule) -> Result<Ve
     }
 }
 
-/// Whether a schedule has the verdict to keep.
-pub fn goes_wrong(wanted: &Wanted, schedule: &Schedule) -> Result<bool, OutOfMemory>
-    ensures { IfOk result (λ wrong. IsTrue wrong ↔ GoesWrong wanted.now.variant wanted.now.number schedule.now) }
-{
-    match played(wanted.alloc, wanted.variant, schedule) {
-        Ok(Verdict::Against { fault, .. }) => Ok(fault_number(fault) == wanted.number),
-        Ok(Verdict::Fine) | Err(ReplayFault::Refused { .. }) => Ok(false),
-        Err(_) => Err(OutOfMemory),
+impl Oracle for Wanted {
+    ghost use Rattle.std.specs.Prelude.{ℕ};
+    ghost use Rattle.crashlab.specs.declared.variant.Variant.{Variant as VariantOf};
+
+    ghost Criterion = { VariantOf × ℕ };
+
+    ghost criterion_of = { λ w. (w.variant, w.number) };
+
+    ghost is_wrong = { λ criterion. GoesWrong criterion.0 criterion.1 };
+
+    fn goes_wrong(&mut self, schedule: &Schedule) -> Result<bool, OutOfMemory> {
+        match played(self.alloc, self.variant, schedule) {
+            Ok(Verdict::Against { fault, .. }) => Ok(fault_number(fault) == self.number),
+            Ok(Verdict::Fine) | Err(ReplayFault::Refused { .. }) => Ok(false),
+            Err(_) => Err(OutOfMemory),
+        }
     }
 }

@@ -2,43 +2,14 @@
 
 ghost use Rattle.std.specs.Prelude.{IfOk, MatchResult, Some};
 ghost use Rattle.crashlab.specs.Hunts.{IsFound};
-ghost use Rattle.crashlab.specs.Shrunk.{GoesWrong, IsLike, IsShrunk, IsReason, Shrinks};
+ghost use Rattle.crashlab.specs.Shrunk.{IsReason, Shrinks};
 
-use crate::shrinking::large_steps::shorten;
-use crate::shrinking::least::least;
-use crate::shrinking::made_of::is_made_of;
-use crate::shrinking::played::{Wanted, goes_wrong, played};
-use crate::shrinking::replaced::copied;
-use crate::shrinking::size::is_no_longer;
+use crate::shrinking::minimizing::minimize;
+use crate::shrinking::played::{Wanted, played};
 use crate::variant::Variant;
 use schedule::replays::verdict::fault_number;
 use schedule::{OutOfMemory, ReplayFault, Schedule, Verdict};
 use std::alloc::Global;
-
-/// The schedule with large changes made, if it still goes wrong, is no longer and has no other moves; else a copy of the
-/// schedule.
-fn shortened(wanted: &Wanted, schedule: &Schedule) -> Result<Schedule, OutOfMemory>
-    requires { GoesWrong wanted.now.variant wanted.now.number schedule.now }
-    ensures { IfOk result (IsLike wanted.now.variant wanted.now.number schedule.now) }
-{
-    let short = shorten(wanted, schedule)?;
-    if is_no_longer(&short, schedule)
-        && is_made_of(&short, schedule)
-        && goes_wrong(wanted, &short)?
-    {
-        return Ok(short);
-    }
-    copied(wanted.alloc, schedule)
-}
-
-/// Minimizes a schedule that goes wrong.
-fn shrink_wrong(wanted: &Wanted, schedule: &Schedule) -> Result<Schedule, OutOfMemory>
-    requires { GoesWrong wanted.now.variant wanted.now.number schedule.now }
-    ensures { IfOk result (IsShrunk wanted.now.variant wanted.now.number schedule.now) }
-{
-    let short = shortened(wanted, schedule)?;
-    least(wanted, short)
-}
 
 /// Minimizes a schedule whose verdict on the variant is against some number. No line of the result can be left out, and no
 /// count of steps lowered by one, without losing a verdict against that number. None where the verdict is fine.
@@ -54,12 +25,12 @@ pub fn shrink(
         Verdict::Fine => return Ok(None),
         Verdict::Against { fault, .. } => fault,
     };
-    let wanted = Wanted {
+    let mut wanted = Wanted {
         alloc,
         variant,
         number: fault_number(fault),
     };
-    match shrink_wrong(&wanted, schedule) {
+    match minimize(alloc, &mut wanted, schedule) {
         Ok(least) => Ok(Some(least)),
         Err(OutOfMemory) => Err(ReplayFault::OutOfMemory),
     }

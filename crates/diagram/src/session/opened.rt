@@ -121,12 +121,11 @@ impl<S: Simulation> Session<S> {
     /// or no world has the sizes.
     pub fn with_simulation(
         alloc: Global,
-        simulation: S,
+        mut simulation: S,
         schedule: Schedule,
     ) -> Result<Session<S>, AllocError>
         ensures { IfOk result (λ session. session ≡ at_schedule S.semantics simulation schedule []) }
     {
-        let mut simulation = simulation;
         go_to(alloc, &mut simulation, &schedule)?;
         schedule.can_be_spelled();
         Ok(Session {

@@ -6,4 +6,4 @@ use Rattle.diagram.proofs.writing.write_top.Goals as goal
 pub returns-in_err-put_top : goal.returns-in_err-put_top
 returns-in_err-put_top g c =
     let p = err_from_is_err_and c.from_residual.result c.from_residual.ensures.1 in
-    rw (p.1, p.2) (wants_memory (g.W.Sink.tape c.args.w.now) _ (top_some _ _ _))
+    rw (p.1, p.2) (wants_memory (g.W.Sink.tape c.args.w.now) _ (top_some _ _ _ _))

@@ -1,0 +1,64 @@
+-- A run of an algorithm that was played, and its drawing that was written.
+use Rattle.std.proofs.Common.{◌≡◌, ℕ, List, [], false, Option, Some, None, Result, Ok, Err, refl, sym, ap, subst, ◌∙◌}
+use Rattle.diagram.proofs.Common.{breaks_nothing, ReplayFault, Tape, Verdict, Spells, Line}
+use Rattle.diagram.proofs.NotEmpty.{drawing_some}
+use Rattle.diagram.proofs.Written.{writes_none}
+use Rattle.schedule.specs.declared.replays.replay_fault.ReplayFault.TheVariants.{Write, OutOfMemory}
+use Rattle.schedule.specs.declared.texts.head.Head.{Head}
+use Rattle.algorithms.specs.Worlds.{new_refusal}
+use Rattle.algorithms.specs.declared.algorithm.Algorithm.{Algorithm}
+use Rattle.algorithms.specs.declared.refusal.AlgorithmRefusal.{AlgorithmRefusal}
+use Rattle.algorithm_lab.specs.Monitors.{MonitorState, first_monitor}
+use Rattle.algorithm_lab.specs.Replays.{run_of}
+use Rattle.algorithm_lab.specs.Reports.{verdict_of}
+use Rattle.algorithm_lab.specs.Runs.{Run, run_on}
+use Rattle.algorithm_lab.specs.declared.replay_fault.AlgorithmReplayFault.{AlgorithmReplayFault}
+use Rattle.algorithm_lab.specs.declared.replay_fault.AlgorithmReplayFault.TheVariants as faults
+use Rattle.algorithm_lab.specs.declared.run_refusal.RunRefusal.{RunRefusal}
+use Rattle.algorithm_lab.specs.declared.run_refusal.RunRefusal.TheVariants as refusals
+use Rattle.diagram.specs.declared.algorithm.row.AlgorithmRow.{AlgorithmRow}
+use Rattle.diagram.specs.declared.diagram_layout.Style.{Style}
+use Rattle.diagram.specs.AlgorithmDrawings.{IsDrawing, algorithm_text, answer_by, drawn_text, DrawsRun, end_by, run_text}
+
+-- the text of what was played is that of the run
+pub text_same : (style : Style) (shown head : Head) (a : Algorithm) (m left : MonitorState) (lines : List Line) (rows : List AlgorithmRow) (verdict : Verdict) (refused : Option (ℕ × RunRefusal))
+    → shown ≡ head → IsDrawing m lines rows verdict refused left → a ≡ left.world.algorithm → algorithm_text style shown a rows (end_by refused verdict) ≡ run_text style head m lines
+text_same style shown head a m left lines rows verdict refused named is same = rw (named, same, is.2, is.0, is.1, is.3) refl
+
+-- what is answered is so
+pub draws : (t u : Tape) (text : List ℕ) (run : Run (ℕ × RunRefusal)) (verdict : Verdict) (refused : Option (ℕ × RunRefusal)) (r : Result (Unit {0}) ReplayFault) → Spells t u text r → refused ≡ run.refused → verdict ≡ verdict_of run.left.world.procs run.told
+    → DrawsRun t u text run (answer_by r refused verdict)
+draws t u text run verdict None (Ok x) h why ruled = (h, sym why, ruled)
+draws t u text run verdict (Some (line, refusal)) (Ok x) h why ruled = (h, sym why)
+draws t u text run verdict refused (Err Write) h why ruled = h
+draws t u text run verdict refused (Err OutOfMemory) h why ruled = h
+draws t u text run verdict refused _ h why ruled = absurd h
+
+-- out of memory before anything is written
+pub run_starved : (t : Tape) (style : Style) (head : Head) (m : MonitorState) (lines : List Line) (run : Run (ℕ × RunRefusal)) → DrawsRun t t (run_text style head m lines) run (Err faults.OutOfMemory)
+run_starved t style head m lines run = (breaks_nothing t.taken (run_text style head m lines) (drawing_some false _ _ _ _), refl)
+
+-- ---- a new world
+
+-- there is one
+pub on_new : (t u : Tape) (style : Style) (shown head : Head) (a : Algorithm) (m : MonitorState) (lines : List Line) (answer : Result Verdict AlgorithmReplayFault)
+    → shown ≡ head → m ≡ first_monitor a shown.procs shown.limit → new_refusal a shown.procs shown.limit ≡ None → DrawsRun t u (run_text style head m lines) (run_on 2 m lines) answer
+    → DrawsRun t u (drawn_text style head a lines) (run_of a head.procs head.limit lines) answer
+on_new t u style shown head a m lines answer named made accepted h =
+    let none : new_refusal a head.procs head.limit ≡ None = ap (λ (x : Head). new_refusal a x.procs x.limit) (sym named) ∙ accepted in
+    let first : m ≡ first_monitor a head.procs head.limit = made ∙ ap (λ (x : Head). first_monitor a x.procs x.limit) named in
+    rw none (subst (λ (x : MonitorState). DrawsRun t u (run_text style head x lines) (run_on 2 x lines) answer) first h)
+
+-- there is one, and then no memory
+pub new_starved : (t : Tape) (style : Style) (shown head : Head) (a : Algorithm) (lines : List Line) → shown ≡ head → new_refusal a shown.procs shown.limit ≡ None
+    → DrawsRun t t (drawn_text style head a lines) (run_of a head.procs head.limit lines) (Err faults.OutOfMemory)
+new_starved t style shown head a lines named accepted =
+    let m : MonitorState = first_monitor a shown.procs shown.limit in
+    on_new t t style shown head a m lines (Err faults.OutOfMemory) named refl accepted (run_starved t style head m lines (run_on 2 m lines))
+
+-- there is none
+pub new_refused : (t : Tape) (style : Style) (shown head : Head) (a : Algorithm) (lines : List Line) (e : AlgorithmRefusal) → shown ≡ head → new_refusal a shown.procs shown.limit ≡ Some e
+    → DrawsRun t t (drawn_text style head a lines) (run_of a head.procs head.limit lines) (Err (faults.Refused 1 (refusals.Refused e)))
+new_refused t style shown head a lines e named refused =
+    let some : new_refusal a head.procs head.limit ≡ Some e = ap (λ (x : Head). new_refusal a x.procs x.limit) (sym named) ∙ refused in
+    rw some (writes_none t [] refl, refl)

@@ -1,0 +1,12 @@
+use Rattle.std.proofs.Common.{ap, ◌∙◌}
+use Rattle.algorithm_lab.specs.Monitors.{crash_on}
+use Rattle.diagram.proofs.AlgorithmSessions.{crash_text, part_left}
+use Rattle.diagram.proofs.session.algorithm_stepping.put_crash.Goals as goal
+
+pub returns-clause-left : goal.returns-clause-left
+returns-clause-left c = part_left (crash_on c.args.monitor.now c.args.p) _ _ c.crash.new.self c.in_ok-crash.ensures.ok
+
+pub returns-clause-text : goal.returns-clause-text
+returns-clause-text c =
+    crash_text c.args.p c.args.monitor.now c.crash.new.self c.crash.new.told.items c.algorithm.result.now c.args.out.now.items c.put_event.new.out.items c.in_ok-crash.ensures.ok
+    (c.algorithm.ensures ∙ ap (λ w. w.algorithm) c.world.ensures) c.in_ok-put_event.ensures

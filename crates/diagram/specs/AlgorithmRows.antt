@@ -1,0 +1,129 @@
+-- The rows of a drawing of an algorithm's run, and what they show.
+use Rattle.std.specs.Prelude.{ℕ, ◌+◌, ◌-◌, ◌^◌, ◌==◌, nat_lt, ◌&&◌, Bool, List, [], ◌∷◌, ◌++◌, map, drop, length, codes, slice_get, slice_set, Option, Some, None, is_some, if◌then◌else◌, string_bytes}
+use Rattle.std.specs.Fmt.{decimal}
+use Rattle.redomail.specs.declared.deed.Deed.{Deed}
+use Rattle.redomail.specs.declared.deed.Deed.TheVariants.{Outer}
+use Rattle.algorithms.specs.declared.access.Access.{Access}
+use Rattle.algorithms.specs.declared.access.Address.{Address}
+use Rattle.algorithms.specs.declared.algorithm.Algorithm.{Algorithm}
+use Rattle.algorithms.specs.declared.algorithm.Declaration.{Declaration}
+use Rattle.algorithm_lab.specs.Reports.{told_line}
+use Rattle.algorithm_lab.specs.declared.told.Told.{Told}
+use Rattle.algorithm_lab.specs.declared.told.Told.TheVariants.{Did, Answered}
+use Rattle.diagram.specs.declared.algorithm.row.AlgorithmAct.{AlgorithmAct}
+use Rattle.diagram.specs.declared.algorithm.row.AlgorithmAct.TheVariants.{Took, Blocked, Further, Crashed}
+use Rattle.diagram.specs.declared.algorithm.row.AlgorithmRow.{AlgorithmRow}
+use Rattle.diagram.specs.declared.mark.Mark.{Mark}
+use Rattle.diagram.specs.declared.mark.Mark.TheVariants as marks
+use Rattle.diagram.specs.AlgorithmEvents.{AlgorithmEvent}
+use Rattle.diagram.specs.ShownRows.{ShownRowState}
+use Rattle.diagram.specs.Signs.{indexed}
+
+-- ---- the rows of events
+
+-- a further line of what a row of p reports
+abbrev pub further : ℕ → Told → AlgorithmRow
+further p told = record { p = p; act = Further; phase = None; told = Some told }
+
+-- the rows of an event: one for each line that it reports, and at least one
+abbrev pub rows_of : AlgorithmEvent → List AlgorithmRow
+rows_of event =
+    record { p = event.p; act = event.act; phase = Some event.phase; told = slice_get event.told 0 }
+    ∷ map (further event.p) (drop 1 event.told)
+
+-- the last of the rows so far
+abbrev pub last_of : List AlgorithmRow → Option AlgorithmRow
+last_of rows = slice_get rows (length rows - 1)
+
+abbrev pub is_same_word : Address → Address → Bool
+is_same_word a b = a.declaration == b.declaration && a.index == b.index
+
+-- a blocked reading counts once more where the row before is the same reading of the same process
+abbrev pub counted_by : ℕ → AlgorithmRow → AlgorithmAct → AlgorithmAct → Option AlgorithmRow
+counted_by p row (Blocked word value times) (Blocked again read once) =
+    if p == row.p && is_same_word again word && read == value && nat_lt times (2 ^ 64 - 1)
+    then Some (record { p = row.p; act = Blocked word value (times + 1); phase = row.phase; told = row.told })
+    else None
+counted_by p row before now = None
+
+abbrev pub counted : ℕ → AlgorithmAct → Option AlgorithmRow → Option AlgorithmRow
+counted p act None = None
+counted p act (Some row) = counted_by p row row.act act
+
+abbrev pub with_counted : List AlgorithmRow → AlgorithmEvent → Option AlgorithmRow → List AlgorithmRow
+with_counted rows event None = rows ++ rows_of event
+with_counted rows event (Some row) = slice_set rows (length rows - 1) row
+
+-- the rows after an event
+abbrev pub with_event : List AlgorithmRow → AlgorithmEvent → List AlgorithmRow
+with_event rows event = with_counted rows event (counted event.p event.act (last_of rows))
+
+-- the rows after events
+abbrev pub with_events : List AlgorithmRow → List AlgorithmEvent → List AlgorithmRow
+with_events rows [] = rows
+with_events rows (event ∷ events) = with_events (with_event rows event) events
+
+-- ---- what a row shows
+
+-- a shared word, by its name, with its index where its declaration has a word for each process
+abbrev pub word_of : Option Declaration → ℕ → List ℕ
+word_of None index = []
+word_of (Some declaration) index =
+    if declaration.each then indexed (string_bytes declaration.name) index else string_bytes declaration.name
+
+abbrev pub word_sign : Algorithm → Address → List ℕ
+word_sign a address = word_of (slice_get a.declarations.items address.declaration) address.index
+
+-- a load as r turn 1
+abbrev pub load_sign : Algorithm → Address → ℕ → List ℕ
+load_sign a address value = codes "r " ++ word_sign a address ++ codes " " ++ decimal value
+
+-- a store as w flag[0]=1
+abbrev pub access_sign : Algorithm → Access → ℕ → List ℕ
+access_sign a access value =
+    if is_some access.stores then codes "w " ++ word_sign a access.address ++ codes "=" ++ decimal value
+    else load_sign a access.address value
+
+-- a repeated load as await turn 1 ×17; the two bytes of the sign are its UTF-8
+abbrev pub blocked_sign : Algorithm → Address → ℕ → ℕ → List ℕ
+blocked_sign a address value times =
+    if times == 1 then load_sign a address value
+    else codes "await " ++ word_sign a address ++ codes " " ++ decimal value ++ 32 ∷ 195 ∷ 151 ∷ decimal times
+
+abbrev pub sign_of : Algorithm → AlgorithmAct → List ℕ
+sign_of a (Took access value) = access_sign a access value
+sign_of a (Blocked address value times) = blocked_sign a address value times
+sign_of a Further = []
+sign_of a Crashed = []
+
+-- the sign of a repetition is one character of two bytes
+abbrev pub wide_of : AlgorithmAct → ℕ
+wide_of (Blocked address value times) = if times == 1 then 24 else 25
+wide_of act = 24
+
+abbrev pub mark_of : AlgorithmAct → Mark
+mark_of Further = marks.Nothing
+mark_of Crashed = marks.Crash
+mark_of act = marks.Step
+
+-- the deed in what a row reports
+abbrev pub deed_told : Option Told → Option Deed
+deed_told (Some (Did outer)) = Some (Outer outer)
+deed_told told = None
+
+-- the line of the answer in what a row reports
+abbrev pub answer_told : Algorithm → Option Told → List ℕ
+answer_told a (Some (Answered p answer)) = told_line a (Answered p answer)
+answer_told a told = []
+
+abbrev pub shown_in : Algorithm → AlgorithmRow → ShownRowState
+shown_in a row =
+    record {
+      p = row.p;
+      sign = sign_of a row.act;
+      wide = wide_of row.act;
+      mark = mark_of row.act;
+      phase = row.phase;
+      deed = deed_told row.told;
+      answer = answer_told a row.told;
+    }

@@ -1,0 +1,97 @@
+-- The simulation of an algorithm: a world of it with its monitor.
+use Rattle.std.specs.Prelude.{◌≡◌, ℕ, zero, suc, ◌+◌, List, [], ◌∷◌, ◌++◌, codes, Option, Some, None, Result, Ok, Err, if◌then◌else◌, refl}
+use Rattle.std.specs.List.{flat_map}
+use Rattle.schedule.specs.declared.lines.line.Line.{Line}
+use Rattle.schedule.specs.Schedules.{Scheduled}
+use Rattle.algorithms.specs.declared.algorithm.Algorithm.{Algorithm}
+use Rattle.algorithm_lab.proofs.Restarts.{line_leaves}
+use Rattle.algorithm_lab.specs.Monitors.{MonitorState, Part, first_monitor, restarted, step_on}
+use Rattle.algorithm_lab.specs.Refusals.{number_of}
+use Rattle.algorithm_lab.specs.Reports.{told_text}
+use Rattle.algorithm_lab.specs.Runs.{Run, line_on}
+use Rattle.algorithm_lab.specs.declared.run_refusal.RunRefusal.{RunRefusal}
+use Rattle.diagram.specs.declared.algorithm.row.AlgorithmAct.{AlgorithmAct}
+use Rattle.diagram.specs.declared.algorithm.row.AlgorithmAct.TheVariants.{Crashed}
+use Rattle.diagram.specs.AlgorithmEvents.{AlgorithmEvent, events_of}
+use Rattle.diagram.specs.AlgorithmRows.{sign_of}
+use Rattle.diagram.specs.AlgorithmStandings.{algorithm_state_text}
+use Rattle.diagram.specs.LockSimulations.{most_steps}
+use Rattle.diagram.specs.Pictures.{around, class_of}
+use Rattle.diagram.specs.Semantics.{Semantics}
+use Rattle.diagram.specs.Sessions.{SessionState, at_schedule}
+
+-- ---- the steps of a line
+
+-- what is read or written. A crash does neither
+abbrev pub access_text : Algorithm → AlgorithmAct → List ℕ
+access_text a Crashed = []
+access_text a act = 32 ∷ sign_of a act
+
+-- the phase of a process after a step, and what it reads or writes
+unfoldable pub event_line : Algorithm → AlgorithmEvent → List ℕ
+event_line a event = around (codes "at ") event.p (codes " ") ++ class_of event.phase ++ access_text a event.act ++ 10 ∷ []
+
+-- a step or a crash, and what it reports
+abbrev pub event_text : Algorithm → AlgorithmEvent → List ℕ
+event_text a event = event_line a event ++ told_text a event.told
+
+abbrev pub events_text : Algorithm → List AlgorithmEvent → List ℕ
+events_text a events = flat_map (event_text a) events
+
+-- ---- a line, which may be refused
+
+abbrev pub number_by : Option RunRefusal → Option ℕ
+number_by None = None
+number_by (Some refusal) = number_of refusal
+
+-- a line of steps that is refused in its midst leaves nothing of the steps before
+abbrev pub left_by : MonitorState → Run RunRefusal → Option RunRefusal → MonitorState
+left_by m run None = run.left
+left_by m run (Some refusal) = m
+
+abbrev pub text_by : Algorithm → List AlgorithmEvent → Option RunRefusal → List ℕ
+text_by a events None = events_text a events
+text_by a events (Some refusal) = []
+
+-- a step or a crash leaves this
+abbrev pub IsLeft : Result Part RunRefusal → MonitorState → Type 0
+IsLeft (Ok part) left = left ≡ part.left
+IsLeft (Err refusal) left = ⊥
+
+-- ---- until a call is answered
+
+-- the number of a step is this one where it is refused or ends its call
+abbrev pub count_by : Result Part RunRefusal → ℕ → (MonitorState → Option ℕ) → Option ℕ
+count_by (Ok part) k rest = if part.ended then Some k else rest part.left
+count_by (Err e) k rest = Some k
+
+-- the number of the step of p that is refused or ends its call, where k came before and at most n come
+abbrev pub count_on : ℕ → ℕ → ℕ → MonitorState → Option ℕ
+count_on p k zero m = None
+count_on p k (suc n) m = count_by (step_on m p) (k + 1) (count_on p (k + 1) n)
+
+-- ---- the whole
+
+abbrev pub algorithm_semantics : Semantics MonitorState
+algorithm_semantics =
+    record {
+      first = λ m head. restarted m;
+      refusal = λ m line. number_by (line_on m line).refused;
+      after = λ m line. left_by m (line_on m line) (line_on m line).refused;
+      steps_text = λ head m line. text_by m.world.algorithm (events_of m line) (line_on m line).refused;
+      state_text = λ head m. algorithm_state_text m;
+      steps_to_answer = λ schedule m p. count_on p 0 most_steps m;
+    }
+
+-- a session over an algorithm at a schedule
+abbrev pub algorithm_session : Algorithm → Scheduled → SessionState MonitorState
+algorithm_session a schedule = at_schedule algorithm_semantics (first_monitor a schedule.procs schedule.limit) schedule []
+
+-- ---- a schedule begins in the same state whatever was played before
+
+begins_after_run : (m : MonitorState) (run : Run RunRefusal) (refused : Option RunRefusal) → restarted run.left ≡ restarted m → restarted (left_by m run refused) ≡ restarted m
+begins_after_run m run None same = same
+begins_after_run m run (Some refusal) same = refl
+
+pub begins_after_line : (m : MonitorState) (line : Line) → restarted (left_by m (line_on m line) (line_on m line).refused) ≡ restarted m
+begins_after_line m line = begins_after_run m (line_on m line) (line_on m line).refused (line_leaves m line)

@@ -1,0 +1,54 @@
+-- What a row of a drawing shows, whatever world its process is of.
+use Rattle.std.specs.Prelude.{ℕ, ◌==◌, List, [], Option, Some, None, if◌then◌else◌}
+use Rattle.redomail.specs.declared.deed.Deed.{Deed}
+use Rattle.redomail.specs.declared.layout.Layout.{Layout}
+use Rattle.rmeworld.specs.declared.answer.Answer.{Answer}
+use Rattle.schedule.specs.Reports.{told_line}
+use Rattle.schedule.specs.Runs.{Answered}
+use Rattle.diagram.specs.declared.act.Act.{Act}
+use Rattle.diagram.specs.declared.act.Act.TheVariants.{Silent, Telling, Fell}
+use Rattle.diagram.specs.declared.act.DiagramRow.{DiagramRow}
+use Rattle.diagram.specs.declared.mark.Mark.{Mark}
+use Rattle.diagram.specs.declared.mark.Mark.TheVariants.{Step, Crash}
+use Rattle.diagram.specs.declared.phase.LifelinePhase.{LifelinePhase}
+use Rattle.diagram.specs.Phases.{phase_shown}
+use Rattle.diagram.specs.Rows.{deed_of, answer_of}
+use Rattle.diagram.specs.Signs.{sign}
+
+-- what process p does, by a sign, which has `wide` bytes in a column, and by a mark; the phase that it shows, if it shows one;
+-- its deed; and the line of its answer, which is empty where it ends no call
+pub record ShownRowState : Type 0 where
+  pub p : ℕ
+  pub sign : List ℕ
+  pub wide : ℕ
+  pub mark : Mark
+  pub phase : Option LifelinePhase
+  pub deed : Option Deed
+  pub answer : List ℕ
+
+-- ---- a row of a run of the lock
+
+-- the number of bytes of a cell's text. The sign of a repetition is one character of two bytes
+abbrev pub wide_of : Act → ℕ
+wide_of (Silent happened times) = if times == 1 then 24 else 25
+wide_of act = 24
+
+abbrev pub mark_of : Act → Mark
+mark_of (Fell deed) = Crash
+mark_of act = Step
+
+abbrev pub answer_line : ℕ → Option Answer → List ℕ
+answer_line p None = []
+answer_line p (Some answer) = told_line (Answered p answer)
+
+abbrev pub shown_of : Layout → DiagramRow → ShownRowState
+shown_of l row =
+    record {
+      p = row.p;
+      sign = sign l row.p row.act;
+      wide = wide_of row.act;
+      mark = mark_of row.act;
+      phase = phase_shown row.act;
+      deed = deed_of row.act;
+      answer = answer_line row.p (answer_of row.act);
+    }

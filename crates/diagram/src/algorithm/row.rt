@@ -1,0 +1,205 @@
+//! The rows of a drawing of an algorithm's run.
+
+ghost use Rattle.std.specs.Prelude.{◌≡◌, ◌++◌, OnOk};
+ghost use Rattle.diagram.specs.AlgorithmEvents.{act_of as act_in, lifeline_phase as phase_in};
+ghost use Rattle.diagram.specs.AlgorithmRows.{access_sign, answer_told, blocked_sign, deed_told as deed_in, load_sign, mark_of as mark_in, shown_in, sign_of, wide_of as wide_in, word_sign};
+
+use crate::mark::Mark;
+use crate::paging::{put_indexed, put_piece, put_text};
+use crate::phase::LifelinePhase;
+use crate::shown_row::{Row, ShownRow};
+use algorithm_lab::Told;
+use algorithm_lab::report::put_told;
+use algorithms::{Access, Address, Advanced, Algorithm};
+use redomail::Deed;
+use rmecore::Phase;
+use std::alloc::AllocError;
+
+/// What a process of an algorithm does in one row.
+#[derive(Clone, Copy, Debug, PartialEq, Eq)]
+pub enum AlgorithmAct {
+    /// A step, with the value that it loads or stores.
+    Took(Access, u64),
+    /// A blocked reading of a word, with its value. It counts how often it was taken with no other step between.
+    Blocked(Address, u64, u64),
+    /// Nothing more: a further line of what the row before it reports.
+    Further,
+    Crashed,
+}
+
+/// One row of a drawing of an algorithm's run. It reports one line at most.
+#[derive(Clone, Copy, Debug, PartialEq, Eq)]
+pub struct AlgorithmRow {
+    pub p: u64,
+    pub act: AlgorithmAct,
+    /// The phase that it leads to. None where the process stays in its phase.
+    pub phase: Option<LifelinePhase>,
+    pub told: Option<Told>,
+}
+
+/// A step, as it is drawn.
+pub(crate) fn act_of(advanced: &Advanced) -> AlgorithmAct
+    ensures { result ≡ act_in advanced.now }
+{
+    if advanced.blocked {
+        AlgorithmAct::Blocked(advanced.access.address, advanced.value, 1)
+    } else {
+        AlgorithmAct::Took(advanced.access, advanced.value)
+    }
+}
+
+/// The phase of a process by the deeds of it that are heard.
+pub(crate) fn lifeline_phase(phase: Phase) -> LifelinePhase
+    ensures { result ≡ phase_in phase }
+{
+    match phase {
+        Phase::Out => LifelinePhase::Rest,
+        Phase::Door => LifelinePhase::Doorway,
+        Phase::Ready => LifelinePhase::Waiting,
+        Phase::Inside => LifelinePhase::Section,
+        Phase::DeadIn => LifelinePhase::Dead,
+    }
+}
+
+/// Writes the name of a shared word.
+fn put_word(out: &mut Vec<u8>, algorithm: &Algorithm, address: Address) -> Result<(), AllocError>
+    ensures { OnOk result (out.new.items ≡ out.old.items ++ word_sign algorithm.now address) }
+{
+    match algorithm.declarations.get(address.declaration) {
+        None => Ok(()),
+        Some(declaration) if declaration.each => {
+            put_indexed(out, declaration.name.as_bytes(), address.index)
+        }
+        Some(declaration) => put_text(out, declaration.name.as_bytes()),
+    }
+}
+
+/// Writes a load as `r turn 1`.
+fn put_load(
+    out: &mut Vec<u8>,
+    algorithm: &Algorithm,
+    address: Address,
+    value: u64,
+) -> Result<(), AllocError>
+    ensures { OnOk result (out.new.items ≡ out.old.items ++ load_sign algorithm.now address value) }
+{
+    put_text(out, b"r ")?;
+    put_word(out, algorithm, address)?;
+    put_piece(out, b" ", value)
+}
+
+/// Writes a store as `w flag[0]=1`, and a load.
+fn put_access(
+    out: &mut Vec<u8>,
+    algorithm: &Algorithm,
+    access: Access,
+    value: u64,
+) -> Result<(), AllocError>
+    ensures { OnOk result (out.new.items ≡ out.old.items ++ access_sign algorithm.now access value) }
+{
+    if access.stores.is_some() {
+        put_text(out, b"w ")?;
+        put_word(out, algorithm, access.address)?;
+        return put_piece(out, b"=", value);
+    }
+    put_load(out, algorithm, access.address, value)
+}
+
+/// Writes a blocked reading: one that is repeated as `await turn 1 ×17`.
+fn put_blocked(
+    out: &mut Vec<u8>,
+    algorithm: &Algorithm,
+    address: Address,
+    value: u64,
+    times: u64,
+) -> Result<(), AllocError>
+    ensures { OnOk result (out.new.items ≡ out.old.items ++ blocked_sign algorithm.now address value times) }
+{
+    if times == 1 {
+        return put_load(out, algorithm, address, value);
+    }
+    put_text(out, b"await ")?;
+    put_word(out, algorithm, address)?;
+    put_piece(out, b" ", value)?;
+    put_piece(out, b" \xc3\x97", times)
+}
+
+/// Writes what a row does: a store as `w flag[0]=1`, a load as `r turn 1`, and nothing for a crash.
+pub(crate) fn put_sign(
+    out: &mut Vec<u8>,
+    algorithm: &Algorithm,
+    act: AlgorithmAct,
+) -> Result<(), AllocError>
+    ensures { OnOk result (out.new.items ≡ out.old.items ++ sign_of algorithm.now act) }
+{
+    match act {
+        AlgorithmAct::Took(access, value) => put_access(out, algorithm, access, value),
+        AlgorithmAct::Blocked(address, value, times) => {
+            put_blocked(out, algorithm, address, value, times)
+        }
+        AlgorithmAct::Further | AlgorithmAct::Crashed => Ok(()),
+    }
+}
+
+/// The number of bytes that a column has for what a row does. The sign of a repetition is one character of two bytes.
+fn wide_of(act: AlgorithmAct) -> usize
+    ensures { result ≡ wide_in act }
+{
+    match act {
+        AlgorithmAct::Blocked(_, _, times) => { if times == 1 { 24 } else { 25 } }
+        AlgorithmAct::Took(..) | AlgorithmAct::Further | AlgorithmAct::Crashed => 24,
+    }
+}
+
+fn mark_of(act: AlgorithmAct) -> Mark
+    ensures { result ≡ mark_in act }
+{
+    match act {
+        AlgorithmAct::Took(..) | AlgorithmAct::Blocked(..) => Mark::Step,
+        AlgorithmAct::Further => Mark::Nothing,
+        AlgorithmAct::Crashed => Mark::Crash,
+    }
+}
+
+/// The deed in what a row reports.
+fn deed_told(told: Option<Told>) -> Option<Deed>
+    ensures { result ≡ deed_in told }
+{
+    match told {
+        Some(Told::Did(outer)) => Some(Deed::Outer(outer)),
+        Some(Told::Answered(..)) | None => None,
+    }
+}
+
+/// Writes the line of the answer in what a row reports.
+fn put_answer_told(
+    out: &mut Vec<u8>,
+    algorithm: &Algorithm,
+    told: Option<Told>,
+) -> Result<(), AllocError>
+    ensures { OnOk result (out.new.items ≡ out.old.items ++ answer_told algorithm.now told) }
+{
+    match told {
+        Some(Told::Answered(p, answer)) => put_told(out, algorithm, Told::Answered(p, answer)),
+        Some(Told::Did(_)) | None => Ok(()),
+    }
+}
+
+impl Row for AlgorithmRow {
+    type Names = Algorithm;
+
+    ghost shows = { λ algorithm row. shown_in algorithm row };
+
+    fn show(&self, names: &Algorithm, shown: &mut ShownRow) -> Result<(), AllocError> {
+        shown.sign.clear();
+        put_sign(&mut shown.sign, names, self.act)?;
+        shown.answer.clear();
+        put_answer_told(&mut shown.answer, names, self.told)?;
+        shown.p = self.p;
+        shown.wide = wide_of(self.act);
+        shown.mark = mark_of(self.act);
+        shown.phase = self.phase;
+        shown.deed = deed_told(self.told);
+        Ok(())
+    }
+}

@@ -1,0 +1,69 @@
+//! A world of an algorithm with its monitor, as a session plays it.
+
+ghost use Rattle.algorithm_lab.proofs.Restarts.{restarted_twice};
+ghost use Rattle.diagram.specs.AlgorithmSimulations.{algorithm_semantics, begins_after_line};
+
+use crate::session::algorithm_standing::put_algorithm_state;
+use crate::session::algorithm_stepping::{count_steps, put_line, refused};
+use crate::session::simulation::Simulation;
+use algorithm_lab::Monitor;
+use schedule::texts::head::Head;
+use schedule::{Count, Line, Schedule};
+use std::alloc::{AllocError, Global};
+
+impl Simulation for Monitor {
+    ghost semantics = { algorithm_semantics };
+
+    ghost begins_after = { λ m line head. begins_after_line m line };
+
+    ghost begins_again = { λ m before head. restarted_twice m };
+
+    /// The monitor has the sizes already, and begins anew.
+    fn begin(&mut self, _alloc: Global, _head: Head) -> Result<(), AllocError> {
+        self.restart();
+        Ok(())
+    }
+
+    /// A line of steps can be refused in its midst: then it goes back.
+    fn play_line(
+        &mut self,
+        alloc: Global,
+        _head: Head,
+        line: &Line,
+        out: &mut Vec<u8>,
+    ) -> Result<Option<u64>, AllocError> {
+        let checkpoint = self.checkpoint(alloc)?;
+        let mut page = Vec::new(alloc);
+        match put_line(alloc, self, &mut page, line) {
+            Ok(()) => {
+                out.extend_from_slice(page.as_slice())?;
+                Ok(None)
+            }
+            Err(refusal) => {
+                let number = refused(refusal)?;
+                self.go_back(checkpoint);
+                Ok(Some(number))
+            }
+        }
+    }
+
+    fn put_state(&self, _head: Head, out: &mut Vec<u8>) -> Result<(), AllocError> {
+        put_algorithm_state(out, self)
+    }
+
+    /// It takes the steps, and goes back.
+    fn steps_to_answer(
+        &mut self,
+        alloc: Global,
+        _schedule: &Schedule,
+        p: u64,
+    ) -> Result<Option<Count>, AllocError> {
+        let checkpoint = self.checkpoint(alloc)?;
+        let steps = count_steps(alloc, self, p, 1_000_000)?;
+        self.go_back(checkpoint);
+        match steps {
+            Some(steps) => Ok(Some(Count::new(steps).unwrap())),
+            None => Ok(None),
+        }
+    }
+}

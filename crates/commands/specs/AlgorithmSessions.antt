@@ -1,13 +1,12 @@
 -- How a session on an algorithm ends.
-use Rattle.std.specs.Prelude.{◌≡◌, ◌⊎◌, List, [], ℕ, None, Result, Ok, Err}
+use Rattle.std.specs.Prelude.{◌≡◌, ◌⊎◌, List, ℕ, None, Result, Ok, Err}
 use Rattle.algorithms.specs.Worlds.{cause, new_refusal}
 use Rattle.algorithms.specs.declared.algorithm.Algorithm.{Algorithm}
 use Rattle.algorithms.specs.declared.refusal.AlgorithmRefusal.{AlgorithmRefusal}
-use Rattle.algorithm_lab.specs.Monitors.{MonitorState, first_monitor}
 use Rattle.algorithm_lab.specs.Refusals.{number_of}
 use Rattle.algorithm_lab.specs.declared.run_refusal.RunRefusal.TheVariants.{Refused}
-use Rattle.diagram.specs.AlgorithmSimulations.{algorithm_semantics}
-use Rattle.diagram.specs.Sessions.{SessionState, at_schedule, standing_text}
+use Rattle.diagram.specs.AlgorithmSimulations.{algorithm_semantics, algorithm_session}
+use Rattle.diagram.specs.Sessions.{standing_text}
 use Rattle.schedule.specs.Schedules.{Scheduled}
 use Rattle.schedule.specs.Tapes.{Reading, Tape, Writes}
 use Rattle.schedule.specs.Wholes.{Silent}
@@ -20,10 +19,6 @@ use Rattle.commands.specs.Folders.{Used}
 use Rattle.commands.specs.Settings.{IsNoSchedule}
 use Rattle.commands.specs.Statuses.{status_of}
 use Rattle.commands.specs.Tellings.{Refuses}
-
--- a session on a new world of the algorithm, at this schedule
-abbrev pub session_of : Algorithm → Scheduled → SessionState MonitorState
-session_of a schedule = at_schedule algorithm_semantics (first_monitor a schedule.procs schedule.limit) schedule []
 
 -- the first line of the input is no header
 abbrev pub HasNoHeader : Reading → Reading → CommandFault → Type 0
@@ -47,8 +42,8 @@ pub record IsHeldOn (a : Algorithm) (old new : Reading) (before now : Used) (bla
   pub opens : Opens None old opened buffer schedule
   pub accepted : new_refusal a schedule.procs schedule.limit ≡ None
   pub opening : Tape
-  pub first : Writes blank opening (standing_text algorithm_semantics (session_of a schedule))
-  pub holds : HoldsSession algorithm_semantics (session_of a schedule) buffer opened new before now opening written (Ok tt)
+  pub first : Writes blank opening (standing_text algorithm_semantics (algorithm_session a schedule))
+  pub holds : HoldsSession algorithm_semantics (algorithm_session a schedule) buffer opened new before now opening written (Ok tt)
 
 -- how a session on this algorithm ends: at its end with status 0; or it can't begin, and nothing was written; or a device or
 -- memory has failed

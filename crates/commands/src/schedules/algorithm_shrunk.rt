@@ -1,6 +1,6 @@
 //! The command `shrink` on an algorithm's text.
 
-ghost use Rattle.std.specs.Prelude.{IfErr, IfOk, false};
+ghost use Rattle.std.specs.Prelude.{IfOk, false};
 ghost use Rattle.commands.specs.AlgorithmShrinks.{AlgorithmShrinkEnds, ShrinksAlgorithm};
 ghost use Rattle.commands.specs.Endings.{IsEnded};
 

@@ -4,7 +4,7 @@ use crate::hunts::algorithm_explores::NO_LOCK;
 use crate::program::algorithm_texts::HIDDEN;
 use crate::support::fake::Failing;
 use crate::support::invocation::{all_come_to, comes_to, printed_by, words_of};
-use crate::support::row::{ProgramRow, invoked};
+use crate::support::row::invoked;
 use algorithms_tests::texts::others;
 use std::alloc::Global;
 use std::process::ExitCode;

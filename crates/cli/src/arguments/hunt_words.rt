@@ -2,7 +2,7 @@
 
 ghost use Rattle.std.specs.Prelude.{◌≡◌, Some, IfOk, IsNone, OnErr, IsErrOf, string_bytes, codes};
 ghost use Rattle.clap.specs.Words.{first_of};
-ghost use Rattle.cli.specs.Given.{given_in, number_or};
+ghost use Rattle.cli.specs.Given.{given_in};
 ghost use Rattle.cli.specs.ReadWords.{Reads, rounds_of, steps_of};
 ghost use Rattle.cli.specs.Sizes.{IsSized, IsHuntSize};
 

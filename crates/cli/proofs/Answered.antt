@@ -73,7 +73,7 @@ variant_goes given variant h none (inr beside) = no_both (first_of (codes "algor
 
 -- a variant that there is, and no algorithm
 variant_asked : (given : Given) (variant : Variant) → AsksFor [] given variant → IsNone (first_of (codes "algorithm") given) → IsBadVariant given → ⊥
-variant_asked given variant h none (some, inl no) = no variant h
+variant_asked given variant h none (some, inl lacks) = lacks variant h
 variant_asked given variant h none (some, inr both) = no_both (first_of (codes "algorithm") given) none both
 
 neither : (a name : Text) (given : Given) → name ≡ a → bytes_eq a (codes "replay") ≡ false → bytes_eq a (codes "draw") ≡ false → bytes_eq a (codes "hunt") ≡ false
@@ -164,9 +164,9 @@ good_size name given (Explain entry) sized h bad = sizeless (codes "explain") na
 -- ---- the words
 
 not_drawn : (name : Text) (given : Given) → HasNoLock name given → TakesImage name → ⊥
-not_drawn name given (none, inl (is, no)) takes = takes_no_image (codes "explore") name is refl refl takes
-not_drawn name given (none, inr (inl (is, no))) takes = takes_no_image (codes "hunt") name is refl refl takes
-not_drawn name given (none, inr (inr (is, no))) takes = takes_no_image (codes "shrink") name is refl refl takes
+not_drawn name given (none, inl (is, lacks)) takes = takes_no_image (codes "explore") name is refl refl takes
+not_drawn name given (none, inr (inl (is, lacks))) takes = takes_no_image (codes "hunt") name is refl refl takes
+not_drawn name given (none, inr (inr (is, lacks))) takes = takes_no_image (codes "shrink") name is refl refl takes
 
 worded : (name : Text) (given : Given) → HasBadWords name given → HasBadVariant name given → ⊥
 worded name given (inl entry) bad = neither (codes "explain") name given entry.0 refl refl refl refl refl bad
@@ -179,15 +179,15 @@ worded name given (inr (inr (inr (inr lock)))) (inl bad) = not_drawn name given 
 worded name given (inr (inr (inr (inr lock)))) (inr bad) = no_both (first_of (codes "variant") given) lock.0 bad.1.0
 
 without_range : (name : Text) (given : Given) → HasNoLock name given → IsOutOfRange name given → ⊥
-without_range name given (none, inl (is, no)) (inl bad) = other_name (codes "explore") (codes "run") name is refl bad.0
-without_range name given (none, inl (is, no)) (inr (inl bad)) = other_name (codes "explore") (codes "hunt") name is refl bad.0
-without_range name given (none, inl (is, no)) (inr (inr (too, inl bad))) = no_both (first_of (codes "variant") given) none bad.0
-without_range name given (none, inl (is, no)) (inr (inr (too, inr bad))) = no bad.0
-without_range name given (none, inr (inl (is, no))) (inl bad) = other_name (codes "hunt") (codes "run") name is refl bad.0
-without_range name given (none, inr (inl (is, no))) (inr (inl (too, inl bad))) = no_both (first_of (codes "variant") given) none bad.0
-without_range name given (none, inr (inl (is, no))) (inr (inl (too, inr bad))) = no bad.0
-without_range name given (none, inr (inl (is, no))) (inr (inr bad)) = other_name (codes "hunt") (codes "explore") name is refl bad.0
-without_range name given (none, inr (inr (is, no))) bad = sizeless (codes "shrink") name given is refl refl refl bad
+without_range name given (none, inl (is, lacks)) (inl bad) = other_name (codes "explore") (codes "run") name is refl bad.0
+without_range name given (none, inl (is, lacks)) (inr (inl bad)) = other_name (codes "explore") (codes "hunt") name is refl bad.0
+without_range name given (none, inl (is, lacks)) (inr (inr (too, inl bad))) = no_both (first_of (codes "variant") given) none bad.0
+without_range name given (none, inl (is, lacks)) (inr (inr (too, inr bad))) = lacks bad.0
+without_range name given (none, inr (inl (is, lacks))) (inl bad) = other_name (codes "hunt") (codes "run") name is refl bad.0
+without_range name given (none, inr (inl (is, lacks))) (inr (inl (too, inl bad))) = no_both (first_of (codes "variant") given) none bad.0
+without_range name given (none, inr (inl (is, lacks))) (inr (inl (too, inr bad))) = lacks bad.0
+without_range name given (none, inr (inl (is, lacks))) (inr (inr bad)) = other_name (codes "hunt") (codes "explore") name is refl bad.0
+without_range name given (none, inr (inr (is, lacks))) bad = sizeless (codes "shrink") name given is refl refl refl bad
 
 ranged : (name : Text) (given : Given) → HasBadWords name given → IsOutOfRange name given → ⊥
 ranged name given (inl entry) bad = sizeless (codes "explain") name given entry.0 refl refl refl bad

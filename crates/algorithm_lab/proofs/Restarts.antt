@@ -21,6 +21,9 @@ use Rattle.algorithm_lab.specs.Monitors.{MonitorState, Part, first_monitor, rest
 use Rattle.algorithm_lab.specs.Runs.{Run, after_step, steps, started, crashed, call_of, start_by, line_on, followed, run_on, preceded}
 use Rattle.algorithm_lab.specs.declared.run_refusal.RunRefusal.{RunRefusal}
 
+abbrev zeros : List ℕ
+zeros = replicate 64 0
+
 pub first_restarted : (a : Algorithm) (procs limit : ℕ) → restarted (first_monitor a procs limit) ≡ first_monitor a procs limit
 first_restarted a procs limit =
     (λ i. record {
@@ -28,28 +31,28 @@ first_restarted a procs limit =
         algorithm = a;
         procs = procs;
         limit = limit;
-        words = replicate (length-replicate (length a.declarations.items) (replicate 64 0) i) (replicate 64 0);
+        words = replicate (length-replicate (length a.declarations.items) zeros i) zeros;
         processes = replicate (length-replicate procs resting i) resting;
       };
       phases = replicate (length-replicate procs Out i) Out;
     })
 
 -- a monitor with other words, processes and phases, as many of each
-with_these : MonitorState → List (List ℕ) → List Process → List Phase → MonitorState
+abbrev with_these : MonitorState → List (List ℕ) → List Process → List Phase → MonitorState
 with_these m words processes phases = record { world = record { algorithm = m.world.algorithm; procs = m.world.procs; limit = m.world.limit; words = words; processes = processes }; phases = phases }
 
 restarts_with : (m : MonitorState) (words : List (List ℕ)) (processes : List Process) (phases : List Phase) → length words ≡ length m.world.words → length processes ≡ length m.world.processes → length phases ≡ length m.phases
     → restarted (with_these m words processes phases) ≡ restarted m
 restarts_with m words processes phases w q f =
     (λ i. record {
-      world = record { algorithm = m.world.algorithm; procs = m.world.procs; limit = m.world.limit; words = replicate (w i) (replicate 64 0); processes = replicate (q i) resting };
+      world = record { algorithm = m.world.algorithm; procs = m.world.procs; limit = m.world.limit; words = replicate (w i) zeros; processes = replicate (q i) resting };
       phases = replicate (f i) Out;
     })
 
 pub restarted_twice : (m : MonitorState) → restarted (restarted m) ≡ restarted m
 restarted_twice m =
-    restarts_with m (replicate (length m.world.words) (replicate 64 0)) (replicate (length m.world.processes) resting) (replicate (length m.phases) Out)
-    (length-replicate (length m.world.words) (replicate 64 0)) (length-replicate (length m.world.processes) resting) (length-replicate (length m.phases) Out)
+    restarts_with m (replicate (length m.world.words) zeros) (replicate (length m.world.processes) resting) (replicate (length m.phases) Out)
+    (length-replicate (length m.world.words) zeros) (length-replicate (length m.world.processes) resting) (length-replicate (length m.phases) Out)
 
 -- ---- starts, steps and crashes
 

@@ -1,15 +1,40 @@
-//! Drawings of runs of algorithms, against drawings that were written by hand.
+//! Drawings of runs of algorithms, as a program over the reference interpreter of the format draws them.
 
-use crate::texts::others;
+pub mod bakeries;
+pub mod others;
+
+use crate::drawings::{bakeries as bakery_drawings, others as other_drawings};
+use crate::texts::{bakeries as bakery_texts, others as other_texts};
 use algorithm_lab::AlgorithmReplayFault;
 use algorithms::{Algorithm, read_algorithm};
 use diagram::{Style, draw_algorithm};
 use memory_limit::ScarceMemory;
 use schedule::{Page, Schedule, Sink, ToWriter, Verdict, read_schedule};
 use std::alloc::Global;
-use std::io::Cursor;
+use std::io;
+use std::io::{Cursor, ErrorKind, Write};
 use std::process::Abort;
 use std::test::Fail;
+
+/// A drawing as text, and the checksum of the same as SVG.
+#[derive(Clone, Copy)]
+pub struct Drawn {
+    pub text: &'static str,
+    pub picture: u64,
+}
+
+/// What is drawn of each text.
+const SCHEDULE: &str = "rme 1 procs 2 limit 2 cap 1
+lock 0
+step 0 8
+lock 1
+step 1 10
+crash 0
+lock 0
+step 0 4
+step 1 2
+unlock 1
+";
 
 const ALONE: &str = "rme 1 procs 2 limit 1 cap 1
 lock 0
@@ -27,65 +52,6 @@ const ALONE_DRAWN: &str = "0                         1                         |
 #                         .                         | answer 0 done
 . w flag[0]=0             .                         | leave 0
 .                         .                         | answer 0 done
-verdict fine
-. rest  : doorway  | waiting  # section  x crash
-";
-
-const CRASH: &str = "rme 1 procs 2 limit 1 cap 1
-lock 0
-step 0 3
-crash 0
-lock 0
-step 0
-lock 1
-step 1 2
-step 0
-step 1 2
-";
-
-const CRASH_DRAWN: &str = "0                         1                         |
-. w flag[0]=1             .                         |
-. w turn=1                .                         |
-# r flag[1] 0             .                         | begin 0
-#                         .                         | ready 0
-#                         .                         | enter 0
-#                         .                         | answer 0 done
-x                         .                         | crash 0
-  w flag[0]=1             .                         |
-                          . w flag[1]=1             |
-                          . w turn=0                |
-  w turn=1                .                         |
-                          . r flag[0] 1             |
-                          # r turn 1                | begin 1
-                          #                         | ready 1
-                          #                         | >>> enter 1
-                          #                         | answer 1 done
-verdict against 3 at 7
-. rest  : doorway  | waiting  # section  x crash
-";
-
-const WAITS: &str = "rme 1 procs 2 limit 3 cap 1
-lock 0
-step 0 4
-lock 1
-step 1 6
-step 0
-step 1 9
-";
-
-const WAITS_DRAWN: &str = "0                         1                         |
-: w choosing[0]=1         .                         | begin 0
-: r number[1] 0           .                         |
-| w number[0]=1           .                         | ready 0
-| w choosing[0]=0         .                         |
-|                         : w choosing[1]=1         | begin 1
-|                         : r number[0] 1           |
-|                         | w number[1]=2           | ready 1
-|                         | w choosing[1]=0         |
-|                         | r choosing[0] 0         |
-|                         | r number[0] 1           |
-| r choosing[1] 0         |                         |
-|                         | await number[0] 1 ×9    |
 verdict fine
 . rest  : doorway  | waiting  # section  x crash
 ";
@@ -129,24 +95,122 @@ fn compare<R: Abort>(
     Ok(ended)
 }
 
-#[test]
-fn a_run_is_drawn(rt: HostRuntime) -> Result<(), Fail> {
-    let ended = compare(&rt, rt.alloc(), others::PETERSON, ALONE, ALONE_DRAWN)?;
-    assert_eq!(rt; ended, Ok(Verdict::Fine));
+/// The checksum FNV-1a of 64 bits.
+fn checksum(bytes: &[u8]) -> u64 {
+    let mut sum = 0xcbf2_9ce4_8422_2325_u64;
+    for byte in bytes {
+        sum = (sum ^ u64::from(*byte)).wrapping_mul(0x0100_0000_01b3);
+    }
+    sum
+}
+
+/// Draws the schedule on a text in each style, and compares all bytes. The answers are the same.
+fn both_styles<R: Abort>(rt: &R, alloc: Global, text: &[u8], drawing: Drawn) -> Result<(), Fail> {
+    let ended = compare(rt, alloc, text, SCHEDULE, drawing.text)?;
+    let mut page = Page::new(alloc);
+    let again = drawn(alloc, text, SCHEDULE, Style::Svg, &mut page)?;
+    assert_eq!(rt; again, ended);
+    assert_eq!(rt; checksum(page.as_slice()), drawing.picture);
     Ok(())
 }
 
 #[test]
-fn a_verdict_marks_its_deed(rt: HostRuntime) -> Result<(), Fail> {
-    let ended = compare(&rt, rt.alloc(), others::PETERSON, CRASH, CRASH_DRAWN)?;
+fn bakeries_are_drawn(rt: HostRuntime) -> Result<(), Fail> {
+    let alloc = rt.alloc();
+    both_styles(&rt, alloc, bakery_texts::BAKERY, bakery_drawings::BAKERY)?;
+    both_styles(
+        &rt,
+        alloc,
+        bakery_texts::BAKERY_RUIN,
+        bakery_drawings::BAKERY_RUIN,
+    )?;
+    both_styles(
+        &rt,
+        alloc,
+        other_texts::BAKERY_1974,
+        bakery_drawings::BAKERY_1974,
+    )?;
+    Ok(())
+}
+
+#[test]
+fn wrong_bakeries_are_drawn(rt: HostRuntime) -> Result<(), Fail> {
+    let alloc = rt.alloc();
+    both_styles(&rt, alloc, bakery_texts::NO_LOOK, bakery_drawings::NO_LOOK)?;
+    both_styles(&rt, alloc, bakery_texts::NO_TIES, bakery_drawings::NO_TIES)?;
+    both_styles(
+        &rt,
+        alloc,
+        bakery_texts::RENUMBER,
+        bakery_drawings::RENUMBER,
+    )?;
+    both_styles(
+        &rt,
+        alloc,
+        bakery_texts::EXIT_ON_CRASH,
+        bakery_drawings::EXIT_ON_CRASH,
+    )?;
+    Ok(())
+}
+
+#[test]
+fn petersons_locks_are_drawn(rt: HostRuntime) -> Result<(), Fail> {
+    let alloc = rt.alloc();
+    both_styles(&rt, alloc, other_texts::PETERSON, other_drawings::PETERSON)?;
+    both_styles(
+        &rt,
+        alloc,
+        other_texts::PETERSON_ORDER,
+        other_drawings::PETERSON_ORDER,
+    )?;
+    both_styles(
+        &rt,
+        alloc,
+        other_texts::RECOVERABLE_PETERSON,
+        other_drawings::RECOVERABLE_PETERSON,
+    )?;
+    both_styles(
+        &rt,
+        alloc,
+        other_texts::FORGETFUL_PETERSON,
+        other_drawings::FORGETFUL_PETERSON,
+    )?;
+    Ok(())
+}
+
+#[test]
+fn other_locks_are_drawn(rt: HostRuntime) -> Result<(), Fail> {
+    let alloc = rt.alloc();
+    both_styles(
+        &rt,
+        alloc,
+        other_texts::LAMPORT_FAST,
+        other_drawings::LAMPORT_FAST,
+    )?;
+    both_styles(&rt, alloc, other_texts::ONE_WORD, other_drawings::ONE_WORD)?;
+    both_styles(
+        &rt,
+        alloc,
+        other_texts::SZYMANSKI,
+        other_drawings::SZYMANSKI,
+    )?;
+    Ok(())
+}
+
+#[test]
+fn the_verdict_is_answered(rt: HostRuntime) -> Result<(), Fail> {
+    let alloc = rt.alloc();
+    let ended = compare(&rt, alloc, other_texts::PETERSON, ALONE, ALONE_DRAWN)?;
+    assert_eq!(rt; ended, Ok(Verdict::Fine));
+    let mut page = Page::new(alloc);
+    let ended = drawn(
+        alloc,
+        other_texts::PETERSON,
+        SCHEDULE,
+        Style::Text,
+        &mut page,
+    )?;
     assert!(rt; matches!(ended, Ok(Verdict::Against { at: 7, .. })));
-    Ok(())
-}
-
-#[test]
-fn a_blocked_reading_is_one_row(rt: HostRuntime) -> Result<(), Fail> {
-    let ended = compare(&rt, rt.alloc(), others::BAKERY_1974, WAITS, WAITS_DRAWN)?;
-    assert_eq!(rt; ended, Ok(Verdict::Fine));
     Ok(())
 }
 
@@ -160,12 +224,18 @@ fn refused(ended: Result<Verdict, AlgorithmReplayFault>) -> Option<(u64, Option<
 
 #[test]
 fn a_refused_line_ends_the_drawing(rt: HostRuntime) -> Result<(), Fail> {
-    let ended = compare(&rt, rt.alloc(), others::PETERSON, REFUSED, REFUSED_DRAWN)?;
+    let ended = compare(
+        &rt,
+        rt.alloc(),
+        other_texts::PETERSON,
+        REFUSED,
+        REFUSED_DRAWN,
+    )?;
     assert_eq!(rt; refused(ended), Some((4, Some(5))));
     let ended = compare(
         &rt,
         rt.alloc(),
-        others::PETERSON,
+        other_texts::PETERSON,
         "rme 1 procs 3 limit 1 cap 1\n",
         "",
     )?;
@@ -173,22 +243,18 @@ fn a_refused_line_ends_the_drawing(rt: HostRuntime) -> Result<(), Fail> {
     Ok(())
 }
 
-/// Whether a text has a part.
-fn has(text: &str, part: &str) -> bool {
-    text.contains(part)
-}
+/// A writer that takes everything, and fails when it is flushed.
+#[derive(Drop)]
+struct Unflushed;
 
-#[test]
-fn a_picture_has_no_mailbox(rt: HostRuntime) -> Result<(), Fail> {
-    let mut page = Page::new(rt.alloc());
-    let ended = drawn(rt.alloc(), others::PETERSON, CRASH, Style::Svg, &mut page)?;
-    assert!(rt; ended.is_ok());
-    let text = std::str::from_utf8(page.as_slice())?;
-    assert!(rt; text.starts_with("<svg ") && text.ends_with("</text></svg>\n"));
-    assert!(rt; !has(text, ">mailbox</text>"));
-    assert!(rt; has(text, "<tspan class='p'>1</tspan> r flag[0] 1</text>"));
-    assert!(rt; has(text, "class='against' r='8'"));
-    Ok(())
+impl Write for Unflushed {
+    fn write(&mut self, bytes: &[u8]) -> io::Result<usize> {
+        Ok(bytes.len())
+    }
+
+    fn flush(&mut self) -> io::Result<()> {
+        Err(io::Error::from(ErrorKind::Other))
+    }
 }
 
 #[test]
@@ -198,11 +264,14 @@ fn a_sink_fails(rt: HostRuntime) -> Result<(), Fail> {
     for room in 0..whole.len() {
         let mut printed = vec![in alloc; 0u8; room]?;
         let mut sink = ToWriter::new(Cursor::new(printed.as_mut_slice()));
-        let ended = drawn(alloc, others::PETERSON, ALONE, Style::Text, &mut sink)?;
+        let ended = drawn(alloc, other_texts::PETERSON, ALONE, Style::Text, &mut sink)?;
         assert_eq!(rt; ended, Err(AlgorithmReplayFault::Write), "{room}");
         drop(sink);
         assert!(rt; whole.starts_with(printed.as_slice()), "{room}");
     }
+    let mut sink = ToWriter::new(Unflushed);
+    let ended = drawn(alloc, other_texts::PETERSON, ALONE, Style::Text, &mut sink)?;
+    assert_eq!(rt; ended, Err(AlgorithmReplayFault::Write));
     Ok(())
 }
 
@@ -218,11 +287,19 @@ fn all_algorithms(alloc: Global, text: &[u8]) -> Result<Vec<Algorithm>, Fail> {
     Ok(all)
 }
 
+/// What stands before the first zero.
+fn before_zeros(bytes: &[u8]) -> &[u8] {
+    match bytes.iter().position(|byte| *byte == 0) {
+        Some(end) => &bytes[..end],
+        None => bytes,
+    }
+}
+
 #[test]
 fn memory_is_refused(rt: HostRuntime) -> Result<(), Fail> {
     let alloc = rt.alloc();
     let schedule: Schedule = read_schedule(alloc, ALONE.as_bytes())?;
-    let mut algorithms = all_algorithms(alloc, others::PETERSON)?;
+    let mut algorithms = all_algorithms(alloc, other_texts::PETERSON)?;
     let mut scarce_memory = ScarceMemory::new(alloc)?;
     let mut refused = 0u64;
     for _ in 0..TRIES {
@@ -233,13 +310,17 @@ fn memory_is_refused(rt: HostRuntime) -> Result<(), Fail> {
         let mut sink = ToWriter::new(Cursor::new(printed.as_mut_slice()));
         let result = draw_algorithm(alloc, algorithm, &schedule, Style::Text, &mut sink);
         drop(sink);
+        let written = before_zeros(&printed);
         match result {
             Ok(_) => {
-                assert!(rt; printed.starts_with(ALONE_DRAWN.as_bytes()));
+                assert!(rt; written == ALONE_DRAWN.as_bytes());
                 break;
             }
             Err(fault) => assert_eq!(rt; fault, AlgorithmReplayFault::OutOfMemory),
         }
+        assert!(rt;
+            written != ALONE_DRAWN.as_bytes() && ALONE_DRAWN.as_bytes().starts_with(written)
+        );
         refused = refused.saturating_add(1);
         scarce_memory.give_back();
     }

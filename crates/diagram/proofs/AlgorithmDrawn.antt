@@ -9,7 +9,7 @@ use Rattle.algorithms.specs.Worlds.{new_refusal}
 use Rattle.algorithms.specs.declared.algorithm.Algorithm.{Algorithm}
 use Rattle.algorithms.specs.declared.refusal.AlgorithmRefusal.{AlgorithmRefusal}
 use Rattle.algorithm_lab.specs.Monitors.{MonitorState, first_monitor}
-use Rattle.algorithm_lab.specs.Replays.{run_of}
+use Rattle.algorithm_lab.specs.Replays.{run_of, run_unless}
 use Rattle.algorithm_lab.specs.Reports.{verdict_of}
 use Rattle.algorithm_lab.specs.Runs.{Run, run_on}
 use Rattle.algorithm_lab.specs.declared.replay_fault.AlgorithmReplayFault.{AlgorithmReplayFault}
@@ -18,7 +18,7 @@ use Rattle.algorithm_lab.specs.declared.run_refusal.RunRefusal.{RunRefusal}
 use Rattle.algorithm_lab.specs.declared.run_refusal.RunRefusal.TheVariants as refusals
 use Rattle.diagram.specs.declared.algorithm.row.AlgorithmRow.{AlgorithmRow}
 use Rattle.diagram.specs.declared.diagram_layout.Style.{Style}
-use Rattle.diagram.specs.AlgorithmDrawings.{IsDrawing, algorithm_text, answer_by, drawn_text, DrawsRun, end_by, run_text}
+use Rattle.diagram.specs.AlgorithmDrawings.{IsDrawing, algorithm_text, answer_by, drawn_text, DrawsRun, end_by, run_text, text_unless}
 
 -- the text of what was played is that of the run
 pub text_same : (style : Style) (shown head : Head) (a : Algorithm) (m left : MonitorState) (lines : List Line) (rows : List AlgorithmRow) (verdict : Verdict) (refused : Option (ℕ × RunRefusal))
@@ -40,6 +40,14 @@ run_starved t style head m lines run = (breaks_nothing t.taken (run_text style h
 
 -- ---- a new world
 
+on_world : (t u : Tape) (r : Option AlgorithmRefusal) (text : List ℕ) (m : MonitorState) (lines : List Line) (answer : Result Verdict AlgorithmReplayFault) → r ≡ None → DrawsRun t u text (run_on 2 m lines) answer
+    → DrawsRun t u (text_unless r text) (run_unless r m lines) answer
+on_world t u r text m lines answer none h = rw none h
+
+no_world : (t : Tape) (r : Option AlgorithmRefusal) (text : List ℕ) (m : MonitorState) (lines : List Line) (e : AlgorithmRefusal) → r ≡ Some e
+    → DrawsRun t t (text_unless r text) (run_unless r m lines) (Err (faults.Refused 1 (refusals.Refused e)))
+no_world t r text m lines e some = rw some (writes_none t [] refl, refl)
+
 -- there is one
 pub on_new : (t u : Tape) (style : Style) (shown head : Head) (a : Algorithm) (m : MonitorState) (lines : List Line) (answer : Result Verdict AlgorithmReplayFault)
     → shown ≡ head → m ≡ first_monitor a shown.procs shown.limit → new_refusal a shown.procs shown.limit ≡ None → DrawsRun t u (run_text style head m lines) (run_on 2 m lines) answer
@@ -47,7 +55,9 @@ pub on_new : (t u : Tape) (style : Style) (shown head : Head) (a : Algorithm) (m
 on_new t u style shown head a m lines answer named made accepted h =
     let none : new_refusal a head.procs head.limit ≡ None = ap (λ (x : Head). new_refusal a x.procs x.limit) (sym named) ∙ accepted in
     let first : m ≡ first_monitor a head.procs head.limit = made ∙ ap (λ (x : Head). first_monitor a x.procs x.limit) named in
-    rw none (subst (λ (x : MonitorState). DrawsRun t u (run_text style head x lines) (run_on 2 x lines) answer) first h)
+    let new : MonitorState = first_monitor a head.procs head.limit in
+    on_world t u (new_refusal a head.procs head.limit) (run_text style head new lines) new lines answer none
+    (subst (λ (x : MonitorState). DrawsRun t u (run_text style head x lines) (run_on 2 x lines) answer) first h)
 
 -- there is one, and then no memory
 pub new_starved : (t : Tape) (style : Style) (shown head : Head) (a : Algorithm) (lines : List Line) → shown ≡ head → new_refusal a shown.procs shown.limit ≡ None
@@ -61,4 +71,5 @@ pub new_refused : (t : Tape) (style : Style) (shown head : Head) (a : Algorithm)
     → DrawsRun t t (drawn_text style head a lines) (run_of a head.procs head.limit lines) (Err (faults.Refused 1 (refusals.Refused e)))
 new_refused t style shown head a lines e named refused =
     let some : new_refusal a head.procs head.limit ≡ Some e = ap (λ (x : Head). new_refusal a x.procs x.limit) (sym named) ∙ refused in
-    rw some (writes_none t [] refl, refl)
+    let new : MonitorState = first_monitor a head.procs head.limit in
+    no_world t (new_refusal a head.procs head.limit) (run_text style head new lines) new lines e some

@@ -90,14 +90,17 @@ rows_stop p n k mid now whole m e count so_far refused same =
 
 -- ---- lines
 
+next_line : (k : ℕ) (m left : MonitorState) (line : Line) (ls lines : List Line) → ls ≡ line ∷ lines → left ≡ (line_on m line).left → (line_on m line).refused ≡ None
+    → run_on k m ls ≡ preceded (line_on m line).told (run_on (k + 1) left lines)
+next_line k m left line ls lines is stands accepted = rw stands (rw is (rw accepted refl))
+
 -- the run goes on after a line that is not refused
 pub run_more : (k : ℕ) (before mid now : List Told) (m left : MonitorState) (whole : Run (ℕ × RunRefusal)) (line : Line) (ls lines : List Line) → ls ≡ line ∷ lines → Continues (ℕ × RunRefusal) before mid whole (run_on k m ls)
     → IsRun (line_on m line) mid now left → (line_on m line).refused ≡ None → Continues (ℕ × RunRefusal) before now whole (run_on (k + 1) left lines)
 run_more k before mid now m left whole line ls lines is so_far part accepted =
-    let rest : Run (ℕ × RunRefusal) = run_on (k + 1) left lines in
-    let next : run_on k m ls ≡ preceded (line_on m line).told rest = rw part.1 (rw is (rw accepted refl)) in
+    let next : run_on k m ls ≡ preceded (line_on m line).told (run_on (k + 1) left lines) = next_line k m left line ls lines is part.1 accepted in
     record {
-      told = ap (λ (ts : List Told). ts ++ rest.told) part.0 ∙ append_assoc mid (line_on m line).told rest.told ∙ ap (λ (r : Run (ℕ × RunRefusal)). mid ++ r.told) (sym next) ∙ so_far.told;
+      told = ap (λ (ts : List Told). ts ++ (run_on (k + 1) left lines).told) part.0 ∙ append_assoc mid (line_on m line).told (run_on (k + 1) left lines).told ∙ ap (λ (r : Run (ℕ × RunRefusal)). mid ++ r.told) (sym next) ∙ so_far.told;
       left = ap (λ (r : Run (ℕ × RunRefusal)). r.left) (sym next) ∙ so_far.left;
       refused = ap (λ (r : Run (ℕ × RunRefusal)). r.refused) (sym next) ∙ so_far.refused;
     }

@@ -1,5 +1,5 @@
 -- Schedules that become shorter, one after another.
-use Rattle.std.proofs.Common.{◌≡◌, ◌≤◌, Result, Ok, Err, IfOk, refl, sym, ap, ◌∙◌, subst, arith}
+use Rattle.std.proofs.Common.{◌≡◌, Result, Ok, Err, IfOk, refl, sym, ap, ◌∙◌, subst, arith}
 use Rattle.schedule.specs.declared.texts.head.Head.{Head}
 use Rattle.schedule.specs.Schedules.{Scheduled}
 use Rattle.crashlab.specs.Least.{IsLess, IsLike, IsNoLonger, IsShrunk}

@@ -1,4 +1,4 @@
-use Rattle.std.proofs.Common.{◌≡◌, ◌-◌, ◌+◌, [], ◌∷◌, ◌++◌, take, sym, ap, ◌∙◌, subst, arith}
+use Rattle.std.proofs.Common.{◌≡◌, ◌+◌, [], ◌∷◌, ◌++◌, take, sym, ap, ◌∙◌, subst, arith}
 use Rattle.crashlab.specs.MadeOf.{IsSubsequence, moves_by, moves_of}
 use Rattle.std.proofs.lemmas.List.{append-nil, take_all, take_more}
 use Rattle.crashlab.proofs.MadeOf.{taken_line}

@@ -1,4 +1,4 @@
-use Rattle.std.proofs.Common.{◌-◌, ◌+◌, List, ◌++◌, take}
+use Rattle.std.proofs.Common.{List, ◌++◌, take}
 use Rattle.schedule.specs.declared.lines.line.Line.{Line}
 use Rattle.crashlab.specs.MadeOf.{IsSubsequence, moves_left, moves_of}
 use Rattle.crashlab.proofs.shrinking.made_of.are_moves_of.Given as goal

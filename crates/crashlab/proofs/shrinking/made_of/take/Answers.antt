@@ -1,4 +1,4 @@
-use Rattle.std.proofs.Common.{◌-◌, ◌+◌, ◌++◌}
+use Rattle.std.proofs.Common.{◌++◌}
 use Rattle.crashlab.specs.MadeOf.{steps_by, moves_by, moves_of}
 use Rattle.crashlab.proofs.MadeOf.{sub_skip}
 use Rattle.crashlab.proofs.shrinking.made_of.take.Goals as goal

@@ -1,4 +1,4 @@
-use Rattle.std.proofs.Common.{◌≡◌, ◌-◌, ◌+◌, ◌∷◌, ◌++◌, sym, subst, rules}
+use Rattle.std.proofs.Common.{◌≡◌, ◌∷◌, ◌++◌, sym, subst}
 use Rattle.schedule.specs.declared.lines.line.Line.{Line}
 use Rattle.crashlab.specs.MadeOf.{IsSubsequence, moves_by, moves_of}
 use Rattle.crashlab.proofs.MadeOf.{sub_front, sub_skip}

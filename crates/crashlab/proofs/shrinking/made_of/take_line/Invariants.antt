@@ -1,4 +1,4 @@
-use Rattle.std.proofs.Common.{◌-◌, List, length}
+use Rattle.std.proofs.Common.{List, length}
 use Rattle.schedule.specs.declared.lines.line.Line.{Line}
 use Rattle.crashlab.specs.MadeOf.{IsSubsequence, moves_of}
 use Rattle.crashlab.proofs.shrinking.made_of.take_line.Given as goal

@@ -1,4 +1,4 @@
-use Rattle.std.proofs.Common.{◌≡◌, ◌-◌, ◌+◌, ◌∷◌, ◌++◌, sym, subst, arith}
+use Rattle.std.proofs.Common.{◌≡◌, ◌∷◌, ◌++◌, sym, subst, arith}
 use Rattle.crashlab.specs.MadeOf.{IsSubsequence, steps_by, moves_left}
 use Rattle.crashlab.proofs.MadeOf.{taken_all, taken_some}
 use Rattle.crashlab.proofs.shrinking.made_of.take_steps.Goals as goal

@@ -1,4 +1,4 @@
-use Rattle.std.proofs.Common.{◌-◌, ◌+◌, List, ◌++◌, length, take}
+use Rattle.std.proofs.Common.{List, ◌++◌, length}
 use Rattle.schedule.specs.declared.lines.line.Line.{Line}
 use Rattle.crashlab.specs.MadeOf.{IsSubsequence, steps_by, moves_left}
 use Rattle.crashlab.proofs.shrinking.made_of.take_steps.Given as goal

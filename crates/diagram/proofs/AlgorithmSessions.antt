@@ -1,5 +1,5 @@
 -- The steps of an algorithm that a session writes.
-use Rattle.std.proofs.Common.{◌≡◌, ℕ, zero, suc, ◌+◌, true, false, is_some, List, [], ◌∷◌, ◌++◌, map, length, Option, Some, None, Result, Ok, Err, refl, sym, ap, ◌∙◌, append_assoc}
+use Rattle.std.proofs.Common.{◌≡◌, ℕ, zero, suc, ◌+◌, true, false, List, [], ◌∷◌, ◌++◌, Option, Some, None, Result, Ok, Err, OnOk, IfErr, refl, sym, ap, ◌∙◌, append_assoc}
 use Rattle.diagram.proofs.Common.{append-nil, flat_map-cons, flat_map-append, Line}
 use Rattle.rmecore.specs.declared.phase.Phase.{Phase}
 use Rattle.algorithms.specs.Worlds.{WorldState}
@@ -7,9 +7,11 @@ use Rattle.algorithms.specs.declared.access.Advanced.{Advanced}
 use Rattle.algorithms.specs.declared.algorithm.Algorithm.{Algorithm}
 use Rattle.algorithms.specs.declared.process.Process.{Process}
 use Rattle.algorithm_lab.proofs.Restarts.{LeavesPart, crash_leaves, line_leaves, run_leaves, step_leaves}
-use Rattle.algorithm_lab.specs.Monitors.{IsPart, MonitorState, Part, advanced_on, crash_on, first_monitor, has_ended, phase_of, restarted, step_on}
+use Rattle.algorithm_lab.specs.Monitors.{IsPart, IsRefusal, MonitorState, Part, advanced_on, crash_on, first_monitor, has_ended, phase_of, restarted, step_on}
+use Rattle.algorithm_lab.specs.Refusals.{number_of}
 use Rattle.algorithm_lab.specs.Runs.{Run, after_step, crashed, followed, line_on, run_on, steps}
 use Rattle.algorithm_lab.specs.declared.run_refusal.RunRefusal.{RunRefusal}
+use Rattle.algorithm_lab.specs.declared.run_refusal.RunRefusal.TheVariants.{OutOfMemory}
 use Rattle.algorithm_lab.specs.declared.told.Told.{Told}
 use Rattle.schedule.specs.Schedules.{Scheduled}
 use Rattle.schedule.specs.declared.texts.head.Head.{Head}
@@ -175,6 +177,20 @@ crash_taken m left p is = crash_run m left (crash_on m p) is
 
 pub crash_halts : (m left : MonitorState) (p : ℕ) (e : RunRefusal) → crash_on m p ≡ Err e → left ≡ m → ((crashed m (crash_on m p)).refused ≡ Some e) × (left ≡ (crashed m (crash_on m p)).left)
 crash_halts m left p e is same = rw is (refl, same)
+
+pub on_ok : {A E : Type 0} (r : Result A E) (P Q : Type 0) → (P → Q) → OnOk r P → OnOk r Q
+on_ok (Ok x) P Q f h = f h
+on_ok (Err e) P Q f h = tt
+
+pub on_refusal : {A : Type 0} (r : Result A RunRefusal) (P Q R : RunRefusal → Type 0) → ((e : RunRefusal) → P e → Q e → R e) → IfErr r (λ e. IsRefusal e → P e) → IfErr r (λ e. IsRefusal e → Q e)
+    → IfErr r (λ e. IsRefusal e → R e)
+on_refusal (Ok x) P Q R f h q = tt
+on_refusal (Err e) P Q R f h q = λ refusal. f e (h refusal) (q refusal)
+
+-- a refusal with a number is no want of memory
+pub has_number : (refusal : RunRefusal) (number : ℕ) → number_of refusal ≡ Some number → IsRefusal refusal
+has_number OutOfMemory number is = cc
+has_number _ number is = tt
 
 -- ---- until a call is answered
 

@@ -11,7 +11,7 @@ use Rattle.diagram.proofs.Common.{Line, Step}
 use Rattle.diagram.specs.declared.session.request.Request.{Request}
 use Rattle.diagram.specs.declared.session.request.Request.TheVariants as requests
 use Rattle.diagram.specs.Semantics.{Semantics, lines_on}
-use Rattle.diagram.specs.Sessions.{IsOfSchedule, SessionState, after_redo, after_request, after_undo, answered_by, at_schedule, last_line, played, played_by, redone_by, refusal_in, request_in, session_after, shortened, state_of, taken, undone_by, way_of, without_last}
+use Rattle.diagram.specs.Sessions.{IsOfSchedule, SessionState, after_redo, after_request, after_undo, answered_by, at_schedule, last_line, played, played_by, redone_by, refusal_in, request_in, session_after, shortened, taken, undone_by, way_of, without_last}
 
 -- ---- lines
 

@@ -12,6 +12,7 @@ use Rattle.algorithm_lab.specs.Runs.{Run, line_on}
 use Rattle.algorithm_lab.specs.declared.run_refusal.RunRefusal.{RunRefusal}
 use Rattle.diagram.specs.declared.algorithm.row.AlgorithmAct.{AlgorithmAct}
 use Rattle.diagram.specs.declared.algorithm.row.AlgorithmAct.TheVariants.{Crashed}
+use Rattle.diagram.specs.declared.phase.LifelinePhase.{LifelinePhase}
 use Rattle.diagram.specs.AlgorithmEvents.{AlgorithmEvent, events_of}
 use Rattle.diagram.specs.AlgorithmRows.{sign_of}
 use Rattle.diagram.specs.AlgorithmStandings.{algorithm_state_text}
@@ -28,12 +29,12 @@ access_text a Crashed = []
 access_text a act = 32 ∷ sign_of a act
 
 -- the phase of a process after a step, and what it reads or writes
-unfoldable pub event_line : Algorithm → AlgorithmEvent → List ℕ
-event_line a event = around (codes "at ") event.p (codes " ") ++ class_of event.phase ++ access_text a event.act ++ 10 ∷ []
+unfoldable pub event_line : Algorithm → ℕ → AlgorithmAct → LifelinePhase → List ℕ
+event_line a p act phase = around (codes "at ") p (codes " ") ++ class_of phase ++ access_text a act ++ 10 ∷ []
 
 -- a step or a crash, and what it reports
 abbrev pub event_text : Algorithm → AlgorithmEvent → List ℕ
-event_text a event = event_line a event ++ told_text a event.told
+event_text a event = event_line a event.p event.act event.phase ++ told_text a event.told
 
 abbrev pub events_text : Algorithm → List AlgorithmEvent → List ℕ
 events_text a events = flat_map (event_text a) events

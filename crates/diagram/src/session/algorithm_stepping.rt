@@ -1,6 +1,6 @@
 //! Plays a line on a world of an algorithm, and writes each of its steps.
 
-ghost use Rattle.std.specs.Prelude.{◌≡◌, ◌≤◌, ◌++◌, [], None, Some, IfErr, IfOk, IfSome, OnOk};
+ghost use Rattle.std.specs.Prelude.{◌≡◌, ◌≤◌, ◌++◌, None, Some, IfErr, IfOk, IfSome, OnOk};
 ghost use Rattle.algorithm_lab.specs.Monitors.{IsPart, IsRefusal, crash_on, has_ended, restarted, step_on};
 ghost use Rattle.algorithm_lab.specs.Runs.{line_on, steps};
 ghost use Rattle.diagram.specs.AlgorithmEvents.{crash_by, events_of, step_event, steps_of};
@@ -38,8 +38,7 @@ fn put_place(
     act: AlgorithmAct,
     phase: LifelinePhase,
 ) -> Result<(), AllocError>
-    ensures { OnOk result (out.new.items
-        ≡ out.old.items ++ event_line algorithm.now (record { p = p; act = act; phase = phase; told = [] })) }
+    ensures { OnOk result (out.new.items ≡ out.old.items ++ event_line algorithm.now p act phase) }
 {
     put_around(out, b"at ", p, b" ")?;
     put_text(out, class_of(phase))?;
@@ -160,11 +159,15 @@ pub fn put_line(
 }
 
 /// The number of a refusal. Out of memory has none.
+#[tactic(auto, using(crate::proofs::AlgorithmSessions::has_number))]
 pub fn refused(refusal: RunRefusal) -> Result<u64, AllocError>
     ensures number { IfOk result (λ number. number_by (Some refusal) ≡ Some number) }
     ensures numbered { OnOk result (IsRefusal refusal) }
 {
-    refusal.number().ok_or(AllocError)
+    match refusal.number() {
+        Some(number) => Ok(number),
+        None => Err(AllocError),
+    }
 }
 
 /// The number of steps of p, at most n, the last of which is refused or ends its call.
@@ -182,8 +185,11 @@ pub fn count_steps(
     for k in 0..n {
         told.clear();
         match monitor.step(p, &mut told) {
-            Ok(false) => {}
-            Ok(true) => return Ok(Some(k + 1)),
+            Ok(ended) => {
+                if ended {
+                    return Ok(Some(k + 1));
+                }
+            }
             Err(refusal) => {
                 refused(refusal)?;
                 return Ok(Some(k + 1));

@@ -40,6 +40,7 @@ _rmelab() {
         draw:--image) mapfile -t COMPREPLY < <(compgen -f -- "$word") && return ;;
         shrink:--variant) mapfile -t COMPREPLY < <(compgen -W "right no-look no-ties renumber exit-on-crash count-up last-skipped" -- "$word") && return ;;
         shrink:--algorithm) mapfile -t COMPREPLY < <(compgen -f -- "$word") && return ;;
+        step:--algorithm) mapfile -t COMPREPLY < <(compgen -f -- "$word") && return ;;
     esac
     case ${COMP_WORDS[1]} in
         replay) mapfile -t COMPREPLY < <(compgen -W "--json --each --variant --algorithm --image --save -h --help" -- "$word"; compgen -f -- "$word") ;;
@@ -49,7 +50,7 @@ _rmelab() {
         judge) mapfile -t COMPREPLY < <(compgen -W "--json -h --help" -- "$word"; compgen -f -- "$word") ;;
         draw) mapfile -t COMPREPLY < <(compgen -W "--variant --algorithm --image --svg --html -h --help" -- "$word"; compgen -f -- "$word") ;;
         shrink) mapfile -t COMPREPLY < <(compgen -W "--variant --algorithm -h --help" -- "$word"; compgen -f -- "$word") ;;
-        step) mapfile -t COMPREPLY < <(compgen -W "-h --help" -- "$word"; compgen -f -- "$word") ;;
+        step) mapfile -t COMPREPLY < <(compgen -W "--algorithm -h --help" -- "$word"; compgen -f -- "$word") ;;
         explain)
             names=$("${COMP_WORDS[0]}" explain 2>/dev/null)
             names=$(awk -v at=$((COMP_CWORD - 1)) -v given="${COMP_WORDS[*]:2:COMP_CWORD-2}" \

@@ -64,6 +64,7 @@ complete -c rmelab -n '__fish_seen_subcommand_from shrink' -l variant -x -a 'rig
 complete -c rmelab -n '__fish_seen_subcommand_from shrink' -l algorithm -r -F -d 'Run this algorithm, a text, in place of a variant'
 complete -c rmelab -n '__fish_seen_subcommand_from shrink' -s h -l help -d 'Print help'
 complete -c rmelab -n '__fish_seen_subcommand_from shrink' -F
+complete -c rmelab -n '__fish_seen_subcommand_from step' -l algorithm -r -F -d 'Run this algorithm, a text, in place of a variant'
 complete -c rmelab -n '__fish_seen_subcommand_from step' -s h -l help -d 'Print help'
 complete -c rmelab -n '__fish_seen_subcommand_from step' -F
 complete -c rmelab -n '__fish_seen_subcommand_from explain' -s h -l help -d 'Print help'

@@ -12,7 +12,7 @@ use Rattle.cli.specs.declared.arguments.args.HuntArgs.{HuntArgs}
 use Rattle.cli.specs.declared.arguments.args.AlgorithmHuntArgs.{AlgorithmHuntArgs}
 use Rattle.cli.specs.declared.arguments.args.ExploreArgs.{ExploreArgs}
 use Rattle.cli.specs.declared.arguments.args.AlgorithmExploreArgs.{AlgorithmExploreArgs}
-use Rattle.cli.specs.declared.arguments.args.Command.TheVariants.{Replay, ReplayAlgorithm, Run, Hunt, HuntAlgorithm, Explore, ExploreAlgorithm, Judge, Draw, DrawAlgorithm, Shrink, ShrinkAlgorithm, Step, Explain}
+use Rattle.cli.specs.declared.arguments.args.Command.TheVariants.{Replay, ReplayAlgorithm, Run, Hunt, HuntAlgorithm, Explore, ExploreAlgorithm, Judge, Draw, DrawAlgorithm, Shrink, ShrinkAlgorithm, Step, StepAlgorithm, Explain}
 use Rattle.cli.specs.declared.arguments.words.WordsFault.{WordsFault}
 use Rattle.cli.specs.declared.arguments.words.WordsFault.TheVariants.{Help, Refused, BadVariant, BadSize, Unreadable, OutOfMemory}
 use Rattle.cli.specs.CommandLine.{rmelab}
@@ -105,6 +105,7 @@ good_variant name given (ShrinkAlgorithm args) h (inr bad) = no_both (first_of (
 good_variant name given (Run args) h bad = neither (codes "run") name given h.0 refl refl refl refl refl bad
 good_variant name given (Judge file) h bad = neither (codes "judge") name given h.0 refl refl refl refl refl bad
 good_variant name given (Step file) h bad = neither (codes "step") name given h.0 refl refl refl refl refl bad
+good_variant name given (StepAlgorithm algorithm) h bad = neither (codes "step") name given h.0 refl refl refl refl refl bad
 good_variant name given (Explain entry) h bad = neither (codes "explain") name given h.0 refl refl refl refl refl bad
 
 sizeless : (a name : Text) (given : Given) → name ≡ a → bytes_eq a (codes "run") ≡ false → bytes_eq a (codes "hunt") ≡ false → bytes_eq a (codes "explore") ≡ false
@@ -157,6 +158,7 @@ good_size name given (DrawAlgorithm args) sized h bad = sizeless (codes "draw") 
 good_size name given (Shrink args) sized h bad = sizeless (codes "shrink") name given h.0 refl refl refl bad
 good_size name given (ShrinkAlgorithm args) sized h bad = sizeless (codes "shrink") name given h.0 refl refl refl bad
 good_size name given (Step file) sized h bad = sizeless (codes "step") name given h.0 refl refl refl bad
+good_size name given (StepAlgorithm algorithm) sized h bad = sizeless (codes "step") name given h.0 refl refl refl bad
 good_size name given (Explain entry) sized h bad = sizeless (codes "explain") name given h.0 refl refl refl bad
 
 -- ---- the words
@@ -172,8 +174,9 @@ worded name given (inr (inl steps)) (inl bad) = alone_goes given steps.2 bad.1
 worded name given (inr (inl steps)) (inr bad) = needs_none (codes "replay") name steps.0 refl refl refl bad.0
 worded name given (inr (inr (inl page))) (inl bad) = alone_goes given page.2 bad.1
 worded name given (inr (inr (inl page))) (inr bad) = needs_none (codes "draw") name page.0 refl refl refl bad.0
-worded name given (inr (inr (inr lock))) (inl bad) = not_drawn name given lock bad.0
-worded name given (inr (inr (inr lock))) (inr bad) = no_both (first_of (codes "variant") given) lock.0 bad.1.0
+worded name given (inr (inr (inr (inl begin)))) bad = neither (codes "step") name given begin.0 refl refl refl refl refl bad
+worded name given (inr (inr (inr (inr lock)))) (inl bad) = not_drawn name given lock bad.0
+worded name given (inr (inr (inr (inr lock)))) (inr bad) = no_both (first_of (codes "variant") given) lock.0 bad.1.0
 
 without_range : (name : Text) (given : Given) → HasNoLock name given → IsOutOfRange name given → ⊥
 without_range name given (none, inl (is, lacks)) (inl bad) = other_name (codes "explore") (codes "run") name is refl bad.0
@@ -190,7 +193,8 @@ ranged : (name : Text) (given : Given) → HasBadWords name given → IsOutOfRan
 ranged name given (inl entry) bad = sizeless (codes "explain") name given entry.0 refl refl refl bad
 ranged name given (inr (inl steps)) bad = sizeless (codes "replay") name given steps.0 refl refl refl bad
 ranged name given (inr (inr (inl page))) bad = sizeless (codes "draw") name given page.0 refl refl refl bad
-ranged name given (inr (inr (inr lock))) bad = without_range name given lock bad
+ranged name given (inr (inr (inr (inl begin)))) bad = sizeless (codes "step") name given begin.0 refl refl refl bad
+ranged name given (inr (inr (inr (inr lock)))) bad = without_range name given lock bad
 
 both_of : (words : List Text) (P Q : Text → Given → Type 0) → Takes words P → Takes words Q → (name : Text) × (given : Given) × P name given × Q name given
 both_of words P Q p q = go (subcommand_of rmelab words) p.1 q.1

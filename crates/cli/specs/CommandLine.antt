@@ -86,7 +86,7 @@ abbrev pub shrink : Shape
 shrink = part (codes "shrink") (variant ∷ algorithm ∷ word (codes "FILE") ∷ [])
 
 abbrev pub step : Shape
-step = part (codes "step") (word (codes "FILE") ∷ [])
+step = part (codes "step") (algorithm ∷ word (codes "FILE") ∷ [])
 
 abbrev pub explain : Shape
 explain = part (codes "explain") (words (codes "WORDS") ∷ [])

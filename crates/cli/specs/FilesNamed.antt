@@ -2,7 +2,7 @@
 use Rattle.std.specs.Prelude.{String, Option, Some, None}
 use Rattle.std.specs.declared.alloc.Global.{Global}
 use Rattle.cli.specs.declared.arguments.args.Command.{Command}
-use Rattle.cli.specs.declared.arguments.args.Command.TheVariants.{Replay, ReplayAlgorithm, HuntAlgorithm, ExploreAlgorithm, Judge, Draw, DrawAlgorithm, Shrink, ShrinkAlgorithm, Step}
+use Rattle.cli.specs.declared.arguments.args.Command.TheVariants.{Replay, ReplayAlgorithm, HuntAlgorithm, ExploreAlgorithm, Judge, Draw, DrawAlgorithm, Shrink, ShrinkAlgorithm, Step, StepAlgorithm}
 
 -- the file that is read first: the image that a world starts from, the algorithm that is run, hunted or searched, or the
 -- schedule that a session starts from
@@ -15,6 +15,7 @@ image_of (Draw args) = args.image
 image_of (DrawAlgorithm args) = Some args.algorithm
 image_of (ShrinkAlgorithm args) = Some args.algorithm
 image_of (Step file) = file
+image_of (StepAlgorithm algorithm) = Some algorithm
 image_of command = None
 
 -- the text that is read; without a file, standard input

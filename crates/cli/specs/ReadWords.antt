@@ -10,7 +10,7 @@ use Rattle.clap.specs.declared.error.kind.ErrorKind.TheVariants as kinds
 use Rattle.crashlab.specs.declared.variant.Variant.{Variant}
 use Rattle.crashlab.specs.declared.variant.Variant.TheVariants.{Right}
 use Rattle.cli.specs.declared.arguments.args.Command.{Command}
-use Rattle.cli.specs.declared.arguments.args.Command.TheVariants.{Replay, ReplayAlgorithm, Run, Hunt, HuntAlgorithm, Explore, ExploreAlgorithm, Judge, Draw, DrawAlgorithm, Shrink, ShrinkAlgorithm, Step, Explain}
+use Rattle.cli.specs.declared.arguments.args.Command.TheVariants.{Replay, ReplayAlgorithm, Run, Hunt, HuntAlgorithm, Explore, ExploreAlgorithm, Judge, Draw, DrawAlgorithm, Shrink, ShrinkAlgorithm, Step, StepAlgorithm, Explain}
 use Rattle.cli.specs.declared.arguments.args.ReplayArgs.{ReplayArgs}
 use Rattle.cli.specs.declared.arguments.args.AlgorithmReplayArgs.{AlgorithmReplayArgs}
 use Rattle.cli.specs.declared.arguments.args.RunArgs.{RunArgs}
@@ -183,7 +183,10 @@ IsCommand name given (HuntAlgorithm args) = (name ≡ codes "hunt") × IsAlgorit
 IsCommand name given (Explore args) = (name ≡ codes "explore") × IsExplore given args
 IsCommand name given (ExploreAlgorithm args) = (name ≡ codes "explore") × IsAlgorithmExplore given args
 IsCommand name given (Judge args) = (name ≡ codes "judge") × IsJudge given args
-IsCommand name given (Step file) = (name ≡ codes "step") × (option_map string_bytes file ≡ first_of (codes "FILE") given)
+IsCommand name given (Step file) =
+    (name ≡ codes "step") × (option_map string_bytes file ≡ first_of (codes "FILE") given) × IsNone (first_of (codes "algorithm") given)
+IsCommand name given (StepAlgorithm algorithm) =
+    (name ≡ codes "step") × (Some (string_bytes algorithm) ≡ first_of (codes "algorithm") given) × IsNone (first_of (codes "FILE") given)
 IsCommand name given (Draw args) = (name ≡ codes "draw") × IsDraw given args
 IsCommand name given (DrawAlgorithm args) = (name ≡ codes "draw") × IsAlgorithmDraw given args
 IsCommand name given (Shrink args) = (name ≡ codes "shrink") × IsShrink given args
@@ -266,6 +269,10 @@ HasNoSteps name given = (name ≡ codes "replay") × IsSome (first_of (codes "al
 abbrev pub HasNoPage : Text → Given → Type 0
 HasNoPage name given = (name ≡ codes "draw") × IsSome (first_of (codes "algorithm") given) × IsAlone given × (is_set (codes "html") given ≡ true)
 
+-- a session on an algorithm is given a schedule to begin with
+abbrev pub HasNoBeginning : Text → Given → Type 0
+HasNoBeginning name given = (name ≡ codes "step") × IsSome (first_of (codes "algorithm") given) × IsSome (first_of (codes "FILE") given)
+
 -- there is neither a variant nor an algorithm, or an algorithm is given an option that the command does not have for one
 abbrev pub HasNoLock : Text → Given → Type 0
 HasNoLock name given = IsNone (first_of (codes "variant") given)
@@ -275,7 +282,8 @@ HasNoLock name given = IsNone (first_of (codes "variant") given)
 
 -- words that `clap` takes are refused as it refuses words
 abbrev pub HasBadWords : Text → Given → Type 0
-HasBadWords name given = HasNoEntry name given ⊎ (HasNoSteps name given ⊎ (HasNoPage name given ⊎ HasNoLock name given))
+HasBadWords name given =
+    HasNoEntry name given ⊎ (HasNoSteps name given ⊎ (HasNoPage name given ⊎ (HasNoBeginning name given ⊎ HasNoLock name given)))
 
 -- out of memory comes at any time
 abbrev pub IsFault : Text → Given → WordsFault → Type 0

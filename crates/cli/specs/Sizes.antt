@@ -1,7 +1,7 @@
 -- The ranges of the program's numbers (the specification's "Limits").
 use Rattle.std.specs.Prelude.{◌≤◌, ℕ}
 use Rattle.cli.specs.declared.arguments.args.Command.{Command}
-use Rattle.cli.specs.declared.arguments.args.Command.TheVariants.{Replay, ReplayAlgorithm, Run, Hunt, HuntAlgorithm, Explore, ExploreAlgorithm, Judge, Draw, DrawAlgorithm, Shrink, ShrinkAlgorithm, Step, Explain}
+use Rattle.cli.specs.declared.arguments.args.Command.TheVariants.{Replay, ReplayAlgorithm, Run, Hunt, HuntAlgorithm, Explore, ExploreAlgorithm, Judge, Draw, DrawAlgorithm, Shrink, ShrinkAlgorithm, Step, StepAlgorithm, Explain}
 use Rattle.cli.specs.declared.arguments.args.HuntArgs.{HuntArgs}
 use Rattle.cli.specs.declared.arguments.args.RunArgs.{RunArgs}
 
@@ -28,6 +28,7 @@ IsSized (Explore args) = Unit {0}
 IsSized (ExploreAlgorithm args) = Unit {0}
 IsSized (Judge file) = Unit {0}
 IsSized (Step file) = Unit {0}
+IsSized (StepAlgorithm algorithm) = Unit {0}
 IsSized (Draw args) = Unit {0}
 IsSized (DrawAlgorithm args) = Unit {0}
 IsSized (Shrink args) = Unit {0}

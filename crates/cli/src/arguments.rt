@@ -8,4 +8,5 @@ mod hunt_words;
 mod parser;
 mod replay_words;
 mod shrink_words;
+mod step_words;
 pub mod words;

@@ -17,10 +17,11 @@ use Rattle.schedule.specs.Tapes.{Reading, Tape}
 use Rattle.schedule.specs.Wholes.{layout_of, world_run}
 use Rattle.cli.specs.FilesNamed.{image_of as image_of_command, input_of, save_of}
 use Rattle.cli.specs.declared.arguments.args.Command.{Command}
-use Rattle.cli.specs.declared.arguments.args.Command.TheVariants.{Step}
+use Rattle.cli.specs.declared.arguments.args.Command.TheVariants.{Step, StepAlgorithm}
 use Rattle.commands.specs.declared.schedules.fault.CommandFault.{CommandFault}
 use Rattle.commands.specs.declared.schedules.ending.Ending.{Ending}
 use Rattle.commands.specs.Conversations.{BeginsWith, CantBegin, CantPlay, IsRefusedLine, SessionEnds}
+use Rattle.commands.specs.Commands.{SessionEndsOf}
 use Rattle.commands.specs.Folders.{Used, is_session}
 use Rattle.commands.specs.Programs.{SessionEndsIn}
 use Rattle.commands.specs.Settings.{IsNoSchedule}
@@ -72,22 +73,25 @@ not_begun start old now used tape fault (inr cant) = inr (cant, record { taken =
 -- a session reads standard input
 pub session_reads : (command : Command) → is_session command ≡ true → input_of command ≡ None
 session_reads (Step file) e = refl
+session_reads (StepAlgorithm algorithm) e = refl
 session_reads _ e = cc
 
 -- it saves no image
 pub session_saves : (command : Command) → is_session command ≡ true → save_of command ≡ None
 session_saves (Step file) e = refl
+session_saves (StepAlgorithm algorithm) e = refl
 session_saves _ e = cc
 
 -- a session reads no file by name
 pub reads_no_file : (command : Command) (file : Option (String Global)) (name : String Global) (A : Type 0) → is_session command ≡ true → file ≡ input_of command → file ≡ Some name → A
 reads_no_file (Step start) file name A e is some = cc
+reads_no_file (StepAlgorithm algorithm) file name A e is some = cc
 reads_no_file _ file name A e is some = cc
 
 -- a session that begins where nothing was written
 pub in_folder : (command : Command) (image : Option (List ℕ)) (before first now : Used) (old new : Reading) (blank written : Tape) (end : Result Ending CommandFault)
     → is_some image ≡ is_some (image_of_command command) → first.saved ≡ before.saved → first.texts ≡ before.texts
-    → SessionEnds image old new first now blank written end → SessionEndsIn command before now old new blank written end
+    → SessionEndsOf command image old new first now blank written end → SessionEndsIn command before now old new blank written end
 in_folder command image before first now old new blank written end named saved texts ends =
     inr (image, named, first, record { names = saved; texts = texts }, ends)
 

@@ -1,6 +1,7 @@
 pub mod AlgorithmExplores
 pub mod AlgorithmHunts
 pub mod AlgorithmPaths
+pub mod AlgorithmSessions
 pub mod AlgorithmShrinks
 pub mod AlgorithmTexts
 pub mod Draws

@@ -19,7 +19,7 @@ use Rattle.schedule.specs.declared.replays.verdict.Verdict.{Verdict}
 use Rattle.crashlab.specs.Shrunk.{Shrinks}
 use Rattle.diagram.specs.StepLines.{verdict_object}
 use Rattle.cli.specs.declared.arguments.args.Command.{Command}
-use Rattle.cli.specs.declared.arguments.args.Command.TheVariants.{Replay, ReplayAlgorithm, Run, Hunt, HuntAlgorithm, Explore, ExploreAlgorithm, Judge, Draw, DrawAlgorithm, Shrink, ShrinkAlgorithm, Step, Explain}
+use Rattle.cli.specs.declared.arguments.args.Command.TheVariants.{Replay, ReplayAlgorithm, Run, Hunt, HuntAlgorithm, Explore, ExploreAlgorithm, Judge, Draw, DrawAlgorithm, Shrink, ShrinkAlgorithm, Step, StepAlgorithm, Explain}
 use Rattle.cli.specs.declared.arguments.args.HuntArgs.{HuntArgs}
 use Rattle.cli.specs.declared.arguments.args.RunArgs.{RunArgs}
 use Rattle.cli.specs.Sizes.{HuntFits, RunFits}
@@ -31,6 +31,7 @@ use Rattle.commands.specs.AlgorithmDraws.{AlgorithmDrawEnds}
 use Rattle.commands.specs.AlgorithmExplores.{AlgorithmExploreEnds}
 use Rattle.commands.specs.AlgorithmHunts.{AlgorithmHuntEnds}
 use Rattle.commands.specs.AlgorithmReplays.{AlgorithmReplayEnds}
+use Rattle.commands.specs.AlgorithmSessions.{AlgorithmSessionEnds}
 use Rattle.commands.specs.AlgorithmShrinks.{AlgorithmShrinkEnds}
 use Rattle.commands.specs.Draws.{DrawEnds}
 use Rattle.commands.specs.Endings.{IsBroken, TellsReads}
@@ -107,6 +108,12 @@ Explains None before now = Writes before now (list_of ENTRIES)
 abbrev pub ExplainEnds : Option DictionaryEntry → Tape → Tape → Result Ending CommandFault → Type 0
 ExplainEnds dictionary_entry before now end = (outcome end ≡ Ok 0) × Explains dictionary_entry before now ⊎ (outcome end ≡ Err Write) × (now.failures ≡ min (before.failures + 1) (2 ^ 64 - 1))
 
+-- how the session of a command ends, by the text of its image; by what was read of the input, kept and written
+abbrev pub SessionEndsOf : Command → Option (List ℕ) → Reading → Reading → Used → Used → Tape → Tape → Result Ending CommandFault → Type 0
+SessionEndsOf (Step file) image old new before now blank written end = SessionEnds image old new before now blank written end
+SessionEndsOf (StepAlgorithm algorithm) image old new before now blank written end = AlgorithmSessionEnds old new before now blank written end
+SessionEndsOf command image old new before now blank written end = ⊥
+
 -- by the command and the text of its image; by what was read of the input and written, before and after
 abbrev pub CommandEnds : Command → Option (List ℕ) → Reading → Reading → Tape → Tape → Result Ending CommandFault → Type 0
 CommandEnds (Replay args) image old new before now end = ReplayEnds args image old new before now end
@@ -122,4 +129,5 @@ CommandEnds (DrawAlgorithm args) image old new before now end = AlgorithmDrawEnd
 CommandEnds (Shrink args) image old new before now end = ShrinkEnds args old new before now end × TellsReads old new end
 CommandEnds (ShrinkAlgorithm args) image old new before now end = AlgorithmShrinkEnds old new before now end
 CommandEnds (Step file) image old new before now end = (first : Used) × (last : Used) × SessionEnds image old new first last before now end
+CommandEnds (StepAlgorithm algorithm) image old new before now end = (first : Used) × (last : Used) × AlgorithmSessionEnds old new first last before now end
 CommandEnds (Explain dictionary_entry) image old new before now end = (new ≡ old) × ExplainEnds dictionary_entry before now end

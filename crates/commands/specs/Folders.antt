@@ -1,7 +1,7 @@
 -- What a folder was asked for.
 use Rattle.std.specs.Prelude.{ℕ, Bool, true, false, List, String, Vec}
 use Rattle.cli.specs.declared.arguments.args.Command.{Command}
-use Rattle.cli.specs.declared.arguments.args.Command.TheVariants.{Step}
+use Rattle.cli.specs.declared.arguments.args.Command.TheVariants.{Step, StepAlgorithm}
 use Rattle.std.specs.declared.alloc.Global.{Global}
 
 -- the names of the files that were opened, the names of those that were written, and what was written
@@ -13,4 +13,5 @@ pub record Used : Type 0 where
 -- a session may write files under way
 abbrev pub is_session : Command → Bool
 is_session (Step file) = true
+is_session (StepAlgorithm algorithm) = true
 is_session command = false

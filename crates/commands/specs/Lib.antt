@@ -4,6 +4,7 @@ pub mod AlgorithmFaults
 pub mod AlgorithmFindings
 pub mod AlgorithmHunts
 pub mod AlgorithmReplays
+pub mod AlgorithmSessions
 pub mod AlgorithmShrinks
 pub mod AlgorithmTexts
 pub mod Shown

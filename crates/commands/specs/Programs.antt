@@ -8,8 +8,7 @@ use Rattle.schedule.specs.Tapes.{Tape, Writes, Reading}
 use Rattle.cli.specs.declared.arguments.args.Command.{Command}
 use Rattle.cli.specs.declared.arguments.words.WordsFault.{WordsFault}
 use Rattle.cli.specs.declared.arguments.words.WordsFault.TheVariants as words
-use Rattle.commands.specs.Commands.{CommandEnds}
-use Rattle.commands.specs.Conversations.{SessionEnds}
+use Rattle.commands.specs.Commands.{CommandEnds, SessionEndsOf}
 use Rattle.commands.specs.Endings.{IsBroken, IsEnded}
 pub use Rattle.commands.specs.Folders.{Used, is_session}
 use Rattle.cli.specs.FilesNamed.{image_of, input_of, save_of}
@@ -68,7 +67,7 @@ abbrev pub SessionEndsIn : Command → Used → Used → Reading → Reading →
 SessionEndsIn command before now old new blank written end =
     IsBroken end
     ⊎ ((image : Option (List ℕ)) × (is_some image ≡ is_some (image_of command)) × (first : Used) × SavesNone before first
-    × SessionEnds image old new first now blank written end)
+    × SessionEndsOf command image old new first now blank written end)
 
 -- without a fault, no write and no flush has failed
 abbrev pub IsWhole : Tape → Tape → Result Ending CommandFault → Type 0

@@ -2,8 +2,7 @@
 
 ghost use Rattle.std.specs.Prelude.{◌≡◌, IfErr, IfOk, OnOk, is_some, option_copied, true, false};
 ghost use Rattle.crashlab.specs.Hunts.{IsFound};
-ghost use Rattle.commands.specs.Commands.{CommandEnds, ExplainEnds, HuntEnds, JudgeEnds, TellsFound, verdict_told};
-ghost use Rattle.commands.specs.Conversations.{SessionEnds};
+ghost use Rattle.commands.specs.Commands.{CommandEnds, ExplainEnds, HuntEnds, JudgeEnds, SessionEndsOf, TellsFound, verdict_told};
 ghost use Rattle.commands.specs.Endings.{IsEnded};
 ghost use Rattle.cli.specs.FilesNamed.{save_of};
 ghost use Rattle.commands.specs.Programs.{CarriesOut};
@@ -28,6 +27,7 @@ use crate::schedules::fault::CommandFault;
 use crate::schedules::line::told;
 use crate::schedules::replaying::replay_command;
 use crate::schedules::shrunk::{shrink_command, write_lines};
+use crate::sessions::algorithm::algorithm_session_command;
 use crate::sessions::holding::session_command;
 use cli::arguments::args::{Command, HuntArgs};
 use cli::{DictionaryEntry, tell_all_names, tell_dictionary_entry};
@@ -186,8 +186,8 @@ pub fn ended<T: Threads + Wait + Sync, F: Folder, S: Screen, R: Source, W: Sink>
     ensures ended { IfOk result (IsEnded (is_some (save_of command.now)) (W.tape w.old).failures (W.tape w.new).failures) }
     ensures opened { (F.used folder.new).opened ≡ (F.used folder.old).opened }
     ensures kept { is_session command.now ≡ false → F.used folder.new ≡ F.used folder.old }
-    ensures session { is_session command.now ≡ true → SessionEnds (option_copied image.entry) (R.reading r.old) (R.reading r.new)
-        (F.used folder.old) (F.used folder.new) (W.tape w.old) (W.tape w.new) result }
+    ensures session { is_session command.now ≡ true → SessionEndsOf command.now (option_copied image.entry) (R.reading r.old)
+        (R.reading r.new) (F.used folder.old) (F.used folder.new) (W.tape w.old) (W.tape w.new) result }
 {
     match command {
         Command::Replay(args) => replay_command(alloc, args, image, r, w),
@@ -205,6 +205,7 @@ pub fn ended<T: Threads + Wait + Sync, F: Folder, S: Screen, R: Source, W: Sink>
         }
         Command::Run(args) => run_command(rt, alloc, args, w),
         Command::Step(_) => session_command(alloc, image, folder, r, w),
+        Command::StepAlgorithm(_) => algorithm_session_command(alloc, image, folder, r, w),
         Command::Explain(dictionary_entry) => explain_command(*dictionary_entry, w),
     }
 }

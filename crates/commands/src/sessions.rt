@@ -1,4 +1,5 @@
 //! The command `step`: a session over a schedule.
 
+pub mod algorithm;
 pub mod conversation;
 pub mod holding;

@@ -75,6 +75,7 @@ pub fn runs_threads(read: &Command) -> bool {
         | Command::Shrink(_)
         | Command::ShrinkAlgorithm(_)
         | Command::Step(_)
+        | Command::StepAlgorithm(_)
         | Command::Explain(_) => false,
     }
 }

@@ -200,6 +200,8 @@ pub enum Command {
     ShrinkAlgorithm(AlgorithmShrinkArgs),
     /// Holds a session over a schedule, which begins with the one in this file.
     Step(Option<String>),
+    /// Holds a session over a schedule on the algorithm whose text is in this file.
+    StepAlgorithm(String),
     /// Prints what this entry means; without one, the names of all entries.
     Explain(Option<DictionaryEntry>),
 }
@@ -236,6 +238,7 @@ impl Command {
             Command::DrawAlgorithm(args) => Some(&args.algorithm),
             Command::ShrinkAlgorithm(args) => Some(&args.algorithm),
             Command::Step(file) => file.as_ref(),
+            Command::StepAlgorithm(algorithm) => Some(algorithm),
             _ => None,
         }
     }

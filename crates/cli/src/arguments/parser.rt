@@ -71,7 +71,8 @@ of memory.\n\nExample: rmelab explain fault 5";
 
 const STEP_HELP: &str =
     "In: lines of a schedule, and undo, redo, to answer P, save FILE, help and quit, each answered at once. Without FILE the first \
-line is a header.\nOut: for a line of a schedule each of its steps, as replay --each tells them; then the words of each process, \
+line is a header. With --algorithm the algorithm's text is read first, and there is no FILE: docs/use/algorithms.md.\nOut: for a \
+line of a schedule each of its steps, as replay --each tells them; then the words of each process, \
 the row of the restart table that they are, where it stands, and who is inside. A line that is refused or can't be read has its \
 fault, and changes nothing.\nExit status: 0 at the end of the session, 2 if it can't begin, 3 after a fault of a device or of \
 memory.\n\nExample: rmelab step examples/tie.rme";
@@ -253,9 +254,10 @@ fn step<'a>(alloc: Global) -> Result<Parser<'a>, AllocError>
     ensures { IfOk result (IsParser (alone step)) }
 {
     let about = "Holds a session: takes the lines of a schedule one by one, and goes back";
-    let arguments = [Argument::file(
-        "The schedule to begin with; without it, the first line is a header",
-    )];
+    let arguments = [
+        Argument::algorithm(),
+        Argument::file("The schedule to begin with; without it, the first line is a header"),
+    ];
     command(alloc, "step", about, STEP_HELP, &arguments)
 }
 

@@ -17,6 +17,7 @@ use crate::arguments::hunt_words::hunt_words;
 use crate::arguments::parser::parser;
 use crate::arguments::replay_words::replay_words;
 use crate::arguments::shrink_words::shrink_words;
+use crate::arguments::step_words::step_words;
 use crate::explain::dictionary_entry::{DictionaryEntry, dictionary_entry_named};
 use clap::error::ErrorKind;
 use clap::{ArgMatches, Error};
@@ -211,12 +212,6 @@ fn judge_words(alloc: Global, matches: &ArgMatches<'_>) -> Result<Command, Words
         json: is_set(matches, "json"),
         file: text_of(alloc, matches, "FILE")?,
     }))
-}
-
-fn step_words(alloc: Global, matches: &ArgMatches<'_>) -> Result<Command, WordsFault>
-    ensures { Reads (codes "step") (given_in matches.now) result }
-{
-    Ok(Command::Step(text_of(alloc, matches, "FILE")?))
 }
 
 /// The error text for words that name no entry.

@@ -22,7 +22,7 @@ use schedule::{Page, ReplayFault, Schedule, Sink, Source, read_schedule, replay_
 use std::alloc::Global;
 
 /// The first line of the input, with its LF; without a line all of the input. It is the text of a session's header.
-fn header_text<R: Source>(
+pub(crate) fn header_text<R: Source>(
     alloc: Global,
     r: &mut R,
     buffer: &mut Vec<u8>,
@@ -59,7 +59,7 @@ fn first_text<R: Source>(
 }
 
 /// The schedule of this text. `Text`: it is none.
-fn schedule_of(alloc: Global, text: &[u8]) -> Result<Schedule, CommandFault>
+pub(crate) fn schedule_of(alloc: Global, text: &[u8]) -> Result<Schedule, CommandFault>
     ensures read { IfOk result (λ schedule. schedule_at text.now ≡ Ok schedule) }
     ensures unread { IfErr result (λ fault. (status_of fault ≡ 3) ⊎ IsNoSchedule text.now fault) }
 {

@@ -183,15 +183,16 @@ Example: rmelab shrink --variant no-look examples/two-in-the-doorway.rme
 
 const STEP: &str = "Holds a session: takes the lines of a schedule one by one, and goes back
 
-Usage: rmelab step [FILE]
+Usage: rmelab step [OPTIONS] [FILE]
 
 Arguments:
   [FILE]  The schedule to begin with; without it, the first line is a header
 
 Options:
-  -h, --help  Print help
+      --algorithm <FILE>  Run this algorithm, a text, in place of a variant
+  -h, --help              Print help
 
-In: lines of a schedule, and undo, redo, to answer P, save FILE, help and quit, each answered at once. Without FILE the first line is a header.
+In: lines of a schedule, and undo, redo, to answer P, save FILE, help and quit, each answered at once. Without FILE the first line is a header. With --algorithm the algorithm's text is read first, and there is no FILE: docs/use/algorithms.md.
 Out: for a line of a schedule each of its steps, as replay --each tells them; then the words of each process, the row of the restart table that they are, where it stands, and who is inside. A line that is refused or can't be read has its fault, and changes nothing.
 Exit status: 0 at the end of the session, 2 if it can't begin, 3 after a fault of a device or of memory.
 

@@ -63,6 +63,28 @@ fn hunted_schedules_are_made_least(rt: HostRuntime) -> Result<(), Fail> {
     Ok(())
 }
 
+/// A session on a test that is no lock.
+pub const SESSION: &str =
+    "rme 1 procs 2 limit 4 cap 1\nlock 0\nstep 0 2\nlock 2\nundo\nquit\nundo\n";
+
+pub const HELD: &str = "process 0: outside, no call
+process 1: outside, no call
+process 0: outside, before line 8
+process 1: outside, no call
+at 0 rest r held 0
+at 0 section w held=1
+begin 0
+ready 0
+enter 0
+answer 0 done
+process 0: inside, no call
+process 1: outside, no call
+words held 1
+line 4: refused 3
+process 0: outside, before line 8
+process 1: outside, no call
+";
+
 #[test]
 fn commands_on_an_algorithm(rt: HostRuntime) -> Result<(), Fail> {
     let text = ("a.lock", str::from_utf8(others::PETERSON)?);
@@ -101,14 +123,18 @@ fn commands_on_an_algorithm(rt: HostRuntime) -> Result<(), Fail> {
     for row in rows {
         all_come_to(&rt, rt.alloc(), &[row.among(text, schedule)])?;
     }
+    let session = invoked("rmelab step --algorithm a.lock", SESSION, HELD);
+    let one_word = ("a.lock", str::from_utf8(others::ONE_WORD)?);
+    all_come_to(&rt, rt.alloc(), &[session.beside(one_word)])?;
     Ok(())
 }
 
 /// Each command, with words for which it writes something.
-const LINES: [&str; 3] = [
+const LINES: [&str; 4] = [
     "rmelab hunt --algorithm a.lock --seed 1 --rounds 1 --steps 3",
     "rmelab draw --algorithm a.lock",
     "rmelab shrink --algorithm a.lock",
+    "rmelab step --algorithm a.lock",
 ];
 
 /// A text at fault, a file that can't be read, and a device that fails.
@@ -145,6 +171,9 @@ pub const NO_SHRINK: &str =
 pub const NO_PAGE: &str =
     "error: with '--algorithm <FILE>' there is no '--html'\n\nFor more information, try '--help'.\n";
 
+const NO_BEGINNING: &str =
+    "error: with '--algorithm <FILE>' there is no '[FILE]'; the first line of the input is a header\n\nFor more information, try '--help'.\n";
+
 /// No file is opened.
 #[test]
 fn words_of_no_algorithm(rt: HostRuntime) -> Result<(), Fail> {
@@ -173,6 +202,7 @@ fn words_of_no_algorithm(rt: HostRuntime) -> Result<(), Fail> {
         ("draw --algorithm a.lock --variant right", bad_variant),
         ("draw --html --algorithm a.lock --image a.json", bad_variant),
         ("draw --html --algorithm a.lock", NO_PAGE),
+        ("step --algorithm a.lock b.rme", NO_BEGINNING),
     ] {
         let line = format!(in rt.alloc(); "rmelab {words}")?;
         let row = invoked(line.as_str(), "", "").ends(2, told);

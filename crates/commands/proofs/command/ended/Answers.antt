@@ -1,5 +1,5 @@
 use Rattle.std.proofs.Common.{subst, sym, option_copied}
-use Rattle.commands.specs.Commands.{CommandEnds}
+use Rattle.commands.specs.Commands.{CommandEnds, SessionEndsOf}
 use Rattle.commands.proofs.command.ended.Goals as goal
 
 -- a replay ends as `replay_command` says
@@ -92,3 +92,44 @@ returns-in-Step-clause-ends g c =
     c.session_command.result)
     (sym c.in-Step.is)
     (g.F.Folder.used c.args.folder.now, g.F.Folder.used c.session_command.new.folder, c.session_command.ensures.ends)
+
+pub returns-in-Step-clause-session : goal.returns-in-Step-clause-session
+returns-in-Step-clause-session g c = λ is.
+    subst
+    (λ command. SessionEndsOf command (option_copied c.args.image)
+    (g.R.Source.reading c.args.r.now)
+    (g.R.Source.reading c.session_command.new.r)
+    (g.F.Folder.used c.args.folder.now)
+    (g.F.Folder.used c.session_command.new.folder)
+    (g.W.Sink.tape c.args.w.now)
+    (g.W.Sink.tape c.session_command.new.w)
+    c.session_command.result)
+    (sym c.in-Step.is)
+    c.session_command.ensures.ends
+
+-- a session on an algorithm as `algorithm_session_command` says
+pub returns-in-StepAlgorithm-clause-ends : goal.returns-in-StepAlgorithm-clause-ends
+returns-in-StepAlgorithm-clause-ends g c =
+    subst
+    (λ command. CommandEnds command (option_copied c.args.image)
+    (g.R.Source.reading c.args.r.now)
+    (g.R.Source.reading c.algorithm_session_command.new.r)
+    (g.W.Sink.tape c.args.w.now)
+    (g.W.Sink.tape c.algorithm_session_command.new.w)
+    c.algorithm_session_command.result)
+    (sym c.in-StepAlgorithm.is)
+    (g.F.Folder.used c.args.folder.now, g.F.Folder.used c.algorithm_session_command.new.folder, c.algorithm_session_command.ensures.ends)
+
+pub returns-in-StepAlgorithm-clause-session : goal.returns-in-StepAlgorithm-clause-session
+returns-in-StepAlgorithm-clause-session g c = λ is.
+    subst
+    (λ command. SessionEndsOf command (option_copied c.args.image)
+    (g.R.Source.reading c.args.r.now)
+    (g.R.Source.reading c.algorithm_session_command.new.r)
+    (g.F.Folder.used c.args.folder.now)
+    (g.F.Folder.used c.algorithm_session_command.new.folder)
+    (g.W.Sink.tape c.args.w.now)
+    (g.W.Sink.tape c.algorithm_session_command.new.w)
+    c.algorithm_session_command.result)
+    (sym c.in-StepAlgorithm.is)
+    c.algorithm_session_command.ensures.ends

@@ -1,0 +1,46 @@
+//! Reads the words of `step`.
+
+ghost use Rattle.std.specs.Prelude.{◌≡◌, Some, string_bytes, codes};
+ghost use Rattle.clap.specs.Words.{first_of};
+ghost use Rattle.cli.specs.Given.{given_in};
+ghost use Rattle.cli.specs.ReadWords.{Reads};
+
+use crate::arguments::args::Command;
+use crate::arguments::words::{WordsFault, is_given, text_of};
+use clap::ArgMatches;
+use std::alloc::{AllocError, Global};
+
+/// The error text for a schedule that a session on an algorithm is to begin with.
+fn without_beginning(alloc: Global) -> Result<String, AllocError> {
+    String::from_str(
+        alloc,
+        "error: with '--algorithm <FILE>' there is no '[FILE]'; the first line of the input is a header\n\nFor more information, try '--help'.\n",
+    )
+}
+
+/// A session on the algorithm with this text.
+fn algorithm_words(
+    alloc: Global,
+    matches: &ArgMatches<'_>,
+    algorithm: String,
+) -> Result<Command, WordsFault>
+    requires { Some (string_bytes algorithm) ≡ first_of (codes "algorithm") (given_in matches.now) }
+    ensures { Reads (codes "step") (given_in matches.now) result }
+{
+    if is_given(matches, "FILE") {
+        return Err(WordsFault::Refused {
+            text: without_beginning(alloc)?,
+        });
+    }
+    Ok(Command::StepAlgorithm(algorithm))
+}
+
+/// A session on the lock, or on an algorithm.
+pub(crate) fn step_words(alloc: Global, matches: &ArgMatches<'_>) -> Result<Command, WordsFault>
+    ensures { Reads (codes "step") (given_in matches.now) result }
+{
+    match text_of(alloc, matches, "algorithm")? {
+        Some(algorithm) => algorithm_words(alloc, matches, algorithm),
+        None => Ok(Command::Step(text_of(alloc, matches, "FILE")?)),
+    }
+}

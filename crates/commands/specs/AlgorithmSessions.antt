@@ -1,0 +1,62 @@
+-- How a session on an algorithm ends.
+use Rattle.std.specs.Prelude.{◌≡◌, ◌⊎◌, List, ℕ, None, Result, Ok, Err}
+use Rattle.algorithms.specs.Worlds.{cause, new_refusal}
+use Rattle.algorithms.specs.declared.algorithm.Algorithm.{Algorithm}
+use Rattle.algorithms.specs.declared.refusal.AlgorithmRefusal.{AlgorithmRefusal}
+use Rattle.algorithm_lab.specs.Refusals.{number_of}
+use Rattle.algorithm_lab.specs.declared.run_refusal.RunRefusal.TheVariants.{Refused}
+use Rattle.diagram.specs.AlgorithmSimulations.{algorithm_semantics, algorithm_session}
+use Rattle.diagram.specs.Sessions.{standing_text}
+use Rattle.schedule.specs.Schedules.{Scheduled}
+use Rattle.schedule.specs.Tapes.{Reading, Tape, Writes}
+use Rattle.schedule.specs.Wholes.{Silent}
+use Rattle.commands.specs.declared.schedules.ending.Ending.{Ending}
+use Rattle.commands.specs.declared.schedules.fault.CommandFault.{CommandFault}
+use Rattle.commands.specs.AlgorithmReplays.{refused_at}
+use Rattle.commands.specs.AlgorithmTexts.{HoldsOfAlgorithm, IsAlgorithmFault}
+use Rattle.commands.specs.Conversations.{BeginsWith, HoldsSession, Opens}
+use Rattle.commands.specs.Folders.{Used}
+use Rattle.commands.specs.Settings.{IsNoSchedule}
+use Rattle.commands.specs.Statuses.{status_of}
+use Rattle.commands.specs.Tellings.{Refuses}
+
+-- the first line of the input is no header
+abbrev pub HasNoHeader : Reading → Reading → CommandFault → Type 0
+HasNoHeader old now fault = (text : List ℕ) × (buffer : List ℕ) × BeginsWith None old now buffer text × IsNoSchedule text fault
+
+-- the algorithm has no world of the header's sizes, or there is no memory
+abbrev pub HasNoWorld : Algorithm → Scheduled → CommandFault → Type 0
+HasNoWorld a schedule fault =
+    (refusal : AlgorithmRefusal) × (new_refusal a schedule.procs schedule.limit ≡ cause refusal) × (fault ≡ refused_at 1 (number_of (Refused refusal)))
+
+-- why a session on this algorithm can't begin
+abbrev pub CantBeginOn : Algorithm → Reading → Reading → CommandFault → Type 0
+CantBeginOn a old now fault =
+    HasNoHeader old now fault ⊎ ((buffer : List ℕ) × (schedule : Scheduled) × Opens None old now buffer schedule × HasNoWorld a schedule fault)
+
+-- the state at its begin was written, and then the answers
+pub record IsHeldOn (a : Algorithm) (old new : Reading) (before now : Used) (blank written : Tape) : Type 0 where
+  pub schedule : Scheduled
+  pub opened : Reading
+  pub buffer : List ℕ
+  pub opens : Opens None old opened buffer schedule
+  pub accepted : new_refusal a schedule.procs schedule.limit ≡ None
+  pub opening : Tape
+  pub first : Writes blank opening (standing_text algorithm_semantics (algorithm_session a schedule))
+  pub holds : HoldsSession algorithm_semantics (algorithm_session a schedule) buffer opened new before now opening written (Ok tt)
+
+-- how a session on this algorithm ends: at its end with status 0; or it can't begin, and nothing was written; or a device or
+-- memory has failed
+abbrev pub SessionOn : Algorithm → Reading → Reading → Used → Used → Tape → Tape → Result Ending CommandFault → Type 0
+SessionOn a old new before now blank written (Ok ending) = (ending.status ≡ 0) × IsHeldOn a old new before now blank written
+SessionOn a old new before now blank written (Err fault) =
+    (status_of fault ≡ 3) ⊎ (CantBeginOn a old new fault × Silent blank written × (now ≡ before))
+
+-- the algorithm's text is at fault: nothing was read, kept or written
+abbrev pub RefusesText : Reading → Reading → Used → Used → Tape → Tape → Result Ending CommandFault → Type 0
+RefusesText old new before now blank written end = Refuses blank written IsAlgorithmFault end × (new ≡ old) × (now ≡ before)
+
+-- how `step --algorithm` ends
+abbrev pub AlgorithmSessionEnds : Reading → Reading → Used → Used → Tape → Tape → Result Ending CommandFault → Type 0
+AlgorithmSessionEnds old new before now blank written end =
+    RefusesText old new before now blank written end ⊎ HoldsOfAlgorithm (λ a. SessionOn a old new before now blank written end)

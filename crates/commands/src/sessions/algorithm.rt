@@ -1,0 +1,99 @@
+//! Begins a session on an algorithm's text, and holds it.
+
+ghost use Rattle.std.specs.Prelude.{◌≡◌, ◌⊎◌, [], None, IfErr, IfOk, OnOk, false};
+ghost use Rattle.algorithms.specs.Worlds.{new_refusal};
+ghost use Rattle.algorithm_lab.specs.Monitors.{first_monitor};
+ghost use Rattle.commands.specs.AlgorithmSessions.{AlgorithmSessionEnds, HasNoHeader, HasNoWorld, SessionOn};
+ghost use Rattle.commands.specs.Conversations.{Opens};
+ghost use Rattle.commands.specs.Endings.{IsEnded};
+ghost use Rattle.commands.specs.Statuses.{status_of};
+
+use crate::folder::Folder;
+use crate::schedules::algorithm::{algorithm_read, unplayed};
+use crate::schedules::ending::Ending;
+use crate::schedules::fault::CommandFault;
+use crate::sessions::conversation::converse;
+use crate::sessions::holding::{header_text, schedule_of, write_state};
+use algorithm_lab::{AlgorithmReplayFault, Monitor, RunRefusal};
+use algorithms::Algorithm;
+use diagram::Session;
+use schedule::{Schedule, Sink, Source};
+use std::alloc::Global;
+
+/// The schedule without lines that a session begins with, by the header in the first line of the input.
+fn header_read<R: Source>(
+    alloc: Global,
+    r: &mut R,
+    buffer: &mut Vec<u8>,
+) -> Result<Schedule, CommandFault>
+    requires { buffer.old.items ≡ [] }
+    ensures opens { IfOk result (Opens None (R.reading r.old) (R.reading r.new) buffer.new.items) }
+    ensures unread { IfErr result (λ fault. (status_of fault ≡ 3) ⊎ HasNoHeader (R.reading r.old) (R.reading r.new) fault) }
+{
+    let text = header_text(alloc, r, buffer)?;
+    schedule_of(alloc, &text)
+}
+
+/// A new world of the algorithm, of the sizes of a header.
+fn monitor_of(
+    alloc: Global,
+    algorithm: Algorithm,
+    schedule: &Schedule,
+) -> Result<Monitor, CommandFault>
+    ensures made { IfOk result (λ m. m ≡ first_monitor algorithm schedule.now.procs schedule.now.limit) }
+    ensures accepted { OnOk result (new_refusal algorithm schedule.now.procs schedule.now.limit ≡ None) }
+    ensures unmade { IfErr result (HasNoWorld algorithm schedule.now) }
+{
+    let head = schedule.head();
+    match Monitor::new(alloc, algorithm, head.procs, head.limit) {
+        Ok(monitor) => Ok(monitor),
+        Err(refusal) => Err(unplayed(AlgorithmReplayFault::Refused {
+            line: 1,
+            refusal: RunRefusal::Refused(refusal),
+        })),
+    }
+}
+
+/// Begins a session on the algorithm, and answers each line of the input.
+fn hold_session<F: Folder, R: Source, W: Sink>(
+    alloc: Global,
+    algorithm: Algorithm,
+    folder: &mut F,
+    r: &mut R,
+    w: &mut W,
+) -> Result<Ending, CommandFault>
+    ensures ends { SessionOn algorithm (R.reading r.old) (R.reading r.new) (F.used folder.old) (F.used folder.new)
+        (W.tape w.old) (W.tape w.new) result }
+    ensures ended { IfOk result (IsEnded false (W.tape w.old).failures (W.tape w.new).failures) }
+    ensures opened { (F.used folder.new).opened ≡ (F.used folder.old).opened }
+{
+    let mut buffer = Vec::new(alloc);
+    let schedule = header_read(alloc, r, &mut buffer)?;
+    let monitor = monitor_of(alloc, algorithm, &schedule)?;
+    let mut session = Session::with_simulation(alloc, monitor, schedule)?;
+    write_state(alloc, &session, w)?;
+    converse(alloc, &mut session, folder, r, &mut buffer, w)?;
+    Ok(Ending {
+        status: 0,
+        save: None,
+    })
+}
+
+/// Runs `step --algorithm`: reads the algorithm from its text, begins with a header that is read from the input, and answers each
+/// line after it. A fault says what is wrong with the algorithm's text, why the session can't begin, or that a device or memory has
+/// failed.
+pub fn algorithm_session_command<F: Folder, R: Source, W: Sink>(
+    alloc: Global,
+    text: Option<&[u8]>,
+    folder: &mut F,
+    r: &mut R,
+    w: &mut W,
+) -> Result<Ending, CommandFault>
+    ensures ends { AlgorithmSessionEnds (R.reading r.old) (R.reading r.new) (F.used folder.old) (F.used folder.new)
+        (W.tape w.old) (W.tape w.new) result }
+    ensures ended { IfOk result (IsEnded false (W.tape w.old).failures (W.tape w.new).failures) }
+    ensures opened { (F.used folder.new).opened ≡ (F.used folder.old).opened }
+{
+    let algorithm = algorithm_read(alloc, text.unwrap_or(&[]))?;
+    hold_session(alloc, algorithm, folder, r, w)
+}

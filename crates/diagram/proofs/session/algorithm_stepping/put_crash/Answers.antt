@@ -8,5 +8,5 @@ returns-clause-left c = part_left (crash_on c.args.monitor.now c.args.p) _ _ c.c
 
 pub returns-clause-text : goal.returns-clause-text
 returns-clause-text c =
-    crash_text c.args.p c.args.monitor.now c.crash.new.self c.crash.new.told.items c.algorithm.result.now c.args.out.now.items c.put_event.new.out.items c.in_ok-crash.ensures.ok
-    (c.algorithm.ensures ∙ ap (λ w. w.algorithm) c.world.ensures) c.in_ok-put_event.ensures
+    crash_text c.args.p c.args.monitor.now c.crash.new.self c.crash.new.told.items c.algorithm-algorithm.result.now c.args.out.now.items c.put_event.new.out.items c.in_ok-crash.ensures.ok
+    (c.algorithm-algorithm.ensures ∙ ap (λ w. w.algorithm) c.world.ensures) c.in_ok-put_event.ensures

@@ -1,4 +1,4 @@
-use Rattle.std.proofs.Common.{◌≡◌, length, refl, sym, ap, ◌∙◌}
+use Rattle.std.proofs.Common.{◌≡◌, ℕ, List, length, refl, sym, ap, ◌∙◌}
 use Rattle.algorithm_lab.proofs.Restarts.{line_leaves}
 use Rattle.algorithm_lab.specs.Monitors.{restarted}
 use Rattle.diagram.proofs.AlgorithmSessions.{refused_line, same_count, went_back}
@@ -24,4 +24,4 @@ returns-in_ok-number-in-Err-clause-same c =
     let m = c.args.self.now in
     let copy = c.in_ok-checkpoint.ensures.copy in
     let begins = ap restarted (c.in-Err.ensures.stopped c.in_ok-number-in-Err.ensures.numbered) ∙ line_leaves m c.args.line.now in
-    (refl, went_back m c.put_line.new.monitor c.go_back.new.self _ _ _ c.go_back.ensures.world c.go_back.ensures.phases copy.0 copy.1 copy.2 begins)
+    (refl {A = List ℕ}, went_back m c.put_line.new.monitor c.go_back.new.self _ _ _ c.go_back.ensures.world c.go_back.ensures.phases copy.0 copy.1 copy.2 begins)

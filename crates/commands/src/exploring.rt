@@ -18,7 +18,9 @@ use crate::schedules::line::line_around;
 use crate::schedules::shrunk::write_lines;
 use crate::stuck::tell_stuck;
 use cli::arguments::args::ExploreArgs;
-use lock_explorer::{Bounds, ExploreFault, Move, SearchOutcome, shortest_schedule_in_parallel};
+use lock_explorer::{
+    Bounds, ExploreFault, Move, SearchOutcome, Variables, shortest_schedule_in_parallel,
+};
 use redomail::Layout;
 use rmecore::Body;
 use rmeworld::Call;
@@ -227,6 +229,7 @@ fn tell_shortest<T: Threads + Sync, S: Screen, W: Sink>(
         layout,
         args.limit,
         &calls,
+        Variables::All,
         &bounds,
         &mut meter,
     );

@@ -131,7 +131,7 @@ fn without_lock(alloc: Global) -> Result<String, AllocError> {
 fn without_mailbox(alloc: Global) -> Result<String, AllocError> {
     String::from_str(
         alloc,
-        "error: with '--algorithm <FILE>' there is no '--stuck', no '--cap' and no '--width'\n\nFor more information, try '--help'.\n",
+        "error: with '--algorithm <FILE>' there is no '--stuck', no '--all-variables', no '--cap' and no '--width'\n\nFor more information, try '--help'.\n",
     )
 }
 
@@ -141,6 +141,7 @@ fn is_algorithm_search(matches: &ArgMatches<'_>) -> bool
 {
     is_given(matches, "algorithm")
         && !is_set(matches, "stuck")
+        && !is_set(matches, "all-variables")
         && !is_given(matches, "cap")
         && !is_given(matches, "width")
 }
@@ -194,6 +195,7 @@ fn variant_words(alloc: Global, matches: &ArgMatches<'_>) -> Result<Command, Wor
         cap: number_or(matches, "cap", 1),
         width: number_or(matches, "width", 1),
         stuck: stuck_of(matches)?,
+        all_variables: is_set(matches, "all-variables"),
         jobs: number_of(matches, "jobs"),
     }))
 }

@@ -187,7 +187,7 @@ pub on_refusal : {A : Type 0} (r : Result A RunRefusal) (P Q R : RunRefusal → 
 on_refusal (Ok x) P Q R f h q = tt
 on_refusal (Err e) P Q R f h q = λ refusal. f e (h refusal) (q refusal)
 
--- a refusal with a number is no want of memory
+-- a refusal with a number is not out of memory
 pub has_number : (refusal : RunRefusal) (number : ℕ) → number_of refusal ≡ Some number → IsRefusal refusal
 has_number OutOfMemory number is = cc
 has_number _ number is = tt

@@ -32,55 +32,57 @@ Usage: rmelab explore --procs <N> --variant <V>
 For more information, try '--help'.
 ";
 
+/// A search, what it prints, and its exit status.
+const SEARCHES: [(&str, &str, u8); 8] = [
+    (
+        "rmelab explore --variant no-look --procs 2 --limit 1",
+        SHORTEST,
+        1,
+    ),
+    (
+        "rmelab explore --variant no-look --procs 2 --limit 1 --moves 20 --calls unlock,lock",
+        SHORTEST,
+        1,
+    ),
+    (
+        "rmelab explore --variant exit-on-crash --procs 1 --limit 1 --crashes 1",
+        GONE_OUT,
+        1,
+    ),
+    (
+        "rmelab explore --variant no-look --procs 2 --limit 1 --moves 19",
+        "nothing found within 19 moves\n",
+        0,
+    ),
+    (
+        "rmelab explore --variant no-look --procs 2 --limit 1 --all-variables",
+        SHORTEST,
+        1,
+    ),
+    (
+        "rmelab explore --variant right --procs 2",
+        "nothing found: all 925 states\n",
+        0,
+    ),
+    (
+        "rmelab explore --variant right --procs 2 --crashes 1 --limit 1 --jobs 2",
+        "nothing found: all 1541 states\n",
+        0,
+    ),
+    (
+        "rmelab explore --variant right --procs 2 --crashes 1 --limit 1 --all-variables",
+        "nothing found: all 2109 states\n",
+        0,
+    ),
+];
+
 #[test]
 fn explores(rt: HostRuntime) -> Result<(), Fail> {
-    let rows = [
-        invoked(
-            "rmelab explore --variant no-look --procs 2 --limit 1",
-            "",
-            SHORTEST,
-        )
-        .ends(1, ""),
-        invoked(
-            "rmelab explore --variant no-look --procs 2 --limit 1 --moves 20 --calls unlock,lock",
-            "",
-            SHORTEST,
-        )
-        .ends(1, ""),
-        invoked(
-            "rmelab explore --variant exit-on-crash --procs 1 --limit 1 --crashes 1",
-            "",
-            GONE_OUT,
-        )
-        .ends(1, ""),
-        invoked(
-            "rmelab explore --variant no-look --procs 2 --limit 1 --moves 19",
-            "",
-            "nothing found within 19 moves\n",
-        ),
-        invoked(
-            "rmelab explore --variant no-look --procs 2 --limit 1 --all-variables",
-            "",
-            SHORTEST,
-        )
-        .ends(1, ""),
-        invoked(
-            "rmelab explore --variant right --procs 2",
-            "",
-            "nothing found: all 925 states\n",
-        ),
-        invoked(
-            "rmelab explore --variant right --procs 2 --crashes 1 --limit 1 --jobs 2",
-            "",
-            "nothing found: all 1541 states\n",
-        ),
-        invoked(
-            "rmelab explore --variant right --procs 2 --crashes 1 --limit 1 --all-variables",
-            "",
-            "nothing found: all 2109 states\n",
-        ),
-    ];
-    all_come_to(&rt, rt.alloc(), &rows)
+    for (line, printed, status) in SEARCHES {
+        let row = invoked(line, "", printed).ends(status, "");
+        all_come_to(&rt, rt.alloc(), &[row])?;
+    }
+    Ok(())
 }
 
 /// The counts are those of the plain program, whose search back goes over lists of the states before each.
@@ -168,51 +170,68 @@ fn stuck_and_wrong_are_told_apart(rt: HostRuntime) -> Result<(), Fail> {
     all_come_to(&rt, rt.alloc(), &rows)
 }
 
+const TOO_MANY: &str = "rmelab: too many states\n";
+
+const BAD_SIZE: &str = "rmelab: bad size\n";
+
+/// A search that is refused, its exit status, and its fault.
+const REFUSED: [(&str, u8, &str); 11] = [
+    (
+        "rmelab explore --variant right --procs 2 --crashes 1 --limit 1 --states 1540",
+        3,
+        TOO_MANY,
+    ),
+    (
+        "rmelab explore --variant right --procs 2 --crashes 1 --limit 1 --states 2108 --all-variables",
+        3,
+        TOO_MANY,
+    ),
+    (
+        "rmelab explore --variant right --procs 2 --limit 1 --states 258 --stuck",
+        3,
+        TOO_MANY,
+    ),
+    (
+        "rmelab explore --variant right --procs 2 --moves 9 --stuck",
+        2,
+        BAD_SIZE,
+    ),
+    ("rmelab explore --variant right --procs 65", 2, BAD_SIZE),
+    (
+        "rmelab explore --variant right --procs 65 --stuck",
+        2,
+        BAD_SIZE,
+    ),
+    (
+        "rmelab explore --variant right --procs 1 --limit 0",
+        2,
+        BAD_SIZE,
+    ),
+    (
+        "rmelab explore --variant right --procs 1 --width 9",
+        2,
+        BAD_SIZE,
+    ),
+    (
+        "rmelab explore --variant right --procs 1 --calls lock,run",
+        2,
+        BAD_SIZE,
+    ),
+    (
+        "rmelab explore --variant wrong --procs 1",
+        2,
+        "rmelab: bad variant\n",
+    ),
+    ("rmelab explore --variant right", 2, NO_PROCS),
+];
+
 #[test]
 fn explores_refused(rt: HostRuntime) -> Result<(), Fail> {
-    let bad_size = "rmelab: bad size\n";
-    let rows = [
-        invoked(
-            "rmelab explore --variant right --procs 2 --crashes 1 --limit 1 --states 1540",
-            "",
-            "",
-        )
-        .ends(3, "rmelab: too many states\n"),
-        invoked(
-            "rmelab explore --variant right --procs 2 --crashes 1 --limit 1 --states 2108 --all-variables",
-            "",
-            "",
-        )
-        .ends(3, "rmelab: too many states\n"),
-        invoked(
-            "rmelab explore --variant right --procs 2 --limit 1 --states 258 --stuck",
-            "",
-            "",
-        )
-        .ends(3, "rmelab: too many states\n"),
-        invoked(
-            "rmelab explore --variant right --procs 2 --moves 9 --stuck",
-            "",
-            "",
-        )
-        .ends(2, bad_size),
-        invoked("rmelab explore --variant right --procs 65", "", "").ends(2, bad_size),
-        invoked("rmelab explore --variant right --procs 65 --stuck", "", "").ends(2, bad_size),
-        invoked("rmelab explore --variant right --procs 1 --limit 0", "", "").ends(2, bad_size),
-        invoked("rmelab explore --variant right --procs 1 --width 9", "", "").ends(2, bad_size),
-        invoked(
-            "rmelab explore --variant right --procs 1 --calls lock,run",
-            "",
-            "",
-        )
-        .ends(2, bad_size),
-        invoked("rmelab explore --variant wrong --procs 1", "", "").ends(
-            2,
-            "rmelab: bad variant\n",
-        ),
-        invoked("rmelab explore --variant right", "", "").ends(2, NO_PROCS),
-    ];
-    all_come_to(&rt, rt.alloc(), &rows)
+    for (line, status, fault) in REFUSED {
+        let row = invoked(line, "", "").ends(status, fault);
+        all_come_to(&rt, rt.alloc(), &[row])?;
+    }
+    Ok(())
 }
 
 #[test]

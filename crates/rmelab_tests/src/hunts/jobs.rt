@@ -117,6 +117,15 @@ const SEARCHES: [(Variant, u64, u64, u64); 6] = [
     (Variant::ExitOnCrash, 2, 1, 1),
 ];
 
+/// The layout of a mailbox with one entry of one word for each process.
+fn least_mailbox(procs: u64) -> Layout {
+    Layout {
+        procs,
+        cap: 1,
+        width: 1,
+    }
+}
+
 /// Searches by one and by several jobs, with states distinguished by these variables.
 fn searches_the_same<R: Threads + Sync + Abort>(
     rt: &R,
@@ -126,11 +135,7 @@ fn searches_the_same<R: Threads + Sync + Abort>(
     let calls = [Call::Lock, Call::Unlock];
     let calls = calls.as_slice();
     for (variant, procs, crashes, limit) in SEARCHES {
-        let layout = Layout {
-            procs,
-            cap: 1,
-            width: 1,
-        };
+        let layout = least_mailbox(procs);
         let bounds = Bounds {
             crashes,
             moves: 1_000,

@@ -46,7 +46,7 @@ _rmelab() {
         replay) mapfile -t COMPREPLY < <(compgen -W "--json --each --variant --algorithm --image --save -h --help" -- "$word"; compgen -f -- "$word") ;;
         run) mapfile -t COMPREPLY < <(compgen -W "--procs --messages --crash --seed --width -h --help" -- "$word") ;;
         hunt) mapfile -t COMPREPLY < <(compgen -W "--variant --algorithm --procs --limit --seed --rounds --steps --shrink --jobs -h --help" -- "$word") ;;
-        explore) mapfile -t COMPREPLY < <(compgen -W "--variant --algorithm --procs --calls --crashes --moves --states --limit --cap --width --stuck --jobs -h --help" -- "$word") ;;
+        explore) mapfile -t COMPREPLY < <(compgen -W "--variant --algorithm --procs --calls --crashes --moves --states --limit --cap --width --stuck --all-variables --jobs -h --help" -- "$word") ;;
         judge) mapfile -t COMPREPLY < <(compgen -W "--json -h --help" -- "$word"; compgen -f -- "$word") ;;
         draw) mapfile -t COMPREPLY < <(compgen -W "--variant --algorithm --image --svg --html -h --help" -- "$word"; compgen -f -- "$word") ;;
         shrink) mapfile -t COMPREPLY < <(compgen -W "--variant --algorithm -h --help" -- "$word"; compgen -f -- "$word") ;;

@@ -224,6 +224,15 @@ impl Process {
         *self = Process { stage: Stage::Dead, ..Process::new() };
     }
 
+    /// Gives the dead variables their first values: `barred`, which an answer alone reads, and `mended` outside, where no
+    /// errand is under way.
+    pub fn forget(&mut self) {
+        self.barred = false;
+        if self.errand == Errand::Free && self.stage != Stage::Inside {
+            self.mended = true;
+        }
+    }
+
     fn first(from: u8, p: u8, procs: u8) -> Option<u8> {
         let j = if from == p { from + 1 } else { from };
         (j < procs).then_some(j)

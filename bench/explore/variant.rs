@@ -59,6 +59,10 @@ impl VariantProcess {
         VariantProcess { process: Process::new(), detour: Detour::Straight, change: Change::Nothing }
     }
 
+    pub fn forget(&mut self) {
+        self.process.forget();
+    }
+
     pub fn is_at_rest(&self) -> bool {
         self.process.stage == Stage::Rest
     }

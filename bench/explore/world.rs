@@ -42,6 +42,10 @@ impl World {
         Deed::Outer(Outer::Crash, p)
     }
 
+    pub fn forget(&mut self) {
+        self.processes.iter_mut().for_each(VariantProcess::forget);
+    }
+
     fn word(&mut self, word: Word) -> &mut u8 {
         match word {
             Word::Choosing(p) => &mut self.choosing[p as usize],

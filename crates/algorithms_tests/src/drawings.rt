@@ -56,20 +56,20 @@ verdict fine
 . rest  : doorway  | waiting  # section  x crash
 ";
 
-const REFUSED: &str = "rme 1 procs 2 limit 1 cap 1
+const UNLOCK: &str = "rme 1 procs 2 limit 1 cap 1
 lock 0
 step 0
 unlock 1
 ";
 
-const REFUSED_DRAWN: &str = "0                         1                         |
+const UNLOCK_DRAWN: &str = "0                         1                         |
 . w flag[0]=1             .                         |
 line 4 refused 5
 . rest  : doorway  | waiting  # section  x crash
 ";
 
 /// Reads a text and a schedule, and draws its run.
-fn drawn<W: Sink>(
+fn draw_run<W: Sink>(
     alloc: Global,
     text: &[u8],
     schedule: &str,
@@ -90,7 +90,7 @@ fn compare<R: Abort>(
     drawing: &str,
 ) -> Result<Result<Verdict, AlgorithmReplayFault>, Fail> {
     let mut page = Page::new(alloc);
-    let ended = drawn(alloc, text, schedule, Style::Text, &mut page)?;
+    let ended = draw_run(alloc, text, schedule, Style::Text, &mut page)?;
     assert_eq!(rt; std::str::from_utf8(page.as_slice())?, drawing);
     Ok(ended)
 }
@@ -108,7 +108,7 @@ fn checksum(bytes: &[u8]) -> u64 {
 fn both_styles<R: Abort>(rt: &R, alloc: Global, text: &[u8], drawing: Drawn) -> Result<(), Fail> {
     let ended = compare(rt, alloc, text, SCHEDULE, drawing.text)?;
     let mut page = Page::new(alloc);
-    let again = drawn(alloc, text, SCHEDULE, Style::Svg, &mut page)?;
+    let again = draw_run(alloc, text, SCHEDULE, Style::Svg, &mut page)?;
     assert_eq!(rt; again, ended);
     assert_eq!(rt; checksum(page.as_slice()), drawing.picture);
     Ok(())
@@ -203,7 +203,7 @@ fn the_verdict_is_answered(rt: HostRuntime) -> Result<(), Fail> {
     let ended = compare(&rt, alloc, other_texts::PETERSON, ALONE, ALONE_DRAWN)?;
     assert_eq!(rt; ended, Ok(Verdict::Fine));
     let mut page = Page::new(alloc);
-    let ended = drawn(
+    let ended = draw_run(
         alloc,
         other_texts::PETERSON,
         SCHEDULE,
@@ -224,13 +224,7 @@ fn refused(ended: Result<Verdict, AlgorithmReplayFault>) -> Option<(u64, Option<
 
 #[test]
 fn a_refused_line_ends_the_drawing(rt: HostRuntime) -> Result<(), Fail> {
-    let ended = compare(
-        &rt,
-        rt.alloc(),
-        other_texts::PETERSON,
-        REFUSED,
-        REFUSED_DRAWN,
-    )?;
+    let ended = compare(&rt, rt.alloc(), other_texts::PETERSON, UNLOCK, UNLOCK_DRAWN)?;
     assert_eq!(rt; refused(ended), Some((4, Some(5))));
     let ended = compare(
         &rt,
@@ -264,13 +258,13 @@ fn a_sink_fails(rt: HostRuntime) -> Result<(), Fail> {
     for room in 0..whole.len() {
         let mut printed = vec![in alloc; 0u8; room]?;
         let mut sink = ToWriter::new(Cursor::new(printed.as_mut_slice()));
-        let ended = drawn(alloc, other_texts::PETERSON, ALONE, Style::Text, &mut sink)?;
+        let ended = draw_run(alloc, other_texts::PETERSON, ALONE, Style::Text, &mut sink)?;
         assert_eq!(rt; ended, Err(AlgorithmReplayFault::Write), "{room}");
         drop(sink);
         assert!(rt; whole.starts_with(printed.as_slice()), "{room}");
     }
     let mut sink = ToWriter::new(Unflushed);
-    let ended = drawn(alloc, other_texts::PETERSON, ALONE, Style::Text, &mut sink)?;
+    let ended = draw_run(alloc, other_texts::PETERSON, ALONE, Style::Text, &mut sink)?;
     assert_eq!(rt; ended, Err(AlgorithmReplayFault::Write));
     Ok(())
 }

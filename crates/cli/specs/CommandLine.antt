@@ -74,7 +74,7 @@ abbrev pub explore : Shape
 explore = part (codes "explore") (
     variant ∷ algorithm ∷ required (number (codes "procs")) ∷ option (codes "calls") ∷ number (codes "crashes")
     ∷ number (codes "moves") ∷ number (codes "states") ∷ number (codes "limit") ∷ number (codes "cap") ∷ number (codes "width")
-    ∷ flag (codes "stuck") ∷ number (codes "jobs") ∷ [])
+    ∷ flag (codes "stuck") ∷ flag (codes "all-variables") ∷ number (codes "jobs") ∷ [])
 
 abbrev pub judge : Shape
 judge = part (codes "judge") (flag (codes "json") ∷ word (codes "FILE") ∷ [])

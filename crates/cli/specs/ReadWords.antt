@@ -117,6 +117,7 @@ pub record IsExplore (given : Given) (args : ExploreArgs) : Type 0 where
   pub cap : args.cap ≡ number_or 1 (codes "cap") given
   pub width : args.width ≡ number_or 1 (codes "width") given
   pub stuck : args.stuck ≡ is_set (codes "stuck") given
+  pub all_variables : args.all_variables ≡ is_set (codes "all-variables") given
   pub jobs : args.jobs ≡ number_or 0 (codes "jobs") given
   -- a search for stuck states has no bound on moves
   pub unbounded : args.stuck ≡ true → IsNone (first_of (codes "moves") given)
@@ -126,6 +127,7 @@ pub record IsExplore (given : Given) (args : ExploreArgs) : Type 0 where
 pub record IsAlgorithmSearch (given : Given) : Type 0 where
   pub algorithm : IsSome (first_of (codes "algorithm") given)
   pub no_stuck : is_set (codes "stuck") given ≡ false
+  pub no_all_variables : is_set (codes "all-variables") given ≡ false
   pub no_cap : IsNone (first_of (codes "cap") given)
   pub no_width : IsNone (first_of (codes "width") given)
 

@@ -15,6 +15,9 @@ use Rattle.crashlab.specs.declared.variant.Variant.TheVariants.{Right}
 use Rattle.crashlab.specs.declared.space.moves.Move.{Move}
 use Rattle.crashlab.specs.SearchStateWords.{search_state_words}
 use Rattle.crashlab.specs.Spaces.{first_search_state, line_by, rules}
+use Rattle.lock_explorer.specs.declared.search.variables.Variables.{Variables}
+use Rattle.lock_explorer.specs.declared.search.variables.Variables.TheVariants.{All, Live}
+use Rattle.lock_explorer.specs.Keys.{key_by}
 use Rattle.lock_explorer.specs.Finding.{IsFoundIn, IsLeast, NoneOfAtMost, NoneIsFound}
 use Rattle.commands.specs.declared.schedules.ending.Ending.{Ending}
 use Rattle.commands.specs.declared.schedules.fault.CommandFault.{CommandFault}
@@ -47,6 +50,11 @@ calls_of args =
 -- the sizes of the search's worlds
 abbrev pub layout_of : ExploreArgs → Layout
 layout_of args = record { procs = args.procs; cap = args.cap; width = args.width }
+
+-- all variables distinguish the states of the search, or the live ones alone
+abbrev pub variables_by : Bool → Variables
+variables_by true = All
+variables_by false = Live
 
 -- the moves as a schedule
 abbrev pub schedule_of : ExploreArgs → List Move → Scheduled
@@ -82,7 +90,7 @@ pub record TellsNoneWithin (args : ExploreArgs) (before now : Tape) : Type 0 whe
 pub record TellsNone (args : ExploreArgs) (before now : Tape) : Type 0 where
   pub none : NoneIsFound args.variant (layout_of args) args.limit args.crashes (calls_of args)
   pub states : ℕ
-  pub number : IsNumberOfStates (rules search_state_words) (first_search_state args.variant (layout_of args) args.limit args.crashes (calls_of args)) states
+  pub number : IsNumberOfStates (rules (key_by (variables_by args.all_variables))) (first_search_state args.variant (layout_of args) args.limit args.crashes (calls_of args)) states
   pub text : Writes before now (all_line states)
 
 -- no world has these sizes, or no value has this width
@@ -91,7 +99,7 @@ IsNoSize args = (new_refusal (layout_of args) args.limit ≡ None → ⊥) ⊎ (
 
 -- within the bound of moves there are more states than may be kept, and nothing was written
 pub record HasTooMany (args : ExploreArgs) (before now : Tape) : Type 0 where
-  pub more : HasMoreStatesWithin (rules search_state_words) (first_search_state args.variant (layout_of args) args.limit args.crashes (calls_of args)) args.moves args.states
+  pub more : HasMoreStatesWithin (rules (key_by (variables_by args.all_variables))) (first_search_state args.variant (layout_of args) args.limit args.crashes (calls_of args)) args.moves args.states
   pub silent : Silent before now
 
 -- how `explore` ends without `--stuck`

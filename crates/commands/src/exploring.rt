@@ -5,7 +5,7 @@ ghost use Rattle.std.specs.Fmt.{decimal};
 ghost use Rattle.commands.specs.Endings.{FailsToWrite, IsEnded};
 ghost use Rattle.schedule.specs.Schedules.{spelling};
 ghost use Rattle.schedule.specs.Tapes.{Writes};
-ghost use Rattle.commands.specs.Explores.{appends as appends_of, asked, all_line, calls_of as calls_asked, ExploreEnds, ShortestEnds, schedule_of as schedule_by, within_line};
+ghost use Rattle.commands.specs.Explores.{appends as appends_of, asked, all_line, calls_of as calls_asked, ExploreEnds, ShortestEnds, schedule_of as schedule_by, variables_by, within_line};
 ghost use Rattle.crashlab.specs.Spaces.{line_by};
 
 use crate::jobs::jobs_of;
@@ -18,7 +18,9 @@ use crate::schedules::line::line_around;
 use crate::schedules::shrunk::write_lines;
 use crate::stuck::tell_stuck;
 use cli::arguments::args::ExploreArgs;
-use lock_explorer::{Bounds, ExploreFault, Move, SearchOutcome, shortest_schedule_in_parallel};
+use lock_explorer::{
+    Bounds, ExploreFault, Move, SearchOutcome, Variables, shortest_schedule_in_parallel,
+};
 use redomail::Layout;
 use rmecore::Body;
 use rmeworld::Call;
@@ -193,6 +195,17 @@ pub(crate) fn tell_all<W: Sink>(states: u64, w: &mut W) -> Result<Ending, Comman
     tell_none("nothing found: all ", states, " states\n", w)
 }
 
+/// The variables that distinguish the states of the search.
+fn variables_of(args: &ExploreArgs) -> Variables
+    ensures { result ≡ variables_by args.now.all_variables }
+{
+    if args.all_variables {
+        Variables::All
+    } else {
+        Variables::Live
+    }
+}
+
 /// Writes the schedule of fewest moves that was found, or that there is none.
 fn tell_shortest<T: Threads + Sync, S: Screen, W: Sink>(
     rt: &T,
@@ -227,6 +240,7 @@ fn tell_shortest<T: Threads + Sync, S: Screen, W: Sink>(
         layout,
         args.limit,
         &calls,
+        variables_of(args),
         &bounds,
         &mut meter,
     );

@@ -1,8 +1,7 @@
 -- A run of an algorithm that was played, and its drawing that was written.
-use Rattle.std.proofs.Common.{◌≡◌, ℕ, List, [], false, Option, Some, None, Result, Ok, Err, refl, sym, ap, subst, ◌∙◌}
+use Rattle.std.proofs.Common.{◌≡◌, ℕ, List, false, Option, Some, None, Result, Ok, Err, refl, sym, ap, subst, ◌∙◌}
 use Rattle.diagram.proofs.Common.{breaks_nothing, ReplayFault, Tape, Verdict, Spells, Line}
 use Rattle.diagram.proofs.NotEmpty.{drawing_some}
-use Rattle.diagram.proofs.Written.{writes_none}
 use Rattle.schedule.specs.declared.replays.replay_fault.ReplayFault.TheVariants.{Write, OutOfMemory}
 use Rattle.schedule.specs.declared.texts.head.Head.{Head}
 use Rattle.algorithms.specs.Worlds.{new_refusal}
@@ -15,7 +14,6 @@ use Rattle.algorithm_lab.specs.Runs.{Run, run_on}
 use Rattle.algorithm_lab.specs.declared.replay_fault.AlgorithmReplayFault.{AlgorithmReplayFault}
 use Rattle.algorithm_lab.specs.declared.replay_fault.AlgorithmReplayFault.TheVariants as faults
 use Rattle.algorithm_lab.specs.declared.run_refusal.RunRefusal.{RunRefusal}
-use Rattle.algorithm_lab.specs.declared.run_refusal.RunRefusal.TheVariants as refusals
 use Rattle.diagram.specs.declared.algorithm.row.AlgorithmRow.{AlgorithmRow}
 use Rattle.diagram.specs.declared.diagram_layout.Style.{Style}
 use Rattle.diagram.specs.AlgorithmDrawings.{IsDrawing, algorithm_text, answer_by, drawn_text, DrawsRun, end_by, run_text, text_unless}
@@ -44,10 +42,6 @@ on_world : (t u : Tape) (r : Option AlgorithmRefusal) (text : List ℕ) (m : Mon
     → DrawsRun t u (text_unless r text) (run_unless r m lines) answer
 on_world t u r text m lines answer none h = rw none h
 
-no_world : (t : Tape) (r : Option AlgorithmRefusal) (text : List ℕ) (m : MonitorState) (lines : List Line) (e : AlgorithmRefusal) → r ≡ Some e
-    → DrawsRun t t (text_unless r text) (run_unless r m lines) (Err (faults.Refused 1 (refusals.Refused e)))
-no_world t r text m lines e some = rw some (writes_none t [] refl, refl)
-
 -- there is one
 pub on_new : (t u : Tape) (style : Style) (shown head : Head) (a : Algorithm) (m : MonitorState) (lines : List Line) (answer : Result Verdict AlgorithmReplayFault)
     → shown ≡ head → m ≡ first_monitor a shown.procs shown.limit → new_refusal a shown.procs shown.limit ≡ None → DrawsRun t u (run_text style head m lines) (run_on 2 m lines) answer
@@ -65,11 +59,3 @@ pub new_starved : (t : Tape) (style : Style) (shown head : Head) (a : Algorithm)
 new_starved t style shown head a lines named accepted =
     let m : MonitorState = first_monitor a shown.procs shown.limit in
     on_new t t style shown head a m lines (Err faults.OutOfMemory) named refl accepted (run_starved t style head m lines (run_on 2 m lines))
-
--- there is none
-pub new_refused : (t : Tape) (style : Style) (shown head : Head) (a : Algorithm) (lines : List Line) (e : AlgorithmRefusal) → shown ≡ head → new_refusal a shown.procs shown.limit ≡ Some e
-    → DrawsRun t t (drawn_text style head a lines) (run_of a head.procs head.limit lines) (Err (faults.Refused 1 (refusals.Refused e)))
-new_refused t style shown head a lines e named refused =
-    let some : new_refusal a head.procs head.limit ≡ Some e = ap (λ (x : Head). new_refusal a x.procs x.limit) (sym named) ∙ refused in
-    let new : MonitorState = first_monitor a head.procs head.limit in
-    no_world t (new_refusal a head.procs head.limit) (run_text style head new lines) new lines e some

@@ -17,3 +17,4 @@ pub mod LinesTold
 pub mod AlgorithmSteps
 pub mod AlgorithmDrawn
 pub mod AlgorithmSessions
+pub mod AlgorithmReported

@@ -1,6 +1,7 @@
 -- The rows of a drawing of an algorithm's run, and what they show.
 use Rattle.std.specs.Prelude.{ℕ, ◌+◌, ◌-◌, ◌^◌, ◌==◌, nat_lt, ◌&&◌, Bool, List, [], ◌∷◌, ◌++◌, map, drop, length, codes, slice_get, slice_set, Option, Some, None, is_some, if◌then◌else◌, string_bytes}
 use Rattle.std.specs.Fmt.{decimal}
+use Rattle.std.specs.List.{flat_map}
 use Rattle.redomail.specs.declared.deed.Deed.{Deed}
 use Rattle.redomail.specs.declared.deed.Deed.TheVariants.{Outer}
 use Rattle.algorithms.specs.declared.access.Access.{Access}
@@ -127,3 +128,14 @@ shown_in a row =
       deed = deed_told row.told;
       answer = answer_told a row.told;
     }
+
+-- ---- what rows report
+
+-- the line that a row reports, if it reports one
+abbrev pub reported_by : Option Told → List Told
+reported_by None = []
+reported_by (Some told) = told ∷ []
+
+-- what rows report
+abbrev pub reported_in : List AlgorithmRow → List Told
+reported_in rows = flat_map (λ row. reported_by row.told) rows

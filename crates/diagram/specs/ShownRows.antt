@@ -6,7 +6,7 @@ use Rattle.rmeworld.specs.declared.answer.Answer.{Answer}
 use Rattle.schedule.specs.Reports.{told_line}
 use Rattle.schedule.specs.Runs.{Answered}
 use Rattle.diagram.specs.declared.act.Act.{Act}
-use Rattle.diagram.specs.declared.act.Act.TheVariants.{Silent, Telling, Fell}
+use Rattle.diagram.specs.declared.act.Act.TheVariants.{Silent, Fell}
 use Rattle.diagram.specs.declared.act.DiagramRow.{DiagramRow}
 use Rattle.diagram.specs.declared.mark.Mark.{Mark}
 use Rattle.diagram.specs.declared.mark.Mark.TheVariants.{Step, Crash}

@@ -2,4 +2,5 @@
 
 mod collecting;
 pub mod drawing;
+pub mod laws;
 pub mod row;

@@ -7,7 +7,7 @@ use diagram::{
 };
 use explorer::{MoveVerdict, SearchFault, SearchOutcome, Space, Unwatched, Watch, search};
 use judge::Judge;
-use lock_explorer::{Bounds, ExploreFault, Move, shortest_schedule};
+use lock_explorer::{Bounds, ExploreFault, Move, Variables, shortest_schedule};
 use redomail::Layout;
 use rmeworld::{Call, Image, Machine};
 use schedule::{OutOfMemory, ReplayFault, Schedule, Sink, Verdict};
@@ -46,10 +46,13 @@ pub fn searched_for_schedule<W: Watch>(
     layout: Layout,
     limit: u64,
     calls: &[Call],
+    variables: Variables,
     bounds: &Bounds,
     watch: &mut W,
 ) -> Result<SearchOutcome<Move>, ExploreFault> {
-    shortest_schedule(alloc, variant, layout, limit, calls, bounds, watch)
+    shortest_schedule(
+        alloc, variant, layout, limit, calls, variables, bounds, watch,
+    )
 }
 
 pub fn bounds_of(crashes: u64, moves: u64, states: u64) -> Bounds {

@@ -103,6 +103,8 @@ pub struct ExploreArgs {
     pub width: u64,
     /// Whether it looks for stuck states, with no bound on the moves.
     pub stuck: bool,
+    /// Whether states are distinguished by dead variables too. A search for stuck states does so anyway.
+    pub all_variables: bool,
     /// How many threads expand the states; 0: as many as there are processors. A search for stuck states has one.
     pub jobs: u64,
 }

@@ -123,7 +123,7 @@ fn algorithm_calls_of(alloc: Global, matches: &ArgMatches<'_>) -> Result<Algorit
 fn without_mailbox(alloc: Global) -> Result<String, AllocError> {
     String::from_str(
         alloc,
-        "error: with '--algorithm <FILE>' there is no '--stuck', no '--cap' and no '--width'\n\nFor more information, try '--help'.\n",
+        "error: with '--algorithm <FILE>' there is no '--stuck', no '--all-variables', no '--cap' and no '--width'\n\nFor more information, try '--help'.\n",
     )
 }
 
@@ -133,6 +133,7 @@ fn is_algorithm_search(matches: &ArgMatches<'_>) -> bool
 {
     is_given(matches, "algorithm")
         && !is_set(matches, "stuck")
+        && !is_set(matches, "all-variables")
         && !is_given(matches, "cap")
         && !is_given(matches, "width")
 }
@@ -186,6 +187,7 @@ fn variant_words(alloc: Global, matches: &ArgMatches<'_>) -> Result<Command, Wor
         cap: number_or(matches, "cap", 1),
         width: number_or(matches, "width", 1),
         stuck: stuck_of(matches)?,
+        all_variables: is_set(matches, "all-variables"),
         jobs: number_of(matches, "jobs"),
     }))
 }

@@ -33,7 +33,8 @@ after one of a device or of memory.\n\nExample: rmelab hunt --variant no-look --
 const EXPLORE_HELP: &str =
     "In: nothing; with --algorithm the algorithm's text: docs/use/algorithms.md. All schedules are tried whose moves are the start \
 of a call of --calls, one step, or a crash, of which there are at most --crashes: the shorter before the longer. Two worlds are one \
-where their words, their processes, the judge and the crashes left are. An algorithm is searched by one thread.\nOut: the schedule \
+where their words, their processes, the judge and the crashes left are. Of a process those variables count that a move may still read; all do \
+with --all-variables or --stuck. An algorithm is searched by one thread.\nOut: the schedule \
 of fewest moves that goes wrong, which `rmelab replay` with the same --variant or --algorithm replays to its fault; `nothing found \
 within K moves`; or, where all was tried, `nothing found: all N states`. With --stuck, where none goes wrong: the \
 schedule of fewest moves to a state from which no starts and steps bring each process to rest with all lock words 0, which \
@@ -193,6 +194,10 @@ fn explore<'a>(alloc: Global) -> Result<Parser<'a>, AllocError>
         Argument::flag(
             "stuck",
             "Look for stuck states too; not with --moves or --algorithm",
+        ),
+        Argument::flag(
+            "all-variables",
+            "Distinguish states by dead variables too; not with --algorithm",
         ),
         Argument::number(
             "jobs",

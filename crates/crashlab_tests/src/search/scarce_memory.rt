@@ -4,7 +4,9 @@
 use crate::search::jugs::{Jugs, Pour};
 use crashlab::{HuntFault, Variant, hunt, hunt_in_parallel};
 use explorer::{SearchFault, SearchOutcome, Unwatched, search, search_in_parallel};
-use lock_explorer::{Bounds, ExploreFault, Move, shortest_schedule, shortest_schedule_in_parallel};
+use lock_explorer::{
+    Bounds, ExploreFault, Move, Variables, shortest_schedule, shortest_schedule_in_parallel,
+};
 use memory_limit::{PIECES, ScarceMemory};
 use redomail::Layout;
 use rmeworld::Call;
@@ -148,11 +150,12 @@ fn a_search_without_threads(rt: HostRuntime) -> Result<(), Fail> {
     Ok(())
 }
 
-/// A search of the lock by this many jobs; by one, where it is 0.
+/// A search of the lock by this many jobs; by one, where it is 0. These variables distinguish its states.
 fn explored<R: Threads + Sync>(
     rt: &R,
     alloc: Global,
     jobs: usize,
+    variables: Variables,
 ) -> Result<SearchOutcome<Move>, ExploreFault> {
     let layout = Layout {
         procs: 1,
@@ -169,9 +172,11 @@ fn explored<R: Threads + Sync>(
     let variant = Variant::ExitOnCrash;
     let watch = &mut Unwatched;
     if jobs == 0 {
-        return shortest_schedule(alloc, variant, layout, 1, calls, &bounds, watch);
+        return shortest_schedule(alloc, variant, layout, 1, calls, variables, &bounds, watch);
     }
-    shortest_schedule_in_parallel(rt, alloc, jobs, variant, layout, 1, calls, &bounds, watch)
+    shortest_schedule_in_parallel(
+        rt, alloc, jobs, variant, layout, 1, calls, variables, &bounds, watch,
+    )
 }
 
 /// Whether it is the schedule by one. None: memory ran out.
@@ -179,44 +184,75 @@ fn is_explored<R: Threads + Sync>(
     rt: &R,
     alloc: Global,
     jobs: usize,
+    variables: Variables,
     one: &Result<SearchOutcome<Move>, ExploreFault>,
 ) -> Option<bool> {
-    match explored(rt, alloc, jobs) {
+    match explored(rt, alloc, jobs, variables) {
         Err(ExploreFault::OutOfMemory) => None,
         found => Some(found == *one),
     }
 }
 
-#[test]
-fn a_search_of_the_lock_by_three_jobs(rt: HostRuntime) -> Result<(), Fail> {
-    let alloc = rt.alloc();
-    let one = explored(&rt, alloc, 0);
+/// A search of the lock by three jobs, with threads.
+fn explores<R: Threads + Sync + Abort>(
+    rt: &R,
+    alloc: Global,
+    variables: Variables,
+) -> Result<(), AllocError> {
+    let one = explored(rt, alloc, 0, variables);
     assert!(rt; one.is_ok());
     let spare = spare(alloc)?;
-    let scarce_memory = ScarceMemory::of_threads(&rt, alloc)?;
+    let scarce_memory = ScarceMemory::of_threads(rt, alloc)?;
     at_last(
-        &rt,
+        rt,
         spare,
         scarce_memory,
         true,
-        || is_explored(&rt, alloc, 3, &one),
+        || is_explored(rt, alloc, 3, variables, &one),
+    );
+    Ok(())
+}
+
+#[test]
+fn a_search_of_the_lock_by_three_jobs(rt: HostRuntime) -> Result<(), Fail> {
+    explores(&rt, rt.alloc(), Variables::All)?;
+    Ok(())
+}
+
+#[test]
+fn a_search_by_live_variables_by_three_jobs(rt: HostRuntime) -> Result<(), Fail> {
+    explores(&rt, rt.alloc(), Variables::Live)?;
+    Ok(())
+}
+
+/// A search of the lock by three jobs, where no thread can be made.
+fn explores_alone<R: Threads + Sync + Abort>(
+    rt: &R,
+    alloc: Global,
+    variables: Variables,
+) -> Result<(), AllocError> {
+    let one = explored(rt, alloc, 0, variables);
+    let spare = spare(alloc)?;
+    let scarce_memory = ScarceMemory::new(alloc)?;
+    at_last(
+        rt,
+        spare,
+        scarce_memory,
+        false,
+        || is_explored(rt, alloc, 3, variables, &one),
     );
     Ok(())
 }
 
 #[test]
 fn a_search_of_the_lock_without_threads(rt: HostRuntime) -> Result<(), Fail> {
-    let alloc = rt.alloc();
-    let one = explored(&rt, alloc, 0);
-    let spare = spare(alloc)?;
-    let scarce_memory = ScarceMemory::new(alloc)?;
-    at_last(
-        &rt,
-        spare,
-        scarce_memory,
-        false,
-        || is_explored(&rt, alloc, 3, &one),
-    );
+    explores_alone(&rt, rt.alloc(), Variables::All)?;
+    Ok(())
+}
+
+#[test]
+fn a_search_by_live_variables_without_threads(rt: HostRuntime) -> Result<(), Fail> {
+    explores_alone(&rt, rt.alloc(), Variables::Live)?;
     Ok(())
 }
 

@@ -3,7 +3,9 @@
 
 use crashlab::{Variant, VariantWorld};
 use judge::Judge;
-use lock_explorer::{Bounds, ExploreFault, Move, SearchOutcome, Unwatched, shortest_schedule};
+use lock_explorer::{
+    Bounds, ExploreFault, Move, SearchOutcome, Unwatched, Variables, shortest_schedule,
+};
 use redomail::Layout;
 use rmecore::{Body, Fault, Refusal};
 use rmeworld::{Call, Machine};
@@ -29,11 +31,12 @@ impl Sizes {
         }
     }
 
-    /// Searches for a shortest schedule, and keeps at most a million states.
+    /// Searches for a shortest schedule, and keeps at most a million states. These variables distinguish them.
     fn explore(
         &self,
         alloc: Global,
         calls: &[Call],
+        variables: Variables,
         moves: u64,
     ) -> Result<SearchOutcome<Move>, ExploreFault> {
         let bounds = Bounds {
@@ -47,6 +50,7 @@ impl Sizes {
             self.layout(),
             self.limit,
             calls,
+            variables,
             &bounds,
             &mut Unwatched,
         )
@@ -84,8 +88,10 @@ impl Sizes {
     }
 }
 
+const VARIABLES: [Variables; 2] = [Variables::All, Variables::Live];
+
 /// Whether the shortest schedule, with these sizes and calls, has this many moves, its last deed has this fault, and no
-/// schedule has fewer moves.
+/// schedule has fewer moves. It is the same schedule by all variables and by the live ones.
 fn is_shortest(
     alloc: Global,
     sizes: Sizes,
@@ -93,16 +99,22 @@ fn is_shortest(
     moves: u64,
     fault: Fault,
 ) -> Result<bool, Fail> {
-    let Ok(SearchOutcome::Path(path)) = sizes.explore(alloc, calls, moves) else {
-        return Ok(false);
-    };
-    let judged = sizes.judged(alloc, &path);
-    let below = sizes.explore(alloc, calls, moves.saturating_sub(1));
-    Ok(
-        path.len() as u64 == moves
+    let all = sizes.explore(alloc, calls, Variables::All, moves);
+    for variables in VARIABLES {
+        let found = sizes.explore(alloc, calls, variables, moves);
+        let Ok(SearchOutcome::Path(path)) = &found else {
+            return Ok(false);
+        };
+        let judged = sizes.judged(alloc, path);
+        let below = sizes.explore(alloc, calls, variables, moves.saturating_sub(1));
+        let is_shortest = path.len() as u64 == moves
             && judged == Ok(Some(fault))
-            && below == Ok(SearchOutcome::NoneWithin),
-    )
+            && below == Ok(SearchOutcome::NoneWithin);
+        if !is_shortest || found != all {
+            return Ok(false);
+        }
+    }
+    Ok(true)
 }
 
 const LOCKING: [Call; 2] = [Call::Lock, Call::Unlock];
@@ -187,6 +199,7 @@ fn each_wrong_repair_is_found_by_its_shortest_schedule(rt: HostRuntime) -> Resul
 /// A search of the right lock of two processes, with a crash.
 fn search_right(
     alloc: Global,
+    variables: Variables,
     moves: u64,
     states: u64,
 ) -> Result<SearchOutcome<Move>, ExploreFault> {
@@ -206,6 +219,7 @@ fn search_right(
         layout,
         4,
         &LOCKING,
+        variables,
         &bounds,
         &mut Unwatched,
     )
@@ -213,24 +227,31 @@ fn search_right(
 
 #[test]
 fn more_states_than_may_be_kept_are_told(rt: HostRuntime) -> Result<(), Fail> {
-    assert_eq!(rt;
-        search_right(rt.alloc(), 1_000, 7_728),
-        Err(ExploreFault::TooManyStates)
-    );
+    for (variables, states) in [(Variables::All, 7_728), (Variables::Live, 6_030)] {
+        assert_eq!(rt;
+            search_right(rt.alloc(), variables, 1_000, states),
+            Err(ExploreFault::TooManyStates),
+            "{variables:?}"
+        );
+    }
     Ok(())
 }
 
-/// Ten moves lead to 186 of the 7,729 states.
+/// Forty moves lead to 3,490 of the 7,729 states, and to 3,162 of the 6,031 that live variables distinguish.
 #[test]
 fn states_past_the_moves_are_not_counted(rt: HostRuntime) -> Result<(), Fail> {
-    assert_eq!(rt;
-        search_right(rt.alloc(), 10, 186),
-        Ok(SearchOutcome::NoneWithin)
-    );
-    assert_eq!(rt;
-        search_right(rt.alloc(), 10, 185),
-        Err(ExploreFault::TooManyStates)
-    );
+    for (variables, states) in [(Variables::All, 3_490), (Variables::Live, 3_162)] {
+        assert_eq!(rt;
+            search_right(rt.alloc(), variables, 40, states),
+            Ok(SearchOutcome::NoneWithin),
+            "{variables:?}"
+        );
+        assert_eq!(rt;
+            search_right(rt.alloc(), variables, 40, states - 1),
+            Err(ExploreFault::TooManyStates),
+            "{variables:?}"
+        );
+    }
     Ok(())
 }
 
@@ -243,10 +264,13 @@ fn a_size_that_no_world_has_is_refused(rt: HostRuntime) -> Result<(), Fail> {
         limit: 1,
         cap: 1,
     };
-    assert_eq!(rt;
-        sizes.explore(rt.alloc(), &LOCKING, 1),
-        Err(ExploreFault::Refused(Refusal::BadProcs))
-    );
+    for variables in VARIABLES {
+        assert_eq!(rt;
+            sizes.explore(rt.alloc(), &LOCKING, variables, 1),
+            Err(ExploreFault::Refused(Refusal::BadProcs)),
+            "{variables:?}"
+        );
+    }
     Ok(())
 }
 
@@ -260,13 +284,19 @@ fn the_lock_is_searched_to_the_end(rt: HostRuntime) -> Result<(), Fail> {
         cap: 1,
     };
     let alloc = rt.alloc();
-    assert_eq!(rt;
-        sizes(2, 1, 4).explore(alloc, &LOCKING, 1_000),
-        Ok(SearchOutcome::Nowhere(7_729))
-    );
-    assert_eq!(rt;
-        sizes(3, 0, 3).explore(alloc, &LOCKING, 1_000),
-        Ok(SearchOutcome::Nowhere(43_762))
-    );
+    for (sizes, variables, states) in [
+        (sizes(2, 1, 4), Variables::All, 7_729),
+        (sizes(2, 1, 4), Variables::Live, 6_031),
+        (sizes(2, 2, 4), Variables::All, 24_774),
+        (sizes(2, 2, 4), Variables::Live, 17_289),
+        (sizes(3, 0, 3), Variables::All, 43_762),
+        (sizes(3, 0, 3), Variables::Live, 43_762),
+    ] {
+        assert_eq!(rt;
+            sizes.explore(alloc, &LOCKING, variables, 1_000),
+            Ok(SearchOutcome::Nowhere(states)),
+            "{variables:?} {states}"
+        );
+    }
     Ok(())
 }

@@ -109,10 +109,11 @@ Options:
       --cap <M>           Room for M messages; 1 without it; not with --algorithm
       --width <W>         1 to 8 words a message; 1 without it; not with --algorithm
       --stuck             Look for stuck states too; not with --moves or --algorithm
+      --all-variables     Distinguish states by dead variables too; not with --algorithm
       --jobs <N>          N threads at once; without it, or 0, as many as there are processors
   -h, --help              Print help
 
-In: nothing; with --algorithm the algorithm's text: docs/use/algorithms.md. All schedules are tried whose moves are the start of a call of --calls, one step, or a crash, of which there are at most --crashes: the shorter before the longer. Two worlds are one where their words, their processes, the judge and the crashes left are. An algorithm is searched by one thread.
+In: nothing; with --algorithm the algorithm's text: docs/use/algorithms.md. All schedules are tried whose moves are the start of a call of --calls, one step, or a crash, of which there are at most --crashes: the shorter before the longer. Two worlds are one where their words, their processes, the judge and the crashes left are. Of a process those variables count that a move may still read; all do with --all-variables or --stuck. An algorithm is searched by one thread.
 Out: the schedule of fewest moves that goes wrong, which `rmelab replay` with the same --variant or --algorithm replays to its fault; `nothing found within K moves`; or, where all was tried, `nothing found: all N states`. With --stuck, where none goes wrong: the schedule of fewest moves to a state from which no starts and steps bring each process to rest with all lock words 0, which replays to a fine verdict; or `never stuck: all N states`. Nothing is said of a greater size, limit or number of crashes.
 Shown: on standard error, where that is a terminal, the states, how many moves deep and the states a second, once a second while it works.
 Exit status: 0 where nothing was found, 1 where a schedule was, 2 after a fault of the words or the algorithm, 3 after one of a device or of memory, or where there are more states than --states.

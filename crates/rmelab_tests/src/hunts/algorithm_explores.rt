@@ -80,7 +80,7 @@ fn algorithms_in_which_nothing_is_found(rt: HostRuntime) -> Result<(), Fail> {
 
 /// The options of a variant's search alone.
 pub const NO_MAILBOX: &str =
-    "error: with '--algorithm <FILE>' there is no '--stuck', no '--cap' and no '--width'\n\nFor more information, try '--help'.\n";
+    "error: with '--algorithm <FILE>' there is no '--stuck', no '--all-variables', no '--cap' and no '--width'\n\nFor more information, try '--help'.\n";
 
 pub const NO_LOCK: &str =
     "error: there is neither '--variant <V>' nor '--algorithm <FILE>'\n\nFor more information, try '--help'.\n";
@@ -96,6 +96,7 @@ fn words_of_no_search(rt: HostRuntime) -> Result<(), Fail> {
         ("--algorithm a.lock --calls lock,append", bad_size),
         ("--algorithm a.lock --calls consistent", bad_size),
         ("--algorithm a.lock --stuck", NO_MAILBOX),
+        ("--algorithm a.lock --all-variables", NO_MAILBOX),
         ("--algorithm a.lock --calls run --cap 1", NO_MAILBOX),
         ("--algorithm a.lock --width 1", NO_MAILBOX),
         ("--stuck --moves 1", NO_LOCK),

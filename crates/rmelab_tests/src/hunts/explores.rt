@@ -59,12 +59,23 @@ fn explores(rt: HostRuntime) -> Result<(), Fail> {
             "nothing found within 19 moves\n",
         ),
         invoked(
+            "rmelab explore --variant no-look --procs 2 --limit 1 --all-variables",
+            "",
+            SHORTEST,
+        )
+        .ends(1, ""),
+        invoked(
             "rmelab explore --variant right --procs 2",
             "",
             "nothing found: all 925 states\n",
         ),
         invoked(
-            "rmelab explore --variant right --procs 2 --crashes 1 --limit 1",
+            "rmelab explore --variant right --procs 2 --crashes 1 --limit 1 --jobs 2",
+            "",
+            "nothing found: all 1541 states\n",
+        ),
+        invoked(
+            "rmelab explore --variant right --procs 2 --crashes 1 --limit 1 --all-variables",
             "",
             "nothing found: all 2109 states\n",
         ),
@@ -162,7 +173,13 @@ fn explores_refused(rt: HostRuntime) -> Result<(), Fail> {
     let bad_size = "rmelab: bad size\n";
     let rows = [
         invoked(
-            "rmelab explore --variant right --procs 2 --limit 1 --states 258",
+            "rmelab explore --variant right --procs 2 --crashes 1 --limit 1 --states 1540",
+            "",
+            "",
+        )
+        .ends(3, "rmelab: too many states\n"),
+        invoked(
+            "rmelab explore --variant right --procs 2 --crashes 1 --limit 1 --states 2108 --all-variables",
             "",
             "",
         )

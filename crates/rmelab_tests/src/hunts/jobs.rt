@@ -2,12 +2,14 @@
 
 use crashlab::{HuntFault, Variant, hunt, hunt_in_parallel, hunt_in_parallel_watched};
 use explorer::{Unwatched, Watch};
-use lock_explorer::{Bounds, shortest_schedule, shortest_schedule_in_parallel};
+use lock_explorer::{Bounds, Variables, shortest_schedule, shortest_schedule_in_parallel};
 use redomail::Layout;
 use rmeworld::Call;
 use schedule::{Schedule, write_schedule};
 use std::alloc::Global;
+use std::process::Abort;
 use std::test::Fail;
+use std::thread::Threads;
 
 /// Each variant, and whether its hunt by seed 1, of 10,000 rounds of 1,000 moves, finds a schedule. The right lock has fewer
 /// rounds.
@@ -115,10 +117,14 @@ const SEARCHES: [(Variant, u64, u64, u64); 6] = [
     (Variant::ExitOnCrash, 2, 1, 1),
 ];
 
-#[test]
-fn the_same_search_for_any_number_of_jobs(rt: HostRuntime) -> Result<(), Fail> {
-    let alloc = rt.alloc();
+/// Searches by one and by several jobs, with states distinguished by these variables.
+fn searches_the_same<R: Threads + Sync + Abort>(
+    rt: &R,
+    alloc: Global,
+    variables: Variables,
+) -> Result<(), Fail> {
     let calls = [Call::Lock, Call::Unlock];
+    let calls = calls.as_slice();
     for (variant, procs, crashes, limit) in SEARCHES {
         let layout = Layout {
             procs,
@@ -135,25 +141,37 @@ fn the_same_search_for_any_number_of_jobs(rt: HostRuntime) -> Result<(), Fail> {
             variant,
             layout,
             limit,
-            calls.as_slice(),
+            calls,
+            variables,
             &bounds,
             &mut Unwatched,
         );
         assert!(rt; one.is_ok());
         for jobs in [0, 1, 2, 3, 7] {
             let found = shortest_schedule_in_parallel(
-                &rt,
+                rt,
                 alloc,
                 jobs,
                 variant,
                 layout,
                 limit,
-                calls.as_slice(),
+                calls,
+                variables,
                 &bounds,
                 &mut Unwatched,
             );
-            assert!(rt; found == one, "{variant:?} {jobs}");
+            assert!(rt; found == one, "{variant:?} {variables:?} {jobs}");
         }
     }
     Ok(())
+}
+
+#[test]
+fn the_same_search_for_any_number_of_jobs(rt: HostRuntime) -> Result<(), Fail> {
+    searches_the_same(&rt, rt.alloc(), Variables::All)
+}
+
+#[test]
+fn the_same_search_by_live_variables_for_any_number_of_jobs(rt: HostRuntime) -> Result<(), Fail> {
+    searches_the_same(&rt, rt.alloc(), Variables::Live)
 }

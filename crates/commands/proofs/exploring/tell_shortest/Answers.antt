@@ -1,16 +1,16 @@
 use Rattle.std.proofs.Common.{◌≡◌, ◌≢◌, ℕ, ◌≤◌, List, length, Result, Ok, Err, IfOk, OnOk, IfErr, ◌∙◌, inl, inr, ap, subst}
 use Rattle.schedule.specs.Tapes.{Tape, Writes}
 use Rattle.explorer.specs.Paths.{IsNumberOfStates}
-use Rattle.crashlab.specs.SearchStateWords.{search_state_words}
 use Rattle.crashlab.specs.Spaces.{first_search_state, rules}
 use Rattle.crashlab.specs.declared.variant.Variant.TheVariants.{Right}
 use Rattle.crashlab.specs.declared.space.moves.Move.{Move}
+use Rattle.lock_explorer.specs.Keys.{key_by}
 use Rattle.lock_explorer.specs.Finding.{IsFoundIn, IsLeast, NoneOfAtMost, NoneIsFound}
 use Rattle.schedule.specs.Schedules.{spelling}
 use Rattle.commands.specs.declared.schedules.ending.Ending.{Ending}
 use Rattle.commands.specs.declared.schedules.fault.CommandFault.{CommandFault}
 use Rattle.cli.specs.declared.arguments.args.ExploreArgs.{ExploreArgs}
-use Rattle.commands.specs.Explores.{ShortestEnds, calls_of, layout_of, schedule_of, within_line, all_line}
+use Rattle.commands.specs.Explores.{ShortestEnds, calls_of, layout_of, schedule_of, variables_by, within_line, all_line}
 use Rattle.commands.specs.Endings.{FailsToWrite}
 use Rattle.commands.proofs.exploring.tell_shortest.Goals as goal
 
@@ -30,7 +30,7 @@ ends_within args before now (Err f) none told status failed = inr (inr (inr (inr
 
 ends_all :
     (args : ExploreArgs) (before now : Tape) (states : ℕ) (r : Result Ending CommandFault) → NoneIsFound args.variant (layout_of args) args.limit args.crashes (calls_of args)
-    → IsNumberOfStates (rules search_state_words) (first_search_state args.variant (layout_of args) args.limit args.crashes (calls_of args)) states
+    → IsNumberOfStates (rules (key_by (variables_by args.all_variables))) (first_search_state args.variant (layout_of args) args.limit args.crashes (calls_of args)) states
     → OnOk r (Writes before now (all_line states)) → IfOk r (λ e. e.status ≡ 0) → IfErr r (FailsToWrite before now) → ShortestEnds args before now r
 ends_all args before now states (Ok e) none number told status failed = inr (inr (inl (ap Ok status, record { none = none; states = states; number = number; text = told })))
 ends_all args before now states (Err f) none number told status failed = inr (inr (inr (inr (inr failed))))
@@ -50,7 +50,8 @@ returns-in-Ok-Nowhere-clause-ends g c =
     let calls = c.deref.ensures.value ∙ c.in_ok-calls.ensures.listed in
     ends_all o _ _ c.in-Ok-Nowhere.states c.tell_all.result
     (subst (λ calls. NoneIsFound o.variant (layout_of o) o.limit o.crashes calls) calls none)
-    (subst (λ calls. IsNumberOfStates (rules search_state_words) (first_search_state o.variant (layout_of o) o.limit o.crashes calls) c.in-Ok-Nowhere.states) calls number)
+    (subst (λ variables. IsNumberOfStates (rules (key_by variables)) (first_search_state o.variant (layout_of o) o.limit o.crashes (calls_of o)) c.in-Ok-Nowhere.states) c.variables_of.ensures
+    (subst (λ calls. IsNumberOfStates (rules (key_by c.variables_of.result)) (first_search_state o.variant (layout_of o) o.limit o.crashes calls) c.in-Ok-Nowhere.states) calls number))
     c.tell_all.ensures.told c.tell_all.ensures.status c.tell_all.ensures.failed
 
 pub returns-in-Ok-Path-clause-ends : goal.returns-in-Ok-Path-clause-ends

@@ -1,7 +1,7 @@
 use Rattle.std.proofs.Common.{ap, ◌∙◌}
 use Rattle.algorithms.specs.Worlds.{cause}
 use Rattle.schedule.specs.Schedules.{head_of}
-use Rattle.diagram.proofs.AlgorithmDrawn.{on_new, new_starved, new_refused}
+use Rattle.diagram.proofs.AlgorithmDrawn.{on_new, new_starved}
 use Rattle.diagram.proofs.algorithm.drawing.draw_algorithm.Goals as goal
 
 pub returns-in-Err-OutOfMemory : goal.returns-in-Err-OutOfMemory

@@ -3,7 +3,6 @@ use Rattle.diagram.proofs.Common.{err_from_is_err_and, Spells}
 use Rattle.schedule.specs.Schedules.{head_of}
 use Rattle.algorithm_lab.specs.Runs.{run_on}
 use Rattle.algorithms.specs.Worlds.{WorldState}
-use Rattle.algorithms.specs.declared.algorithm.Algorithm.{Algorithm}
 use Rattle.diagram.proofs.AlgorithmDrawn.{draws, run_starved, text_same}
 use Rattle.diagram.proofs.algorithm.drawing.draw_on.Goals as goal
 

@@ -195,6 +195,7 @@ has_number _ number is = tt
 -- ---- until a call is answered
 
 first_count : (p k n j : ℕ) (m : MonitorState) → n ≡ suc j → count_on p k n m ≡ count_by (step_on m p) (k + 1) (count_on p (k + 1) j)
+unfolding count_on
 first_count p k n j m count = ap (λ x. count_on p k x m) count
 
 counts_on : (r : Result Part RunRefusal) (k : ℕ) (left : MonitorState) (rest : MonitorState → Option ℕ) → IsLeft r left → has_ended r ≡ false → count_by r k rest ≡ rest left
@@ -218,6 +219,7 @@ pub count_halts : (p k n j : ℕ) (m : MonitorState) (e : RunRefusal) → n ≡ 
 count_halts p k n j m e count is = sym (first_count p k n j m count ∙ counts_refused (step_on m p) (k + 1) (count_on p (k + 1) j) e is)
 
 pub count_none : (p k n : ℕ) (m : MonitorState) → n ≡ zero → None ≡ count_on p k n m
+unfolding count_on
 count_none p k n m none = sym (ap (λ x. count_on p k x m) none)
 
 -- ---- a simulation

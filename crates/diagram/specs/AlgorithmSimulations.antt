@@ -67,7 +67,7 @@ count_by (Ok part) k rest = if part.ended then Some k else rest part.left
 count_by (Err e) k rest = Some k
 
 -- the number of the step of p that is refused or ends its call, where k came before and at most n come
-abbrev pub count_on : ℕ → ℕ → ℕ → MonitorState → Option ℕ
+unfoldable pub count_on : ℕ → ℕ → ℕ → MonitorState → Option ℕ
 count_on p k zero m = None
 count_on p k (suc n) m = count_by (step_on m p) (k + 1) (count_on p (k + 1) n)
 

@@ -1,5 +1,5 @@
-use Rattle.std.proofs.Common.{ap, ◌∙◌}
-use Rattle.algorithm_lab.specs.Monitors.{step_on}
+use Rattle.std.proofs.Common.{[], sym, ap, subst, ◌∙◌}
+use Rattle.algorithm_lab.specs.Monitors.{IsPart, step_on}
 use Rattle.diagram.proofs.AlgorithmSessions.{part_left, step_text}
 use Rattle.diagram.proofs.session.algorithm_stepping.put_step.Goals as goal
 
@@ -8,6 +8,8 @@ returns-clause-left c = part_left (step_on c.args.monitor.now c.args.p) _ _ c.ta
 
 pub returns-clause-text : goal.returns-clause-text
 returns-clause-text c =
-    step_text c.args.p c.args.monitor.now c.take.new.self c.in_ok-advanced.advanced c.act_of.result c.phase.result c.lifeline_phase-phase.result c.take.new.told.items c.algorithm.result.now c.args.out.now.items
-    c.put_event.new.out.items c.in_ok-advanced.ensures.said c.in_ok-advanced.ensures.ok c.act_of.ensures c.phase.ensures c.lifeline_phase-phase.ensures (c.algorithm.ensures ∙ ap (λ w. w.algorithm) c.world.ensures)
+    let first = subst (λ before. IsPart (step_on c.args.monitor.now c.args.p) before c.take.new.told.items c.take.new.self) c.new-told.ensures.items c.in_ok-advanced.ensures.ok in
+    let part = subst (λ told. IsPart (step_on c.args.monitor.now c.args.p) [] told c.take.new.self) (sym c.as_slice.ensures.value) first in
+    step_text c.args.p c.args.monitor.now c.take.new.self c.in_ok-advanced.advanced c.act_of.result c.phase.result c.lifeline_phase-phase.result c.as_slice.result.now c.algorithm-algorithm.result.now c.args.out.now.items
+    c.put_event.new.out.items c.in_ok-advanced.ensures.said part c.act_of.ensures c.phase.ensures c.lifeline_phase-phase.ensures (c.algorithm-algorithm.ensures ∙ ap (λ w. w.algorithm) c.world.ensures)
     c.in_ok-put_event.ensures

@@ -1,12 +1,9 @@
-use Rattle.std.proofs.Common.{◌≡◌, suc, ◌+◌, ◌-◌, ◌∙◌, true, false, refl, arith}
+use Rattle.std.proofs.Common.{◌≡◌, suc, ◌+◌, ◌-◌, ◌∙◌, true, false, arith}
 use Rattle.std.proofs.lemmas.Result.{err_from_is_err_and}
 use Rattle.algorithm_lab.specs.Monitors.{has_ended, step_on}
 use Rattle.algorithm_lab.specs.Runs.{steps}
 use Rattle.diagram.proofs.AlgorithmSessions.{same_algorithm, step_begins, steps_all, steps_end, steps_go_on, steps_halt, text_all, text_ends, text_goes_on}
 use Rattle.diagram.proofs.session.algorithm_stepping.put_steps.Goals as goal
-
-pub loop-step-init : goal.loop-step-init
-loop-step-init c = record { ends = record { left = refl; refused = refl }; text = refl; begins = refl }
 
 pub returns-in_err-put_step-clause-refused : goal.returns-in_err-put_step-clause-refused
 returns-in_err-put_step-clause-refused c =

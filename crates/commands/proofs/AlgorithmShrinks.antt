@@ -1,5 +1,5 @@
 -- How shrinking on an algorithm ends, from what it has answered.
-use Rattle.std.proofs.Common.{◌≡◌, Option, Some, None, Result, Ok, Err, IfOk, OnOk, IfErr, inl, inr, refl, ap}
+use Rattle.std.proofs.Common.{◌≡◌, Option, Result, Ok, Err, IfOk, OnOk, IfErr, inl, inr, refl, ap}
 use Rattle.algorithms.specs.declared.algorithm.Algorithm.{Algorithm}
 use Rattle.algorithm_explorer.specs.Shrunk.{IsReason, Shrinks}
 use Rattle.algorithm_lab.specs.declared.replay_fault.AlgorithmReplayFault.{AlgorithmReplayFault}

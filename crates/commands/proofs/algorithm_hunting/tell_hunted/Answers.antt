@@ -1,7 +1,3 @@
-use Rattle.std.proofs.Common.{subst, sym}
-use Rattle.cli.specs.declared.arguments.args.AlgorithmHuntArgs.{AlgorithmHuntArgs}
-use Rattle.commands.specs.declared.schedules.fault.CommandFault.{CommandFault}
-use Rattle.commands.specs.AlgorithmHunts.{HuntsAlgorithm}
 use Rattle.commands.proofs.AlgorithmHunts.{hunted_told, nothing_told, not_hunted}
 use Rattle.commands.proofs.algorithm_hunting.tell_hunted.Goals as goal
 

@@ -4,7 +4,7 @@ use Rattle.commands.proofs.sessions.algorithm.algorithm_session_command.Goals as
 
 pub returns-in_err-algorithm-clause-ends : goal.returns-in_err-algorithm-clause-ends
 returns-in_err-algorithm-clause-ends g c =
-    let p = err_from_is_err_and c.from_residual-in_err-algorithm.result c.from_residual-in_err-algorithm.ensures.1 in
+    let p = err_from_is_err_and c.from_residual.result c.from_residual.ensures.1 in
     rw (p.1, p.2) (
     no_session (g.R.Source.reading c.args.r.now) (g.F.Folder.used c.args.folder.now) (g.W.Sink.tape c.args.w.now) _ c.in_err-algorithm.ensures.unread
     )

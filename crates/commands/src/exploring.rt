@@ -1,6 +1,6 @@
 //! The command `explore`.
 
-ghost use Rattle.std.specs.Prelude.{◌≡◌, ◌++◌, ◌⊎◌, ◌∷◌, [], false, codes, length, ◌≤◌, take, replicate, IfErr, IfOk, IfSome, IsSome, OnOk, ◌↔◌};
+ghost use Rattle.std.specs.Prelude.{◌≡◌, ◌++◌, ◌∷◌, [], false, length, ◌≤◌, take, replicate, IfErr, IfOk, IfSome, IsSome, OnOk, ◌↔◌};
 ghost use Rattle.std.specs.Fmt.{decimal};
 ghost use Rattle.commands.specs.Endings.{FailsToWrite, IsEnded};
 ghost use Rattle.schedule.specs.Schedules.{spelling};

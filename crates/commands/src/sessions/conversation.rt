@@ -1,6 +1,6 @@
 //! A session over its input, a line at a time.
 
-ghost use Rattle.std.specs.Prelude.{◌≡◌, ◌⊎◌, ◌↔◌, ◌++◌, ◌∷◌, ℕ, Bool, ◌+◌, ◌-◌, ◌^◌, List, IfErr, IfOk, IfSome, IfNone, OnOk, [], get_or, min, true};
+ghost use Rattle.std.specs.Prelude.{◌≡◌, ◌⊎◌, ◌↔◌, ◌++◌, ◌∷◌, ℕ, Bool, ◌+◌, ◌-◌, ◌^◌, List, IfErr, IfOk, IfSome, IfNone, OnOk, [], min, true};
 ghost use Rattle.schedule.specs.Schedules.{spelling};
 ghost use Rattle.schedule.specs.Words.{parts_of};
 ghost use Rattle.diagram.specs.declared.session.opened.Reply.TheVariants.{Quits as ReplyQuits};

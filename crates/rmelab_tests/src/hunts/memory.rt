@@ -3,7 +3,7 @@
 use crate::hunts::algorithm_explores::{NO_LOCK, NO_MAILBOX, TWO_AT_ONCE};
 use crate::hunts::explores::GONE_OUT;
 use crate::hunts::shrinks::{LEAST, SMALLEST, TWO_INSIDE};
-use crate::program::algorithms::{ALONE, ALONE_DRAWN, NO_PAGE};
+use crate::program::algorithm_commands::{ALONE, ALONE_DRAWN, NO_PAGE};
 use crate::support::row::invoked;
 use crate::support::wanting::all_want_memory;
 use algorithms_tests::texts::others;

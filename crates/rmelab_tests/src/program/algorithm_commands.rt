@@ -30,12 +30,12 @@ verdict fine
 ";
 
 /// What the program writes on this line over this text and this input, where the schedule goes wrong.
-fn wrong(
+fn wrong<'a>(
     rt: &(impl Threads + Wait + Sync),
     alloc: Global,
-    line: &str,
-    text: &str,
-    input: &[u8],
+    line: &'a str,
+    text: &'a str,
+    input: &'a [u8],
 ) -> Result<Vec<u8>, Fail> {
     let row = invoked(line, str::from_utf8(input)?, "").beside(("a.lock", text));
     let found = printed_by(rt, alloc, Ok(words_of(alloc, line)?), &row);

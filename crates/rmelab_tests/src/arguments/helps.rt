@@ -227,7 +227,7 @@ For more information, try '--help'.
 const SEEDLESS_HUNT: &str = "error: the following required arguments were not provided:
   --seed <S>
 
-Usage: rmelab hunt --seed <S> --rounds <R> --steps <K>
+Usage: rmelab hunt --seed <S> --rounds <R> --steps <K> --variant <V>
 
 For more information, try '--help'.
 ";

@@ -70,7 +70,7 @@ fn wants(
     for _ in 0..PIECES {
         let words = all.pop().unwrap_or(Vec::new(alloc));
         let mut out = [0; 2048];
-        let mut err = [0; 128];
+        let mut err = [0; 256];
         let code = ends(rt, alloc, words, row, &mut out, &mut err);
         if code != ExitCode::from(3) {
             let whole = out.starts_with(row.printed.as_bytes())

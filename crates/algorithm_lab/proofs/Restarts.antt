@@ -18,7 +18,7 @@ use Rattle.algorithms.specs.declared.process.Process.{Process}
 use Rattle.algorithms.specs.declared.refusal.AlgorithmRefusal.{AlgorithmRefusal}
 use Rattle.algorithm_lab.specs.Heard.{heard, heard_of_crash}
 use Rattle.algorithm_lab.specs.Monitors.{MonitorState, Part, first_monitor, restarted, then_in, part_of, phase_of, start_refusal, unless, start_on, step_on, crash_on}
-use Rattle.algorithm_lab.specs.Runs.{Run, after_step, steps, started, crashed, call_of, start_by, line_on, followed, run_on, preceded}
+use Rattle.algorithm_lab.specs.Runs.{after_step, steps, started, crashed, call_of, start_by, line_on, followed, run_on, preceded}
 use Rattle.algorithm_lab.specs.declared.run_refusal.RunRefusal.{RunRefusal}
 
 abbrev zeros : List ℕ

@@ -18,7 +18,7 @@ pub enum AlgorithmReplayFault {
     /// The sink failed. It has taken a beginning of the report.
     #[error("write failed")]
     Write,
-    /// Out of memory. Nothing was written.
+    /// Out of memory. A replay has then written nothing, a drawing a beginning at most.
     #[error("out of memory")]
     OutOfMemory,
 }

@@ -1,5 +1,5 @@
 -- One step of a process: one access, and the local lines after it.
-use Rattle.std.specs.Prelude.{ℕ, ◌+◌, ◌-◌, Bool, true, false, if◌then◌else◌, List, ◌++◌, length, take, replicate, slice_get, Option, Some, None, option_and_then, Result, Ok, ok_or}
+use Rattle.std.specs.Prelude.{ℕ, ◌+◌, ◌-◌, true, false, if◌then◌else◌, List, ◌++◌, length, take, replicate, slice_get, Option, Some, None, option_and_then, Result, Ok, ok_or}
 use Rattle.std.specs.Option.{option_or}
 use Rattle.algorithms.specs.Accesses.{access_of, received, passes}
 use Rattle.algorithms.specs.Arrivals.{Landing, arrives, ◌>>=◌}

@@ -19,7 +19,7 @@ use Rattle.algorithms.specs.declared.local.LocalState.{LocalState}
 use Rattle.algorithms.specs.declared.noted.Noted.{Noted}
 use Rattle.algorithms_tests.proofs.Comparisons.{constants, least_is}
 use Rattle.algorithms_tests.proofs.LocalRuns as runs
-use Rattle.algorithms_tests.proofs.LocalRuns.{Names, names, local, Stops, From, one}
+use Rattle.algorithms_tests.proofs.LocalRuns.{names, local, Stops, From}
 use Rattle.algorithms_tests.proofs.Places.{before, IsLoop, Stands, noted_by}
 
 -- a list of processes from a number on, by its first

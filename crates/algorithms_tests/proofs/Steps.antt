@@ -51,7 +51,7 @@ use Rattle.algorithms_tests.proofs.LocalRuns as runs
 use Rattle.algorithms_tests.proofs.LocalRuns.{Names, names, local, one, From}
 use Rattle.algorithms_tests.proofs.Places.{before, all_names, IsLoop, Stands, noted_by}
 use Rattle.algorithms_tests.proofs.Landings as lands
-use Rattle.algorithms_tests.proofs.Landings.{StopsAt, Lands, stopped}
+use Rattle.algorithms_tests.proofs.Landings.{Lands, stopped}
 
 -- the address of a lock word, and what an access of the lock stores
 abbrev pub address_of : Word → Address

@@ -1,5 +1,6 @@
 -- The steps of an algorithm that a session writes.
 use Rattle.std.proofs.Common.{◌≡◌, ℕ, zero, suc, ◌+◌, true, false, List, [], ◌∷◌, ◌++◌, Option, Some, None, Result, Ok, Err, OnOk, IfErr, refl, sym, ap, ◌∙◌, append_assoc}
+use Rattle.diagram.proofs.AlgorithmSteps.{after_ended, first_step}
 use Rattle.diagram.proofs.Common.{append-nil, flat_map-cons, flat_map-append, Line}
 use Rattle.rmecore.specs.declared.phase.Phase.{Phase}
 use Rattle.algorithms.specs.Worlds.{WorldState}
@@ -140,18 +141,11 @@ after_going : (r : Result Part RunRefusal) (left : MonitorState) (rest : Monitor
 after_going (Err e) left rest is goes = absurd is
 after_going (Ok part) left rest is goes = rw (goes, is) refl
 
-after_ended : (r : Result Part RunRefusal) (rest : MonitorState → List AlgorithmEvent) → has_ended r ≡ true → events_after r rest ≡ []
-after_ended (Err e) rest ends = refl
-after_ended (Ok part) rest ends = rw ends refl
-
-first_event : (p n k : ℕ) (m : MonitorState) → n ≡ suc k → steps_of p n m ≡ step_event m p ++ events_after (step_on m p) (steps_of p k)
-first_event p n k m count = ap (λ x. steps_of p x m) count
-
 -- the steps go on after one that does not end its call
 pub text_goes_on : (p n k : ℕ) (m left : MonitorState) (a b : Algorithm) (mid now whole : List ℕ) → n ≡ suc k → mid ++ events_text a (steps_of p n m) ≡ whole → b ≡ a → now ≡ mid ++ events_text b (step_event m p)
     → IsLeft (step_on m p) left → has_ended (step_on m p) ≡ false → now ++ events_text a (steps_of p k left) ≡ whole
 text_goes_on p n k m left a b mid now whole count so_far of wrote is goes =
-    let all : steps_of p n m ≡ step_event m p ++ steps_of p k left = first_event p n k m count ∙ ap (λ es. step_event m p ++ es) (after_going (step_on m p) left (steps_of p k) is goes) in
+    let all : steps_of p n m ≡ step_event m p ++ steps_of p k left = first_step p n k m count ∙ ap (λ es. step_event m p ++ es) (after_going (step_on m p) left (steps_of p k) is goes) in
     ap (λ t. t ++ events_text a (steps_of p k left)) (wrote ∙ ap (λ x. mid ++ events_text x (step_event m p)) of) ∙ append_assoc mid (events_text a (step_event m p)) (events_text a (steps_of p k left))
     ∙ ap (λ t. mid ++ t) (sym (flat_map-append (event_text a) (step_event m p) (steps_of p k left))) ∙ ap (λ es. mid ++ events_text a es) (sym all) ∙ so_far
 
@@ -159,7 +153,7 @@ text_goes_on p n k m left a b mid now whole count so_far of wrote is goes =
 pub text_ends : (p n k : ℕ) (m : MonitorState) (a b : Algorithm) (mid now whole : List ℕ) → n ≡ suc k → mid ++ events_text a (steps_of p n m) ≡ whole → b ≡ a → now ≡ mid ++ events_text b (step_event m p)
     → has_ended (step_on m p) ≡ true → now ≡ whole
 text_ends p n k m a b mid now whole count so_far of wrote ends =
-    let all : steps_of p n m ≡ step_event m p = first_event p n k m count ∙ ap (λ es. step_event m p ++ es) (after_ended (step_on m p) (steps_of p k) ends) ∙ append-nil (step_event m p) in
+    let all : steps_of p n m ≡ step_event m p = first_step p n k m count ∙ ap (λ es. step_event m p ++ es) (after_ended (step_on m p) (steps_of p k) ends) ∙ append-nil (step_event m p) in
     wrote ∙ ap (λ x. mid ++ events_text x (step_event m p)) of ∙ ap (λ es. mid ++ events_text a es) (sym all) ∙ so_far
 
 -- or where none is left

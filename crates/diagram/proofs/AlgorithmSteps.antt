@@ -57,7 +57,7 @@ after_going : (r : Result Part RunRefusal) (before now : List Told) (left : Moni
 after_going (Err e) before now left rest is going = absurd is
 after_going (Ok part) before now left rest is going = rw (going, is.1) refl
 
-after_ended : (r : Result Part RunRefusal) (rest : MonitorState → List AlgorithmEvent) → has_ended r ≡ true → events_after r rest ≡ []
+pub after_ended : (r : Result Part RunRefusal) (rest : MonitorState → List AlgorithmEvent) → has_ended r ≡ true → events_after r rest ≡ []
 after_ended (Err e) rest ended = refl
 after_ended (Ok part) rest ended = rw ended refl
 
@@ -65,7 +65,7 @@ step_none : (p : ℕ) (got : Result Advanced RunRefusal) (e : RunRefusal) (rest 
 step_none p (Ok a) e rest = refl
 step_none p (Err x) e rest = refl
 
-first_step : (p n k : ℕ) (m : MonitorState) → n ≡ suc k → steps_of p n m ≡ step_event m p ++ events_after (step_on m p) (steps_of p k)
+pub first_step : (p n k : ℕ) (m : MonitorState) → n ≡ suc k → steps_of p n m ≡ step_event m p ++ events_after (step_on m p) (steps_of p k)
 first_step p n k m e = ap (λ x. steps_of p x m) e
 
 -- the steps go on after one that does not end its call

@@ -1,6 +1,6 @@
 -- What replaying a text does: the schedule that it spells is played on a new world of its sizes, before a new judge
 -- (the specification's Replay clause).
-use Rattle.std.specs.Prelude.{◌≡◌, ℕ, ◌+◌, ◌-◌, ◌^◌, ◌⊎◌, min, Bool, true, List, ◌++◌, Option, Some, None, Result, Ok, Err}
+use Rattle.std.specs.Prelude.{◌≡◌, ℕ, ◌+◌, ◌-◌, ◌^◌, ◌⊎◌, min, true, List, ◌++◌, Option, Some, None, Result, Ok, Err}
 use Rattle.rmecore.specs.declared.refusal.Refusal.{Refusal}
 use Rattle.rmecore.specs.Refused.{number_of}
 use Rattle.redomail.specs.declared.layout.Layout.{Layout}

@@ -1,9 +1,8 @@
 use Rattle.std.proofs.Common.{◌∙◌, Some, Ok, Err, subst}
 use Rattle.explorer.specs.declared.found.SearchOutcome.TheVariants.{Path, NoneWithin, Nowhere}
 use Rattle.algorithm_explorer.specs.Finding.{Answers}
-use Rattle.algorithm_explorer.specs.declared.explore_fault.AlgorithmExploreFault.TheVariants.{TooManyStates}
 use Rattle.cli.specs.declared.arguments.args.AlgorithmExploreArgs.{AlgorithmExploreArgs}
-use Rattle.commands.proofs.AlgorithmExplores.{ends_path, ends_within, ends_all, ends_many}
+use Rattle.commands.proofs.AlgorithmExplores.{ends_path, ends_within, ends_all}
 use Rattle.commands.proofs.algorithm_exploring.tell_shortest.Goals as goal
 
 pub returns-in-Ok-Path-clause-ends : goal.returns-in-Ok-Path-clause-ends

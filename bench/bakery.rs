@@ -11,7 +11,7 @@ use std::{env, hint, thread};
 const LIMIT: u64 = 1 << 62;
 const CAP: u64 = 65_536;
 
-// The data words, behind three lock words a process.
+// The data words, after three lock words a process.
 const RUINED: u64 = 0;
 const CLOSED: u64 = 1;
 const COUNT: u64 = 2;
@@ -158,7 +158,7 @@ impl Member<'_> {
         }
     }
 
-    /// The ruin check behind an entry.
+    /// The ruin check after an entry.
     fn checked(&mut self, entry: Entry) -> Entry {
         if self.table.load(self.table.data(RUINED)) == 1 {
             self.leave();
@@ -211,7 +211,7 @@ impl Member<'_> {
     }
 }
 
-/// How often a member entered in so many rounds.
+/// How often a member entered in this number of rounds.
 fn rounds_of(mut member: Member, rounds: u64) -> u64 {
     let mut entries = 0;
     for _ in 0..rounds {

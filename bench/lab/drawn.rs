@@ -5,7 +5,7 @@ use crate::report;
 use crate::terms::*;
 use crate::walk::{Move, Walk};
 
-/// What is drawn: so many processes, lines behind the header, a seed, and how many of 1,000 moves are crashes.
+/// What is drawn: how many processes, lines after the header, a seed, and how many of 1,000 moves are crashes.
 pub struct Plan {
     pub procs: u64,
     pub lines: u64,
@@ -14,7 +14,7 @@ pub struct Plan {
 }
 
 impl Plan {
-    /// A schedule: so many moves, one a line.
+    /// A schedule of this number of moves, one a line.
     pub fn schedule(&self) -> Vec<u8> {
         let mut out = format!("rme 1 procs {} limit {MOST_LIMIT} cap {MOST_CAP}\n", self.procs).into_bytes();
         let mut drawing = Drawing::of(self);
@@ -25,7 +25,7 @@ impl Plan {
         out
     }
 
-    /// A trace: so many deeds of moves.
+    /// A trace of this number of deeds of moves.
     pub fn trace(&self) -> Vec<u8> {
         let mut out = format!("trace 1 procs {} cap {MOST_CAP}\n", self.procs).into_bytes();
         let mut drawing = Drawing::of(self);

@@ -4,11 +4,11 @@
 
 /// The first words that the lines of a text can have.
 pub trait Form: Copy {
-    /// The form whose word and a space the text begins with, and what stands behind these.
+    /// The form whose word and a space the text begins with, and what follows these.
     fn named(text: &[u8]) -> Option<(Self, &[u8])>;
-    /// How many numbers stand behind the process.
+    /// How many numbers follow the process.
     fn numbers(self, width: usize) -> usize;
-    /// Whether a count of steps may stand behind the process.
+    /// Whether a count of steps may follow the process.
     fn may_count(self) -> bool;
 }
 
@@ -26,7 +26,7 @@ pub(crate) use first_of;
 /// The least and the greatest count of steps that is written.
 pub const COUNTS: (u64, u64) = (2, 1_000_000);
 
-/// The numbers behind a line's process. None has more than a `show` of eight words.
+/// The numbers after a line's process. None has more than a `show` of eight words.
 pub type Numbers = [u64; 10];
 
 /// Goes over the bytes of a text.
@@ -35,7 +35,7 @@ pub struct Reader<'a> {
 }
 
 impl Reader<'_> {
-    /// Reads the next line, and the numbers behind its process. Where a count of steps may stand and does not, it is 1.
+    /// Reads the next line, and the numbers after its process. Where a count of steps may stand and does not, it is 1.
     #[inline]
     pub fn line<F: Form>(&mut self, width: usize, numbers: &mut Numbers) -> Option<(F, u64)> {
         let (form, rest) = F::named(self.rest)?;
@@ -69,7 +69,7 @@ impl Reader<'_> {
         Some(u64::from(digit))
     }
 
-    /// A number without leading zeros: behind a first 0 no digit is read.
+    /// A number without leading zeros: after a first 0 no digit is read.
     #[inline]
     fn number(&mut self) -> Option<u64> {
         let mut number = self.digit()?;

@@ -76,13 +76,13 @@ impl Process {
         Told::act(Act::Begin)
     }
 
-    /// The process that a scan is at. Behind the last one there is none.
+    /// The process that a scan is at. After the last one there is none.
     fn other(&self, p: usize, lock: &[Own]) -> Option<(usize, Own)> {
         let other = self.scanned + usize::from(self.scanned == p);
         Some((other, *lock.get(other)?))
     }
 
-    /// Reads a number in the doorway, or behind the last one takes an own.
+    /// Reads a number in the doorway, or after the last one takes an own.
     fn peek(&mut self, p: usize, lock: &mut [Own], limit: u64) -> Told {
         let Some((other, theirs)) = self.other(p, lock) else {
             return self.take(&mut lock[p], limit);
@@ -92,7 +92,7 @@ impl Process {
         Told::NOTHING
     }
 
-    /// Looks whether another is in the doorway, or behind the last one enters.
+    /// Looks whether another is in the doorway, or after the last one enters.
     fn look(&mut self, p: usize, lock: &mut [Own]) -> Told {
         match self.other(p, lock) {
             Some((_, theirs)) if theirs.choosing != 0 => Told::NOTHING,
@@ -101,7 +101,7 @@ impl Process {
         }
     }
 
-    /// Compares two numbers. (Without looks it may stand behind the last one.)
+    /// Compares two numbers. (Without looks it may stand after the last one.)
     fn weigh(&mut self, p: usize, lock: &mut [Own], variant: Variant) -> Told {
         let Some((other, theirs)) = self.other(p, lock) else {
             return self.mark(&mut lock[p]);

@@ -3,7 +3,7 @@
 use crate::terms::*;
 use crate::world::{Aim, Next, Process, Told};
 
-// The first data words. Behind them stand the record, the board, what each sent last, and the places.
+// The first data words. After them stand the record, the board, what each sent last, and the places.
 const RUINED: usize = 0;
 const CLOSED: usize = 1;
 const COUNT: usize = 2;
@@ -106,7 +106,7 @@ impl Process {
         }
     }
 
-    /// Whether the lock is ruined, asked behind an entry.
+    /// Whether the lock is ruined, asked after an entry.
     fn check(&mut self, mail: &Mail) -> Told {
         if mail.words[RUINED] == 1 {
             self.aim = Aim::Barred;
@@ -135,7 +135,7 @@ impl Process {
         self.go(row)
     }
 
-    /// Goes on to the next word of a row, or behind the row.
+    /// Goes on to the next word of a row, or past the row.
     fn go_on(&mut self, mail: &Mail, behind: Next) -> Told {
         self.job.done += 1;
         if self.job.done == 2 + mail.width {

@@ -4,7 +4,7 @@
 //!     lab replay < SCHEDULE        lab judge < TRACE        lab hunt VARIANT SEED ROUNDS STEPS
 //!
 //! It also writes the schedule of a hunt with a letter a move, `letters` in the place of `hunt`, for the tests of the
-//! drawing rule, and draws what the two are measured by, with so many crashes among 1,000 moves:
+//! drawing rule, and draws what the two are measured by, with a given number of crashes among 1,000 moves:
 //!
 //!     lab schedule PROCS LINES SEED CRASHES        lab trace PROCS DEEDS SEED CRASHES
 

@@ -68,7 +68,7 @@ impl Stage<'_> {
         }
     }
 
-    /// Takes steps, up to so many or to the answer of the call.
+    /// Takes steps, up to this number or to the answer of the call.
     fn steps(&mut self, p: u64, count: u64) -> Result<(), Refusal> {
         for _ in 0..count {
             let told = self.world.step(p)?;
@@ -97,7 +97,7 @@ impl Stage<'_> {
 
 /// Plays a schedule. Answers whether its verdict is fine.
 ///
-/// The lines are played as they are read. Where a line is refused, those behind it are read all the same:
+/// The lines are played as they are read. Where a line is refused, those after it are read all the same:
 /// a fault of the text comes first, and then nothing of the report is kept.
 pub fn replay(text: &[u8], out: &mut Vec<u8>) -> Result<bool, Fault> {
     let in_header = |number| Fault::Text { line: 1, number };

@@ -4,7 +4,7 @@ use crate::judge::Matter;
 use crate::terms::*;
 use crate::world::World;
 
-/// Writes a number, behind a space.
+/// Writes a number, after a space.
 pub fn number(out: &mut Vec<u8>, number: u64) {
     out.push(b' ');
     digits(out, number);

@@ -46,7 +46,7 @@ struct Trial {
 }
 
 impl Trial {
-    /// Reads the header, and answers it with what stands behind it.
+    /// Reads the header, and answers it with what follows it.
     fn begun(text: &[u8]) -> Result<(Trial, &[u8]), Fault> {
         let in_header = |number| Fault::Text { line: 1, number };
         let (sizes, rest) = words::header(text, "trace", false).map_err(in_header)?;
@@ -54,7 +54,7 @@ impl Trial {
         Ok((Trial { width: sizes.width, line: 1, judge }, rest))
     }
 
-    /// The trial behind some more lines.
+    /// The trial after some more lines.
     fn heard(mut self, text: &[u8]) -> Result<Trial, Fault> {
         let mut reader = Reader { rest: text };
         let mut numbers = Numbers::default();
@@ -80,7 +80,7 @@ fn matter(act: Act, numbers: &Numbers, width: usize) -> Matter<'_> {
     }
 }
 
-/// Hands on the pieces of a text. Each ends behind a line, but the last one may end within it.
+/// Hands on the pieces of a text. Each ends after a line, but the last one may end within it.
 fn pieces(input: &mut impl Read, mut hear: impl FnMut(&[u8])) -> io::Result<()> {
     let mut buffer = vec![0; 1 << 16];
     let mut held = 0;

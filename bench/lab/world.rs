@@ -6,7 +6,7 @@ use crate::terms::*;
 
 /// The next step of a process. One that rests, is dead, or is inside without a task has none.
 ///
-/// Behind the last process of its scan, a `Peek` is the taking of a number, and a `Look` the entry.
+/// After the last process of its scan, a `Peek` is the taking of a number, and a `Look` the entry.
 #[derive(Clone, Copy, PartialEq, PartialOrd)]
 pub enum Next {
     Rest,
@@ -127,7 +127,7 @@ impl World {
         Ok(())
     }
 
-    /// Starts a call. The numbers are those behind the process in the call's line.
+    /// Starts a call. The numbers are those after the process in the call's line.
     pub fn start(&mut self, p: u64, call: Call, numbers: &[u64]) -> Result<(), Refusal> {
         let process = self.processes.get_mut(p as usize).ok_or(NO_SUCH_PROCESS)?;
         process.may_start(call, numbers)?;
@@ -169,7 +169,7 @@ impl Process {
         self.next <= Next::Inside
     }
 
-    /// Whether it waits for others, behind the doorway.
+    /// Whether it waits for others, after the doorway.
     pub fn waits(&self) -> bool {
         matches!(self.next, Next::Look | Next::Weigh)
     }

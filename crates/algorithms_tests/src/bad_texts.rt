@@ -4,7 +4,7 @@ use algorithms::{AlgorithmFault, read_algorithm};
 use std::test::Fail;
 
 /// What is wrong, a text, and where: the line, and the fault's number.
-const BAD: [(&str, &[u8], u64, u64); 61] = [
+const BAD: [(&str, &[u8], u64, u64); 77] = [
     ("empty", b"", 1, 1),
     ("no header", b"promises exclusion\n", 1, 1),
     ("header without for", b"algorithm a 2 processes\n", 1, 1),
@@ -351,12 +351,113 @@ const BAD: [(&str, &[u8], u64, u64); 61] = [
         8,
         12,
     ),
+    (
+        "letters after a number",
+        b"algorithm a for 2 processes\npromises exclusion\nshared flag[procs] up to 1\nshared turn\ncall lock\n  turn := 1a\n  done\ncall unlock\n  turn := 0 this is leave\n  done\n",
+        6,
+        4,
+    ),
+    (
+        "`_` in a number",
+        b"algorithm a for 2 processes\npromises exclusion\nshared flag[procs] up to 1\nshared turn\ncall lock\n  turn := 10_000\n  done\ncall unlock\n  turn := 0 this is leave\n  done\n",
+        6,
+        4,
+    ),
+    (
+        "an answer with two dashes",
+        b"algorithm a for 2 processes\npromises exclusion\nshared flag[procs] up to 1\nshared turn\ncall lock\n  turn := 1\n  done a--b\ncall unlock\n  turn := 0 this is leave\n  done\n",
+        7,
+        4,
+    ),
+    (
+        "an answer of a dash",
+        b"algorithm a for 2 processes\npromises exclusion\nshared flag[procs] up to 1\nshared turn\ncall lock\n  turn := 1\n  done -\ncall unlock\n  turn := 0 this is leave\n  done\n",
+        7,
+        4,
+    ),
+    (
+        "an answer that ends with a dash",
+        b"algorithm a for 2 processes\npromises exclusion\nshared flag[procs] up to 1\nshared turn\ncall lock\n  turn := 1\n  done a- b\ncall unlock\n  turn := 0 this is leave\n  done\n",
+        7,
+        4,
+    ),
+    (
+        "a dash at done",
+        b"algorithm a for 2 processes\npromises exclusion\nshared flag[procs] up to 1\nshared turn\ncall lock\n  turn := 1\n  done-x\ncall unlock\n  turn := 0 this is leave\n  done\n",
+        7,
+        4,
+    ),
+    (
+        "an index to one word that is loaded",
+        b"algorithm a for 2 processes\npromises exclusion\nshared flag[procs] up to 1\nshared turn\ncall lock\n  x := turn[me]\n  done\ncall unlock\n  turn := 0 this is leave\n  done\n",
+        6,
+        4,
+    ),
+    (
+        "unknown shared in a sum",
+        b"algorithm a for 2 processes\npromises exclusion\nshared flag[procs] up to 1\nshared turn\ncall lock\n  x := 1 + y[me]\n  done\ncall unlock\n  turn := 0 this is leave\n  done\n",
+        6,
+        6,
+    ),
+    (
+        "unknown shared in a condition",
+        b"algorithm a for 2 processes\npromises exclusion\nshared flag[procs] up to 1\nshared turn\ncall lock\nl:\n  turn := 1\n  if y[me] = 1 then goto l\n  done\ncall unlock\n  turn := 0 this is leave\n  done\n",
+        8,
+        6,
+    ),
+    (
+        "unknown shared in an index",
+        b"algorithm a for 2 processes\npromises exclusion\nshared flag[procs] up to 1\nshared turn\ncall lock\n  flag[y[me]] := 1\n  done\ncall unlock\n  turn := 0 this is leave\n  done\n",
+        6,
+        6,
+    ),
+    (
+        "unknown name in recover",
+        b"algorithm a for 2 processes\npromises exclusion\nshared flag[procs] up to 1\nshared turn\ncall lock\n  turn := 1\n  done\ncall unlock\n  turn := 0 this is leave\n  done\ncall recover\n  turn := k\n  done\n",
+        12,
+        6,
+    ),
+    (
+        "no label in withdraw",
+        b"algorithm a for 2 processes\npromises exclusion\nshared flag[procs] up to 1\nshared turn\ncall lock\n  turn := 1 may withdraw\n  done\ncall unlock\n  turn := 0 this is leave\n  done\ncall withdraw\n  turn := 0\n  goto nowhere\n",
+        13,
+        10,
+    ),
+    (
+        "read before set in recover",
+        b"algorithm a for 2 processes\npromises exclusion\nshared flag[procs] up to 1\nshared turn\ncall lock\n  turn := 1\n  done\ncall unlock\n  turn := 0 this is leave\n  done\ncall recover\n  v := turn\n  if v = 0 then k := 1\n  turn := k\n  done\n",
+        14,
+        11,
+    ),
+    (
+        "falls off in withdraw",
+        b"algorithm a for 2 processes\npromises exclusion\nshared flag[procs] up to 1\nshared turn\ncall lock\n  turn := 1 may withdraw\n  done\ncall unlock\n  turn := 0 this is leave\n  done\ncall withdraw\n  turn := 0\n",
+        12,
+        14,
+    ),
+    (
+        "never reached in recover",
+        b"algorithm a for 2 processes\npromises exclusion\nshared flag[procs] up to 1\nshared turn\ncall lock\n  turn := 1\n  done\ncall unlock\n  turn := 0 this is leave\n  done\ncall recover\n  turn := 0\n  done\n  turn := 1\n  done\n",
+        14,
+        18,
+    ),
+    (
+        "may withdraw in unlock",
+        b"algorithm a for 2 processes\npromises exclusion\nshared flag[procs] up to 1\nshared turn\ncall lock\n  turn := 1 may withdraw\n  done\ncall unlock\n  turn := 0 may withdraw this is leave\n  done\ncall withdraw\n  turn := 0\n  done\n",
+        9,
+        17,
+    ),
 ];
 
 /// Texts in which nothing is wrong.
-const GOOD: [&[u8]; 2] = [
+const GOOD: [&[u8]; 7] = [
     b"algorithm a for 2 processes\npromises exclusion\nshared flag[procs] up to 1\nshared turn\ncall lock\nl:\n  for j in others\n    v := flag[j]\n    if v = 1 then goto out\n  end\n  goto l\nout:\n  turn := v\n  done\ncall unlock\n  turn := 0 this is leave\n  done\n",
     b"algorithm a for 2 processes\npromises exclusion\nshared flag[procs] up to 1\nshared turn\ncall lock\n  v := turn\n  if not (v = 1 or (v, me) <= (2, (v + 1) * 2)) and (v) < 3 then done\n  done\ncall unlock\n  turn := 0 this is leave\n  done\n",
+    b"algorithm a for 2 processes\npromises exclusion\nshared flag[procs] up to 1\nshared turn\ncall lock\n  v := turn\n  if v = 1then done\n  done\ncall unlock\n  turn := 0 this is leave\n  done\n",
+    b"algorithm a for 2 processes\npromises exclusion\nshared flag[procs] up to 1\nshared turn\ncall unlock\n  turn := 0 this is leave\n  done\ncall lock\n  turn := 1\n  done\ncall recover\n  f := flag[me]\n  if f = 1 then\n    flag[me] := 0\n    done left\n  else\n    done nothing\n  end\n",
+    b"algorithm a for 2 processes\npromises exclusion\nshared flag[procs] up to 1\nshared turn\ncall lock\n  v := turn\n  if v = 1 then\n    if me = 0 then\n      done\n    else\n      done\n    end\n  else\n    done\n  end\ncall unlock\n  k := me\n  flag[k] := 0 this is leave\n  done\n",
+    b"algorithm a for 2 processes\npromises exclusion\nshared flag[procs] up to 1\nshared turn\ncall lock\n  turn := 1\n  done\ncall unlock\n  turn := 0 this is leave\n  for j in all\n    v := flag[j]\n    done\n  end\n",
+    b"algorithm a for 2 processes\npromises exclusion\nshared flag[procs] up to 1\nshared turn\ncall lock\nl:\n  v := turn\n  if v = 1 then\n    turn := 0\n    goto l\n  else\n    turn := 1\n    goto l\n  end\ncall unlock\nl:\n  turn := 0 this is leave\n  goto l\n",
 ];
 
 #[test]

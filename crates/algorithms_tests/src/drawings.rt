@@ -4,15 +4,15 @@ pub mod bakeries;
 pub mod others;
 
 use crate::drawings::{bakeries as bakery_drawings, others as other_drawings};
+use crate::support::{TRIES, Unflushed, all_algorithms};
 use crate::texts::{bakeries as bakery_texts, others as other_texts};
 use algorithm_lab::AlgorithmReplayFault;
-use algorithms::{Algorithm, read_algorithm};
+use algorithms::read_algorithm;
 use diagram::{Style, draw_algorithm};
 use memory_limit::ScarceMemory;
 use schedule::{Page, Schedule, Sink, ToWriter, Verdict, read_schedule};
 use std::alloc::Global;
-use std::io;
-use std::io::{Cursor, ErrorKind, Write};
+use std::io::Cursor;
 use std::process::Abort;
 use std::test::Fail;
 
@@ -237,20 +237,6 @@ fn a_refused_line_ends_the_drawing(rt: HostRuntime) -> Result<(), Fail> {
     Ok(())
 }
 
-/// A writer that takes everything, and fails when it is flushed.
-#[derive(Drop)]
-struct Unflushed;
-
-impl Write for Unflushed {
-    fn write(&mut self, bytes: &[u8]) -> io::Result<usize> {
-        Ok(bytes.len())
-    }
-
-    fn flush(&mut self) -> io::Result<()> {
-        Err(io::Error::from(ErrorKind::Other))
-    }
-}
-
 #[test]
 fn a_sink_fails(rt: HostRuntime) -> Result<(), Fail> {
     let alloc = rt.alloc();
@@ -267,18 +253,6 @@ fn a_sink_fails(rt: HostRuntime) -> Result<(), Fail> {
     let ended = draw_run(alloc, other_texts::PETERSON, ALONE, Style::Text, &mut sink)?;
     assert_eq!(rt; ended, Err(AlgorithmReplayFault::Write));
     Ok(())
-}
-
-/// How many requests for memory may be refused.
-const TRIES: usize = 100;
-
-/// The same algorithm, once for each try.
-fn all_algorithms(alloc: Global, text: &[u8]) -> Result<Vec<Algorithm>, Fail> {
-    let mut all = Vec::with_capacity(alloc, TRIES)?;
-    for _ in 0..TRIES {
-        all.push(read_algorithm(alloc, text)?)?;
-    }
-    Ok(all)
 }
 
 /// What stands before the first zero.

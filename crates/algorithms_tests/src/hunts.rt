@@ -1,8 +1,9 @@
 //! Hunts on algorithms. What the hunt of a seed finds was found with the reference program and the drawing rule.
 
+use crate::support::{TRIES, all_algorithms};
 use crate::texts::{bakeries, others};
 use algorithm_explorer::{AlgorithmHuntFault, hunt_algorithm_schedule};
-use algorithms::{Algorithm, AlgorithmRefusal, read_algorithm};
+use algorithms::{AlgorithmRefusal, read_algorithm};
 use memory_limit::ScarceMemory;
 use schedule::{Schedule, write_schedule};
 use std::alloc::Global;
@@ -142,18 +143,6 @@ fn refused_hunts(rt: HostRuntime) -> Result<(), Fail> {
     let bad_procs = AlgorithmHuntFault::Refused(AlgorithmRefusal::BadProcs);
     assert!(rt; matches!(refused, Err(fault) if fault == bad_procs));
     Ok(())
-}
-
-/// How many requests for memory may be refused.
-const TRIES: usize = 200;
-
-/// The same algorithm, once for each try.
-fn all_algorithms(alloc: Global, text: &[u8]) -> Result<Vec<Algorithm>, Fail> {
-    let mut all = Vec::with_capacity(alloc, TRIES)?;
-    for _ in 0..TRIES {
-        all.push(read_algorithm(alloc, text)?)?;
-    }
-    Ok(all)
 }
 
 #[test]

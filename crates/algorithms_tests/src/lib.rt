@@ -26,4 +26,6 @@ mod sessions;
 mod shrinks;
 #[cfg(test)]
 mod spelling;
+#[cfg(test)]
+mod support;
 pub mod texts;

@@ -1,6 +1,7 @@
 //! Replays of schedules, as the reference program reports them.
 
 pub mod bakeries;
+pub mod constructs;
 pub mod others;
 pub mod refusals;
 pub mod variants;

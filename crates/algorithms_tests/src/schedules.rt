@@ -4,16 +4,17 @@ use crate::reports::refusals::{
     REFUSED_BY_BAKERY_1974, REFUSED_BY_PETERSON, REFUSED_BY_RECOVERABLE_PETERSON,
 };
 use crate::reports::{
-    Reported, bakeries as bakery_reports, others as other_reports, variants as variant_reports,
+    Reported, bakeries as bakery_reports, constructs as construct_reports, others as other_reports,
+    variants as variant_reports,
 };
-use crate::texts::{bakeries, others};
+use crate::support::{TRIES, Unflushed, all_algorithms};
+use crate::texts::{bakeries, constructs, others};
 use algorithm_lab::{AlgorithmReplayFault, replay_algorithm};
-use algorithms::{Algorithm, read_algorithm};
+use algorithms::read_algorithm;
 use memory_limit::ScarceMemory;
 use schedule::{Page, Schedule, Sink, ToWriter, Verdict, read_schedule};
 use std::alloc::Global;
-use std::io;
-use std::io::{Cursor, ErrorKind, Write};
+use std::io::Cursor;
 use std::process::Abort;
 use std::test::Fail;
 
@@ -101,6 +102,16 @@ fn other_locks_report(rt: HostRuntime) -> Result<(), Fail> {
     compare(&rt, alloc, others::SZYMANSKI, other_reports::SZYMANSKI)
 }
 
+#[test]
+fn each_construct_reports(rt: HostRuntime) -> Result<(), Fail> {
+    compare(
+        &rt,
+        rt.alloc(),
+        constructs::CONSTRUCTS,
+        construct_reports::CONSTRUCTS,
+    )
+}
+
 /// Replays a schedule of which a line is refused. It is that line with that number, and what the lines before it report is
 /// written.
 fn is_refused<R: Abort>(
@@ -137,20 +148,6 @@ fn lines_are_refused(rt: HostRuntime) -> Result<(), Fail> {
     Ok(())
 }
 
-/// A writer that takes everything, and fails when it is flushed.
-#[derive(Drop)]
-struct Unflushed;
-
-impl Write for Unflushed {
-    fn write(&mut self, bytes: &[u8]) -> io::Result<usize> {
-        Ok(bytes.len())
-    }
-
-    fn flush(&mut self) -> io::Result<()> {
-        Err(io::Error::from(ErrorKind::Other))
-    }
-}
-
 #[test]
 fn a_sink_fails(rt: HostRuntime) -> Result<(), Fail> {
     let alloc = rt.alloc();
@@ -168,18 +165,6 @@ fn a_sink_fails(rt: HostRuntime) -> Result<(), Fail> {
     let result = replayed(alloc, others::ONE_WORD, schedule, &mut sink)?;
     assert_eq!(rt; result, Err(AlgorithmReplayFault::Write));
     Ok(())
-}
-
-/// How many requests for memory may be refused.
-const TRIES: usize = 100;
-
-/// The same algorithm, once for each try.
-fn all_algorithms(alloc: Global, text: &[u8]) -> Result<Vec<Algorithm>, Fail> {
-    let mut all = Vec::with_capacity(alloc, TRIES)?;
-    for _ in 0..TRIES {
-        all.push(read_algorithm(alloc, text)?)?;
-    }
-    Ok(all)
 }
 
 #[test]

@@ -102,6 +102,16 @@ fn states_of_the_bakery_with_more_numbers(rt: HostRuntime) -> Result<(), Fail> {
 }
 
 #[test]
+fn states_without_the_word_ruined(rt: HostRuntime) -> Result<(), Fail> {
+    let alloc = rt.alloc();
+    let found = search(alloc, bakeries::BAKERY, 2, 4, Some(0), &BOTH)?;
+    assert_eq!(rt; found, Found::States(833));
+    let found = search(alloc, bakeries::BAKERY, 2, 2, Some(1), &BOTH)?;
+    assert_eq!(rt; found, Found::States(2206));
+    Ok(())
+}
+
+#[test]
 fn states_of_the_bakery_for_three(rt: HostRuntime) -> Result<(), Fail> {
     let alloc = rt.alloc();
     let found = search(alloc, bakeries::BAKERY_RUIN, 3, 1, Some(0), &BOTH)?;

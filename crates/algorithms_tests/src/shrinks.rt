@@ -1,10 +1,11 @@
 //! Schedules of algorithms, minimized. What is least was found with the reference program: it plays each schedule without a line, with
 //! a count lowered, and with two lines of steps made one.
 
+use crate::support::{TRIES, all_algorithms};
 use crate::texts::others;
 use algorithm_explorer::shrink_algorithm_schedule;
 use algorithm_lab::{AlgorithmReplayFault, RunRefusal};
-use algorithms::{Algorithm, AlgorithmRefusal, read_algorithm};
+use algorithms::{AlgorithmRefusal, read_algorithm};
 use memory_limit::ScarceMemory;
 use schedule::{Schedule, read_schedule, write_schedule};
 use std::alloc::Global;
@@ -112,18 +113,6 @@ fn nothing_to_shrink(rt: HostRuntime) -> Result<(), Fail> {
     };
     assert!(rt; matches!(unmade, Err(fault) if fault == line_1));
     Ok(())
-}
-
-/// How many requests for memory may be refused.
-const TRIES: usize = 200;
-
-/// The same algorithm, once for each try.
-fn all_algorithms(alloc: Global, text: &[u8]) -> Result<Vec<Algorithm>, Fail> {
-    let mut all = Vec::with_capacity(alloc, TRIES)?;
-    for _ in 0..TRIES {
-        all.push(read_algorithm(alloc, text)?)?;
-    }
-    Ok(all)
 }
 
 #[test]

@@ -105,6 +105,19 @@ fn compare_answers<R: Abort>(rt: &R, algorithm: &Algorithm) {
     }
 }
 
+/// Two answers that differ in the spaces between their words alone.
+const SPACED: &[u8] =
+    b"algorithm a for 2 processes\npromises exclusion\nshared x\ncall lock\n  x := 1\n  done   let-in  at once \ncall unlock\n  x := 0\n  done let-in at   once# again\n";
+
+#[test]
+fn spaces_part_the_words_of_an_answer(rt: HostRuntime) -> Result<(), Fail> {
+    let algorithm = read_algorithm(rt.alloc(), SPACED)?;
+    assert_eq!(rt; algorithm.answers.len(), 1);
+    let answer = algorithm.answers.first().ok_or("an answer")?;
+    assert_eq!(rt; answer.as_str(), "let-in at once");
+    Ok(())
+}
+
 #[test]
 fn the_text_spells_the_bakery(rt: HostRuntime) -> Result<(), Fail> {
     let alloc = rt.alloc();

@@ -1,6 +1,7 @@
 //! The head of a text, its declarations and its calls.
 
 use crate::algorithm::{Algorithm, Call, Declaration, Entries, Promises};
+use crate::constants::MOST_PROCS;
 use crate::expression::Expression;
 use crate::fault::LineFault;
 use crate::reading::lines::{CallRead, Draft, after, after_word, ended, split_value};
@@ -9,6 +10,7 @@ use crate::reading::tokens::{Sign, Token, Tokens, is_sign, is_word};
 use crate::reading::values::value;
 use std::alloc::Global;
 
+/// The most declarations of shared words.
 const MOST_DECLARATIONS: usize = 64;
 
 /// The number at a token.
@@ -67,7 +69,7 @@ pub fn head(alloc: Global, line: &Tokens) -> Result<Algorithm, LineFault> {
     let (least, most, rest) = numbers(rest)?;
     let rest = after_word(rest, b"processes").map_err(|_| header)?;
     ended(rest).map_err(|_| header)?;
-    if least == 0 || least > most || most > 64 {
+    if least == 0 || least > most || most > MOST_PROCS as u64 {
         return Err(LineFault::TooBig);
     }
     empty_algorithm(alloc, name.as_bytes(), least, most)
@@ -123,9 +125,9 @@ fn bound(
     }
     let rest = after_word(after_word(tokens, b"up")?, b"to")?;
     let (part, rest) = split_value(rest);
-    ended(rest)?;
     let known = algorithm.names.len();
     let value = value(alloc, algorithm, part)?;
+    ended(rest)?;
     if is_bound(&value) && algorithm.names.len() == known {
         Ok(Some(value))
     } else {
@@ -163,7 +165,7 @@ fn call_of(token: Option<&Token>) -> Result<Call, LineFault> {
 }
 
 impl Draft {
-    /// The call that was read last ends here. `FallsOff` where it has no lines.
+    /// Ends the call that was read last, if there is one. `BadBlock` where a block of it has no end.
     pub fn end_call(&mut self, last: u64) -> Result<(), LineFault> {
         if !self.opened.is_empty() {
             return Err(LineFault::BadBlock);

@@ -284,24 +284,25 @@ impl<'a> Flow<'a> {
         Ok(())
     }
 
-    /// Checks what the runs of the call may do. `lasting` are the names that stay from call to call.
+    /// Checks what the runs of the call may do, and answers which places they come to. `lasting` are the names that stay from
+    /// call to call.
     pub fn check(
         &self,
         alloc: Global,
         jumps: &[Jump],
         lasting: usize,
-    ) -> Result<(), AlgorithmFault> {
+    ) -> Result<Vec<bool>, AlgorithmFault> {
         let reached = self.reached(alloc, true)?;
-        let reached = reached.as_slice();
         let mut names = 0;
         for name in 0..lasting {
             names |= bit(name);
         }
-        self.check_reached(reached, jumps)?;
-        self.check_end(reached)?;
-        self.check_set(alloc, reached, names)?;
-        self.check_ends(alloc, reached)?;
-        self.check_steps(alloc)
+        self.check_reached(reached.as_slice(), jumps)?;
+        self.check_end(reached.as_slice())?;
+        self.check_set(alloc, reached.as_slice(), names)?;
+        self.check_ends(alloc, reached.as_slice())?;
+        self.check_steps(alloc)?;
+        Ok(reached)
     }
 }
 

@@ -10,9 +10,10 @@ use crate::reading::tokens::{Sign, Token, Tokens, Word, is_sign, is_word};
 use crate::reading::values::{condition, value};
 use std::alloc::Global;
 
-/// How deep blocks stand in one another at most, and loops.
+/// How deep blocks stand in one another at most.
 const DEEPEST_BLOCK: usize = 16;
 
+/// How deep loops stand in one another at most.
 const DEEPEST_LOOP: usize = 2;
 
 /// A block whose end is not read yet: the place of its first line, and what it is.
@@ -117,7 +118,6 @@ fn ends_value(token: &Token) -> bool {
         || is_word(Some(token), b"done")
         || is_sign(Some(token), Sign::Assign)
         || is_sign(Some(token), Sign::CloseIndex)
-        || is_sign(Some(token), Sign::OpenIndex)
 }
 
 /// The tokens of a value or a condition, and those after it.
@@ -224,6 +224,9 @@ impl Draft {
             .is_some_and(|declared| declared.each);
         let rest = after(tokens, 1);
         if !each {
+            if is_sign(rest.first(), Sign::OpenIndex) {
+                return Err(LineFault::BadForm);
+            }
             return Ok((
                 WordOf {
                     declaration,
@@ -458,7 +461,7 @@ impl Draft {
         let tokens = line.all.as_slice();
         let first = tokens.first();
         if is_word(first, b"if") {
-            self.branch(alloc, after(tokens, 1), line.answer)
+            self.branch(alloc, after(tokens, 1), line.answer.as_slice())
         } else if is_word(first, b"for") {
             self.loop_head(alloc, after(tokens, 1))
         } else if is_word(first, b"else") {
@@ -479,7 +482,7 @@ impl Draft {
             })?;
             Ok(())
         } else {
-            self.simple(alloc, tokens, line.answer)
+            self.simple(alloc, tokens, line.answer.as_slice())
         }
     }
 }

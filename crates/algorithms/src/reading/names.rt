@@ -71,7 +71,7 @@ pub fn declaration_of(algorithm: &Algorithm, word: &[u8]) -> Option<usize> {
         .position(|declared| declared.name.as_bytes() == word)
 }
 
-/// The private name at a token.
+/// The index of a private name.
 fn index_of(algorithm: &Algorithm, word: &[u8]) -> Option<usize> {
     algorithm
         .names
@@ -95,7 +95,7 @@ pub fn new_name(token: Option<&Token>) -> Result<Word, LineFault> {
     }
 }
 
-/// The index of a private name, new or not.
+/// The index of a private name, which is added where it is new.
 fn place_of(alloc: Global, algorithm: &mut Algorithm, word: &[u8]) -> Result<usize, LineFault> {
     if let Some(index) = index_of(algorithm, word) {
         return Ok(index);

@@ -10,9 +10,6 @@ use std::alloc::Global;
 /// The most characters of a name.
 const LONGEST_NAME: usize = 32;
 
-/// The most digits that always fit in 64 bits.
-const SHORT_NUMBER: usize = 20;
-
 /// A sign of a text.
 #[derive(Clone, Copy, Debug, PartialEq, Eq)]
 pub enum Sign {
@@ -42,11 +39,11 @@ pub enum Token {
     Sign(Sign),
 }
 
-/// The tokens of a line, and what follows them after the word `done`.
+/// The tokens of a line, and the answer that stands after the word `done`.
 #[derive(Drop)]
-pub struct Tokens<'a> {
+pub struct Tokens {
     pub all: Vec<Token>,
-    pub answer: &'a [u8],
+    pub answer: Vec<u8>,
 }
 
 impl Word {
@@ -81,21 +78,16 @@ fn is_name_byte(byte: u8) -> bool {
     byte.is_ascii_alphanumeric() || byte == b'_'
 }
 
-/// The number of these digits, of which there is at least one.
+/// The number of these digits, of which there is at least one. `TooBig` where it is above 2^64 - 1.
 fn number_of(digits: &[u8]) -> Result<u64, LineFault> {
     if digits.len() > 1 && digits.first() == Some(&b'0') {
         return Err(LineFault::BadForm);
     }
-    if digits.len() > SHORT_NUMBER {
-        return Err(LineFault::TooBig);
-    }
     let mut value: u64 = 0;
     for digit in digits {
-        let Some(unit) = digit.checked_sub(b'0') else {
-            return Err(LineFault::BadCharacter);
-        };
+        let unit = u64::from(digit.saturating_sub(b'0'));
         let tens = value.checked_mul(10).ok_or(LineFault::TooBig)?;
-        value = tens.checked_add(u64::from(unit)).ok_or(LineFault::TooBig)?;
+        value = tens.checked_add(unit).ok_or(LineFault::TooBig)?;
     }
     Ok(value)
 }
@@ -131,7 +123,17 @@ fn short_sign(byte: u8) -> Result<Sign, LineFault> {
     }
 }
 
-/// How many bytes at the front pass the test.
+/// How many bytes at the front are digits.
+fn digits(bytes: &[u8]) -> usize
+    ensures { result ≤ length bytes.now }
+{
+    bytes
+        .iter()
+        .position(|byte| !byte.is_ascii_digit())
+        .unwrap_or(bytes.len())
+}
+
+/// How many bytes at the front are letters, digits or `_`.
 fn front(bytes: &[u8]) -> usize
     ensures { result ≤ length bytes.now }
 {
@@ -141,11 +143,8 @@ fn front(bytes: &[u8]) -> usize
         .unwrap_or(bytes.len())
 }
 
-/// The token that these letters and digits are.
-fn word_or_number(first: u8, bytes: &[u8]) -> Result<Token, LineFault> {
-    if first.is_ascii_digit() {
-        return Ok(Token::Number(number_of(bytes)?));
-    }
+/// The token that these letters are.
+fn word_token(bytes: &[u8]) -> Result<Token, LineFault> {
     let word = Word::of(bytes)?;
     if word.is(b"mod") {
         return Ok(Token::Sign(Sign::Operator(Operator::Remainder)));
@@ -158,9 +157,13 @@ fn first_token(first: u8, bytes: &[u8]) -> Result<(Token, usize), LineFault>
     requires { 0 < length bytes.now }
     ensures { IfOk result (λ read. (0 < read.1) × (read.1 ≤ length bytes.now)) }
 {
+    let end = digits(bytes);
+    if end > 0 {
+        return Ok((Token::Number(number_of(&bytes[..end])?), end));
+    }
     let end = front(bytes);
     if end > 0 {
-        return Ok((word_or_number(first, &bytes[..end])?, end));
+        return Ok((word_token(&bytes[..end])?, end));
     }
     if bytes.len() > 1 {
         if let Some(sign) = long_sign(first, bytes[1]) {
@@ -170,9 +173,28 @@ fn first_token(first: u8, bytes: &[u8]) -> Result<(Token, usize), LineFault>
     Ok((Token::Sign(short_sign(first)?), 1))
 }
 
-/// Whether an answer is words of small letters, or of such joined by a dash.
-fn is_answer(bytes: &[u8]) -> bool {
-    bytes.iter().all(|byte| byte.is_ascii_lowercase() || *byte == b' ' || *byte == b'-')
+/// The answer after `done`, with one space between its words. `BadForm` where they are not small letters, or such joined by
+/// single dashes.
+fn answer_of(alloc: Global, bytes: &[u8]) -> Result<Vec<u8>, LineFault> {
+    let mut answer = Vec::new(alloc);
+    let mut last = b' ';
+    for byte in bytes {
+        if byte.is_ascii_lowercase() {
+            if last == b' ' && !answer.is_empty() {
+                answer.push(b' ')?;
+            }
+            answer.push(*byte)?;
+        } else if *byte == b'-' && last.is_ascii_lowercase() {
+            answer.push(b'-')?;
+        } else if *byte != b' ' || last == b'-' {
+            return Err(LineFault::BadForm);
+        }
+        last = *byte;
+    }
+    if last == b'-' {
+        return Err(LineFault::BadForm);
+    }
+    Ok(answer)
 }
 
 /// The bytes before a comment.
@@ -184,7 +206,7 @@ fn before_comment(line: &[u8]) -> &[u8] {
 }
 
 /// The tokens of a line, without its LF. A comment is none.
-pub fn tokens_of(alloc: Global, line: &[u8]) -> Result<Tokens<'_>, LineFault> {
+pub fn tokens_of(alloc: Global, line: &[u8]) -> Result<Tokens, LineFault> {
     if !line.iter().all(|byte| *byte >= b' ' && *byte <= b'~') {
         return Err(LineFault::BadCharacter);
     }
@@ -199,16 +221,12 @@ pub fn tokens_of(alloc: Global, line: &[u8]) -> Result<Tokens<'_>, LineFault> {
         all.push(token)?;
         rest = &rest[length..];
         if is_word(Some(&token), b"done") {
-            if !is_answer(rest) {
-                return Err(LineFault::BadForm);
-            }
-            return Ok(Tokens {
-                all,
-                answer: rest.trim_ascii(),
-            });
+            let answer = answer_of(alloc, rest)?;
+            return Ok(Tokens { all, answer });
         }
     }
-    Ok(Tokens { all, answer: rest })
+    let answer = Vec::new(alloc);
+    Ok(Tokens { all, answer })
 }
 
 /// Whether a token is this word.

@@ -1,12 +1,12 @@
 //! Which private names a line reads and sets, as bits of a number.
 
 use crate::condition::{Condition, Pair};
-use crate::expression::Expression;
+use crate::expression::{Expression, NAMES};
 use crate::line::{AccessLine, Action, Form, LocalLine};
 
 /// The bit of a name.
 pub fn bit(name: usize) -> u64 {
-    if name < 32 { 1 << name } else { 0 }
+    if name < NAMES { 1 << name } else { 0 }
 }
 
 fn of_value(value: &Expression) -> u64 {

@@ -227,11 +227,20 @@ fn begin(
     }
 }
 
+/// What is wrong with an index after a value: the word before it would be a shared one that is not declared.
+fn index_fault(parts: &Parts) -> LineFault {
+    match parts.operands.last() {
+        Some(Operand::Value(Expression::Private(_))) => LineFault::UnknownName,
+        _ => LineFault::BadForm,
+    }
+}
+
 /// Reads a token after a value.
 fn go_on(alloc: Global, parts: &mut Parts, token: &Token) -> Result<(), LineFault> {
     let pending = match token {
         Token::Sign(Sign::Close) => return close(alloc, parts),
         Token::Sign(Sign::Comma) => return comma(alloc, parts),
+        Token::Sign(Sign::OpenIndex) => return Err(index_fault(parts)),
         Token::Sign(Sign::Operator(operator)) => Pending::Operator(*operator),
         Token::Sign(Sign::Comparison(comparison)) => Pending::Comparison(*comparison),
         Token::Word(word) if word.is(b"and") => Pending::And,

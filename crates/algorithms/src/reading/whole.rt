@@ -5,16 +5,18 @@ ghost use Rattle.algorithms.specs.Ranked.{LocalLinesEnd, AccessesLeadOn};
 
 use crate::algorithm::{Algorithm, Call};
 use crate::fault::{AlgorithmFault, LineFault};
+use crate::line::{Form, Line};
 use crate::ranks::lines_end;
 use crate::reading::calls::{head, promises};
 use crate::reading::flow::Flow;
 use crate::reading::lines::{CallRead, Draft};
 use crate::reading::tokens::{Tokens, tokens_of};
-use std::alloc::Global;
+use std::alloc::{AllocError, Global};
 
-/// The most lines of a text, and of those that are not empty.
+/// The most lines of a text.
 const MOST_LINES: usize = 4096;
 
+/// The most lines of a text that are not empty.
 const MOST_FILLED: usize = 1024;
 
 /// The most characters of a line.
@@ -22,17 +24,13 @@ const LONGEST_LINE: usize = 1000;
 
 /// A line that is not empty, with its number.
 #[derive(Drop)]
-struct Filled<'a> {
+struct Filled {
     number: u64,
-    tokens: Tokens<'a>,
+    tokens: Tokens,
 }
 
 /// The tokens of one line, with its number.
-fn read_tokens<'a>(
-    alloc: Global,
-    number: u64,
-    line: &'a [u8],
-) -> Result<Filled<'a>, AlgorithmFault> {
+fn read_tokens(alloc: Global, number: u64, line: &[u8]) -> Result<Filled, AlgorithmFault> {
     if line.len() > LONGEST_LINE {
         return Err(LineFault::TooBig.at(number));
     }
@@ -43,7 +41,7 @@ fn read_tokens<'a>(
 }
 
 /// The lines of a text that are not empty.
-fn lines_of(alloc: Global, text: &[u8]) -> Result<Vec<Filled<'_>>, AlgorithmFault> {
+fn lines_of(alloc: Global, text: &[u8]) -> Result<Vec<Filled>, AlgorithmFault> {
     let mut lines = Vec::new(alloc);
     let mut number: u64 = 1;
     let mut rest = text;
@@ -131,25 +129,53 @@ fn entries(draft: &mut Draft) -> Result<(), AlgorithmFault> {
 /// The calls that a text has, in the order in which they are checked.
 const CALLS: [Call; 4] = [Call::Lock, Call::Unlock, Call::Recover, Call::Withdraw];
 
-/// Checks what the runs of all calls may do, and answers a rank for each line.
-fn ranks(alloc: Global, draft: &Draft) -> Result<Vec<u64>, AlgorithmFault> {
+/// Lets each line of a call to which no run comes end the call. Such a line has no text of its own: after a block that always
+/// ends in `goto` or `done`, it is the way past an `else`, or back to the head of a loop. What it is does not matter, since no
+/// run comes there. But there may be no line to which it would lead, and an end leads to none.
+fn end_unreached(lines: &mut [Line], call: CallRead, reached: &[bool]) {
+    for place in call.from..call.to {
+        if reached.get(place).copied() == Some(false) {
+            if let Some(line) = lines.get_mut(place) {
+                line.form = Form::Done(0);
+            }
+        }
+    }
+}
+
+/// Checks what the runs of all calls may do.
+fn check_runs(alloc: Global, draft: &mut Draft) -> Result<(), AlgorithmFault> {
+    for call in CALLS {
+        if let Some(call) = call_of(draft, call) {
+            let algorithm = &mut draft.algorithm;
+            let reached = Flow::of(algorithm.lines.as_slice(), call, algorithm.least).check(
+                alloc,
+                draft.jumps.as_slice(),
+                algorithm.lasting,
+            )?;
+            end_unreached(algorithm.lines.as_mut_slice(), call, reached.as_slice());
+        }
+    }
+    Ok(())
+}
+
+/// A rank for each line.
+fn ranks(alloc: Global, draft: &Draft) -> Result<Vec<u64>, AllocError> {
     let lines = draft.algorithm.lines.as_slice();
     let mut ranks = vec![in alloc; 0; lines.len()]?;
     for call in CALLS {
         if let Some(call) = call_of(draft, call) {
-            let flow = Flow::of(lines, call, draft.algorithm.least);
-            flow.check(alloc, draft.jumps.as_slice(), draft.algorithm.lasting)?;
-            flow.rank(ranks.as_mut_slice());
+            Flow::of(lines, call, draft.algorithm.least).rank(ranks.as_mut_slice());
         }
     }
     Ok(ranks)
 }
 
 /// Checks what the runs of all calls may do, and that the local lines after each access end.
-fn check_flow(alloc: Global, draft: &Draft) -> Result<(), AlgorithmFault>
-    ensures ends { OnOk result (LocalLinesEnd draft.now.algorithm) }
-    ensures leads { OnOk result (AccessesLeadOn draft.now.algorithm) }
+fn check_flow(alloc: Global, draft: &mut Draft) -> Result<(), AlgorithmFault>
+    ensures ends { OnOk result (LocalLinesEnd draft.new.algorithm) }
+    ensures leads { OnOk result (AccessesLeadOn draft.new.algorithm) }
 {
+    check_runs(alloc, draft)?;
     let ranks = ranks(alloc, draft)?;
     if lines_end(&draft.algorithm, ranks.as_slice()) {
         Ok(())
@@ -160,15 +186,14 @@ fn check_flow(alloc: Global, draft: &Draft) -> Result<(), AlgorithmFault>
 
 /// Reads an algorithm from a text.
 ///
-/// The faults of all characters come first, then those of forms, then those of labels, names and deeds, and at last those of
-/// what runs may do. Of the first kind that there is, the first line is named.
+/// Faults are looked for in four rounds, and the first that is found is named: those of the characters and tokens of all lines;
+/// those of forms, declared names, blocks and calls; call by call those of labels, names and deeds; and call by call those of
+/// what runs may do. Calls are taken in the order lock, unlock, recover, withdraw, whatever their order in the text, and in
+/// each call labels before names and deeds.
 pub fn read_algorithm(alloc: Global, text: &[u8]) -> Result<Algorithm, AlgorithmFault>
     ensures ends { IfOk result LocalLinesEnd }
     ensures leads { IfOk result AccessesLeadOn }
 {
-    if text.is_empty() {
-        return Err(LineFault::NoHeader.at(1));
-    }
     let lines = lines_of(alloc, text)?;
     let mut draft = forms(alloc, lines.as_slice())?;
     entries(&mut draft)?;
@@ -178,6 +203,6 @@ pub fn read_algorithm(alloc: Global, text: &[u8]) -> Result<Algorithm, Algorithm
         }
     }
     draft.check_withdraw()?;
-    check_flow(alloc, &draft)?;
+    check_flow(alloc, &mut draft)?;
     Ok(draft.algorithm)
 }

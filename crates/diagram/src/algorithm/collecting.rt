@@ -133,7 +133,7 @@ fn take_step(
     ensures kept { IfErr result (λ e. IsRefusal e → (rows.new.items ≡ rows.old.items)) }
 {
     let before = told.len();
-    let advanced = monitor.take(p, told)?;
+    let advanced = monitor.advance(p, told)?;
     let phase = lifeline_phase(monitor.phase(p));
     note(
         rows,

@@ -77,7 +77,7 @@ fn put_step(
     ensures same { IfErr result (λ e. IsRefusal e → monitor.new ≡ monitor.old) }
 {
     let mut told = Vec::new(alloc);
-    let advanced = monitor.take(p, &mut told)?;
+    let advanced = monitor.advance(p, &mut told)?;
     let phase = lifeline_phase(monitor.phase(p));
     let algorithm = monitor.world().algorithm();
     put_event(out, algorithm, p, act_of(&advanced), phase, told.as_slice())?;

@@ -160,7 +160,7 @@ pub fn put_line(
 
 /// The number of a refusal. Out of memory has none.
 #[tactic(auto, using(crate::proofs::AlgorithmSessions::has_number))]
-pub fn refused(refusal: RunRefusal) -> Result<u64, AllocError>
+pub fn number_of_refusal(refusal: RunRefusal) -> Result<u64, AllocError>
     ensures number { IfOk result (λ number. number_by (Some refusal) ≡ Some number) }
     ensures numbered { OnOk result (IsRefusal refusal) }
 {
@@ -191,7 +191,7 @@ pub fn count_steps(
                 }
             }
             Err(refusal) => {
-                refused(refusal)?;
+                number_of_refusal(refusal)?;
                 return Ok(Some(k + 1));
             }
         }

@@ -6,7 +6,7 @@ use Rattle.algorithm_lab.proofs.replaying.replay_algorithm.Goals as goal
 pub returns-in_err-monitor : goal.returns-in_err-monitor
 returns-in_err-monitor g c =
     let s = c.args.schedule.now in
-    let p = err_from_is_err_and c.from_residual-in_err-monitor.result c.from_residual-in_err-monitor.ensures.1 in
+    let p = err_from_is_err_and c.from_residual.result c.from_residual.ensures.1 in
     rw (p.1, p.2) (none_played (g.W.Sink.tape c.args.w.now) c.args.algorithm s.procs s.limit s.lines c.in_err-monitor.field-0.0 c.in_err-monitor.ensures.refused)
 
 pub returns-in_err-put_out : goal.returns-in_err-put_out

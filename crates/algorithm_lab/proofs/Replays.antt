@@ -1,13 +1,15 @@
 -- What a replay writes.
-use Rattle.std.proofs.Common.{◌≡◌, ℕ, ◌+◌, ◌^◌, ◌-◌, min, List, None, Ok, Err, Result, sym, ap, ◌∙◌, subst}
+use Rattle.std.proofs.Common.{◌≡◌, ℕ, ◌+◌, ◌^◌, ◌-◌, min, List, Option, Some, None, Ok, Err, Result, refl, sym, ap, ◌∙◌, subst, append-nil}
 use Rattle.schedule.specs.Tapes.{Tape, Begins}
 use Rattle.schedule.specs.declared.lines.line.Line.{Line}
 use Rattle.schedule.specs.declared.replays.verdict.Verdict.{Verdict}
 use Rattle.algorithms.specs.Worlds.{new_refusal}
 use Rattle.algorithms.specs.declared.algorithm.Algorithm.{Algorithm}
+use Rattle.algorithms.specs.declared.refusal.AlgorithmRefusal.{AlgorithmRefusal}
 use Rattle.algorithm_lab.specs.Monitors.{MonitorState, first_monitor}
-use Rattle.algorithm_lab.specs.Replays.{run_unless, run_of, text_of, IsReplayed, Replays}
+use Rattle.algorithm_lab.specs.Replays.{world_fault, run_unless, run_of, text_of, IsReplayed, Replays}
 use Rattle.algorithm_lab.specs.Runs.{Run, run_on}
+use Rattle.algorithm_lab.specs.declared.replay_fault.AlgorithmReplayFault.{AlgorithmReplayFault}
 use Rattle.algorithm_lab.specs.declared.replay_fault.AlgorithmReplayFault.TheVariants as faults
 use Rattle.algorithm_lab.specs.declared.run_refusal.RunRefusal.{RunRefusal}
 
@@ -24,3 +26,11 @@ cut_off a procs limit lines m text written ended before now made accepted is sam
     let e : written ≡ text_of (run_of a procs limit lines) = same ∙ replayed_text (run_on 2 m lines) text ended is ∙ ap (λ (s : MonitorState). text_of (run_on 2 s lines)) made
     ∙ sym (ap (λ o. text_of (run_unless o (first_monitor a procs limit) lines)) accepted) in
     (subst (λ (t : List ℕ). Begins before.taken now.taken t) e begins.0, begins.1)
+
+worldless : (t : Tape) (r : Option AlgorithmRefusal) (m : MonitorState) (lines : List Line) → Replays t t (run_unless r m lines) (Err (world_fault r))
+worldless t None m lines = refl
+worldless t (Some e) m lines = (record { taken = sym (append-nil t.taken); fine = refl }, refl)
+
+-- where a schedule has no world nothing is written
+pub none_played : (t : Tape) (a : Algorithm) (procs limit : ℕ) (lines : List Line) (fault : AlgorithmReplayFault) → fault ≡ world_fault (new_refusal a procs limit) → Replays t t (run_of a procs limit lines) (Err fault)
+none_played t a procs limit lines fault is = rw is (worldless t (new_refusal a procs limit) (first_monitor a procs limit) lines)

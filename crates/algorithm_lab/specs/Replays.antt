@@ -14,6 +14,11 @@ use Rattle.algorithm_lab.specs.declared.replay_fault.AlgorithmReplayFault.TheVar
 use Rattle.algorithm_lab.specs.declared.run_refusal.RunRefusal.{RunRefusal}
 use Rattle.algorithm_lab.specs.declared.run_refusal.RunRefusal.TheVariants.{Refused}
 
+-- why a schedule has no world: line 1 is refused where the algorithm has none of its sizes. Else there was no memory for it
+abbrev pub world_fault : Option AlgorithmRefusal → AlgorithmReplayFault
+world_fault None = faults.OutOfMemory
+world_fault (Some e) = faults.Refused 1 (Refused e)
+
 -- where there is no world of these sizes, line 1 is refused
 abbrev pub run_unless : Option AlgorithmRefusal → MonitorState → List Line → Run (ℕ × RunRefusal)
 run_unless None m lines = run_on 2 m lines

@@ -127,6 +127,9 @@ pub(crate) fn hear(
     ensures told { OnOk result (told.new.items ≡ told.old.items ++ (heard promises p phase noted).told) }
     ensures phase { IfOk result (λ after. after ≡ (heard promises p phase noted).phase) }
 {
+    if let (None, None, None) = (noted.first, noted.second, noted.third) {
+        return Ok(phase);
+    }
     let second = hear_one(told, promises, p, phase, noted.first)?;
     let third = hear_one(told, promises, p, second, noted.second)?;
     hear_one(told, promises, p, third, noted.third)

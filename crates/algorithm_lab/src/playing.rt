@@ -59,7 +59,7 @@ fn start(monitor: &mut Monitor, p: u64, call: WorldCall) -> Result<(), RunRefusa
     }
 }
 
-/// Plays one line, and adds what it reports.
+/// Plays one line, and adds what it reports. After `OutOfMemory` the monitor is of no more use.
 pub fn play_line(monitor: &mut Monitor, line: &Line, told: &mut Vec<Told>) -> Result<(), RunRefusal>
     ensures ok { OnOk result (IsRun (line_on monitor.old line.now) told.old.items told.new.items monitor.new) }
     ensures accepted { OnOk result ((line_on monitor.old line.now).refused ≡ None) }
@@ -74,7 +74,7 @@ pub fn play_line(monitor: &mut Monitor, line: &Line, told: &mut Vec<Told>) -> Re
 }
 
 /// Plays the lines of a schedule, of which the first has number 2, and adds what they report. Answers the line that is refused,
-/// and why, if one is.
+/// and why, if one is. `Err`: out of memory, and the monitor is of no more use.
 pub fn play_lines(
     monitor: &mut Monitor,
     lines: &[Line],

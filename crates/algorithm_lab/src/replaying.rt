@@ -10,7 +10,7 @@ use crate::playing::play_lines;
 use crate::replay_fault::AlgorithmReplayFault;
 use crate::report::{put_all_told, put_report};
 use crate::run_refusal::RunRefusal;
-use algorithms::{Algorithm, AlgorithmRefusal};
+use algorithms::Algorithm;
 use schedule::texts::device::write_all;
 use schedule::{Failed, Schedule, Sink, Verdict};
 use std::alloc::{AllocError, Global};
@@ -62,17 +62,7 @@ pub fn replay_algorithm<W: Sink>(
     ensures { Replays (W.tape w.old) (W.tape w.new)
         (run_of algorithm schedule.now.procs schedule.now.limit schedule.now.lines) result }
 {
-    let head = schedule.head();
-    let monitor = match Monitor::new(alloc, algorithm, head.procs, head.limit) {
-        Ok(monitor) => monitor,
-        Err(AlgorithmRefusal::OutOfMemory) => return Err(AlgorithmReplayFault::OutOfMemory),
-        Err(refusal) => {
-            return Err(AlgorithmReplayFault::Refused {
-                line: 1,
-                refusal: RunRefusal::Refused(refusal),
-            });
-        }
-    };
+    let monitor = Monitor::of_schedule(alloc, algorithm, schedule)?;
     let replayed = played(alloc, monitor, schedule)?;
     put_out(w, replayed.text.as_slice())?;
     match replayed.ended {

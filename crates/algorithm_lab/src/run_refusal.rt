@@ -8,7 +8,7 @@ use algorithms::AlgorithmRefusal;
 use std::alloc::{AllocError, AllocFailed};
 use thiserror::Error;
 
-/// Why a run of an algorithm refuses a start, a step or a crash. A refused one changes nothing.
+/// Why a run of an algorithm refuses a start, a step or a crash. A refused one changes nothing, but for `OutOfMemory`.
 #[derive(Clone, Copy, Debug, PartialEq, Eq, Error)]
 pub enum RunRefusal {
     /// The world refuses it.
@@ -18,6 +18,7 @@ pub enum RunRefusal {
     NotOwner,
     #[error("the process is inside")]
     AlreadyIn,
+    /// There was no memory for what is reported. The monitor has moved, and is of no more use.
     #[error("out of memory")]
     OutOfMemory,
 }

@@ -1,5 +1,5 @@
 -- A run of an algorithm that was played, and its drawing that was written.
-use Rattle.std.proofs.Common.{◌≡◌, ℕ, List, false, Option, Some, None, Result, Ok, Err, refl, sym, ap, subst, ◌∙◌}
+use Rattle.std.proofs.Common.{◌≡◌, ℕ, List, false, Option, Some, None, Result, Ok, Err, refl, sym, subst, append-nil}
 use Rattle.diagram.proofs.Common.{breaks_nothing, ReplayFault, Tape, Verdict, Spells, Line}
 use Rattle.diagram.proofs.NotEmpty.{drawing_some}
 use Rattle.schedule.specs.declared.replays.replay_fault.ReplayFault.TheVariants.{Write, OutOfMemory}
@@ -8,7 +8,7 @@ use Rattle.algorithms.specs.Worlds.{new_refusal}
 use Rattle.algorithms.specs.declared.algorithm.Algorithm.{Algorithm}
 use Rattle.algorithms.specs.declared.refusal.AlgorithmRefusal.{AlgorithmRefusal}
 use Rattle.algorithm_lab.specs.Monitors.{MonitorState, first_monitor}
-use Rattle.algorithm_lab.specs.Replays.{run_of, run_unless}
+use Rattle.algorithm_lab.specs.Replays.{run_of, run_unless, world_fault}
 use Rattle.algorithm_lab.specs.Reports.{verdict_of}
 use Rattle.algorithm_lab.specs.Runs.{Run, run_on}
 use Rattle.algorithm_lab.specs.declared.replay_fault.AlgorithmReplayFault.{AlgorithmReplayFault}
@@ -43,19 +43,19 @@ on_world : (t u : Tape) (r : Option AlgorithmRefusal) (text : List ℕ) (m : Mon
 on_world t u r text m lines answer none h = rw none h
 
 -- there is one
-pub on_new : (t u : Tape) (style : Style) (shown head : Head) (a : Algorithm) (m : MonitorState) (lines : List Line) (answer : Result Verdict AlgorithmReplayFault)
-    → shown ≡ head → m ≡ first_monitor a shown.procs shown.limit → new_refusal a shown.procs shown.limit ≡ None → DrawsRun t u (run_text style head m lines) (run_on 2 m lines) answer
+pub on_new : (t u : Tape) (style : Style) (head : Head) (a : Algorithm) (m : MonitorState) (lines : List Line) (answer : Result Verdict AlgorithmReplayFault)
+    → m ≡ first_monitor a head.procs head.limit → new_refusal a head.procs head.limit ≡ None → DrawsRun t u (run_text style head m lines) (run_on 2 m lines) answer
     → DrawsRun t u (drawn_text style head a lines) (run_of a head.procs head.limit lines) answer
-on_new t u style shown head a m lines answer named made accepted h =
-    let none : new_refusal a head.procs head.limit ≡ None = ap (λ (x : Head). new_refusal a x.procs x.limit) (sym named) ∙ accepted in
-    let first : m ≡ first_monitor a head.procs head.limit = made ∙ ap (λ (x : Head). first_monitor a x.procs x.limit) named in
+on_new t u style head a m lines answer made accepted h =
     let new : MonitorState = first_monitor a head.procs head.limit in
-    on_world t u (new_refusal a head.procs head.limit) (run_text style head new lines) new lines answer none
-    (subst (λ (x : MonitorState). DrawsRun t u (run_text style head x lines) (run_on 2 x lines) answer) first h)
+    on_world t u (new_refusal a head.procs head.limit) (run_text style head new lines) new lines answer accepted
+    (subst (λ (x : MonitorState). DrawsRun t u (run_text style head x lines) (run_on 2 x lines) answer) made h)
 
--- there is one, and then no memory
-pub new_starved : (t : Tape) (style : Style) (shown head : Head) (a : Algorithm) (lines : List Line) → shown ≡ head → new_refusal a shown.procs shown.limit ≡ None
-    → DrawsRun t t (drawn_text style head a lines) (run_of a head.procs head.limit lines) (Err faults.OutOfMemory)
-new_starved t style shown head a lines named accepted =
-    let m : MonitorState = first_monitor a shown.procs shown.limit in
-    on_new t t style shown head a m lines (Err faults.OutOfMemory) named refl accepted (run_starved t style head m lines (run_on 2 m lines))
+worldless : (t : Tape) (r : Option AlgorithmRefusal) (style : Style) (head : Head) (m : MonitorState) (lines : List Line) → DrawsRun t t (text_unless r (run_text style head m lines)) (run_unless r m lines) (Err (world_fault r))
+worldless t None style head m lines = run_starved t style head m lines (run_on 2 m lines)
+worldless t (Some e) style head m lines = (record { taken = sym (append-nil t.taken); fine = refl }, refl)
+
+-- there is none, and nothing is drawn
+pub none_drawn : (t : Tape) (style : Style) (head : Head) (a : Algorithm) (lines : List Line) (fault : AlgorithmReplayFault) → fault ≡ world_fault (new_refusal a head.procs head.limit)
+    → DrawsRun t t (drawn_text style head a lines) (run_of a head.procs head.limit lines) (Err fault)
+none_drawn t style head a lines fault is = rw is (worldless t (new_refusal a head.procs head.limit) style head (first_monitor a head.procs head.limit) lines)

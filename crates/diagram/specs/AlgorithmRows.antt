@@ -17,7 +17,7 @@ use Rattle.diagram.specs.declared.algorithm.row.AlgorithmRow.{AlgorithmRow}
 use Rattle.diagram.specs.declared.mark.Mark.{Mark}
 use Rattle.diagram.specs.declared.mark.Mark.TheVariants as marks
 use Rattle.diagram.specs.AlgorithmEvents.{AlgorithmEvent}
-use Rattle.diagram.specs.ShownRows.{ShownRowState}
+use Rattle.diagram.specs.ShownRows.{ShownRowState, sign_width}
 use Rattle.diagram.specs.Signs.{indexed}
 
 -- ---- the rows of events
@@ -97,10 +97,9 @@ sign_of a (Blocked address value times) = blocked_sign a address value times
 sign_of a Further = []
 sign_of a Crashed = []
 
--- the sign of a repetition is one character of two bytes
 abbrev pub wide_of : AlgorithmAct → ℕ
-wide_of (Blocked address value times) = if times == 1 then 24 else 25
-wide_of act = 24
+wide_of (Blocked address value times) = sign_width times
+wide_of act = sign_width 1
 
 abbrev pub mark_of : AlgorithmAct → Mark
 mark_of Further = marks.Nothing

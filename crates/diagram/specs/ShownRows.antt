@@ -28,10 +28,13 @@ pub record ShownRowState : Type 0 where
 
 -- ---- a row of a run of the lock
 
--- the number of bytes of a cell's text. The sign of a repetition is one character of two bytes
+-- the number of bytes of a cell's sign, of what is done this often. The sign of a repetition is one character of two bytes
+abbrev pub sign_width : ℕ → ℕ
+sign_width times = if times == 1 then 24 else 25
+
 abbrev pub wide_of : Act → ℕ
-wide_of (Silent happened times) = if times == 1 then 24 else 25
-wide_of act = 24
+wide_of (Silent happened times) = sign_width times
+wide_of act = sign_width 1
 
 abbrev pub mark_of : Act → Mark
 mark_of (Fell deed) = Crash

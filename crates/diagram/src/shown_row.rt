@@ -1,7 +1,7 @@
 //! What a row of a drawing shows, whatever world its process is of.
 
 ghost use Rattle.std.specs.Prelude.{◌≡◌, ◌++◌, OnOk};
-ghost use Rattle.diagram.specs.ShownRows.{ShownRowState, answer_line, mark_of as mark_in, shown_of, wide_of as wide_in};
+ghost use Rattle.diagram.specs.ShownRows.{ShownRowState, answer_line, mark_of as mark_in, shown_of, sign_width as width_in, wide_of as wide_in};
 
 use crate::act::{Act, DiagramRow};
 use crate::mark::Mark;
@@ -64,13 +64,21 @@ pub trait Row {
         ensures { OnOk result (shown.new ≡ shows names.now self.now) };
 }
 
-/// The number of bytes that a column has for what a row does. The sign of a repetition is one character of two bytes.
+/// The number of bytes that a column has for the sign of what is done this often. The sign of a repetition is one character of
+/// two bytes.
+pub(crate) fn sign_width(times: u64) -> usize
+    ensures { result ≡ width_in times }
+{
+    if times == 1 { 24 } else { 25 }
+}
+
+/// The number of bytes that a column has for what a row does.
 fn wide_of(act: &Act) -> usize
     ensures { result ≡ wide_in act.now }
 {
     match act {
-        Act::Silent(_, times) => { if *times == 1 { 24 } else { 25 } }
-        Act::Telling(_) | Act::Fell(_) => 24,
+        Act::Silent(_, times) => sign_width(*times),
+        Act::Telling(_) | Act::Fell(_) => sign_width(1),
     }
 }
 

@@ -4,20 +4,13 @@ ghost use Rattle.std.specs.Prelude.{◌≡◌, ◌++◌, None, Some, IfOk, IfErr
 ghost use Rattle.algorithm_lab.specs.Monitors.{crash_on, has_ended, IsPart, IsRefusal, step_on};
 ghost use Rattle.algorithm_lab.specs.Runs.{IsRun, line_on, run_on, steps};
 ghost use Rattle.diagram.specs.AlgorithmEvents.{crash_by, events_of, events_on, step_event, steps_of};
-ghost use Rattle.diagram.specs.AlgorithmRows.{counted as counted_in, counted_by, further as further_of, is_same_word as is_same, last_of, rows_of, with_event, with_events};
+ghost use Rattle.diagram.specs.AlgorithmRows.{counted as counted_in, counted_by, further as further_of, last_of, rows_of, with_event, with_events};
 
 use crate::algorithm::row::{AlgorithmAct, AlgorithmRow, act_of, lifeline_phase};
 use crate::phase::LifelinePhase;
 use algorithm_lab::{Monitor, RunRefusal, Told, play_line};
-use algorithms::Address;
 use schedule::Line;
 use std::alloc::AllocError;
-
-fn is_same_word(first: Address, second: Address) -> bool
-    ensures { result ≡ is_same first second }
-{
-    first.declaration == second.declaration && first.index == second.index
-}
 
 /// A row, counted once more, if this is the same blocked reading of the same process.
 fn counted_row(row: &AlgorithmRow, p: u64, act: AlgorithmAct) -> Option<AlgorithmRow>
@@ -29,7 +22,7 @@ fn counted_row(row: &AlgorithmRow, p: u64, act: AlgorithmAct) -> Option<Algorith
     let AlgorithmAct::Blocked(again, read, _) = act else {
         return None;
     };
-    let is_again = is_same_word(again, word);
+    let is_again = again == word;
     if p == row.p && is_again && read == value && times < u64::MAX {
         Some(AlgorithmRow {
             p: row.p,
@@ -46,7 +39,7 @@ fn counted_row(row: &AlgorithmRow, p: u64, act: AlgorithmAct) -> Option<Algorith
 fn counted(rows: &[AlgorithmRow], p: u64, act: AlgorithmAct) -> Option<AlgorithmRow>
     ensures { result ≡ counted_in p act (last_of rows.now) }
 {
-    match rows.get(rows.len().saturating_sub(1)) {
+    match rows.last() {
         Some(row) => counted_row(row, p, act),
         None => None,
     }
@@ -93,7 +86,7 @@ fn put_rows(
         p,
         act,
         phase: Some(phase),
-        told: told.get(0).copied(),
+        told: told.first().copied(),
     })?;
     put_further(rows, p, told_after(told, 1))
 }
@@ -133,7 +126,7 @@ fn take_step(
     ensures kept { IfErr result (λ e. IsRefusal e → (rows.new.items ≡ rows.old.items)) }
 {
     let before = told.len();
-    let advanced = monitor.take(p, told)?;
+    let advanced = monitor.advance(p, told)?;
     let phase = lifeline_phase(monitor.phase(p));
     note(
         rows,

@@ -16,7 +16,7 @@ use crate::phase::LifelinePhase;
 use crate::writing::{Buffers, Outline, write_parts};
 use algorithm_lab::judging::verdict_of;
 use algorithm_lab::{AlgorithmReplayFault, Monitor, RunRefusal};
-use algorithms::{Algorithm, AlgorithmRefusal};
+use algorithms::Algorithm;
 use schedule::texts::head::Head;
 use schedule::{ReplayFault, Schedule, Sink, Verdict};
 use std::alloc::{AllocError, Global};
@@ -152,16 +152,6 @@ pub fn draw_algorithm<W: Sink>(
     ensures { DrawsRun (W.tape w.old) (W.tape w.new) (drawn_text style (head_of schedule.now) algorithm schedule.now.lines)
         (run_of algorithm schedule.now.procs schedule.now.limit schedule.now.lines) result }
 {
-    let head = schedule.head();
-    let monitor = match Monitor::new(alloc, algorithm, head.procs, head.limit) {
-        Ok(monitor) => monitor,
-        Err(AlgorithmRefusal::OutOfMemory) => return Err(AlgorithmReplayFault::OutOfMemory),
-        Err(refusal) => {
-            return Err(AlgorithmReplayFault::Refused {
-                line: 1,
-                refusal: RunRefusal::Refused(refusal),
-            });
-        }
-    };
+    let monitor = Monitor::of_schedule(alloc, algorithm, schedule)?;
     draw_on(alloc, monitor, schedule, style, w)
 }

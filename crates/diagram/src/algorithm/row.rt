@@ -7,7 +7,7 @@ ghost use Rattle.diagram.specs.AlgorithmRows.{access_sign, answer_told, blocked_
 use crate::mark::Mark;
 use crate::paging::{put_indexed, put_piece, put_text};
 use crate::phase::LifelinePhase;
-use crate::shown_row::{Row, ShownRow};
+use crate::shown_row::{Row, ShownRow, sign_width};
 use algorithm_lab::Told;
 use algorithm_lab::report::put_told;
 use algorithms::{Access, Address, Advanced, Algorithm};
@@ -141,13 +141,13 @@ pub(crate) fn put_sign(
     }
 }
 
-/// The number of bytes that a column has for what a row does. The sign of a repetition is one character of two bytes.
+/// The number of bytes that a column has for what a row does.
 fn wide_of(act: AlgorithmAct) -> usize
     ensures { result ≡ wide_in act }
 {
     match act {
-        AlgorithmAct::Blocked(_, _, times) => { if times == 1 { 24 } else { 25 } }
-        AlgorithmAct::Took(..) | AlgorithmAct::Further | AlgorithmAct::Crashed => 24,
+        AlgorithmAct::Blocked(_, _, times) => sign_width(times),
+        AlgorithmAct::Took(..) | AlgorithmAct::Further | AlgorithmAct::Crashed => sign_width(1),
     }
 }
 

@@ -4,7 +4,7 @@ ghost use Rattle.algorithm_lab.proofs.Restarts.{restarted_twice};
 ghost use Rattle.diagram.specs.AlgorithmSimulations.{algorithm_semantics, begins_after_line};
 
 use crate::session::algorithm_standing::put_algorithm_state;
-use crate::session::algorithm_stepping::{count_steps, put_line, refused};
+use crate::session::algorithm_stepping::{count_steps, number_of_refusal, put_line};
 use crate::session::simulation::Simulation;
 use algorithm_lab::Monitor;
 use schedule::texts::head::Head;
@@ -40,7 +40,7 @@ impl Simulation for Monitor {
                 Ok(None)
             }
             Err(refusal) => {
-                let number = refused(refusal)?;
+                let number = number_of_refusal(refusal)?;
                 self.go_back(checkpoint);
                 Ok(Some(number))
             }

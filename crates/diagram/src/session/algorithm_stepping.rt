@@ -77,7 +77,7 @@ fn put_step(
     ensures same { IfErr result (λ e. IsRefusal e → monitor.new ≡ monitor.old) }
 {
     let mut told = Vec::new(alloc);
-    let advanced = monitor.take(p, &mut told)?;
+    let advanced = monitor.advance(p, &mut told)?;
     let phase = lifeline_phase(monitor.phase(p));
     let algorithm = monitor.world().algorithm();
     put_event(out, algorithm, p, act_of(&advanced), phase, told.as_slice())?;
@@ -160,7 +160,7 @@ pub fn put_line(
 
 /// The number of a refusal. Out of memory has none.
 #[tactic(auto, using(crate::proofs::AlgorithmSessions::has_number))]
-pub fn refused(refusal: RunRefusal) -> Result<u64, AllocError>
+pub fn number_of_refusal(refusal: RunRefusal) -> Result<u64, AllocError>
     ensures number { IfOk result (λ number. number_by (Some refusal) ≡ Some number) }
     ensures numbered { OnOk result (IsRefusal refusal) }
 {
@@ -191,7 +191,7 @@ pub fn count_steps(
                 }
             }
             Err(refusal) => {
-                refused(refusal)?;
+                number_of_refusal(refusal)?;
                 return Ok(Some(k + 1));
             }
         }

@@ -63,10 +63,7 @@ fn go_to<S: Simulation>(
 fn last_line(lines: &[Line]) -> Option<Line>
     ensures { result ≡ last_line_in lines.now }
 {
-    if lines.is_empty() {
-        return None;
-    }
-    lines.get(lines.len() - 1).copied()
+    lines.last().copied()
 }
 
 /// The schedule without its last line.

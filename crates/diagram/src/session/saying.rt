@@ -22,7 +22,11 @@ pub fn put_help(out: &mut Vec<u8>) -> Result<(), AllocError>
 {
     put_text(
         out,
-        b"a line of a schedule: lock P, step P K, crash P, unlock P, recover P, consistent P, append P SEQ VALUE, ..\n",
+        b"a line of a schedule: lock P, step P K, crash P, unlock P, recover P, withdraw P\n",
+    )?;
+    put_text(
+        out,
+        b"                      of the built-in lock also: consistent P, append P SEQ VALUE, ..\n",
     )?;
     put_text(out, b"undo         go back to before the last line\n")?;
     put_text(

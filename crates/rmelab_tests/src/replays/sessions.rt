@@ -147,7 +147,7 @@ fn sessions_over_devices_that_fail(rt: HostRuntime) -> Result<(), Fail> {
 fn a_session_helps(rt: HostRuntime) -> Result<(), Fail> {
     let asked = "rme 1 procs 2 limit 10 cap 1\nhelp\nquit\nlock 0\n";
     let told =
-        "process 0: 0,0,0 (row 0,0,0 idle), outside\nprocess 1: 0,0,0 (row 0,0,0 idle), outside\ninside: nobody\na line of a schedule: lock P, step P K, crash P, unlock P, recover P, consistent P, append P SEQ VALUE, ..\nundo         go back to before the last line\nredo         take the line again that was undone last\nto answer P  take steps of P until its call is answered\nsave FILE    write the schedule so far to a file, for replay\nhelp, quit\n";
+        "process 0: 0,0,0 (row 0,0,0 idle), outside\nprocess 1: 0,0,0 (row 0,0,0 idle), outside\ninside: nobody\na line of a schedule: lock P, step P K, crash P, unlock P, recover P, withdraw P\n                      of the built-in lock also: consistent P, append P SEQ VALUE, ..\nundo         go back to before the last line\nredo         take the line again that was undone last\nto answer P  take steps of P until its call is answered\nsave FILE    write the schedule so far to a file, for replay\nhelp, quit\n";
     let rows = [invoked("rmelab step", asked, told)];
     all_come_to(&rt, rt.alloc(), &rows)
 }

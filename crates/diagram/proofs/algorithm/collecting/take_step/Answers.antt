@@ -6,9 +6,9 @@ use Rattle.diagram.proofs.algorithm.collecting.take_step.Goals as goal
 pub returns-clause-rows : goal.returns-clause-rows
 returns-clause-rows c =
     let before = c.args.told.now.items in
-    let after = c.take.new.told.items in
+    let after = c.advance.new.told.items in
     let count : c.len-before.result ≡ length before = omega (arith, c.len-before.ensures) in
     let said : c.told_after.result.now ≡ drop (length before) after =
     c.told_after.ensures ∙ ap (λ (n : ℕ). drop n c.as_slice.result.now) count ∙ ap (λ (ts : List Told). drop (length before) ts) c.as_slice.ensures.value in
-    step_rows c.args.p c.args.rows.now.items c.note.new.rows.items c.args.monitor.now c.take.new.self c.in_ok-advanced.advanced c.act_of.result c.phase.result c.lifeline_phase-phase.result before after c.told_after.result.now
+    step_rows c.args.p c.args.rows.now.items c.note.new.rows.items c.args.monitor.now c.advance.new.self c.in_ok-advanced.advanced c.act_of.result c.phase.result c.lifeline_phase-phase.result before after c.told_after.result.now
     c.in_ok-advanced.ensures.said c.in_ok-advanced.ensures.ok said c.act_of.ensures c.phase.ensures c.lifeline_phase-phase.ensures c.in_ok-note.ensures

@@ -1,16 +1,15 @@
-use Rattle.std.proofs.Common.{ap, ◌∙◌}
-use Rattle.algorithms.specs.Worlds.{cause}
+use Rattle.diagram.proofs.Common.{err_from_is_err_and}
 use Rattle.schedule.specs.Schedules.{head_of}
-use Rattle.diagram.proofs.AlgorithmDrawn.{on_new, new_starved}
+use Rattle.diagram.proofs.AlgorithmDrawn.{none_drawn, on_new}
 use Rattle.diagram.proofs.algorithm.drawing.draw_algorithm.Goals as goal
 
-pub returns-in-Err-OutOfMemory : goal.returns-in-Err-OutOfMemory
-returns-in-Err-OutOfMemory g c =
+pub returns-in_err-monitor : goal.returns-in_err-monitor
+returns-in_err-monitor g c =
     let s = c.args.schedule.now in
-    new_starved (g.W.Sink.tape c.args.w.now) c.args.style c.head-head.result (head_of s) c.args.algorithm s.lines c.head-head.ensures
-    (c.in-Err-OutOfMemory.ensures.refused ∙ ap cause c.in-Err-OutOfMemory.field-0-is)
+    let p = err_from_is_err_and c.from_residual.result c.from_residual.ensures.1 in
+    rw (p.1, p.2) (none_drawn (g.W.Sink.tape c.args.w.now) c.args.style (head_of s) c.args.algorithm s.lines c.in_err-monitor.field-0.0 c.in_err-monitor.ensures.refused)
 
 pub returns : goal.returns
 returns g c =
     let s = c.args.schedule.now in
-    on_new (g.W.Sink.tape c.args.w.now) (g.W.Sink.tape c.draw_on.new.w) c.args.style c.head-head.result (head_of s) c.args.algorithm c.in-Ok.monitor s.lines c.draw_on.result c.head-head.ensures c.in-Ok.ensures.made c.in-Ok.ensures.accepted c.draw_on.ensures
+    on_new (g.W.Sink.tape c.args.w.now) (g.W.Sink.tape c.draw_on.new.w) c.args.style (head_of s) c.args.algorithm c.in_ok-monitor.monitor s.lines c.draw_on.result c.in_ok-monitor.ensures.made c.in_ok-monitor.ensures.accepted c.draw_on.ensures

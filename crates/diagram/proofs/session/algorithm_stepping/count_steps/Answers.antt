@@ -28,11 +28,11 @@ returns-then-ended-clause-begins c =
 pub returns-in-Err-clause-count : goal.returns-in-Err-clause-count
 returns-in-Err-clause-count c =
     let count : c.args.n - c.loop-k.k ≡ suc (c.args.n - (c.loop-k.k + 1)) = omega (arith, c.loop-k-test.true) in
-    count_halts c.args.p c.loop-k.k _ _ c.loop-k.monitor c.in-Err.refusal count (c.in-Err.ensures.refused c.in_ok-refused-in-Err.ensures.numbered) ∙ c.loop-k.invariant.0
+    count_halts c.args.p c.loop-k.k _ _ c.loop-k.monitor c.in-Err.refusal count (c.in-Err.ensures.refused c.in_ok-number_of_refusal-in-Err.ensures.numbered) ∙ c.loop-k.invariant.0
 
 pub returns-in-Err-clause-begins : goal.returns-in-Err-clause-begins
 returns-in-Err-clause-begins c =
-    ap restarted (c.in-Err.ensures.err c.in_ok-refused-in-Err.ensures.numbered).0 ∙ c.loop-k.invariant.1
+    ap restarted (c.in-Err.ensures.err c.in_ok-number_of_refusal-in-Err.ensures.numbered).0 ∙ c.loop-k.invariant.1
 
 pub returns-clause-count : goal.returns-clause-count
 returns-clause-count c =

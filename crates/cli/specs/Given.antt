@@ -9,8 +9,6 @@ use Rattle.clap.specs.Words.{Row, Text, first_of, one_of, all_of, found_of, rows
 use Rattle.clap.specs.declared.parser.matches.ArgMatches.{ArgMatches}
 use Rattle.crashlab.specs.declared.variant.Variant.{Variant}
 use Rattle.crashlab.specs.declared.variant.Variant.TheVariants.{Right, NoLook, NoTies, Renumber, ExitOnCrash, CountUp, LastSkipped}
-use Rattle.diagram.specs.declared.diagram_layout.Style.{Style}
-use Rattle.diagram.specs.declared.diagram_layout.Style.TheVariants as styles
 use Rattle.cli.specs.declared.arguments.args.Alphabet.{Alphabet}
 use Rattle.cli.specs.declared.arguments.args.AlgorithmCalls.{AlgorithmCalls}
 
@@ -48,9 +46,6 @@ AsksFor without given variant = word_of_variant variant ≡ unwrap_or (first_of 
 -- there is no such variant
 abbrev pub AsksForNone : Text → Given → Type 0
 AsksForNone without given = (variant : Variant) → AsksFor without given variant → ⊥
-
-abbrev pub style_of : Given → Style
-style_of given = if is_set (codes "svg") given then styles.Svg else styles.Text
 
 -- the calls that a search starts, by name: `lock,unlock`, where they are left out
 abbrev pub calls_of : Given → List Text

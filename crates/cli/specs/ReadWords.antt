@@ -27,7 +27,7 @@ use Rattle.cli.specs.declared.arguments.words.WordsFault.{WordsFault}
 use Rattle.cli.specs.declared.arguments.words.WordsFault.TheVariants.{Help, Refused, BadVariant, BadSize, Unreadable, OutOfMemory}
 use Rattle.cli.specs.declared.explain.dictionary_entry.DictionaryEntry.{DictionaryEntry}
 use Rattle.cli.specs.CommandLine.{rmelab}
-use Rattle.cli.specs.Given.{Given, AsksFor, AsksForNone, is_set, number_or, style_of, calls_of, alphabet_of, is_call, algorithm_calls_of, is_algorithm_call, entry_named}
+use Rattle.cli.specs.Given.{Given, AsksFor, AsksForNone, is_set, number_or, calls_of, alphabet_of, is_call, algorithm_calls_of, is_algorithm_call, entry_named}
 use Rattle.cli.specs.Names.{name_of}
 use Rattle.cli.specs.Sizes.{RunFits, IsHuntSize}
 
@@ -150,7 +150,7 @@ pub record IsJudge (given : Given) (args : JudgeArgs) : Type 0 where
 
 pub record IsDraw (given : Given) (args : DrawArgs) : Type 0 where
   pub html : args.html ≡ is_set (codes "html") given
-  pub style : args.style ≡ style_of given
+  pub svg : args.svg ≡ is_set (codes "svg") given
   pub variant : GoesWithImage given args.variant
   pub image : option_map string_bytes args.image ≡ first_of (codes "image") given
   pub file : option_map string_bytes args.file ≡ first_of (codes "FILE") given
@@ -158,7 +158,7 @@ pub record IsDraw (given : Given) (args : DrawArgs) : Type 0 where
 
 pub record IsAlgorithmDraw (given : Given) (args : AlgorithmDrawArgs) : Type 0 where
   pub algorithm : Some (string_bytes args.algorithm) ≡ first_of (codes "algorithm") given
-  pub style : args.style ≡ style_of given
+  pub svg : args.svg ≡ is_set (codes "svg") given
   pub file : option_map string_bytes args.file ≡ first_of (codes "FILE") given
   pub alone : IsAlone given
   pub no_page : is_set (codes "html") given ≡ false

@@ -4,7 +4,6 @@ ghost use Rattle.std.specs.Prelude.{◌≡◌, option_copied};
 
 use crate::explain::dictionary_entry::DictionaryEntry;
 use crashlab::Variant;
-use diagram::Style;
 
 /// `replay`: runs a schedule and prints its report.
 #[derive(Debug, Drop, PartialEq, Eq)]
@@ -148,7 +147,8 @@ pub struct JudgeArgs {
 pub struct DrawArgs {
     /// Write a page that shows the run step by step.
     pub html: bool,
-    pub style: Style,
+    /// Draw as SVG, and not as text.
+    pub svg: bool,
     pub variant: Variant,
     /// The file of the image that the world starts from.
     pub image: Option<String>,
@@ -161,7 +161,8 @@ pub struct DrawArgs {
 pub struct AlgorithmDrawArgs {
     /// The file of the algorithm's text.
     pub algorithm: String,
-    pub style: Style,
+    /// Draw as SVG, and not as text.
+    pub svg: bool,
     /// The schedule's file; without one, standard input.
     pub file: Option<String>,
 }

@@ -2,24 +2,13 @@
 
 ghost use Rattle.std.specs.Prelude.{◌≡◌, Some, IsNone, string_bytes, codes};
 ghost use Rattle.clap.specs.Words.{first_of};
-ghost use Rattle.cli.specs.Given.{given_in, style_of};
+ghost use Rattle.cli.specs.Given.{given_in};
 ghost use Rattle.cli.specs.ReadWords.{Reads};
 
 use crate::arguments::args::{AlgorithmDrawArgs, Command, DrawArgs};
 use crate::arguments::words::{WordsFault, is_alone, is_set, text_of, variant_beside_image};
 use clap::ArgMatches;
-use diagram::Style;
 use std::alloc::{AllocError, Global};
-
-fn style_of(matches: &ArgMatches<'_>) -> Style
-    ensures { result ≡ style_of (given_in matches.now) }
-{
-    if is_set(matches, "svg") {
-        Style::Svg
-    } else {
-        Style::Text
-    }
-}
 
 /// The error text for a page of a run of an algorithm.
 fn without_page(alloc: Global) -> Result<String, AllocError> {
@@ -48,7 +37,7 @@ fn algorithm_words(
     }
     Ok(Command::DrawAlgorithm(AlgorithmDrawArgs {
         algorithm,
-        style: style_of(matches),
+        svg: is_set(matches, "svg"),
         file: text_of(alloc, matches, "FILE")?,
     }))
 }
@@ -60,7 +49,7 @@ fn variant_words(alloc: Global, matches: &ArgMatches<'_>) -> Result<Command, Wor
 {
     Ok(Command::Draw(DrawArgs {
         html: is_set(matches, "html"),
-        style: style_of(matches),
+        svg: is_set(matches, "svg"),
         variant: variant_beside_image(matches)?,
         image: text_of(alloc, matches, "image")?,
         file: text_of(alloc, matches, "FILE")?,

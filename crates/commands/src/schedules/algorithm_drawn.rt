@@ -5,12 +5,13 @@ ghost use Rattle.commands.specs.AlgorithmDraws.{AlgorithmDrawEnds, DrawsAlgorith
 ghost use Rattle.commands.specs.Endings.{IsEnded};
 
 use crate::schedules::algorithm::{algorithm_read, unplayed};
+use crate::schedules::drawn::style_of;
 use crate::schedules::ending::{Ending, status_after_verdict};
 use crate::schedules::fault::CommandFault;
 use crate::schedules::setting::schedule_read;
 use algorithms::Algorithm;
 use cli::arguments::args::AlgorithmDrawArgs;
-use diagram::{Style, draw_algorithm};
+use diagram::draw_algorithm;
 use schedule::{Schedule, Sink, Source};
 use std::alloc::Global;
 
@@ -19,13 +20,13 @@ fn draw_on_algorithm<W: Sink>(
     alloc: Global,
     algorithm: Algorithm,
     schedule: &Schedule,
-    style: Style,
+    svg: bool,
     w: &mut W,
 ) -> Result<Ending, CommandFault>
-    ensures told { DrawsAlgorithm style algorithm schedule.now (W.tape w.old) (W.tape w.new) result }
+    ensures told { DrawsAlgorithm svg algorithm schedule.now (W.tape w.old) (W.tape w.new) result }
     ensures ended { IfOk result (IsEnded false (W.tape w.old).failures (W.tape w.new).failures) }
 {
-    match draw_algorithm(alloc, algorithm, schedule, style, w) {
+    match draw_algorithm(alloc, algorithm, schedule, style_of(svg), w) {
         Ok(verdict) => Ok(Ending {
             status: status_after_verdict(verdict),
             save: None,
@@ -44,10 +45,10 @@ pub fn algorithm_draw_command<R: Source, W: Sink>(
     r: &mut R,
     w: &mut W,
 ) -> Result<Ending, CommandFault>
-    ensures ends { AlgorithmDrawEnds args.now.style (R.reading r.old) (R.reading r.new) (W.tape w.old) (W.tape w.new) result }
+    ensures ends { AlgorithmDrawEnds args.now.svg (R.reading r.old) (R.reading r.new) (W.tape w.old) (W.tape w.new) result }
     ensures ended { IfOk result (IsEnded false (W.tape w.old).failures (W.tape w.new).failures) }
 {
     let algorithm = algorithm_read(alloc, text.unwrap_or(&[]))?;
     let schedule = schedule_read(alloc, r)?;
-    draw_on_algorithm(alloc, algorithm, &schedule, args.style, w)
+    draw_on_algorithm(alloc, algorithm, &schedule, args.svg, w)
 }

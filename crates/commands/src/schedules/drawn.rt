@@ -11,7 +11,7 @@ ghost use Rattle.rmeworld.specs.ImageStart.{IsStartOf};
 ghost use Rattle.rmeworld.specs.Replayed.{image_of, world_behaviour};
 ghost use Rattle.rmeworld.specs.WorldState.{image_world as world_of_image};
 ghost use Rattle.commands.specs.Endings.{IsEnded, TellsReads};
-ghost use Rattle.commands.specs.Draws.{DrawEnds, drawn};
+ghost use Rattle.commands.specs.Draws.{DrawEnds, drawn, style_of};
 ghost use Rattle.commands.specs.Statuses.{status_after};
 ghost use Rattle.commands.specs.Tellings.{ending_of as ending_for, IsWritten, Paged, Tells, TellsImage, TellsNew, TellsSchedule, TellsVariant};
 ghost use Rattle.schedule.specs.Runs.{deeds_of, run_on};
@@ -43,6 +43,13 @@ fn ending_of(end: End) -> Result<Ending, CommandFault>
         }),
         End::Refused { line, number, .. } => Err(CommandFault::Refused { line, number }),
     }
+}
+
+/// The style of a drawing.
+pub(crate) fn style_of(svg: bool) -> Style
+    ensures { result ≡ style_of svg }
+{
+    if svg { Style::Svg } else { Style::Text }
 }
 
 /// Writes a drawing. The result is how the command ends.
@@ -132,7 +139,7 @@ fn draw_machine<M: Machine, W: Sink>(
         return page_machine(alloc, machine, judge, schedule, first, w);
     }
     let drawing = draw(alloc, machine, judge, schedule, first)?;
-    write_drawn(alloc, &drawing, args.style, w)
+    write_drawn(alloc, &drawing, style_of(args.svg), w)
 }
 
 /// The run of the schedule on a new world of the right lock.

@@ -1,4 +1,4 @@
--- The command line of `rmelab`, as `clap` reads it: the commands and the arguments of each (docs/dev/texts.md, "The program `rmelab`").
+-- The command line of `rmelab`, as `clap` reads it: the commands and the arguments of each (docs/use/command-line.md).
 use Rattle.std.specs.Prelude.{◌≡◌, List, [], ◌∷◌, true, false, Some, codes, Result, IfOk}
 use Rattle.clap.specs.Words.{App, Rule, Shape, Text, new_rule, app_of, with_subcommand}
 use Rattle.clap.specs.declared.builder.command.Command.{Command as Parser}

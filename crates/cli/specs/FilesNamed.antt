@@ -4,8 +4,7 @@ use Rattle.std.specs.declared.alloc.Global.{Global}
 use Rattle.cli.specs.declared.arguments.args.Command.{Command}
 use Rattle.cli.specs.declared.arguments.args.Command.TheVariants.{Replay, ReplayAlgorithm, HuntAlgorithm, ExploreAlgorithm, Judge, Draw, DrawAlgorithm, Shrink, ShrinkAlgorithm, Step, StepAlgorithm}
 
--- the file that is read first: the image that a world starts from, the algorithm that is run, hunted or searched, or the
--- schedule that a session starts from
+-- the file that is read first: an image, an algorithm, or the schedule that a session starts from
 abbrev pub image_of : Command → Option (String Global)
 image_of (Replay args) = args.image
 image_of (ReplayAlgorithm args) = Some args.algorithm

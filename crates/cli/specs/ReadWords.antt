@@ -1,5 +1,5 @@
--- How the words of a command line are answered (docs/dev/texts.md, "The program `rmelab`"): what `clap` refuses first, then a bad variant, then
--- a bad size.
+-- How the words of a command line are answered (docs/use/command-line.md): what `clap` refuses first, then a bad variant,
+-- then a bad size.
 use Rattle.std.specs.Prelude.{◌≡◌, ◌≢◌, ◌⊎◌, ℕ, true, false, List, [], map, Some, option_map, codes, Result, Err, MatchResult, IsNone, IsSome, IsSomeAnd, String, string_bytes}
 use Rattle.std.specs.List.{list_all, list_any}
 use Rattle.std.specs.Str.{bytes_eq}

@@ -1,17 +1,32 @@
 -- How a command ends that reads an algorithm, from what was read.
-use Rattle.std.proofs.Common.{◌≡◌, ◌⊎◌, ℕ, List, Result, Ok, Err, refl, inl, inr}
+use Rattle.std.proofs.Common.{◌≡◌, ◌≤◌, ◌⊎◌, ℕ, List, Result, Ok, Err, Some, refl, inl, inr}
 use Rattle.algorithms.specs.Ranked.{LocalLinesEnd, AccessesLeadOn}
 use Rattle.algorithms.specs.declared.algorithm.Algorithm.{Algorithm}
+use Rattle.algorithms.specs.declared.fault.AlgorithmFault.{AlgorithmFault}
+use Rattle.algorithms.specs.declared.fault.AlgorithmFault.TheVariants as of_reading
+use Rattle.algorithms.specs.declared.fault.LineFault.{LineFault}
+use Rattle.cli.specs.Names.{number_of_algorithm_fault}
 use Rattle.schedule.specs.Schedules.{Scheduled, schedule_at}
 use Rattle.schedule.specs.Tapes.{Tape, Reading}
 use Rattle.schedule.specs.Wholes.{WasRead}
 use Rattle.commands.specs.declared.schedules.ending.Ending.{Ending}
 use Rattle.commands.specs.declared.schedules.fault.CommandFault.{CommandFault}
-use Rattle.commands.specs.AlgorithmTexts.{EndsOnAlgorithm, EndsOnBoth, IsAlgorithmFault, IsUnreadAlgorithm}
+use Rattle.commands.specs.declared.schedules.fault.CommandFault.TheVariants as faults
+use Rattle.commands.specs.AlgorithmTexts.{EndsOnAlgorithm, EndsOnBoth, IsAlgorithmFault, IsUnreadAlgorithm, TellsFault}
 use Rattle.commands.specs.Endings.{TellsReads}
 use Rattle.commands.specs.Settings.{IsWrongText}
 use Rattle.commands.specs.Statuses.{status_of}
 use Rattle.commands.specs.Tellings.{Refuses}
+
+-- the command answers the fault of this line that has this number
+pub tells_fault : (line number : ℕ) (of_text : LineFault) → ((1 ≤ number) × (number ≤ 18) → number_of_algorithm_fault of_text ≡ Some number)
+    → TellsFault (of_reading.At line number) (faults.Algorithm line of_text)
+tells_fault line number of_text numbered = (of_text, refl, numbered)
+
+-- what tells a fault of a text names it, or is out of memory
+pub is_algorithm_fault : (fault : AlgorithmFault) (told : CommandFault) → TellsFault fault told → IsAlgorithmFault told
+is_algorithm_fault (of_reading.At line number) told tells = inr (line, tells.0, tells.1.0)
+is_algorithm_fault of_reading.OutOfMemory told tells = inl tells
 
 -- the algorithm's text is at fault: nothing was written
 pub no_algorithm_alone : {B : Type 0} (now : Tape) (fault : CommandFault) → IsAlgorithmFault fault → Refuses now now IsAlgorithmFault (Err fault) ⊎ B

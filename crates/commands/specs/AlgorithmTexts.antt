@@ -1,8 +1,11 @@
 -- How a command ends that reads an algorithm from its text, alone or before a schedule.
-use Rattle.std.specs.Prelude.{◌≡◌, ◌⊎◌, ℕ, List, Result, Ok}
+use Rattle.std.specs.Prelude.{◌≡◌, ◌≤◌, ◌⊎◌, ℕ, List, Result, Ok, Some}
 use Rattle.algorithms.specs.Ranked.{LocalLinesEnd, AccessesLeadOn}
 use Rattle.algorithms.specs.declared.algorithm.Algorithm.{Algorithm}
+use Rattle.algorithms.specs.declared.fault.AlgorithmFault.{AlgorithmFault}
+use Rattle.algorithms.specs.declared.fault.AlgorithmFault.TheVariants as of_reading
 use Rattle.algorithms.specs.declared.fault.LineFault.{LineFault}
+use Rattle.cli.specs.Names.{number_of_algorithm_fault}
 use Rattle.schedule.specs.Schedules.{Scheduled, schedule_at}
 use Rattle.schedule.specs.Tapes.{Tape, Reading}
 use Rattle.schedule.specs.Wholes.{WasRead}
@@ -16,9 +19,17 @@ use Rattle.commands.specs.Tellings.{Refuses}
 
 -- the algorithm's text is at fault, or there is no memory
 abbrev pub IsAlgorithmFault : CommandFault → Type 0
-IsAlgorithmFault fault = (fault ≡ faults.OutOfMemory) ⊎ ((line : ℕ) × (purpose : LineFault) × (fault ≡ faults.Algorithm line purpose))
+IsAlgorithmFault fault = (fault ≡ faults.OutOfMemory) ⊎ ((line : ℕ) × (of_text : LineFault) × (fault ≡ faults.Algorithm line of_text))
 
--- an algorithm was read from its text, and its local lines end; this holds of it
+-- the command's fault names the line of this fault of a text, and the fault with its number
+abbrev pub TellsFault : AlgorithmFault → CommandFault → Type 0
+TellsFault (of_reading.At line number) told =
+    (of_text : LineFault) × (told ≡ faults.Algorithm line of_text)
+    × ((1 ≤ number) × (number ≤ 18) → number_of_algorithm_fault of_text ≡ Some number)
+TellsFault of_reading.OutOfMemory told = told ≡ faults.OutOfMemory
+
+-- there is an algorithm whose local lines end, of which this holds. That the text spells it is tested; no definition says what
+-- a text spells
 pub record HoldsOfAlgorithm (Holds : Algorithm → Type 0) : Type 0 where
   pub algorithm : Algorithm
   pub ends : LocalLinesEnd algorithm
@@ -29,7 +40,8 @@ pub record HoldsOfAlgorithm (Holds : Algorithm → Type 0) : Type 0 where
 abbrev pub EndsOnAlgorithm : (Algorithm → Type 0) → Tape → Tape → Result Ending CommandFault → Type 0
 EndsOnAlgorithm Holds before now end = Refuses before now IsAlgorithmFault end ⊎ HoldsOfAlgorithm Holds
 
--- an algorithm was read from its text, and its local lines end; a schedule was read too. This holds of both
+-- there is an algorithm whose local lines end, and a schedule was read; this holds of both. That the text spells the algorithm
+-- is tested
 pub record HoldsOfBoth (Holds : Algorithm → Scheduled → Type 0) (old new : Reading) : Type 0 where
   pub algorithm : Algorithm
   pub ends : LocalLinesEnd algorithm

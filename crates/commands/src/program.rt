@@ -66,7 +66,7 @@ fn file_text<F: Folder>(
     Ok(read_all(alloc, &mut file)?)
 }
 
-/// The text of the image that the command names, if it names one.
+/// The text of the file that the command starts from, if it names one.
 fn image_text<F: Folder>(
     alloc: Global,
     command: &Command,
@@ -106,7 +106,7 @@ fn ended_on_file<T: Threads + Wait + Sync, F: Folder, S: Screen, W: Sink>(
     ended(rt, alloc, command, image, folder, screen, &mut file, out)
 }
 
-/// Carries out the command. The image is read first. The input is read if no file is named.
+/// Carries out the command. The file that it starts from is read first. The input is read if no file is named.
 fn execute<T: Threads + Wait + Sync, F: Folder, S: Screen, R: Source, W: Sink>(
     rt: &T,
     alloc: Global,

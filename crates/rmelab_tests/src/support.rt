@@ -1,5 +1,5 @@
 //! What the tests of whole invocations share: the program is run over a folder in memory and devices that may fail, its
-//! whole output is compared, and each of its requests for memory is refused in turn.
+//! whole output is compared, and each of its requests for memory is refused in turn. And progress is kept.
 
 pub mod alone;
 pub mod devices;
@@ -7,3 +7,4 @@ pub mod fake;
 pub mod invocation;
 pub mod row;
 pub mod wanting;
+pub mod watching;

@@ -62,12 +62,10 @@ pub fn is_of_clap(fault: &WordsFault) -> bool {
 
 pub fn runs_threads(read: &Command) -> bool {
     match read {
-        Command::Run(_) => true,
+        Command::Run(_) | Command::Hunt(_) | Command::Explore(_) => true,
         Command::Replay(_)
         | Command::ReplayAlgorithm(_)
-        | Command::Hunt(_)
         | Command::HuntAlgorithm(_)
-        | Command::Explore(_)
         | Command::ExploreAlgorithm(_)
         | Command::Judge(_)
         | Command::Draw(_)

@@ -15,6 +15,9 @@ use crate::arguments::words::{
 use clap::ArgMatches;
 use std::alloc::{AllocError, Global};
 
+/// The calls that a search starts, where none are given.
+const DEFAULT_CALLS: &str = "lock,unlock";
+
 /// Whether a search can start this call.
 fn is_call(name: &str) -> bool
     ensures { result ≡ is_call name.now }
@@ -55,7 +58,7 @@ fn alphabet_of(alloc: Global, matches: &ArgMatches<'_>) -> Result<Alphabet, Word
     ensures known { OnOk result (list_all is_call (calls_of (given_in matches.now)) ≡ true) }
     ensures bad { IfErr result (IsFaultOfCalls (given_in matches.now)) }
 {
-    let calls = calls_in(alloc, str_of(matches, "calls").unwrap_or("lock,unlock"))?;
+    let calls = calls_in(alloc, str_of(matches, "calls").unwrap_or(DEFAULT_CALLS))?;
     if !are_calls(&calls) {
         return Err(WordsFault::BadSize);
     }
@@ -107,7 +110,7 @@ fn algorithm_calls_of(alloc: Global, matches: &ArgMatches<'_>) -> Result<Algorit
     ensures known { OnOk result (list_all is_algorithm_call (calls_of (given_in matches.now)) ≡ true) }
     ensures bad { IfErr result (IsFaultOfAlgorithmCalls (given_in matches.now)) }
 {
-    let calls = calls_in(alloc, str_of(matches, "calls").unwrap_or("lock,unlock"))?;
+    let calls = calls_in(alloc, str_of(matches, "calls").unwrap_or(DEFAULT_CALLS))?;
     if !are_algorithm_calls(&calls) {
         return Err(WordsFault::BadSize);
     }

@@ -34,7 +34,7 @@ fn sizes_of(matches: &ArgMatches<'_>) -> Result<(u64, u64), WordsFault>
 fn without_shrink(alloc: Global) -> Result<String, AllocError> {
     String::from_str(
         alloc,
-        "error: with '--algorithm <FILE>' there is no '--shrink'; 'rmelab shrink' makes the schedule found least\n\nFor more information, try '--help'.\n",
+        "error: with '--algorithm <FILE>' there is no '--shrink'; 'rmelab shrink' minimizes the schedule found\n\nFor more information, try '--help'.\n",
     )
 }
 

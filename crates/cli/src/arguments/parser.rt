@@ -33,8 +33,8 @@ after one of a device or of memory.\n\nExample: rmelab hunt --variant no-look --
 const EXPLORE_HELP: &str =
     "In: nothing; with --algorithm the algorithm's text: docs/use/algorithms.md. All schedules are tried whose moves are the start \
 of a call of --calls, one step, or a crash, of which there are at most --crashes: the shorter before the longer. Two worlds are one \
-where their words, their processes, the judge and the crashes left are. Of a process those variables count that a move may still read; all do \
-with --all-variables or --stuck. An algorithm is searched by one thread.\nOut: the schedule \
+state where their words, their processes, the judge and the crashes left are the same. Of a process those variables count that a move \
+may still read; all do with --all-variables or --stuck. An algorithm is searched by one thread.\nOut: the schedule \
 of fewest moves that goes wrong, which `rmelab replay` with the same --variant or --algorithm replays to its fault; `nothing found \
 within K moves`; or, where all was tried, `nothing found: all N states`. With --stuck, where none goes wrong: the \
 schedule of fewest moves to a state from which no starts and steps bring each process to rest with all lock words 0, which \
@@ -155,7 +155,7 @@ fn hunt<'a>(alloc: Global) -> Result<Parser<'a>, AllocError>
         Argument::number("steps", "K", "1 to 10000 moves a round").required(),
         Argument::flag(
             "shrink",
-            "Make the schedule found least, as `shrink` does; not with --algorithm",
+            "Minimize the schedule found, as `shrink` does; not with --algorithm",
         ),
         Argument::number(
             "jobs",
@@ -240,8 +240,7 @@ fn draw<'a>(alloc: Global) -> Result<Parser<'a>, AllocError>
 fn shrink<'a>(alloc: Global) -> Result<Parser<'a>, AllocError>
     ensures { IfOk result (IsParser (alone shrink)) }
 {
-    let about =
-        "Makes a schedule least that goes wrong on a variant of the lock, or on an algorithm";
+    let about = "Minimizes a schedule that goes wrong on a variant of the lock, or on an algorithm";
     let arguments = [
         Argument::variant(),
         Argument::algorithm(),

@@ -37,7 +37,8 @@ const TWO_ACCESSES: &str =
 the word into a private name in a line of its own.";
 
 const NOT_ASSIGNABLE: &str =
-    "This can't be set: `me`, `procs`, `limit`, the name of a loop, or a shared word without its index. A private name can.";
+    "This can't be set here: `me`, `procs`, `limit`, the name of a loop, or a shared word where a private name is wanted, as \
+after `await` or `for`. A private name can.";
 
 const BAD_BLOCK: &str =
     "An `end` is missing or one too many, an `else` has no `if`, or a call begins within a block. Each `if` of several lines \
@@ -76,8 +77,8 @@ const NEVER_REACHED: &str =
     "No run comes to this line. A `goto` or a `done` before it leads elsewhere, and no label leads here.";
 
 const OUT_OF_RANGE: &str =
-    "A value leaves 0 to 18446744073709551615, a division is by 0, an index is no process, or a store is above its bound. The \
-start or the step is refused, and nothing changes.";
+    "A value leaves 0 to 18446744073709551615, a division is by 0, an index is no process, a store is above its bound, or a \
+deed is the fourth of its step. The start or the step is refused, and nothing changes.";
 
 const NO_SUCH_CALL: &str =
     "The text of the algorithm has no such call. The calls of the mailbox and its board are in no text.";

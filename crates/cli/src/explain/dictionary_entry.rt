@@ -6,7 +6,7 @@ ghost use Rattle.cli.specs.Names.{name_of};
 use crate::explain::algorithm_refused::AlgorithmRefused;
 use crate::explain::meaning::meaning_of;
 use crate::explain::rule::Rule;
-use algorithms::LineFault as AlgorithmFault;
+use algorithms::LineFault as AlgorithmLineFault;
 use redomail::Reply;
 use rmecore::{Fault, Found, Kind, Refusal};
 use rmeworld::Answer;
@@ -30,7 +30,7 @@ pub enum DictionaryEntry {
     /// A kind of step.
     Step(Kind),
     /// A fault of an algorithm's text.
-    AlgorithmFault(AlgorithmFault),
+    AlgorithmFault(AlgorithmLineFault),
 }
 
 /// All entries that can be explained: one for each name.
@@ -112,24 +112,24 @@ pub const ENTRIES: [DictionaryEntry; 95] = [
     DictionaryEntry::Step(Kind::Get),
     DictionaryEntry::Step(Kind::Put),
     DictionaryEntry::Step(Kind::Glance),
-    DictionaryEntry::AlgorithmFault(AlgorithmFault::NoHeader),
-    DictionaryEntry::AlgorithmFault(AlgorithmFault::BadCharacter),
-    DictionaryEntry::AlgorithmFault(AlgorithmFault::NoNewline),
-    DictionaryEntry::AlgorithmFault(AlgorithmFault::BadForm),
-    DictionaryEntry::AlgorithmFault(AlgorithmFault::NameTaken),
-    DictionaryEntry::AlgorithmFault(AlgorithmFault::UnknownName),
-    DictionaryEntry::AlgorithmFault(AlgorithmFault::TwoAccesses),
-    DictionaryEntry::AlgorithmFault(AlgorithmFault::NotAssignable),
-    DictionaryEntry::AlgorithmFault(AlgorithmFault::BadBlock),
-    DictionaryEntry::AlgorithmFault(AlgorithmFault::BadLabel),
-    DictionaryEntry::AlgorithmFault(AlgorithmFault::Unset),
-    DictionaryEntry::AlgorithmFault(AlgorithmFault::Endless),
-    DictionaryEntry::AlgorithmFault(AlgorithmFault::NoStep),
-    DictionaryEntry::AlgorithmFault(AlgorithmFault::FallsOff),
-    DictionaryEntry::AlgorithmFault(AlgorithmFault::BadDeed),
-    DictionaryEntry::AlgorithmFault(AlgorithmFault::TooBig),
-    DictionaryEntry::AlgorithmFault(AlgorithmFault::BadCall),
-    DictionaryEntry::AlgorithmFault(AlgorithmFault::NeverReached),
+    DictionaryEntry::AlgorithmFault(AlgorithmLineFault::NoHeader),
+    DictionaryEntry::AlgorithmFault(AlgorithmLineFault::BadCharacter),
+    DictionaryEntry::AlgorithmFault(AlgorithmLineFault::NoNewline),
+    DictionaryEntry::AlgorithmFault(AlgorithmLineFault::BadForm),
+    DictionaryEntry::AlgorithmFault(AlgorithmLineFault::NameTaken),
+    DictionaryEntry::AlgorithmFault(AlgorithmLineFault::UnknownName),
+    DictionaryEntry::AlgorithmFault(AlgorithmLineFault::TwoAccesses),
+    DictionaryEntry::AlgorithmFault(AlgorithmLineFault::NotAssignable),
+    DictionaryEntry::AlgorithmFault(AlgorithmLineFault::BadBlock),
+    DictionaryEntry::AlgorithmFault(AlgorithmLineFault::BadLabel),
+    DictionaryEntry::AlgorithmFault(AlgorithmLineFault::Unset),
+    DictionaryEntry::AlgorithmFault(AlgorithmLineFault::Endless),
+    DictionaryEntry::AlgorithmFault(AlgorithmLineFault::NoStep),
+    DictionaryEntry::AlgorithmFault(AlgorithmLineFault::FallsOff),
+    DictionaryEntry::AlgorithmFault(AlgorithmLineFault::BadDeed),
+    DictionaryEntry::AlgorithmFault(AlgorithmLineFault::TooBig),
+    DictionaryEntry::AlgorithmFault(AlgorithmLineFault::BadCall),
+    DictionaryEntry::AlgorithmFault(AlgorithmLineFault::NeverReached),
 ];
 
 /// Whether the entry has this name.

@@ -8,7 +8,7 @@ use crate::explain::meaning::Meaning;
 use rmecore::Refusal;
 
 const BAD_PROCS: &str =
-    "The number of processes is not 1 to 64. It stands as `procs` in the first line.";
+    "The number of processes is not 1 to 64, or not one that the algorithm is for. It stands as `procs` in the first line.";
 
 const BAD_LIMIT: &str =
     "The limit of the lock's numbers is not 1 to 4611686018427387904. It stands as `limit` in the first line.";
@@ -51,7 +51,8 @@ const BAD_INDEX: &str =
     "There is no word with this index. The board has four, with the indexes 0 to 3.";
 
 const NOT_WAITING: &str =
-    "Only a lock that waits can be withdrawn. At rest, in the doorway and inside there is nothing to give up.";
+    "Only a lock that waits can be withdrawn; of an algorithm, one before a line with `may withdraw`. At rest, in the \
+doorway and inside there is nothing to give up.";
 
 const BAD_WIDTH: &str =
     "The number of words is not one that is allowed here. A message has 1 to 8, and as many as all messages of its \

@@ -3,7 +3,7 @@
 ghost use Rattle.std.specs.Prelude.{◌≡◌, IfErr, IfOk, false};
 ghost use Rattle.algorithms.specs.Ranked.{LocalLinesEnd, AccessesLeadOn};
 ghost use Rattle.commands.specs.AlgorithmReplays.{AlgorithmReplayEnds, fault_of_run, TellsAlgorithm};
-ghost use Rattle.commands.specs.AlgorithmTexts.{IsAlgorithmFault};
+ghost use Rattle.commands.specs.AlgorithmTexts.{IsAlgorithmFault, TellsFault};
 ghost use Rattle.commands.specs.Endings.{IsEnded};
 
 use crate::algorithm_fault::fault_numbered;
@@ -16,8 +16,9 @@ use schedule::{Schedule, Sink, Source};
 use std::alloc::Global;
 
 /// The command's fault for a fault of an algorithm's text.
+#[tactic(auto, using(crate::proofs::AlgorithmTexts::tells_fault))]
 fn unread(fault: AlgorithmFault) -> CommandFault
-    ensures { IsAlgorithmFault result }
+    ensures { TellsFault fault result }
 {
     match fault {
         AlgorithmFault::At { line, number } => CommandFault::Algorithm {
@@ -43,6 +44,7 @@ pub(crate) fn unplayed(fault: AlgorithmReplayFault) -> CommandFault
 }
 
 /// The algorithm that this text spells. A text that spells none is a fault, of its first faulty line.
+#[tactic(auto, using(crate::proofs::AlgorithmTexts::is_algorithm_fault))]
 pub(crate) fn algorithm_read(alloc: Global, text: &[u8]) -> Result<Algorithm, CommandFault>
     ensures ends { IfOk result LocalLinesEnd }
     ensures leads { IfOk result AccessesLeadOn }

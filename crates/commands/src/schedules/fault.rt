@@ -9,7 +9,7 @@ use schedule::{OutOfMemory as NoMemory, ReplayFault, TextFault};
 use std::alloc::{AllocError, AllocFailed};
 use thiserror::Error;
 
-/// Why a command has no verdict. Its text is the one line on standard error, after the program's name.
+/// Why a command has no verdict. `line_of` spells its one line on standard error.
 #[derive(Clone, Copy, Debug, PartialEq, Eq, Error)]
 pub enum CommandFault {
     /// This line of the text can't be read; lines count from 1. The number is that of the line's fault.
@@ -24,13 +24,15 @@ pub enum CommandFault {
     /// This line of the algorithm's text is at fault; lines count from 1.
     #[error("algorithm line {line}: {fault}")]
     Algorithm { line: u64, fault: LineFault },
-    /// There is no such variant, or it isn't `right` and an image is given.
+    /// There is no such variant, it isn't `right` beside an image, or it, an image or a file for the last image is beside an
+    /// algorithm.
     #[error("bad variant")]
     BadVariant,
-    /// A number is outside its range.
+    /// A number is outside its range or beside what it doesn't go with, a call of `explore` is none, or the algorithm is not for
+    /// this number of processes.
     #[error("bad size")]
     BadSize,
-    /// Reading from a device failed.
+    /// There is no such file, or reading from a device failed.
     #[error("read failed")]
     Read,
     /// Writing to a device failed.

@@ -15,7 +15,7 @@ Commands:
   explore  Tries all schedules up to a bound, for the shortest that goes wrong
   judge    Judges a trace of deeds, and prints the verdict
   draw     Draws the run of a schedule as a space-time diagram
-  shrink   Makes a schedule least that goes wrong on a variant of the lock, or on an algorithm
+  shrink   Minimizes a schedule that goes wrong on a variant of the lock, or on an algorithm
   step     Holds a session: takes the lines of a schedule one by one, and goes back
   explain  Says what a number or a word of reports and faults means
   help     Print this message or the help of the given subcommand(s)
@@ -81,7 +81,7 @@ Options:
       --seed <S>          The seed of the moves
       --rounds <R>        1 to 10000 rounds
       --steps <K>         1 to 10000 moves a round
-      --shrink            Make the schedule found least, as `shrink` does; not with --algorithm
+      --shrink            Minimize the schedule found, as `shrink` does; not with --algorithm
       --jobs <N>          N threads at once; without it, or 0, as many as there are processors
   -h, --help              Print help
 
@@ -113,7 +113,7 @@ Options:
       --jobs <N>          N threads at once; without it, or 0, as many as there are processors
   -h, --help              Print help
 
-In: nothing; with --algorithm the algorithm's text: docs/use/algorithms.md. All schedules are tried whose moves are the start of a call of --calls, one step, or a crash, of which there are at most --crashes: the shorter before the longer. Two worlds are one where their words, their processes, the judge and the crashes left are. Of a process those variables count that a move may still read; all do with --all-variables or --stuck. An algorithm is searched by one thread.
+In: nothing; with --algorithm the algorithm's text: docs/use/algorithms.md. All schedules are tried whose moves are the start of a call of --calls, one step, or a crash, of which there are at most --crashes: the shorter before the longer. Two worlds are one state where their words, their processes, the judge and the crashes left are the same. Of a process those variables count that a move may still read; all do with --all-variables or --stuck. An algorithm is searched by one thread.
 Out: the schedule of fewest moves that goes wrong, which `rmelab replay` with the same --variant or --algorithm replays to its fault; `nothing found within K moves`; or, where all was tried, `nothing found: all N states`. With --stuck, where none goes wrong: the schedule of fewest moves to a state from which no starts and steps bring each process to rest with all lock words 0, which replays to a fine verdict; or `never stuck: all N states`. Nothing is said of a greater size, limit or number of crashes.
 Shown: on standard error, where that is a terminal, the states, how many moves deep and the states a second, once a second while it works.
 Exit status: 0 where nothing was found, 1 where a schedule was, 2 after a fault of the words or the algorithm, 3 after one of a device or of memory, or where there are more states than --states.
@@ -162,7 +162,7 @@ Example: rmelab draw examples/tie.rme
 ";
 
 const SHRINK: &str =
-    "Makes a schedule least that goes wrong on a variant of the lock, or on an algorithm
+    "Minimizes a schedule that goes wrong on a variant of the lock, or on an algorithm
 
 Usage: rmelab shrink [OPTIONS] [FILE]
 

@@ -1,7 +1,8 @@
 //! A hunt or a search by any number of threads answers what that of one thread answers.
 
+use crate::support::watching::Told;
 use crashlab::{HuntFault, Variant, hunt, hunt_in_parallel, hunt_in_parallel_watched};
-use explorer::{Unwatched, Watch};
+use explorer::Unwatched;
 use lock_explorer::{Bounds, Variables, shortest_schedule, shortest_schedule_in_parallel};
 use redomail::Layout;
 use rmeworld::Call;
@@ -79,26 +80,12 @@ fn a_hunt_by_jobs_is_refused_by_its_size(rt: HostRuntime) {
     }
 }
 
-/// Keeps the progress that is reported to it. What it has no memory for is dropped.
-#[derive(Drop)]
-struct Told {
-    all: Vec<(u64, u64)>,
-}
-
-impl Watch for Told {
-    fn see(&mut self, far: u64, done: u64) {
-        let _ = self.all.push((far, done));
-    }
-}
-
 #[test]
 fn each_round_of_a_batch_is_told_once(rt: HostRuntime) -> Result<(), Fail> {
     let alloc = rt.alloc();
     let rounds = vec![in alloc; (0, 0), (1, 10), (2, 20), (3, 30), (4, 40)]?;
     for jobs in JOBS {
-        let mut told = Told {
-            all: Vec::new(alloc),
-        };
+        let mut told = Told::new(alloc);
         let variant = Variant::Right;
         let found = hunt_in_parallel_watched(&rt, alloc, jobs, variant, 1, 5, 10, &mut told)?;
         assert!(rt; found.is_none());

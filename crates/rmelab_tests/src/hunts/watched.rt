@@ -4,28 +4,14 @@ use crate::hunts::explores::SHORTEST;
 use crate::support::fake::Failing;
 use crate::support::invocation::all_come_to;
 use crate::support::row::invoked;
+use crate::support::watching::Told;
 use crashlab::Variant;
 use crashlab::hunting::hunt_watched;
-use explorer::Watch;
 use std::test::Fail;
-
-/// Keeps the progress that is reported to it. What it has no memory for is dropped.
-#[derive(Drop)]
-struct Told {
-    all: Vec<(u64, u64)>,
-}
-
-impl Watch for Told {
-    fn see(&mut self, far: u64, done: u64) {
-        let _ = self.all.push((far, done));
-    }
-}
 
 #[test]
 fn each_round_is_told_once(rt: HostRuntime) -> Result<(), Fail> {
-    let mut told = Told {
-        all: Vec::new(rt.alloc()),
-    };
+    let mut told = Told::new(rt.alloc());
     let found = hunt_watched(rt.alloc(), Variant::Right, 1, 4, 10, &mut told)?;
     assert!(rt; found.is_none());
     let rounds = vec![in rt.alloc(); (0, 0), (1, 10), (2, 20), (3, 30)]?;

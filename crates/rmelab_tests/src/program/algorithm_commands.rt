@@ -15,6 +15,10 @@ use std::thread::Threads;
 /// A process that enters and leaves, alone.
 pub const ALONE: &str = "rme 1 procs 2 limit 1 cap 1\nlock 0\nstep 0 3\nunlock 0\nstep 0\n";
 
+/// Its report, on Peterson's lock.
+pub const ALONE_TOLD: &str =
+    "begin 0\nready 0\nenter 0\nanswer 0 done\nleave 0\nanswer 0 done\nwords flag 0 0\nwords turn 1\nverdict fine\n";
+
 /// Its drawing, of Peterson's lock. Without a promise of order the deeds before the entry are heard with it.
 pub const ALONE_DRAWN: &str = "0                         1                         |
 . w flag[0]=1             .                         |
@@ -129,6 +133,11 @@ fn commands_on_an_algorithm(rt: HostRuntime) -> Result<(), Fail> {
     Ok(())
 }
 
+/// A session with the header alone.
+const HEADED: &str = "rme 1 procs 2 limit 1 cap 1\n";
+
+const AT_REST: &str = "process 0: outside, no call\nprocess 1: outside, no call\n";
+
 /// Each command, with words for which it writes something.
 const LINES: [&str; 4] = [
     "rmelab hunt --algorithm a.lock --seed 1 --rounds 1 --steps 3",
@@ -162,11 +171,16 @@ fn commands_on_an_algorithm_that_fail(rt: HostRuntime) -> Result<(), Fail> {
             comes_to(&rt, rt.alloc(), Ok(words_of(rt.alloc(), line)?), row)?;
         }
     }
-    Ok(())
+    let session = invoked("rmelab step --algorithm a.lock", HEADED, AT_REST).beside(text);
+    let rows = [
+        session.where_fails(Failing::Read).ends(3, unread),
+        session.where_fails(Failing::Flush).ends(3, unwritten),
+    ];
+    all_come_to(&rt, rt.alloc(), &rows)
 }
 
 pub const NO_SHRINK: &str =
-    "error: with '--algorithm <FILE>' there is no '--shrink'; 'rmelab shrink' makes the schedule found least\n\nFor more information, try '--help'.\n";
+    "error: with '--algorithm <FILE>' there is no '--shrink'; 'rmelab shrink' minimizes the schedule found\n\nFor more information, try '--help'.\n";
 
 pub const NO_PAGE: &str =
     "error: with '--algorithm <FILE>' there is no '--html'\n\nFor more information, try '--help'.\n";

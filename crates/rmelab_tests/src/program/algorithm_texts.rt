@@ -81,8 +81,12 @@ fn long_texts_of_algorithms(rt: HostRuntime) -> Result<(), Fail> {
     Ok(())
 }
 
+/// A step with four deeds, one more than a step may have.
+const FOUR_DEEDS: &[u8] =
+    b"algorithm four for 2 processes\npromises exclusion, order\nshared x up to 1\ncall lock\n  x := 1\n  this is begin\n  this is ready\n  this is enter\n  this is leave\n  done\ncall unlock\n  x := 0\n  done\n";
+
 /// A text, a schedule, what is written before the line that is refused, and that line.
-const REFUSED: [(&[u8], &str, &str, &str); 6] = [
+const REFUSED: [(&[u8], &str, &str, &str); 7] = [
     (
         others::PETERSON,
         "rme 1 procs 3 limit 1 cap 1\nlock 0\n",
@@ -118,6 +122,12 @@ const REFUSED: [(&[u8], &str, &str, &str); 6] = [
         "rme 1 procs 2 limit 1 cap 1\nlock 0\nstep 0 9\nlock 1\nstep 1 9\n",
         "begin 0\nready 0\nenter 0\nanswer 0 done\nbegin 1\n",
         "rmelab: line 5: refused 16\n",
+    ),
+    (
+        FOUR_DEEDS,
+        "rme 1 procs 2 limit 1 cap 1\nlock 0\nstep 0\n",
+        "",
+        "rmelab: line 3: refused 16\n",
     ),
 ];
 

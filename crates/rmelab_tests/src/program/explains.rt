@@ -147,7 +147,7 @@ See docs/theory/model.md, Step.
 ";
 
 const OUT_OF_RANGE: &str =
-    "refused 16: A value leaves 0 to 18446744073709551615, a division is by 0, an index is no process, or a store is above its bound. The start or the step is refused, and nothing changes.
+    "refused 16: A value leaves 0 to 18446744073709551615, a division is by 0, an index is no process, a store is above its bound, or a deed is the fourth of its step. The start or the step is refused, and nothing changes.
 See docs/use/algorithms.md, Meaning.
 ";
 

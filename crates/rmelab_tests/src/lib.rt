@@ -2,9 +2,7 @@
 #![tactic(auto)]
 
 mod arguments;
-mod hunts;
 mod memory;
 mod program;
 mod replays;
-#[cfg(test)]
 pub mod support;

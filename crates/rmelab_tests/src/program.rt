@@ -2,10 +2,6 @@
 //! memory is refused in turn. Tests alone: each names public functions of `commands` and of the crates below it.
 
 #[cfg(test)]
-pub mod algorithm_commands;
-#[cfg(test)]
-pub mod algorithm_texts;
-#[cfg(test)]
 mod drawings;
 #[cfg(test)]
 mod explains;

@@ -1,9 +1,11 @@
 //! Names each public item of the specification by the path and with the signature that the specification gives it, so that
-//! none of them can move, change or go without this crate failing to compile. What the items do is tested elsewhere.
+//! none of them can move, change or go without this crate failing to compile. What the items do is tested elsewhere; but what
+//! hunts, searches and commands on algorithms do is tested here, as whole invocations of the program.
 #![tactic(auto)]
 
 #[cfg(test)]
 pub mod four_methods;
+mod invocations;
 #[cfg(test)]
 pub mod of_crashlab;
 #[cfg(test)]

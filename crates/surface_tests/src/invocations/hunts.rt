@@ -1,6 +1,6 @@
 //! Hunts: what a seed finds, and the moves that it draws.
 
-use crate::support::invocation::{prints, ran};
+use rmelab_tests::support::invocation::{prints, ran};
 use std::process::ExitCode;
 use std::test::Fail;
 

@@ -1,10 +1,10 @@
 //! A hunt or a search by any number of threads answers what that of one thread answers.
 
-use crate::support::watching::Told;
 use crashlab::{HuntFault, Variant, hunt, hunt_in_parallel, hunt_in_parallel_watched};
 use explorer::Unwatched;
 use lock_explorer::{Bounds, Variables, shortest_schedule, shortest_schedule_in_parallel};
 use redomail::Layout;
+use rmelab_tests::support::watching::Told;
 use rmeworld::Call;
 use schedule::{Schedule, write_schedule};
 use std::alloc::Global;

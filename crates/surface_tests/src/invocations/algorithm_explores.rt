@@ -1,10 +1,10 @@
 //! Searches of algorithms. The schedules and the counts are those of the reference interpreter of the format.
 
-use crate::hunts::explores::SHORTEST;
-use crate::support::fake::Failing;
-use crate::support::invocation::{all_come_to, comes_to, words_of};
-use crate::support::row::{ProgramRow, invoked};
 use algorithms_tests::texts::{bakeries, others};
+use crate::invocations::explores::SHORTEST;
+use rmelab_tests::support::fake::Failing;
+use rmelab_tests::support::invocation::{all_come_to, comes_to, words_of};
+use rmelab_tests::support::row::{ProgramRow, invoked};
 use std::test::Fail;
 
 /// Both read that nobody holds it before either has stored.

@@ -1,11 +1,11 @@
 //! Hunts, drawings and least schedules of algorithms: what they write, and what is refused.
 
-use crate::hunts::algorithm_explores::NO_LOCK;
-use crate::program::algorithm_texts::HIDDEN;
-use crate::support::fake::Failing;
-use crate::support::invocation::{all_come_to, comes_to, printed_by, words_of};
-use crate::support::row::invoked;
 use algorithms_tests::texts::others;
+use crate::invocations::algorithm_explores::NO_LOCK;
+use crate::invocations::algorithm_texts::HIDDEN;
+use rmelab_tests::support::fake::Failing;
+use rmelab_tests::support::invocation::{all_come_to, comes_to, printed_by, words_of};
+use rmelab_tests::support::row::invoked;
 use std::alloc::Global;
 use std::process::ExitCode;
 use std::sync::Wait;

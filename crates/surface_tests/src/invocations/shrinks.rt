@@ -1,8 +1,8 @@
 //! Schedules shrunk by `shrink` and by `hunt --shrink`.
 
-use crate::support::fake::Failing;
-use crate::support::invocation::{all_come_to, prints, ran};
-use crate::support::row::invoked;
+use rmelab_tests::support::fake::Failing;
+use rmelab_tests::support::invocation::{all_come_to, prints, ran};
+use rmelab_tests::support::row::invoked;
 use std::process::ExitCode;
 use std::test::Fail;
 

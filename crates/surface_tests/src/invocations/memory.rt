@@ -1,17 +1,20 @@
-//! Each request for memory of searches and of schedules that are shrunk is refused in turn.
+//! Each request for memory of searches, of schedules that are shrunk, and of commands on algorithms is refused in turn.
 
-use crate::hunts::algorithm_explores::{NO_LOCK, NO_MAILBOX, TWO_AT_ONCE};
-use crate::hunts::explores::GONE_OUT;
-use crate::hunts::shrinks::{LEAST, SMALLEST, TWO_INSIDE};
-use crate::program::algorithm_commands::{ALONE, ALONE_DRAWN, NO_PAGE};
-use crate::support::row::invoked;
-use crate::support::wanting::all_want_memory;
 use algorithms_tests::texts::others;
+use crate::invocations::algorithm_commands::{
+    ALONE, ALONE_DRAWN, ALONE_TOLD, HELD, NO_PAGE, SESSION,
+};
+use crate::invocations::algorithm_explores::{NO_LOCK, NO_MAILBOX, TWO_AT_ONCE};
+use crate::invocations::explores::GONE_OUT;
+use crate::invocations::shrinks::{LEAST, SMALLEST, TWO_INSIDE};
+use rmelab_tests::support::row::invoked;
+use rmelab_tests::support::wanting::all_want_memory;
 use std::test::Fail;
 
 #[test]
 fn want_of_memory(rt: HostRuntime) -> Result<(), Fail> {
     let peterson = ("a.lock", str::from_utf8(others::PETERSON)?);
+    let one_word = ("a.lock", str::from_utf8(others::ONE_WORD)?);
     let hunt = "rmelab hunt --algorithm a.lock --seed 1 --rounds 1 --steps 3";
     let shrink = "rmelab shrink --algorithm a.lock";
     let draw = "rmelab draw --algorithm a.lock";
@@ -34,7 +37,7 @@ fn want_of_memory(rt: HostRuntime) -> Result<(), Fail> {
             "",
             TWO_AT_ONCE,
         )
-        .beside(("a.lock", str::from_utf8(others::ONE_WORD)?))
+        .beside(one_word)
         .ends(1, ""),
         invoked(
             "rmelab explore --algorithm a.lock --procs 2 --stuck",
@@ -46,6 +49,8 @@ fn want_of_memory(rt: HostRuntime) -> Result<(), Fail> {
         invoked(hunt, "", "nothing found\n").beside(peterson),
         invoked(shrink, ALONE, "verdict fine\n").beside(peterson),
         invoked(draw, ALONE, ALONE_DRAWN).beside(peterson),
+        invoked("rmelab replay --algorithm a.lock", ALONE, ALONE_TOLD).beside(peterson),
+        invoked("rmelab step --algorithm a.lock", SESSION, HELD).beside(one_word),
         invoked("rmelab draw --algorithm a.lock --html", "", "").ends(2, NO_PAGE),
     ];
     all_want_memory(&rt, rt.alloc(), &rows)

@@ -1,8 +1,8 @@
 //! Searches of all schedules up to a bound. The schedules and the counts are those of the plain search in bench/explore.
 
-use crate::support::fake::Failing;
-use crate::support::invocation::{all_come_to, ran};
-use crate::support::row::invoked;
+use rmelab_tests::support::fake::Failing;
+use rmelab_tests::support::invocation::{all_come_to, ran};
+use rmelab_tests::support::row::invoked;
 use std::process::ExitCode;
 use std::test::Fail;
 

@@ -1,9 +1,9 @@
 //! Replays of algorithms where a text, a schedule, words or a file are at fault.
 
-use crate::support::fake::Failing;
-use crate::support::invocation::{all_come_to, comes_to, words_of};
-use crate::support::row::{ProgramRow, invoked};
 use algorithms_tests::texts::others;
+use rmelab_tests::support::fake::Failing;
+use rmelab_tests::support::invocation::{all_come_to, comes_to, words_of};
+use rmelab_tests::support::row::{ProgramRow, invoked};
 use std::alloc::Global;
 use std::sync::Wait;
 use std::test::Fail;

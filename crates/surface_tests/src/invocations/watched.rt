@@ -1,12 +1,12 @@
 //! The progress of a search or a hunt, as it is reported and as it is shown.
 
-use crate::hunts::explores::SHORTEST;
-use crate::support::fake::Failing;
-use crate::support::invocation::all_come_to;
-use crate::support::row::invoked;
-use crate::support::watching::Told;
 use crashlab::Variant;
 use crashlab::hunting::hunt_watched;
+use crate::invocations::explores::SHORTEST;
+use rmelab_tests::support::fake::Failing;
+use rmelab_tests::support::invocation::all_come_to;
+use rmelab_tests::support::row::invoked;
+use rmelab_tests::support::watching::Told;
 use std::test::Fail;
 
 #[test]

@@ -16,8 +16,6 @@ fn want_of_memory(rt: HostRuntime) -> Result<(), Fail> {
     let peterson = ("a.lock", str::from_utf8(others::PETERSON)?);
     let one_word = ("a.lock", str::from_utf8(others::ONE_WORD)?);
     let hunt = "rmelab hunt --algorithm a.lock --seed 1 --rounds 1 --steps 3";
-    let shrink = "rmelab shrink --algorithm a.lock";
-    let draw = "rmelab draw --algorithm a.lock";
     let rows = [
         invoked("rmelab shrink --variant right", SMALLEST, "verdict fine\n"),
         invoked("rmelab shrink --variant no-look", TWO_INSIDE, LEAST).ends(1, ""),
@@ -47,8 +45,8 @@ fn want_of_memory(rt: HostRuntime) -> Result<(), Fail> {
         .ends(2, NO_MAILBOX),
         invoked("rmelab explore --procs 2", "", "").ends(2, NO_LOCK),
         invoked(hunt, "", "nothing found\n").beside(peterson),
-        invoked(shrink, ALONE, "verdict fine\n").beside(peterson),
-        invoked(draw, ALONE, ALONE_DRAWN).beside(peterson),
+        invoked("rmelab shrink --algorithm a.lock", ALONE, "verdict fine\n").beside(peterson),
+        invoked("rmelab draw --algorithm a.lock", ALONE, ALONE_DRAWN).beside(peterson),
         invoked("rmelab replay --algorithm a.lock", ALONE, ALONE_TOLD).beside(peterson),
         invoked("rmelab step --algorithm a.lock", SESSION, HELD).beside(one_word),
         invoked("rmelab draw --algorithm a.lock --html", "", "").ends(2, NO_PAGE),

@@ -5,7 +5,7 @@ use crate::support::fake::Failing;
 /// An invocation, and the output that is expected.
 #[derive(Clone, Copy)]
 pub struct ProgramRow<'a> {
-    pub(crate) line: &'a str,
+    pub line: &'a str,
     pub(crate) input: &'a str,
     pub(crate) files: [(&'a str, &'a str); 2],
     pub(crate) failing: Failing,

@@ -25,7 +25,7 @@ tells_fault line number of_text numbered = (of_text, refl, numbered)
 
 -- what tells a fault of a text names it, or is out of memory
 pub is_algorithm_fault : (fault : AlgorithmFault) (told : CommandFault) → TellsFault fault told → IsAlgorithmFault told
-is_algorithm_fault (of_reading.At line number) told tells = inr (line, tells.0, tells.1.0)
+is_algorithm_fault (of_reading.At line number) told tells = inr (line, tells.0, tells.1)
 is_algorithm_fault of_reading.OutOfMemory told tells = inl tells
 
 -- the algorithm's text is at fault: nothing was written

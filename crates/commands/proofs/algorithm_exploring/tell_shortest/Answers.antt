@@ -1,4 +1,4 @@
-use Rattle.std.proofs.Common.{◌∙◌, Some, Ok, Err, subst}
+use Rattle.std.proofs.Common.{◌∙◌, Some, Ok, subst}
 use Rattle.explorer.specs.declared.found.SearchOutcome.TheVariants.{Path, NoneWithin, Nowhere}
 use Rattle.algorithm_explorer.specs.Finding.{Answers}
 use Rattle.cli.specs.declared.arguments.args.AlgorithmExploreArgs.{AlgorithmExploreArgs}

@@ -11,5 +11,6 @@ pub mod Leasts
 pub mod Pictures
 pub mod Runs
 pub mod Tapes
+pub mod Telling
 pub mod Holding
 pub mod Beginning

@@ -7,13 +7,14 @@ ghost use Rattle.commands.specs.Endings.{FailsToWrite, IsEnded};
 ghost use Rattle.schedule.specs.Schedules.{spelling};
 ghost use Rattle.schedule.specs.Tapes.{Writes};
 
-use crate::exploring::{put_call, tell_all, tell_schedule, tell_within};
+use crate::exploring::{put_call, tell_all, tell_within};
 use crate::progress::meter::Meter;
 use crate::progress::screen::Screen;
 use crate::progress::work::Work;
 use crate::schedules::algorithm::algorithm_read;
 use crate::schedules::ending::Ending;
 use crate::schedules::fault::CommandFault;
+use crate::schedules::telling::tell_schedule;
 use algorithm_explorer::{
     AlgorithmBounds, AlgorithmExploreFault, Move, SearchOutcome, shortest_algorithm_schedule,
 };

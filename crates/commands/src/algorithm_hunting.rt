@@ -1,20 +1,17 @@
 //! The command `hunt` on an algorithm's text.
 
-ghost use Rattle.std.specs.Prelude.{◌≡◌, false, IfErr, IfOk, OnOk};
+ghost use Rattle.std.specs.Prelude.{◌≡◌, false, IfOk};
 ghost use Rattle.commands.specs.AlgorithmHunts.{AlgorithmHuntEnds, fault_of_hunt, HuntsAlgorithm};
-ghost use Rattle.commands.specs.Endings.{FailsToWrite, IsEnded};
-ghost use Rattle.commands.specs.Explores.{nothing_line};
-ghost use Rattle.schedule.specs.Tapes.{Writes};
+ghost use Rattle.commands.specs.Endings.{IsEnded};
 
-use crate::exploring::tell_schedule;
 use crate::schedules::algorithm::algorithm_read;
 use crate::schedules::ending::Ending;
 use crate::schedules::fault::CommandFault;
+use crate::schedules::telling::{tell_nothing, tell_schedule};
 use algorithm_explorer::{AlgorithmHuntFault, hunt_algorithm_schedule};
 use algorithms::Algorithm;
 use cli::arguments::args::AlgorithmHuntArgs;
 use schedule::Sink;
-use schedule::texts::device::write_all;
 use std::alloc::Global;
 
 /// The command's fault for a fault of a hunt.
@@ -27,22 +24,6 @@ fn unhunted(fault: AlgorithmHuntFault) -> CommandFault
         | AlgorithmHuntFault::BadSteps
         | AlgorithmHuntFault::Refused(_) => CommandFault::BadSize,
     }
-}
-
-/// Writes that nothing was found.
-fn tell_nothing<W: Sink>(w: &mut W) -> Result<Ending, CommandFault>
-    ensures told { OnOk result (Writes (W.tape w.old) (W.tape w.new) nothing_line) }
-    ensures status { IfOk result (λ ending. ending.status ≡ 0) }
-    ensures ended { IfOk result (IsEnded false (W.tape w.old).failures (W.tape w.new).failures) }
-    ensures failed { IfErr result (FailsToWrite (W.tape w.old) (W.tape w.new)) }
-{
-    if write_all(w, b"nothing found\n").is_err() {
-        return Err(CommandFault::Write);
-    }
-    Ok(Ending {
-        status: 0,
-        save: None,
-    })
 }
 
 /// Writes the schedule that a hunt on the algorithm finds, or that there is none.

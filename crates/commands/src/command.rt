@@ -26,7 +26,8 @@ use crate::schedules::ending::{Ending, status_after_verdict};
 use crate::schedules::fault::CommandFault;
 use crate::schedules::line::told;
 use crate::schedules::replaying::replay_command;
-use crate::schedules::shrunk::{shrink_command, write_lines};
+use crate::schedules::shrunk::shrink_command;
+use crate::schedules::telling::{tell_nothing, write_lines};
 use crate::sessions::algorithm::algorithm_session_command;
 use crate::sessions::holding::session_command;
 use cli::arguments::args::{Command, HuntArgs};
@@ -138,11 +139,7 @@ pub fn hunt_command<T: Threads + Sync, S: Screen, W: Sink>(
                 save: None,
             })
         }
-        Ok(None) if write_all(w, b"nothing found\n").is_err() => Err(CommandFault::Write),
-        Ok(None) => Ok(Ending {
-            status: 0,
-            save: None,
-        }),
+        Ok(None) => tell_nothing(w),
         Err(HuntFault::BadRounds | HuntFault::BadSteps) => Err(CommandFault::BadSize),
         Err(HuntFault::OutOfMemory) => Err(CommandFault::OutOfMemory),
     }
@@ -169,8 +166,9 @@ fn explain_command<W: Sink>(
     }
 }
 
-/// Carries out a command. It reads the schedule or the trace from `r`, and writes to `w`. `image` is the text of the file
-/// that `--image` or `--algorithm` names. The progress of a search or a hunt is shown on the screen. A fault says why there is no verdict.
+/// Carries out a command. It reads the schedule or the trace from `r`, and writes to `w`. `image` is the text of the file that
+/// the command starts from: an image, an algorithm, or a session's first schedule. The progress of a search or a hunt is shown
+/// on the screen. A fault says why there is no verdict.
 pub fn ended<T: Threads + Wait + Sync, F: Folder, S: Screen, R: Source, W: Sink>(
     rt: &T,
     alloc: Global,

@@ -15,7 +15,7 @@ use crate::progress::work::Work;
 use crate::schedules::ending::Ending;
 use crate::schedules::fault::CommandFault;
 use crate::schedules::line::line_around;
-use crate::schedules::shrunk::write_lines;
+use crate::schedules::telling::tell_schedule;
 use crate::stuck::tell_stuck;
 use cli::arguments::args::ExploreArgs;
 use lock_explorer::{
@@ -116,24 +116,6 @@ fn schedule_of(alloc: Global, args: &ExploreArgs, path: &[Move]) -> Result<Sched
         }
     }
     Ok(schedule)
-}
-
-/// Writes the schedule that was found.
-pub(crate) fn tell_schedule<W: Sink>(
-    alloc: Global,
-    schedule: &Schedule,
-    w: &mut W,
-) -> Result<Ending, CommandFault>
-    ensures told { OnOk result (Writes (W.tape w.old) (W.tape w.new) (spelling schedule.now)) }
-    ensures status { IfOk result (λ ending. ending.status ≡ 1) }
-    ensures ended { IfOk result (IsEnded false (W.tape w.old).failures (W.tape w.new).failures) }
-    ensures failed { IfErr result (FailsToWrite (W.tape w.old) (W.tape w.new)) }
-{
-    write_lines(alloc, schedule, w)?;
-    Ok(Ending {
-        status: 1,
-        save: None,
-    })
 }
 
 /// Writes the moves as a schedule.

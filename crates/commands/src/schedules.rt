@@ -1,4 +1,5 @@
-//! The commands that read a schedule: `replay`, `draw` and `shrink`. And how any command ends, and the line of a fault.
+//! The commands that read a schedule: `replay`, `draw` and `shrink`. And how any command
+//! ends: what it writes of a schedule that was found, and the line of a fault.
 
 pub mod algorithm;
 pub mod algorithm_drawn;
@@ -11,3 +12,4 @@ pub mod line;
 pub mod replaying;
 pub(crate) mod setting;
 pub mod shrunk;
+pub(crate) mod telling;

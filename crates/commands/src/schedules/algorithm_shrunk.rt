@@ -4,12 +4,11 @@ ghost use Rattle.std.specs.Prelude.{IfOk, false};
 ghost use Rattle.commands.specs.AlgorithmShrinks.{AlgorithmShrinkEnds, ShrinksAlgorithm};
 ghost use Rattle.commands.specs.Endings.{IsEnded};
 
-use crate::exploring::tell_schedule;
 use crate::schedules::algorithm::{algorithm_read, unplayed};
 use crate::schedules::ending::Ending;
 use crate::schedules::fault::CommandFault;
 use crate::schedules::setting::schedule_read;
-use crate::schedules::shrunk::tell_fine;
+use crate::schedules::telling::{tell_fine, tell_schedule};
 use algorithm_explorer::shrink_algorithm_schedule;
 use algorithms::Algorithm;
 use schedule::{Schedule, Sink, Source};

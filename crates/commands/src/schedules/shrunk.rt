@@ -1,66 +1,17 @@
 //! The command `shrink`.
 
-ghost use Rattle.std.specs.Prelude.{◌≡◌, IfErr, IfOk, OnOk, false};
-ghost use Rattle.schedule.specs.Tapes.{Writes};
-ghost use Rattle.schedule.specs.Reports.{verdict_line};
-ghost use Rattle.schedule.specs.Schedules.{spelling};
-ghost use Rattle.commands.specs.Endings.{FailsToWrite, IsEnded, TellsReads};
+ghost use Rattle.std.specs.Prelude.{IfOk, false};
+ghost use Rattle.commands.specs.Endings.{IsEnded, TellsReads};
 ghost use Rattle.commands.specs.Shrinks.{ShrinkEnds, ShrinksSchedule};
-ghost use Rattle.commands.specs.Statuses.{status_of};
 
 use crate::schedules::ending::Ending;
 use crate::schedules::fault::CommandFault;
 use crate::schedules::setting::schedule_read;
+use crate::schedules::telling::{tell_fine, tell_schedule};
 use cli::arguments::args::ShrinkArgs;
 use crashlab::{Variant, shrink};
-use schedule::texts::device::write_all;
-use schedule::{Schedule, Sink, Source, Verdict, put_verdict, write_schedule};
+use schedule::{Schedule, Sink, Source};
 use std::alloc::Global;
-
-/// Writes the text of a schedule. `Write`: the writer has failed.
-pub fn write_lines<W: Sink>(
-    alloc: Global,
-    schedule: &Schedule,
-    w: &mut W,
-) -> Result<(), CommandFault>
-    ensures written { OnOk result (Writes (W.tape w.old) (W.tape w.new) (spelling schedule.now)) }
-    ensures failed { IfErr result (λ fault. status_of fault ≡ 3) }
-    ensures unwritten { IfErr result (FailsToWrite (W.tape w.old) (W.tape w.new)) }
-{
-    let text = write_schedule(alloc, schedule)?;
-    if write_all(w, &text).is_err() {
-        return Err(CommandFault::Write);
-    }
-    Ok(())
-}
-
-/// Writes the line of a fine verdict.
-fn write_fine<W: Sink>(alloc: Global, w: &mut W) -> Result<(), CommandFault>
-    ensures written { OnOk result (Writes (W.tape w.old) (W.tape w.new) (verdict_line Verdict.Fine)) }
-    ensures failed { IfErr result (λ fault. status_of fault ≡ 3) }
-    ensures unwritten { IfErr result (FailsToWrite (W.tape w.old) (W.tape w.new)) }
-{
-    let mut line = Vec::new(alloc);
-    put_verdict(&mut line, Verdict::Fine)?;
-    if write_all(w, &line).is_err() {
-        return Err(CommandFault::Write);
-    }
-    Ok(())
-}
-
-/// Writes that there is nothing to shrink.
-pub(crate) fn tell_fine<W: Sink>(alloc: Global, w: &mut W) -> Result<Ending, CommandFault>
-    ensures told { OnOk result (Writes (W.tape w.old) (W.tape w.new) (verdict_line Verdict.Fine)) }
-    ensures status { IfOk result (λ ending. ending.status ≡ 0) }
-    ensures ended { IfOk result (IsEnded false (W.tape w.old).failures (W.tape w.new).failures) }
-    ensures failed { IfErr result (FailsToWrite (W.tape w.old) (W.tape w.new)) }
-{
-    write_fine(alloc, w)?;
-    Ok(Ending {
-        status: 0,
-        save: None,
-    })
-}
 
 /// Shrinks the schedule and writes it, or writes the line of a fine verdict.
 fn shrink_schedule<W: Sink>(
@@ -73,20 +24,8 @@ fn shrink_schedule<W: Sink>(
     ensures ended { IfOk result (IsEnded false (W.tape w.old).failures (W.tape w.new).failures) }
 {
     match shrink(alloc, variant, schedule)? {
-        Some(least) => {
-            write_lines(alloc, &least, w)?;
-            Ok(Ending {
-                status: 1,
-                save: None,
-            })
-        }
-        None => {
-            write_fine(alloc, w)?;
-            Ok(Ending {
-                status: 0,
-                save: None,
-            })
-        }
+        Some(least) => tell_schedule(alloc, &least, w),
+        None => tell_fine(alloc, w),
     }
 }
 

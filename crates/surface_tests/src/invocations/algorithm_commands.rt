@@ -1,8 +1,8 @@
 //! Hunts, drawings and least schedules of algorithms: what they write, and what is refused.
 
-use algorithms_tests::texts::others;
 use crate::invocations::algorithm_explores::NO_LOCK;
 use crate::invocations::algorithm_texts::HIDDEN;
+use algorithms_tests::texts::others;
 use rmelab_tests::support::fake::Failing;
 use rmelab_tests::support::invocation::{all_come_to, comes_to, printed_by, words_of};
 use rmelab_tests::support::row::invoked;

@@ -1,7 +1,7 @@
 //! Searches of algorithms. The schedules and the counts are those of the reference interpreter of the format.
 
-use algorithms_tests::texts::{bakeries, others};
 use crate::invocations::explores::SHORTEST;
+use algorithms_tests::texts::{bakeries, others};
 use rmelab_tests::support::fake::Failing;
 use rmelab_tests::support::invocation::{all_come_to, comes_to, words_of};
 use rmelab_tests::support::row::{ProgramRow, invoked};

@@ -1,12 +1,12 @@
 //! Each request for memory of searches, of schedules that are shrunk, and of commands on algorithms is refused in turn.
 
-use algorithms_tests::texts::others;
 use crate::invocations::algorithm_commands::{
     ALONE, ALONE_DRAWN, ALONE_TOLD, HELD, NO_PAGE, SESSION,
 };
 use crate::invocations::algorithm_explores::{NO_LOCK, NO_MAILBOX, TWO_AT_ONCE};
 use crate::invocations::explores::GONE_OUT;
 use crate::invocations::shrinks::{LEAST, SMALLEST, TWO_INSIDE};
+use algorithms_tests::texts::others;
 use rmelab_tests::support::row::invoked;
 use rmelab_tests::support::wanting::all_want_memory;
 use std::test::Fail;

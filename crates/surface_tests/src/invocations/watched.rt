@@ -1,8 +1,8 @@
 //! The progress of a search or a hunt, as it is reported and as it is shown.
 
+use crate::invocations::explores::SHORTEST;
 use crashlab::Variant;
 use crashlab::hunting::hunt_watched;
-use crate::invocations::explores::SHORTEST;
 use rmelab_tests::support::fake::Failing;
 use rmelab_tests::support::invocation::all_come_to;
 use rmelab_tests::support::row::invoked;

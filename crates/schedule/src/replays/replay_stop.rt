@@ -10,7 +10,7 @@ use rmecore::Refusal;
 use std::alloc::AllocError;
 
 /// Why a replay stops before its end.
-#[derive(Clone, Copy, Debug, PartialEq, Eq)]
+#[derive(Clone, Copy)]
 pub enum ReplayStop {
     /// The machine refuses the line. The number is that of the `Refusal`.
     Refused(u64),

@@ -1,4 +1,5 @@
-use Rattle.std.proofs.Common.{◌≡◌, get_or, true, arith}
+use Rattle.std.proofs.Common.{◌≡◌, get_or, true, sym, ◌∙◌, arith}
+use Rattle.std.proofs.lemmas.List.Folds.{list_all_at}
 use Rattle.schedule.proofs.LinesCommon.{is_ascii_digit}
 use Rattle.schedule.proofs.Numbers.{short_step}
 use Rattle.schedule.proofs.lines.number.short_value.Goals as goal
@@ -20,3 +21,7 @@ loop-byte-preserved c =
     let digit : is_ascii_digit (get_or c.args.word.now c.loop-byte.byte-index 0) ≡ true = grind arith in
     let step = short_step c.args.word.now c.loop-byte.byte-index c.requires c.loop-byte-test.true c.loop-byte.invariant.0 digit in
     (step.0, grind (arith, step.1))
+
+pub returns-then-not-is_ascii_digit-clause-other : goal.returns-then-not-is_ascii_digit-clause-other
+returns-then-not-is_ascii_digit-clause-other c =
+    list_all_at is_ascii_digit c.args.word.now c.loop-byte.byte-index 0 c.loop-byte-test.true (sym c.is_ascii_digit.ensures.value ∙ c.if-not-is_ascii_digit.true)

@@ -8,7 +8,7 @@ use rmeworld::Call;
 use schedule::{Count, Line};
 
 /// A call that a hunt starts.
-#[derive(Clone, Copy, Debug, PartialEq, Eq)]
+#[derive(Clone, Copy)]
 pub enum NextCall {
     Lock,
     Consistent,
@@ -45,7 +45,7 @@ fn body(word: u64) -> Body
 }
 
 /// A move of a hunt.
-#[derive(Clone, Copy, Debug, PartialEq, Eq)]
+#[derive(Clone, Copy)]
 pub enum DrawnMove {
     /// A process starts a call.
     Start(u64, NextCall),
@@ -69,7 +69,7 @@ impl DrawnMove {
 }
 
 /// What a move of a round ends in.
-#[derive(Clone, Copy, Debug, PartialEq, Eq)]
+#[derive(Clone, Copy)]
 pub enum MoveOutcome {
     /// The round goes on: the move has no deed, or the judge allows it.
     On,

@@ -12,7 +12,7 @@ use rmeworld::Answer;
 use std::marker::Model;
 
 /// What a process is doing.
-#[derive(Clone, Copy, Debug, PartialEq, Eq)]
+#[derive(Clone, Copy)]
 enum ObservedStage {
     /// It is outside, at rest or dead.
     Outside,
@@ -23,7 +23,7 @@ enum ObservedStage {
 }
 
 /// What is known of one process.
-#[derive(Clone, Copy, Debug, PartialEq, Eq)]
+#[derive(Clone, Copy)]
 struct Observation {
     stage: ObservedStage,
     mended: bool,
@@ -118,7 +118,7 @@ impl Observation {
 }
 
 /// What is known of all processes.
-#[derive(Debug, Drop)]
+#[derive(Drop)]
 pub struct Observer {
     observer: [Observation; 3],
 }

@@ -6,7 +6,7 @@ ghost use Rattle.crashlab.specs.MadeOf.{process_in};
 use schedule::{Count, Line};
 
 /// Which lines go, and which take their place. A range of lines ends before `to`.
-#[derive(Clone, Copy, Debug)]
+#[derive(Clone, Copy)]
 pub enum Removal {
     /// These lines go.
     LeaveOut {

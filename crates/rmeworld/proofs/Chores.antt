@@ -1,5 +1,5 @@
 -- A process's machine does what the definition says, in every process state.
-use Rattle.std.proofs.Common.{◌≡◌, ℕ, Bool, true, false, ◌&&◌, ◌==◌, if◌then◌else◌, [], ◌∷◌, Result, Option, Some, None, IsSome, IfSome, unwrap_or, refl, sym, ap, ◌∙◌, subst, eq-eqb}
+use Rattle.std.proofs.Common.{◌≡◌, ℕ, Bool, true, false, ◌&&◌, ◌==◌, if◌then◌else◌, [], ◌∷◌, Option, Some, None, IsSome, IfSome, unwrap_or, refl, sym, ap, ◌∙◌, subst, eq-eqb}
 use Rattle.rmeworld.proofs.Common.{Access, Progress, Refusal, Standing, kind_of, word_of, progress, after_access, lock_access, carried, Place, next, Inside, Layout, Reply, Pending, left}
 use Rattle.rmeworld.proofs.Common.{begun, Script, Get as Asks, Put as Writes, Done, tail, script, Call, Lock, Unlock, Consistent, Append, Close, Chore, IsFree, Does, Purpose, Checking}
 use Rattle.rmeworld.proofs.Common.{by_lock, is_entry, script_state_of, HasStep, Held, first_cause, start_refusal, ScriptState, Free, Doing, ProcessState, settled, script_state_entered, at_lock, begun_from, moved_by}

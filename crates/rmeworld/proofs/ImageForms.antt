@@ -1,7 +1,8 @@
 -- Lists in JSON, read back.
 use Rattle.std.proofs.Common.{◌≡◌, Bool, true, false, codes, ℕ, zero, suc, ◌<◌, List, [], ◌∷◌, length, get_or, map, Option, Some, None, refl, sym, ap, ◌∙◌, arith}
 use Rattle.rmeworld.proofs.ImageCommon.{false≢true, length-map, array, object, Items, no_items, item, Members, no_members, member, view, items_of, items_view, members_view, Image, whole_data, width_member}
-use Rattle.rmeworld.proofs.ImageCommon.{image_data}
+use Rattle.rmeworld.proofs.ImageCommon.{image_data, Own}
+use Rattle.rmeworld.specs.ImageText.{list_data, lock_data}
 use Rattle.serde_json.specs.Data.{Data}
 use Rattle.serde_json.specs.Events.{members_len}
 use Rattle.serde_json.specs.Find.{as_array}
@@ -89,3 +90,34 @@ behind_four m0 m1 m2 m3 m4 a b c d wide i e e1 e2 e3 e4 =
     let behind2 = ap rest_of_members (sym e2 ∙ behind1) in
     let behind3 = ap rest_of_members (sym e3 ∙ behind2) in
     ap rest_of_members (sym e4 ∙ behind3)
+
+-- nothing of an image is spelt
+abbrev NoImage : Members → Type 0
+NoImage ms = (wide : Bool) (i : Image) → object ms ≡ image_data wide i → ⊥
+
+-- Where a member is missing, no image is spelt: the first member, or one after others that were taken.
+pub no_cap : (m0 : Members) → ((n : ℕ) (ms : Members) → m0 ≡ member (codes "cap") (whole_data n) ms → ⊥) → NoImage m0
+no_cap m0 not wide i e = not i.cap _ (ap members_or e)
+
+pub no_cells : (m0 m1 : Members) (a : Data) → m0 ≡ member (codes "cap") a m1 → ((ns : List ℕ) (ms : Members) → m1 ≡ member (codes "data") (list_data ns) ms → ⊥) → NoImage m0
+no_cells m0 m1 a e1 not wide i e = not i.cells _ (ap rest_of_members (sym e1 ∙ ap members_or e))
+
+pub no_limit : (m0 m1 m2 : Members) (a b : Data) → m0 ≡ member (codes "cap") a m1 → m1 ≡ member (codes "data") b m2 → ((n : ℕ) (ms : Members) → m2 ≡ member (codes "limit") (whole_data n) ms → ⊥) → NoImage m0
+no_limit m0 m1 m2 a b e1 e2 not wide i e = not i.limit _ (ap rest_of_members (sym e2 ∙ ap rest_of_members (sym e1 ∙ ap members_or e)))
+
+pub no_lock : (m0 m1 m2 m3 : Members) (a b c : Data) → m0 ≡ member (codes "cap") a m1 → m1 ≡ member (codes "data") b m2 → m2 ≡ member (codes "limit") c m3
+    → ((xs : List Own) (ms : Members) → m3 ≡ member (codes "lock") (lock_data xs) ms → ⊥) → NoImage m0
+no_lock m0 m1 m2 m3 a b c e1 e2 e3 not wide i e = not i.lock _ (ap rest_of_members (sym e3 ∙ ap rest_of_members (sym e2 ∙ ap rest_of_members (sym e1 ∙ ap members_or e))))
+
+pub no_last : (m0 m1 m2 m3 m4 : Members) (a b c d : Data) → m0 ≡ member (codes "cap") a m1 → m1 ≡ member (codes "data") b m2 → m2 ≡ member (codes "limit") c m3 → m3 ≡ member (codes "lock") d m4
+    → ((version : ℕ) (wide : Bool) (w : ℕ) → m4 ≡ member (codes "version") (whole_data version) (width_member wide w) → ⊥) → NoImage m0
+no_last m0 m1 m2 m3 m4 a b c d e1 e2 e3 e4 not wide i e = not i.version wide i.width (behind_four m0 m1 m2 m3 m4 a b c d wide i e e1 e2 e3 e4)
+
+-- the image of its members, one after another
+pub image_of_members : (m0 m1 m2 m3 m4 : Members) (wide : Bool) (i : Image) → m0 ≡ member (codes "cap") (whole_data i.cap) m1 → m1 ≡ member (codes "data") (list_data i.cells) m2 → m2 ≡ member (codes "limit") (whole_data i.limit) m3
+    → m3 ≡ member (codes "lock") (lock_data i.lock) m4 → m4 ≡ member (codes "version") (whole_data i.version) (width_member wide i.width) → object m0 ≡ image_data wide i
+image_of_members m0 m1 m2 m3 m4 wide i e1 e2 e3 e4 e5 =
+    let f3 = e4 ∙ ap (member (codes "lock") (lock_data i.lock)) e5 in
+    let f2 = e3 ∙ ap (member (codes "limit") (whole_data i.limit)) f3 in
+    let f1 = e2 ∙ ap (member (codes "data") (list_data i.cells)) f2 in
+    ap object (e1 ∙ ap (member (codes "cap") (whole_data i.cap)) f1)

@@ -1,5 +1,7 @@
 pub mod Common
 pub mod ImageRules
+pub mod FirstRule
+pub mod Mapped
 pub mod Entries
 pub mod Chores
 pub mod Projection

@@ -90,7 +90,7 @@ fn phases(alloc: Global, lock: &[Own]) -> Result<Vec<Phase>, AllocError>
 {
     let mut phases = Vec::with_capacity(alloc, lock.len())?;
     for own in lock {
-        phases.push(phase(own))?;
+        phases.push_reserved(phase(own));
     }
     Ok(phases)
 }
@@ -135,7 +135,7 @@ fn ahead_sets(alloc: Global, lock: &[Own]) -> Result<Vec<Vec<u64>>, AllocError>
 {
     let mut sets = Vec::with_capacity(alloc, lock.len())?;
     for p in 0..lock.len() as u64 {
-        sets.push(ahead_of(alloc, lock, p)?)?;
+        sets.push_reserved(ahead_of(alloc, lock, p)?);
     }
     Ok(sets)
 }

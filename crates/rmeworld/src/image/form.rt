@@ -1,11 +1,11 @@
 //! The JSON form of an image.
 
-ghost use Rattle.std.specs.Prelude.{◌≡◌, ℕ, IfOk, IfErr, ◌⊎◌, Bool, false, List, is_some, unwrap_or};
+ghost use Rattle.std.specs.Prelude.{◌≡◌, ℕ, IfOk, IfErr, ◌⊎◌, Bool, false, List, is_some, unwrap_or, codes};
 ghost use Rattle.rmecore.specs.declared.own.Own.{Own as OwnOf};
 ghost use Rattle.rmecore.specs.declared.refusal.Refusal.TheVariants.{BadImage, OutOfMemory};
 ghost use Rattle.rmeworld.specs.ImageText.{whole_data, list_data, own_data, lock_data, width_member, image_data};
 ghost use Rattle.rmeworld.specs.declared.image.Image.{Image as ImageOf};
-ghost use Rattle.serde_json.specs.Data.{Data, Members, member};
+ghost use Rattle.serde_json.specs.Data.{Data, Members, member, object};
 ghost use Rattle.serde_json.specs.View.{view, members_view};
 
 use crate::cells::DataWords;
@@ -52,7 +52,7 @@ fn numbers(alloc: Global, value: &Value) -> Result<Vec<u64>, Refusal>
     };
     let mut numbers = Vec::with_capacity(alloc, items.len())?;
     for item in items {
-        numbers.push(whole(item)?)?;
+        numbers.push_reserved(whole(item)?);
     }
     Ok(numbers)
 }
@@ -86,7 +86,7 @@ fn owns(alloc: Global, value: &Value) -> Result<Vec<Own>, Refusal>
     };
     let mut owns = Vec::with_capacity(alloc, items.len())?;
     for item in items {
-        owns.push(own(item)?)?;
+        owns.push_reserved(own(item)?);
     }
     Ok(owns)
 }
@@ -162,15 +162,25 @@ pub(crate) fn image_in(alloc: Global, value: Value) -> Result<Spelled, Refusal>
     ensures err { IfErr result (λ e. (e ≡ OutOfMemory) ⊎ ((e ≡ BadImage 1)
         × ((wide : Bool) (i : ImageOf) → view value ≡ image_data wide i → ⊥))) }
 {
-    let Value::Object(mut members) = value else {
-        return Err(MISSHAPEN);
-    };
-    let cap = take_whole(&mut members, "cap")?;
-    let cells = take_numbers(alloc, &mut members, "data")?;
-    let limit = take_whole(&mut members, "limit")?;
-    let lock = take_owns(alloc, &mut members, "lock")?;
-    let version = take_whole(&mut members, "version")?;
-    let width = last_width(&mut members)?;
+    match value {
+        Value::Object(mut members) => take_image(alloc, &mut members),
+        _ => Err(MISSHAPEN),
+    }
+}
+
+#[tactic(auto, using(crate::proofs::ImageForms::image_of_members))]
+// Takes all members, those of an image.
+fn take_image(alloc: Global, members: &mut Map<String, Value>) -> Result<Spelled, Refusal>
+    ensures ok { IfOk result (λ s. object (members_view members.old.entries) ≡ image_data s.wide s.image) }
+    ensures narrow { IfOk result (λ s. s.wide ≡ false → s.image.width ≡ 1) }
+    ensures err { IfErr result (λ e. (e ≡ OutOfMemory) ⊎ ((e ≡ BadImage 1)
+        × ((wide : Bool) (i : ImageOf) → object (members_view members.old.entries) ≡ image_data wide i → ⊥))) }
+{
+    let cap = take_whole(members, "cap")?;
+    let cells = take_numbers(alloc, members, "data")?;
+    let limit = take_whole(members, "limit")?;
+    let lock = take_owns(alloc, members, "lock")?;
+    let (version, width) = take_last(members)?;
     let image = Image {
         cap,
         cells: DataWords::new(cells),
@@ -183,4 +193,16 @@ pub(crate) fn image_in(alloc: Global, value: Value) -> Result<Spelled, Refusal>
         image,
         wide: width.is_some(),
     })
+}
+
+// Takes the members after the lock words: the version, and the width, if there is one.
+fn take_last(members: &mut Map<String, Value>) -> Result<(u64, Option<u64>), Refusal>
+    ensures ok { IfOk result (λ r. members_view members.old.entries
+        ≡ member (codes "version") (whole_data r.0) (width_member (is_some r.1) (unwrap_or r.1 1))) }
+    ensures err { IfErr result (λ e. (e ≡ BadImage 1) × ((version : ℕ) (wide : Bool) (w : ℕ)
+        → members_view members.old.entries ≡ member (codes "version") (whole_data version) (width_member wide w) → ⊥)) }
+{
+    let version = take_whole(members, "version")?;
+    let width = last_width(members)?;
+    Ok((version, width))
 }

@@ -27,13 +27,11 @@ pub fn write_image(alloc: Global, image: &Image) -> Result<Vec<u8>, Refusal>
 fn image_value(alloc: Global, image: &Image) -> Result<Value, AllocError>
     ensures { IfOk result (λ v. view v ≡ written_data image.now) }
 {
-    let data = list_value(alloc, image.cells.as_slice())?;
-    let lock = lock_value(alloc, image.lock.as_slice())?;
     json!(in alloc; {
         "cap": image.cap,
-        "data": data,
+        "data": list_value(alloc, image.cells.as_slice())?,
         "limit": image.limit,
-        "lock": lock,
+        "lock": lock_value(alloc, image.lock.as_slice())?,
         "version": 2u64,
         "width": image.width
     })
@@ -45,7 +43,7 @@ fn list_value(alloc: Global, numbers: &[u64]) -> Result<Value, AllocError>
 {
     let mut items = Vec::with_capacity(alloc, numbers.len())?;
     for number in numbers {
-        items.push(Value::from(*number))?;
+        items.push_reserved(Value::from(*number));
     }
     Ok(Value::Array(items))
 }
@@ -63,7 +61,7 @@ fn lock_value(alloc: Global, lock: &[Own]) -> Result<Value, AllocError>
 {
     let mut items = Vec::with_capacity(alloc, lock.len())?;
     for own in lock {
-        items.push(own_value(alloc, own)?)?;
+        items.push_reserved(own_value(alloc, own)?);
     }
     Ok(Value::Array(items))
 }

@@ -8,6 +8,7 @@ loop-p-preserved c =
     let i = c.loop-p.invariant in
     let more = one_set (λ names. names.items) (start_of (own_at c.args.lock.now)).ahead c.loop-p.sets.items c.in_ok-ahead_of.field-0 c.loop-p.p i.each i.ahead c.in_ok-ahead_of.ensures in
     record {
-      each = omega (arith, c.in_ok-push.ensures.len, i.each);
-      ahead = rw c.in_ok-push.ensures.items more;
+      each = omega (arith, c.push_reserved.ensures.len, i.each);
+      room = omega (arith, c.push_reserved.ensures.capacity, i.room);
+      ahead = rw c.push_reserved.ensures.items more;
     }

@@ -4,11 +4,14 @@ use Rattle.clap.specs.Words.{App, Rule, Shape, Text, new_rule, app_of, with_subc
 use Rattle.clap.specs.declared.builder.command.Command.{Command as Parser}
 use Rattle.clap.specs.declared.builder.command.Command.TheViews.{out-Command}
 use Rattle.clap.specs.Simple.{new_shape}
+use Rattle.clap.specs.declared.builder.action.ArgAction.{ArgAction}
 use Rattle.clap.specs.declared.builder.action.ArgAction.TheVariants.{Set, SetTrue, Append}
 use Rattle.clap.specs.declared.builder.value_parser.ValueParser.TheVariants.{Unsigned}
 use Rattle.cli.specs.declared.arguments.argument.Argument.{Argument}
 use Rattle.cli.specs.declared.arguments.argument.Form.{Form}
 use Rattle.cli.specs.declared.arguments.argument.Form.TheVariants as forms
+use Rattle.cli.specs.declared.arguments.parser.Part.{Part}
+use Rattle.cli.specs.declared.arguments.parser.Part.TheVariants as parts
 
 -- `--name`
 abbrev pub flag : Text → Rule
@@ -33,6 +36,14 @@ words name = record (new_rule name) { action = Some Append }
 -- the argument can't be left out
 abbrev pub required : Rule → Rule
 required rule = record rule { required = true }
+
+-- what is done with a value of this form
+abbrev pub action_of_form : Form → ArgAction
+action_of_form forms.Flag = SetTrue
+action_of_form forms.Text = Set
+action_of_form forms.Number = Set
+action_of_form forms.Word = Set
+action_of_form forms.Words = Append
 
 -- an argument of this form and name that can be left out
 abbrev pub rule_of_form : Form → Text → Rule
@@ -95,6 +106,22 @@ explain = part (codes "explain") (words (codes "WORDS") ∷ [])
 abbrev pub head : Shape
 head = record (new_shape (codes "rmelab")) { has_version = true; subcommand_required = true }
 
+abbrev pub shape_of_part : Part → Shape
+shape_of_part parts.Replay = replay
+shape_of_part parts.Run = run
+shape_of_part parts.Hunt = hunt
+shape_of_part parts.Explore = explore
+shape_of_part parts.Judge = judge
+shape_of_part parts.Draw = draw
+shape_of_part parts.Shrink = shrink
+shape_of_part parts.Step = step
+shape_of_part parts.Explain = explain
+
+-- with these commands too
+abbrev pub with_subcommands : App → List Shape → App
+with_subcommands app [] = app
+with_subcommands app (shape ∷ shapes) = with_subcommands (with_subcommand app shape) shapes
+
 abbrev pub rmelab : App
 rmelab = record {
   top = record head { is_leaf = false };
@@ -104,8 +131,3 @@ rmelab = record {
 -- the parser reads this command line, and no argument of a command is one of the others too
 abbrev pub IsParser : App → Parser → Type 0
 IsParser app parser = (app_of parser ≡ app) × ((out-Command parser).has_globals ≡ false)
-
--- the result is the whole with one more command, where neither failed
-abbrev pub AddsPart : {E : Type 0} → Result Parser E → Result Parser E → Result Parser E → Type 0
-AddsPart whole added result = (app : App) (shape : Shape) → IfOk whole (IsParser app) → IfOk added (IsParser (alone shape))
-    → IfOk result (IsParser (with_subcommand app shape))

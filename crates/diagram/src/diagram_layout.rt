@@ -19,7 +19,7 @@ pub enum Style {
 }
 
 /// What all rows of a drawing are drawn with.
-#[derive(Clone, Copy, Debug, PartialEq, Eq)]
+#[derive(Clone, Copy, Debug)]
 pub struct DiagramLayout {
     pub style: Style,
     pub layout: Layout,

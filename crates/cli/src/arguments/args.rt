@@ -4,6 +4,7 @@ ghost use Rattle.std.specs.Prelude.{◌≡◌, option_copied};
 
 use crate::explain::dictionary_entry::DictionaryEntry;
 use crashlab::Variant;
+use std::fmt;
 
 /// `replay`: runs a schedule and prints its report.
 #[derive(Debug, Drop, PartialEq, Eq)]
@@ -22,7 +23,7 @@ pub struct ReplayArgs {
 }
 
 /// `replay --algorithm`: runs a schedule on an algorithm, and prints its report.
-#[derive(Debug, Drop, PartialEq, Eq)]
+#[derive(Debug, Drop)]
 pub struct AlgorithmReplayArgs {
     /// The file of the algorithm's text.
     pub algorithm: String,
@@ -60,7 +61,7 @@ pub struct HuntArgs {
 }
 
 /// `hunt --algorithm`: draws schedules until an algorithm goes wrong.
-#[derive(Debug, Drop, PartialEq, Eq)]
+#[derive(Debug, Drop)]
 pub struct AlgorithmHuntArgs {
     /// The file of the algorithm's text.
     pub algorithm: String,
@@ -86,7 +87,7 @@ pub struct Alphabet {
 }
 
 /// `explore`: tries all schedules up to a bound, the shorter before the longer.
-#[derive(Clone, Copy, Debug, PartialEq, Eq)]
+#[derive(Clone, Copy, Debug)]
 pub struct ExploreArgs {
     pub variant: Variant,
     pub procs: u64,
@@ -109,7 +110,7 @@ pub struct ExploreArgs {
 }
 
 /// The calls of an algorithm that a search starts.
-#[derive(Clone, Copy, Debug, PartialEq, Eq)]
+#[derive(Clone, Copy, Debug)]
 pub struct AlgorithmCalls {
     pub lock: bool,
     pub unlock: bool,
@@ -118,7 +119,7 @@ pub struct AlgorithmCalls {
 }
 
 /// `explore --algorithm`: tries all schedules of an algorithm up to a bound, the shorter before the longer.
-#[derive(Debug, Drop, PartialEq, Eq)]
+#[derive(Debug, Drop)]
 pub struct AlgorithmExploreArgs {
     /// The file of the algorithm's text.
     pub algorithm: String,
@@ -134,7 +135,7 @@ pub struct AlgorithmExploreArgs {
 }
 
 /// `judge`: judges a trace of deeds.
-#[derive(Debug, Drop, PartialEq, Eq)]
+#[derive(Debug, Drop)]
 pub struct JudgeArgs {
     /// Print the verdict as a JSON object.
     pub json: bool,
@@ -143,7 +144,7 @@ pub struct JudgeArgs {
 }
 
 /// `draw`: runs a schedule and draws its run.
-#[derive(Debug, Drop, PartialEq, Eq)]
+#[derive(Debug, Drop)]
 pub struct DrawArgs {
     /// Write a page that shows the run step by step.
     pub html: bool,
@@ -157,7 +158,7 @@ pub struct DrawArgs {
 }
 
 /// `draw --algorithm`: runs a schedule on an algorithm, and draws its run.
-#[derive(Debug, Drop, PartialEq, Eq)]
+#[derive(Debug, Drop)]
 pub struct AlgorithmDrawArgs {
     /// The file of the algorithm's text.
     pub algorithm: String,
@@ -168,7 +169,7 @@ pub struct AlgorithmDrawArgs {
 }
 
 /// `shrink`: shrinks a schedule that goes wrong on a variant.
-#[derive(Debug, Drop, PartialEq, Eq)]
+#[derive(Debug, Drop)]
 pub struct ShrinkArgs {
     pub variant: Variant,
     /// The schedule's file; without one, standard input.
@@ -176,7 +177,7 @@ pub struct ShrinkArgs {
 }
 
 /// `shrink --algorithm`: shrinks a schedule that goes wrong on an algorithm.
-#[derive(Debug, Drop, PartialEq, Eq)]
+#[derive(Debug, Drop)]
 pub struct AlgorithmShrinkArgs {
     /// The file of the algorithm's text.
     pub algorithm: String,
@@ -185,7 +186,7 @@ pub struct AlgorithmShrinkArgs {
 }
 
 /// A command with its arguments.
-#[derive(Debug, Drop, PartialEq, Eq)]
+#[derive(Drop)]
 pub enum Command {
     Replay(ReplayArgs),
     ReplayAlgorithm(AlgorithmReplayArgs),
@@ -205,6 +206,30 @@ pub enum Command {
     StepAlgorithm(String),
     /// Prints what this entry means; without one, the names of all entries.
     Explain(Option<DictionaryEntry>),
+}
+
+impl fmt::Debug for Command {
+    /// Tells which command it is.
+    fn fmt<W: fmt::Write>(&self, f: &mut fmt::Formatter<W>) -> fmt::Result {
+        let name = match self {
+            Command::Replay(_) => "Replay",
+            Command::ReplayAlgorithm(_) => "ReplayAlgorithm",
+            Command::Run(_) => "Run",
+            Command::Hunt(_) => "Hunt",
+            Command::HuntAlgorithm(_) => "HuntAlgorithm",
+            Command::Explore(_) => "Explore",
+            Command::ExploreAlgorithm(_) => "ExploreAlgorithm",
+            Command::Judge(_) => "Judge",
+            Command::Draw(_) => "Draw",
+            Command::DrawAlgorithm(_) => "DrawAlgorithm",
+            Command::Shrink(_) => "Shrink",
+            Command::ShrinkAlgorithm(_) => "ShrinkAlgorithm",
+            Command::Step(_) => "Step",
+            Command::StepAlgorithm(_) => "StepAlgorithm",
+            Command::Explain(_) => "Explain",
+        };
+        f.write_str(name)
+    }
 }
 
 impl Command {

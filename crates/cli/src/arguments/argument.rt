@@ -1,8 +1,8 @@
 //! The arguments of a command line, as rows of a table.
 
-ghost use Rattle.std.specs.Prelude.{◌≡◌, false, codes};
+ghost use Rattle.std.specs.Prelude.{◌≡◌, false, codes, Some};
 ghost use Rattle.clap.specs.Words.{rule_of};
-ghost use Rattle.cli.specs.CommandLine.{algorithm, flag, option, number, word, variant, required, rule_of_argument, rule_of_form};
+ghost use Rattle.cli.specs.CommandLine.{action_of_form, algorithm, flag, option, number, word, variant, required, rule_of_argument, rule_of_form};
 
 use clap::{Arg, ArgAction, value_parser};
 use std::alloc::Global;
@@ -20,6 +20,19 @@ pub enum Form {
     Word,
     /// All words that are left.
     Words,
+}
+
+impl Form {
+    /// What is done with a value.
+    fn action(self) -> ArgAction
+        ensures { result ≡ action_of_form self }
+    {
+        match self {
+            Form::Flag => ArgAction::SetTrue,
+            Form::Text | Form::Number | Form::Word => ArgAction::Set,
+            Form::Words => ArgAction::Append,
+        }
+    }
 }
 
 /// An argument of a command.
@@ -109,16 +122,12 @@ impl<'a> Argument<'a> {
         Argument::text("image", "FILE", help)
     }
 
-    /// An option with a value, as a `clap` argument.
-    fn option(self, alloc: Global) -> Arg<'a>
-        ensures rule { rule_of result ≡ option self.entry.name.now }
-        ensures local { result.global ≡ false }
+    /// The `clap` argument as an option with a value.
+    fn option(self, arg: Arg<'a>) -> Arg<'a>
+        ensures rule { rule_of result ≡ record (rule_of arg.entry) { long = Some self.entry.name.now; value_names = 1 } }
+        ensures local { result.global ≡ arg.entry.global }
     {
-        Arg::new(alloc, self.name)
-            .long(self.name)
-            .value_name(self.value)
-            .help(self.help)
-            .action(ArgAction::Set)
+        arg.long(self.name).value_name(self.value)
     }
 
     /// The `clap` argument, as one that can be left out.
@@ -126,19 +135,14 @@ impl<'a> Argument<'a> {
         ensures rule { rule_of result ≡ rule_of_form self.entry.form self.entry.name.now }
         ensures local { result.global ≡ false }
     {
+        let arg = Arg::new(alloc, self.name)
+            .help(self.help)
+            .action(self.form.action());
         match self.form {
-            Form::Flag => Arg::new(alloc, self.name)
-                .long(self.name)
-                .help(self.help)
-                .action(ArgAction::SetTrue),
-            Form::Text => self.option(alloc),
-            Form::Number => self.option(alloc).value_parser(value_parser!(u64)),
-            Form::Word => Arg::new(alloc, self.name)
-                .help(self.help)
-                .action(ArgAction::Set),
-            Form::Words => Arg::new(alloc, self.name)
-                .help(self.help)
-                .action(ArgAction::Append),
+            Form::Flag => arg.long(self.name),
+            Form::Text => self.option(arg),
+            Form::Number => self.option(arg).value_parser(value_parser!(u64)),
+            Form::Word | Form::Words => arg,
         }
     }
 

@@ -1,12 +1,14 @@
 //! Reads the words of `draw`.
 
-ghost use Rattle.std.specs.Prelude.{◌≡◌, Some, IsNone, string_bytes, codes};
+ghost use Rattle.std.specs.Prelude.{◌≡◌, Some, IsNone, codes};
 ghost use Rattle.clap.specs.Words.{first_of};
 ghost use Rattle.cli.specs.Given.{given_in};
 ghost use Rattle.cli.specs.ReadWords.{Reads};
 
 use crate::arguments::args::{AlgorithmDrawArgs, Command, DrawArgs};
-use crate::arguments::words::{WordsFault, is_alone, is_set, text_of, variant_beside_image};
+use crate::arguments::words::{
+    WordsFault, is_alone, is_set, str_of, text_of, variant_beside_image,
+};
 use clap::ArgMatches;
 use std::alloc::{AllocError, Global};
 
@@ -22,9 +24,9 @@ fn without_page(alloc: Global) -> Result<String, AllocError> {
 fn algorithm_words(
     alloc: Global,
     matches: &ArgMatches<'_>,
-    algorithm: String,
+    algorithm: &str,
 ) -> Result<Command, WordsFault>
-    requires { Some (string_bytes algorithm) ≡ first_of (codes "algorithm") (given_in matches.now) }
+    requires { Some algorithm.now ≡ first_of (codes "algorithm") (given_in matches.now) }
     ensures { Reads (codes "draw") (given_in matches.now) result }
 {
     if !is_alone(matches) {
@@ -36,7 +38,7 @@ fn algorithm_words(
         });
     }
     Ok(Command::DrawAlgorithm(AlgorithmDrawArgs {
-        algorithm,
+        algorithm: String::from_str(alloc, algorithm)?,
         svg: is_set(matches, "svg"),
         file: text_of(alloc, matches, "FILE")?,
     }))
@@ -60,7 +62,7 @@ fn variant_words(alloc: Global, matches: &ArgMatches<'_>) -> Result<Command, Wor
 pub(crate) fn draw_words(alloc: Global, matches: &ArgMatches<'_>) -> Result<Command, WordsFault>
     ensures { Reads (codes "draw") (given_in matches.now) result }
 {
-    match text_of(alloc, matches, "algorithm")? {
+    match str_of(matches, "algorithm") {
         Some(algorithm) => algorithm_words(alloc, matches, algorithm),
         None => variant_words(alloc, matches),
     }

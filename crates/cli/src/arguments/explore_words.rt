@@ -1,6 +1,6 @@
 //! Reads the words of `explore`.
 
-ghost use Rattle.std.specs.Prelude.{◌≡◌, ◌↔◌, ◌==◌, true, map, Some, IfOk, IfErr, IsNone, OnOk, OnErr, IsErrOf, string_bytes, codes};
+ghost use Rattle.std.specs.Prelude.{◌≡◌, ◌↔◌, ◌==◌, true, map, Some, IfOk, IfErr, IsNone, OnOk, OnErr, IsErrOf, codes};
 ghost use Rattle.std.specs.List.{list_all, slice_split};
 ghost use Rattle.clap.specs.Words.{first_of};
 ghost use Rattle.cli.specs.Given.{given_in, is_set, has_call, is_call, alphabet_of, is_algorithm_call, algorithm_calls_of, calls_of};
@@ -10,7 +10,7 @@ use crate::arguments::args::{
     AlgorithmCalls, AlgorithmExploreArgs, Alphabet, Command, ExploreArgs,
 };
 use crate::arguments::words::{
-    WordsFault, is_given, is_set, number_of, number_or, str_of, text_of, variant_of, without_lock,
+    WordsFault, is_given, is_set, number_of, number_or, str_of, variant_of, without_lock,
 };
 use clap::ArgMatches;
 use std::alloc::{AllocError, Global};
@@ -52,6 +52,21 @@ fn calls_in(alloc: Global, list: &str) -> Result<Vec<&str>, AllocError>
     list.split(',').collect(alloc)
 }
 
+/// The calls with these names.
+fn alphabet_in(calls: &[&str]) -> Alphabet
+    ensures { result ≡ alphabet_of (map (λ call. call.now) calls.now) }
+{
+    Alphabet {
+        lock: has_call(calls, "lock"),
+        unlock: has_call(calls, "unlock"),
+        recover: has_call(calls, "recover"),
+        consistent: has_call(calls, "consistent"),
+        withdraw: has_call(calls, "withdraw"),
+        append: has_call(calls, "append"),
+        close: has_call(calls, "close"),
+    }
+}
+
 #[tactic(auto, using(crate::proofs::Reading::all_calls))]
 fn alphabet_of(alloc: Global, matches: &ArgMatches<'_>) -> Result<Alphabet, WordsFault>
     ensures ok { IfOk result (λ calls. calls ≡ alphabet_of (calls_of (given_in matches.now))) }
@@ -62,15 +77,7 @@ fn alphabet_of(alloc: Global, matches: &ArgMatches<'_>) -> Result<Alphabet, Word
     if !are_calls(&calls) {
         return Err(WordsFault::BadSize);
     }
-    Ok(Alphabet {
-        lock: has_call(&calls, "lock"),
-        unlock: has_call(&calls, "unlock"),
-        recover: has_call(&calls, "recover"),
-        consistent: has_call(&calls, "consistent"),
-        withdraw: has_call(&calls, "withdraw"),
-        append: has_call(&calls, "append"),
-        close: has_call(&calls, "close"),
-    })
+    Ok(alphabet_in(&calls))
 }
 
 /// Whether a search looks for stuck states. It does so without a bound on moves.
@@ -104,6 +111,18 @@ fn are_algorithm_calls(calls: &[&str]) -> bool
     true
 }
 
+/// The calls of an algorithm with these names.
+fn algorithm_calls_in(calls: &[&str]) -> AlgorithmCalls
+    ensures { result ≡ algorithm_calls_of (map (λ call. call.now) calls.now) }
+{
+    AlgorithmCalls {
+        lock: has_call(calls, "lock"),
+        unlock: has_call(calls, "unlock"),
+        recover: has_call(calls, "recover"),
+        withdraw: has_call(calls, "withdraw"),
+    }
+}
+
 #[tactic(auto, using(crate::proofs::Reading::all_algorithm_calls))]
 fn algorithm_calls_of(alloc: Global, matches: &ArgMatches<'_>) -> Result<AlgorithmCalls, WordsFault>
     ensures ok { IfOk result (λ calls. calls ≡ algorithm_calls_of (calls_of (given_in matches.now))) }
@@ -114,12 +133,7 @@ fn algorithm_calls_of(alloc: Global, matches: &ArgMatches<'_>) -> Result<Algorit
     if !are_algorithm_calls(&calls) {
         return Err(WordsFault::BadSize);
     }
-    Ok(AlgorithmCalls {
-        lock: has_call(&calls, "lock"),
-        unlock: has_call(&calls, "unlock"),
-        recover: has_call(&calls, "recover"),
-        withdraw: has_call(&calls, "withdraw"),
-    })
+    Ok(algorithm_calls_in(&calls))
 }
 
 /// The error text for an option that a search of an algorithm does not have.
@@ -145,9 +159,9 @@ fn is_algorithm_search(matches: &ArgMatches<'_>) -> bool
 fn algorithm_words(
     alloc: Global,
     matches: &ArgMatches<'_>,
-    algorithm: String,
+    algorithm: &str,
 ) -> Result<Command, WordsFault>
-    requires { Some (string_bytes algorithm) ≡ first_of (codes "algorithm") (given_in matches.now) }
+    requires { Some algorithm.now ≡ first_of (codes "algorithm") (given_in matches.now) }
     ensures { Reads (codes "explore") (given_in matches.now) result }
 {
     if is_given(matches, "variant") {
@@ -158,10 +172,11 @@ fn algorithm_words(
             text: without_mailbox(alloc)?,
         });
     }
+    let calls = algorithm_calls_of(alloc, matches)?;
     Ok(Command::ExploreAlgorithm(AlgorithmExploreArgs {
-        algorithm,
+        algorithm: String::from_str(alloc, algorithm)?,
         procs: number_of(matches, "procs"),
-        calls: algorithm_calls_of(alloc, matches)?,
+        calls,
         crashes: number_of(matches, "crashes"),
         moves: number_or(matches, "moves", u64::MAX),
         states: number_or(matches, "states", 10_000_000),
@@ -199,7 +214,7 @@ fn variant_words(alloc: Global, matches: &ArgMatches<'_>) -> Result<Command, Wor
 pub(crate) fn explore_words(alloc: Global, matches: &ArgMatches<'_>) -> Result<Command, WordsFault>
     ensures { Reads (codes "explore") (given_in matches.now) result }
 {
-    match text_of(alloc, matches, "algorithm")? {
+    match str_of(matches, "algorithm") {
         Some(algorithm) => algorithm_words(alloc, matches, algorithm),
         None => variant_words(alloc, matches),
     }

@@ -1,6 +1,6 @@
 //! Reads the words of `hunt`.
 
-ghost use Rattle.std.specs.Prelude.{◌≡◌, Some, IfOk, IsNone, OnErr, IsErrOf, string_bytes, codes};
+ghost use Rattle.std.specs.Prelude.{◌≡◌, Some, IfOk, IsNone, OnErr, IsErrOf, codes};
 ghost use Rattle.clap.specs.Words.{first_of};
 ghost use Rattle.cli.specs.Given.{given_in};
 ghost use Rattle.cli.specs.ReadWords.{Reads, rounds_of, steps_of};
@@ -8,7 +8,7 @@ ghost use Rattle.cli.specs.Sizes.{IsSized, IsHuntSize};
 
 use crate::arguments::args::{AlgorithmHuntArgs, Command, HuntArgs};
 use crate::arguments::words::{
-    WordsFault, is_given, is_set, number_of, number_or, text_of, variant_of, without_lock,
+    WordsFault, is_given, is_set, number_of, number_or, str_of, variant_of, without_lock,
 };
 use clap::ArgMatches;
 use std::alloc::{AllocError, Global};
@@ -42,9 +42,9 @@ fn without_shrink(alloc: Global) -> Result<String, AllocError> {
 fn algorithm_words(
     alloc: Global,
     matches: &ArgMatches<'_>,
-    algorithm: String,
+    algorithm: &str,
 ) -> Result<Command, WordsFault>
-    requires { Some (string_bytes algorithm) ≡ first_of (codes "algorithm") (given_in matches.now) }
+    requires { Some algorithm.now ≡ first_of (codes "algorithm") (given_in matches.now) }
     ensures sized { IfOk result IsSized }
     ensures reads { Reads (codes "hunt") (given_in matches.now) result }
 {
@@ -58,7 +58,7 @@ fn algorithm_words(
     }
     let (rounds, steps) = sizes_of(matches)?;
     Ok(Command::HuntAlgorithm(AlgorithmHuntArgs {
-        algorithm,
+        algorithm: String::from_str(alloc, algorithm)?,
         procs: number_or(matches, "procs", 2),
         limit: number_or(matches, "limit", 1_000_000),
         seed: number_of(matches, "seed"),
@@ -98,7 +98,7 @@ pub(crate) fn hunt_words(alloc: Global, matches: &ArgMatches<'_>) -> Result<Comm
     ensures sized { IfOk result IsSized }
     ensures reads { Reads (codes "hunt") (given_in matches.now) result }
 {
-    match text_of(alloc, matches, "algorithm")? {
+    match str_of(matches, "algorithm") {
         Some(algorithm) => algorithm_words(alloc, matches, algorithm),
         None => variant_words(alloc, matches),
     }

@@ -1,7 +1,7 @@
 //! The command line for `clap`: its commands, their options and their help.
 
 ghost use Rattle.std.specs.Prelude.{map, IfOk};
-ghost use Rattle.cli.specs.CommandLine.{IsParser, AddsPart, alone, part, rule_of_argument, head, replay, run, hunt, explore, judge, draw, shrink, step, explain, rmelab};
+ghost use Rattle.cli.specs.CommandLine.{IsParser, alone, part, shape_of_part, with_subcommands, rule_of_argument, head, replay, run, hunt, explore, judge, draw, shrink, step, explain, rmelab};
 
 use crate::arguments::argument::{Argument, Form};
 use clap::Command as Parser;
@@ -280,27 +280,66 @@ fn head<'a>(alloc: Global) -> Parser<'a>
         .subcommand_required(true)
 }
 
-/// The parser with one more command.
-fn with<'a>(
-    whole: Result<Parser<'a>, AllocError>,
-    part: Result<Parser<'a>, AllocError>,
-) -> Result<Parser<'a>, AllocError>
-    ensures { AddsPart whole.entry part.entry result }
+/// A command of the command line.
+#[derive(Clone, Copy)]
+enum Part {
+    Replay,
+    Run,
+    Hunt,
+    Explore,
+    Judge,
+    Draw,
+    Shrink,
+    Step,
+    Explain,
+}
+
+/// The commands, as the help lists them.
+const PARTS: [Part; 9] = [
+    Part::Replay,
+    Part::Run,
+    Part::Hunt,
+    Part::Explore,
+    Part::Judge,
+    Part::Draw,
+    Part::Shrink,
+    Part::Step,
+    Part::Explain,
+];
+
+impl Part {
+    fn parser<'a>(self, alloc: Global) -> Result<Parser<'a>, AllocError>
+        ensures { IfOk result (IsParser (alone (shape_of_part self))) }
+    {
+        match self {
+            Part::Replay => replay(alloc),
+            Part::Run => run(alloc),
+            Part::Hunt => hunt(alloc),
+            Part::Explore => explore(alloc),
+            Part::Judge => judge(alloc),
+            Part::Draw => draw(alloc),
+            Part::Shrink => shrink(alloc),
+            Part::Step => step(alloc),
+            Part::Explain => explain(alloc),
+        }
+    }
+}
+
+/// A command line of these commands.
+fn parser_of<'a>(alloc: Global, parts: &[Part]) -> Result<Parser<'a>, AllocError>
+    ensures { IfOk result (IsParser (with_subcommands (alone head) (map shape_of_part parts.now))) }
 {
-    whole?.subcommand(part?)
+    let mut whole = head(alloc);
+    for part in parts {
+        let part = part.parser(alloc)?;
+        whole = whole.subcommand(part)?;
+    }
+    Ok(whole)
 }
 
 /// The whole command line. `AllocError`: out of memory.
 pub fn parser<'a>(alloc: Global) -> Result<Parser<'a>, AllocError>
     ensures { IfOk result (IsParser rmelab) }
 {
-    let whole = with(Ok(head(alloc)), replay(alloc));
-    let whole = with(whole, run(alloc));
-    let whole = with(whole, hunt(alloc));
-    let whole = with(whole, explore(alloc));
-    let whole = with(whole, judge(alloc));
-    let whole = with(whole, draw(alloc));
-    let whole = with(whole, shrink(alloc));
-    let whole = with(whole, step(alloc));
-    with(whole, explain(alloc))
+    parser_of(alloc, &PARTS)
 }

@@ -1,12 +1,12 @@
 //! Reads the words of `shrink`.
 
-ghost use Rattle.std.specs.Prelude.{◌≡◌, Some, IsNone, string_bytes, codes};
+ghost use Rattle.std.specs.Prelude.{◌≡◌, Some, IsNone, codes};
 ghost use Rattle.clap.specs.Words.{first_of};
 ghost use Rattle.cli.specs.Given.{given_in};
 ghost use Rattle.cli.specs.ReadWords.{Reads};
 
 use crate::arguments::args::{AlgorithmShrinkArgs, Command, ShrinkArgs};
-use crate::arguments::words::{WordsFault, is_given, text_of, variant_of, without_lock};
+use crate::arguments::words::{WordsFault, is_given, str_of, text_of, variant_of, without_lock};
 use clap::ArgMatches;
 use std::alloc::Global;
 
@@ -14,16 +14,16 @@ use std::alloc::Global;
 fn algorithm_words(
     alloc: Global,
     matches: &ArgMatches<'_>,
-    algorithm: String,
+    algorithm: &str,
 ) -> Result<Command, WordsFault>
-    requires { Some (string_bytes algorithm) ≡ first_of (codes "algorithm") (given_in matches.now) }
+    requires { Some algorithm.now ≡ first_of (codes "algorithm") (given_in matches.now) }
     ensures { Reads (codes "shrink") (given_in matches.now) result }
 {
     if is_given(matches, "variant") {
         return Err(WordsFault::BadVariant);
     }
     Ok(Command::ShrinkAlgorithm(AlgorithmShrinkArgs {
-        algorithm,
+        algorithm: String::from_str(alloc, algorithm)?,
         file: text_of(alloc, matches, "FILE")?,
     }))
 }
@@ -48,7 +48,7 @@ fn variant_words(alloc: Global, matches: &ArgMatches<'_>) -> Result<Command, Wor
 pub(crate) fn shrink_words(alloc: Global, matches: &ArgMatches<'_>) -> Result<Command, WordsFault>
     ensures { Reads (codes "shrink") (given_in matches.now) result }
 {
-    match text_of(alloc, matches, "algorithm")? {
+    match str_of(matches, "algorithm") {
         Some(algorithm) => algorithm_words(alloc, matches, algorithm),
         None => variant_words(alloc, matches),
     }

@@ -1,12 +1,12 @@
 //! Reads the words of `step`.
 
-ghost use Rattle.std.specs.Prelude.{◌≡◌, Some, string_bytes, codes};
+ghost use Rattle.std.specs.Prelude.{◌≡◌, Some, codes};
 ghost use Rattle.clap.specs.Words.{first_of};
 ghost use Rattle.cli.specs.Given.{given_in};
 ghost use Rattle.cli.specs.ReadWords.{Reads};
 
 use crate::arguments::args::Command;
-use crate::arguments::words::{WordsFault, is_given, text_of};
+use crate::arguments::words::{WordsFault, is_given, str_of, text_of};
 use clap::ArgMatches;
 use std::alloc::{AllocError, Global};
 
@@ -22,9 +22,9 @@ fn without_beginning(alloc: Global) -> Result<String, AllocError> {
 fn algorithm_words(
     alloc: Global,
     matches: &ArgMatches<'_>,
-    algorithm: String,
+    algorithm: &str,
 ) -> Result<Command, WordsFault>
-    requires { Some (string_bytes algorithm) ≡ first_of (codes "algorithm") (given_in matches.now) }
+    requires { Some algorithm.now ≡ first_of (codes "algorithm") (given_in matches.now) }
     ensures { Reads (codes "step") (given_in matches.now) result }
 {
     if is_given(matches, "FILE") {
@@ -32,14 +32,14 @@ fn algorithm_words(
             text: without_beginning(alloc)?,
         });
     }
-    Ok(Command::StepAlgorithm(algorithm))
+    Ok(Command::StepAlgorithm(String::from_str(alloc, algorithm)?))
 }
 
 /// A session on the lock, or on an algorithm.
 pub(crate) fn step_words(alloc: Global, matches: &ArgMatches<'_>) -> Result<Command, WordsFault>
     ensures { Reads (codes "step") (given_in matches.now) result }
 {
-    match text_of(alloc, matches, "algorithm")? {
+    match str_of(matches, "algorithm") {
         Some(algorithm) => algorithm_words(alloc, matches, algorithm),
         None => Ok(Command::Step(text_of(alloc, matches, "FILE")?)),
     }

@@ -21,7 +21,7 @@ pub enum Verb {
 }
 
 /// What a line of a session asks for.
-#[derive(Clone, Copy, Debug, PartialEq, Eq)]
+#[derive(Clone, Copy, Debug)]
 pub enum Request {
     /// Take this line of a schedule.
     Play(Line),

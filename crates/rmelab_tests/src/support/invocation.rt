@@ -153,11 +153,11 @@ fn is_played(
 }
 
 /// Plays each row of the script. The names in it are those of these scripts of texts.
-fn all_are_played(
+fn all_are_played<'a>(
     rt: &(impl Threads + Wait + Sync),
     alloc: Global,
-    texts: &[&str],
-    rows: &str,
+    texts: &[&'a str],
+    rows: &'a str,
     manner: Manner,
 ) -> Result<(), Fail> {
     let (_, rows) = rows.split_once("@row ").ok_or("no row")?;
@@ -202,12 +202,12 @@ pub fn all_want_memory(
 
 /// What the program prints on these words over this input, in a folder where `a.lock` is this text. It has to end with this
 /// status.
-pub fn output_of(
+pub fn output_of<'a>(
     rt: &(impl Threads + Wait + Sync),
     alloc: Global,
-    line: &str,
-    lock: &str,
-    input: &[u8],
+    line: &'a str,
+    lock: &'a str,
+    input: &'a [u8],
     status: u8,
 ) -> Result<Vec<u8>, Fail> {
     let row = ProgramRow {

@@ -152,13 +152,28 @@ fn searches_the_same(
 ) -> bool {
     let calls = [Call::Lock, Call::Unlock];
     let calls = calls.as_slice();
-    let watch = &mut Unwatched;
     let one = shortest_schedule(
-        alloc, variant, layout, limit, calls, variables, bounds, watch,
+        alloc,
+        variant,
+        layout,
+        limit,
+        calls,
+        variables,
+        bounds,
+        &mut Unwatched,
     );
     for jobs in [0, 1, 2, 3, 7] {
         let found = shortest_schedule_in_parallel(
-            rt, alloc, jobs, variant, layout, limit, calls, variables, bounds, watch,
+            rt,
+            alloc,
+            jobs,
+            variant,
+            layout,
+            limit,
+            calls,
+            variables,
+            bounds,
+            &mut Unwatched,
         );
         if found != one {
             return false;

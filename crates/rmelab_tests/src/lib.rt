@@ -1,8 +1,15 @@
 //! Tests of the program: whole invocations over a folder in memory; and each request for memory is refused in turn.
 #![tactic(auto)]
 
+#[cfg(test)]
 mod arguments;
+#[cfg(test)]
 mod memory;
+#[cfg(test)]
 mod program;
+#[cfg(test)]
 mod replays;
-pub mod support;
+#[cfg(test)]
+mod searches;
+#[cfg(test)]
+mod support;

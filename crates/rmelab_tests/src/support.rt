@@ -1,5 +1,6 @@
-//! What the tests of whole invocations share: the program is run over a folder in memory and devices that may fail, its
-//! whole output is compared, and each of its requests for memory is refused in turn. And progress is kept.
+//! What the tests of whole invocations share: the rows of a script are played on the program, over a folder in memory and
+//! devices that may fail. Its whole output is compared, and each of its requests for memory is refused in turn. And progress
+//! is kept.
 
 pub mod alone;
 pub mod devices;

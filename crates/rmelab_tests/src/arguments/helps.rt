@@ -1,10 +1,11 @@
 //! What `clap` prints: the help of the program and of each command, and the errors for bad words.
 
-use crate::arguments::kit::words_of;
-use cli::arguments::words::{WordsFault, read_words};
+use crate::support::invocation::all_come_to;
 use std::test::Fail;
 
-const HELP: &str = "A laboratory of recoverable first-come first-served locks
+const TEXTS: &str = "
+@text HELP
+A laboratory of recoverable first-come first-served locks
 
 Usage: rmelab <COMMAND>
 
@@ -25,9 +26,29 @@ Options:
   -V, --version  Print version
 
 Exit status: 0 fine, 1 a verdict against, a schedule found, or a message twice or out of order, 2 a fault of the input, 3 a fault of a device, of memory or of a member, or too many states in `explore`.
+@text JUDGE
+Judges a trace of deeds, and prints the verdict
+
+Usage: rmelab judge [OPTIONS] [FILE]
+
+Arguments:
+  [FILE]  The trace; without it, standard input is read
+
+Options:
+      --json  Print the verdict as a JSON object
+  -h, --help  Print help
+
+In: a trace, as `trace 1 procs 2 cap 1`, then deeds such as `begin 0`, `ready 0`, `enter 0`.
+Out: the verdict line; with --json an object.
+Exit status: 0 where the verdict is fine, 1 where it is against, 2 after a fault of the words or the trace, 3 after one of a device or of memory.
+
+Example: rmelab judge examples/overtaken.trace
 ";
 
-const REPLAY: &str = "Runs a schedule of steps and crashes, and prints its report
+const HELPS: &str = "
+@row rmelab --help @out HELP
+@row rmelab replay --help @out
+Runs a schedule of steps and crashes, and prints its report
 
 Usage: rmelab replay [OPTIONS] [FILE]
 
@@ -48,9 +69,8 @@ Out: its report: the deeds and answers of each step, the last words, the mailbox
 Exit status: 0 where the verdict is fine, 1 where it is against, 2 after a fault of the words, the schedule, the algorithm or the image, 3 after one of a device or of memory.
 
 Example: rmelab replay examples/tie.rme
-";
-
-const RUN: &str = "Runs senders on threads, with drawn crashes, and counts what came through
+@row rmelab run --help @out
+Runs senders on threads, with drawn crashes, and counts what came through
 
 Usage: rmelab run [OPTIONS] --procs <N> --messages <M> --crash <C> --seed <S>
 
@@ -67,9 +87,8 @@ Out: what stands in the mailbox of each sender, as `sender 0 messages 50 twice 0
 Exit status: 0 where each message stands once and in its order, 1 where not, 2 after a fault of the words, 3 after one of a device, of memory or of a sender.
 
 Example: rmelab run --procs 4 --messages 50 --crash 20 --seed 7
-";
-
-const HUNT: &str = "Draws schedules until a variant of the lock, or an algorithm, goes wrong
+@row rmelab hunt --help @out
+Draws schedules until a variant of the lock, or an algorithm, goes wrong
 
 Usage: rmelab hunt [OPTIONS] --seed <S> --rounds <R> --steps <K>
 
@@ -91,9 +110,8 @@ Shown: of a variant, on standard error, where that is a terminal, the rounds, th
 Exit status: 0 where nothing was found, 1 where a schedule was, 2 after a fault of the words or the algorithm, 3 after one of a device or of memory.
 
 Example: rmelab hunt --variant no-look --seed 1 --rounds 10000 --steps 1000
-";
-
-const EXPLORE: &str = "Tries all schedules up to a bound, for the shortest that goes wrong
+@row rmelab explore --help @out
+Tries all schedules up to a bound, for the shortest that goes wrong
 
 Usage: rmelab explore [OPTIONS] --procs <N>
 
@@ -119,27 +137,9 @@ Shown: on standard error, where that is a terminal, the states, how many moves d
 Exit status: 0 where nothing was found, 1 where a schedule was, 2 after a fault of the words or the algorithm, 3 after one of a device or of memory, or where there are more states than --states.
 
 Example: rmelab explore --variant no-look --procs 2
-";
-
-const JUDGE: &str = "Judges a trace of deeds, and prints the verdict
-
-Usage: rmelab judge [OPTIONS] [FILE]
-
-Arguments:
-  [FILE]  The trace; without it, standard input is read
-
-Options:
-      --json  Print the verdict as a JSON object
-  -h, --help  Print help
-
-In: a trace, as `trace 1 procs 2 cap 1`, then deeds such as `begin 0`, `ready 0`, `enter 0`.
-Out: the verdict line; with --json an object.
-Exit status: 0 where the verdict is fine, 1 where it is against, 2 after a fault of the words or the trace, 3 after one of a device or of memory.
-
-Example: rmelab judge examples/overtaken.trace
-";
-
-const DRAW: &str = "Draws the run of a schedule as a space-time diagram
+@row rmelab judge --help @out JUDGE
+@row rmelab draw --help @out
+Draws the run of a schedule as a space-time diagram
 
 Usage: rmelab draw [OPTIONS] [FILE]
 
@@ -159,10 +159,8 @@ Out: its run, time downward: a column for each process, a row for each step or c
 Exit status: 0 where the verdict is fine, 1 where it is against, 2 after a fault of the words, the schedule, the algorithm or the image, 3 after one of a device or of memory.
 
 Example: rmelab draw examples/tie.rme
-";
-
-const SHRINK: &str =
-    "Minimizes a schedule that goes wrong on a variant of the lock, or on an algorithm
+@row rmelab shrink --help @out
+Minimizes a schedule that goes wrong on a variant of the lock, or on an algorithm
 
 Usage: rmelab shrink [OPTIONS] [FILE]
 
@@ -179,9 +177,8 @@ Out: where its verdict on the variant or the algorithm is against, a least sched
 Exit status: 0 where the verdict is fine, 1 where it is against, 2 after a fault of the words, the schedule or the algorithm, 3 after one of a device or of memory.
 
 Example: rmelab shrink --variant no-look examples/two-in-the-doorway.rme
-";
-
-const STEP: &str = "Holds a session: takes the lines of a schedule one by one, and goes back
+@row rmelab step --help @out
+Holds a session: takes the lines of a schedule one by one, and goes back
 
 Usage: rmelab step [OPTIONS] [FILE]
 
@@ -197,9 +194,8 @@ Out: for a line of a schedule each of its steps, as replay --each tells them; th
 Exit status: 0 at the end of the session, 2 if it can't begin, 3 after a fault of a device or of memory.
 
 Example: rmelab step examples/tie.rme
-";
-
-const EXPLAIN: &str = "Says what a number or a word of reports and faults means
+@row rmelab explain --help @out
+Says what a number or a word of reports and faults means
 
 Usage: rmelab explain [WORDS]...
 
@@ -214,93 +210,50 @@ Out: what the words name, in two sentences, and the page that defines it; withou
 Exit status: 0 where the words are a name, 2 where they are none, 3 after a fault of a device or of memory.
 
 Example: rmelab explain fault 5
+@row rmelab help @out HELP
+@row rmelab help judge @out JUDGE
 ";
 
-const SEEDLESS_RUN: &str = "error: the following required arguments were not provided:
+#[test]
+fn helps(rt: HostRuntime) -> Result<(), Fail> {
+    all_come_to(&rt, rt.alloc(), &[TEXTS], HELPS)
+}
+
+const WRONG_WORDS: &str = "
+@row rmelab run --procs 1 --messages 1 --crash 0 @ends 2 @err
+error: the following required arguments were not provided:
   --seed <S>
 
 Usage: rmelab run --procs <N> --messages <M> --crash <C> --seed <S>
 
 For more information, try '--help'.
-";
-
-const SEEDLESS_HUNT: &str = "error: the following required arguments were not provided:
+@row rmelab hunt --variant right --rounds 1 --steps 1 @ends 2 @err
+error: the following required arguments were not provided:
   --seed <S>
 
 Usage: rmelab hunt --seed <S> --rounds <R> --steps <K> --variant <V>
 
 For more information, try '--help'.
-";
+@row rmelab replay a b @ends 2 @err
+error: unexpected argument 'b' found
 
-const NO_COMMAND: &str = "error: 'rmelab' requires a subcommand but one was not provided
+Usage: rmelab replay [OPTIONS] [FILE]
+
+For more information, try '--help'.
+@row rmelab @ends 2 @err
+error: 'rmelab' requires a subcommand but one was not provided
   [subcommands: replay, run, hunt, explore, judge, draw, shrink, step, explain, help]
 
 Usage: rmelab <COMMAND>
 
 For more information, try '--help'.
-";
-
-const NO_NUMBER: &str = "error: invalid value 'x' for '--rounds <R>': invalid digit found in string
-
-For more information, try '--help'.
-";
-
-const TWO_FILES: &str = "error: unexpected argument 'b' found
-
-Usage: rmelab replay [OPTIONS] [FILE]
+@row rmelab hunt --variant right --seed 1 --rounds x --steps 1 @ends 2 @err
+error: invalid value 'x' for '--rounds <R>': invalid digit found in string
 
 For more information, try '--help'.
 ";
-
-const HELPS: [(&str, &str); 12] = [
-    ("rmelab --help", HELP),
-    ("rmelab replay --help", REPLAY),
-    ("rmelab run --help", RUN),
-    ("rmelab hunt --help", HUNT),
-    ("rmelab explore --help", EXPLORE),
-    ("rmelab judge --help", JUDGE),
-    ("rmelab draw --help", DRAW),
-    ("rmelab shrink --help", SHRINK),
-    ("rmelab step --help", STEP),
-    ("rmelab explain --help", EXPLAIN),
-    ("rmelab help", HELP),
-    ("rmelab help judge", JUDGE),
-];
-
-#[test]
-fn helps(rt: HostRuntime) -> Result<(), Fail> {
-    for (line, help) in HELPS {
-        let words = words_of(rt.alloc(), line)?;
-        let Err(WordsFault::Help { text }) = read_words(rt.alloc(), &words) else {
-            panic!(&rt; "no help: {line}");
-        };
-        assert_eq!(rt; text.as_str(), help);
-    }
-    Ok(())
-}
-
-const WRONG: [(&str, &str); 5] = [
-    ("rmelab run --procs 1 --messages 1 --crash 0", SEEDLESS_RUN),
-    (
-        "rmelab hunt --variant right --rounds 1 --steps 1",
-        SEEDLESS_HUNT,
-    ),
-    ("rmelab replay a b", TWO_FILES),
-    ("rmelab", NO_COMMAND),
-    (
-        "rmelab hunt --variant right --seed 1 --rounds x --steps 1",
-        NO_NUMBER,
-    ),
-];
 
 #[test]
 fn wrong_words(rt: HostRuntime) -> Result<(), Fail> {
-    for (line, told) in WRONG {
-        let words = words_of(rt.alloc(), line)?;
-        let Err(WordsFault::Refused { text }) = read_words(rt.alloc(), &words) else {
-            panic!(&rt; "not refused: {line}");
-        };
-        assert_eq!(rt; text.as_str(), told);
-    }
-    Ok(())
+    all_come_to(&rt, rt.alloc(), &[], WRONG_WORDS)
 }

@@ -1,39 +1,107 @@
 //! The command lines that spell a command.
 
-use crate::arguments::kit::words_of;
-use cli::arguments::args::{Alphabet, Command, HuntArgs, ReplayArgs, RunArgs};
-use cli::arguments::words::read_words;
+use crate::support::invocation::words_of;
+use cli::arguments::args::{Alphabet, Command, HuntArgs, JudgeArgs, RunArgs};
+use cli::arguments::words::{WordsFault, read_words};
 use crashlab::Variant;
+use std::alloc::Global;
 use std::test::Fail;
 
+/// The command that the line spells.
+fn read(alloc: Global, line: &str) -> Result<Command, WordsFault> {
+    read_words(alloc, &words_of(alloc, line)?)
+}
+
+/// Whether an option or a file is this text. The empty text: it isn't given.
+fn is_text(given: &Option<String>, wanted: &str) -> bool {
+    given.as_deref().unwrap_or("") == wanted
+}
+
+/// Whether the line spells a replay on this variant with this image, this file for the last image and this schedule, which
+/// prints the report alone.
+fn is_replay(alloc: Global, line: &str, variant: Variant, texts: (&str, &str, &str)) -> bool {
+    let (image, save, file) = texts;
+    match read(alloc, line) {
+        Ok(Command::Replay(args)) => {
+            args.variant == variant
+                && !args.json
+                && !args.each
+                && is_text(&args.image, image)
+                && is_text(&args.save, save)
+                && is_text(&args.file, file)
+        }
+        _ => false,
+    }
+}
+
+/// Any variant goes without an image, and the right lock beside one.
 #[test]
-fn a_replay_of_standard_input(rt: HostRuntime) -> Result<(), Fail> {
-    let words = words_of(rt.alloc(), "rmelab replay")?;
-    let Ok(Command::Replay(args)) = read_words(rt.alloc(), &words) else {
-        panic!(&rt; "no replay");
-    };
-    let plain = ReplayArgs {
-        json: false,
-        each: false,
-        variant: Variant::Right,
-        image: None,
-        save: None,
-        file: None,
-    };
-    assert_eq!(rt; args, plain);
-    Ok(())
+fn replays(rt: HostRuntime) {
+    let image = ("a.json", "", "");
+    for (words, variant, texts) in [
+        ("rmelab replay", Variant::Right, ("", "", "")),
+        ("rmelab replay --image a.json", Variant::Right, image),
+        (
+            "rmelab replay --variant right --image a.json",
+            Variant::Right,
+            image,
+        ),
+        (
+            "rmelab replay --image a.json --variant right",
+            Variant::Right,
+            image,
+        ),
+        (
+            "rmelab replay --variant no-look",
+            Variant::NoLook,
+            ("", "", ""),
+        ),
+        (
+            "rmelab replay --variant count-up a.rme",
+            Variant::CountUp,
+            ("", "", "a.rme"),
+        ),
+        (
+            "rmelab replay --save a.json --variant right",
+            Variant::Right,
+            ("", "a.json", ""),
+        ),
+    ] {
+        assert!(rt; is_replay(rt.alloc(), words, variant, texts), "{words}");
+    }
+}
+
+/// Whether the line spells a drawing of the right lock, as text and without a page, from this image.
+fn is_drawing(alloc: Global, line: &str, image: &str) -> bool {
+    match read(alloc, line) {
+        Ok(Command::Draw(args)) => args.variant == Variant::Right && is_text(&args.image, image),
+        _ => false,
+    }
 }
 
 #[test]
-fn a_hunt(rt: HostRuntime) -> Result<(), Fail> {
+fn drawings(rt: HostRuntime) {
+    for line in [
+        "rmelab draw --image a.json",
+        "rmelab draw --variant right --image a.json",
+    ] {
+        assert!(rt; is_drawing(rt.alloc(), line, "a.json"), "{line}");
+    }
+}
+
+fn hunt_of(alloc: Global, line: &str) -> Option<HuntArgs> {
+    match read(alloc, line) {
+        Ok(Command::Hunt(args)) => Some(args),
+        _ => None,
+    }
+}
+
+#[test]
+fn a_hunt(rt: HostRuntime) {
     let plain = "rmelab hunt --variant last-skipped --seed 1 --rounds 10000 --steps 10000";
     let shared =
         "rmelab hunt --variant last-skipped --seed 1 --rounds 10000 --steps 10000 --jobs 7";
     for (line, jobs) in [(plain, 0), (shared, 7)] {
-        let words = words_of(rt.alloc(), line)?;
-        let Ok(Command::Hunt(args)) = read_words(rt.alloc(), &words) else {
-            panic!(&rt; "no hunt");
-        };
         let longest = HuntArgs {
             variant: Variant::LastSkipped,
             seed: 1,
@@ -42,20 +110,22 @@ fn a_hunt(rt: HostRuntime) -> Result<(), Fail> {
             shrink: false,
             jobs,
         };
-        assert_eq!(rt; args, longest);
+        assert!(rt; hunt_of(rt.alloc(), line) == Some(longest), "{line}");
     }
-    Ok(())
+}
+
+fn run_of(alloc: Global, line: &str) -> Option<RunArgs> {
+    match read(alloc, line) {
+        Ok(Command::Run(args)) => Some(args),
+        _ => None,
+    }
 }
 
 #[test]
-fn runs(rt: HostRuntime) -> Result<(), Fail> {
+fn runs(rt: HostRuntime) {
     let narrow = "rmelab run --procs 16 --messages 4096 --crash 50 --seed 7";
     let wide = "rmelab run --procs 16 --messages 4096 --crash 50 --seed 7 --width 8";
     for (line, width) in [(narrow, 1), (wide, 8)] {
-        let words = words_of(rt.alloc(), line)?;
-        let Ok(Command::Run(args)) = read_words(rt.alloc(), &words) else {
-            panic!(&rt; "no run: {line}");
-        };
         let greatest = RunArgs {
             procs: 16,
             messages: 4096,
@@ -63,81 +133,34 @@ fn runs(rt: HostRuntime) -> Result<(), Fail> {
             seed: 7,
             width,
         };
-        assert_eq!(rt; args, greatest);
+        assert!(rt; run_of(rt.alloc(), line) == Some(greatest), "{line}");
     }
-    Ok(())
+}
+
+fn calls_of(alloc: Global, line: &str) -> Option<Alphabet> {
+    match read(alloc, line) {
+        Ok(Command::Explore(args)) => Some(args.calls),
+        _ => None,
+    }
 }
 
 #[test]
-fn the_right_lock_beside_an_image(rt: HostRuntime) -> Result<(), Fail> {
-    for line in [
-        "rmelab replay --image a.json",
-        "rmelab replay --variant right --image a.json",
-        "rmelab replay --image a.json --variant right",
-    ] {
-        let words = words_of(rt.alloc(), line)?;
-        let Ok(Command::Replay(args)) = read_words(rt.alloc(), &words) else {
-            panic!(&rt; "no replay: {line}");
-        };
-        assert!(rt; args.variant == Variant::Right, "{line}");
-        let image = args.image.as_deref();
-        assert!(rt; image == Some("a.json"), "{line}");
-    }
-    for line in [
-        "rmelab draw --image a.json",
-        "rmelab draw --variant right --image a.json",
-    ] {
-        let words = words_of(rt.alloc(), line)?;
-        let Ok(Command::Draw(args)) = read_words(rt.alloc(), &words) else {
-            panic!(&rt; "no drawing: {line}");
-        };
-        assert!(rt; args.variant == Variant::Right, "{line}");
-        let image = args.image.as_deref();
-        assert!(rt; image == Some("a.json"), "{line}");
-    }
-    Ok(())
-}
-
-/// Any variant goes without an image.
-#[test]
-fn variants_without_an_image(rt: HostRuntime) -> Result<(), Fail> {
-    for (line, variant) in [
-        ("rmelab replay --variant no-look", Variant::NoLook),
-        ("rmelab replay --variant count-up a.rme", Variant::CountUp),
-        (
-            "rmelab replay --save a.json --variant right",
-            Variant::Right,
-        ),
-    ] {
-        let words = words_of(rt.alloc(), line)?;
-        let Ok(Command::Replay(args)) = read_words(rt.alloc(), &words) else {
-            panic!(&rt; "no replay: {line}");
-        };
-        assert!(rt; args.variant == variant, "{line}");
-    }
-    Ok(())
-}
-
-#[test]
-fn calls_of_a_search(rt: HostRuntime) -> Result<(), Fail> {
-    let none = Alphabet {
-        lock: false,
-        unlock: false,
+fn calls_of_a_search(rt: HostRuntime) {
+    let plain = Alphabet {
+        lock: true,
+        unlock: true,
         recover: false,
         consistent: false,
         withdraw: false,
         append: false,
         close: false,
     };
-    let plain = Alphabet {
-        lock: true,
-        unlock: true,
-        ..none
-    };
     let mail = Alphabet {
+        lock: false,
+        unlock: false,
         append: true,
         close: true,
-        ..none
+        ..plain
     };
     for (line, calls) in [
         ("rmelab explore --variant right --procs 2", plain),
@@ -150,11 +173,17 @@ fn calls_of_a_search(rt: HostRuntime) -> Result<(), Fail> {
             mail,
         ),
     ] {
-        let words = words_of(rt.alloc(), line)?;
-        let Ok(Command::Explore(args)) = read_words(rt.alloc(), &words) else {
-            panic!(&rt; "no search: {line}");
-        };
-        assert_eq!(rt; args.calls, calls, "{line}");
+        assert!(rt; calls_of(rt.alloc(), line) == Some(calls), "{line}");
     }
+}
+
+/// A judge of standard input, which prints the verdict line.
+#[test]
+fn a_judge(rt: HostRuntime) -> Result<(), Fail> {
+    let plain = JudgeArgs {
+        json: false,
+        file: None,
+    };
+    assert!(rt; read(rt.alloc(), "rmelab judge")? == Command::Judge(plain));
     Ok(())
 }

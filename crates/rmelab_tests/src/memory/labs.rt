@@ -2,7 +2,7 @@
 
 use crash_plans::Never;
 use memory_limit::{PIECES, ScarceMemory};
-use robust::{LabFault, LabResult, Spec, run_lab};
+use robust::{LabFault, Spec, run_lab};
 use std::alloc::{AllocError, Global};
 use std::sync::Wait;
 use std::test::Fail;
@@ -28,12 +28,14 @@ fn gates(alloc: Global) -> Result<Vec<Vec<Never>>, AllocError> {
     Ok(all)
 }
 
-fn lab<R: Threads + Wait + Sync>(
-    rt: &R,
+/// The number of messages of the lab, or its fault.
+fn lab(
+    rt: &(impl Threads + Wait + Sync),
     alloc: Global,
     gates: &mut Vec<Vec<Never>>,
-) -> Result<LabResult, LabFault> {
-    run_lab(rt, alloc, TWO, gates.pop().unwrap_or(Vec::new(alloc)))
+) -> Result<usize, LabFault> {
+    let lab = run_lab(rt, alloc, TWO, gates.pop().unwrap_or(Vec::new(alloc)))?;
+    Ok(lab.messages.len())
 }
 
 /// A thread needs more than the reserve, so the last run has all memory again.
@@ -44,18 +46,15 @@ fn a_lab(rt: HostRuntime) -> Result<(), Fail> {
     let mut scarce_memory = ScarceMemory::new(alloc)?;
     let mut refused = 0u64;
     for _ in 0..PIECES {
-        match lab(&rt, alloc, &mut gates) {
-            Ok(left) => assert_eq!(rt; left.messages.len(), 2),
-            Err(fault) => {
-                assert_eq!(rt; fault, LabFault::OutOfMemory);
-                refused = refused.saturating_add(1);
-            }
+        let found = lab(&rt, alloc, &mut gates);
+        let is_refused = found == Err(LabFault::OutOfMemory);
+        assert!(rt; is_refused || found == Ok(2));
+        if is_refused {
+            refused = refused.saturating_add(1);
         }
         scarce_memory.give_back();
     }
     scarce_memory.end();
-    assert!(rt; 0 < refused);
-    let left = lab(&rt, alloc, &mut gates)?;
-    assert_eq!(rt; left.messages.len(), 2);
+    assert!(rt; 0 < refused && lab(&rt, alloc, &mut gates) == Ok(2));
     Ok(())
 }

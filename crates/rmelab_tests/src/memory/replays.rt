@@ -19,23 +19,27 @@ fn torn(alloc: Global, printed: &mut [u8]) -> Result<Verdict, ReplayFault> {
     replay(alloc, &mut source, &mut sink)
 }
 
+/// Whether a replay is out of memory. None: its report or its verdict isn't as expected.
+fn is_refused(alloc: Global) -> Option<bool> {
+    let mut printed = [0u8; 512];
+    match torn(alloc, &mut printed) {
+        Ok(Verdict::Fine) if printed.starts_with(REPORT.as_bytes()) => Some(false),
+        Err(ReplayFault::OutOfMemory) => Some(true),
+        _ => None,
+    }
+}
+
 #[test]
 fn a_replay(rt: HostRuntime) -> Result<(), Fail> {
-    let alloc = rt.alloc();
-    let mut scarce_memory = ScarceMemory::new(alloc)?;
+    let mut scarce_memory = ScarceMemory::new(rt.alloc())?;
     let mut refused = 0u64;
     for _ in 0..PIECES {
-        let mut printed = [0u8; 512];
-        match torn(alloc, &mut printed) {
-            Ok(verdict) => {
-                assert_eq!(rt; verdict, Verdict::Fine);
-                assert!(rt; printed.starts_with(REPORT.as_bytes()));
-                break;
-            }
-            Err(fault) => assert_eq!(rt; fault, ReplayFault::OutOfMemory),
+        if is_refused(rt.alloc()).ok_or("a replay")? {
+            refused = refused.saturating_add(1);
+            scarce_memory.give_back();
+        } else {
+            break;
         }
-        refused = refused.saturating_add(1);
-        scarce_memory.give_back();
     }
     assert!(rt; 0 < refused && refused < PIECES as u64);
     Ok(())

@@ -39,7 +39,6 @@ fn a_long_trace(rt: HostRuntime) -> Result<(), Fail> {
     }
     let few = refusals(alloc, IN_ORDER)?;
     let many = refusals(alloc, &long)?;
-    assert!(rt; few.is_some() && few != Some(0));
-    assert_eq!(rt; many, few);
+    assert!(rt; few.is_some() && few != Some(0) && many == few);
     Ok(())
 }

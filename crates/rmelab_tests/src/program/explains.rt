@@ -1,11 +1,24 @@
 //! What `explain` prints: the names of all entries, one entry of each kind, and words that name none.
 
-use crate::support::fake::Failing;
 use crate::support::invocation::all_come_to;
-use crate::support::row::invoked;
 use std::test::Fail;
 
-const NAMES: &str = "fault 1
+/// An entry, and what is printed for words that name no entry.
+pub const TEXTS: &str = "
+@text NO_NEWLINE
+fault 5: The last line is not ended by a line feed. Each line of a schedule or a trace ends with one, the last one too.
+See docs/dev/texts.md, Faults of the text.
+@text NO_NAME
+error: 'fault 7' names nothing that is explained
+
+For more information, try 'rmelab explain'.
+@text UNWRITTEN
+rmelab: write failed
+";
+
+const EXPLANATIONS: &str = "
+@row rmelab explain @out
+fault 1
 fault 2
 fault 3
 fault 4
@@ -100,98 +113,56 @@ algorithm fault 15
 algorithm fault 16
 algorithm fault 17
 algorithm fault 18
-";
-
-pub const NO_NEWLINE: &str =
-    "fault 5: The last line is not ended by a line feed. Each line of a schedule or a trace ends with one, the last one too.
-See docs/dev/texts.md, Faults of the text.
-";
-
-const UNMENDED: &str =
-    "refused 12: The process came back after a crash inside, and has not mended what it found. First `consistent P` has to be answered.
+@row rmelab explain fault 5 @out NO_NEWLINE
+@row rmelab explain refused 12 @out
+refused 12: The process came back after a crash inside, and has not mended what it found. First `consistent P` has to be answered.
 See docs/dev/surface.md, Rules for all calls.
-";
-
-const NO_MEMORY: &str =
-    "out of memory: A request for memory was refused. It counts only where no other cause holds, and the call may be made again.
+@row rmelab explain out of memory @out
+out of memory: A request for memory was refused. It counts only where no other cause holds, and the call may be made again.
 See docs/dev/surface.md, Rules for all calls.
-";
-
-const HEADS: &str =
-    "rule 7: The words ruined, closed and armed are at most 1, and count is at most the capacity. Closed and armed are not both 1.
+@row rmelab explain rule 7 @out
+rule 7: The words ruined, closed and armed are at most 1, and count is at most the capacity. Closed and armed are not both 1.
 See docs/dev/texts.md, Image.
-";
-
-const OVERTAKEN: &str =
-    "against 4: `by Q of P`: process Q entered, though P was ready before Q began, and P has neither entered since nor given up its place. First come, first served is broken.
+@row rmelab explain against 4 @out
+against 4: `by Q of P`: process Q entered, though P was ready before Q began, and P has neither entered since nor given up its place. First come, first served is broken.
 See docs/theory/judge.md, The judge table.
-";
-
-const FOUND_LEFT: &str =
-    "answer found left: `recover` read the words 0,0,1: the process had crashed on its way out. It has made its exit whole, and is at rest.
-See docs/theory/model.md, Restart table.
-";
-
-const ALREADY: &str =
-    "answer already: The sender's message with this number is there. Nothing was written, so an append that a crash cut off can be made again.
-See docs/theory/mailbox.md, Tasks.
-";
-
-const CLEAN: &str = "answer clean: The process is inside, by the line. Nothing is left to be mended.
+@row rmelab explain answer clean @out
+answer clean: The process is inside, by the line. Nothing is left to be mended.
 See docs/theory/model.md, Calls as rows of steps.
-";
-
-const LOOK: &str =
-    "step look: Loads choosing of another process, to pass it. Where it is 1 the step is blocked, and the next one reads the same word.
+@row rmelab explain answer found left @out
+answer found left: `recover` read the words 0,0,1: the process had crashed on its way out. It has made its exit whole, and is at rest.
+See docs/theory/model.md, Restart table.
+@row rmelab explain answer already @out
+answer already: The sender's message with this number is there. Nothing was written, so an append that a crash cut off can be made again.
+See docs/theory/mailbox.md, Tasks.
+@row rmelab explain step look @out
+step look: Loads choosing of another process, to pass it. Where it is 1 the step is blocked, and the next one reads the same word.
 See docs/theory/model.md, Step.
-";
-
-const OUT_OF_RANGE: &str =
-    "refused 16: A value leaves 0 to 18446744073709551615, a division is by 0, an index is no process, a store is above its bound, or a deed is the fourth of its step. The start or the step is refused, and nothing changes.
+@row rmelab explain refused 16 @out
+refused 16: A value leaves 0 to 18446744073709551615, a division is by 0, an index is no process, a store is above its bound, or a deed is the fourth of its step. The start or the step is refused, and nothing changes.
 See docs/use/algorithms.md, Meaning.
-";
-
-const TWO_ACCESSES: &str =
-    "algorithm fault 7: A shared word stands within a value, a condition or an index, or is stored into another. One line is one access: read the word into a private name in a line of its own.
+@row rmelab explain algorithm fault 7 @out
+algorithm fault 7: A shared word stands within a value, a condition or an index, or is stored into another. One line is one access: read the word into a private name in a line of its own.
 See docs/use/algorithms.md, Faults of a text.
 ";
 
 #[test]
 fn explanations(rt: HostRuntime) -> Result<(), Fail> {
-    let rows = [
-        invoked("rmelab explain", "", NAMES),
-        invoked("rmelab explain fault 5", "", NO_NEWLINE),
-        invoked("rmelab explain refused 12", "", UNMENDED),
-        invoked("rmelab explain out of memory", "", NO_MEMORY),
-        invoked("rmelab explain rule 7", "", HEADS),
-        invoked("rmelab explain against 4", "", OVERTAKEN),
-        invoked("rmelab explain answer clean", "", CLEAN),
-        invoked("rmelab explain answer found left", "", FOUND_LEFT),
-        invoked("rmelab explain answer already", "", ALREADY),
-        invoked("rmelab explain step look", "", LOOK),
-        invoked("rmelab explain refused 16", "", OUT_OF_RANGE),
-        invoked("rmelab explain algorithm fault 7", "", TWO_ACCESSES),
-    ];
-    all_come_to(&rt, rt.alloc(), &rows)
+    all_come_to(&rt, rt.alloc(), &[TEXTS], EXPLANATIONS)
 }
 
-/// What is printed for words that name no entry.
-pub const NO_NAME: &str = "error: 'fault 7' names nothing that is explained
+const WORDS_THAT_ARE_NO_NAME: &str = "
+@row rmelab explain fault 7 @ends 2 @err NO_NAME
+@row rmelab explain  @ends 2 @err
+error: '' names nothing that is explained
 
 For more information, try 'rmelab explain'.
-";
-
-const EMPTY_NAME: &str = "error: '' names nothing that is explained
-
-For more information, try 'rmelab explain'.
-";
-
-const NO_WORD: &str = "error: 'answer found' names nothing that is explained
+@row rmelab explain answer found @ends 2 @err
+error: 'answer found' names nothing that is explained
 
 For more information, try 'rmelab explain'.
-";
-
-const NO_OPTION: &str = "error: unexpected argument '--all' found
+@row rmelab explain --all @ends 2 @err
+error: unexpected argument '--all' found
 
   tip: to pass '--all' as a value, use '-- --all'
 
@@ -202,31 +173,17 @@ For more information, try '--help'.
 
 #[test]
 fn words_that_are_no_name(rt: HostRuntime) -> Result<(), Fail> {
-    let rows = [
-        invoked("rmelab explain fault 7", "", "").ends(2, NO_NAME),
-        invoked("rmelab explain ", "", "").ends(2, EMPTY_NAME),
-        invoked("rmelab explain answer found", "", "").ends(2, NO_WORD),
-        invoked("rmelab explain --all", "", "").ends(2, NO_OPTION),
-    ];
-    all_come_to(&rt, rt.alloc(), &rows)
+    all_come_to(&rt, rt.alloc(), &[TEXTS], WORDS_THAT_ARE_NO_NAME)
 }
+
+const EXPLANATIONS_WHERE_DEVICES_FAIL: &str = "
+@row rmelab explain @fails write @ends 3 @err UNWRITTEN
+@row rmelab explain fault 5 @fails write @ends 3 @err UNWRITTEN
+@row rmelab explain fault 5 @fails flush @out NO_NEWLINE @ends 3 @err UNWRITTEN
+@row rmelab explain fault 7 @fails err @ends 2
+";
 
 #[test]
 fn explanations_where_devices_fail(rt: HostRuntime) -> Result<(), Fail> {
-    let unwritten = "rmelab: write failed\n";
-    let rows = [
-        invoked("rmelab explain", "", "")
-            .where_fails(Failing::Write)
-            .ends(3, unwritten),
-        invoked("rmelab explain fault 5", "", "")
-            .where_fails(Failing::Write)
-            .ends(3, unwritten),
-        invoked("rmelab explain fault 5", "", NO_NEWLINE)
-            .where_fails(Failing::Flush)
-            .ends(3, unwritten),
-        invoked("rmelab explain fault 7", "", "")
-            .where_fails(Failing::Told)
-            .ends(2, ""),
-    ];
-    all_come_to(&rt, rt.alloc(), &rows)
+    all_come_to(&rt, rt.alloc(), &[TEXTS], EXPLANATIONS_WHERE_DEVICES_FAIL)
 }

@@ -1,8 +1,7 @@
 //! Whole invocations of other kinds: senders, a hunt, the version, and words that are refused.
 
-use crate::support::fake::Failing;
-use crate::support::invocation::{all_come_to, comes_to, prints};
-use crate::support::row::invoked;
+use crate::support::invocation::{all_come_to, comes_to};
+use crate::support::row::ProgramRow;
 use cli::arguments::words::words_given;
 use commands::program::closed;
 use commands::schedules::fault::CommandFault;
@@ -11,68 +10,72 @@ use std::env::FillError;
 use std::rt::Env;
 use std::test::Fail;
 
-const ONE_SENDER: &str = "rmelab run --procs 1 --messages 1 --crash 0 --seed 1";
-
-const ONE_ROUND: &str = "rmelab hunt --variant right --seed 1 --rounds 1 --steps 1";
+const REPORTS: &str = "
+@row rmelab run --procs 1 --messages 1 --crash 0 --seed 1 @out
+sender 0 messages 1 twice 0 order yes
+total 1
+@row rmelab hunt --variant right --seed 1 --rounds 1 --steps 1 @out
+nothing found
+@row rmelab --version @out
+rmelab 0.1.0
+@row rmelab -V @out
+rmelab 0.1.0
+";
 
 #[test]
 fn reports(rt: HostRuntime) -> Result<(), Fail> {
-    let rows = [
-        invoked(
-            ONE_SENDER,
-            "",
-            "sender 0 messages 1 twice 0 order yes\ntotal 1\n",
-        ),
-        invoked(ONE_ROUND, "", "nothing found\n"),
-        invoked("rmelab --version", "", "rmelab 0.1.0\n"),
-        invoked("rmelab -V", "", "rmelab 0.1.0\n"),
-    ];
-    all_come_to(&rt, rt.alloc(), &rows)
+    all_come_to(&rt, rt.alloc(), &[], REPORTS)
 }
+
+const WRITERS_THAT_FAIL: &str = "
+@row rmelab run --procs 1 --messages 1 --crash 0 --seed 1 @fails write @ends 3 @err
+rmelab: write failed
+@row rmelab hunt --variant right --seed 1 --rounds 1 --steps 1 @fails write @ends 3 @err
+rmelab: write failed
+@row rmelab --help @fails write @ends 3 @err
+rmelab: write failed
+";
 
 #[test]
 fn writers_that_fail(rt: HostRuntime) -> Result<(), Fail> {
-    for line in [ONE_SENDER, ONE_ROUND, "rmelab --help"] {
-        let row = invoked(line, "", "")
-            .where_fails(Failing::Write)
-            .ends(3, "rmelab: write failed\n");
-        all_come_to(&rt, rt.alloc(), &[row])?;
-    }
-    Ok(())
+    all_come_to(&rt, rt.alloc(), &[], WRITERS_THAT_FAIL)
 }
 
-const BAD_SIZES: [&str; 8] = [
-    "rmelab run --procs 0 --messages 1 --crash 0 --seed 1",
-    "rmelab run --procs 17 --messages 1 --crash 0 --seed 1",
-    "rmelab run --procs 1 --messages 0 --crash 0 --seed 1",
-    "rmelab run --procs 1 --messages 4097 --crash 0 --seed 1",
-    "rmelab run --procs 1 --messages 1 --crash 51 --seed 1",
-    "rmelab run --procs 1 --messages 1 --crash 0 --seed 1 --width 0",
-    "rmelab run --procs 1 --messages 1 --crash 0 --seed 1 --width 9",
-    "rmelab hunt --variant right --seed 1 --rounds 0 --steps 1",
-];
+const ORDERS_THAT_ARE_REFUSED: &str = "
+@row rmelab hunt --variant wrong --seed 1 --rounds 0 --steps 1 @ends 2 @err
+rmelab: bad variant
+@row rmelab run --procs 0 --messages 1 --crash 0 --seed 1 @ends 2 @err
+rmelab: bad size
+@row rmelab run --procs 17 --messages 1 --crash 0 --seed 1 @ends 2 @err
+rmelab: bad size
+@row rmelab run --procs 1 --messages 0 --crash 0 --seed 1 @ends 2 @err
+rmelab: bad size
+@row rmelab run --procs 1 --messages 4097 --crash 0 --seed 1 @ends 2 @err
+rmelab: bad size
+@row rmelab run --procs 1 --messages 1 --crash 51 --seed 1 @ends 2 @err
+rmelab: bad size
+@row rmelab run --procs 1 --messages 1 --crash 0 --seed 1 --width 0 @ends 2 @err
+rmelab: bad size
+@row rmelab run --procs 1 --messages 1 --crash 0 --seed 1 --width 9 @ends 2 @err
+rmelab: bad size
+@row rmelab hunt --variant right --seed 1 --rounds 0 --steps 1 @ends 2 @err
+rmelab: bad size
+";
 
 /// A bad variant is found before a bad size.
 #[test]
 fn orders_that_are_refused(rt: HostRuntime) -> Result<(), Fail> {
-    let both = "rmelab hunt --variant wrong --seed 1 --rounds 0 --steps 1";
-    prints(&rt, rt.alloc(), both, "", "", "rmelab: bad variant\n", 2)?;
-    for line in BAD_SIZES {
-        prints(&rt, rt.alloc(), line, "", "", "rmelab: bad size\n", 2)?;
-    }
-    Ok(())
+    all_come_to(&rt, rt.alloc(), &[], ORDERS_THAT_ARE_REFUSED)
 }
+
+const MEMBER_3_FAILED: &str = "rmelab: member 3 failed\n";
 
 /// No command line makes a member of a lab fail. So the end of a command is tested by itself, where each fault is reported.
 #[test]
-fn a_member_that_fails(rt: HostRuntime) -> Result<(), Fail> {
+fn a_member_that_fails(rt: HostRuntime) {
     let mut page = Page::new(rt.alloc());
-    assert_eq!(rt; closed(Err(CommandFault::Member { p: 3 }), &mut page), 3);
-    assert_eq!(rt;
-        str::from_utf8(page.as_slice()),
-        Ok("rmelab: member 3 failed\n")
-    );
-    Ok(())
+    let status = closed(Err(CommandFault::Member { p: 3 }), &mut page);
+    assert!(rt; status == 3 && page.as_slice() == MEMBER_3_FAILED.as_bytes());
 }
 
 /// The words of a process. The second one isn't UTF-8 text.
@@ -108,6 +111,10 @@ const NO_TEXT: &str =
 #[test]
 fn words_that_are_no_text(rt: HostRuntime) -> Result<(), Fail> {
     let words = words_given(&(BadWords, rt.alloc()));
-    let row = invoked("words that are no text", "", "").ends(2, NO_TEXT);
+    let row = ProgramRow {
+        told: NO_TEXT,
+        status: 2,
+        ..ProgramRow::new("words that are no text")
+    };
     comes_to(&rt, rt.alloc(), words, &row)
 }

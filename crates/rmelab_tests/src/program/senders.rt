@@ -1,6 +1,6 @@
 //! Senders on threads.
 
-use crate::support::invocation::prints;
+use crate::support::invocation::all_come_to;
 use cli::arguments::args::RunArgs;
 use commands::running::{gates_of, lines_of, status_of_tallies};
 use commands::tally::tallied;
@@ -9,23 +9,46 @@ use redomail::Message;
 use rmecore::Body;
 use std::test::Fail;
 
-const FOUR: &str = "sender 0 messages 50 twice 0 order yes
+const TEXTS: &str = "
+@text FOUR
+sender 0 messages 50 twice 0 order yes
 sender 1 messages 50 twice 0 order yes
 sender 2 messages 50 twice 0 order yes
 sender 3 messages 50 twice 0 order yes
 total 200
 ";
 
+const FOUR_SENDERS: &str = "
+@row rmelab run --procs 4 --messages 50 --crash 20 --seed 7 @out FOUR
+";
+
 #[test]
 fn four_senders(rt: HostRuntime) -> Result<(), Fail> {
-    let line = "rmelab run --procs 4 --messages 50 --crash 20 --seed 7";
-    prints(&rt, rt.alloc(), line, "", FOUR, "", 0)
+    all_come_to(&rt, rt.alloc(), &[TEXTS], FOUR_SENDERS)
 }
+
+const FOUR_SENDERS_OF_WIDE_MESSAGES: &str = "
+@row rmelab run --procs 4 --messages 50 --crash 20 --seed 7 --width 8 @out FOUR
+";
 
 #[test]
 fn four_senders_of_wide_messages(rt: HostRuntime) -> Result<(), Fail> {
-    let line = "rmelab run --procs 4 --messages 50 --crash 20 --seed 7 --width 8";
-    prints(&rt, rt.alloc(), line, "", FOUR, "", 0)
+    all_come_to(&rt, rt.alloc(), &[TEXTS], FOUR_SENDERS_OF_WIDE_MESSAGES)
+}
+
+/// Whether each plan falls where the one with this seed does, or with the next one for each that follows.
+fn fall_as_seeded(plans: &mut [Seeded], first: u64, per_mille: u64) -> bool {
+    let mut seed = first;
+    for plan in plans.iter_mut() {
+        let mut own = Seeded::new(seed, per_mille);
+        for _ in 0..64 {
+            if plan.falls() != own.falls() {
+                return false;
+            }
+        }
+        seed = seed.wrapping_add(1);
+    }
+    true
 }
 
 /// The crashes of sender p are drawn from the seed and p.
@@ -39,15 +62,7 @@ fn each_sender_has_the_next_seed(rt: HostRuntime) -> Result<(), Fail> {
         width: 1,
     };
     let mut gates = gates_of(rt.alloc(), &args)?;
-    assert_eq!(rt; gates.len(), 3);
-    let mut seed = 7u64;
-    for gate in gates.iter_mut() {
-        let mut own = Seeded::new(seed, 500);
-        for _ in 0..64 {
-            assert_eq!(rt; gate.falls(), own.falls());
-        }
-        seed = seed.wrapping_add(1);
-    }
+    assert!(rt; gates.len() == 3 && fall_as_seeded(&mut gates, 7, 500));
     Ok(())
 }
 
@@ -67,7 +82,6 @@ fn a_message_twice_and_one_out_of_order(rt: HostRuntime) -> Result<(), Fail> {
     });
     let tallies = tallied(rt.alloc(), 2, &messages)?;
     let text = lines_of(rt.alloc(), &tallies)?;
-    assert_eq!(rt; text.as_str(), BROKEN);
-    assert_eq!(rt; status_of_tallies(&tallies), 1);
+    assert!(rt; text.as_str() == BROKEN && status_of_tallies(&tallies) == 1);
     Ok(())
 }

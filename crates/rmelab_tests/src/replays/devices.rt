@@ -1,87 +1,50 @@
 //! Replays and traces where a reader, a writer or a file fails.
 
-use crate::replays::reports::{AGAIN, AGAINST, IMAGE, IN_ORDER, OVERTAKEN, REPORT, SMALLEST};
-use crate::support::fake::Failing;
+use crate::replays::reports;
 use crate::support::invocation::all_come_to;
-use crate::support::row::invoked;
 use std::test::Fail;
 
-const UNREAD: &str = "rmelab: read failed\n";
+const TEXTS: &str = "
+@text UNREAD
+rmelab: read failed
+@text UNWRITTEN
+rmelab: write failed
+@text OUT_OF_MEMORY
+rmelab: out of memory
+";
 
-const UNWRITTEN: &str = "rmelab: write failed\n";
+const DEVICES_THAT_FAIL: &str = "
+@row rmelab replay @in SMALLEST @fails read @ends 3 @err UNREAD
+@row rmelab replay --json @in SMALLEST @fails read @ends 3 @err UNREAD
+@row rmelab replay --save a.json @in SMALLEST @fails read @ends 3 @err UNREAD
+@row rmelab judge @in OVERTAKEN @fails read @ends 3 @err UNREAD
+@row rmelab replay @in SMALLEST @fails write @ends 3 @err UNWRITTEN
+@row rmelab replay --json @in SMALLEST @fails write @ends 3 @err UNWRITTEN
+@row rmelab judge @in OVERTAKEN @fails write @ends 3 @err UNWRITTEN
+@row rmelab judge @in OVERTAKEN @fails flush @out AGAINST @ends 3 @err UNWRITTEN
+@row rmelab replay --save a.json @in SMALLEST @fails flush @out REPORT @ends 3 @err UNWRITTEN
+@row rmelab judge @fails err @ends 2
+";
 
 #[test]
 fn devices_that_fail(rt: HostRuntime) -> Result<(), Fail> {
-    let reading = Failing::Read;
-    let writing = Failing::Write;
-    let rows = [
-        invoked("rmelab replay", SMALLEST, "")
-            .where_fails(reading)
-            .ends(3, UNREAD),
-        invoked("rmelab replay --json", SMALLEST, "")
-            .where_fails(reading)
-            .ends(3, UNREAD),
-        invoked("rmelab replay --save a.json", SMALLEST, "")
-            .where_fails(reading)
-            .ends(3, UNREAD),
-        invoked("rmelab judge", OVERTAKEN, "")
-            .where_fails(reading)
-            .ends(3, UNREAD),
-        invoked("rmelab replay", SMALLEST, "")
-            .where_fails(writing)
-            .ends(3, UNWRITTEN),
-        invoked("rmelab replay --json", SMALLEST, "")
-            .where_fails(writing)
-            .ends(3, UNWRITTEN),
-        invoked("rmelab judge", OVERTAKEN, "")
-            .where_fails(writing)
-            .ends(3, UNWRITTEN),
-        invoked("rmelab judge", OVERTAKEN, AGAINST)
-            .where_fails(Failing::Flush)
-            .ends(3, UNWRITTEN),
-        invoked("rmelab replay --save a.json", SMALLEST, REPORT)
-            .where_fails(Failing::Flush)
-            .ends(3, UNWRITTEN),
-        invoked("rmelab judge", "", "")
-            .where_fails(Failing::Told)
-            .ends(2, ""),
-    ];
-    all_come_to(&rt, rt.alloc(), &rows)
+    all_come_to(&rt, rt.alloc(), &[reports::TEXTS, TEXTS], DEVICES_THAT_FAIL)
 }
+
+const FILES_THAT_FAIL: &str = "
+@row rmelab replay s.rme @in SMALLEST @file s.rme SMALLEST @fails file-read @ends 3 @err UNREAD
+@row rmelab replay --json s.rme @in SMALLEST @file s.rme SMALLEST @fails file-read @ends 3 @err UNREAD
+@row rmelab judge s.rme @in IN_ORDER @file s.rme OVERTAKEN @fails file-read @ends 3 @err UNREAD
+@row rmelab replay --image a.json @in AGAIN @file a.json IMAGE @fails file-read @ends 3 @err UNREAD
+@row rmelab replay --save a.json @in SMALLEST @fails file @out REPORT @ends 3 @err UNWRITTEN
+@row rmelab replay --image a.json @in SMALLEST @ends 3 @err UNREAD
+@row rmelab replay s.rme @in SMALLEST @ends 3 @err UNREAD
+@row rmelab judge s.rme @in SMALLEST @ends 3 @err UNREAD
+@row rmelab replay s.rme @in SMALLEST @fails file-memory @ends 3 @err OUT_OF_MEMORY
+@row rmelab replay --save a.json @in SMALLEST @fails file-memory @out REPORT @ends 3 @err OUT_OF_MEMORY
+";
 
 #[test]
 fn files_that_fail(rt: HostRuntime) -> Result<(), Fail> {
-    let full = Failing::FileMemory;
-    let file = ("s.rme", SMALLEST);
-    let rows = [
-        invoked("rmelab replay s.rme", SMALLEST, "")
-            .beside(file)
-            .where_fails(Failing::FileRead)
-            .ends(3, UNREAD),
-        invoked("rmelab replay --json s.rme", SMALLEST, "")
-            .beside(file)
-            .where_fails(Failing::FileRead)
-            .ends(3, UNREAD),
-        invoked("rmelab judge s.rme", IN_ORDER, "")
-            .beside(("s.rme", OVERTAKEN))
-            .where_fails(Failing::FileRead)
-            .ends(3, UNREAD),
-        invoked("rmelab replay --image a.json", AGAIN, "")
-            .beside(("a.json", IMAGE))
-            .where_fails(Failing::FileRead)
-            .ends(3, UNREAD),
-        invoked("rmelab replay --save a.json", SMALLEST, REPORT)
-            .where_fails(Failing::File)
-            .ends(3, UNWRITTEN),
-        invoked("rmelab replay --image a.json", SMALLEST, "").ends(3, UNREAD),
-        invoked("rmelab replay s.rme", SMALLEST, "").ends(3, UNREAD),
-        invoked("rmelab judge s.rme", SMALLEST, "").ends(3, UNREAD),
-        invoked("rmelab replay s.rme", SMALLEST, "")
-            .where_fails(full)
-            .ends(3, "rmelab: out of memory\n"),
-        invoked("rmelab replay --save a.json", SMALLEST, REPORT)
-            .where_fails(full)
-            .ends(3, "rmelab: out of memory\n"),
-    ];
-    all_come_to(&rt, rt.alloc(), &rows)
+    all_come_to(&rt, rt.alloc(), &[reports::TEXTS, TEXTS], FILES_THAT_FAIL)
 }

@@ -1,153 +1,329 @@
 //! Sessions: the lines of a schedule one by one, back and on again, saved, and refused.
 
-use crate::support::fake::Failing;
-use crate::support::invocation::{all_come_to, comes_to, words_of};
-use crate::support::row::invoked;
+use crate::support::invocation::{all_come_to, program_comes_to};
 use std::test::Fail;
 
-const AT_REST: &str =
-    "process 0: 0,0,0 (row 0,0,0 idle), outside\nprocess 1: 0,0,0 (row 0,0,0 idle), outside\ninside: nobody\n";
+/// A session with the header alone; one that goes back; and one over the header alone that saves, in a folder where that fails.
+pub const TEXTS: &str = "
+@text HEADED
+rme 1 procs 2 limit 10 cap 1
+@text AT_REST
+process 0: 0,0,0 (row 0,0,0 idle), outside
+process 1: 0,0,0 (row 0,0,0 idle), outside
+inside: nobody
+@text UNREAD
+rmelab: read failed
+@text IN_AND_BACK
+rme 1 procs 1 limit 10 cap 1
+lock 0
+step 0 4
+to answer 0
+undo
+redo
+quit
+crash 0
+@text IN_AND_BACK_TOLD
+process 0: 0,0,0 (row 0,0,0 idle), outside
+inside: nobody
+process 0: 0,0,0 (row 0,0,0 idle), outside
+inside: nobody
+at 0 rest r choosing 0
+at 0 rest r number 0
+at 0 rest r inside 0
+at 0 doorway w choosing=1
+begin 0
+process 0: 1,0,0 (row 1,0,0 doorway unfinished), in the doorway, has read 0 of 0 numbers
+inside: nobody
+at 0 waiting w number=1
+ready 0
+at 0 waiting w choosing=0
+at 0 section w inside=1
+enter 0
+at 0 section r ruined 0
+answer 0 clean
+process 0: 0,1,1 (row 0,k,1 inside), inside
+inside: process 0
+process 0: 1,0,0 (row 1,0,0 doorway unfinished), in the doorway, has read 0 of 0 numbers
+inside: nobody
+at 0 waiting w number=1
+ready 0
+at 0 waiting w choosing=0
+at 0 section w inside=1
+enter 0
+at 0 section r ruined 0
+answer 0 clean
+process 0: 0,1,1 (row 0,k,1 inside), inside
+inside: process 0
+@text UNSAVED
+rme 1 procs 2 limit 10 cap 1
+save b.rme
+undo
+@text UNSAVED_TOLD
+process 0: 0,0,0 (row 0,0,0 idle), outside
+process 1: 0,0,0 (row 0,0,0 idle), outside
+inside: nobody
+not saved
+nothing to undo
+@text UNWRITTEN
+rmelab: write failed
+";
 
-/// A session with the header alone.
-const HEADED: &str = "rme 1 procs 2 limit 10 cap 1\n";
+const A_SESSION_BEGINS: &str = "
+@row rmelab step @in HEADED @out AT_REST
+@row rmelab step a.rme @out AT_REST @file a.rme
+rme 1 procs 2 limit 10 cap 1
+lock 0
+step 0 2
+@row rmelab step @ends 2 @err
+rmelab: line 1: fault 1
+@row rmelab step @ends 2 @in
+rme 1 procs 0 limit 10 cap 1
+@err
+rmelab: line 1: refused 1
+@row rmelab step @ends 2 @in
+rme 1 procs 2 limit 10 cap 1@err
+rmelab: line 1: fault 5
+@row rmelab step a.rme @ends 2 @file a.rme
+rme 1 procs 2 limit 10 cap 1
+lock 0
+lock 0
+@err
+rmelab: line 3: refused 4
+@row rmelab step b.rme @ends 3 @err UNREAD
+";
 
 #[test]
 fn a_session_begins(rt: HostRuntime) -> Result<(), Fail> {
-    let file = "rme 1 procs 2 limit 10 cap 1\nlock 0\nstep 0 2\n";
-    let rows = [
-        invoked("rmelab step", HEADED, AT_REST),
-        invoked("rmelab step a.rme", "", AT_REST).beside(("a.rme", file)),
-        invoked("rmelab step", "", "").ends(2, "rmelab: line 1: fault 1\n"),
-        invoked("rmelab step", "rme 1 procs 0 limit 10 cap 1\n", "").ends(
-            2,
-            "rmelab: line 1: refused 1\n",
-        ),
-        invoked("rmelab step", "rme 1 procs 2 limit 10 cap 1", "").ends(
-            2,
-            "rmelab: line 1: fault 5\n",
-        ),
-        invoked("rmelab step a.rme", "", "")
-            .beside(("a.rme", "rme 1 procs 2 limit 10 cap 1\nlock 0\nlock 0\n"))
-            .ends(2, "rmelab: line 3: refused 4\n"),
-        invoked("rmelab step b.rme", "", "").ends(3, "rmelab: read failed\n"),
-    ];
-    all_come_to(&rt, rt.alloc(), &rows)
+    all_come_to(&rt, rt.alloc(), &[TEXTS], A_SESSION_BEGINS)
 }
 
-pub const IN_AND_BACK: &str =
-    "rme 1 procs 1 limit 10 cap 1\nlock 0\nstep 0 4\nto answer 0\nundo\nredo\nquit\ncrash 0\n";
-
-pub const IN_AND_BACK_TOLD: &str =
-    "process 0: 0,0,0 (row 0,0,0 idle), outside\ninside: nobody\nprocess 0: 0,0,0 (row 0,0,0 idle), outside\ninside: nobody\nat 0 rest r choosing 0\nat 0 rest r number 0\nat 0 rest r inside 0\nat 0 doorway w choosing=1\nbegin 0\nprocess 0: 1,0,0 (row 1,0,0 doorway unfinished), in the doorway, has read 0 of 0 numbers\ninside: nobody\nat 0 waiting w number=1\nready 0\nat 0 waiting w choosing=0\nat 0 section w inside=1\nenter 0\nat 0 section r ruined 0\nanswer 0 clean\nprocess 0: 0,1,1 (row 0,k,1 inside), inside\ninside: process 0\nprocess 0: 1,0,0 (row 1,0,0 doorway unfinished), in the doorway, has read 0 of 0 numbers\ninside: nobody\nat 0 waiting w number=1\nready 0\nat 0 waiting w choosing=0\nat 0 section w inside=1\nenter 0\nat 0 section r ruined 0\nanswer 0 clean\nprocess 0: 0,1,1 (row 0,k,1 inside), inside\ninside: process 0\n";
+const A_SESSION_GOES_BACK: &str = "
+@row rmelab step @in IN_AND_BACK @out IN_AND_BACK_TOLD
+";
 
 #[test]
 fn a_session_goes_back(rt: HostRuntime) -> Result<(), Fail> {
-    let rows = [invoked("rmelab step", IN_AND_BACK, IN_AND_BACK_TOLD)];
-    all_come_to(&rt, rt.alloc(), &rows)
+    all_come_to(&rt, rt.alloc(), &[TEXTS], A_SESSION_GOES_BACK)
 }
+
+const LINES_ARE_REFUSED: &str = "
+@row rmelab step @in
+rme 1 procs 1 limit 10 cap 1
+lock 1
+lock
+lock 01
+wait 0
+
+undo 0
+to answer
+to go 0
+to answer 0
+to answer 1
+save
+save a b
+undo
+redo
+lock 0
+crash 0 0
+quit now
+end@out
+process 0: 0,0,0 (row 0,0,0 idle), outside
+inside: nobody
+line 2: refused 3
+line 2: fault 3
+line 2: fault 3
+line 2: fault 2
+line 2: fault 2
+line 2: fault 6
+line 2: fault 3
+line 2: fault 2
+line 2: refused 7
+line 2: refused 3
+line 2: fault 2
+line 2: fault 6
+nothing to undo
+nothing to redo
+process 0: 0,0,0 (row 0,0,0 idle), outside
+inside: nobody
+line 3: fault 6
+line 3: fault 6
+line 3: fault 5
+";
 
 /// What is refused or can't be read changes nothing, and is answered with the number of the schedule's next line.
-const REFUSED: &str =
-    "rme 1 procs 1 limit 10 cap 1\nlock 1\nlock\nlock 01\nwait 0\n\nundo 0\nto answer\nto go 0\nto answer 0\nto answer 1\nsave\nsave a b\nundo\nredo\nlock 0\ncrash 0 0\nquit now\nend";
-
-const REFUSED_TOLD: &str =
-    "process 0: 0,0,0 (row 0,0,0 idle), outside\ninside: nobody\nline 2: refused 3\nline 2: fault 3\nline 2: fault 3\nline 2: fault 2\nline 2: fault 2\nline 2: fault 6\nline 2: fault 3\nline 2: fault 2\nline 2: refused 7\nline 2: refused 3\nline 2: fault 2\nline 2: fault 6\nnothing to undo\nnothing to redo\nprocess 0: 0,0,0 (row 0,0,0 idle), outside\ninside: nobody\nline 3: fault 6\nline 3: fault 6\nline 3: fault 5\n";
-
 #[test]
 fn lines_are_refused(rt: HostRuntime) -> Result<(), Fail> {
-    let rows = [invoked("rmelab step", REFUSED, REFUSED_TOLD)];
-    all_come_to(&rt, rt.alloc(), &rows)
+    all_come_to(&rt, rt.alloc(), &[], LINES_ARE_REFUSED)
 }
+
+const IT_SAYS_WHERE_EACH_STANDS: &str = "
+@row rmelab step @in
+rme 1 procs 3 limit 10 cap 1
+lock 0
+step 0 5
+lock 1
+to answer 1
+step 1 9
+step 0
+step 0
+step 1
+crash 1
+lock 1
+step 1 2
+@out
+process 0: 0,0,0 (row 0,0,0 idle), outside
+process 1: 0,0,0 (row 0,0,0 idle), outside
+process 2: 0,0,0 (row 0,0,0 idle), outside
+inside: nobody
+process 0: 0,0,0 (row 0,0,0 idle), outside
+process 1: 0,0,0 (row 0,0,0 idle), outside
+process 2: 0,0,0 (row 0,0,0 idle), outside
+inside: nobody
+at 0 rest r choosing 0
+at 0 rest r number 0
+at 0 rest r inside 0
+at 0 doorway w choosing=1
+begin 0
+at 0 doorway r number[1] 0
+process 0: 1,0,0 (row 1,0,0 doorway unfinished), in the doorway, has read 1 of 2 numbers
+process 1: 0,0,0 (row 0,0,0 idle), outside
+process 2: 0,0,0 (row 0,0,0 idle), outside
+inside: nobody
+process 0: 1,0,0 (row 1,0,0 doorway unfinished), in the doorway, has read 1 of 2 numbers
+process 1: 0,0,0 (row 0,0,0 idle), outside
+process 2: 0,0,0 (row 0,0,0 idle), outside
+inside: nobody
+process 1 gets no answer by its own steps
+at 1 rest r choosing 0
+at 1 rest r number 0
+at 1 rest r inside 0
+at 1 doorway w choosing=1
+begin 1
+at 1 doorway r number[0] 0
+at 1 doorway r number[2] 0
+at 1 waiting w number=1
+ready 1
+at 1 waiting w choosing=0
+at 1 waiting r choosing[0] 1
+process 0: 1,0,0 (row 1,0,0 doorway unfinished), in the doorway, has read 1 of 2 numbers
+process 1: 0,1,0 (row 0,k,0 waiting), waits for process 0, which is in the doorway
+process 2: 0,0,0 (row 0,0,0 idle), outside
+inside: nobody
+at 0 doorway r number[2] 0
+process 0: 1,0,0 (row 1,0,0 doorway unfinished), in the doorway, has read 2 of 2 numbers
+process 1: 0,1,0 (row 0,k,0 waiting), waits for process 0, which is in the doorway
+process 2: 0,0,0 (row 0,0,0 idle), outside
+inside: nobody
+at 0 waiting w number=1
+ready 0
+process 0: 1,1,0 (row 1,k,0 number taken), waits
+process 1: 0,1,0 (row 0,k,0 waiting), waits for process 0, which is in the doorway
+process 2: 0,0,0 (row 0,0,0 idle), outside
+inside: nobody
+at 1 waiting r choosing[0] 1
+process 0: 1,1,0 (row 1,k,0 number taken), waits
+process 1: 0,1,0 (row 0,k,0 waiting), waits for process 0, which is in the doorway
+process 2: 0,0,0 (row 0,0,0 idle), outside
+inside: nobody
+at 1 dead
+crash 1
+process 0: 1,1,0 (row 1,k,0 number taken), waits
+process 1: 0,1,0 (row 0,k,0 waiting), crashed
+process 2: 0,0,0 (row 0,0,0 idle), outside
+inside: nobody
+process 0: 1,1,0 (row 1,k,0 number taken), waits
+process 1: 0,1,0 (row 0,k,0 waiting), crashed
+process 2: 0,0,0 (row 0,0,0 idle), outside
+inside: nobody
+at 1 dead r choosing 0
+at 1 dead r number 1
+process 0: 1,1,0 (row 1,k,0 number taken), waits
+process 1: 0,1,0 (row 0,k,0 waiting), crashed, rereads its words
+process 2: 0,0,0 (row 0,0,0 idle), outside
+inside: nobody
+";
 
 /// One process waits for another, is seen in the doorway, and comes back after a crash.
-const WAITS: &str =
-    "rme 1 procs 3 limit 10 cap 1\nlock 0\nstep 0 5\nlock 1\nto answer 1\nstep 1 9\nstep 0\nstep 0\nstep 1\ncrash 1\nlock 1\nstep 1 2\n";
-
-const WAITS_TOLD: &str =
-    "process 0: 0,0,0 (row 0,0,0 idle), outside\nprocess 1: 0,0,0 (row 0,0,0 idle), outside\nprocess 2: 0,0,0 (row 0,0,0 idle), outside\ninside: nobody\n\
-process 0: 0,0,0 (row 0,0,0 idle), outside\nprocess 1: 0,0,0 (row 0,0,0 idle), outside\nprocess 2: 0,0,0 (row 0,0,0 idle), outside\ninside: nobody\n\
-at 0 rest r choosing 0\nat 0 rest r number 0\nat 0 rest r inside 0\nat 0 doorway w choosing=1\nbegin 0\nat 0 doorway r number[1] 0\n\
-process 0: 1,0,0 (row 1,0,0 doorway unfinished), in the doorway, has read 1 of 2 numbers\nprocess 1: 0,0,0 (row 0,0,0 idle), outside\nprocess 2: 0,0,0 (row 0,0,0 idle), outside\ninside: nobody\n\
-process 0: 1,0,0 (row 1,0,0 doorway unfinished), in the doorway, has read 1 of 2 numbers\nprocess 1: 0,0,0 (row 0,0,0 idle), outside\nprocess 2: 0,0,0 (row 0,0,0 idle), outside\ninside: nobody\n\
-process 1 gets no answer by its own steps\n\
-at 1 rest r choosing 0\nat 1 rest r number 0\nat 1 rest r inside 0\nat 1 doorway w choosing=1\nbegin 1\nat 1 doorway r number[0] 0\nat 1 doorway r number[2] 0\nat 1 waiting w number=1\nready 1\nat 1 waiting w choosing=0\nat 1 waiting r choosing[0] 1\n\
-process 0: 1,0,0 (row 1,0,0 doorway unfinished), in the doorway, has read 1 of 2 numbers\nprocess 1: 0,1,0 (row 0,k,0 waiting), waits for process 0, which is in the doorway\nprocess 2: 0,0,0 (row 0,0,0 idle), outside\ninside: nobody\n\
-at 0 doorway r number[2] 0\n\
-process 0: 1,0,0 (row 1,0,0 doorway unfinished), in the doorway, has read 2 of 2 numbers\nprocess 1: 0,1,0 (row 0,k,0 waiting), waits for process 0, which is in the doorway\nprocess 2: 0,0,0 (row 0,0,0 idle), outside\ninside: nobody\n\
-at 0 waiting w number=1\nready 0\n\
-process 0: 1,1,0 (row 1,k,0 number taken), waits\nprocess 1: 0,1,0 (row 0,k,0 waiting), waits for process 0, which is in the doorway\nprocess 2: 0,0,0 (row 0,0,0 idle), outside\ninside: nobody\n\
-at 1 waiting r choosing[0] 1\n\
-process 0: 1,1,0 (row 1,k,0 number taken), waits\nprocess 1: 0,1,0 (row 0,k,0 waiting), waits for process 0, which is in the doorway\nprocess 2: 0,0,0 (row 0,0,0 idle), outside\ninside: nobody\n\
-at 1 dead\ncrash 1\n\
-process 0: 1,1,0 (row 1,k,0 number taken), waits\nprocess 1: 0,1,0 (row 0,k,0 waiting), crashed\nprocess 2: 0,0,0 (row 0,0,0 idle), outside\ninside: nobody\n\
-process 0: 1,1,0 (row 1,k,0 number taken), waits\nprocess 1: 0,1,0 (row 0,k,0 waiting), crashed\nprocess 2: 0,0,0 (row 0,0,0 idle), outside\ninside: nobody\n\
-at 1 dead r choosing 0\nat 1 dead r number 1\n\
-process 0: 1,1,0 (row 1,k,0 number taken), waits\nprocess 1: 0,1,0 (row 0,k,0 waiting), crashed, rereads its words\nprocess 2: 0,0,0 (row 0,0,0 idle), outside\ninside: nobody\n";
-
 #[test]
 fn it_says_where_each_stands(rt: HostRuntime) -> Result<(), Fail> {
-    let rows = [invoked("rmelab step", WAITS, WAITS_TOLD)];
-    all_come_to(&rt, rt.alloc(), &rows)
+    all_come_to(&rt, rt.alloc(), &[], IT_SAYS_WHERE_EACH_STANDS)
 }
 
-const SAVES: &str =
-    "rme 1 procs 2 limit 10 cap 1\nlock 1\nundo\nlock 0\nstep 0 2\nundo\nsave b.rme\n";
-
-const SAVES_TOLD: &str =
-    "process 0: 0,0,0 (row 0,0,0 idle), outside\nprocess 1: 0,0,0 (row 0,0,0 idle), outside\ninside: nobody\n\
-process 0: 0,0,0 (row 0,0,0 idle), outside\nprocess 1: 0,0,0 (row 0,0,0 idle), outside\ninside: nobody\n\
-process 0: 0,0,0 (row 0,0,0 idle), outside\nprocess 1: 0,0,0 (row 0,0,0 idle), outside\ninside: nobody\n\
-process 0: 0,0,0 (row 0,0,0 idle), outside\nprocess 1: 0,0,0 (row 0,0,0 idle), outside\ninside: nobody\n\
-at 0 rest r choosing 0\nat 0 rest r number 0\n\
-process 0: 0,0,0 (row 0,0,0 idle), outside\nprocess 1: 0,0,0 (row 0,0,0 idle), outside\ninside: nobody\n\
-process 0: 0,0,0 (row 0,0,0 idle), outside\nprocess 1: 0,0,0 (row 0,0,0 idle), outside\ninside: nobody\nsaved\n";
-
-/// A session over the header alone that saves, in a folder where that fails.
-const UNSAVED: &str = "rme 1 procs 2 limit 10 cap 1\nsave b.rme\nundo\n";
-
-const UNSAVED_TOLD: &str =
-    "process 0: 0,0,0 (row 0,0,0 idle), outside\nprocess 1: 0,0,0 (row 0,0,0 idle), outside\ninside: nobody\nnot saved\nnothing to undo\n";
+const A_SESSION_IS_SAVED: &str = "
+@row rmelab step @in
+rme 1 procs 2 limit 10 cap 1
+lock 1
+undo
+lock 0
+step 0 2
+undo
+save b.rme
+@out
+process 0: 0,0,0 (row 0,0,0 idle), outside
+process 1: 0,0,0 (row 0,0,0 idle), outside
+inside: nobody
+process 0: 0,0,0 (row 0,0,0 idle), outside
+process 1: 0,0,0 (row 0,0,0 idle), outside
+inside: nobody
+process 0: 0,0,0 (row 0,0,0 idle), outside
+process 1: 0,0,0 (row 0,0,0 idle), outside
+inside: nobody
+process 0: 0,0,0 (row 0,0,0 idle), outside
+process 1: 0,0,0 (row 0,0,0 idle), outside
+inside: nobody
+at 0 rest r choosing 0
+at 0 rest r number 0
+process 0: 0,0,0 (row 0,0,0 idle), outside
+process 1: 0,0,0 (row 0,0,0 idle), outside
+inside: nobody
+process 0: 0,0,0 (row 0,0,0 idle), outside
+process 1: 0,0,0 (row 0,0,0 idle), outside
+inside: nobody
+saved
+@saves b.rme
+rme 1 procs 2 limit 10 cap 1
+lock 0
+@row rmelab step @in UNSAVED @fails file @out UNSAVED_TOLD
+@row rmelab step @in UNSAVED @fails file-memory @out UNSAVED_TOLD
+";
 
 #[test]
 fn a_session_is_saved(rt: HostRuntime) -> Result<(), Fail> {
-    let alloc = rt.alloc();
-    let kept = "rme 1 procs 2 limit 10 cap 1\nlock 0\n";
-    let rows = [
-        invoked("rmelab step", SAVES, SAVES_TOLD).saves("b.rme", kept),
-        invoked("rmelab step", UNSAVED, UNSAVED_TOLD).where_fails(Failing::File),
-        invoked("rmelab step", UNSAVED, UNSAVED_TOLD).where_fails(Failing::FileMemory),
-    ];
-    for row in &rows {
-        comes_to(&rt, alloc, Ok(words_of(alloc, row.line)?), row)?;
-    }
-    Ok(())
+    program_comes_to(&rt, rt.alloc(), &[TEXTS], A_SESSION_IS_SAVED)
 }
+
+const SESSIONS_OVER_DEVICES_THAT_FAIL: &str = "
+@row rmelab step @in HEADED @fails read @out AT_REST @ends 3 @err UNREAD
+@row rmelab step @in HEADED @fails write @ends 3 @err UNWRITTEN
+@row rmelab step @in HEADED @fails flush @out AT_REST @ends 3 @err UNWRITTEN
+@row rmelab step a.rme @file a.rme HEADED @fails file-read @ends 3 @err UNREAD
+";
 
 #[test]
 fn sessions_over_devices_that_fail(rt: HostRuntime) -> Result<(), Fail> {
-    let rows = [
-        invoked("rmelab step", HEADED, AT_REST)
-            .where_fails(Failing::Read)
-            .ends(3, "rmelab: read failed\n"),
-        invoked("rmelab step", HEADED, "")
-            .where_fails(Failing::Write)
-            .ends(3, "rmelab: write failed\n"),
-        invoked("rmelab step", HEADED, AT_REST)
-            .where_fails(Failing::Flush)
-            .ends(3, "rmelab: write failed\n"),
-        invoked("rmelab step a.rme", "", "")
-            .beside(("a.rme", HEADED))
-            .where_fails(Failing::FileRead)
-            .ends(3, "rmelab: read failed\n"),
-    ];
-    all_come_to(&rt, rt.alloc(), &rows)
+    all_come_to(&rt, rt.alloc(), &[TEXTS], SESSIONS_OVER_DEVICES_THAT_FAIL)
 }
+
+const A_SESSION_HELPS: &str = "
+@row rmelab step @in
+rme 1 procs 2 limit 10 cap 1
+help
+quit
+lock 0
+@out
+process 0: 0,0,0 (row 0,0,0 idle), outside
+process 1: 0,0,0 (row 0,0,0 idle), outside
+inside: nobody
+a line of a schedule: lock P, step P K, crash P, unlock P, recover P, withdraw P
+                      of the built-in lock also: consistent P, append P SEQ VALUE, ..
+undo         go back to before the last line
+redo         take the line again that was undone last
+to answer P  take steps of P until its call is answered
+save FILE    write the schedule so far to a file, for replay
+help, quit
+";
 
 #[test]
 fn a_session_helps(rt: HostRuntime) -> Result<(), Fail> {
-    let asked = "rme 1 procs 2 limit 10 cap 1\nhelp\nquit\nlock 0\n";
-    let told =
-        "process 0: 0,0,0 (row 0,0,0 idle), outside\nprocess 1: 0,0,0 (row 0,0,0 idle), outside\ninside: nobody\na line of a schedule: lock P, step P K, crash P, unlock P, recover P, withdraw P\n                      of the built-in lock also: consistent P, append P SEQ VALUE, ..\nundo         go back to before the last line\nredo         take the line again that was undone last\nto answer P  take steps of P until its call is answered\nsave FILE    write the schedule so far to a file, for replay\nhelp, quit\n";
-    let rows = [invoked("rmelab step", asked, told)];
-    all_come_to(&rt, rt.alloc(), &rows)
+    all_come_to(&rt, rt.alloc(), &[], A_SESSION_HELPS)
 }

@@ -1,72 +1,82 @@
 //! Texts that aren't schedules, and schedules whose first line or step is refused.
 
-use crate::support::invocation::prints;
+use crate::support::invocation::all_come_to;
 use std::test::Fail;
 
-const HOSTILE: [(&str, &str); 15] = [
-    ("", "rmelab: line 1: fault 1\n"),
-    (
-        "rme 1 procs 2 limit 10 cap 1\nlock 0",
-        "rmelab: line 2: fault 5\n",
-    ),
-    (
-        "rme 1 procs 2 limit 10 cap 1\nlok 0\n",
-        "rmelab: line 2: fault 2\n",
-    ),
-    (
-        "rme 1 procs 2 limit 10 cap 1\nlock 01\n",
-        "rmelab: line 2: fault 3\n",
-    ),
-    (
-        "rme 1 procs 2 limit 10 cap 1\nlock\n",
-        "rmelab: line 2: fault 3\n",
-    ),
-    (
-        "rme 1 procs 2 limit 10 cap 1\nstep 0 1\n",
-        "rmelab: line 2: fault 3\n",
-    ),
-    (
-        "rme 1 procs 2 limit 10 cap 1\nappend 0 1 18446744073709551616\n",
-        "rmelab: line 2: fault 4\n",
-    ),
-    (
-        "rme 1 procs 2 limit 10 cap 1\nstep 0 1000001\n",
-        "rmelab: line 2: fault 4\n",
-    ),
-    (
-        "rme 1 procs 2 limit 10 cap 1\nlock 0 0\n",
-        "rmelab: line 2: fault 6\n",
-    ),
-    (
-        "rme 1 procs 2 limit 10 cap 1\nlock 0 \n",
-        "rmelab: line 2: fault 6\n",
-    ),
-    (
-        "rme 1 procs 2 limit 10 cap 1\nstep 0 \n",
-        "rmelab: line 2: fault 3\n",
-    ),
-    (
-        "rme 1 procs 2 limit 10 cap 1\nstep 2\n",
-        "rmelab: line 2: refused 3\n",
-    ),
-    (
-        "rme 1 procs 2 limit 10 cap 1\nstep 0\n",
-        "rmelab: line 2: refused 7\n",
-    ),
-    (
-        "rme 1 procs 2 limit 10 cap 1\nget 0 4\n",
-        "rmelab: line 2: refused 5\n",
-    ),
-    (
-        "rme 1 procs 65 limit 10 cap 1\n",
-        "rmelab: line 1: refused 1\n",
-    ),
-];
+const HOSTILE_TEXTS: &str = "
+@row rmelab replay @ends 2 @err
+rmelab: line 1: fault 1
+@row rmelab replay @ends 2 @in
+rme 1 procs 2 limit 10 cap 1
+lock 0@err
+rmelab: line 2: fault 5
+@row rmelab replay @ends 2 @in
+rme 1 procs 2 limit 10 cap 1
+lok 0
+@err
+rmelab: line 2: fault 2
+@row rmelab replay @ends 2 @in
+rme 1 procs 2 limit 10 cap 1
+lock 01
+@err
+rmelab: line 2: fault 3
+@row rmelab replay @ends 2 @in
+rme 1 procs 2 limit 10 cap 1
+lock
+@err
+rmelab: line 2: fault 3
+@row rmelab replay @ends 2 @in
+rme 1 procs 2 limit 10 cap 1
+step 0 1
+@err
+rmelab: line 2: fault 3
+@row rmelab replay @ends 2 @in
+rme 1 procs 2 limit 10 cap 1
+append 0 1 18446744073709551616
+@err
+rmelab: line 2: fault 4
+@row rmelab replay @ends 2 @in
+rme 1 procs 2 limit 10 cap 1
+step 0 1000001
+@err
+rmelab: line 2: fault 4
+@row rmelab replay @ends 2 @in
+rme 1 procs 2 limit 10 cap 1
+lock 0 0
+@err
+rmelab: line 2: fault 6
+@row rmelab replay @ends 2 @in
+rme 1 procs 2 limit 10 cap 1
+lock 0 
+@err
+rmelab: line 2: fault 6
+@row rmelab replay @ends 2 @in
+rme 1 procs 2 limit 10 cap 1
+step 0 
+@err
+rmelab: line 2: fault 3
+@row rmelab replay @ends 2 @in
+rme 1 procs 2 limit 10 cap 1
+step 2
+@err
+rmelab: line 2: refused 3
+@row rmelab replay @ends 2 @in
+rme 1 procs 2 limit 10 cap 1
+step 0
+@err
+rmelab: line 2: refused 7
+@row rmelab replay @ends 2 @in
+rme 1 procs 2 limit 10 cap 1
+get 0 4
+@err
+rmelab: line 2: refused 5
+@row rmelab replay @ends 2 @in
+rme 1 procs 65 limit 10 cap 1
+@err
+rmelab: line 1: refused 1
+";
 
 #[test]
 fn hostile_texts(rt: HostRuntime) -> Result<(), Fail> {
-    for (input, line) in HOSTILE {
-        prints(&rt, rt.alloc(), "rmelab replay", input, "", line, 2)?;
-    }
-    Ok(())
+    all_come_to(&rt, rt.alloc(), &[], HOSTILE_TEXTS)
 }

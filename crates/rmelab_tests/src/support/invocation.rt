@@ -1,9 +1,11 @@
-//! Runs the program as a row says, over a folder in memory and devices that may fail, and compares its whole output.
+//! Runs the program as the rows of a script say, over a folder in memory and devices that may fail, and compares its whole
+//! output.
 
 use crate::support::alone::comes_to_alone;
 use crate::support::devices::{Feed, Paper, Ticking};
 use crate::support::fake::{Failing, Fake};
-use crate::support::row::{ProgramRow, invoked};
+use crate::support::row::ProgramRow;
+use crate::support::wanting::wants;
 use cli::arguments::words::WordsFault;
 use commands::Terminal;
 use commands::program::run_program;
@@ -85,13 +87,31 @@ pub fn printed_by(
     }
 }
 
-/// Fails the test, unless the invocation has written this to this place.
-pub(crate) fn wrote(line: &str, place: &str, found: &[u8], wanted: &str) -> Result<(), Fail> {
-    if found == wanted.as_bytes() {
-        return Ok(());
+/// Fails the test, unless each place has what is wanted there.
+pub fn all_written(line: &str, places: &[(&str, &[u8], &str)]) -> Result<(), Fail> {
+    for (place, found, wanted) in places {
+        if *found != wanted.as_bytes() {
+            let found = str::from_utf8(found).unwrap_or("no text");
+            return Err(Fail::new(format_args!("{line}: {place}: {found}")));
+        }
     }
-    let found = str::from_utf8(found).unwrap_or("no text");
-    Err(Fail::new(format_args!("{line}: {place}: {found}")))
+    Ok(())
+}
+
+/// Compares the whole output with what the row says.
+fn is_as_expected(found: &Printed, row: &ProgramRow<'_>) -> Result<(), Fail> {
+    let (name, save) = row.saved;
+    let places = [
+        ("standard output", found.out.as_slice(), row.printed),
+        ("standard error", found.err.as_slice(), row.told),
+        ("the terminal", found.shown.as_slice(), row.shown),
+        ("the saved file's name", found.name.as_bytes(), name),
+        ("the saved file", found.save.as_slice(), save),
+    ];
+    if found.code != ExitCode::from(row.status) {
+        return Err(Fail::new(format_args!("{}: {:?}", row.line, found.code)));
+    }
+    all_written(row.line, &places)
 }
 
 /// Runs the program on these words, and otherwise as the row says, and compares its whole output.
@@ -101,58 +121,103 @@ pub fn comes_to(
     words: Result<Vec<String>, WordsFault>,
     row: &ProgramRow<'_>,
 ) -> Result<(), Fail> {
-    let line = row.line;
     let found = printed_by(rt, alloc, words, row);
-    wrote(line, "standard output", &found.out, row.printed)?;
-    wrote(line, "standard error", &found.err, row.told)?;
-    wrote(line, "the terminal", &found.shown, row.shown)?;
-    wrote(
-        line,
-        "the saved file's name",
-        found.name.as_bytes(),
-        row.saved.0,
-    )?;
-    wrote(line, "the saved file", &found.save, row.saved.1)?;
-    if found.code != ExitCode::from(row.status) {
-        return Err(Fail::new(format_args!("{line}: {:?}", found.code)));
+    is_as_expected(&found, row)
+}
+
+/// How a row is played.
+#[derive(Clone, Copy, PartialEq, Eq)]
+enum Manner {
+    /// The program is run.
+    Program,
+    /// The program is run; and so are `read_words` and `command` alone.
+    ProgramAndCommand,
+    /// The program is run, and each request for memory is refused in turn.
+    WithoutMemory,
+}
+
+fn is_played(
+    rt: &(impl Threads + Wait + Sync),
+    alloc: Global,
+    row: &ProgramRow<'_>,
+    manner: Manner,
+) -> Result<(), Fail> {
+    if manner == Manner::WithoutMemory {
+        return wants(rt, alloc, row);
+    }
+    comes_to(rt, alloc, Ok(words_of(alloc, row.line)?), row)?;
+    if manner == Manner::Program {
+        return Ok(());
+    }
+    comes_to_alone(rt, alloc, row)
+}
+
+/// Plays each row of the script. The names in it are those of these scripts of texts.
+fn all_are_played<'a>(
+    rt: &(impl Threads + Wait + Sync),
+    alloc: Global,
+    texts: &[&'a str],
+    rows: &'a str,
+    manner: Manner,
+) -> Result<(), Fail> {
+    let (_, rows) = rows.split_once("@row ").ok_or("no row")?;
+    for script in rows.split("@row ") {
+        let Some(row) = ProgramRow::read(script, texts) else {
+            return Err(Fail::new(format_args!("no row: {script}")));
+        };
+        is_played(rt, alloc, &row, manner)?;
     }
     Ok(())
 }
 
-/// Runs the program as each of the rows says, and compares its whole output; and so `read_words` and `command` alone.
+/// Runs the program as each row says, and compares its whole output; and so `read_words` and `command` alone.
 pub fn all_come_to(
     rt: &(impl Threads + Wait + Sync),
     alloc: Global,
-    rows: &[ProgramRow<'_>],
+    texts: &[&str],
+    rows: &str,
 ) -> Result<(), Fail> {
-    for row in rows {
-        comes_to(rt, alloc, Ok(words_of(alloc, row.line)?), row)?;
-        comes_to_alone(rt, alloc, row)?;
-    }
-    Ok(())
+    all_are_played(rt, alloc, texts, rows, Manner::ProgramAndCommand)
 }
 
-/// Runs the program, and compares what it prints and its status.
-pub fn prints<'a>(
+/// Runs the program alone as each row says, and compares its whole output.
+pub fn program_comes_to(
+    rt: &(impl Threads + Wait + Sync),
+    alloc: Global,
+    texts: &[&str],
+    rows: &str,
+) -> Result<(), Fail> {
+    all_are_played(rt, alloc, texts, rows, Manner::Program)
+}
+
+/// Each request for memory of each of the rows is refused in turn.
+pub fn all_want_memory(
+    rt: &(impl Threads + Wait + Sync),
+    alloc: Global,
+    texts: &[&str],
+    rows: &str,
+) -> Result<(), Fail> {
+    all_are_played(rt, alloc, texts, rows, Manner::WithoutMemory)
+}
+
+/// What the program prints on these words over this input, in a folder where `a.lock` is this text. It has to end with this
+/// status.
+pub fn output_of<'a>(
     rt: &(impl Threads + Wait + Sync),
     alloc: Global,
     line: &'a str,
-    input: &'a str,
-    out: &'a str,
-    err: &'a str,
+    lock: &'a str,
+    input: &'a [u8],
     status: u8,
-) -> Result<(), Fail> {
-    all_come_to(rt, alloc, &[invoked(line, input, out).ends(status, err)])
-}
-
-/// Runs the program with these words over this input, in a folder where `a.json` is this image.
-pub fn ran<'a>(
-    rt: &(impl Threads + Wait + Sync),
-    alloc: Global,
-    line: &'a str,
-    image: &'a str,
-    input: &'a str,
-) -> Result<Printed, AllocError> {
-    let row = invoked(line, input, "").beside(("a.json", image));
-    Ok(printed_by(rt, alloc, Ok(words_of(alloc, line)?), &row))
+) -> Result<Vec<u8>, Fail> {
+    let row = ProgramRow {
+        input: str::from_utf8(input)?,
+        files: [("", ""), ("a.lock", lock)],
+        ..ProgramRow::new(line)
+    };
+    let found = printed_by(rt, alloc, Ok(words_of(alloc, line)?), &row);
+    if found.code != ExitCode::from(status) {
+        return Err(Fail::new(format_args!("{line}: {:?}", found.code)));
+    }
+    Ok(found.out)
 }

@@ -1,4 +1,9 @@
-//! A row: an invocation, and the output that is expected.
+//! A row: an invocation, and the output that is expected. A script is a text of rows.
+//!
+//! A row begins with `@row` and the words of the command line. Its parts follow, in any order: `@in` is standard input, `@out`
+//! and `@err` what is written to the two outputs, `@shown` what a terminal shows, `@file NAME` one of two files in the folder,
+//! `@saves NAME` the file that is written, `@fails DEVICE` the device that fails, and `@ends` the exit status. The text of a
+//! part is what follows its line, or its name is in that line: a script of texts has `@text NAME` before each.
 
 use crate::support::fake::Failing;
 
@@ -6,75 +11,138 @@ use crate::support::fake::Failing;
 #[derive(Clone, Copy)]
 pub struct ProgramRow<'a> {
     pub line: &'a str,
-    pub(crate) input: &'a str,
-    pub(crate) files: [(&'a str, &'a str); 2],
-    pub(crate) failing: Failing,
-    pub(crate) is_terminal: bool,
-    pub(crate) shown: &'a str,
-    pub(crate) printed: &'a str,
-    pub(crate) told: &'a str,
-    pub(crate) saved: (&'a str, &'a str),
-    pub(crate) status: u8,
+    pub input: &'a str,
+    pub files: [(&'a str, &'a str); 2],
+    pub failing: Failing,
+    pub is_terminal: bool,
+    pub shown: &'a str,
+    pub printed: &'a str,
+    pub told: &'a str,
+    pub saved: (&'a str, &'a str),
+    pub status: u8,
 }
 
-/// With these words and this standard input, this is printed.
-pub fn invoked<'a>(line: &'a str, input: &'a str, printed: &'a str) -> ProgramRow<'a> {
-    ProgramRow {
-        line,
-        input,
-        files: [("", ""); 2],
-        failing: Failing::Nothing,
-        is_terminal: false,
-        shown: "",
-        printed,
-        told: "",
-        saved: ("", ""),
-        status: 0,
+/// Takes the text before the separator off the front. Without a separator it takes all.
+fn cut<'a>(text: &mut &'a str, separator: &str) -> &'a str {
+    let (part, rest) = text.split_once(separator).unwrap_or((text, ""));
+    *text = rest;
+    part
+}
+
+/// The text with this name, in one of these scripts of texts.
+pub fn text_named<'a>(texts: &[&'a str], name: &str) -> Option<&'a str> {
+    for script in texts {
+        for definition in script.split("@text ") {
+            let mut text = definition;
+            if cut(&mut text, "\n") == name {
+                return Some(text);
+            }
+        }
     }
+    None
+}
+
+const DEVICES: [(&str, Failing); 8] = [
+    ("read", Failing::Read),
+    ("write", Failing::Write),
+    ("flush", Failing::Flush),
+    ("err", Failing::Told),
+    ("shown", Failing::Shown),
+    ("file", Failing::File),
+    ("file-memory", Failing::FileMemory),
+    ("file-read", Failing::FileRead),
+];
+
+/// The device with this name.
+fn device_named(name: &str) -> Option<Failing> {
+    for (known, device) in DEVICES {
+        if known == name {
+            return Some(device);
+        }
+    }
+    None
+}
+
+/// An exit status of the program.
+fn status_named(name: &str) -> Option<u8> {
+    for (known, status) in [("0", 0), ("1", 1), ("2", 2), ("3", 3)] {
+        if known == name {
+            return Some(status);
+        }
+    }
+    None
 }
 
 impl<'a> ProgramRow<'a> {
-    /// In a folder with these two files.
-    pub fn among(self, first: (&'a str, &'a str), second: (&'a str, &'a str)) -> ProgramRow<'a> {
+    /// With these words nothing is expected, and nothing is there to be read.
+    pub fn new(line: &'a str) -> ProgramRow<'a> {
         ProgramRow {
-            files: [first, second],
-            ..self
+            line,
+            input: "",
+            files: [("", ""); 2],
+            failing: Failing::Nothing,
+            is_terminal: false,
+            shown: "",
+            printed: "",
+            told: "",
+            saved: ("", ""),
+            status: 0,
         }
     }
 
-    /// In a folder with this file.
-    pub fn beside(self, first: (&'a str, &'a str)) -> ProgramRow<'a> {
-        self.among(first, ("", ""))
-    }
-
-    /// While this device fails.
-    pub fn where_fails(self, failing: Failing) -> ProgramRow<'a> {
-        ProgramRow { failing, ..self }
-    }
-
-    /// Standard error is a terminal, on which this is shown.
-    pub fn shows(self, shown: &'a str) -> ProgramRow<'a> {
-        ProgramRow {
-            is_terminal: true,
-            shown,
-            ..self
+    /// Reads a row, from its words on. None: it has no parts, or one that is unknown.
+    pub fn read(script: &'a str, texts: &[&'a str]) -> Option<ProgramRow<'a>> {
+        let mut rest = script;
+        let words = cut(&mut rest, "@");
+        let mut row = ProgramRow::new(words.strip_suffix(" ").unwrap_or(words));
+        for part in rest.split("@") {
+            row.set(part, texts)?;
         }
+        Some(row)
     }
 
-    /// The file with this name is written.
-    pub fn saves(self, name: &'a str, text: &'a str) -> ProgramRow<'a> {
-        ProgramRow {
-            saved: (name, text),
-            ..self
+    /// Sets a part of the row.
+    fn set(&mut self, part: &'a str, texts: &[&'a str]) -> Option<()> {
+        let (head, body) = part.split_once("\n").unwrap_or((part, ""));
+        let mut names = head.trim();
+        let word = cut(&mut names, " ");
+        if word == "ends" {
+            self.status = status_named(names)?;
+            return Some(());
         }
+        if word == "fails" {
+            self.failing = device_named(names)?;
+            return Some(());
+        }
+        let is_file = word == "file" || word == "saves";
+        let file = if is_file { cut(&mut names, " ") } else { "" };
+        let text = if names.is_empty() {
+            body
+        } else {
+            text_named(texts, names)?
+        };
+        self.set_text(word, file, text)
     }
 
-    /// It ends with this exit status, and with this on standard error.
-    pub fn ends(self, status: u8, told: &'a str) -> ProgramRow<'a> {
-        ProgramRow {
-            status,
-            told,
-            ..self
+    /// Sets a part that is a text.
+    fn set_text(&mut self, word: &str, file: &'a str, text: &'a str) -> Option<()> {
+        if word == "in" {
+            self.input = text;
+        } else if word == "out" {
+            self.printed = text;
+        } else if word == "err" {
+            self.told = text;
+        } else if word == "shown" {
+            self.is_terminal = true;
+            self.shown = text;
+        } else if word == "saves" {
+            self.saved = (file, text);
+        } else if word == "file" {
+            let [_, last] = self.files;
+            self.files = [last, (file, text)];
+        } else {
+            return None;
         }
+        Some(())
     }
 }

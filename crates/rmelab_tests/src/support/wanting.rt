@@ -48,54 +48,60 @@ fn ends(
     )
 }
 
-/// Fails the test of this row, unless the condition holds.
-fn check(holds: bool, line: &str, what: &str) -> Result<(), Fail> {
-    if holds {
-        return Ok(());
+/// Whether the program meets a refusal. Then it reports that it is out of memory, and ends with 3. Else its output is what the
+/// row says.
+fn meets_a_refusal(
+    rt: &(impl Threads + Wait + Sync),
+    alloc: Global,
+    words: Vec<String>,
+    row: &ProgramRow<'_>,
+) -> Result<bool, Fail> {
+    let mut out = [0; 2048];
+    let mut err = [0; 256];
+    let code = ends(rt, alloc, words, row, &mut out, &mut err);
+    let is_refused = code == ExitCode::from(3);
+    let is_so = if is_refused {
+        err.starts_with(b"rmelab: out of memory\n\0")
+    } else {
+        out.starts_with(row.printed.as_bytes())
+            && err.starts_with(row.told.as_bytes())
+            && err.get(row.told.len()) == Some(&0)
+            && code == ExitCode::from(row.status)
+    };
+    if is_so {
+        return Ok(is_refused);
     }
-    Err(Fail::new(format_args!("{line}: {what}")))
+    Err(Fail::new(format_args!("{}: {code:?}", row.line)))
 }
 
-/// The program reports that it is out of memory and ends with 3, until it meets no refusal. Then its output is what the row
-/// says.
-fn wants(
+/// The number of requests of the program that are refused until it meets no refusal. As many as there are pieces: it always
+/// does.
+fn refusals(
+    rt: &(impl Threads + Wait + Sync),
+    alloc: Global,
+    row: &ProgramRow<'_>,
+) -> Result<usize, Fail> {
+    let mut all = all_words(alloc, row.line)?;
+    let mut scarce_memory = ScarceMemory::new(alloc)?;
+    for refused in 0..PIECES {
+        let words = all.pop().unwrap_or(Vec::new(alloc));
+        if !meets_a_refusal(rt, alloc, words, row)? {
+            return Ok(refused);
+        }
+        scarce_memory.give_back();
+    }
+    Ok(PIECES)
+}
+
+/// Each request for memory of the row is refused in turn: it has some, and at the end it meets no refusal.
+pub fn wants(
     rt: &(impl Threads + Wait + Sync),
     alloc: Global,
     row: &ProgramRow<'_>,
 ) -> Result<(), Fail> {
-    let line = row.line;
-    let mut all = all_words(alloc, line)?;
-    let mut scarce_memory = ScarceMemory::new(alloc)?;
-    let mut refused = 0u64;
-    for _ in 0..PIECES {
-        let words = all.pop().unwrap_or(Vec::new(alloc));
-        let mut out = [0; 2048];
-        let mut err = [0; 256];
-        let code = ends(rt, alloc, words, row, &mut out, &mut err);
-        if code != ExitCode::from(3) {
-            let whole = out.starts_with(row.printed.as_bytes())
-                && err.starts_with(row.told.as_bytes());
-            let ended = err.get(row.told.len()) == Some(&0) && code == ExitCode::from(row.status);
-            check(whole && ended, line, "printed")?;
-            break;
-        }
-        let told = err.starts_with(b"rmelab: out of memory\n\0");
-        check(told && code == ExitCode::from(3), line, "told")?;
-        refused = refused.saturating_add(1);
-        scarce_memory.give_back();
+    let refused = refusals(rt, alloc, row)?;
+    if 0 < refused && refused < PIECES {
+        return Ok(());
     }
-    scarce_memory.end();
-    check(0 < refused && refused < PIECES as u64, line, "refused")
-}
-
-/// Each request for memory of each of the rows is refused in turn.
-pub fn all_want_memory(
-    rt: &(impl Threads + Wait + Sync),
-    alloc: Global,
-    rows: &[ProgramRow<'_>],
-) -> Result<(), Fail> {
-    for row in rows {
-        wants(rt, alloc, row)?;
-    }
-    Ok(())
+    Err(Fail::new(format_args!("{}: {refused} refused", row.line)))
 }

@@ -1,0 +1,215 @@
+//! Hunts, drawings and least schedules of algorithms: what they write, and what is refused.
+
+use crate::searches::algorithms::algorithm_texts;
+use crate::support::invocation::{all_come_to, output_of, program_comes_to};
+use algorithms_tests::texts::others;
+use std::alloc::Global;
+use std::sync::Wait;
+use std::test::Fail;
+use std::thread::Threads;
+
+/// `ALONE`: a process that enters and leaves, alone; its report and its drawing, on Peterson's lock. Without a promise of order
+/// the deeds before the entry are heard with it. `SESSION`: a session on a test that is no lock. `HEADED`: one with the header
+/// alone.
+pub const TEXTS: &str = "
+@text ALONE
+rme 1 procs 2 limit 1 cap 1
+lock 0
+step 0 3
+unlock 0
+step 0
+@text BAD_SIZE
+rmelab: bad size
+@text ALONE_DRAWN
+0                         1                         |
+. w flag[0]=1             .                         |
+. w turn=1                .                         |
+# r flag[1] 0             .                         | begin 0
+#                         .                         | ready 0
+#                         .                         | enter 0
+#                         .                         | answer 0 done
+. w flag[0]=0             .                         | leave 0
+.                         .                         | answer 0 done
+verdict fine
+. rest  : doorway  | waiting  # section  x crash
+@text SESSION
+rme 1 procs 2 limit 4 cap 1
+lock 0
+step 0 2
+lock 2
+undo
+quit
+undo
+@text HELD
+process 0: outside, no call
+process 1: outside, no call
+process 0: outside, before line 8
+process 1: outside, no call
+at 0 rest r held 0
+at 0 section w held=1
+begin 0
+ready 0
+enter 0
+answer 0 done
+process 0: inside, no call
+process 1: outside, no call
+words held 1
+line 4: refused 3
+process 0: outside, before line 8
+process 1: outside, no call
+@text UNREAD
+rmelab: read failed
+@text UNWRITTEN
+rmelab: write failed
+@text HEADED
+rme 1 procs 2 limit 1 cap 1
+@text AT_REST
+process 0: outside, no call
+process 1: outside, no call
+@text BAD_VARIANT
+rmelab: bad variant
+@text NO_PAGE
+error: with '--algorithm <FILE>' there is no '--html'
+
+For more information, try '--help'.
+@text ALONE_TOLD
+begin 0
+ready 0
+enter 0
+answer 0 done
+leave 0
+answer 0 done
+words flag 0 0
+words turn 1
+verdict fine
+";
+
+/// What a hunt finds is made least, and both go wrong in a replay.
+fn is_made_least(
+    rt: &(impl Threads + Wait + Sync),
+    alloc: Global,
+    text: &[u8],
+) -> Result<bool, Fail> {
+    let text = str::from_utf8(text)?;
+    let hunt = "rmelab hunt --algorithm a.lock --seed 1 --rounds 1000 --steps 100";
+    let replay = "rmelab replay --algorithm a.lock";
+    let found = output_of(rt, alloc, hunt, text, b"", 1)?;
+    output_of(rt, alloc, replay, text, &found, 1)?;
+    let least = output_of(
+        rt,
+        alloc,
+        "rmelab shrink --algorithm a.lock",
+        text,
+        &found,
+        1,
+    )?;
+    output_of(rt, alloc, replay, text, &least, 1)?;
+    Ok(least.len() < found.len())
+}
+
+#[test]
+fn hunted_schedules_are_made_least(rt: HostRuntime) -> Result<(), Fail> {
+    for text in [others::ONE_WORD, others::PETERSON] {
+        assert!(rt; is_made_least(&rt, rt.alloc(), text)?);
+    }
+    Ok(())
+}
+
+const COMMANDS_ON_AN_ALGORITHM: &str = "
+@row rmelab hunt --algorithm a.lock --seed 1 --rounds 1 --steps 3 --jobs 4 @file a.lock PETERSON @file b.rme ALONE @out
+nothing found
+@row rmelab hunt --algorithm a.lock --procs 3 --seed 1 --rounds 1 --steps 3 @file a.lock PETERSON @file b.rme ALONE @ends 2 @err BAD_SIZE
+@row rmelab shrink --algorithm a.lock b.rme @file a.lock PETERSON @file b.rme ALONE @out
+verdict fine
+@row rmelab shrink --algorithm a.lock @file a.lock PETERSON @file b.rme ALONE @ends 2 @in
+rme 1 procs 2 limit 1 cap 1
+recover 0
+@err
+rmelab: line 2: refused 17
+@row rmelab draw --algorithm a.lock b.rme @file a.lock PETERSON @file b.rme ALONE @out ALONE_DRAWN
+@row rmelab draw --algorithm a.lock @file a.lock PETERSON @file b.rme ALONE @ends 2 @in
+rme 1 procs 3 limit 1 cap 1
+@err
+rmelab: line 1: refused 1
+@row rmelab step --algorithm a.lock @in SESSION @file a.lock ONE_WORD @out HELD
+";
+
+#[test]
+fn commands_on_an_algorithm(rt: HostRuntime) -> Result<(), Fail> {
+    let algorithms = algorithm_texts(rt.alloc())?;
+    all_come_to(
+        &rt,
+        rt.alloc(),
+        &[algorithms.as_str(), TEXTS],
+        COMMANDS_ON_AN_ALGORITHM,
+    )
+}
+
+const COMMANDS_ON_AN_ALGORITHM_THAT_FAIL: &str = "
+@row rmelab hunt --algorithm a.lock --seed 1 --rounds 1 --steps 3 @in ALONE @file a.lock HIDDEN @ends 2 @err
+rmelab: algorithm line 6: fault 7: a second access in one line
+@row rmelab hunt --algorithm a.lock --seed 1 --rounds 1 --steps 3 @in ALONE @ends 3 @err UNREAD
+@row rmelab hunt --algorithm a.lock --seed 1 --rounds 1 --steps 3 @in ALONE @file a.lock PETERSON @fails file-read @ends 3 @err UNREAD
+@row rmelab hunt --algorithm a.lock --seed 1 --rounds 1 --steps 3 @in ALONE @file a.lock PETERSON @fails write @ends 3 @err UNWRITTEN
+@row rmelab draw --algorithm a.lock @in ALONE @file a.lock HIDDEN @ends 2 @err
+rmelab: algorithm line 6: fault 7: a second access in one line
+@row rmelab draw --algorithm a.lock @in ALONE @ends 3 @err UNREAD
+@row rmelab draw --algorithm a.lock @in ALONE @file a.lock PETERSON @fails file-read @ends 3 @err UNREAD
+@row rmelab draw --algorithm a.lock @in ALONE @file a.lock PETERSON @fails write @ends 3 @err UNWRITTEN
+@row rmelab shrink --algorithm a.lock @in ALONE @file a.lock HIDDEN @ends 2 @err
+rmelab: algorithm line 6: fault 7: a second access in one line
+@row rmelab shrink --algorithm a.lock @in ALONE @ends 3 @err UNREAD
+@row rmelab shrink --algorithm a.lock @in ALONE @file a.lock PETERSON @fails file-read @ends 3 @err UNREAD
+@row rmelab shrink --algorithm a.lock @in ALONE @file a.lock PETERSON @fails write @ends 3 @err UNWRITTEN
+@row rmelab step --algorithm a.lock @in ALONE @file a.lock HIDDEN @ends 2 @err
+rmelab: algorithm line 6: fault 7: a second access in one line
+@row rmelab step --algorithm a.lock @in ALONE @ends 3 @err UNREAD
+@row rmelab step --algorithm a.lock @in ALONE @file a.lock PETERSON @fails file-read @ends 3 @err UNREAD
+@row rmelab step --algorithm a.lock @in ALONE @file a.lock PETERSON @fails write @ends 3 @err UNWRITTEN
+@row rmelab step --algorithm a.lock @in HEADED @file a.lock PETERSON @fails read @out AT_REST @ends 3 @err UNREAD
+@row rmelab step --algorithm a.lock @in HEADED @file a.lock PETERSON @fails flush @out AT_REST @ends 3 @err UNWRITTEN
+";
+
+/// A text at fault, a file that can't be read, and a device that fails.
+#[test]
+fn commands_on_an_algorithm_that_fail(rt: HostRuntime) -> Result<(), Fail> {
+    let algorithms = algorithm_texts(rt.alloc())?;
+    program_comes_to(
+        &rt,
+        rt.alloc(),
+        &[algorithms.as_str(), TEXTS],
+        COMMANDS_ON_AN_ALGORITHM_THAT_FAIL,
+    )
+}
+
+const WORDS_OF_NO_ALGORITHM: &str = "
+@row rmelab hunt --seed 1 --rounds 0 --steps 1 --algorithm a.lock --variant right @ends 2 @err BAD_VARIANT
+@row rmelab hunt --seed 1 --rounds 0 --steps 1 --algorithm a.lock @ends 2 @err BAD_SIZE
+@row rmelab hunt --seed 1 --rounds 1 --steps 1 --variant right --limit 4 @ends 2 @err BAD_SIZE
+@row rmelab hunt --seed 1 --rounds 0 --steps 1 --algorithm a.lock --shrink @ends 2 @err
+error: with '--algorithm <FILE>' there is no '--shrink'; 'rmelab shrink' minimizes the schedule found
+
+For more information, try '--help'.
+@row rmelab hunt --seed 1 --rounds 0 --steps 1 @ends 2 @err NO_LOCK
+@row rmelab shrink --algorithm a.lock --variant right @ends 2 @err BAD_VARIANT
+@row rmelab shrink a.rme @ends 2 @err NO_LOCK
+@row rmelab draw --algorithm a.lock --variant right @ends 2 @err BAD_VARIANT
+@row rmelab draw --html --algorithm a.lock --image a.json @ends 2 @err BAD_VARIANT
+@row rmelab draw --html --algorithm a.lock @ends 2 @err NO_PAGE
+@row rmelab step --algorithm a.lock b.rme @ends 2 @err
+error: with '--algorithm <FILE>' there is no '[FILE]'; the first line of the input is a header
+
+For more information, try '--help'.
+";
+
+/// No file is opened.
+#[test]
+fn words_of_no_algorithm(rt: HostRuntime) -> Result<(), Fail> {
+    let algorithms = algorithm_texts(rt.alloc())?;
+    all_come_to(
+        &rt,
+        rt.alloc(),
+        &[algorithms.as_str(), TEXTS],
+        WORDS_OF_NO_ALGORITHM,
+    )
+}

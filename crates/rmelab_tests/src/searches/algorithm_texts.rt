@@ -1,0 +1,269 @@
+//! Replays of algorithms where a text, a schedule, words or a file are at fault.
+
+use crate::searches::algorithms::algorithm_texts;
+use crate::support::invocation::{all_come_to, program_comes_to};
+use std::alloc::Global;
+use std::test::Fail;
+
+const TEXTS: &str = "
+@text ALONE
+rme 1 procs 2 limit 1 cap 1
+lock 0
+step 0 9
+@text LIMIT_PASSED
+rmelab: algorithm line 1: fault 16: a limit is passed
+@text BAD_VARIANT
+rmelab: bad variant
+@text NO_STEPS
+error: with '--algorithm <FILE>' there is no '--json' and no '--each'
+
+For more information, try '--help'.
+@text UNREAD
+rmelab: read failed
+";
+
+const TEXTS_THAT_ARE_NO_ALGORITHM: &str = "
+@row rmelab replay --algorithm a.lock @in ALONE @ends 2 @file a.lock
+@err
+rmelab: algorithm line 1: fault 1: the first two lines are no header and promises
+@row rmelab replay --algorithm a.lock @ends 2 @in
+rme@file a.lock
+@err
+rmelab: algorithm line 1: fault 1: the first two lines are no header and promises
+@row rmelab replay --algorithm a.lock @in ALONE @file a.lock HIDDEN @ends 2 @err
+rmelab: algorithm line 6: fault 7: a second access in one line
+@row rmelab replay --algorithm a.lock @file a.lock HIDDEN @ends 2 @in
+rme@err
+rmelab: algorithm line 6: fault 7: a second access in one line
+@row rmelab replay --algorithm a.lock @in ALONE @ends 2 @file a.lock
+algorithm \0
+@err
+rmelab: algorithm line 1: fault 2: a character that means nothing here
+@row rmelab replay --algorithm a.lock @ends 2 @in
+rme@file a.lock
+algorithm \0
+@err
+rmelab: algorithm line 1: fault 2: a character that means nothing here
+@row rmelab replay --algorithm a.lock @in ALONE @ends 2 @file a.lock
+algorithm a for 2 processes
+promises exclusion@err
+rmelab: algorithm line 2: fault 3: the last line is not ended by a line feed
+@row rmelab replay --algorithm a.lock @ends 2 @in
+rme@file a.lock
+algorithm a for 2 processes
+promises exclusion@err
+rmelab: algorithm line 2: fault 3: the last line is not ended by a line feed
+@row rmelab replay --algorithm a.lock @in ALONE @ends 2 @err LIMIT_PASSED @file a.lock
+algorithm a for 18446744073709551616 processes
+@row rmelab replay --algorithm a.lock @ends 2 @err LIMIT_PASSED @in
+rme@file a.lock
+algorithm a for 18446744073709551616 processes
+@row rmelab replay --algorithm a.lock @in ALONE @ends 2 @file a.lock
+algorithm a for 2 processes
+promises exclusion
+shared x
+call lock
+v := ((((((((((((((((((1))))))))))))))))))
+@err
+rmelab: algorithm line 5: fault 16: a limit is passed
+@row rmelab replay --algorithm a.lock @ends 2 @in
+rme@file a.lock
+algorithm a for 2 processes
+promises exclusion
+shared x
+call lock
+v := ((((((((((((((((((1))))))))))))))))))
+@err
+rmelab: algorithm line 5: fault 16: a limit is passed
+@row rmelab replay --algorithm a.lock @in ALONE @ends 2 @file a.lock
+algorithm a for 2 processes
+promises exclusion
+shared x
+call lock
+  x := 1
+  done
+  x := 2
+  done
+call unlock
+  x := 0
+  done
+@err
+rmelab: algorithm line 7: fault 18: no run comes to this line
+@row rmelab replay --algorithm a.lock @ends 2 @in
+rme@file a.lock
+algorithm a for 2 processes
+promises exclusion
+shared x
+call lock
+  x := 1
+  done
+  x := 2
+  done
+call unlock
+  x := 0
+  done
+@err
+rmelab: algorithm line 7: fault 18: no run comes to this line
+";
+
+/// A fault of the text comes before one of the schedule.
+#[test]
+fn texts_that_are_no_algorithm(rt: HostRuntime) -> Result<(), Fail> {
+    let algorithms = algorithm_texts(rt.alloc())?;
+    all_come_to(
+        &rt,
+        rt.alloc(),
+        &[algorithms.as_str(), TEXTS],
+        TEXTS_THAT_ARE_NO_ALGORITHM,
+    )
+}
+
+/// Adds a text with this name: an algorithm whose own name has this number of letters.
+fn add_long_text(texts: &mut String, name: &str, letters: u64, end: &str) -> Result<(), Fail> {
+    texts.push_str("@text ")?;
+    texts.push_str(name)?;
+    texts.push_str("\nalgorithm ")?;
+    for _ in 0..letters {
+        texts.push('a')?;
+    }
+    texts.push_str(end)?;
+    Ok(())
+}
+
+/// A megabyte in one line, and a name of 10,000 letters.
+fn long_texts(alloc: Global) -> Result<String, Fail> {
+    let mut texts = String::from_str(alloc, TEXTS)?;
+    add_long_text(&mut texts, "LONG", 1_000_000, "\n")?;
+    add_long_text(&mut texts, "LONG_NAME", 10_000, " for 2 processes\n")?;
+    Ok(texts)
+}
+
+const LONG_TEXTS_OF_ALGORITHMS: &str = "
+@row rmelab replay --algorithm a.lock @in ALONE @file a.lock LONG @ends 2 @err LIMIT_PASSED
+@row rmelab replay --algorithm a.lock @in ALONE @file a.lock LONG_NAME @ends 2 @err LIMIT_PASSED
+";
+
+#[test]
+fn long_texts_of_algorithms(rt: HostRuntime) -> Result<(), Fail> {
+    let texts = long_texts(rt.alloc())?;
+    program_comes_to(&rt, rt.alloc(), &[texts.as_str()], LONG_TEXTS_OF_ALGORITHMS)
+}
+
+const RUNS_OF_ALGORITHMS_THAT_ARE_REFUSED: &str = "
+@row rmelab replay --algorithm a.lock b.rme @file a.lock PETERSON @ends 2 @file b.rme
+rme 1 procs 3 limit 1 cap 1
+lock 0
+@err
+rmelab: line 1: refused 1
+@row rmelab replay --algorithm a.lock b.rme @file a.lock PETERSON @ends 2 @file b.rme
+rme 1 procs 2 limit 0 cap 1
+lock 0
+@err
+rmelab: line 1: refused 2
+@row rmelab replay --algorithm a.lock b.rme @file a.lock PETERSON @ends 2 @file b.rme
+rme 1 procs 2 limit 1 cap 1
+lock 0
+step 0 9
+recover 1
+@out
+begin 0
+ready 0
+enter 0
+answer 0 done
+@err
+rmelab: line 4: refused 17
+@row rmelab replay --algorithm a.lock b.rme @file a.lock PETERSON @ends 2 @file b.rme
+rme 1 procs 2 limit 1 cap 1
+append 0 1 1
+@err
+rmelab: line 2: refused 17
+@row rmelab replay --algorithm a.lock b.rme @file a.lock PETERSON @ends 2 @file b.rme
+rme 1 procs 2 limit 1 cap 1
+unlock 0
+@err
+rmelab: line 2: refused 5
+@row rmelab replay --algorithm a.lock b.rme @file a.lock BAKERY_1974 @ends 2 @file b.rme
+rme 1 procs 2 limit 1 cap 1
+lock 0
+step 0 9
+lock 1
+step 1 9
+@out
+begin 0
+ready 0
+enter 0
+answer 0 done
+begin 1
+@err
+rmelab: line 5: refused 16
+@row rmelab replay --algorithm a.lock b.rme @ends 2 @file a.lock
+algorithm four for 2 processes
+promises exclusion, order
+shared x up to 1
+call lock
+  x := 1
+  this is begin
+  this is ready
+  this is enter
+  this is leave
+  done
+call unlock
+  x := 0
+  done
+@file b.rme
+rme 1 procs 2 limit 1 cap 1
+lock 0
+step 0
+@err
+rmelab: line 3: refused 16
+";
+
+/// A step may have three deeds: four are refused.
+#[test]
+fn runs_of_algorithms_that_are_refused(rt: HostRuntime) -> Result<(), Fail> {
+    let algorithms = algorithm_texts(rt.alloc())?;
+    all_come_to(
+        &rt,
+        rt.alloc(),
+        &[algorithms.as_str(), TEXTS],
+        RUNS_OF_ALGORITHMS_THAT_ARE_REFUSED,
+    )
+}
+
+const WORDS_BESIDE_AN_ALGORITHM: &str = "
+@row rmelab replay --algorithm a.lock --variant right @ends 2 @err BAD_VARIANT
+@row rmelab replay --variant wrong --algorithm a.lock @ends 2 @err BAD_VARIANT
+@row rmelab replay --algorithm a.lock --image a.json @ends 2 @err BAD_VARIANT
+@row rmelab replay --algorithm a.lock --save a.json @ends 2 @err BAD_VARIANT
+@row rmelab replay --each --algorithm a.lock --variant right @ends 2 @err BAD_VARIANT
+@row rmelab replay --algorithm a.lock --each @ends 2 @err NO_STEPS
+@row rmelab replay --json --algorithm a.lock @ends 2 @err NO_STEPS
+";
+
+#[test]
+fn words_beside_an_algorithm(rt: HostRuntime) -> Result<(), Fail> {
+    all_come_to(&rt, rt.alloc(), &[TEXTS], WORDS_BESIDE_AN_ALGORITHM)
+}
+
+const ALGORITHMS_WHERE_DEVICES_FAIL: &str = "
+@row rmelab replay --algorithm b.lock @in ALONE @ends 3 @err UNREAD
+@row rmelab replay --algorithm a.lock @in ALONE @file a.lock PETERSON @fails file-read @ends 3 @err UNREAD
+@row rmelab replay --algorithm a.lock @in ALONE @file a.lock PETERSON @fails read @ends 3 @err UNREAD
+@row rmelab replay --algorithm a.lock @in ALONE @file a.lock PETERSON @fails write @ends 3 @err
+rmelab: write failed
+@row rmelab replay --algorithm a.lock @file a.lock PETERSON @ends 2 @in
+rme 1
+@err
+rmelab: line 1: fault 1
+";
+
+#[test]
+fn algorithms_where_devices_fail(rt: HostRuntime) -> Result<(), Fail> {
+    let algorithms = algorithm_texts(rt.alloc())?;
+    program_comes_to(
+        &rt,
+        rt.alloc(),
+        &[algorithms.as_str(), TEXTS],
+        ALGORITHMS_WHERE_DEVICES_FAIL,
+    )
+}

@@ -1,0 +1,46 @@
+//! The texts of algorithms that the rows name.
+
+use algorithms_tests::texts::{bakeries, others};
+use std::alloc::Global;
+use std::test::Fail;
+
+/// A text with a fault in line 6; and what is printed for words without a lock.
+const SHARED: &str = "
+@text HIDDEN
+algorithm hidden for 2 processes
+promises exclusion
+shared flag[procs]
+call lock
+  flag[me] := 1
+  if flag[1 - me] = 0 then goto in_now
+in_now:
+  this is enter
+  done
+call unlock
+  flag[me] := 0 this is leave
+  done
+@text NO_LOCK
+error: there is neither '--variant <V>' nor '--algorithm <FILE>'
+
+For more information, try '--help'.
+";
+
+const ALGORITHMS: [(&str, &[u8]); 5] = [
+    ("PETERSON", others::PETERSON),
+    ("ONE_WORD", others::ONE_WORD),
+    ("NO_LOOK", bakeries::NO_LOOK),
+    ("BAKERY_RUIN", bakeries::BAKERY_RUIN),
+    ("BAKERY_1974", others::BAKERY_1974),
+];
+
+/// A script of the texts of algorithms.
+pub fn algorithm_texts(alloc: Global) -> Result<String, Fail> {
+    let mut all = String::from_str(alloc, SHARED)?;
+    for (name, text) in ALGORITHMS {
+        all.push_str("@text ")?;
+        all.push_str(name)?;
+        all.push_str("\n")?;
+        all.push_str(str::from_utf8(text)?)?;
+    }
+    Ok(all)
+}

@@ -1,0 +1,204 @@
+//! Searches of all schedules up to a bound. The schedules and the counts are those of the plain search in bench/explore.
+
+use crate::support::invocation::{all_come_to, output_of};
+use crate::support::row::text_named;
+use std::test::Fail;
+
+/// `SHORTEST`: both read the numbers in the doorway and find none. Process 1 enters, and so does 0, which doesn't look whether 1
+/// is choosing. `KEPT`: who locks can't let go of the lock. `NOT_BACK`: who crashed can't come back.
+pub const TEXTS: &str = "
+@text SHORTEST
+rme 1 procs 2 limit 1 cap 1
+lock 0
+step 0
+step 0
+step 0
+step 0
+step 0
+lock 1
+step 1
+step 1
+step 1
+step 1
+step 1
+step 1
+step 1
+step 1
+step 0
+step 0
+step 0
+step 0
+step 1
+@text GONE_OUT
+rme 1 procs 1 limit 1 cap 1
+lock 0
+step 0
+step 0
+step 0
+step 0
+step 0
+step 0
+step 0
+crash 0
+lock 0
+step 0
+step 0
+step 0
+step 0
+step 0
+step 0
+@text KEPT
+rme 1 procs 2 limit 1 cap 1
+lock 0
+@text NOT_BACK
+rme 1 procs 2 limit 1 cap 1
+crash 0
+@text UNWRITTEN
+rmelab: write failed
+@text TOO_MANY
+rmelab: too many states
+@text BAD_SIZE
+rmelab: bad size
+";
+
+const EXPLORES: &str = "
+@row rmelab explore --variant no-look --procs 2 --limit 1 @out SHORTEST @ends 1
+@row rmelab explore --variant no-look --procs 2 --limit 1 --moves 20 --calls unlock,lock @out SHORTEST @ends 1
+@row rmelab explore --variant exit-on-crash --procs 1 --limit 1 --crashes 1 @out GONE_OUT @ends 1
+@row rmelab explore --variant no-look --procs 2 --limit 1 --moves 19 @out
+nothing found within 19 moves
+@row rmelab explore --variant no-look --procs 2 --limit 1 --all-variables @out SHORTEST @ends 1
+@row rmelab explore --variant right --procs 2 @out
+nothing found: all 925 states
+@row rmelab explore --variant right --procs 2 --crashes 1 --limit 1 --jobs 2 @out
+nothing found: all 1541 states
+@row rmelab explore --variant right --procs 2 --crashes 1 --limit 1 --all-variables @out
+nothing found: all 2109 states
+";
+
+#[test]
+fn explores(rt: HostRuntime) -> Result<(), Fail> {
+    all_come_to(&rt, rt.alloc(), &[TEXTS], EXPLORES)
+}
+
+const EXPLORES_STUCK: &str = "
+@row rmelab explore --variant right --procs 2 --crashes 1 --stuck @out
+never stuck: all 7729 states
+@row rmelab explore --variant right --procs 3 --limit 1 --stuck @out
+never stuck: all 9145 states
+@row rmelab explore --variant renumber --procs 2 --crashes 1 --limit 2 --stuck @out
+never stuck: all 4071 states
+";
+
+/// The counts are those of the plain program, whose search back goes over lists of the states before each.
+#[test]
+fn explores_stuck(rt: HostRuntime) -> Result<(), Fail> {
+    all_come_to(&rt, rt.alloc(), &[], EXPLORES_STUCK)
+}
+
+const EXPLORES_STUCK_AT_LENGTH: &str = "
+@row rmelab explore --variant right --procs 2 --crashes 3 --stuck @out
+never stuck: all 45075 states
+@row rmelab explore --variant right --procs 3 --crashes 1 --limit 1 --stuck @out
+never stuck: all 92524 states
+";
+
+/// It takes longer than `rt try` allows.
+#[test]
+fn explores_stuck_at_length(rt: HostRuntime) -> Result<(), Fail> {
+    all_come_to(&rt, rt.alloc(), &[], EXPLORES_STUCK_AT_LENGTH)
+}
+
+const STUCK_AND_WRONG_ARE_TOLD_APART: &str = "
+@row rmelab explore --variant right --procs 2 --calls lock --limit 1 --stuck @out KEPT @ends 1
+@row rmelab explore --variant right --procs 2 --calls unlock --limit 1 --crashes 1 --stuck @out NOT_BACK @ends 1
+@row rmelab explore --variant right --procs 2 --calls lock --limit 1 @out
+nothing found: all 198 states
+@row rmelab explore --variant no-look --procs 2 --limit 1 --stuck @out SHORTEST @ends 1
+@row rmelab explore --variant no-ties --procs 2 --limit 1 --stuck @ends 1 @out
+rme 1 procs 2 limit 1 cap 1
+lock 0
+step 0
+step 0
+step 0
+step 0
+step 0
+lock 1
+step 1
+step 1
+step 1
+step 1
+step 1
+step 0
+step 0
+step 1
+step 1
+step 0
+step 0
+step 0
+step 1
+step 1
+step 1
+@row rmelab explore --variant exit-on-crash --procs 1 --limit 1 --crashes 1 --stuck @out GONE_OUT @ends 1
+";
+
+/// Of the right lock without `unlock`, and without a call by which a crashed process comes back, a state is stuck. Of a wrong
+/// variant a schedule that goes wrong is written: under `no-ties` both have the number 1, and neither waits for the other.
+#[test]
+fn stuck_and_wrong_are_told_apart(rt: HostRuntime) -> Result<(), Fail> {
+    all_come_to(&rt, rt.alloc(), &[TEXTS], STUCK_AND_WRONG_ARE_TOLD_APART)
+}
+
+const EXPLORES_REFUSED: &str = "
+@row rmelab explore --variant right --procs 2 --crashes 1 --limit 1 --states 1540 @ends 3 @err TOO_MANY
+@row rmelab explore --variant right --procs 2 --crashes 1 --limit 1 --states 2108 --all-variables @ends 3 @err TOO_MANY
+@row rmelab explore --variant right --procs 2 --limit 1 --states 258 --stuck @ends 3 @err TOO_MANY
+@row rmelab explore --variant right --procs 2 --moves 9 --stuck @ends 2 @err BAD_SIZE
+@row rmelab explore --variant right --procs 65 @ends 2 @err BAD_SIZE
+@row rmelab explore --variant right --procs 65 --stuck @ends 2 @err BAD_SIZE
+@row rmelab explore --variant right --procs 1 --limit 0 @ends 2 @err BAD_SIZE
+@row rmelab explore --variant right --procs 1 --width 9 @ends 2 @err BAD_SIZE
+@row rmelab explore --variant right --procs 1 --calls lock,run @ends 2 @err BAD_SIZE
+@row rmelab explore --variant wrong --procs 1 @ends 2 @err
+rmelab: bad variant
+@row rmelab explore --variant right @ends 2 @err
+error: the following required arguments were not provided:
+  --procs <N>
+
+Usage: rmelab explore --procs <N> --variant <V>
+
+For more information, try '--help'.
+";
+
+#[test]
+fn explores_refused(rt: HostRuntime) -> Result<(), Fail> {
+    all_come_to(&rt, rt.alloc(), &[TEXTS], EXPLORES_REFUSED)
+}
+
+const EXPLORES_TO_A_WRITER_THAT_FAILS: &str = "
+@row rmelab explore --variant exit-on-crash --procs 1 --limit 1 --crashes 1 @fails write @ends 3 @err UNWRITTEN
+@row rmelab explore --variant exit-on-crash --procs 1 --limit 1 --crashes 1 @fails flush @out GONE_OUT @ends 3 @err UNWRITTEN
+@row rmelab explore --variant right --procs 1 --limit 1 --moves 3 @fails write @ends 3 @err UNWRITTEN
+@row rmelab explore --variant right --procs 2 --limit 1 @fails write @ends 3 @err UNWRITTEN
+@row rmelab explore --variant right --procs 2 --limit 1 --states 258 @fails err @ends 3
+";
+
+#[test]
+fn explores_to_a_writer_that_fails(rt: HostRuntime) -> Result<(), Fail> {
+    all_come_to(&rt, rt.alloc(), &[TEXTS], EXPLORES_TO_A_WRITER_THAT_FAILS)
+}
+
+/// A schedule that is found replays to its fault, and one to a stuck state to a fine verdict.
+#[test]
+fn explored_schedules_replay(rt: HostRuntime) -> Result<(), Fail> {
+    for (line, name, status) in [
+        ("rmelab replay --variant no-look", "SHORTEST", 1),
+        ("rmelab replay --variant exit-on-crash", "GONE_OUT", 1),
+        ("rmelab replay", "KEPT", 0),
+        ("rmelab replay", "NOT_BACK", 0),
+    ] {
+        let schedule = text_named(&[TEXTS], name).ok_or("no text")?;
+        output_of(&rt, rt.alloc(), line, "", schedule.as_bytes(), status)?;
+    }
+    Ok(())
+}

@@ -1,0 +1,211 @@
+//! A hunt or a search by any number of threads answers what that of one thread answers.
+
+use crate::support::watching::Told;
+use crashlab::{HuntFault, Variant, hunt, hunt_in_parallel, hunt_in_parallel_watched};
+use explorer::Unwatched;
+use lock_explorer::{Bounds, Variables, shortest_schedule, shortest_schedule_in_parallel};
+use redomail::Layout;
+use rmeworld::Call;
+use schedule::{Schedule, write_schedule};
+use std::alloc::Global;
+use std::test::Fail;
+use std::thread::Threads;
+
+/// Each variant, and whether its hunt by seed 1, of 10,000 rounds of 1,000 moves, finds a schedule. The right lock has fewer
+/// rounds.
+const VARIANTS: [(Variant, u64, bool); 7] = [
+    (Variant::Right, 40, false),
+    (Variant::NoLook, 10_000, true),
+    (Variant::NoTies, 10_000, true),
+    (Variant::Renumber, 10_000, true),
+    (Variant::ExitOnCrash, 10_000, true),
+    (Variant::CountUp, 10_000, true),
+    (Variant::LastSkipped, 10_000, true),
+];
+
+const JOBS: [u64; 5] = [0, 1, 2, 3, 7];
+
+/// The text of what a hunt has found; no text, where it has found nothing.
+fn text_of(alloc: Global, found: Option<Schedule>) -> Result<Option<Vec<u8>>, Fail> {
+    match found {
+        Some(schedule) => Ok(Some(write_schedule(alloc, &schedule)?)),
+        None => Ok(None),
+    }
+}
+
+/// Whether the hunt finds something. By any number of jobs it has to find the same.
+fn is_found(
+    rt: &(impl Threads + Sync),
+    alloc: Global,
+    variant: Variant,
+    seed: u64,
+    rounds: u64,
+    steps: u64,
+) -> Result<bool, Fail> {
+    let one = text_of(alloc, hunt(alloc, variant, seed, rounds, steps)?)?;
+    for jobs in JOBS {
+        let found = hunt_in_parallel(rt, alloc, jobs, variant, seed, rounds, steps)?;
+        if text_of(alloc, found)? != one {
+            return Err(Fail::new(format_args!("{variant:?} {seed} {jobs}")));
+        }
+    }
+    Ok(one.is_some())
+}
+
+#[test]
+fn the_same_schedule_for_any_number_of_jobs(rt: HostRuntime) -> Result<(), Fail> {
+    for (variant, rounds, wanted) in VARIANTS {
+        let found = is_found(&rt, rt.alloc(), variant, 1, rounds, 1_000)?;
+        assert!(rt; found == wanted, "{variant:?}");
+    }
+    Ok(())
+}
+
+/// Rounds of few moves, so that the one that finds is of a late batch, or none is.
+#[test]
+fn the_same_schedule_of_a_late_round(rt: HostRuntime) -> Result<(), Fail> {
+    for (variant, _, _) in VARIANTS {
+        for (seed, rounds, steps) in [(1, 400, 60), (2, 333, 90), (3, 50, 20), (4, 1, 700)] {
+            is_found(&rt, rt.alloc(), variant, seed, rounds, steps)?;
+        }
+    }
+    Ok(())
+}
+
+/// The fault of a hunt by this number of jobs.
+fn fault_of(
+    rt: &(impl Threads + Sync),
+    alloc: Global,
+    jobs: u64,
+    rounds: u64,
+    steps: u64,
+) -> Option<HuntFault> {
+    hunt_in_parallel(rt, alloc, jobs, Variant::Right, 1, rounds, steps).err()
+}
+
+#[test]
+fn a_hunt_by_jobs_is_refused_by_its_size(rt: HostRuntime) {
+    for (rounds, steps, fault) in [
+        (0, 1, HuntFault::BadRounds),
+        (10_001, 0, HuntFault::BadRounds),
+        (1, 0, HuntFault::BadSteps),
+        (1, 10_001, HuntFault::BadSteps),
+    ] {
+        for jobs in JOBS {
+            let found = fault_of(&rt, rt.alloc(), jobs, rounds, steps);
+            assert!(rt; found == Some(fault), "{rounds} {steps} {jobs}");
+        }
+    }
+}
+
+/// Whether each of five rounds of a hunt by this number of jobs is reported once.
+fn is_told_once(rt: &(impl Threads + Sync), alloc: Global, jobs: u64) -> Result<bool, HuntFault> {
+    let mut told = Told::new(alloc);
+    let variant = Variant::Right;
+    let found = hunt_in_parallel_watched(rt, alloc, jobs, variant, 1, 5, 10, &mut told)?;
+    let rounds = [(0, 0), (1, 10), (2, 20), (3, 30), (4, 40)];
+    Ok(found.is_none() && told.all.as_slice() == rounds.as_slice())
+}
+
+#[test]
+fn each_round_of_a_batch_is_told_once(rt: HostRuntime) -> Result<(), Fail> {
+    for jobs in JOBS {
+        assert!(rt; is_told_once(&rt, rt.alloc(), jobs)?, "{jobs}");
+    }
+    Ok(())
+}
+
+/// Variants, and the processes, the crashes and the limit of a search, which finds a schedule for each but the right lock.
+const SEARCHES: [(Variant, u64, u64, u64); 6] = [
+    (Variant::Right, 1, 0, 1),
+    (Variant::Right, 2, 1, 4),
+    (Variant::NoLook, 2, 0, 1),
+    (Variant::NoTies, 2, 0, 1),
+    (Variant::Renumber, 2, 1, 3),
+    (Variant::ExitOnCrash, 2, 1, 1),
+];
+
+/// The layout of a mailbox with one entry of one word for each process.
+fn least_mailbox(procs: u64) -> Layout {
+    Layout {
+        procs,
+        cap: 1,
+        width: 1,
+    }
+}
+
+const BOUNDS: Bounds = Bounds {
+    crashes: 0,
+    moves: 1_000,
+    states: 10_000,
+};
+
+/// Whether a search by several jobs answers what one by one job does.
+fn searches_the_same(
+    rt: &(impl Threads + Sync),
+    alloc: Global,
+    variant: Variant,
+    layout: Layout,
+    limit: u64,
+    variables: Variables,
+    bounds: &Bounds,
+) -> bool {
+    let calls = [Call::Lock, Call::Unlock];
+    let calls = calls.as_slice();
+    let one = shortest_schedule(
+        alloc,
+        variant,
+        layout,
+        limit,
+        calls,
+        variables,
+        bounds,
+        &mut Unwatched,
+    );
+    for jobs in [0, 1, 2, 3, 7] {
+        let found = shortest_schedule_in_parallel(
+            rt,
+            alloc,
+            jobs,
+            variant,
+            layout,
+            limit,
+            calls,
+            variables,
+            bounds,
+            &mut Unwatched,
+        );
+        if found != one {
+            return false;
+        }
+    }
+    one.is_ok()
+}
+
+/// Plays each search, with states distinguished by these variables. None: each answers the same by several jobs.
+fn first_different(
+    rt: &(impl Threads + Sync),
+    alloc: Global,
+    variables: Variables,
+) -> Option<Variant> {
+    for (variant, procs, crashes, limit) in SEARCHES {
+        let layout = least_mailbox(procs);
+        let bounds = Bounds { crashes, ..BOUNDS };
+        if !searches_the_same(rt, alloc, variant, layout, limit, variables, &bounds) {
+            return Some(variant);
+        }
+    }
+    None
+}
+
+#[test]
+fn the_same_search_for_any_number_of_jobs(rt: HostRuntime) {
+    let different = first_different(&rt, rt.alloc(), Variables::All);
+    assert!(rt; different.is_none(), "{different:?}");
+}
+
+#[test]
+fn the_same_search_by_live_variables_for_any_number_of_jobs(rt: HostRuntime) {
+    let different = first_different(&rt, rt.alloc(), Variables::Live);
+    assert!(rt; different.is_none(), "{different:?}");
+}

@@ -1,0 +1,44 @@
+//! Each request for memory of searches, of schedules that are shrunk, and of commands on algorithms is refused in turn.
+
+use crate::searches::algorithms::algorithm_texts;
+use crate::searches::{algorithm_commands, algorithm_explores, explores, shrinks};
+use crate::support::invocation::all_want_memory;
+use std::test::Fail;
+
+const WANT_OF_MEMORY: &str = "
+@row rmelab shrink --variant right @out FINE @in
+rme 1 procs 1 limit 10 cap 1
+lock 0
+step 0 8
+@row rmelab shrink --variant no-look @in TWO_INSIDE @out LEAST @ends 1
+@row rmelab explore --variant exit-on-crash --procs 1 --limit 1 --crashes 1 @out GONE_OUT @ends 1
+@row rmelab explore --variant right --procs 1 --limit 1 --moves 3 @out
+nothing found within 3 moves
+@row rmelab explore --algorithm a.lock --procs 2 @file a.lock ONE_WORD @out TWO_AT_ONCE @ends 1
+@row rmelab explore --algorithm a.lock --procs 2 --stuck @ends 2 @err NO_MAILBOX
+@row rmelab explore --procs 2 @ends 2 @err NO_LOCK
+@row rmelab hunt --algorithm a.lock --seed 1 --rounds 1 --steps 3 @file a.lock PETERSON @out
+nothing found
+@row rmelab shrink --algorithm a.lock @in ALONE @file a.lock PETERSON @out FINE
+@row rmelab draw --algorithm a.lock @in ALONE @file a.lock PETERSON @out ALONE_DRAWN
+@row rmelab replay --algorithm a.lock @in ALONE @file a.lock PETERSON @out ALONE_TOLD
+@row rmelab step --algorithm a.lock @in SESSION @file a.lock ONE_WORD @out HELD
+@row rmelab draw --algorithm a.lock --html @ends 2 @err NO_PAGE
+";
+
+#[test]
+fn want_of_memory(rt: HostRuntime) -> Result<(), Fail> {
+    let algorithms = algorithm_texts(rt.alloc())?;
+    all_want_memory(
+        &rt,
+        rt.alloc(),
+        &[
+            algorithms.as_str(),
+            algorithm_commands::TEXTS,
+            algorithm_explores::TEXTS,
+            explores::TEXTS,
+            shrinks::TEXTS,
+        ],
+        WANT_OF_MEMORY,
+    )
+}

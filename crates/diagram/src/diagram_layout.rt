@@ -19,7 +19,7 @@ pub enum Style {
 }
 
 /// What all rows of a drawing are drawn with.
-#[derive(Clone, Copy, Debug)]
+#[derive(Clone, Copy, Debug, PartialEq, Eq)]
 pub struct DiagramLayout {
     pub style: Style,
     pub layout: Layout,

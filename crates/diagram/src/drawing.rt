@@ -18,10 +18,9 @@ use rmeworld::Machine;
 use schedule::texts::head::Head;
 use schedule::{OutOfMemory, Schedule, Verdict};
 use std::alloc::Global;
-use std::fmt;
 
 /// How a run ends.
-#[derive(Clone, Copy, Debug)]
+#[derive(Clone, Copy, Debug, PartialEq, Eq)]
 pub enum End {
     /// All lines were played. The verdict is on all deeds.
     Judged(Verdict),
@@ -34,7 +33,7 @@ pub enum End {
 }
 
 /// The rows of a schedule's run, and how the run ends.
-#[derive(Drop)]
+#[derive(Debug, Drop)]
 pub struct Drawing {
     /// The header of the schedule.
     pub head: Head,
@@ -42,12 +41,6 @@ pub struct Drawing {
     pub first: LifelinePhase,
     pub rows: Vec<DiagramRow>,
     pub end: End,
-}
-
-impl fmt::Debug for Drawing {
-    fn fmt<W: fmt::Write>(&self, f: &mut fmt::Formatter<W>) -> fmt::Result {
-        f.write_str("Drawing")
-    }
 }
 
 /// How a run ends, by how its lines were played and the verdict on its deeds.

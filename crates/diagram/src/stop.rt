@@ -9,7 +9,7 @@ use rmecore::Refusal;
 use std::alloc::AllocFailed;
 
 /// Why the lines of a schedule are not played to their end.
-#[derive(Clone, Copy)]
+#[derive(Clone, Copy, Debug, PartialEq, Eq)]
 pub enum DiagramStop {
     /// The machine refuses the line. The number is that of the `Refusal`.
     Refused(u64),

@@ -21,7 +21,7 @@ pub enum Verb {
 }
 
 /// What a line of a session asks for.
-#[derive(Clone, Copy, Debug)]
+#[derive(Clone, Copy, Debug, PartialEq, Eq)]
 pub enum Request {
     /// Take this line of a schedule.
     Play(Line),

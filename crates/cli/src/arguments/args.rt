@@ -4,7 +4,6 @@ ghost use Rattle.std.specs.Prelude.{◌≡◌, option_copied};
 
 use crate::explain::dictionary_entry::DictionaryEntry;
 use crashlab::Variant;
-use std::fmt;
 
 /// `replay`: runs a schedule and prints its report.
 #[derive(Debug, Drop, PartialEq, Eq)]
@@ -23,7 +22,7 @@ pub struct ReplayArgs {
 }
 
 /// `replay --algorithm`: runs a schedule on an algorithm, and prints its report.
-#[derive(Debug, Drop)]
+#[derive(Debug, Drop, PartialEq, Eq)]
 pub struct AlgorithmReplayArgs {
     /// The file of the algorithm's text.
     pub algorithm: String,
@@ -61,7 +60,7 @@ pub struct HuntArgs {
 }
 
 /// `hunt --algorithm`: draws schedules until an algorithm goes wrong.
-#[derive(Debug, Drop)]
+#[derive(Debug, Drop, PartialEq, Eq)]
 pub struct AlgorithmHuntArgs {
     /// The file of the algorithm's text.
     pub algorithm: String,
@@ -87,7 +86,7 @@ pub struct Alphabet {
 }
 
 /// `explore`: tries all schedules up to a bound, the shorter before the longer.
-#[derive(Clone, Copy, Debug)]
+#[derive(Clone, Copy, Debug, PartialEq, Eq)]
 pub struct ExploreArgs {
     pub variant: Variant,
     pub procs: u64,
@@ -110,7 +109,7 @@ pub struct ExploreArgs {
 }
 
 /// The calls of an algorithm that a search starts.
-#[derive(Clone, Copy, Debug)]
+#[derive(Clone, Copy, Debug, PartialEq, Eq)]
 pub struct AlgorithmCalls {
     pub lock: bool,
     pub unlock: bool,
@@ -119,7 +118,7 @@ pub struct AlgorithmCalls {
 }
 
 /// `explore --algorithm`: tries all schedules of an algorithm up to a bound, the shorter before the longer.
-#[derive(Debug, Drop)]
+#[derive(Debug, Drop, PartialEq, Eq)]
 pub struct AlgorithmExploreArgs {
     /// The file of the algorithm's text.
     pub algorithm: String,
@@ -135,7 +134,7 @@ pub struct AlgorithmExploreArgs {
 }
 
 /// `judge`: judges a trace of deeds.
-#[derive(Debug, Drop)]
+#[derive(Debug, Drop, PartialEq, Eq)]
 pub struct JudgeArgs {
     /// Print the verdict as a JSON object.
     pub json: bool,
@@ -144,7 +143,7 @@ pub struct JudgeArgs {
 }
 
 /// `draw`: runs a schedule and draws its run.
-#[derive(Debug, Drop)]
+#[derive(Debug, Drop, PartialEq, Eq)]
 pub struct DrawArgs {
     /// Write a page that shows the run step by step.
     pub html: bool,
@@ -158,7 +157,7 @@ pub struct DrawArgs {
 }
 
 /// `draw --algorithm`: runs a schedule on an algorithm, and draws its run.
-#[derive(Debug, Drop)]
+#[derive(Debug, Drop, PartialEq, Eq)]
 pub struct AlgorithmDrawArgs {
     /// The file of the algorithm's text.
     pub algorithm: String,
@@ -169,7 +168,7 @@ pub struct AlgorithmDrawArgs {
 }
 
 /// `shrink`: shrinks a schedule that goes wrong on a variant.
-#[derive(Debug, Drop)]
+#[derive(Debug, Drop, PartialEq, Eq)]
 pub struct ShrinkArgs {
     pub variant: Variant,
     /// The schedule's file; without one, standard input.
@@ -177,7 +176,7 @@ pub struct ShrinkArgs {
 }
 
 /// `shrink --algorithm`: shrinks a schedule that goes wrong on an algorithm.
-#[derive(Debug, Drop)]
+#[derive(Debug, Drop, PartialEq, Eq)]
 pub struct AlgorithmShrinkArgs {
     /// The file of the algorithm's text.
     pub algorithm: String,
@@ -186,7 +185,7 @@ pub struct AlgorithmShrinkArgs {
 }
 
 /// A command with its arguments.
-#[derive(Drop)]
+#[derive(Debug, Drop, PartialEq, Eq)]
 pub enum Command {
     Replay(ReplayArgs),
     ReplayAlgorithm(AlgorithmReplayArgs),
@@ -206,30 +205,6 @@ pub enum Command {
     StepAlgorithm(String),
     /// Prints what this entry means; without one, the names of all entries.
     Explain(Option<DictionaryEntry>),
-}
-
-impl fmt::Debug for Command {
-    /// Tells which command it is.
-    fn fmt<W: fmt::Write>(&self, f: &mut fmt::Formatter<W>) -> fmt::Result {
-        let name = match self {
-            Command::Replay(_) => "Replay",
-            Command::ReplayAlgorithm(_) => "ReplayAlgorithm",
-            Command::Run(_) => "Run",
-            Command::Hunt(_) => "Hunt",
-            Command::HuntAlgorithm(_) => "HuntAlgorithm",
-            Command::Explore(_) => "Explore",
-            Command::ExploreAlgorithm(_) => "ExploreAlgorithm",
-            Command::Judge(_) => "Judge",
-            Command::Draw(_) => "Draw",
-            Command::DrawAlgorithm(_) => "DrawAlgorithm",
-            Command::Shrink(_) => "Shrink",
-            Command::ShrinkAlgorithm(_) => "ShrinkAlgorithm",
-            Command::Step(_) => "Step",
-            Command::StepAlgorithm(_) => "StepAlgorithm",
-            Command::Explain(_) => "Explain",
-        };
-        f.write_str(name)
-    }
 }
 
 impl Command {

@@ -1,7 +1,7 @@
 //! The worked rows on a simulated core. A script is like one for a world (`played`), without data words. `step 0 7 in` ends
 //! with this answer of the core.
 
-use super::phrase::{Phrase, cut, found_of, place};
+use super::phrase::{Phrase, Table, all_hold, cut, found_of, is_refusal, place};
 use super::played::are_words;
 use rmecore::{Core, CoreDone, Happened, Kind, Outer, Refusal, Word};
 use std::alloc::Global;
@@ -18,10 +18,10 @@ fn done_of(name: &str) -> Option<CoreDone> {
     }
 }
 
-/// Whether the deed, if there is one, is the next of these deeds.
+/// Whether the deed, if there is one, is the next of these deeds. Where they are `any`, it is.
 fn is_told(deeds: &mut &str, outer: Option<Outer>) -> bool {
     match outer {
-        Some(outer) => Phrase::read(cut(deeds, "; ")).outer() == Some(outer),
+        Some(outer) => { *deeds == "any" || Phrase::read(cut(deeds, "; ")).outer() == Some(outer) }
         None => true,
     }
 }
@@ -123,91 +123,71 @@ fn first_wrong(core: &mut Core, script: &str, deeds: &str) -> Option<u64> {
             return Some(at);
         }
     }
-    if untold.is_empty() { None } else { Some(0) }
+    if untold.is_empty() || untold == "any" {
+        None
+    } else {
+        Some(0)
+    }
 }
 
-/// The first row that fails, and the line in it that fails. A row has its processes and limit, its script and its deeds.
-fn first_other(alloc: Global, rows: &[((u64, u64), &str, &str)]) -> Option<(usize, u64)> {
-    for (row, ((procs, limit), script, deeds)) in rows.iter().enumerate() {
-        let line = match Core::new(alloc, *procs, *limit) {
-            Ok(mut core) => first_wrong(&mut core, script, deeds),
-            Err(_) => Some(0),
-        };
-        if let Some(line) = line {
-            return Some((row, line));
+/// Whether the script has the results that it says, and its deeds are those of the row.
+fn is_played(core: &mut Core, row: &str) -> bool {
+    let mut deeds = row;
+    let script = cut(&mut deeds, "");
+    first_wrong(core, script, deeds).is_none()
+}
+
+/// Rows on new cores. A row has the number of processes and the limit, and then a script and its deeds, or the refusal of the
+/// sizes, as `refused 1`. A line that begins with `#` is a comment.
+#[derive(Drop)]
+pub struct OnCores;
+
+impl Table for OnCores {
+    fn holds(&self, alloc: Global, row: &str) -> bool {
+        let mut rest = row;
+        let sizes = Phrase::read(cut(&mut rest, ": "));
+        if sizes.word == "#" {
+            return true;
+        }
+        match Core::new(alloc, sizes.number(0), sizes.number(1)) {
+            Ok(mut core) => is_played(&mut core, rest),
+            Err(refusal) => is_refusal(refusal, rest),
         }
     }
-    None
 }
 
-/// smallest, first-steps, tie, dead-in-the-doorway, between-two-words, re-entry.
+const LOCK_ROWS: &str = "\
+# smallest
+sizes 1 10: lock 0; step 0 7 in; words 0 0 1 1 | begin 0; ready 0; enter 0
+# first-steps
+sizes 1 1: lock 0; step 0 1; step 0 3; words 0 1 0 0 | begin 0
+# tie: both read 0 and take 1; the weigh of process 1 is blocked by (1, 0)
+sizes 2 10: lock 0; lock 1; step 0 5; step 1 5; step 0 2; step 1 2; step 1 3; step 0 3 in; words 0 0 1 1; words 1 0 1 0; blocked 1 2 | begin 0; begin 1; ready 0; ready 1; enter 0
+# dead-in-the-doorway: the look of process 0 is blocked until 1 restarts, takes 2 and shuts
+sizes 2 10: lock 1; step 1 5; crash 1; lock 0; step 0 8; lock 1; step 1 6; step 0 3 in; words 1 0 2 0; blocked 0 1 | begin 1; crash 1; begin 0; ready 0; ready 1; enter 0
+# between-two-words: 0 restarts with choosing and a number both set, shuts and enters; 1 stays blocked
+sizes 2 10: lock 0; step 0 6; crash 0; lock 1; step 1 8; lock 0; step 0 7 in; step 1 4; words 0 0 1 1; words 1 0 2 0; began 0 1 1 0 | begin 0; ready 0; crash 0; begin 1; ready 1; enter 0
+# re-entry
+sizes 2 10: lock 0; step 0 10 in; lock 1; step 1 7; crash 0; step 1 3; lock 0; step 0 3 in-again; words 1 0 2 0 | begin 0; ready 0; enter 0; begin 1; ready 1; crash 0; reenter 0";
+
 #[test]
 fn lock_rows(rt: HostRuntime) {
-    let rows = [
-        (
-            (1, 10),
-            "lock 0; step 0 7 in; words 0 0 1 1",
-            "begin 0; ready 0; enter 0",
-        ),
-        (
-            (1, 1),
-            "lock 0; step 0 1; step 0 3; words 0 1 0 0",
-            "begin 0",
-        ),
-        // both read 0 and take 1; the weigh of process 1 is blocked by (1, 0)
-        (
-            (2, 10),
-            "lock 0; lock 1; step 0 5; step 1 5; step 0 2; step 1 2; step 1 3; step 0 3 in; words 0 0 1 1; words 1 0 1 0; blocked 1 2",
-            "begin 0; begin 1; ready 0; ready 1; enter 0",
-        ),
-        // the look of process 0 is blocked until 1 restarts, takes 2 and shuts
-        (
-            (2, 10),
-            "lock 1; step 1 5; crash 1; lock 0; step 0 8; lock 1; step 1 6; step 0 3 in; words 1 0 2 0; blocked 0 1",
-            "begin 1; crash 1; begin 0; ready 0; ready 1; enter 0",
-        ),
-        // 0 restarts with choosing and a number both set, shuts and enters; 1 stays blocked
-        (
-            (2, 10),
-            "lock 0; step 0 6; crash 0; lock 1; step 1 8; lock 0; step 0 7 in; step 1 4; words 0 0 1 1; words 1 0 2 0; began 0 1 1 0",
-            "begin 0; ready 0; crash 0; begin 1; ready 1; enter 0",
-        ),
-        (
-            (2, 10),
-            "lock 0; step 0 10 in; lock 1; step 1 7; crash 0; step 1 3; lock 0; step 0 3 in-again; words 1 0 2 0",
-            "begin 0; ready 0; enter 0; begin 1; ready 1; crash 0; reenter 0",
-        ),
-    ];
-    assert_eq!(rt; first_other(rt.alloc(), &rows), None);
+    all_hold(&rt, rt.alloc(), &OnCores, LOCK_ROWS);
 }
 
-/// half-an-exit, number-limit, withdraw-waiting, withdraw-and-return.
+const ENDS_OF_WAITING: &str = "\
+# half-an-exit: the number is cleared, so the next process enters; the mark is left to the recovery
+sizes 2 10: lock 0; step 0 10 in; lock 1; step 1 8; unlock 0; step 0 1; crash 0; step 1 2 in; recover 0; step 0 4 found left; words 0 0 0 0; words 1 0 2 1 | begin 0; ready 0; enter 0; begin 1; ready 1; leave 0; crash 0; enter 1
+# number-limit
+sizes 2 1: lock 0; step 0 10 in; lock 1; step 1 6 spent; unlock 0; step 0 2 out; lock 1; step 1 10 in; words 1 0 1 1 | begin 0; ready 0; enter 0; begin 1; quit 1; leave 0; begin 1; ready 1; enter 1
+# withdraw-waiting
+sizes 2 10: lock 0; step 0 7; lock 1; step 1 9; withdraw 0; step 0 1 withdrawn; step 1 2 in; words 0 0 0 0; words 1 0 2 1 | begin 0; ready 0; begin 1; ready 1; quit 0; enter 1
+# withdraw-and-return
+sizes 2 10: lock 0; step 0 10 in; lock 1; step 1 9; withdraw 1; step 1 1 withdrawn; lock 1; step 1 9; unlock 0; step 0 2 out; step 1 2 in; words 1 0 2 1; blocked 1 1; steps 1 11 | begin 0; ready 0; enter 0; begin 1; ready 1; quit 1; begin 1; ready 1; leave 0; enter 1";
+
 #[test]
 fn ends_of_waiting(rt: HostRuntime) {
-    let rows = [
-        // the number is cleared, so the next process enters; the mark is left to the recovery
-        (
-            (2, 10),
-            "lock 0; step 0 10 in; lock 1; step 1 8; unlock 0; step 0 1; crash 0; step 1 2 in; recover 0; step 0 4 found left; words 0 0 0 0; words 1 0 2 1",
-            "begin 0; ready 0; enter 0; begin 1; ready 1; leave 0; crash 0; enter 1",
-        ),
-        (
-            (2, 1),
-            "lock 0; step 0 10 in; lock 1; step 1 6 spent; unlock 0; step 0 2 out; lock 1; step 1 10 in; words 1 0 1 1",
-            "begin 0; ready 0; enter 0; begin 1; quit 1; leave 0; begin 1; ready 1; enter 1",
-        ),
-        (
-            (2, 10),
-            "lock 0; step 0 7; lock 1; step 1 9; withdraw 0; step 0 1 withdrawn; step 1 2 in; words 0 0 0 0; words 1 0 2 1",
-            "begin 0; ready 0; begin 1; ready 1; quit 0; enter 1",
-        ),
-        (
-            (2, 10),
-            "lock 0; step 0 10 in; lock 1; step 1 9; withdraw 1; step 1 1 withdrawn; lock 1; step 1 9; unlock 0; step 0 2 out; step 1 2 in; words 1 0 2 1; blocked 1 1; steps 1 11",
-            "begin 0; ready 0; enter 0; begin 1; ready 1; quit 1; begin 1; ready 1; leave 0; enter 1",
-        ),
-    ];
-    assert_eq!(rt; first_other(rt.alloc(), &rows), None);
+    all_hold(&rt, rt.alloc(), &OnCores, ENDS_OF_WAITING);
 }
 
 fn core_after(alloc: Global, procs: u64, limit: u64, script: &str, deeds: &str) -> Option<Core> {
@@ -245,108 +225,64 @@ fn looks_first(rt: HostRuntime) {
     assert!(rt; is_so);
 }
 
-/// Crashes all 64 processes. True: each crash is reported as its deed.
-fn all_crash(core: &mut Core) -> bool {
-    for p in 0..64 {
-        if core.crash(p) != Ok(Outer::Crash(p)) {
-            return false;
-        }
-    }
-    true
-}
-
-/// Crashes all processes. True: their words are kept, and the locks go on from them.
-fn goes_on(core: &mut Core) -> bool {
-    let again =
-        "words 0 0 1 1; words 1 0 2 0; words 63 0 0 0; lock 1; step 1 5; lock 0; step 0 3 in-again; blocked 1 1";
-    all_crash(core) && first_wrong(core, again, "reenter 0").is_none()
-}
+/// All 64 processes crash. Their words are kept, and the locks go on from them.
+const CRASH_OF_EVERYTHING: &str = "\
+sizes 64 100: lock 0; step 0 196 in; lock 1; step 1 69; crash 0; crash 1; crash 2; crash 3; crash 4; crash 5; crash 6; \
+crash 7; crash 8; crash 9; crash 10; crash 11; crash 12; crash 13; crash 14; crash 15; crash 16; crash 17; crash 18; \
+crash 19; crash 20; crash 21; crash 22; crash 23; crash 24; crash 25; crash 26; crash 27; crash 28; crash 29; crash \
+30; crash 31; crash 32; crash 33; crash 34; crash 35; crash 36; crash 37; crash 38; crash 39; crash 40; crash 41; \
+crash 42; crash 43; crash 44; crash 45; crash 46; crash 47; crash 48; crash 49; crash 50; crash 51; crash 52; crash \
+53; crash 54; crash 55; crash 56; crash 57; crash 58; crash 59; crash 60; crash 61; crash 62; crash 63; words 0 0 1 1; \
+words 1 0 2 0; words 63 0 0 0; lock 1; step 1 5; lock 0; step 0 3 in-again; blocked 1 1 | begin 0; ready 0; enter 0; \
+begin 1; ready 1; crash 0; crash 1; crash 2; crash 3; crash 4; crash 5; crash 6; crash 7; crash 8; crash 9; crash 10; \
+crash 11; crash 12; crash 13; crash 14; crash 15; crash 16; crash 17; crash 18; crash 19; crash 20; crash 21; crash \
+22; crash 23; crash 24; crash 25; crash 26; crash 27; crash 28; crash 29; crash 30; crash 31; crash 32; crash 33; \
+crash 34; crash 35; crash 36; crash 37; crash 38; crash 39; crash 40; crash 41; crash 42; crash 43; crash 44; crash \
+45; crash 46; crash 47; crash 48; crash 49; crash 50; crash 51; crash 52; crash 53; crash 54; crash 55; crash 56; \
+crash 57; crash 58; crash 59; crash 60; crash 61; crash 62; crash 63; reenter 0";
 
 #[test]
 fn crash_of_everything(rt: HostRuntime) {
-    let script = "lock 0; step 0 196 in; lock 1; step 1 69";
-    let deeds = "begin 0; ready 0; enter 0; begin 1; ready 1";
-    let is_so = match core_after(rt.alloc(), 64, 100, script, deeds) {
-        Some(mut core) => goes_on(&mut core),
-        None => false,
-    };
-    assert!(rt; is_so);
+    all_hold(&rt, rt.alloc(), &OnCores, CRASH_OF_EVERYTHING);
 }
 
 /// Refusals for a process that does not exist, and for a process at rest, in the doorway, waiting and inside. Any process
 /// may crash, also an idle or a crashed one. A crash ends the call under way.
+const REFUSED_CALLS: &str = "\
+sizes 2 10: refused 3 lock 2; refused 3 recover 2; refused 3 unlock 2; refused 3 withdraw 2; refused 3 step 2; refused 3 crash 2; refused 3 words 2; refused 3 steps 2; refused 3 blocked 2; refused 3 began 2
+sizes 2 10: steps 0 0; blocked 0 0; began 0 0 0 0; refused 7 step 0; refused 5 unlock 0; refused 14 withdraw 0
+sizes 2 10: crash 1; crash 1; lock 0; step 0 10 in; unlock 0; crash 0; refused 7 step 0; refused 5 unlock 0; words 0 0 1 1 | crash 1; crash 1; begin 0; ready 0; enter 0; crash 0";
+
 #[test]
 fn refused_calls(rt: HostRuntime) {
-    let rows = [
-        (
-            (2, 10),
-            "refused 3 lock 2; refused 3 recover 2; refused 3 unlock 2; refused 3 withdraw 2; refused 3 step 2; refused 3 crash 2; refused 3 words 2; refused 3 steps 2; refused 3 blocked 2; refused 3 began 2",
-            "",
-        ),
-        (
-            (2, 10),
-            "steps 0 0; blocked 0 0; began 0 0 0 0; refused 7 step 0; refused 5 unlock 0; refused 14 withdraw 0",
-            "",
-        ),
-        (
-            (2, 10),
-            "crash 1; crash 1; lock 0; step 0 10 in; unlock 0; crash 0; refused 7 step 0; refused 5 unlock 0; words 0 0 1 1",
-            "crash 1; crash 1; begin 0; ready 0; enter 0; crash 0",
-        ),
-    ];
-    assert_eq!(rt; first_other(rt.alloc(), &rows), None);
+    all_hold(&rt, rt.alloc(), &OnCores, REFUSED_CALLS);
 }
 
-/// The first step of a lock at which another call is not refused, or at which the lock has another answer than it should.
-fn first_unrefused(core: &mut Core) -> Option<u64> {
-    let mut deeds = "begin 0; ready 0; enter 0";
-    for steps in 0..10u64 {
-        let under_way = "refused 4 lock 0; refused 4 recover 0; refused 4 unlock 0";
-        if first_wrong(core, under_way, "").is_some() {
-            return Some(steps);
-        }
-        if steps < 7 && !is_refused(core, "14 withdraw 0") {
-            return Some(steps);
-        }
-        let wanted = if steps == 9 { done_of("in") } else { None };
-        if !step(core, &mut deeds, (0, 1), wanted) {
-            return Some(steps);
-        }
-    }
-    None
-}
-
-/// The same for the steps of a lock, and then for a process that is inside.
-fn first_in_place(core: &mut Core) -> Option<u64> {
-    let inside = "refused 6 lock 0; refused 6 recover 0; refused 14 withdraw 0; refused 7 step 0";
-    match first_unrefused(core) {
-        None => first_wrong(core, inside, ""),
-        steps => steps,
-    }
-}
+/// At each step of a lock another call is refused, a withdraw until it is waiting; then the same of a process that is inside.
+const OUT_OF_PLACE: &str = "\
+sizes 2 10: lock 0; refused 4 lock 0; refused 4 recover 0; refused 4 unlock 0; refused 14 withdraw 0; step 0 1; \
+refused 4 lock 0; refused 4 recover 0; refused 4 unlock 0; refused 14 withdraw 0; step 0 1; refused 4 lock 0; refused \
+4 recover 0; refused 4 unlock 0; refused 14 withdraw 0; step 0 1; refused 4 lock 0; refused 4 recover 0; refused 4 \
+unlock 0; refused 14 withdraw 0; step 0 1; refused 4 lock 0; refused 4 recover 0; refused 4 unlock 0; refused 14 \
+withdraw 0; step 0 1; refused 4 lock 0; refused 4 recover 0; refused 4 unlock 0; refused 14 withdraw 0; step 0 1; \
+refused 4 lock 0; refused 4 recover 0; refused 4 unlock 0; refused 14 withdraw 0; step 0 1; refused 4 lock 0; refused \
+4 recover 0; refused 4 unlock 0; step 0 1; refused 4 lock 0; refused 4 recover 0; refused 4 unlock 0; step 0 1; \
+refused 4 lock 0; refused 4 recover 0; refused 4 unlock 0; step 0 1 in; refused 6 lock 0; refused 6 recover 0; refused \
+14 withdraw 0; refused 7 step 0 | begin 0; ready 0; enter 0";
 
 #[test]
 fn out_of_place(rt: HostRuntime) {
-    let wrong = match core_after(rt.alloc(), 2, 10, "lock 0", "") {
-        Some(mut core) => first_in_place(&mut core),
-        None => Some(0),
-    };
-    assert!(rt; wrong.is_none());
+    all_hold(&rt, rt.alloc(), &OnCores, OUT_OF_PLACE);
 }
+
+const REFUSED_SIZES: &str = "\
+sizes 0 0: refused 1
+sizes 65 10: refused 1
+sizes 64 0: refused 2
+sizes 1 4611686018427387905: refused 2
+sizes 64 4611686018427387904: lock 0";
 
 #[test]
 fn refused_sizes(rt: HostRuntime) {
-    for (procs, limit, number) in [
-        (0, 0, Some(1)),
-        (65, 10, Some(1)),
-        (64, 0, Some(2)),
-        (1, 4_611_686_018_427_387_905, Some(2)),
-        (64, 4_611_686_018_427_387_904, None),
-    ] {
-        let refused = match Core::new(rt.alloc(), procs, limit) {
-            Ok(_) => None,
-            Err(refusal) => refusal.number(),
-        };
-        assert!(rt; refused == number, "{procs} and {limit}");
-    }
+    all_hold(&rt, rt.alloc(), &OnCores, REFUSED_SIZES);
 }

@@ -1,12 +1,12 @@
 //! Texts of images: worked ones, broken ones, and other spellings.
 
-use super::phrase::{Phrase, cut};
+use super::phrase::{Phrase, Table, all_hold, cut, no_line, no_text};
 use judge::{Judge, Start};
 use redomail::{Layout, Message};
 use rmecore::{Own, Phase, Refusal};
 use rmeworld::image::rules::{find_in, layout, word};
 use rmeworld::{DataWords, Image, Owns, first_rule, read_image, start_of, widen, write_image};
-use std::alloc::Global;
+use std::alloc::{AllocError, Global};
 
 /// One process inside, and an empty mailbox.
 const SMALLEST: &str =
@@ -101,7 +101,7 @@ fn texts_are_written_as_they_were_read(rt: HostRuntime) {
         (TWICE, SMALLEST),
         (ESCAPED, SMALLEST),
     ];
-    assert_eq!(rt; first_otherwise(rt.alloc(), &texts), None);
+    no_text(&rt, first_otherwise(rt.alloc(), &texts));
 }
 
 /// Whether the text, widened, is the other text.
@@ -117,13 +117,10 @@ fn is_too_wide(alloc: Global, text: &str, width: u64) -> bool {
 #[test]
 fn wider_images(rt: HostRuntime) {
     let alloc = rt.alloc();
-    assert!(rt; is_widened(alloc, TORN, 1, TORN));
-    assert!(rt; is_widened(alloc, TORN, 2, WIDENED_TORN));
+    assert!(rt; is_widened(alloc, TORN, 1, TORN) && is_widened(alloc, TORN, 2, WIDENED_TORN));
     assert!(rt; is_widened(alloc, SHOWN, 3, WIDENED_SHOWN));
-    assert!(rt; is_widened(alloc, WIDE_TORN, 3, WIDE_TORN));
-    assert!(rt; is_too_wide(alloc, WIDE_TORN, 2));
-    assert!(rt; is_too_wide(alloc, TORN, 0));
-    assert!(rt; is_too_wide(alloc, TORN, 9));
+    assert!(rt; is_widened(alloc, WIDE_TORN, 3, WIDE_TORN) && is_too_wide(alloc, WIDE_TORN, 2));
+    assert!(rt; is_too_wide(alloc, TORN, 0) && is_too_wide(alloc, TORN, 9));
 }
 
 /// Broken forms, broken locks and broken mailboxes: a line for each, after the rule that it breaks.
@@ -142,19 +139,16 @@ const BROKEN: &str = r#"1 []
 9 {"cap":1,"data":[0,0,0,1,0,0,0,0,0,0,0,0,0,0,0],"limit":10,"lock":[[0,0,0]],"version":2,"width":1}
 9 {"cap":1,"data":[0,0,0,1,0,1,0,0,0,0,0,0,0,0,0],"limit":10,"lock":[[0,0,0]],"version":2,"width":1}"#;
 
-/// The first line whose text does not break exactly its rule. Rule 0: the text breaks none. Each text begins with this head.
-fn first_unlike<'a>(alloc: Global, head: &str, lines: &'a str) -> Option<&'a str> {
-    let mut rest = lines;
-    for _ in 0..lines.len() {
-        if rest.is_empty() {
-            break;
-        }
-        let line = cut(&mut rest, "\n");
-        if !breaks_rule(alloc, head, line) {
-            return Some(line);
-        }
+/// Rows of texts: a rule, and the text that breaks it, after this head. Rule 0: the text breaks none.
+#[derive(Drop)]
+struct OnTexts<'a> {
+    head: &'a str,
+}
+
+impl Table for OnTexts<'_> {
+    fn holds(&self, alloc: Global, row: &str) -> bool {
+        breaks_rule(alloc, self.head, row)
     }
-    None
 }
 
 fn breaks_rule(alloc: Global, head: &str, line: &str) -> bool {
@@ -174,25 +168,33 @@ fn joined(alloc: Global, head: &str, members: &str) -> Result<Vec<u8>, Refusal> 
 
 #[test]
 fn broken_texts(rt: HostRuntime) {
-    assert_eq!(rt; first_unlike(rt.alloc(), "", BROKEN), None);
+    all_hold(&rt, rt.alloc(), &OnTexts { head: "" }, BROKEN);
 }
 
-/// The image of *smallest* with this number of data words.
-fn with_data(alloc: Global, count: u64) -> Result<Vec<u8>, Refusal> {
-    let mut text = Vec::from_slice(alloc, b"{\"cap\":1,\"data\":[0")?;
+/// Writes the image of *smallest* with this number of data words.
+fn put_data(text: &mut Vec<u8>, count: u64) -> Result<(), AllocError> {
+    text.extend_from_slice(b"{\"cap\":1,\"data\":[0")?;
     for _ in 1..count {
         text.extend_from_slice(b",0")?;
     }
-    text.extend_from_slice(b"],\"limit\":10,\"lock\":[[0,1,1]],\"version\":2,\"width\":1}\n")?;
-    Ok(text)
+    text.extend_from_slice(b"],\"limit\":10,\"lock\":[[0,1,1]],\"version\":2,\"width\":1}\n")
+}
+
+/// The rule that it breaks. None: it breaks none, or it can't be written.
+fn rule_of_data(alloc: Global, count: u64) -> Option<u64> {
+    let mut text = Vec::new(alloc);
+    match put_data(&mut text, count) {
+        Ok(()) => rule_of(alloc, &text),
+        Err(_) => None,
+    }
 }
 
 /// The first prefix of the text that does not break rule 1. The prefix without the last byte, the line feed, breaks none.
-fn first_read_beginning(alloc: Global, text: &[u8]) -> Option<usize> {
+fn first_read_beginning(alloc: Global, text: &[u8]) -> Option<u64> {
     for end in 0..text.len() {
         let rule = if end + 1 == text.len() { None } else { Some(1) };
         if rule_of(alloc, &text[..end]) != rule {
-            return Some(end);
+            return Some(end as u64);
         }
     }
     None
@@ -201,12 +203,9 @@ fn first_read_beginning(alloc: Global, text: &[u8]) -> Option<usize> {
 #[test]
 fn beginnings(rt: HostRuntime) {
     let alloc = rt.alloc();
-    assert_eq!(rt; first_read_beginning(alloc, SMALLEST.as_bytes()), None);
+    no_line(&rt, first_read_beginning(alloc, SMALLEST.as_bytes()));
     assert!(rt; rule_of(alloc, &[b'['; 1000]) == Some(1));
-    let Ok(long) = with_data(alloc, 200_000) else {
-        panic!(rt; "no text")
-    };
-    assert!(rt; rule_of(alloc, &long) == Some(4));
+    assert!(rt; rule_of_data(alloc, 200_000) == Some(4));
 }
 
 /// A capacity, data words and a limit that break no rule.
@@ -244,7 +243,7 @@ const MEMBERS: &str = r#"2 "lock":[[0,1,1]],"version":2}
 
 #[test]
 fn members(rt: HostRuntime) {
-    assert_eq!(rt; first_unlike(rt.alloc(), HEAD, MEMBERS), None);
+    all_hold(&rt, rt.alloc(), &OnTexts { head: HEAD }, MEMBERS);
     assert!(rt; rule_of(rt.alloc(), b"{\"cap\xff\":1}") == Some(1));
 }
 
@@ -327,9 +326,10 @@ fn starts_with(alloc: Global, text: &str, shown: usize, pending: Option<Message>
 fn starts(rt: HostRuntime) {
     let seventy_seven = Phrase::read("message 0 1 77").message();
     assert!(rt; seventy_seven.is_some());
-    assert!(rt; starts_with(rt.alloc(), SMALLEST, 0, None));
     assert!(rt; starts_with(rt.alloc(), TORN, 0, seventy_seven));
-    assert!(rt; starts_with(rt.alloc(), SHOWN, 1, None));
+    assert!(rt;
+        starts_with(rt.alloc(), SMALLEST, 0, None) && starts_with(rt.alloc(), SHOWN, 1, None)
+    );
 }
 
 /// Whether exactly these processes are ahead of process `p`.

@@ -1,6 +1,6 @@
 //! Lists of deeds for a judge, and starts. A deed that is refused has its fault after it, as in `enter 1 overtaken 1 0`.
 
-use super::phrase::{Phrase, cut, place};
+use super::phrase::{Phrase, Table, all_hold, cut, is_refusal, place};
 use judge::{Ahead, Judge, Messages, Phases, Start};
 use redomail::Message;
 use rmecore::{Fault, Phase, Refusal};
@@ -36,158 +36,101 @@ fn feed(judge: &mut Judge, text: &str) -> bool {
     }
 }
 
-/// The number, from 1, of the first deed that is judged otherwise.
-fn first_misjudged(judge: &mut Judge, deeds: &str) -> Option<u64> {
+/// Whether the deeds are judged as they say.
+fn are_judged(judge: &mut Judge, deeds: &str) -> bool {
     let mut rest = deeds;
-    let mut at = 0u64;
     for _ in 0..deeds.len() {
         if rest.is_empty() {
             break;
         }
-        at = at.saturating_add(1);
         if !feed(judge, cut(&mut rest, "; ")) {
-            return Some(at);
+            return false;
         }
     }
-    None
+    true
 }
 
-/// The first list that fails, and the deed in it that fails. The judge is new, with this number of processes and room for
-/// two messages.
-fn first_other(alloc: Global, rows: &[(u64, &str)]) -> Option<(usize, u64)> {
-    for (row, (procs, deeds)) in rows.iter().enumerate() {
-        let at = match Judge::new(alloc, *procs, 2) {
-            Ok(mut judge) => first_misjudged(&mut judge, deeds),
-            Err(_) => Some(0),
-        };
-        if let Some(at) = at {
-            return Some((row, at));
+/// Rows on new judges. A row has the number of processes and the capacity, and then deeds, or the refusal of the sizes, as
+/// `refused 8`. A line that begins with `#` is a comment.
+#[derive(Drop)]
+struct OnJudges;
+
+impl Table for OnJudges {
+    fn holds(&self, alloc: Global, row: &str) -> bool {
+        let mut rest = row;
+        let sizes = Phrase::read(cut(&mut rest, ": "));
+        if sizes.word == "#" {
+            return true;
+        }
+        match Judge::new(alloc, sizes.number(0), sizes.number(1)) {
+            Ok(mut judge) => are_judged(&mut judge, rest),
+            Err(refusal) => is_refusal(refusal, rest),
         }
     }
-    None
 }
 
-/// Worked lists of deeds.
-const LISTS: [(u64, &str); 12] = [
-    // 0 is ready before 1 begins, so 1 can't enter first
-    (
-        2,
-        "begin 0; ready 0; begin 1; ready 1; enter 1 overtaken 1 0",
-    ),
-    (2, "begin 0; ready 0; begin 1; ready 1; enter 0"),
-    // no process is inside, so nothing can be committed
-    (1, "commit 0 1 5 not-inside"),
-    // after 0 has withdrawn, 1 waits for no process
-    (2, "begin 0; ready 0; begin 1; ready 1; quit 0; enter 1"),
-    (2, "begin 0; quit 0; begin 1; ready 1; enter 1"),
-    // 0 leaves or quits before 1 enters
-    (
-        2,
-        "begin 0; ready 0; begin 1; ready 1; enter 0; leave 0; enter 1",
-    ),
-    // 0 is in the doorway again, so 1 enters first
-    (
-        2,
-        "begin 0; ready 0; begin 1; ready 1; quit 0; begin 0; ready 0; enter 0 overtaken 0 1",
-    ),
-    // a message is committed and shown; no process leaves while a message is pending, unless the lock is ruined
-    (
-        1,
-        "begin 0; ready 0; enter 0; commit 0 1 7 8; show 0 0 1 7 8; leave 0",
-    ),
-    (
-        1,
-        "begin 0; ready 0; enter 0; commit 0 1 7 8; leave 0 mail-order",
-    ),
-    (
-        1,
-        "begin 0; ready 0; enter 0; commit 0 1 7 8; ruin 0; leave 0",
-    ),
-    // the message shown is the one committed, in its width too; a process that crashed inside shows it later
-    (
-        1,
-        "begin 0; ready 0; enter 0; commit 0 1 7 8; show 0 0 1 7 mail-order",
-    ),
-    (
-        1,
-        "begin 0; ready 0; enter 0; commit 0 1 7; crash 0; reenter 0; show 0 0 1 7; close 0; leave 0",
-    ),
-];
+const LISTS: &str = "\
+# 0 is ready before 1 begins, so 1 can't enter first
+sizes 2 2: begin 0; ready 0; begin 1; ready 1; enter 1 overtaken 1 0
+sizes 2 2: begin 0; ready 0; begin 1; ready 1; enter 0
+# no process is inside, so nothing can be committed
+sizes 1 2: commit 0 1 5 not-inside
+# after 0 has withdrawn, 1 waits for no process
+sizes 2 2: begin 0; ready 0; begin 1; ready 1; quit 0; enter 1
+sizes 2 2: begin 0; quit 0; begin 1; ready 1; enter 1
+# 0 leaves or quits before 1 enters
+sizes 2 2: begin 0; ready 0; begin 1; ready 1; enter 0; leave 0; enter 1
+# 0 is in the doorway again, so 1 enters first
+sizes 2 2: begin 0; ready 0; begin 1; ready 1; quit 0; begin 0; ready 0; enter 0 overtaken 0 1
+# a message is committed and shown; no process leaves while a message is pending, unless the lock is ruined
+sizes 1 2: begin 0; ready 0; enter 0; commit 0 1 7 8; show 0 0 1 7 8; leave 0
+sizes 1 2: begin 0; ready 0; enter 0; commit 0 1 7 8; leave 0 mail-order
+sizes 1 2: begin 0; ready 0; enter 0; commit 0 1 7 8; ruin 0; leave 0
+# the message shown is the one committed, in its width too; a process that crashed inside shows it later
+sizes 1 2: begin 0; ready 0; enter 0; commit 0 1 7 8; show 0 0 1 7 mail-order
+sizes 1 2: begin 0; ready 0; enter 0; commit 0 1 7; crash 0; reenter 0; show 0 0 1 7; close 0; leave 0";
 
 #[test]
 fn worked_lists(rt: HostRuntime) {
-    assert_eq!(rt; first_other(rt.alloc(), &LISTS), None);
+    all_hold(&rt, rt.alloc(), &OnJudges, LISTS);
 }
 
 /// Each fault, for the first and for the last process. A process that does not exist has no deed, not even a crash. If two
 /// processes are ahead, the lesser is named.
-const FAULTS: [(u64, &str); 16] = [
-    (64, "ready 0 out-of-place"),
-    (64, "ready 63 out-of-place"),
-    (
-        64,
-        "begin 0; ready 0; begin 63; ready 63; enter 0; leave 0; begin 0; ready 0; enter 63; enter 0 two-inside",
-    ),
-    (
-        64,
-        "begin 63; ready 63; begin 0; ready 0; enter 63; leave 63; begin 63; ready 63; enter 0; enter 63 two-inside",
-    ),
-    (
-        64,
-        "begin 63; ready 63; begin 0; ready 0; enter 63; crash 63; enter 0 not-reentered",
-    ),
-    (
-        64,
-        "begin 0; ready 0; begin 63; ready 63; enter 0; crash 0; enter 63 not-reentered",
-    ),
-    (
-        64,
-        "begin 63; ready 63; begin 0; ready 0; enter 0 overtaken 0 63",
-    ),
-    (
-        64,
-        "begin 0; ready 0; begin 63; ready 63; enter 63 overtaken 63 0",
-    ),
-    (64, "begin 0; ready 0; close 0 not-inside"),
-    (64, "begin 63; ready 63; close 63 not-inside"),
-    (64, "begin 0; ready 0; enter 0; commit 0 2 5 mail-order"),
-    (64, "begin 63; ready 63; enter 63; commit 63 2 5 mail-order"),
-    (
-        64,
-        "begin 0; ready 0; enter 0; close 0; commit 0 1 5 after-close",
-    ),
-    (
-        64,
-        "begin 63; ready 63; enter 63; close 63; commit 63 1 5 after-close",
-    ),
-    (64, "crash 64 out-of-place"),
-    (
-        64,
-        "begin 40; ready 40; begin 9; ready 9; begin 63; ready 63; enter 63 overtaken 63 9",
-    ),
-];
+const FAULTS: &str = "\
+sizes 64 2: ready 0 out-of-place
+sizes 64 2: ready 63 out-of-place
+sizes 64 2: begin 0; ready 0; begin 63; ready 63; enter 0; leave 0; begin 0; ready 0; enter 63; enter 0 two-inside
+sizes 64 2: begin 63; ready 63; begin 0; ready 0; enter 63; leave 63; begin 63; ready 63; enter 0; enter 63 two-inside
+sizes 64 2: begin 63; ready 63; begin 0; ready 0; enter 63; crash 63; enter 0 not-reentered
+sizes 64 2: begin 0; ready 0; begin 63; ready 63; enter 0; crash 0; enter 63 not-reentered
+sizes 64 2: begin 63; ready 63; begin 0; ready 0; enter 0 overtaken 0 63
+sizes 64 2: begin 0; ready 0; begin 63; ready 63; enter 63 overtaken 63 0
+sizes 64 2: begin 0; ready 0; close 0 not-inside
+sizes 64 2: begin 63; ready 63; close 63 not-inside
+sizes 64 2: begin 0; ready 0; enter 0; commit 0 2 5 mail-order
+sizes 64 2: begin 63; ready 63; enter 63; commit 63 2 5 mail-order
+sizes 64 2: begin 0; ready 0; enter 0; close 0; commit 0 1 5 after-close
+sizes 64 2: begin 63; ready 63; enter 63; close 63; commit 63 1 5 after-close
+sizes 64 2: crash 64 out-of-place
+sizes 64 2: begin 40; ready 40; begin 9; ready 9; begin 63; ready 63; enter 63 overtaken 63 9";
 
 #[test]
 fn each_fault(rt: HostRuntime) {
-    assert_eq!(rt; first_other(rt.alloc(), &FAULTS), None);
+    all_hold(&rt, rt.alloc(), &OnJudges, FAULTS);
 }
+
+const LIMITS: &str = "\
+sizes 0 0: refused 1
+sizes 65 1: refused 1
+sizes 64 0: refused 8
+sizes 1 65537: refused 8
+sizes 64 65536: begin 0
+sizes 1 1: begin 0";
 
 #[test]
 fn limits(rt: HostRuntime) {
-    for (procs, cap, number) in [
-        (0, 0, Some(1)),
-        (65, 1, Some(1)),
-        (64, 0, Some(8)),
-        (1, 65537, Some(8)),
-        (64, 65536, None),
-        (1, 1, None),
-    ] {
-        let refused = match Judge::new(rt.alloc(), procs, cap) {
-            Ok(_) => None,
-            Err(refusal) => refusal.number(),
-        };
-        assert!(rt; refused == number, "{procs} and {cap}");
-    }
+    all_hold(&rt, rt.alloc(), &OnJudges, LIMITS);
 }
 
 /// A start, read from a text. `sizes 3 2` comes first. Then a line for each process has its phase and the processes ahead of
@@ -316,92 +259,80 @@ fn judge_of(alloc: Global, text: &str) -> Result<Judge, Refusal> {
     Judge::from_start(alloc, &start)
 }
 
-/// The first start that is not refused with the number beside it. Without a number it must be accepted.
-fn first_start<'a>(alloc: Global, rows: &[(&'a str, Option<u64>)]) -> Option<&'a str> {
-    for (text, number) in rows {
-        let is_so = match judge_of(alloc, text) {
-            Ok(_) => number.is_none(),
-            Err(refusal) => number.is_some() && refusal.number() == *number,
-        };
-        if !is_so {
-            return Some(text);
+/// Rows on judges from starts. A row has a start, and then deeds, or the refusal of the start.
+#[derive(Drop)]
+struct OnStarts;
+
+impl Table for OnStarts {
+    fn holds(&self, alloc: Global, row: &str) -> bool {
+        let mut rest = row;
+        let start = cut(&mut rest, ": ");
+        if start.starts_with("#") {
+            return true;
+        }
+        match judge_of(alloc, start) {
+            Ok(mut judge) => are_judged(&mut judge, rest),
+            Err(refusal) => is_refusal(refusal, rest),
         }
     }
-    None
 }
+
+const STARTS: &str = "\
+# the refusals in order
+sizes 0 0; inside: refused 1
+sizes 65 2; inside: refused 1
+sizes 1 0; inside: refused 8
+sizes 1 65537; inside: refused 8
+sizes 1 2; inside: refused 11
+# a process may be ahead of itself, two may be ahead of each other, a process that is out may have a set, and a
+# message may be pending in a ruined lock
+sizes 3 2; out 2; ready 2 1; ready 1; pending 0 1 7; ruined
+# two processes dead in
+sizes 3 2; dead-in; out; dead-in: refused 11
+# too few phases, and too few sets
+sizes 2 2; out; set: refused 11
+sizes 2 2; out; lone out: refused 11
+# a process in a set that is not ready, or does not exist
+sizes 2 2; door 1; ready 1 0: refused 11
+sizes 2 2; door 1; ready 1 2: refused 11
+sizes 2 2; door 1; ready 1 64: refused 11
+sizes 2 2; door 1; ready 1 18446744073709551615: refused 11";
 
 #[test]
 fn starts(rt: HostRuntime) {
-    let rows = [
-        // the refusals in order
-        ("sizes 0 0; inside", Some(1)),
-        ("sizes 65 2; inside", Some(1)),
-        ("sizes 1 0; inside", Some(8)),
-        ("sizes 1 65537; inside", Some(8)),
-        ("sizes 1 2; inside", Some(11)),
-        // a process may be ahead of itself, two may be ahead of each other, a process that is out may have a set, and a
-        // message may be pending in a ruined lock
-        (
-            "sizes 3 2; out 2; ready 2 1; ready 1; pending 0 1 7; ruined",
-            None,
-        ),
-        // two processes dead in
-        ("sizes 3 2; dead-in; out; dead-in", Some(11)),
-        // too few phases, and too few sets
-        ("sizes 2 2; out; set", Some(11)),
-        ("sizes 2 2; out; lone out", Some(11)),
-        // a process in a set that is not ready, or does not exist
-        ("sizes 2 2; door 1; ready 1 0", Some(11)),
-        ("sizes 2 2; door 1; ready 1 2", Some(11)),
-        ("sizes 2 2; door 1; ready 1 64", Some(11)),
-        ("sizes 2 2; door 1; ready 1 18446744073709551615", Some(11)),
-    ];
-    assert_eq!(rt; first_start(rt.alloc(), &rows), None);
+    all_hold(&rt, rt.alloc(), &OnStarts, STARTS);
 }
+
+const MESSAGES_OF_STARTS: &str = "\
+sizes 1 2; out; shown 0 1 7; shown 0 2 7
+# a number is missing, or occurs twice
+sizes 1 2; out; shown 0 2 7: refused 11
+sizes 1 2; out; shown 0 1 7; shown 0 1 7: refused 11
+# no such sender
+sizes 1 2; out; shown 1 1 7: refused 11
+# more messages than the capacity
+sizes 1 2; out; shown 0 1 7; shown 0 2 7; shown 0 3 7: refused 11
+# the pending message does not have its sender's next number
+sizes 1 2; out; shown 0 1 7; pending 0 1 7: refused 11
+sizes 1 2; out; shown 0 1 7; pending 0 3 7: refused 11
+sizes 1 2; out; shown 0 1 7; pending 1 1 7: refused 11
+# no room for the pending message
+sizes 1 2; out; shown 0 1 7; shown 0 2 7; pending 0 3 7: refused 11
+sizes 1 2; out; shown 0 1 7; pending 0 2 7
+# pending in a closed mailbox
+sizes 1 2; out; shown 0 1 7; pending 0 2 7; closed: refused 11";
 
 #[test]
 fn messages_of_starts(rt: HostRuntime) {
-    let rows = [
-        ("sizes 1 2; out; shown 0 1 7; shown 0 2 7", None),
-        // a number is missing, or occurs twice
-        ("sizes 1 2; out; shown 0 2 7", Some(11)),
-        ("sizes 1 2; out; shown 0 1 7; shown 0 1 7", Some(11)),
-        // no such sender
-        ("sizes 1 2; out; shown 1 1 7", Some(11)),
-        // more messages than the capacity
-        (
-            "sizes 1 2; out; shown 0 1 7; shown 0 2 7; shown 0 3 7",
-            Some(11),
-        ),
-        // the pending message does not have its sender's next number
-        ("sizes 1 2; out; shown 0 1 7; pending 0 1 7", Some(11)),
-        ("sizes 1 2; out; shown 0 1 7; pending 0 3 7", Some(11)),
-        ("sizes 1 2; out; shown 0 1 7; pending 1 1 7", Some(11)),
-        // no room for the pending message
-        (
-            "sizes 1 2; out; shown 0 1 7; shown 0 2 7; pending 0 3 7",
-            Some(11),
-        ),
-        ("sizes 1 2; out; shown 0 1 7; pending 0 2 7", None),
-        // pending in a closed mailbox
-        (
-            "sizes 1 2; out; shown 0 1 7; pending 0 2 7; closed",
-            Some(11),
-        ),
-    ];
-    assert_eq!(rt; first_start(rt.alloc(), &rows), None);
+    all_hold(&rt, rt.alloc(), &OnStarts, MESSAGES_OF_STARTS);
 }
 
 /// From a start with 0 dead in and its message pending, and 1 ready and ahead of 2. At the end two messages are shown, and
 /// the capacity is two.
+const GOING_ON: &str = "\
+sizes 3 2; dead-in 1 1; ready; ready 1; shown 1 1 5; pending 0 1 7: enter 2 not-reentered; reenter 0; leave 0 mail-order; show 0 1 1 7; leave 0; enter 2 overtaken 2 1; enter 1; leave 1; enter 2; commit 2 1 9 mail-order";
+
 #[test]
 fn going_on(rt: HostRuntime) {
-    let text = "sizes 3 2; dead-in 1 1; ready; ready 1; shown 1 1 5; pending 0 1 7";
-    let deeds =
-        "enter 2 not-reentered; reenter 0; leave 0 mail-order; show 0 1 1 7; leave 0; enter 2 overtaken 2 1; enter 1; leave 1; enter 2; commit 2 1 9 mail-order";
-    let wrong = match judge_of(rt.alloc(), text) {
-        Ok(mut judge) => first_misjudged(&mut judge, deeds),
-        Err(_) => Some(0),
-    };
-    assert_eq!(rt; wrong, None);
+    all_hold(&rt, rt.alloc(), &OnStarts, GOING_ON);
 }

@@ -2,7 +2,7 @@
 //! of the content and words that break one, and each allocation failing in turn.
 
 use super::memory::{Memory, are_messages};
-use super::phrase::Phrase;
+use super::phrase::{Phrase, no_line};
 use linked_list_allocator::LocalHeap;
 use redomail::{Job, Layout, Next, Reply, Task, content};
 use rmecore::{Body, Refusal};
@@ -44,12 +44,12 @@ fn every_reply(rt: HostRuntime) {
         Ok(mut memory) => first_wrong_task(rt.alloc(), &mut memory),
         Err(_) => Some(0),
     };
-    assert_eq!(rt; wrong, None);
+    no_line(&rt, wrong);
 }
 
 /// Whether count and armed have these values.
 fn are_heads(memory: &Memory, count: u64, armed: u64) -> bool {
-    memory.words.get(2) == Some(&count) && memory.words.get(3) == Some(&armed)
+    memory.words.get(2..4) == Some([count, armed].as_slice())
 }
 
 fn is_repaired(alloc: Global, memory: &mut Memory, value: Body) -> bool {
@@ -117,14 +117,14 @@ fn refusals_in_order(rt: HostRuntime) {
     }
 }
 
-/// The next access after the first word that a task reads.
-fn after(task: Task, word: u64) -> Option<Next> {
+/// Whether this access comes after the first word that a task reads.
+fn leads_to(task: Task, word: u64, next: Next) -> bool {
     match Job::new(ONE, 0, task) {
         Ok(mut job) => {
             job.feed(word);
-            Some(job.next())
+            job.next() == next
         }
-        Err(_) => None,
+        Err(_) => false,
     }
 }
 
@@ -132,12 +132,11 @@ fn after(task: Task, word: u64) -> Option<Next> {
 /// that is done ignores further words.
 #[test]
 fn odd_flags(rt: HostRuntime) {
-    assert!(rt; after(Task::Repair, 0) == Some(Next::Done(Reply::Mended(false))));
-    assert!(rt; after(Task::Repair, 1) == Some(Next::Get(4)));
-    assert!(rt; after(Task::Repair, 5) == Some(Next::Get(4)));
-    assert!(rt; after(Task::Close, 1) == Some(Next::Done(Reply::AlreadyClosed)));
-    assert!(rt; after(Task::Close, 5) == Some(Next::Put(1, 1)));
-    assert!(rt; after(Task::Check, 5) == Some(Next::Done(Reply::Ruined(false))));
+    assert!(rt; leads_to(Task::Repair, 0, Next::Done(Reply::Mended(false))));
+    assert!(rt; leads_to(Task::Repair, 1, Next::Get(4)) && leads_to(Task::Repair, 5, Next::Get(4)));
+    assert!(rt; leads_to(Task::Close, 1, Next::Done(Reply::AlreadyClosed)));
+    assert!(rt; leads_to(Task::Close, 5, Next::Put(1, 1)));
+    assert!(rt; leads_to(Task::Check, 5, Next::Done(Reply::Ruined(false))));
     let Ok(mut job) = Job::new(ONE, 0, Task::Check) else {
         panic!(rt; "no job")
     };
@@ -185,14 +184,14 @@ fn is_misshapen(alloc: Global, layout: Layout, words: &[u64]) -> bool {
 }
 
 /// The first of these changes after which the words still have content.
-fn first_sound(alloc: Global, words: &[u64; 15], changes: &[(usize, u64)]) -> Option<usize> {
+fn first_sound(alloc: Global, words: &[u64; 15], changes: &[(usize, u64)]) -> Option<u64> {
     for (i, v) in changes {
         let mut changed = *words;
         if let Some(word) = changed.get_mut(*i) {
             *word = *v;
         }
         if !is_misshapen(alloc, ONE, &changed) {
-            return Some(*i);
+            return Some(*i as u64);
         }
     }
     None
@@ -218,7 +217,7 @@ fn broken_words(rt: HostRuntime) {
     let alloc = rt.alloc();
     assert!(rt; is_sound(alloc, &SOUND));
     let changes = [(0, 2), (1, 2), (2, 2), (3, 2), (11, 0), (12, 1), (13, 2)];
-    assert_eq!(rt; first_sound(alloc, &SOUND, &changes), None);
+    no_line(&rt, first_sound(alloc, &SOUND, &changes));
     assert!(rt; is_no_layout(alloc, 1, 1, &SOUND[..14]) && is_no_layout(alloc, 1, 1, &[]));
     assert!(rt; is_no_layout(alloc, 1, 9, &[0; 31]) && is_no_layout(alloc, 1, 0, &[0; 13]));
     assert!(rt; is_no_layout(alloc, 18446744073709551615, 1, &SOUND));
@@ -236,10 +235,10 @@ fn torn_words(rt: HostRuntime) {
     let shown = [0, 0, 1, 1, 0, 1, 77, 0, 0, 0, 0, 1, 0, 1, 77];
     assert!(rt; is_sound(alloc, &torn) && is_sound(alloc, &whole) && is_sound(alloc, &shown));
     let changes = [(1, 1), (4, 1), (5, 2), (11, 2)];
-    assert_eq!(rt; first_sound(alloc, &torn, &changes), None);
+    no_line(&rt, first_sound(alloc, &torn, &changes));
     let changes = [(5, 2), (6, 78), (11, 2), (13, 2), (14, 78)];
-    assert_eq!(rt; first_sound(alloc, &whole, &changes), None);
-    assert_eq!(rt; first_sound(alloc, &shown, &changes), None);
+    no_line(&rt, first_sound(alloc, &whole, &changes));
+    no_line(&rt, first_sound(alloc, &shown, &changes));
 }
 
 /// Reads the content with a heap of this many bytes. None: out of memory.

@@ -1,228 +1,104 @@
-//! The table of own steps, with 1, 2, 3 and 64 processes.
+//! The table of own steps, with 1, 2, 3 and 64 processes. The last of n processes crashes, or another process is there too.
+//! Each row has all numbers of its n. Deeds are not compared.
 
-use rmecore::{Core, CoreDone, Found, Own, Refusal};
-use std::alloc::Global;
+use super::cores::OnCores;
+use super::phrase::all_hold;
 
-const SIZES: [u64; 4] = [1, 2, 3, 64];
-
-/// The limit under which another process holds the only number.
-const ONE: u64 = 1;
-
-const MANY: u64 = 10;
-
-/// The point at which a process crashes.
-#[derive(Clone, Copy)]
-enum Death {
-    /// After this number of steps of its lock.
-    Behind(u64),
-    /// Between the two stores of its exit.
-    HalfOut,
-}
-
-/// Steps until the call under way is answered.
-fn finish(core: &mut Core, p: u64) -> Result<CoreDone, Refusal> {
-    for _ in 0..1000 {
-        if let Some(done) = core.step(p)?.done {
-            return Ok(done);
-        }
-    }
-    Err(Refusal::NothingToDo)
-}
-
-fn take(core: &mut Core, p: u64, steps: u64) -> Result<(), Refusal> {
-    for _ in 0..steps {
-        core.step(p)?;
-    }
-    Ok(())
-}
-
-/// Locks, and crashes the process at this point.
-fn die(core: &mut Core, p: u64, death: Death) -> Result<(), Refusal> {
-    core.start_lock(p)?;
-    match death {
-        Death::Behind(steps) => take(core, p, steps)?,
-        Death::HalfOut => {
-            finish(core, p)?;
-            core.start_unlock(p)?;
-            core.step(p)?;
-        }
-    }
-    core.crash(p)?;
-    Ok(())
-}
-
-/// The answer of a lock, its steps, and the blocked ones among them.
-fn lock(core: &mut Core, p: u64) -> Result<(CoreDone, u64, u64), Refusal> {
-    core.start_lock(p)?;
-    let done = finish(core, p)?;
-    Ok((done, core.steps(p)?, core.blocked(p)?))
-}
-
-fn unlock(core: &mut Core, p: u64) -> Result<(CoreDone, u64), Refusal> {
-    core.start_unlock(p)?;
-    let done = finish(core, p)?;
-    Ok((done, core.steps(p)?))
-}
-
-fn recover(core: &mut Core, p: u64) -> Result<(CoreDone, u64), Refusal> {
-    core.start_recover(p)?;
-    let done = finish(core, p)?;
-    Ok((done, core.steps(p)?))
-}
-
-/// Whether a process that crashed here locks with this answer, and then unlocks.
-fn locks_again(core: &mut Core, p: u64, death: Death, answer: (CoreDone, u64, u64)) -> bool {
-    die(core, p, death).is_ok()
-        && lock(core, p) == Ok(answer)
-        && unlock(core, p) == Ok((CoreDone::Out, 2))
-}
-
-fn recovers(core: &mut Core, p: u64, death: Death, answer: (Found, u64)) -> bool {
-    die(core, p, death).is_ok() && recover(core, p) == Ok((CoreDone::Found(answer.0), answer.1))
-}
-
-/// The limit of numbers. A process between the two stores of its exit has given up its number.
-fn limit_of(death: Death) -> u64 {
-    match death {
-        Death::Behind(_) => MANY,
-        Death::HalfOut => ONE,
-    }
-}
-
-/// Whether the last of n processes crashes here and then locks with this answer and this number of steps.
-fn is_lock(alloc: Global, n: u64, death: Death, done: CoreDone, steps: u64) -> bool {
-    match Core::new(alloc, n, limit_of(death)) {
-        Ok(mut core) => locks_again(&mut core, n.saturating_sub(1), death, (done, steps, 0)),
-        Err(_) => false,
-    }
-}
-
-fn is_recovery(alloc: Global, n: u64, death: Death, found: Found, steps: u64) -> bool {
-    match Core::new(alloc, n, limit_of(death)) {
-        Ok(mut core) => recovers(&mut core, n.saturating_sub(1), death, (found, steps)),
-        Err(_) => false,
-    }
-}
+/// The steps of a lock of a process that crashed: 3n + 4 where it had taken no step, 3n + 3 in its doorway, 2n + 3 with its
+/// number taken, 2n + 2 waiting, 3 inside, 3n + 5 between the two stores of its exit, where the limit is 1.
+const LOCKS: &str = "\
+sizes 1 10: lock 0; crash 0; lock 0; step 0 7 in; steps 0 7; blocked 0 0; unlock 0; step 0 2 out; steps 0 2 | any
+sizes 1 10: lock 0; step 0 4; crash 0; lock 0; step 0 6 in; steps 0 6; blocked 0 0; unlock 0; step 0 2 out; steps 0 2 | any
+sizes 1 10: lock 0; step 0 5; crash 0; lock 0; step 0 5 in; steps 0 5; blocked 0 0; unlock 0; step 0 2 out; steps 0 2 | any
+sizes 1 10: lock 0; step 0 6; crash 0; lock 0; step 0 4 in; steps 0 4; blocked 0 0; unlock 0; step 0 2 out; steps 0 2 | any
+sizes 1 10: lock 0; step 0 7 in; crash 0; lock 0; step 0 3 in-again; steps 0 3; blocked 0 0; unlock 0; step 0 2 out; steps 0 2 | any
+sizes 1 1: lock 0; step 0 7 in; unlock 0; step 0 1; crash 0; lock 0; step 0 8 in; steps 0 8; blocked 0 0; unlock 0; step 0 2 out; steps 0 2 | any
+sizes 2 10: lock 1; crash 1; lock 1; step 1 10 in; steps 1 10; blocked 1 0; unlock 1; step 1 2 out; steps 1 2 | any
+sizes 2 10: lock 1; step 1 4; crash 1; lock 1; step 1 9 in; steps 1 9; blocked 1 0; unlock 1; step 1 2 out; steps 1 2 | any
+sizes 2 10: lock 1; step 1 6; crash 1; lock 1; step 1 7 in; steps 1 7; blocked 1 0; unlock 1; step 1 2 out; steps 1 2 | any
+sizes 2 10: lock 1; step 1 7; crash 1; lock 1; step 1 6 in; steps 1 6; blocked 1 0; unlock 1; step 1 2 out; steps 1 2 | any
+sizes 2 10: lock 1; step 1 10 in; crash 1; lock 1; step 1 3 in-again; steps 1 3; blocked 1 0; unlock 1; step 1 2 out; steps 1 2 | any
+sizes 2 1: lock 1; step 1 10 in; unlock 1; step 1 1; crash 1; lock 1; step 1 11 in; steps 1 11; blocked 1 0; unlock 1; step 1 2 out; steps 1 2 | any
+sizes 3 10: lock 2; crash 2; lock 2; step 2 13 in; steps 2 13; blocked 2 0; unlock 2; step 2 2 out; steps 2 2 | any
+sizes 3 10: lock 2; step 2 4; crash 2; lock 2; step 2 12 in; steps 2 12; blocked 2 0; unlock 2; step 2 2 out; steps 2 2 | any
+sizes 3 10: lock 2; step 2 7; crash 2; lock 2; step 2 9 in; steps 2 9; blocked 2 0; unlock 2; step 2 2 out; steps 2 2 | any
+sizes 3 10: lock 2; step 2 8; crash 2; lock 2; step 2 8 in; steps 2 8; blocked 2 0; unlock 2; step 2 2 out; steps 2 2 | any
+sizes 3 10: lock 2; step 2 13 in; crash 2; lock 2; step 2 3 in-again; steps 2 3; blocked 2 0; unlock 2; step 2 2 out; steps 2 2 | any
+sizes 3 1: lock 2; step 2 13 in; unlock 2; step 2 1; crash 2; lock 2; step 2 14 in; steps 2 14; blocked 2 0; unlock 2; step 2 2 out; steps 2 2 | any
+sizes 64 10: lock 63; crash 63; lock 63; step 63 196 in; steps 63 196; blocked 63 0; unlock 63; step 63 2 out; steps 63 2 | any
+sizes 64 10: lock 63; step 63 4; crash 63; lock 63; step 63 195 in; steps 63 195; blocked 63 0; unlock 63; step 63 2 out; steps 63 2 | any
+sizes 64 10: lock 63; step 63 68; crash 63; lock 63; step 63 131 in; steps 63 131; blocked 63 0; unlock 63; step 63 2 out; steps 63 2 | any
+sizes 64 10: lock 63; step 63 69; crash 63; lock 63; step 63 130 in; steps 63 130; blocked 63 0; unlock 63; step 63 2 out; steps 63 2 | any
+sizes 64 10: lock 63; step 63 196 in; crash 63; lock 63; step 63 3 in-again; steps 63 3; blocked 63 0; unlock 63; step 63 2 out; steps 63 2 | any
+sizes 64 1: lock 63; step 63 196 in; unlock 63; step 63 1; crash 63; lock 63; step 63 197 in; steps 63 197; blocked 63 0; unlock 63; step 63 2 out; steps 63 2 | any";
 
 #[test]
 fn locks(rt: HostRuntime) {
-    for n in SIZES {
-        let rows = [
-            (Death::Behind(0), CoreDone::In, 3 * n + 4),
-            (Death::Behind(4), CoreDone::In, 3 * n + 3),
-            (Death::Behind(n + 4), CoreDone::In, 2 * n + 3),
-            (Death::Behind(n + 5), CoreDone::In, 2 * n + 2),
-            (Death::Behind(3 * n + 4), CoreDone::InAgain, 3),
-            (Death::HalfOut, CoreDone::In, 3 * n + 5),
-        ];
-        for (death, done, steps) in rows {
-            assert!(rt;
-                is_lock(rt.alloc(), n, death, done, steps),
-                "{n} to {steps}"
-            );
-        }
-    }
+    all_hold(&rt, rt.alloc(), &OnCores, LOCKS);
 }
+
+/// The steps of a recovery of a process that crashed in the same places.
+const RECOVERIES: &str = "\
+sizes 1 10: lock 0; crash 0; recover 0; step 0 3 found idle; steps 0 3 | any
+sizes 1 10: lock 0; step 0 4; crash 0; recover 0; step 0 3 found doorway; steps 0 3 | any
+sizes 1 10: lock 0; step 0 5; crash 0; recover 0; step 0 4 found waiting; steps 0 4 | any
+sizes 1 10: lock 0; step 0 6; crash 0; recover 0; step 0 3 found waiting; steps 0 3 | any
+sizes 1 10: lock 0; step 0 7 in; crash 0; recover 0; step 0 3 found inside; steps 0 3 | any
+sizes 1 1: lock 0; step 0 7 in; unlock 0; step 0 1; crash 0; recover 0; step 0 4 found left; steps 0 4 | any
+sizes 2 10: lock 1; crash 1; recover 1; step 1 3 found idle; steps 1 3 | any
+sizes 2 10: lock 1; step 1 4; crash 1; recover 1; step 1 3 found doorway; steps 1 3 | any
+sizes 2 10: lock 1; step 1 6; crash 1; recover 1; step 1 4 found waiting; steps 1 4 | any
+sizes 2 10: lock 1; step 1 7; crash 1; recover 1; step 1 3 found waiting; steps 1 3 | any
+sizes 2 10: lock 1; step 1 10 in; crash 1; recover 1; step 1 3 found inside; steps 1 3 | any
+sizes 2 1: lock 1; step 1 10 in; unlock 1; step 1 1; crash 1; recover 1; step 1 4 found left; steps 1 4 | any
+sizes 3 10: lock 2; crash 2; recover 2; step 2 3 found idle; steps 2 3 | any
+sizes 3 10: lock 2; step 2 4; crash 2; recover 2; step 2 3 found doorway; steps 2 3 | any
+sizes 3 10: lock 2; step 2 7; crash 2; recover 2; step 2 4 found waiting; steps 2 4 | any
+sizes 3 10: lock 2; step 2 8; crash 2; recover 2; step 2 3 found waiting; steps 2 3 | any
+sizes 3 10: lock 2; step 2 13 in; crash 2; recover 2; step 2 3 found inside; steps 2 3 | any
+sizes 3 1: lock 2; step 2 13 in; unlock 2; step 2 1; crash 2; recover 2; step 2 4 found left; steps 2 4 | any
+sizes 64 10: lock 63; crash 63; recover 63; step 63 3 found idle; steps 63 3 | any
+sizes 64 10: lock 63; step 63 4; crash 63; recover 63; step 63 3 found doorway; steps 63 3 | any
+sizes 64 10: lock 63; step 63 68; crash 63; recover 63; step 63 4 found waiting; steps 63 4 | any
+sizes 64 10: lock 63; step 63 69; crash 63; recover 63; step 63 3 found waiting; steps 63 3 | any
+sizes 64 10: lock 63; step 63 196 in; crash 63; recover 63; step 63 3 found inside; steps 63 3 | any
+sizes 64 1: lock 63; step 63 196 in; unlock 63; step 63 1; crash 63; recover 63; step 63 4 found left; steps 63 4 | any";
 
 #[test]
 fn recoveries(rt: HostRuntime) {
-    for n in SIZES {
-        let rows = [
-            (Death::Behind(0), Found::Idle, 3),
-            (Death::Behind(4), Found::Doorway, 3),
-            (Death::Behind(n + 4), Found::Waiting, 4),
-            (Death::Behind(n + 5), Found::Waiting, 3),
-            (Death::Behind(3 * n + 4), Found::Inside, 3),
-            (Death::HalfOut, Found::Left, 4),
-        ];
-        for (death, found, steps) in rows {
-            assert!(rt;
-                is_recovery(rt.alloc(), n, death, found, steps),
-                "{n} and {steps}"
-            );
-        }
-    }
+    all_hold(&rt, rt.alloc(), &OnCores, RECOVERIES);
 }
 
-/// Process 0 takes the only number. If the other process is in its exit, 0 enters too.
-fn holds(core: &mut Core, n: u64, death: Death) -> bool {
-    match death {
-        Death::Behind(_) => {
-            core.start_lock(0).is_ok() && take(core, 0, n.saturating_add(5)).is_ok()
-        }
-        Death::HalfOut => lock(core, 0).is_ok(),
-    }
-}
+/// Another process holds the only number: n + 4 steps, n + 3 after a crash in the doorway, and n + 5 after one between the two
+/// stores of the exit, where the other process enters too.
+const SPENT: &str = "\
+sizes 2 1: lock 1; crash 1; lock 0; step 0 7; lock 1; step 1 6 spent; steps 1 6; blocked 1 0 | any
+sizes 2 1: lock 1; step 1 4; crash 1; lock 0; step 0 7; lock 1; step 1 5 spent; steps 1 5; blocked 1 0 | any
+sizes 2 1: lock 1; step 1 10 in; unlock 1; step 1 1; crash 1; lock 0; step 0 10 in; lock 1; step 1 7 spent; steps 1 7; blocked 1 0 | any
+sizes 3 1: lock 2; crash 2; lock 0; step 0 8; lock 2; step 2 7 spent; steps 2 7; blocked 2 0 | any
+sizes 3 1: lock 2; step 2 4; crash 2; lock 0; step 0 8; lock 2; step 2 6 spent; steps 2 6; blocked 2 0 | any
+sizes 3 1: lock 2; step 2 13 in; unlock 2; step 2 1; crash 2; lock 0; step 0 13 in; lock 2; step 2 8 spent; steps 2 8; blocked 2 0 | any
+sizes 64 1: lock 63; crash 63; lock 0; step 0 69; lock 63; step 63 68 spent; steps 63 68; blocked 63 0 | any
+sizes 64 1: lock 63; step 63 4; crash 63; lock 0; step 0 69; lock 63; step 63 67 spent; steps 63 67; blocked 63 0 | any
+sizes 64 1: lock 63; step 63 196 in; unlock 63; step 63 1; crash 63; lock 0; step 0 196 in; lock 63; step 63 69 spent; steps 63 69; blocked 63 0 | any";
 
-fn spends(core: &mut Core, n: u64, death: Death, steps: u64) -> bool {
-    let p = n.saturating_sub(1);
-    die(core, p, death).is_ok()
-        && holds(core, n, death)
-        && lock(core, p) == Ok((CoreDone::Spent, steps, 0))
-}
-
-fn is_spent(alloc: Global, n: u64, death: Death, steps: u64) -> bool {
-    match Core::new(alloc, n, ONE) {
-        Ok(mut core) => spends(&mut core, n, death, steps),
-        Err(_) => false,
-    }
-}
-
-/// Another process holds the only number.
 #[test]
 fn numbers_spent(rt: HostRuntime) {
-    for n in [2u64, 3, 64] {
-        assert!(rt; is_spent(rt.alloc(), n, Death::Behind(0), n + 4), "{n}");
-        assert!(rt; is_spent(rt.alloc(), n, Death::Behind(4), n + 3), "{n}");
-        assert!(rt; is_spent(rt.alloc(), n, Death::HalfOut, n + 5), "{n}");
-    }
+    all_hold(&rt, rt.alloc(), &OnCores, SPENT);
 }
 
-/// 0 is inside while the last process has 20 blocked readings.
-fn waits(core: &mut Core, n: u64) -> bool {
-    let p = n.saturating_sub(1);
-    lock(core, 0).is_ok()
-        && core.start_lock(p).is_ok()
-        && take(core, p, n.saturating_add(26)).is_ok()
-        && core.blocked(p) == Ok(20)
-        && unlock(core, 0).is_ok()
-        && finish(core, p) == Ok(CoreDone::In)
-        && core.steps(p) == Ok(n.saturating_mul(3).saturating_add(24))
-}
+/// Blocked readings are steps too: 0 is inside while the last process has 20 of them. A withdraw takes one step, also if
+/// there is no other process.
+const WAITS: &str = "\
+sizes 1 10: lock 0; step 0 6; withdraw 0; began 0 0 1 0; step 0 1 withdrawn; steps 0 1; words 0 0 0 0 | any
+sizes 2 10: lock 0; step 0 10 in; lock 1; step 1 28; blocked 1 20; unlock 0; step 0 2 out; step 1 2 in; steps 1 30 | any
+sizes 2 10: lock 1; step 1 7; withdraw 1; began 1 0 1 0; step 1 1 withdrawn; steps 1 1; words 1 0 0 0 | any
+sizes 3 10: lock 0; step 0 13 in; lock 2; step 2 29; blocked 2 20; unlock 0; step 0 2 out; step 2 4 in; steps 2 33 | any
+sizes 3 10: lock 2; step 2 8; withdraw 2; began 2 0 1 0; step 2 1 withdrawn; steps 2 1; words 2 0 0 0 | any
+sizes 64 10: lock 0; step 0 196 in; lock 63; step 63 90; blocked 63 20; unlock 0; step 0 2 out; step 63 126 in; steps 63 216 | any
+sizes 64 10: lock 63; step 63 69; withdraw 63; began 63 0 1 0; step 63 1 withdrawn; steps 63 1; words 63 0 0 0 | any";
 
-/// The last process is ready, and withdraws in one step.
-fn gives_up(core: &mut Core, n: u64) -> bool {
-    let p = n.saturating_sub(1);
-    core.start_lock(p).is_ok()
-        && take(core, p, n.saturating_add(5)).is_ok()
-        && core.start_withdraw(p).is_ok()
-        && core.began(p) == Ok(own(0, 1, 0))
-        && finish(core, p) == Ok(CoreDone::Withdrawn)
-        && core.steps(p) == Ok(1)
-        && core.words(p) == Ok(own(0, 0, 0))
-}
-
-fn own(choosing: u64, number: u64, inside: u64) -> Own {
-    Own {
-        choosing,
-        number,
-        inside,
-    }
-}
-
-/// Blocked readings are steps too. A withdraw takes one step, also if there is no other process.
 #[test]
 fn waiting(rt: HostRuntime) {
-    for n in SIZES {
-        if n > 1 {
-            let Ok(mut core) = Core::new(rt.alloc(), n, MANY) else {
-                panic!(rt; "no core")
-            };
-            assert!(rt; waits(&mut core, n), "{n}");
-        }
-        let Ok(mut core) = Core::new(rt.alloc(), n, MANY) else {
-            panic!(rt; "no core")
-        };
-        assert!(rt; gives_up(&mut core, n), "{n}");
-    }
+    all_hold(&rt, rt.alloc(), &OnCores, WAITS);
 }

@@ -1,8 +1,10 @@
 //! Phrases: a word, numbers, and a rest, as in `append 0 1 77` or `step 0 8 clean`.
 
 use redomail::{Deed, Message, Reply, Task};
-use rmecore::{Body, Found, Outer};
+use rmecore::{Body, Found, Outer, Refusal};
 use rmeworld::{Answer, Call};
+use std::alloc::Global;
+use std::process::Abort;
 
 /// A phrase. A number that is missing counts as the greatest u64.
 #[derive(Clone, Copy)]
@@ -19,6 +21,59 @@ pub fn cut<'a>(text: &mut &'a str, separator: &str) -> &'a str {
     let (part, rest) = text.split_once(separator).unwrap_or((text, ""));
     *text = rest;
     part
+}
+
+/// Fails the test at the row that fails, and the line in it.
+pub fn no_row(rt: &impl Abort, wrong: Option<(usize, u64)>) {
+    if let Some((row, line)) = wrong {
+        panic!(rt; "row {row}, line {line}")
+    }
+}
+
+/// Fails the test at the line that fails.
+pub fn no_line(rt: &impl Abort, wrong: Option<u64>) {
+    if let Some(line) = wrong {
+        panic!(rt; "line {line}")
+    }
+}
+
+/// Fails the test at the text that fails.
+pub fn no_text(rt: &impl Abort, wrong: Option<&str>) {
+    if let Some(text) = wrong {
+        panic!(rt; "{text}")
+    }
+}
+
+/// What the rows of a table speak of. A row is a line.
+pub trait Table {
+    /// Whether the row holds.
+    fn holds(&self, alloc: Global, row: &str) -> bool;
+}
+
+/// The first row that does not hold.
+fn first_other<'a, T: Table>(alloc: Global, table: &T, rows: &'a str) -> Option<&'a str> {
+    let mut rest = rows;
+    for _ in 0..rows.len() {
+        if rest.is_empty() {
+            break;
+        }
+        let row = cut(&mut rest, "\n");
+        if !table.holds(alloc, row) {
+            return Some(row);
+        }
+    }
+    None
+}
+
+/// Fails the test at the first row that does not hold.
+pub fn all_hold<T: Table>(rt: &impl Abort, alloc: Global, table: &T, rows: &str) {
+    no_text(rt, first_other(alloc, table, rows));
+}
+
+/// Whether a refusal is the one of the text, as in `refused 11`.
+pub fn is_refusal(refusal: Refusal, text: &str) -> bool {
+    let phrase = Phrase::read(text);
+    phrase.word == "refused" && refusal.number() == Some(phrase.number(0))
 }
 
 /// The position of a name among names separated by `|`.

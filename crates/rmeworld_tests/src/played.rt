@@ -3,12 +3,12 @@
 //! `step 0 8 clean` is eight steps of process 0. The last has the answer clean, and the others have none. Without an answer
 //! none of the eight may have one. `refused 5 unlock 0` is a call that is refused with this number. `words 0 0 1 1` are the
 //! lock words of process 0, `began` those at the start of its call. `steps`, `blocked` and `deeds` are counts, `data` is a
-//! data word, and `image` the text of the image.
+//! data word, and `image` the text of the image. `from-image` replaces the world by a new one from its image.
 
 use super::phrase::{Phrase, answer_of, cut, place};
 use redomail::Deed;
 use rmecore::{Own, Refusal};
-use rmeworld::{Answer, World, write_image};
+use rmeworld::{Answer, Image, World, write_image};
 use std::alloc::Global;
 
 /// Takes steps. True: the last one and no other has the wanted answer.
@@ -66,12 +66,16 @@ fn is_written(alloc: Global, world: &World, text: &str) -> bool {
     }
 }
 
-/// Whether the image has this word.
+/// Whether the world's image has this word.
 fn shows(world: &World, phrase: &Phrase<'_>) -> bool {
+    match world.image() {
+        Ok(image) => has_word(&image, phrase),
+        Err(_) => false,
+    }
+}
+
+fn has_word(image: &Image, phrase: &Phrase<'_>) -> bool {
     let at = phrase.number(0) as usize;
-    let Ok(image) = world.image() else {
-        return false;
-    };
     match place("data|words", phrase.word) {
         Some(0) => image.cells.as_slice().get(at).copied() == Some(phrase.number(1)),
         Some(_) => are_words(image.lock.as_slice().get(at).copied(), phrase),
@@ -91,18 +95,36 @@ fn is_so(world: &World, phrase: &Phrase<'_>) -> bool {
     }
 }
 
+/// A new world from the image of this one.
+fn again(alloc: Global, world: &World) -> Result<World, Refusal> {
+    let image = world.image()?;
+    World::from_image(alloc, &image)
+}
+
+/// Replaces the world by a new one from its image.
+fn goes_on_from_image(alloc: Global, world: &mut World) -> bool {
+    match again(alloc, world) {
+        Ok(made) => {
+            *world = made;
+            true
+        }
+        Err(_) => false,
+    }
+}
+
 /// Plays a line. True: it has the result that the line says.
 pub fn line(alloc: Global, world: &mut World, text: &str) -> bool {
     let phrase = Phrase::read(text);
     let p = phrase.number(0);
-    match place("step|crash|refused|image", phrase.word) {
+    match place("step|crash|refused|image|from-image", phrase.word) {
         Some(0) => {
             let wanted = answer_of(phrase.rest);
             wanted.is_some() != phrase.rest.is_empty() && step(world, p, phrase.number(1), wanted)
         }
         Some(1) => world.crash(p).is_ok(),
         Some(2) => is_refused(world, text.strip_prefix("refused ").unwrap_or("")),
-        Some(_) => is_written(alloc, world, phrase.rest),
+        Some(3) => is_written(alloc, world, phrase.rest),
+        Some(_) => goes_on_from_image(alloc, world),
         None => starts(world, &phrase),
     }
 }
@@ -143,8 +165,7 @@ pub fn are_deeds(history: &[Deed], deeds: &str) -> bool {
 }
 
 /// A new world with this number of processes, limit, capacity and width.
-pub fn world_of(alloc: Global, sizes: &str) -> Result<World, Refusal> {
-    let sizes = Phrase::read(sizes);
+pub fn world_of(alloc: Global, sizes: &Phrase<'_>) -> Result<World, Refusal> {
     World::new(
         alloc,
         sizes.number(0),

@@ -1,6 +1,7 @@
 //! An append that stops at each of its calls, and a repair that stops at each of its own.
 
 use super::memory::Memory;
+use super::phrase::no_row;
 use redomail::{Layout, Reply, Task};
 use rmecore::Body;
 use std::alloc::{AllocError, Global};
@@ -90,16 +91,16 @@ impl RedoRow<'_> {
     }
 
     // the first stop of the append, and of its repair, that is not mended
-    fn first_unmended(&self, alloc: Global) -> Option<(u64, u64)> {
+    fn first_unmended(&self, alloc: Global) -> Option<(usize, u64)> {
         for k in 1..self.stored.saturating_add(2) {
             if !self.torn_once(alloc, k) {
-                return Some((k, 0));
+                return Some((k as usize, 0));
             }
         }
         for k in self.commit.saturating_add(1)..self.stored.saturating_add(1) {
             for j in 1..self.mended.saturating_add(1) {
                 if !self.torn_twice(alloc, k, j) {
-                    return Some((k, j));
+                    return Some((k as usize, j));
                 }
             }
         }
@@ -121,7 +122,7 @@ fn appends_and_repairs_cut_off(rt: HostRuntime) {
         words: &[0, 0, 1, 0, 0, 1, 77, 0, 0, 0, 0, 1, 0, 1, 77],
         message: "message 0 1 77",
     };
-    assert_eq!(rt; row.first_unmended(rt.alloc()), None);
+    no_row(&rt, row.first_unmended(rt.alloc()));
     let row = RedoRow {
         value: three,
         commit: 9,
@@ -130,5 +131,5 @@ fn appends_and_repairs_cut_off(rt: HostRuntime) {
         words: &[0, 0, 1, 0, 0, 1, 7, 8, 9, 0, 0, 0, 0, 1, 0, 1, 7, 8, 9],
         message: "message 0 1 7 8 9",
     };
-    assert_eq!(rt; row.first_unmended(rt.alloc()), None);
+    no_row(&rt, row.first_unmended(rt.alloc()));
 }

@@ -5,6 +5,7 @@ use super::phrase::Phrase;
 use super::played::{first_wrong, world_of};
 use super::torn::is_same;
 use memory_limit::{PIECES, ScarceMemory};
+use redomail::Deed;
 use rmecore::Refusal;
 use rmeworld::{Image, Stepped, World, read_image, write_image};
 use std::alloc::Global;
@@ -12,7 +13,7 @@ use std::process::Abort;
 
 /// A world after this script.
 fn played(rt: &impl Abort, alloc: Global, script: &str) -> World {
-    let Ok(mut world) = world_of(alloc, "sizes 2 10 2 1") else {
+    let Ok(mut world) = world_of(alloc, &Phrase::read("sizes 2 10 2 1")) else {
         panic!(rt; "no world")
     };
     assert!(rt;
@@ -36,8 +37,8 @@ fn scarce(rt: &impl Abort, alloc: Global) -> ScarceMemory {
     scarce_memory
 }
 
-/// Whether two worlds have the same history and the same words, and the same counts of each process.
-fn are_alike(rt: &impl Abort, one: &World, other: &World) -> bool {
+/// Whether each process has the same counts in two worlds.
+fn have_same_counts(one: &World, other: &World) -> bool {
     for p in 0..2 {
         if one.steps(p) != other.steps(p)
             || one.blocked(p) != other.blocked(p)
@@ -46,16 +47,33 @@ fn are_alike(rt: &impl Abort, one: &World, other: &World) -> bool {
             return false;
         }
     }
-    one.history() == other.history() && is_same(&image_of(rt, one), &image_of(rt, other))
+    true
+}
+
+/// Whether two worlds have the same history and the same words, and the same counts of each process.
+fn are_alike(one: &World, other: &World) -> bool {
+    match (one.image(), other.image()) {
+        (Ok(image), Ok(of_other)) => {
+            one.history() == other.history()
+                && have_same_counts(one, other)
+                && is_same(&image, &of_other)
+        }
+        _ => false,
+    }
+}
+
+/// What asks for memory.
+trait Work {
+    type Output: Drop;
+
+    fn make(&self, alloc: Global) -> Result<Self::Output, Refusal>;
 }
 
 /// What is made once there is memory for it, after one refusal at least.
-fn at_last<T: Drop, F: Fn() -> Result<T, Refusal>>(rt: &impl Abort, alloc: Global, make: F) -> T
-    requires { F.IsAlwaysCallable make }
-{
+fn at_last<W: Work>(rt: &impl Abort, alloc: Global, work: &W) -> W::Output {
     let mut scarce_memory = scarce(rt, alloc);
     for refused in 0..PIECES {
-        match make() {
+        match work.make(alloc) {
             Ok(made) => {
                 assert!(rt; refused > 0);
                 return made;
@@ -67,11 +85,22 @@ fn at_last<T: Drop, F: Fn() -> Result<T, Refusal>>(rt: &impl Abort, alloc: Globa
     panic!(rt; "never made")
 }
 
+#[derive(Drop)]
+struct NewWorld;
+
+impl Work for NewWorld {
+    type Output = World;
+
+    fn make(&self, alloc: Global) -> Result<World, Refusal> {
+        World::new(alloc, 2, 10, 2, 1)
+    }
+}
+
 #[test]
 fn a_new_world(rt: HostRuntime) {
     let alloc = rt.alloc();
-    let world = at_last(&rt, alloc, || World::new(alloc, 2, 10, 2, 1));
-    assert!(rt; are_alike(&rt, &world, &played(&rt, alloc, "")));
+    let world = at_last(&rt, alloc, &NewWorld);
+    assert!(rt; are_alike(&world, &played(&rt, alloc, "")));
 }
 
 /// The image of a world with a message, and a process inside.
@@ -80,12 +109,38 @@ fn written(rt: &impl Abort, alloc: Global) -> Image {
     image_of(rt, &played(rt, alloc, script))
 }
 
+#[derive(Drop)]
+struct Writing<'a> {
+    image: &'a Image,
+}
+
+impl Work for Writing<'_> {
+    type Output = Vec<u8>;
+
+    fn make(&self, alloc: Global) -> Result<Vec<u8>, Refusal> {
+        write_image(alloc, self.image)
+    }
+}
+
 #[test]
 fn a_written_image(rt: HostRuntime) {
     let alloc = rt.alloc();
     let image = written(&rt, alloc);
-    let text = at_last(&rt, alloc, || write_image(alloc, &image));
+    let text = at_last(&rt, alloc, &Writing { image: &image });
     assert!(rt; write_image(alloc, &image) == Ok(text));
+}
+
+#[derive(Drop)]
+struct Reading<'a> {
+    text: &'a [u8],
+}
+
+impl Work for Reading<'_> {
+    type Output = Image;
+
+    fn make(&self, alloc: Global) -> Result<Image, Refusal> {
+        read_image(alloc, self.text)
+    }
 }
 
 #[test]
@@ -95,26 +150,27 @@ fn a_read_image(rt: HostRuntime) {
     let Ok(text) = write_image(alloc, &image) else {
         panic!(rt; "no text")
     };
-    let read = at_last(&rt, alloc, || read_image(alloc, &text));
+    let read = at_last(&rt, alloc, &Reading { text: &text });
     assert!(rt; is_same(&read, &image));
 }
 
-/// A step of process 0, taken once there is memory for it, and how often it was refused. A refusal changes nothing.
-fn taken_at_last(
-    rt: &impl Abort,
-    scarce_memory: &mut ScarceMemory,
-    world: &mut World,
-) -> (Stepped, usize) {
+/// A step of process 0, taken once there is memory for it, and how often it was refused. None: it was refused for another
+/// reason, or a refusal changed something.
+fn taken_at_last(scarce_memory: &mut ScarceMemory, world: &mut World) -> Option<(Stepped, usize)> {
     let before = (world.steps(0), world.history().len());
     for refused in 0..PIECES {
         match world.advance(0) {
-            Ok(stepped) => return (stepped, refused),
-            Err(refusal) => assert!(rt; refusal == Refusal::OutOfMemory),
+            Ok(stepped) => return Some((stepped, refused)),
+            Err(refusal) => {
+                let after = (world.steps(0), world.history().len());
+                if refusal != Refusal::OutOfMemory || after != before {
+                    return None;
+                }
+            }
         }
-        assert!(rt; (world.steps(0), world.history().len()) == before);
         scarce_memory.give_back();
     }
-    panic!(rt; "never taken")
+    None
 }
 
 /// What comes next, and the deed with which it comes, each of another kind. The history is full before it.
@@ -146,46 +202,85 @@ const DEEDS: [(&str, &str); 10] = [
     ),
 ];
 
-/// The step after this script, and all that come after it, are those of a world with ample memory.
-fn goes_on_alike(rt: &impl Abort, alloc: Global, script: &str, deed: &str) {
-    let mut ample = played(rt, alloc, script);
-    let mut world = played(rt, alloc, script);
-    let mut scarce_memory = scarce(rt, alloc);
-    let (stepped, refused) = taken_at_last(rt, &mut scarce_memory, &mut world);
-    scarce_memory.end();
-    assert!(rt;
-        refused > 0 && stepped.deed == Phrase::read(deed).deed(),
-        "{deed}"
-    );
-    assert!(rt; ample.advance(0) == Ok(stepped), "{deed}");
+/// Whether the next steps of two worlds are the same.
+fn go_on_alike(world: &mut World, ample: &mut World) -> bool {
     for _ in 0..16 {
-        assert!(rt; are_alike(rt, &world, &ample), "{deed}");
-        assert!(rt; world.advance(0) == ample.advance(0), "{deed}");
+        if !are_alike(world, ample) || world.advance(0) != ample.advance(0) {
+            return false;
+        }
+    }
+    true
+}
+
+/// Whether the next step comes with this deed after a refusal at least, and it and all that come after it are those of a
+/// world with ample memory.
+fn is_taken(
+    scarce_memory: ScarceMemory,
+    world: &mut World,
+    ample: &mut World,
+    deed: Option<Deed>,
+) -> bool {
+    let mut scarce_memory = scarce_memory;
+    let taken = taken_at_last(&mut scarce_memory, world);
+    scarce_memory.end();
+    match taken {
+        Some((stepped, refused)) => {
+            refused > 0
+                && stepped.deed == deed
+                && ample.advance(0) == Ok(stepped)
+                && go_on_alike(world, ample)
+        }
+        None => false,
     }
 }
 
 #[test]
 fn a_step_with_each_kind_of_deed(rt: HostRuntime) {
+    let alloc = rt.alloc();
     for (script, deed) in DEEDS {
-        goes_on_alike(&rt, rt.alloc(), script, deed);
+        let mut ample = played(&rt, alloc, script);
+        let mut world = played(&rt, alloc, script);
+        let scarce_memory = scarce(&rt, alloc);
+        let wanted = Phrase::read(deed).deed();
+        assert!(rt;
+            is_taken(scarce_memory, &mut world, &mut ample, wanted),
+            "{deed}"
+        );
     }
 }
 
-/// The steps of a lock while memory is scarce. Those that are no deed ask for none.
+/// The steps of a lock of process 0.
+fn steps_of_a_lock(world: &mut World) -> [Option<Stepped>; 11] {
+    let mut steps = [None; 11];
+    for slot in &mut steps {
+        *slot = world.advance(0).ok();
+    }
+    steps
+}
+
+/// Whether the next steps are these. Those that are no deed ask for no memory.
+fn are_taken(scarce_memory: ScarceMemory, world: &mut World, wanted: &[Option<Stepped>]) -> bool {
+    let mut scarce_memory = scarce_memory;
+    for step in wanted {
+        match taken_at_last(&mut scarce_memory, world) {
+            Some((stepped, refused)) if stepped.deed.is_some() || refused == 0 => {
+                if *step != Some(stepped) {
+                    return false;
+                }
+            }
+            _ => return false,
+        }
+    }
+    true
+}
+
+/// The steps of a lock while memory is scarce.
 #[test]
 fn steps_of_a_world(rt: HostRuntime) {
     let alloc = rt.alloc();
     let mut ample = played(&rt, alloc, "lock 0");
-    let mut wanted = [None; 11];
-    for slot in &mut wanted {
-        *slot = ample.advance(0).ok();
-    }
+    let wanted = steps_of_a_lock(&mut ample);
     let mut world = played(&rt, alloc, "lock 0");
-    let mut scarce_memory = scarce(&rt, alloc);
-    for step in wanted {
-        let (stepped, refused) = taken_at_last(&rt, &mut scarce_memory, &mut world);
-        assert!(rt; step == Some(stepped) && (stepped.deed.is_some() || refused == 0));
-    }
-    scarce_memory.end();
-    assert!(rt; are_alike(&rt, &world, &ample));
+    assert!(rt; are_taken(scarce(&rt, alloc), &mut world, &wanted));
+    assert!(rt; are_alike(&world, &ample));
 }

@@ -6,11 +6,10 @@ use judge::Judge;
 use lock_explorer::{
     Bounds, ExploreFault, Move, SearchOutcome, Unwatched, Variables, shortest_schedule,
 };
-use redomail::Layout;
+use redomail::{Deed, Layout};
 use rmecore::{Body, Fault, Refusal};
 use rmeworld::{Call, Machine};
 use std::alloc::Global;
-use std::test::Fail;
 
 /// The sizes of a search: a variant's world, and the most crashes.
 #[derive(Clone, Copy)]
@@ -44,6 +43,16 @@ impl Sizes {
             moves,
             states: 1_000_000,
         };
+        self.explore_within(alloc, calls, variables, &bounds)
+    }
+
+    fn explore_within(
+        &self,
+        alloc: Global,
+        calls: &[Call],
+        variables: Variables,
+        bounds: &Bounds,
+    ) -> Result<SearchOutcome<Move>, ExploreFault> {
         shortest_schedule(
             alloc,
             self.variant,
@@ -51,7 +60,7 @@ impl Sizes {
             self.limit,
             calls,
             variables,
-            &bounds,
+            bounds,
             &mut Unwatched,
         )
     }
@@ -66,237 +75,217 @@ impl Sizes {
             self.cap,
             1,
         )?;
-        let mut judge = Judge::new(alloc, self.procs, self.cap)?;
-        let mut fault = None;
-        for made in moves {
-            if fault.is_some() {
-                return Ok(None);
-            }
-            let deed = match *made {
-                Move::Start(p, call) => {
-                    world.start(p, call)?;
-                    None
-                }
-                Move::Step(p) => world.advance(p)?.deed,
-                Move::Crash(p) => Some(world.crash(p)?),
-            };
-            if let Some(deed) = deed {
-                fault = judge.feed(deed).err();
-            }
+        match Judge::new(alloc, self.procs, self.cap) {
+            Ok(mut judge) => judged_on(&mut world, &mut judge, moves),
+            Err(refusal) => Err(refusal),
         }
-        Ok(fault)
+    }
+
+    /// Whether no schedule with these calls has so few moves.
+    fn has_none_within(
+        &self,
+        alloc: Global,
+        calls: &[Call],
+        variables: Variables,
+        moves: u64,
+    ) -> bool {
+        self.explore(alloc, calls, variables, moves) == Ok(SearchOutcome::NoneWithin)
     }
 }
 
-const VARIABLES: [Variables; 2] = [Variables::All, Variables::Live];
+/// Makes a move. Its deed, if it has one.
+fn made(world: &mut VariantWorld, made: Move) -> Result<Option<Deed>, Refusal> {
+    match made {
+        Move::Start(p, call) => {
+            world.start(p, call)?;
+            Ok(None)
+        }
+        Move::Step(p) => Ok(world.advance(p)?.deed),
+        Move::Crash(p) => Ok(Some(world.crash(p)?)),
+    }
+}
+
+/// The fault of the last deed of these moves. None where the judge allows it, or refuses an earlier one.
+fn judged_on(
+    world: &mut VariantWorld,
+    judge: &mut Judge,
+    moves: &[Move],
+) -> Result<Option<Fault>, Refusal> {
+    let mut fault = None;
+    for next in moves {
+        if fault.is_some() {
+            return Ok(None);
+        }
+        if let Some(deed) = made(world, *next)? {
+            fault = judge.feed(deed).err();
+        }
+    }
+    Ok(fault)
+}
+
+/// Whether a schedule was found with this many moves, whose last deed has this fault.
+fn is_found(
+    alloc: Global,
+    sizes: Sizes,
+    found: &Result<SearchOutcome<Move>, ExploreFault>,
+    moves: u64,
+    fault: Fault,
+) -> bool {
+    match found {
+        Ok(SearchOutcome::Path(path)) => {
+            path.len() as u64 == moves && sizes.judged(alloc, path) == Ok(Some(fault))
+        }
+        _ => false,
+    }
+}
 
 /// Whether the shortest schedule, with these sizes and calls, has this many moves, its last deed has this fault, and no
 /// schedule has fewer moves. It is the same schedule by all variables and by the live ones.
-fn is_shortest(
-    alloc: Global,
-    sizes: Sizes,
-    calls: &[Call],
-    moves: u64,
-    fault: Fault,
-) -> Result<bool, Fail> {
+fn is_shortest(alloc: Global, sizes: Sizes, calls: &[Call], moves: u64, fault: Fault) -> bool {
     let all = sizes.explore(alloc, calls, Variables::All, moves);
-    for variables in VARIABLES {
-        let found = sizes.explore(alloc, calls, variables, moves);
-        let Ok(SearchOutcome::Path(path)) = &found else {
-            return Ok(false);
-        };
-        let judged = sizes.judged(alloc, path);
-        let below = sizes.explore(alloc, calls, variables, moves.saturating_sub(1));
-        let is_shortest = path.len() as u64 == moves
-            && judged == Ok(Some(fault))
-            && below == Ok(SearchOutcome::NoneWithin);
-        if !is_shortest || found != all {
-            return Ok(false);
-        }
-    }
-    Ok(true)
+    let live = sizes.explore(alloc, calls, Variables::Live, moves);
+    let fewer = moves.saturating_sub(1);
+    live == all
+        && is_found(alloc, sizes, &all, moves, fault)
+        && sizes.has_none_within(alloc, calls, Variables::All, fewer)
+        && sizes.has_none_within(alloc, calls, Variables::Live, fewer)
 }
 
 const LOCKING: [Call; 2] = [Call::Lock, Call::Unlock];
 
-/// The same as `is_shortest`, of locks and unlocks alone.
-fn locking_is_shortest(
-    alloc: Global,
-    sizes: Sizes,
-    moves: u64,
-    fault: Fault,
-) -> Result<bool, Fail> {
+/// The same of locks and unlocks alone.
+fn locking_is_shortest(alloc: Global, sizes: Sizes, moves: u64, fault: Fault) -> bool {
     is_shortest(alloc, sizes, &LOCKING, moves, fault)
 }
 
-#[test]
-fn each_wrong_lock_is_found_by_its_shortest_schedule(rt: HostRuntime) -> Result<(), Fail> {
-    let sizes = |variant, procs, crashes, limit| Sizes {
+/// The sizes of a variant of the lock.
+fn sizes_of(variant: Variant, procs: u64, crashes: u64, limit: u64) -> Sizes {
+    Sizes {
         variant,
         procs,
         crashes,
         limit,
         cap: 1,
-    };
-    let alloc = rt.alloc();
-    assert!(rt; locking_is_shortest(alloc, sizes(Variant::NoLook, 2, 0, 1), 20, Fault::TwoInside)?);
-    assert!(rt; locking_is_shortest(alloc, sizes(Variant::NoTies, 2, 0, 1), 22, Fault::TwoInside)?);
-    assert!(rt;
-        locking_is_shortest(
-            alloc,
-            sizes(Variant::Renumber, 2, 1, 3),
-            26,
-            Fault::Overtaken { by: 1, of: 0 }
-        )?
-    );
-    assert!(rt;
-        locking_is_shortest(
-            alloc,
-            sizes(Variant::ExitOnCrash, 1, 1, 1),
-            16,
-            Fault::OutOfPlace
-        )?
-    );
-    Ok(())
+    }
 }
 
 #[test]
-fn each_wrong_repair_is_found_by_its_shortest_schedule(rt: HostRuntime) -> Result<(), Fail> {
-    let sizes = |variant| Sizes {
+fn each_wrong_lock_is_found_by_its_shortest_schedule(rt: HostRuntime) {
+    let alloc = rt.alloc();
+    let no_look = sizes_of(Variant::NoLook, 2, 0, 1);
+    assert!(rt; locking_is_shortest(alloc, no_look, 20, Fault::TwoInside));
+    let no_ties = sizes_of(Variant::NoTies, 2, 0, 1);
+    assert!(rt; locking_is_shortest(alloc, no_ties, 22, Fault::TwoInside));
+    let renumber = sizes_of(Variant::Renumber, 2, 1, 3);
+    let overtaken = Fault::Overtaken { by: 1, of: 0 };
+    assert!(rt; locking_is_shortest(alloc, renumber, 26, overtaken));
+    let exit_on_crash = sizes_of(Variant::ExitOnCrash, 1, 1, 1);
+    assert!(rt; locking_is_shortest(alloc, exit_on_crash, 16, Fault::OutOfPlace));
+}
+
+/// Whether the shortest schedule of a wrong repair has this many moves.
+fn repair_is_shortest(alloc: Global, variant: Variant, calls: &[Call], moves: u64) -> bool {
+    let sizes = Sizes {
         variant,
         procs: 1,
         crashes: 1,
         limit: 1,
         cap: 2,
     };
-    let alloc = rt.alloc();
+    is_shortest(alloc, sizes, calls, moves, Fault::MailOrder)
+}
+
+#[test]
+fn each_wrong_repair_is_found_by_its_shortest_schedule(rt: HostRuntime) {
+    let (Ok(one), Ok(two)) = (Body::new(&[1]), Body::new(&[2])) else {
+        panic!(rt; "no value")
+    };
     let calls = [
         Call::Lock,
         Call::Unlock,
         Call::Consistent,
-        Call::Append {
-            seq: 1,
-            value: Body::new(&[1])?,
-        },
-        Call::Append {
-            seq: 2,
-            value: Body::new(&[2])?,
-        },
+        Call::Append { seq: 1, value: one },
+        Call::Append { seq: 2, value: two },
     ];
-    assert!(rt; is_shortest(alloc, sizes(Variant::CountUp), &calls, 40, Fault::MailOrder)?);
-    assert!(rt;
-        is_shortest(
-            alloc,
-            sizes(Variant::LastSkipped),
-            &calls,
-            42,
-            Fault::MailOrder
-        )?
-    );
-    Ok(())
+    assert!(rt; repair_is_shortest(rt.alloc(), Variant::CountUp, &calls, 40));
+    assert!(rt; repair_is_shortest(rt.alloc(), Variant::LastSkipped, &calls, 42));
 }
 
-/// A search of the right lock of two processes, with a crash.
-fn search_right(
+/// Whether a search of the right lock of two processes, with a crash, has this answer.
+fn answers(
     alloc: Global,
     variables: Variables,
     moves: u64,
     states: u64,
-) -> Result<SearchOutcome<Move>, ExploreFault> {
-    let layout = Layout {
-        procs: 2,
-        cap: 1,
-        width: 1,
-    };
+    answer: Result<SearchOutcome<Move>, ExploreFault>,
+) -> bool {
     let bounds = Bounds {
         crashes: 1,
         moves,
         states,
     };
-    shortest_schedule(
+    sizes_of(Variant::Right, 2, 1, 4).explore_within(alloc, &LOCKING, variables, &bounds) == answer
+}
+
+/// Whether it would keep more states than it may.
+fn is_too_many(alloc: Global, variables: Variables, moves: u64, states: u64) -> bool {
+    answers(
         alloc,
-        Variant::Right,
-        layout,
-        4,
-        &LOCKING,
         variables,
-        &bounds,
-        &mut Unwatched,
+        moves,
+        states,
+        Err(ExploreFault::TooManyStates),
     )
 }
 
 #[test]
-fn more_states_than_may_be_kept_are_told(rt: HostRuntime) -> Result<(), Fail> {
-    for (variables, states) in [(Variables::All, 7_728), (Variables::Live, 6_030)] {
-        assert_eq!(rt;
-            search_right(rt.alloc(), variables, 1_000, states),
-            Err(ExploreFault::TooManyStates),
-            "{variables:?}"
-        );
-    }
-    Ok(())
+fn more_states_than_may_be_kept_are_told(rt: HostRuntime) {
+    assert!(rt; is_too_many(rt.alloc(), Variables::All, 1_000, 7_728));
+    assert!(rt; is_too_many(rt.alloc(), Variables::Live, 1_000, 6_030));
+}
+
+/// Whether forty moves lead to just this many states.
+fn lead_to(alloc: Global, variables: Variables, states: u64) -> bool {
+    answers(alloc, variables, 40, states, Ok(SearchOutcome::NoneWithin))
+        && is_too_many(alloc, variables, 40, states.saturating_sub(1))
 }
 
 /// Forty moves lead to 3,490 of the 7,729 states, and to 3,162 of the 6,031 that live variables distinguish.
 #[test]
-fn states_past_the_moves_are_not_counted(rt: HostRuntime) -> Result<(), Fail> {
-    for (variables, states) in [(Variables::All, 3_490), (Variables::Live, 3_162)] {
-        assert_eq!(rt;
-            search_right(rt.alloc(), variables, 40, states),
-            Ok(SearchOutcome::NoneWithin),
-            "{variables:?}"
-        );
-        assert_eq!(rt;
-            search_right(rt.alloc(), variables, 40, states - 1),
-            Err(ExploreFault::TooManyStates),
-            "{variables:?}"
-        );
-    }
-    Ok(())
+fn states_past_the_moves_are_not_counted(rt: HostRuntime) {
+    assert!(rt; lead_to(rt.alloc(), Variables::All, 3_490));
+    assert!(rt; lead_to(rt.alloc(), Variables::Live, 3_162));
+}
+
+/// Whether searches with these sizes are refused, since no world has that many processes.
+fn is_refused(alloc: Global, sizes: Sizes, variables: Variables) -> bool {
+    sizes.explore(alloc, &LOCKING, variables, 1) == Err(ExploreFault::Refused(Refusal::BadProcs))
 }
 
 #[test]
-fn a_size_that_no_world_has_is_refused(rt: HostRuntime) -> Result<(), Fail> {
-    let sizes = Sizes {
-        variant: Variant::Right,
-        procs: 65,
-        crashes: 0,
-        limit: 1,
-        cap: 1,
-    };
-    for variables in VARIABLES {
-        assert_eq!(rt;
-            sizes.explore(rt.alloc(), &LOCKING, variables, 1),
-            Err(ExploreFault::Refused(Refusal::BadProcs)),
-            "{variables:?}"
-        );
-    }
-    Ok(())
+fn a_size_that_no_world_has_is_refused(rt: HostRuntime) {
+    let sizes = sizes_of(Variant::Right, 65, 0, 1);
+    assert!(rt; is_refused(rt.alloc(), sizes, Variables::All));
+    assert!(rt; is_refused(rt.alloc(), sizes, Variables::Live));
+}
+
+/// Whether a search of the right lock visits all states, and they are this many.
+fn visits(alloc: Global, sizes: Sizes, variables: Variables, states: u64) -> bool {
+    sizes.explore(alloc, &LOCKING, variables, 1_000) == Ok(SearchOutcome::Nowhere(states))
 }
 
 #[test]
-fn the_lock_is_searched_to_the_end(rt: HostRuntime) -> Result<(), Fail> {
-    let sizes = |procs, crashes, limit| Sizes {
-        variant: Variant::Right,
-        procs,
-        crashes,
-        limit,
-        cap: 1,
-    };
-    let alloc = rt.alloc();
-    for (sizes, variables, states) in [
-        (sizes(2, 1, 4), Variables::All, 7_729),
-        (sizes(2, 1, 4), Variables::Live, 6_031),
-        (sizes(2, 2, 4), Variables::All, 24_774),
-        (sizes(2, 2, 4), Variables::Live, 17_289),
-        (sizes(3, 0, 3), Variables::All, 43_762),
-        (sizes(3, 0, 3), Variables::Live, 43_762),
+fn the_lock_is_searched_to_the_end(rt: HostRuntime) {
+    for ((procs, crashes, limit), (all, live)) in [
+        ((2, 1, 4), (7_729, 6_031)),
+        ((2, 2, 4), (24_774, 17_289)),
+        ((3, 0, 3), (43_762, 43_762)),
     ] {
-        assert_eq!(rt;
-            sizes.explore(alloc, &LOCKING, variables, 1_000),
-            Ok(SearchOutcome::Nowhere(states)),
-            "{variables:?} {states}"
+        let sizes = sizes_of(Variant::Right, procs, crashes, limit);
+        assert!(rt; visits(rt.alloc(), sizes, Variables::All, all), "{all}");
+        assert!(rt;
+            visits(rt.alloc(), sizes, Variables::Live, live),
+            "{live} live"
         );
     }
-    Ok(())
 }

@@ -8,19 +8,6 @@ use lock_explorer::{ExploreFault, Move, StuckBounds, stuck_schedule};
 use redomail::Layout;
 use rmeworld::Call;
 use std::alloc::Global;
-use std::test::Fail;
-
-/// The calls that are started.
-const LOCKING: [Call; 2] = [Call::Lock, Call::Unlock];
-
-/// Looks for jugs from which no pouring leads to empty jugs.
-fn stuck_jugs(
-    alloc: Global,
-    start: Jugs,
-    most_states: u64,
-) -> Result<StuckOutcome<Pour>, SearchFault> {
-    find_stuck(alloc, start, most_states, &mut Unwatched)
-}
 
 /// Jugs with this much in the small one.
 fn jugs(small: u64, wanted: u64, spills: u64) -> Jugs {
@@ -32,118 +19,130 @@ fn jugs(small: u64, wanted: u64, spills: u64) -> Jugs {
     }
 }
 
+/// Whether a search for jugs from which no pouring leads to empty jugs has this answer.
+fn answers(
+    alloc: Global,
+    start: Jugs,
+    most_states: u64,
+    answer: Result<StuckOutcome<Pour>, SearchFault>,
+) -> bool {
+    find_stuck(alloc, start, most_states, &mut Unwatched) == answer
+}
+
 #[test]
-fn jugs_can_be_emptied(rt: HostRuntime) -> Result<(), Fail> {
-    assert_eq!(rt;
-        stuck_jugs(rt.alloc(), jugs(0, 7, 0), 16),
-        Ok(StuckOutcome::NeverStuck(16))
-    );
-    assert_eq!(rt;
-        stuck_jugs(rt.alloc(), jugs(0, 7, 0), 15),
-        Err(SearchFault::TooManyStates)
-    );
-    Ok(())
+fn jugs_can_be_emptied(rt: HostRuntime) {
+    let alloc = rt.alloc();
+    assert!(rt; answers(alloc, jugs(0, 7, 0), 16, Ok(StuckOutcome::NeverStuck(16))));
+    assert!(rt; answers(alloc, jugs(0, 7, 0), 15, Err(SearchFault::TooManyStates)));
+}
+
+/// Whether these pourings lead to stuck jugs, or to a fault.
+fn leads(alloc: Global, start: Jugs, pourings: &[Pour], to_fault: bool) -> bool {
+    match Vec::from_slice(alloc, pourings) {
+        Ok(path) if to_fault => answers(alloc, start, 16, Ok(StuckOutcome::Fault(path))),
+        Ok(path) => answers(alloc, start, 16, Ok(StuckOutcome::Stuck(path))),
+        Err(_) => false,
+    }
 }
 
 /// Where emptying a jug is a crash, a litre that is in a jug stays in the jugs.
 #[test]
-fn full_jugs_are_stuck_where_nothing_may_be_spilt(rt: HostRuntime) -> Result<(), Fail> {
-    let filled = vec![in rt.alloc(); Pour::FillSmall]?;
-    assert_eq!(rt;
-        stuck_jugs(rt.alloc(), jugs(0, 7, 1), 16),
-        Ok(StuckOutcome::Stuck(filled))
-    );
-    assert_eq!(rt;
-        stuck_jugs(rt.alloc(), jugs(1, 7, 1), 16),
-        Ok(StuckOutcome::Stuck(Vec::new(rt.alloc())))
-    );
-    Ok(())
+fn full_jugs_are_stuck_where_nothing_may_be_spilt(rt: HostRuntime) {
+    assert!(rt; leads(rt.alloc(), jugs(0, 7, 1), &[Pour::FillSmall], false));
+    assert!(rt; leads(rt.alloc(), jugs(1, 7, 1), &[], false));
 }
 
 /// A fault is answered before a stuck state, also where the path to it is longer.
 #[test]
-fn a_fault_comes_first(rt: HostRuntime) -> Result<(), Fail> {
-    let path = vec![in rt.alloc();
+fn a_fault_comes_first(rt: HostRuntime) {
+    let path = [
         Pour::FillBig,
         Pour::BigToSmall,
         Pour::EmptySmall,
         Pour::BigToSmall,
         Pour::FillBig,
         Pour::BigToSmall,
-    ]?;
-    assert_eq!(rt;
-        stuck_jugs(rt.alloc(), jugs(0, 4, 1), 16),
-        Ok(StuckOutcome::Fault(path))
-    );
-    Ok(())
+    ];
+    assert!(rt; leads(rt.alloc(), jugs(0, 4, 1), &path, true));
 }
 
-/// Looks for stuck states of the right lock.
-fn stuck_worlds(
-    alloc: Global,
+/// The sizes of a search of the right lock.
+#[derive(Clone, Copy)]
+struct Sizes {
     procs: u64,
     limit: u64,
-    bounds: StuckBounds,
-) -> Result<StuckOutcome<Move>, ExploreFault> {
+    crashes: u64,
+    states: u64,
+}
+
+/// Whether a search for stuck states of the right lock has this answer.
+fn lock_answers(
+    alloc: Global,
+    sizes: Sizes,
+    calls: &[Call],
+    answer: Result<StuckOutcome<Move>, ExploreFault>,
+) -> bool {
     let layout = Layout {
-        procs,
+        procs: sizes.procs,
         cap: 1,
         width: 1,
     };
-    stuck_schedule(
-        alloc,
-        Variant::Right,
-        layout,
-        limit,
-        &LOCKING,
-        &bounds,
-        &mut Unwatched,
-    )
+    let bounds = StuckBounds {
+        crashes: sizes.crashes,
+        states: sizes.states,
+    };
+    let variant = Variant::Right;
+    let watch = &mut Unwatched;
+    stuck_schedule(alloc, variant, layout, sizes.limit, calls, &bounds, watch) == answer
 }
 
 #[test]
-fn the_lock_is_never_stuck(rt: HostRuntime) -> Result<(), Fail> {
-    let bounds = StuckBounds {
+fn the_lock_is_never_stuck(rt: HostRuntime) {
+    let alloc = rt.alloc();
+    let calls = [Call::Lock, Call::Unlock];
+    let sizes = |states| Sizes {
+        procs: 2,
+        limit: 4,
         crashes: 1,
-        states: 7_729,
+        states,
     };
-    assert_eq!(rt;
-        stuck_worlds(rt.alloc(), 2, 4, bounds),
-        Ok(StuckOutcome::NeverStuck(7_729))
+    assert!(rt;
+        lock_answers(
+            alloc,
+            sizes(7_729),
+            &calls,
+            Ok(StuckOutcome::NeverStuck(7_729))
+        )
     );
-    let bounds = StuckBounds {
-        crashes: 1,
-        states: 7_728,
-    };
-    assert_eq!(rt;
-        stuck_worlds(rt.alloc(), 2, 4, bounds),
-        Err(ExploreFault::TooManyStates)
+    assert!(rt;
+        lock_answers(
+            alloc,
+            sizes(7_728),
+            &calls,
+            Err(ExploreFault::TooManyStates)
+        )
     );
-    Ok(())
 }
 
 /// Without `unlock` the process that has the lock can't let go of it.
 #[test]
-fn without_unlock_the_lock_is_stuck(rt: HostRuntime) -> Result<(), Fail> {
-    let bounds = StuckBounds {
+fn without_unlock_the_lock_is_stuck(rt: HostRuntime) {
+    let sizes = Sizes {
+        procs: 1,
+        limit: 1,
         crashes: 0,
         states: 1_000,
     };
-    let layout = Layout {
-        procs: 1,
-        cap: 1,
-        width: 1,
+    let is_so = match Vec::from_slice(rt.alloc(), &[Move::Start(0, Call::Lock)]) {
+        Ok(path) => {
+            lock_answers(
+                rt.alloc(),
+                sizes,
+                &[Call::Lock],
+                Ok(StuckOutcome::Stuck(path)),
+            )
+        }
+        Err(_) => false,
     };
-    let found = stuck_schedule(
-        rt.alloc(),
-        Variant::Right,
-        layout,
-        1,
-        &[Call::Lock],
-        &bounds,
-        &mut Unwatched,
-    );
-    let path = vec![in rt.alloc(); Move::Start(0, Call::Lock)]?;
-    assert_eq!(rt; found, Ok(StuckOutcome::Stuck(path)));
-    Ok(())
+    assert!(rt; is_so);
 }

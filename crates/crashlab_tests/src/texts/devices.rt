@@ -1,11 +1,11 @@
 //! Readers and writers that fail once, at every place, and texts that end too early.
 
 use crate::texts::everything::{REPORT as EVERYTHING_REPORT, SCHEDULE as EVERYTHING};
-use crate::texts::kit::check;
+use crate::texts::kit::replayed;
 use schedule::{FromReader, Page, ReplayFault, Text, ToWriter, Verdict, judge_trace, replay};
+use std::alloc::Global;
 use std::io;
 use std::io::{ErrorKind, Read, Write};
-use std::test::Fail;
 
 pub const TORN: &[u8] = b"rme 1 procs 1 limit 10 cap 2
 lock 0
@@ -90,40 +90,44 @@ impl Write for Lines<'_> {
 /// Two schedules with their reports: one whose append is torn and mended, and the longest one.
 const ROWS: [(&[u8], &[u8]); 2] = [(TORN, REPORT), (EVERYTHING, EVERYTHING_REPORT)];
 
-/// Fails each read of a text once: then nothing is written. To fail one read more than there are changes nothing.
-fn reads_fail(rt: &HostRuntime, text: &[u8], report: &[u8]) -> Result<(), Fail> {
+/// What a replay answers whose read `at` fails, where it writes just this.
+fn reads_to(
+    alloc: Global,
+    text: &[u8],
+    at: u64,
+    written: &[u8],
+) -> Option<Result<Verdict, ReplayFault>> {
+    let pieces = Pieces {
+        left: text,
+        at,
+        reads: 0,
+    };
+    replayed(alloc, &mut FromReader::new(pieces), written)
+}
+
+/// Whether nothing is written where a read of a text fails, whichever it is. To fail one read more than there are changes
+/// nothing.
+fn reads_fail(alloc: Global, text: &[u8], report: &[u8]) -> bool {
     // Pieces of 40 bytes, the last of them shorter, and the read that answers the end.
     let reads = text.len() as u64 / 40 + 2;
-    for at in 1..reads + 2 {
-        let pieces = Pieces {
-            left: text,
-            at,
-            reads: 0,
-        };
-        let mut page = Page::new(rt.alloc());
-        let answer = replay(rt.alloc(), &mut FromReader::new(pieces), &mut page);
-        if at <= reads {
-            check(answer == Err(ReplayFault::Read), "a read")?;
-            check(page.as_slice().is_empty(), "nothing written")?;
-        } else {
-            check(answer == Ok(Verdict::Fine), "no read left")?;
-            check(page.as_slice() == report, "the report")?;
+    for at in 1..reads + 1 {
+        if reads_to(alloc, text, at, b"") != Some(Err(ReplayFault::Read)) {
+            return false;
         }
     }
-    Ok(())
+    reads_to(alloc, text, reads + 1, report) == Some(Ok(Verdict::Fine))
 }
 
 #[test]
-fn a_read_fails(rt: HostRuntime) -> Result<(), Fail> {
+fn a_read_fails(rt: HostRuntime) {
     for (text, report) in ROWS {
-        reads_fail(&rt, text, report)?;
+        assert!(rt; reads_fail(rt.alloc(), text, report));
     }
-    Ok(())
 }
 
 /// Fails each read of a trace once, in pieces of 40 bytes.
 #[test]
-fn a_read_of_a_trace_fails(rt: HostRuntime) -> Result<(), Fail> {
+fn a_read_of_a_trace_fails(rt: HostRuntime) {
     let text = b"trace 1 procs 1 cap 1\nbegin 0\nready 0\nenter 0\nleave 0\nbegin 0\nquit 0\n";
     for at in 1..5u64 {
         let pieces = Pieces {
@@ -139,55 +143,65 @@ fn a_read_of_a_trace_fails(rt: HostRuntime) -> Result<(), Fail> {
         };
         assert!(rt; answer == wanted, "read {at}");
     }
-    Ok(())
 }
 
-/// Whether there is a write `at`. Checks the answer where it fails.
+/// What a replay answers that writes to the device.
+fn written_to<W: Write + Drop>(
+    alloc: Global,
+    schedule: &[u8],
+    device: W,
+) -> Result<Verdict, ReplayFault> {
+    replay(
+        alloc,
+        &mut Text::new(schedule, 512),
+        &mut ToWriter::new(device),
+    )
+}
+
+/// Whether there is a write `at`. None: it fails, and the answer or what was written is another than it should be.
 fn fails_at(
-    rt: &HostRuntime,
-    (schedule, report): (&[u8], &[u8]),
+    alloc: Global,
+    schedule: &[u8],
+    report: &[u8],
     at: u64,
     takes_none: bool,
-) -> Result<bool, Fail> {
-    let mut text = Vec::new(rt.alloc());
+) -> Option<bool> {
+    let mut text = Vec::new(alloc);
     let lines = Lines {
         text: &mut text,
         at,
         takes_none,
         writes: 0,
     };
-    let mut sink = ToWriter::new(lines);
-    let answer = replay(rt.alloc(), &mut Text::new(schedule, 512), &mut sink);
-    drop(sink);
-    if answer == Ok(Verdict::Fine) {
-        check(text.as_slice() == report, "the report")?;
-        return Ok(false);
+    match written_to(alloc, schedule, lines) {
+        Ok(Verdict::Fine) if text.as_slice() == report => Some(false),
+        Err(ReplayFault::Write) if report.starts_with(&text) && text.len() < report.len() => {
+            Some(true)
+        }
+        _ => None,
     }
-    check(answer == Err(ReplayFault::Write), "a write")?;
-    check(report.starts_with(&text), "a beginning of the report")?;
-    check(text.len() < report.len(), "not the whole report")?;
-    Ok(true)
 }
 
-/// Fails each write of a report once, until there is no such write.
-pub fn writes_fail(rt: &HostRuntime, row: (&[u8], &[u8])) -> Result<(), Fail> {
+/// Fails each write of a report once, until there is no such write. It fails in two ways.
+pub fn writes_fail(alloc: Global, schedule: &[u8], report: &[u8]) -> bool {
     for at in 1..10_000u64 {
-        let failed = fails_at(rt, row, at, false)?;
-        check(fails_at(rt, row, at, true)? == failed, "both kinds")?;
-        if !failed {
+        let failed = fails_at(alloc, schedule, report, at, false);
+        if failed.is_none() || fails_at(alloc, schedule, report, at, true) != failed {
+            return false;
+        }
+        if failed == Some(false) {
             // No write takes more than five bytes.
-            return check(at > row.1.len() as u64 / 5, "as many writes");
+            return at > report.len() as u64 / 5;
         }
     }
-    Err(Fail::from("a run that meets no failure"))
+    false
 }
 
 #[test]
-fn a_write_fails(rt: HostRuntime) -> Result<(), Fail> {
-    for row in ROWS {
-        writes_fail(&rt, row)?;
+fn a_write_fails(rt: HostRuntime) {
+    for (schedule, report) in ROWS {
+        assert!(rt; writes_fail(rt.alloc(), schedule, report));
     }
-    Ok(())
 }
 
 /// The number of a text's last line.
@@ -212,32 +226,23 @@ fn early(text: &[u8]) -> Option<ReplayFault> {
     })
 }
 
-/// Each beginning of a text: the report of its lines, or the fault of the last one.
-fn begins(rt: &HostRuntime, whole: &[u8]) -> Result<(), Fail> {
-    for end in 0..whole.len() {
-        let text = &whole[..end];
-        let mut page = Page::new(rt.alloc());
-        let answer = replay(rt.alloc(), &mut Text::new(text, 512), &mut page);
-        match early(text) {
-            None => {
-                check(answer == Ok(Verdict::Fine), "whole lines")?;
-                check(page.as_slice().ends_with(b"\nverdict fine\n"), "a report")?;
-            }
-            Some(fault) => {
-                check(answer == Err(fault), "a line cut off")?;
-                check(page.as_slice().is_empty(), "nothing written")?;
-            }
-        }
+/// Whether the beginning of a text gives the report of its lines, or the fault of the last one.
+fn begins(alloc: Global, text: &[u8]) -> bool {
+    let mut page = Page::new(alloc);
+    let answer = replay(alloc, &mut Text::new(text, 512), &mut page);
+    match early(text) {
+        None => answer == Ok(Verdict::Fine) && page.as_slice().ends_with(b"\nverdict fine\n"),
+        Some(fault) => answer == Err(fault) && page.as_slice().is_empty(),
     }
-    Ok(())
 }
 
 #[test]
-fn beginnings(rt: HostRuntime) -> Result<(), Fail> {
+fn beginnings(rt: HostRuntime) {
     for (text, _) in ROWS {
-        begins(&rt, text)?;
+        for end in 0..text.len() {
+            assert!(rt; begins(rt.alloc(), &text[..end]), "{end} bytes");
+        }
     }
-    Ok(())
 }
 
 /// A sink that takes all bytes, and whose flush fails.
@@ -257,23 +262,20 @@ impl Write for Unflushed<'_> {
     }
 }
 
-/// Checks what a replay answers, and what it wrote, where the flush at its end fails.
-fn fails_at_the_end(rt: &HostRuntime, schedule: &[u8], written: &[u8]) -> Result<(), Fail> {
-    let mut text = Vec::new(rt.alloc());
-    let mut sink = ToWriter::new(Unflushed { text: &mut text });
-    let answer = replay(rt.alloc(), &mut Text::new(schedule, 512), &mut sink);
-    drop(sink);
-    check(answer == Err(ReplayFault::Write), "a flush")?;
-    check(text.as_slice() == written, "all was written")
+/// Whether a replay fails and has written all of this, where the flush at its end fails.
+fn fails_at_the_end(alloc: Global, schedule: &[u8], written: &[u8]) -> bool {
+    let mut text = Vec::new(alloc);
+    let answer = written_to(alloc, schedule, Unflushed { text: &mut text });
+    answer == Err(ReplayFault::Write) && text.as_slice() == written
 }
 
 #[test]
-fn a_flush_fails(rt: HostRuntime) -> Result<(), Fail> {
+fn a_flush_fails(rt: HostRuntime) {
     for (schedule, report) in ROWS {
-        fails_at_the_end(&rt, schedule, report)?;
+        assert!(rt; fails_at_the_end(rt.alloc(), schedule, report));
     }
     let refused = b"rme 1 procs 1 limit 10 cap 2\nlock 0\nstep 0 3\nunlock 0\n";
-    fails_at_the_end(&rt, refused, b"")?;
+    assert!(rt; fails_at_the_end(rt.alloc(), refused, b""));
     let refused_later = b"rme 1 procs 1 limit 10 cap 2\nlock 0\nstep 0 4\nunlock 0\n";
-    fails_at_the_end(&rt, refused_later, b"begin 0\n")
+    assert!(rt; fails_at_the_end(rt.alloc(), refused_later, b"begin 0\n"));
 }

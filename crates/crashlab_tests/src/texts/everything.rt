@@ -1,7 +1,6 @@
 //! The longest worked row: 64 processes, two of them waiting, and then each of them crashes.
 
 use crate::texts::kit::replays;
-use std::test::Fail;
 
 pub const SCHEDULE: &[u8] = b"rme 1 procs 64 limit 100 cap 1
 lock 0
@@ -213,6 +212,6 @@ verdict fine
 ";
 
 #[test]
-fn crash_of_everything(rt: HostRuntime) -> Result<(), Fail> {
-    replays(&rt, SCHEDULE, REPORT)
+fn crash_of_everything(rt: HostRuntime) {
+    assert!(rt; replays(rt.alloc(), SCHEDULE, REPORT));
 }

@@ -1,51 +1,33 @@
 //! The worked rows of the lock: schedules and their reports.
 
-use crate::texts::kit::replays;
-use std::test::Fail;
+use crate::texts::kit::first_other;
 
-#[test]
-fn smallest(rt: HostRuntime) -> Result<(), Fail> {
-    replays(
-        &rt,
-        b"rme 1 procs 1 limit 10 cap 1
+const ROWS: &str = "smallest
+rme 1 procs 1 limit 10 cap 1
 lock 0
 step 0 8
-",
-        b"begin 0
+--
+begin 0
 ready 0
 enter 0
 answer 0 clean
 words 0 0 1 1
 mail 0 closed 0 ruined 0
 verdict fine
-",
-    )?;
-    Ok(())
-}
-
-#[test]
-fn first_steps(rt: HostRuntime) -> Result<(), Fail> {
-    replays(
-        &rt,
-        b"rme 1 procs 1 limit 1 cap 1
+==
+first-steps
+rme 1 procs 1 limit 1 cap 1
 lock 0
 step 0
 step 0 3
-",
-        b"begin 0
+--
+begin 0
 words 0 1 0 0
 mail 0 closed 0 ruined 0
 verdict fine
-",
-    )?;
-    Ok(())
-}
-
-#[test]
-fn tie(rt: HostRuntime) -> Result<(), Fail> {
-    replays(
-        &rt,
-        b"rme 1 procs 2 limit 10 cap 1
+==
+tie
+rme 1 procs 2 limit 10 cap 1
 lock 0
 lock 1
 step 0 5
@@ -54,8 +36,8 @@ step 0 2
 step 1 2
 step 1 3
 step 0 4
-",
-        b"begin 0
+--
+begin 0
 begin 1
 ready 0
 ready 1
@@ -65,16 +47,9 @@ words 0 0 1 1
 words 1 0 1 0
 mail 0 closed 0 ruined 0
 verdict fine
-",
-    )?;
-    Ok(())
-}
-
-#[test]
-fn dead_in_the_doorway(rt: HostRuntime) -> Result<(), Fail> {
-    replays(
-        &rt,
-        b"rme 1 procs 2 limit 10 cap 1
+==
+dead-in-the-doorway
+rme 1 procs 2 limit 10 cap 1
 lock 1
 step 1 5
 crash 1
@@ -83,8 +58,8 @@ step 0 8
 lock 1
 step 1 6
 step 0 4
-",
-        b"begin 1
+--
+begin 1
 crash 1
 begin 0
 ready 0
@@ -95,16 +70,9 @@ words 0 0 1 1
 words 1 0 2 0
 mail 0 closed 0 ruined 0
 verdict fine
-",
-    )?;
-    Ok(())
-}
-
-#[test]
-fn between_two_words(rt: HostRuntime) -> Result<(), Fail> {
-    replays(
-        &rt,
-        b"rme 1 procs 2 limit 10 cap 1
+==
+between-two-words
+rme 1 procs 2 limit 10 cap 1
 lock 0
 step 0 6
 crash 0
@@ -113,8 +81,8 @@ step 1 8
 lock 0
 step 0 8
 step 1 4
-",
-        b"begin 0
+--
+begin 0
 ready 0
 crash 0
 begin 1
@@ -125,16 +93,9 @@ words 0 0 1 1
 words 1 0 2 0
 mail 0 closed 0 ruined 0
 verdict fine
-",
-    )?;
-    Ok(())
-}
-
-#[test]
-fn re_entry(rt: HostRuntime) -> Result<(), Fail> {
-    replays(
-        &rt,
-        b"rme 1 procs 2 limit 10 cap 1
+==
+re-entry
+rme 1 procs 2 limit 10 cap 1
 lock 0
 step 0 11
 lock 1
@@ -143,8 +104,8 @@ crash 0
 step 1 3
 lock 0
 step 0 4
-",
-        b"begin 0
+--
+begin 0
 ready 0
 enter 0
 answer 0 clean
@@ -157,16 +118,9 @@ words 0 0 1 1
 words 1 0 2 0
 mail 0 closed 0 ruined 0
 verdict fine
-",
-    )?;
-    Ok(())
-}
-
-#[test]
-fn half_an_exit(rt: HostRuntime) -> Result<(), Fail> {
-    replays(
-        &rt,
-        b"rme 1 procs 2 limit 10 cap 1
+==
+half-an-exit
+rme 1 procs 2 limit 10 cap 1
 lock 0
 step 0 11
 lock 1
@@ -177,8 +131,8 @@ crash 0
 step 1 3
 recover 0
 step 0 4
-",
-        b"begin 0
+--
+begin 0
 ready 0
 enter 0
 answer 0 clean
@@ -193,12 +147,9 @@ words 0 0 0 0
 words 1 0 2 1
 mail 0 closed 0 ruined 0
 verdict fine
-",
-    )?;
-    Ok(())
-}
-
-const RUINED: &[u8] = b"rme 1 procs 2 limit 10 cap 1
+==
+ruined
+rme 1 procs 2 limit 10 cap 1
 lock 0
 step 0 11
 crash 0
@@ -210,14 +161,8 @@ lock 1
 step 1 13
 lock 0
 step 0 13
-";
-
-#[test]
-fn ruined(rt: HostRuntime) -> Result<(), Fail> {
-    replays(
-        &rt,
-        RUINED,
-        b"begin 0
+--
+begin 0
 ready 0
 enter 0
 answer 0 clean
@@ -241,16 +186,9 @@ words 0 0 0 0
 words 1 0 0 0
 mail 0 closed 0 ruined 1
 verdict fine
-",
-    )?;
-    Ok(())
-}
-
-#[test]
-fn number_limit(rt: HostRuntime) -> Result<(), Fail> {
-    replays(
-        &rt,
-        b"rme 1 procs 2 limit 1 cap 1
+==
+number-limit
+rme 1 procs 2 limit 1 cap 1
 lock 0
 step 0 11
 lock 1
@@ -259,8 +197,8 @@ unlock 0
 step 0 2
 lock 1
 step 1 11
-",
-        b"begin 0
+--
+begin 0
 ready 0
 enter 0
 answer 0 clean
@@ -277,16 +215,9 @@ words 0 0 0 0
 words 1 0 1 1
 mail 0 closed 0 ruined 0
 verdict fine
-",
-    )?;
-    Ok(())
-}
-
-#[test]
-fn withdraw_waiting(rt: HostRuntime) -> Result<(), Fail> {
-    replays(
-        &rt,
-        b"rme 1 procs 2 limit 10 cap 1
+==
+withdraw-waiting
+rme 1 procs 2 limit 10 cap 1
 lock 0
 step 0 7
 lock 1
@@ -294,8 +225,8 @@ step 1 9
 withdraw 0
 step 0
 step 1 3
-",
-        b"begin 0
+--
+begin 0
 ready 0
 begin 1
 ready 1
@@ -307,16 +238,9 @@ words 0 0 0 0
 words 1 0 2 1
 mail 0 closed 0 ruined 0
 verdict fine
-",
-    )?;
-    Ok(())
-}
-
-#[test]
-fn withdraw_and_return(rt: HostRuntime) -> Result<(), Fail> {
-    replays(
-        &rt,
-        b"rme 1 procs 2 limit 10 cap 1
+==
+withdraw-and-return
+rme 1 procs 2 limit 10 cap 1
 lock 0
 step 0 11
 lock 1
@@ -328,8 +252,8 @@ step 1 9
 unlock 0
 step 0 2
 step 1 3
-",
-        b"begin 0
+--
+begin 0
 ready 0
 enter 0
 answer 0 clean
@@ -347,24 +271,17 @@ words 0 0 0 0
 words 1 0 2 1
 mail 0 closed 0 ruined 0
 verdict fine
-",
-    )?;
-    Ok(())
-}
-
-#[test]
-fn wrong_variant(rt: HostRuntime) -> Result<(), Fail> {
-    replays(
-        &rt,
-        b"rme 1 procs 2 limit 10 cap 1
+==
+wrong-variant
+rme 1 procs 2 limit 10 cap 1
 lock 0
 lock 1
 step 0 5
 step 1 6
 step 1 4
 step 0 6
-",
-        b"begin 0
+--
+begin 0
 begin 1
 ready 1
 ready 0
@@ -374,7 +291,9 @@ words 0 0 1 1
 words 1 0 1 0
 mail 0 closed 0 ruined 0
 verdict fine
-",
-    )?;
-    Ok(())
+";
+
+#[test]
+fn lock_rows(rt: HostRuntime) {
+    assert_eq!(rt; first_other(rt.alloc(), None, ROWS), None);
 }

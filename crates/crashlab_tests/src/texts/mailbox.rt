@@ -1,13 +1,9 @@
 //! The worked rows of the mailbox: schedules and their reports.
 
-use crate::texts::kit::replays;
-use std::test::Fail;
+use crate::texts::kit::first_other;
 
-#[test]
-fn torn_before_the_commit(rt: HostRuntime) -> Result<(), Fail> {
-    replays(
-        &rt,
-        b"rme 1 procs 1 limit 10 cap 2
+const ROWS: &str = "torn-before-the-commit
+rme 1 procs 1 limit 10 cap 2
 lock 0
 step 0 8
 append 0 1 77
@@ -21,8 +17,8 @@ append 0 1 77
 step 0 13
 unlock 0
 step 0 2
-",
-        b"begin 0
+--
+begin 0
 ready 0
 enter 0
 answer 0 clean
@@ -39,16 +35,9 @@ words 0 0 0 0
 mail 1 closed 0 ruined 0
 message 0 0 1 77
 verdict fine
-",
-    )?;
-    Ok(())
-}
-
-#[test]
-fn torn_after_the_commit(rt: HostRuntime) -> Result<(), Fail> {
-    replays(
-        &rt,
-        b"rme 1 procs 1 limit 10 cap 2
+==
+torn-after-the-commit
+rme 1 procs 1 limit 10 cap 2
 lock 0
 step 0 8
 append 0 1 77
@@ -60,8 +49,8 @@ consistent 0
 step 0 11
 append 0 1 77
 step 0 3
-",
-        b"begin 0
+--
+begin 0
 ready 0
 enter 0
 answer 0 clean
@@ -76,16 +65,9 @@ words 0 0 1 1
 mail 1 closed 0 ruined 0
 message 0 0 1 77
 verdict fine
-",
-    )?;
-    Ok(())
-}
-
-#[test]
-fn repair_of_what_is_done(rt: HostRuntime) -> Result<(), Fail> {
-    replays(
-        &rt,
-        b"rme 1 procs 1 limit 10 cap 2
+==
+repair-of-what-is-done
+rme 1 procs 1 limit 10 cap 2
 lock 0
 step 0 8
 append 0 1 77
@@ -97,8 +79,8 @@ consistent 0
 step 0 11
 append 0 1 77
 step 0 3
-",
-        b"begin 0
+--
+begin 0
 ready 0
 enter 0
 answer 0 clean
@@ -113,16 +95,9 @@ words 0 0 1 1
 mail 1 closed 0 ruined 0
 message 0 0 1 77
 verdict fine
-",
-    )?;
-    Ok(())
-}
-
-#[test]
-fn boundaries(rt: HostRuntime) -> Result<(), Fail> {
-    replays(
-        &rt,
-        b"rme 1 procs 1 limit 10 cap 1
+==
+boundaries
+rme 1 procs 1 limit 10 cap 1
 lock 0
 step 0 8
 append 0 1 5
@@ -135,8 +110,8 @@ append 0 2 9
 step 0 3
 append 0 1 5
 step 0 3
-",
-        b"begin 0
+--
+begin 0
 ready 0
 enter 0
 answer 0 clean
@@ -151,16 +126,9 @@ words 0 0 1 1
 mail 1 closed 0 ruined 0
 message 0 0 1 5
 verdict fine
-",
-    )?;
-    Ok(())
-}
-
-#[test]
-fn closing(rt: HostRuntime) -> Result<(), Fail> {
-    replays(
-        &rt,
-        b"rme 1 procs 1 limit 10 cap 1
+==
+closing
+rme 1 procs 1 limit 10 cap 1
 lock 0
 step 0 8
 close 0
@@ -169,8 +137,8 @@ append 0 1 5
 step 0 3
 close 0
 step 0
-",
-        b"begin 0
+--
+begin 0
 ready 0
 enter 0
 answer 0 clean
@@ -181,24 +149,17 @@ answer 0 already-closed
 words 0 0 1 1
 mail 0 closed 1 ruined 0
 verdict fine
-",
-    )?;
-    Ok(())
-}
-
-#[test]
-fn board(rt: HostRuntime) -> Result<(), Fail> {
-    replays(
-        &rt,
-        b"rme 1 procs 1 limit 10 cap 1
+==
+board
+rme 1 procs 1 limit 10 cap 1
 lock 0
 step 0 8
 put 0 2 9
 step 0
 get 0 2
 step 0
-",
-        b"begin 0
+--
+begin 0
 ready 0
 enter 0
 answer 0 clean
@@ -207,23 +168,16 @@ answer 0 word 9
 words 0 0 1 1
 mail 0 closed 0 ruined 0
 verdict fine
-",
-    )?;
-    Ok(())
-}
-
-#[test]
-fn wide_torn(rt: HostRuntime) -> Result<(), Fail> {
-    replays(
-        &rt,
-        b"rme 2 procs 1 limit 10 cap 1 width 3
+==
+wide-torn
+rme 2 procs 1 limit 10 cap 1 width 3
 lock 0
 step 0 8
 append 0 1 7 8 9
 step 0 9
 crash 0
-",
-        b"begin 0
+--
+begin 0
 ready 0
 enter 0
 answer 0 clean
@@ -232,16 +186,9 @@ crash 0
 words 0 0 1 1
 mail 0 closed 0 ruined 0
 verdict fine
-",
-    )?;
-    Ok(())
-}
-
-#[test]
-fn wide_torn_and_mended(rt: HostRuntime) -> Result<(), Fail> {
-    replays(
-        &rt,
-        b"rme 2 procs 1 limit 10 cap 1 width 3
+==
+wide-torn-and-mended
+rme 2 procs 1 limit 10 cap 1 width 3
 lock 0
 step 0 8
 append 0 1 7 8 9
@@ -251,8 +198,8 @@ lock 0
 step 0 4
 consistent 0
 step 0 15
-",
-        b"begin 0
+--
+begin 0
 ready 0
 enter 0
 answer 0 clean
@@ -266,23 +213,16 @@ words 0 0 1 1
 mail 1 closed 0 ruined 0
 message 0 0 1 7 8 9
 verdict fine
-",
-    )?;
-    Ok(())
-}
-
-#[test]
-fn torn_image(rt: HostRuntime) -> Result<(), Fail> {
-    replays(
-        &rt,
-        b"rme 1 procs 1 limit 10 cap 2
+==
+torn-image
+rme 1 procs 1 limit 10 cap 2
 lock 0
 step 0 8
 append 0 1 77
 step 0 7
 crash 0
-",
-        b"begin 0
+--
+begin 0
 ready 0
 enter 0
 answer 0 clean
@@ -291,7 +231,9 @@ crash 0
 words 0 0 1 1
 mail 0 closed 0 ruined 0
 verdict fine
-",
-    )?;
-    Ok(())
+";
+
+#[test]
+fn mailbox_rows(rt: HostRuntime) {
+    assert_eq!(rt; first_other(rt.alloc(), None, ROWS), None);
 }

@@ -1,10 +1,9 @@
 //! Minimized schedules.
 
-use crate::texts::kit::check;
 use crashlab::hunting::hunt;
 use crashlab::{Variant, shrink, shrink_found};
 use schedule::{ReplayFault, Schedule, read_schedule, write_schedule};
-use std::test::Fail;
+use std::alloc::Global;
 
 /// Process 0 has read the numbers and not taken its own, while process 1 enters; then 0 enters too.
 const TWO_INSIDE: &[u8] =
@@ -17,36 +16,43 @@ const LEAST: &[u8] =
 const MENDED_FIRST: &[u8] = b"rme 1 procs 1 limit 10 cap 1\nlock 0\nstep 0 8\nconsistent 0\n";
 
 /// The text minimized on the variant.
-fn shrunk(
-    rt: &HostRuntime,
-    variant: Variant,
-    text: &[u8],
-) -> Result<Result<Option<Schedule>, ReplayFault>, Fail> {
-    let schedule = read_schedule(rt.alloc(), text).ok().ok_or("a schedule")?;
-    Ok(shrink(rt.alloc(), variant, &schedule))
+fn shrunk(alloc: Global, variant: Variant, text: &[u8]) -> Result<Option<Schedule>, ReplayFault> {
+    match read_schedule(alloc, text) {
+        Ok(schedule) => shrink(alloc, variant, &schedule),
+        Err(_) => Err(ReplayFault::Read),
+    }
+}
+
+/// Whether the schedule is written as this text.
+fn is_text(alloc: Global, schedule: &Schedule, text: &[u8]) -> bool {
+    match write_schedule(alloc, schedule) {
+        Ok(written) => written.as_slice() == text,
+        Err(_) => false,
+    }
 }
 
 #[test]
-fn two_inside(rt: HostRuntime) -> Result<(), Fail> {
-    let least = shrunk(&rt, Variant::NoLook, TWO_INSIDE)?.ok().flatten();
-    let least = least.ok_or("a verdict against")?;
-    let text = write_schedule(rt.alloc(), &least).ok().ok_or("a text")?;
-    check(text.as_slice() == LEAST, "the least schedule")
-}
-
-#[test]
-fn nothing_to_shrink(rt: HostRuntime) -> Result<(), Fail> {
-    let fine = shrunk(&rt, Variant::Right, TWO_INSIDE)?;
-    check(matches!(fine, Ok(None)), "fine")?;
-    let refused = shrunk(&rt, Variant::NoLook, MENDED_FIRST)?.err();
-    let line_4 = ReplayFault::Refused {
-        line: 4,
-        number: 10,
+fn two_inside(rt: HostRuntime) {
+    let is_least = match shrunk(rt.alloc(), Variant::NoLook, TWO_INSIDE) {
+        Ok(Some(least)) => is_text(rt.alloc(), &least, LEAST),
+        _ => false,
     };
-    check(refused == Some(line_4), "refused")?;
-    let unmade = shrunk(&rt, Variant::NoLook, b"rme 1 procs 65 limit 10 cap 1\n")?.err();
-    let line_1 = ReplayFault::Refused { line: 1, number: 1 };
-    check(unmade == Some(line_1), "a header that no world has")
+    assert!(rt; is_least);
+}
+
+/// Whether minimizing the text is refused so.
+fn is_refused(alloc: Global, text: &[u8], line: u64, number: u64) -> bool {
+    let refused = shrunk(alloc, Variant::NoLook, text).err();
+    refused == Some(ReplayFault::Refused { line, number })
+}
+
+#[test]
+fn nothing_to_shrink(rt: HostRuntime) {
+    let fine = shrunk(rt.alloc(), Variant::Right, TWO_INSIDE);
+    assert!(rt; matches!(fine, Ok(None)));
+    assert!(rt; is_refused(rt.alloc(), MENDED_FIRST, 4, 10));
+    // a header that no world has
+    assert!(rt; is_refused(rt.alloc(), b"rme 1 procs 65 limit 10 cap 1\n", 1, 1));
 }
 
 /// The number of lines of the minimized schedule of a hunt of seed 1, which has some fifty to four hundred lines.
@@ -59,14 +65,26 @@ const LINES: [(Variant, usize); 6] = [
     (Variant::LastSkipped, 19),
 ];
 
-#[test]
-fn hunts_of_seed_1(rt: HostRuntime) -> Result<(), Fail> {
-    for (variant, lines) in LINES {
-        let found = hunt(rt.alloc(), variant, 1, 10_000, 1_000)?;
-        let found = found.ok_or("a schedule found")?;
-        let least = shrink_found(rt.alloc(), variant, &found).ok();
-        let least = least.ok_or("a least schedule")?;
-        check(least.lines().len() == lines, "how many lines")?;
+/// The number of lines of a schedule that is minimized.
+fn least_lines(alloc: Global, variant: Variant, found: &Schedule) -> Option<usize> {
+    match shrink_found(alloc, variant, found) {
+        Ok(least) => Some(least.lines().len()),
+        Err(_) => None,
     }
-    Ok(())
+}
+
+/// The same of the schedule that a hunt of seed 1 finds.
+fn least_lines_of_a_hunt(alloc: Global, variant: Variant) -> Option<usize> {
+    match hunt(alloc, variant, 1, 10_000, 1_000) {
+        Ok(Some(found)) => least_lines(alloc, variant, &found),
+        _ => None,
+    }
+}
+
+#[test]
+fn hunts_of_seed_1(rt: HostRuntime) {
+    for (variant, lines) in LINES {
+        let least = least_lines_of_a_hunt(rt.alloc(), variant);
+        assert!(rt; least == Some(lines), "{variant:?}");
+    }
 }

@@ -1,64 +1,73 @@
-use redomail::Reply;
+//! Texts that are faulty, and texts that are written as they were read.
+
+use redomail::{Deed, Reply};
 use rmecore::Found;
 use rmeworld::Answer;
 use schedule::lines::answer::{put_answer, put_deed};
 use schedule::texts::device::{Page, write_all};
-use schedule::texts::trace::read_trace;
+use schedule::texts::trace::{Trace, read_trace};
 use schedule::{TextFault, read_schedule, write_schedule};
-use std::test::Fail;
+use std::alloc::{AllocError, Global};
 
-/// The line and the number of a text's fault.
-fn fault_of(rt: &HostRuntime, text: &[u8]) -> Option<(u64, u64)> {
-    match read_schedule(rt.alloc(), text) {
-        Ok(_) => None,
-        Err(TextFault::At { line, number }) => Some((line, number)),
-        Err(TextFault::OutOfMemory) => Some((0, 0)),
+/// Whether the text has a fault in this line, with this number.
+fn is_faulty(alloc: Global, text: &[u8], line: u64, number: u64) -> bool {
+    match read_schedule(alloc, text) {
+        Ok(_) => false,
+        Err(fault) => fault == TextFault::At { line, number },
     }
 }
 
 #[test]
 fn hostile_texts(rt: HostRuntime) {
-    let cases: [(&[u8], (u64, u64)); 22] = [
-        (b"", (1, 1)),
-        (b"rme 1 procs 2 limit 10 cap 1\nlock 0", (2, 5)),
-        (b"rme 1 procs 2 limit 10 cap 1\nlok 0\n", (2, 2)),
-        (b"rme 1 procs 2 limit 10 cap 1\nlock 01\n", (2, 3)),
-        (b"rme 1 procs 2 limit 10 cap 1\nlock\n", (2, 3)),
-        (b"rme 1 procs 2 limit 10 cap 1\nstep 0 1\n", (2, 3)),
+    let cases: [(&str, u64, u64); 22] = [
+        ("", 1, 1),
+        ("rme 1 procs 2 limit 10 cap 1\nlock 0", 2, 5),
+        ("rme 1 procs 2 limit 10 cap 1\nlok 0\n", 2, 2),
+        ("rme 1 procs 2 limit 10 cap 1\nlock 01\n", 2, 3),
+        ("rme 1 procs 2 limit 10 cap 1\nlock\n", 2, 3),
+        ("rme 1 procs 2 limit 10 cap 1\nstep 0 1\n", 2, 3),
         (
-            b"rme 1 procs 2 limit 10 cap 1\nappend 0 1 18446744073709551616\n",
-            (2, 4),
+            "rme 1 procs 2 limit 10 cap 1\nappend 0 1 18446744073709551616\n",
+            2,
+            4,
         ),
-        (b"rme 1 procs 2 limit 10 cap 1\nstep 0 1000001\n", (2, 4)),
-        (b"rme 1 procs 2 limit 10 cap 1\nlock 0 0\n", (2, 6)),
-        (b"rme 1 procs 2 limit 10 cap 1\nlock 0 \n", (2, 6)),
-        (b"rme 1 procs 2 limit 10 cap 1\nstep 0 \n", (2, 3)),
-        (b"rme 1 procs 2 limit 10 cap 1 width 2\n", (1, 6)),
-        (b"rme 2 procs 2 limit 10 cap 1\n", (1, 1)),
-        (b"rme 2 procs 2 limit 10 cap 1 width 1\n", (1, 3)),
-        (b"rme 2 procs 2 limit 10 cap 1 width 9\n", (1, 4)),
-        (b"rme 3 procs 2 limit 10 cap 1\n", (1, 1)),
-        (b"rme 1 procs x limit 10 cop 1\n", (1, 1)),
-        (b"rme 1 procs 2 limit 10 cap\n", (1, 3)),
-        (b"rme 1 procs 2 limit 10 cap 1", (1, 5)),
-        (b"rme 1 procs 2 limit 10 cap 1\n\n", (2, 2)),
-        (b"rme 1 procs 2 limit 10 cap 1\nlock  0\n", (2, 3)),
-        (b"rme 1 procs 2 limit 10 cap 1\nlock 0\r\n", (2, 3)),
+        ("rme 1 procs 2 limit 10 cap 1\nstep 0 1000001\n", 2, 4),
+        ("rme 1 procs 2 limit 10 cap 1\nlock 0 0\n", 2, 6),
+        ("rme 1 procs 2 limit 10 cap 1\nlock 0 \n", 2, 6),
+        ("rme 1 procs 2 limit 10 cap 1\nstep 0 \n", 2, 3),
+        ("rme 1 procs 2 limit 10 cap 1 width 2\n", 1, 6),
+        ("rme 2 procs 2 limit 10 cap 1\n", 1, 1),
+        ("rme 2 procs 2 limit 10 cap 1 width 1\n", 1, 3),
+        ("rme 2 procs 2 limit 10 cap 1 width 9\n", 1, 4),
+        ("rme 3 procs 2 limit 10 cap 1\n", 1, 1),
+        ("rme 1 procs x limit 10 cop 1\n", 1, 1),
+        ("rme 1 procs 2 limit 10 cap\n", 1, 3),
+        ("rme 1 procs 2 limit 10 cap 1", 1, 5),
+        ("rme 1 procs 2 limit 10 cap 1\n\n", 2, 2),
+        ("rme 1 procs 2 limit 10 cap 1\nlock  0\n", 2, 3),
+        ("rme 1 procs 2 limit 10 cap 1\nlock 0\r\n", 2, 3),
     ];
-    for (text, (line, number)) in cases {
-        assert_eq!(&rt; fault_of(&rt, text), Some((line, number)));
+    for (text, line, number) in cases {
+        assert!(rt;
+            is_faulty(rt.alloc(), text.as_bytes(), line, number),
+            "{text}"
+        );
     }
 }
 
 /// Whether the text that is read is written again.
-fn is_kept(rt: &HostRuntime, text: &[u8]) -> Result<bool, Fail> {
-    let schedule = read_schedule(rt.alloc(), text).ok().ok_or("a schedule")?;
-    let written = write_schedule(rt.alloc(), &schedule)?;
-    Ok(written.as_slice() == text)
+fn is_kept(alloc: Global, text: &[u8]) -> bool {
+    match read_schedule(alloc, text) {
+        Ok(schedule) => match write_schedule(alloc, &schedule) {
+            Ok(written) => written.as_slice() == text,
+            Err(_) => false,
+        },
+        Err(_) => false,
+    }
 }
 
 #[test]
-fn schedules(rt: HostRuntime) -> Result<(), Fail> {
+fn schedules(rt: HostRuntime) {
     let all = b"rme 2 procs 2 limit 10 cap 1 width 2
 lock 0
 unlock 1
@@ -73,46 +82,56 @@ step 0
 step 0 1000000
 crash 1
 ";
-    assert!(&rt; is_kept(&rt, all)?);
-    assert!(&rt; is_kept(&rt, b"rme 1 procs 0 limit 0 cap 0\n")?);
+    assert!(rt; is_kept(rt.alloc(), all));
+    assert!(rt; is_kept(rt.alloc(), b"rme 1 procs 0 limit 0 cap 0\n"));
+}
+
+/// Writes the deeds.
+fn put_deeds(out: &mut Vec<u8>, deeds: &[Deed]) -> Result<(), AllocError> {
+    out.extend_from_slice(b"trace 1 procs 2 cap 1\n")?;
+    for deed in deeds {
+        put_deed(out, deed)?;
+    }
     Ok(())
 }
 
+/// Whether the trace has nine deeds, and is written as this text.
+fn is_written(alloc: Global, trace: &Trace, text: &[u8]) -> bool {
+    let mut out = Vec::new(alloc);
+    trace.deeds().len() == 9 && put_deeds(&mut out, trace.deeds()).is_ok() && out.as_slice() == text
+}
+
 #[test]
-fn traces(rt: HostRuntime) -> Result<(), Fail> {
+fn traces(rt: HostRuntime) {
     let text =
         b"trace 1 procs 2 cap 1\nbegin 0\nready 0\nbegin 1\nready 1\nquit 0\ncommit 0 1 5\nshow 0 0 1 5\nclose 1\nruin 1\n";
-    let trace = read_trace(rt.alloc(), text).ok().ok_or("a trace")?;
-    assert_eq!(&rt; trace.deeds().len(), 9);
-    let mut out = Vec::new(rt.alloc());
-    out.extend_from_slice(b"trace 1 procs 2 cap 1\n")?;
-    for deed in trace.deeds() {
-        put_deed(&mut out, deed)?;
-    }
-    assert!(&rt; out.as_slice() == text.as_slice());
-    assert!(&rt;
-        matches!(
-            read_trace(
-                rt.alloc(),
-                b"trace 1 procs 2 cap 1\nbegin 0\nready 0\nbegin 1\nready 1\nenter 1\nentr 1\n"
-            ),
-            Err(TextFault::At { line: 7, number: 2 })
-        )
-    );
-    Ok(())
+    let is_so = match read_trace(rt.alloc(), text) {
+        Ok(trace) => is_written(rt.alloc(), &trace, text),
+        Err(_) => false,
+    };
+    assert!(rt; is_so);
+    let faulty = b"trace 1 procs 2 cap 1\nbegin 0\nready 0\nbegin 1\nready 1\nenter 1\nentr 1\n";
+    let fault = read_trace(rt.alloc(), faulty).err();
+    assert!(rt; fault == Some(TextFault::At { line: 7, number: 2 }));
+}
+
+/// Writes three answers.
+fn put_answers(out: &mut Vec<u8>) -> Result<(), AllocError> {
+    put_answer(out, 0, Answer::Clean)?;
+    put_answer(out, 1, Answer::Found(Found::Doorway))?;
+    put_answer(out, 2, Answer::Mail(Reply::Word(7)))
+}
+
+/// Whether a page that takes all of the text has it.
+fn is_on_a_page(alloc: Global, text: &[u8]) -> bool {
+    let mut page = Page::new(alloc);
+    write_all(&mut page, text).is_ok() && page.as_slice() == text
 }
 
 #[test]
-fn answers(rt: HostRuntime) -> Result<(), Fail> {
+fn answers(rt: HostRuntime) {
+    let text = b"answer 0 clean\nanswer 1 found doorway\nanswer 2 word 7\n";
     let mut out = Vec::new(rt.alloc());
-    put_answer(&mut out, 0, Answer::Clean)?;
-    put_answer(&mut out, 1, Answer::Found(Found::Doorway))?;
-    put_answer(&mut out, 2, Answer::Mail(Reply::Word(7)))?;
-    assert!(&rt;
-        out.as_slice() == b"answer 0 clean\nanswer 1 found doorway\nanswer 2 word 7\n".as_slice()
-    );
-    let mut page = Page::new(rt.alloc());
-    assert!(&rt; write_all(&mut page, &out).is_ok());
-    assert!(&rt; page.as_slice() == out.as_slice());
-    Ok(())
+    assert!(rt; put_answers(&mut out).is_ok() && out.as_slice() == text.as_slice());
+    assert!(rt; is_on_a_page(rt.alloc(), text));
 }

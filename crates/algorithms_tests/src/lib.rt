@@ -4,12 +4,16 @@
 #[cfg(test)]
 mod bad_texts;
 #[cfg(test)]
+mod cases;
+#[cfg(test)]
 mod drawings;
 #[cfg(test)]
 mod hostile_texts;
 #[cfg(test)]
 mod hunts;
 pub mod laws;
+#[cfg(test)]
+mod memory;
 #[cfg(test)]
 mod replays;
 #[cfg(test)]
@@ -24,6 +28,8 @@ mod searches;
 mod sessions;
 #[cfg(test)]
 mod shrinks;
+#[cfg(test)]
+mod sinks;
 #[cfg(test)]
 mod spelling;
 #[cfg(test)]

@@ -1,14 +1,7 @@
-//! Replays of schedules, as the reference program reports them.
+//! Replays of schedules, as the reference program reports them: a schedule, and the whole report of its replay.
 
 pub mod bakeries;
 pub mod constructs;
 pub mod others;
 pub mod refusals;
 pub mod variants;
-
-/// A schedule, and the whole report of its replay.
-#[derive(Clone, Copy)]
-pub struct Reported {
-    pub schedule: &'static str,
-    pub report: &'static str,
-}

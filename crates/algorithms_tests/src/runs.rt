@@ -1,13 +1,14 @@
 //! Replays, against the reference interpreter's reports.
 
-use crate::replays::{Replay, bakeries as bakery_replays, others as other_replays};
-use crate::texts::{bakeries, others};
+use crate::cases::{Kind, compare_cases, words};
+use crate::replays::{bakeries as bakery_replays, others as other_replays};
+use crate::support::{number, text_named};
+use crate::texts::bakeries;
 use algorithms::{
-    Algorithm, AlgorithmRefusal, Call, Deed, NAMES, Place, Taken, World, read_algorithm,
+    Algorithm, AlgorithmRefusal, Call, Deed, NAMES, Noted, Place, Taken, World, read_algorithm,
 };
-use std::alloc::Global;
+use std::alloc::{AllocError, Global};
 use std::fmt::Write;
-use std::process::Abort;
 use std::test::Fail;
 
 fn name_of(deed: Deed) -> &'static str {
@@ -21,184 +22,187 @@ fn name_of(deed: Deed) -> &'static str {
     }
 }
 
-/// A step as the reference interpreter writes it: `9 flag[0] = 1 begin`.
-fn written(alloc: Global, algorithm: &Algorithm, taken: Taken) -> Result<String, Fail> {
-    let mut text = String::new(alloc);
-    let line = algorithm.lines.get(taken.at).ok_or("a line")?;
+/// Writes the deeds of a step.
+fn put_deeds(noted: Noted, text: &mut String) -> Result<(), AllocError> {
+    for deed in [noted.first, noted.second, noted.third] {
+        if let Some(deed) = deed {
+            text.push_str(" ")?;
+            text.push_str(name_of(deed))?;
+        }
+    }
+    Ok(())
+}
+
+/// Writes the access of a step: `9 flag[0] = 1`.
+fn put_access(algorithm: &Algorithm, taken: &Taken, text: &mut String) -> Result<(), AllocError> {
     let address = taken.access.address;
-    let word = algorithm
-        .declarations
-        .get(address.declaration)
-        .ok_or("a word")?;
+    let Some(line) = algorithm.lines.get(taken.at) else {
+        return text.push_str("no line");
+    };
+    let Some(word) = algorithm.declarations.get(address.declaration) else {
+        return text.push_str("no word");
+    };
     write!(text, "{} {}", line.number, word.name)?;
     if word.each {
         write!(text, "[{}]", address.index)?;
     }
-    let sign = if taken.access.stores.is_some() {
-        " = "
-    } else {
-        " "
-    };
-    write!(text, "{sign}{}", taken.value)?;
-    if taken.moved.blocked {
-        write!(text, " blocked")?;
+    if taken.access.stores.is_some() {
+        text.push_str(" =")?;
     }
-    let noted = taken.moved.noted;
-    for deed in [noted.first, noted.second, noted.third] {
-        if let Some(deed) = deed {
-            write!(text, " {}", name_of(deed))?;
-        }
-    }
-    if let Some(answer) = taken.moved.answer {
-        let answer = algorithm.answers.get(answer).ok_or("an answer")?;
-        write!(text, " done")?;
-        if !answer.is_empty() {
-            write!(text, " {answer}")?;
-        }
-    }
-    Ok(text)
+    write!(text, " {}", taken.value)
 }
 
-/// A refusal as the reference interpreter writes it.
-fn refused(
-    alloc: Global,
+/// Writes that a call ends, and its answer.
+fn put_answer(algorithm: &Algorithm, answer: usize, text: &mut String) -> Result<(), AllocError> {
+    text.push_str(" done")?;
+    let Some(answer) = algorithm.answers.get(answer) else {
+        return text.push_str(" no answer");
+    };
+    if answer.is_empty() {
+        return Ok(());
+    }
+    text.push_str(" ")?;
+    text.push_str(answer.as_str())
+}
+
+/// Writes a step as the reference interpreter does: `9 flag[0] = 1 begin`.
+fn put_step(algorithm: &Algorithm, taken: &Taken, text: &mut String) -> Result<(), AllocError> {
+    put_access(algorithm, taken, text)?;
+    if taken.moved.blocked {
+        text.push_str(" blocked")?;
+    }
+    put_deeds(taken.moved.noted, text)?;
+    if let Some(answer) = taken.moved.answer {
+        return put_answer(algorithm, answer, text);
+    }
+    Ok(())
+}
+
+/// Writes a refusal as the reference interpreter does.
+fn put_refusal(
     algorithm: &Algorithm,
     refusal: AlgorithmRefusal,
-) -> Result<String, Fail> {
-    let text = match refusal {
+    text: &mut String,
+) -> Result<(), AllocError> {
+    let why = match refusal {
         AlgorithmRefusal::NoSuchProcess => "refused: no such process",
         AlgorithmRefusal::CallUnderWay => "refused: call under way",
         AlgorithmRefusal::NothingToDo => "refused: nothing to do",
         AlgorithmRefusal::NotWaiting => "refused: not waiting",
         AlgorithmRefusal::NoSuchCall => "refused: no such call",
         AlgorithmRefusal::OutOfRange { place } => {
-            let line = algorithm.lines.get(place).ok_or("a line")?;
-            return Ok(format!(in alloc; "out of range at {}", line.number)?);
+            let Some(line) = algorithm.lines.get(place) else {
+                return text.push_str("no line");
+            };
+            return write!(text, "out of range at {}", line.number);
         }
         _ => "another refusal",
     };
-    Ok(String::from_str(alloc, text)?)
+    text.push_str(why)
 }
 
-/// Plays one move of a schedule, and answers what it does.
-fn played(alloc: Global, world: &mut World, line: &str) -> Result<String, Fail> {
-    let (word, process) = line.split_once(' ').ok_or("two words")?;
-    let p = process.parse::<u64>()?;
-    let (done, result) = match word {
-        "step" => match world.step(p) {
-            Ok(taken) => return written(alloc, world.algorithm(), taken),
-            Err(refusal) => ("", Err(refusal)),
-        },
-        "crash" => ("crashed", world.crash(p)),
-        "lock" => ("started", world.start(p, Call::Lock)),
-        "unlock" => ("started", world.start(p, Call::Unlock)),
-        "recover" => ("started", world.start(p, Call::Recover)),
-        _ => ("started", world.start(p, Call::Withdraw)),
+fn call_named(word: &str) -> Call {
+    if word == "lock" {
+        Call::Lock
+    } else if word == "unlock" {
+        Call::Unlock
+    } else if word == "recover" {
+        Call::Recover
+    } else {
+        Call::Withdraw
+    }
+}
+
+/// Plays one move of a schedule, and writes what it does.
+fn put_move(world: &mut World, asked: &str, text: &mut String) -> Result<(), AllocError> {
+    let [word, process, ..] = words(asked);
+    let p = number(process);
+    if word == "step" {
+        return match world.step(p) {
+            Ok(taken) => put_step(world.algorithm(), &taken, text),
+            Err(refusal) => put_refusal(world.algorithm(), refusal, text),
+        };
+    }
+    let (done, result) = if word == "crash" {
+        ("crashed", world.crash(p))
+    } else {
+        ("started", world.start(p, call_named(word)))
     };
     match result {
-        Ok(()) => Ok(String::from_str(alloc, done)?),
-        Err(refusal) => refused(alloc, world.algorithm(), refusal),
+        Ok(()) => text.push_str(done),
+        Err(refusal) => put_refusal(world.algorithm(), refusal, text),
     }
 }
 
-/// Plays a replay's moves, and compares what each does, and the words at the end.
-fn compare<R: Abort>(rt: &R, alloc: Global, text: &[u8], replay: Replay) -> Result<(), Fail> {
-    let algorithm = read_algorithm(alloc, text)?;
-    let mut world = World::new(alloc, algorithm, replay.procs, replay.limit)?;
-    for (line, reported) in replay.moves {
-        let done = played(alloc, &mut world, line)?;
-        assert_eq!(rt; done.as_str(), *reported, "{line}");
-    }
-    let mut words = Vec::new(alloc);
+/// Writes the values of all words.
+fn put_words(world: &World, text: &mut String) -> Result<(), AllocError> {
+    text.push_str("words")?;
     for (declared, row) in world.algorithm().declarations.iter().zip(world.words()) {
-        let used = if declared.each { replay.procs } else { 1 };
-        words.extend_from_slice(row.get(..used as usize).unwrap_or(&[]))?;
+        let used = if declared.each { world.procs() } else { 1 };
+        for value in row.iter().take(used as usize) {
+            write!(text, " {value}")?;
+        }
     }
-    assert_eq!(rt; words.as_slice(), replay.words);
-    Ok(())
+    text.push_str("\n")
 }
 
-#[test]
-fn the_bakery_runs(rt: HostRuntime) -> Result<(), Fail> {
-    compare(&rt, rt.alloc(), bakeries::BAKERY, bakery_replays::BAKERY)?;
-    compare(
-        &rt,
-        rt.alloc(),
-        bakeries::BAKERY_RUIN,
-        bakery_replays::BAKERY_RUIN,
-    )?;
-    compare(
-        &rt,
-        rt.alloc(),
-        others::BAKERY_1974,
-        bakery_replays::BAKERY_1974,
-    )
-}
-
-#[test]
-fn petersons_lock_runs(rt: HostRuntime) -> Result<(), Fail> {
-    compare(&rt, rt.alloc(), others::PETERSON, other_replays::PETERSON)?;
-    compare(
-        &rt,
-        rt.alloc(),
-        others::RECOVERABLE_PETERSON,
-        other_replays::RECOVERABLE_PETERSON,
-    )
-}
-
-#[test]
-fn other_locks_run(rt: HostRuntime) -> Result<(), Fail> {
-    compare(
-        &rt,
-        rt.alloc(),
-        others::LAMPORT_FAST,
-        other_replays::LAMPORT_FAST,
-    )?;
-    compare(&rt, rt.alloc(), others::SZYMANSKI, other_replays::SZYMANSKI)
-}
-
-#[test]
-fn all_examples_are_read(rt: HostRuntime) -> Result<(), Fail> {
-    for text in [
-        bakeries::BAKERY,
-        bakeries::BAKERY_RUIN,
-        bakeries::EXIT_ON_CRASH,
-        bakeries::NO_LOOK,
-        bakeries::NO_TIES,
-        bakeries::RENUMBER,
-        others::BAKERY_1974,
-        others::FORGETFUL_PETERSON,
-        others::LAMPORT_FAST,
-        others::ONE_WORD,
-        others::PETERSON,
-        others::PETERSON_ORDER,
-        others::RECOVERABLE_PETERSON,
-        others::SZYMANSKI,
-    ] {
-        read_algorithm(rt.alloc(), text)?;
+/// Plays each move, and writes it with what it does, and the words at the end.
+fn put_moves(world: &mut World, moves: &str, text: &mut String) -> Result<(), AllocError> {
+    for line in moves.lines() {
+        if let Some((asked, _)) = line.split_once(" -> ") {
+            text.push_str(asked)?;
+            text.push_str(" -> ")?;
+            put_move(world, asked, text)?;
+            text.push_str("\n")?;
+        }
     }
-    Ok(())
+    put_words(world, text)
+}
+
+/// A replay of moves, as a case: the text, the number of processes and the limit.
+pub fn put_run(
+    alloc: Global,
+    words: &[&str; 8],
+    moves: &str,
+    text: &mut String,
+) -> Result<(), Fail> {
+    let algorithm = read_algorithm(alloc, text_named(words[0]))?;
+    let mut world = World::new(alloc, algorithm, number(words[1]), number(words[2]))?;
+    let written = put_moves(&mut world, moves, text);
+    drop(world);
+    Ok(written?)
+}
+
+#[test]
+fn locks_run(rt: HostRuntime) -> Result<(), Fail> {
+    compare_cases(rt.alloc(), Kind::Run, bakery_replays::BAKERIES)?;
+    compare_cases(rt.alloc(), Kind::Run, other_replays::OTHERS)
+}
+
+/// Whether a crash loses the place and the names of process 1, some of which have a value before.
+fn crash_loses_all(world: &mut World) -> Result<bool, AlgorithmRefusal> {
+    let rests = world.process(1)?.place == Place::Rest;
+    world.start(1, Call::Lock)?;
+    for _ in 0..8 {
+        world.step(1)?;
+    }
+    let before = world.process(1)?.store;
+    world.crash(1)?;
+    let after = world.process(1)?;
+    let lost = after.place == Place::Dead && after.store == [0; NAMES];
+    Ok(rests && before != [0; NAMES] && lost)
 }
 
 #[test]
 fn a_crash_loses_the_place_and_the_names(rt: HostRuntime) -> Result<(), Fail> {
     let algorithm = read_algorithm(rt.alloc(), bakeries::BAKERY)?;
     let mut world = World::new(rt.alloc(), algorithm, 2, 5)?;
-    assert_eq!(rt; (world.procs(), world.limit()), (2, 5));
-    assert_eq!(rt; world.process(1)?.place, Place::Rest);
-    world.start(1, Call::Lock)?;
-    for _ in 0..8 {
-        world.step(1)?;
-    }
-    let before = world.process(1)?;
-    assert!(rt; before.store.iter().any(|value| *value > 0));
-    world.crash(1)?;
-    let after = world.process(1)?;
-    assert_eq!(rt; after.place, Place::Dead);
-    assert_eq!(rt; after.store, [0; NAMES]);
-    assert_eq!(rt;
-        world.process(2).err(),
-        Some(AlgorithmRefusal::NoSuchProcess)
-    );
+    let sizes = (world.procs(), world.limit());
+    let loses_all = crash_loses_all(&mut world);
+    let no_process = world.process(2).err();
+    drop(world);
+    assert!(rt; loses_all == Ok(true));
+    assert!(rt; sizes == (2, 5));
+    assert!(rt; no_process == Some(AlgorithmRefusal::NoSuchProcess));
     Ok(())
 }

@@ -1,23 +1,55 @@
-//! Searches of algorithms, against the numbers of the reference program's `explore`.
+//! Searches of algorithms, against the numbers of the reference program's `explore`: how many moves a shortest schedule has, or
+//! how many states there are. After the text a case has the sizes, how many crashes there may be, and whether processes make all
+//! calls.
 
-use crate::texts::{bakeries, others};
-use algorithm_explorer::{
-    AlgorithmBounds, AlgorithmExploreFault, SearchOutcome, Unwatched, shortest_algorithm_schedule,
-};
-use algorithms::{AlgorithmRefusal, Call, read_algorithm};
+use crate::cases::{Kind, compare_cases};
+use crate::support::{number, text_named};
+use algorithm_explorer::{AlgorithmBounds, SearchOutcome, Unwatched, shortest_algorithm_schedule};
+use algorithms::{Call, read_algorithm};
 use std::alloc::Global;
-use std::process::Abort;
+use std::fmt::Write;
 use std::test::Fail;
 
-/// What a search answers: how many moves a shortest schedule has, or how many states there are.
-#[derive(Clone, Copy, Debug, PartialEq, Eq)]
-enum Found {
-    Moves(usize),
-    Within,
-    States(u64),
-}
+const VARIANTS: &str = "\
+== no_look 2 1 0\n--\n20 moves\n\
+== no_ties 2 1 0\n--\n22 moves\n\
+== renumber 2 2 1\n--\n2460 states\n\
+== renumber 2 3 1\n--\n26 moves\n\
+== exit_on_crash 1 1 1\n--\n16 moves\n\
+";
 
-const BOTH: [Call; 2] = [Call::Lock, Call::Unlock];
+const BAKERIES: &str = "\
+== bakery_ruin 2 1 0\n--\n259 states\n\
+== bakery_ruin 2 2 0\n--\n461 states\n\
+== bakery_ruin 2 3 0\n--\n693 states\n\
+== bakery_ruin 2 4 0\n--\n925 states\n\
+== bakery_ruin 2 1 1\n--\n2057 states\n\
+== bakery_ruin 2 2 1\n--\n3741 states\n\
+== bakery 2 4 0\n--\n833 states\n\
+== bakery 2 2 1\n--\n2206 states\n\
+";
+
+const LARGER: &str = "\
+== bakery_ruin 2 3 1\n--\n5699 states\n\
+== bakery_ruin 2 4 1\n--\n7657 states\n\
+";
+
+const FOR_THREE: &str = "== bakery_ruin 3 1 0\n--\n9145 states\n";
+
+const OTHERS: &str = "\
+== peterson 2 1 0\n--\n58 states\n\
+== peterson 2 1 1\n--\n13 moves\n\
+== peterson 3 1 0\n--\nthe algorithm is not for this number of processes\n\
+== recoverable_peterson 2 1 any all\n--\n1342 states\n\
+== szymanski 2 1 0\n--\n86 states\n\
+== szymanski 2 1 1\n--\n22 moves\n\
+== lamport_fast 2 1 0\n--\n386 states\n\
+== lamport_fast 2 1 1\n--\n1286 states\n\
+== forgetful_peterson 2 1 0\n--\n108 states\n\
+== forgetful_peterson 2 1 1\n--\n16 moves\n\
+== peterson_order 2 1 any\n--\n188 states\n\
+== one_word 2 1 0\n--\n6 moves\n\
+";
 
 const ALL: [Call; 4] = [Call::Lock, Call::Unlock, Call::Recover, Call::Withdraw];
 
@@ -26,144 +58,56 @@ const BOUNDS: AlgorithmBounds = AlgorithmBounds {
     states: 100_000,
 };
 
-fn search(
-    alloc: Global,
-    text: &[u8],
-    procs: u64,
-    limit: u64,
-    crashes: Option<u64>,
-    calls: &[Call],
-) -> Result<Found, Fail> {
-    let algorithm = read_algorithm(alloc, text).map_err(|_| Fail::from("an algorithm"))?;
+/// A search, as a case: the text, the sizes, the crashes and the calls.
+pub fn put_search(alloc: Global, words: &[&str; 8], text: &mut String) -> Result<(), Fail> {
+    let [name, procs, limit, crashes, calls, ..] = words;
+    let algorithm = read_algorithm(alloc, text_named(name))?;
+    let crashes = if *crashes == "any" {
+        None
+    } else {
+        Some(number(crashes))
+    };
     let found = shortest_algorithm_schedule(
         alloc,
         algorithm,
-        procs,
-        limit,
+        number(procs),
+        number(limit),
         crashes,
-        calls,
+        if *calls == "all" { &ALL } else { &ALL[..2] },
         &BOUNDS,
         &mut Unwatched,
     );
-    match found {
-        Ok(SearchOutcome::Path(moves)) => Ok(Found::Moves(moves.len())),
-        Ok(SearchOutcome::NoneWithin) => Ok(Found::Within),
-        Ok(SearchOutcome::Nowhere(states)) => Ok(Found::States(states)),
-        Err(_) => Err(Fail::from("an answer")),
-    }
+    let written = match &found {
+        Ok(SearchOutcome::Path(moves)) => writeln!(text, "{} moves", moves.len()),
+        Ok(SearchOutcome::NoneWithin) => text.push_str("none within\n"),
+        Ok(SearchOutcome::Nowhere(states)) => writeln!(text, "{states} states"),
+        Err(fault) => writeln!(text, "{fault}"),
+    };
+    drop(found);
+    Ok(written?)
 }
 
 #[test]
 fn wrong_bakeries(rt: HostRuntime) -> Result<(), Fail> {
-    let alloc = rt.alloc();
-    let found = search(alloc, bakeries::NO_LOOK, 2, 1, Some(0), &BOTH)?;
-    assert_eq!(rt; found, Found::Moves(20));
-    let found = search(alloc, bakeries::NO_TIES, 2, 1, Some(0), &BOTH)?;
-    assert_eq!(rt; found, Found::Moves(22));
-    let found = search(alloc, bakeries::RENUMBER, 2, 2, Some(1), &BOTH)?;
-    assert_eq!(rt; found, Found::States(2460));
-    let found = search(alloc, bakeries::RENUMBER, 2, 3, Some(1), &BOTH)?;
-    assert_eq!(rt; found, Found::Moves(26));
-    let found = search(alloc, bakeries::EXIT_ON_CRASH, 1, 1, Some(1), &BOTH)?;
-    assert_eq!(rt; found, Found::Moves(16));
-    Ok(())
+    compare_cases(rt.alloc(), Kind::Search, VARIANTS)
 }
 
 #[test]
 fn states_of_the_bakery(rt: HostRuntime) -> Result<(), Fail> {
-    let alloc = rt.alloc();
-    let mut limit = 1;
-    for states in [259, 461, 693, 925] {
-        let found = search(alloc, bakeries::BAKERY_RUIN, 2, limit, Some(0), &BOTH)?;
-        assert_eq!(rt; found, Found::States(states));
-        limit = limit.saturating_add(1);
-    }
-    Ok(())
-}
-
-#[test]
-fn states_of_the_bakery_with_a_crash(rt: HostRuntime) -> Result<(), Fail> {
-    let alloc = rt.alloc();
-    let found = search(alloc, bakeries::BAKERY_RUIN, 2, 1, Some(1), &BOTH)?;
-    assert_eq!(rt; found, Found::States(2057));
-    let found = search(alloc, bakeries::BAKERY_RUIN, 2, 2, Some(1), &BOTH)?;
-    assert_eq!(rt; found, Found::States(3741));
-    Ok(())
+    compare_cases(rt.alloc(), Kind::Search, BAKERIES)
 }
 
 #[test]
 fn states_of_the_bakery_with_more_numbers(rt: HostRuntime) -> Result<(), Fail> {
-    let alloc = rt.alloc();
-    let found = search(alloc, bakeries::BAKERY_RUIN, 2, 3, Some(1), &BOTH)?;
-    assert_eq!(rt; found, Found::States(5699));
-    let found = search(alloc, bakeries::BAKERY_RUIN, 2, 4, Some(1), &BOTH)?;
-    assert_eq!(rt; found, Found::States(7657));
-    Ok(())
-}
-
-#[test]
-fn states_without_the_word_ruined(rt: HostRuntime) -> Result<(), Fail> {
-    let alloc = rt.alloc();
-    let found = search(alloc, bakeries::BAKERY, 2, 4, Some(0), &BOTH)?;
-    assert_eq!(rt; found, Found::States(833));
-    let found = search(alloc, bakeries::BAKERY, 2, 2, Some(1), &BOTH)?;
-    assert_eq!(rt; found, Found::States(2206));
-    Ok(())
+    compare_cases(rt.alloc(), Kind::Search, LARGER)
 }
 
 #[test]
 fn states_of_the_bakery_for_three(rt: HostRuntime) -> Result<(), Fail> {
-    let alloc = rt.alloc();
-    let found = search(alloc, bakeries::BAKERY_RUIN, 3, 1, Some(0), &BOTH)?;
-    assert_eq!(rt; found, Found::States(9145));
-    Ok(())
+    compare_cases(rt.alloc(), Kind::Search, FOR_THREE)
 }
 
 #[test]
 fn other_algorithms(rt: HostRuntime) -> Result<(), Fail> {
-    let alloc = rt.alloc();
-    let found = search(alloc, others::PETERSON, 2, 1, Some(0), &BOTH)?;
-    assert_eq!(rt; found, Found::States(58));
-    let found = search(alloc, others::PETERSON, 2, 1, Some(1), &BOTH)?;
-    assert_eq!(rt; found, Found::Moves(13));
-    let found = search(alloc, others::RECOVERABLE_PETERSON, 2, 1, None, &ALL)?;
-    assert_eq!(rt; found, Found::States(1342));
-    let found = search(alloc, others::SZYMANSKI, 2, 1, Some(0), &BOTH)?;
-    assert_eq!(rt; found, Found::States(86));
-    let found = search(alloc, others::SZYMANSKI, 2, 1, Some(1), &BOTH)?;
-    assert_eq!(rt; found, Found::Moves(22));
-    let found = search(alloc, others::LAMPORT_FAST, 2, 1, Some(0), &BOTH)?;
-    assert_eq!(rt; found, Found::States(386));
-    let found = search(alloc, others::LAMPORT_FAST, 2, 1, Some(1), &BOTH)?;
-    assert_eq!(rt; found, Found::States(1286));
-    let found = search(alloc, others::FORGETFUL_PETERSON, 2, 1, Some(0), &BOTH)?;
-    assert_eq!(rt; found, Found::States(108));
-    let found = search(alloc, others::FORGETFUL_PETERSON, 2, 1, Some(1), &BOTH)?;
-    assert_eq!(rt; found, Found::Moves(16));
-    let found = search(alloc, others::PETERSON_ORDER, 2, 1, None, &BOTH)?;
-    assert_eq!(rt; found, Found::States(188));
-    let found = search(alloc, others::ONE_WORD, 2, 1, Some(0), &BOTH)?;
-    assert_eq!(rt; found, Found::Moves(6));
-    Ok(())
-}
-
-#[test]
-fn refused_sizes(rt: HostRuntime) -> Result<(), Fail> {
-    let alloc = rt.alloc();
-    let algorithm = read_algorithm(alloc, others::PETERSON).map_err(|_| Fail::from(
-        "an algorithm",
-    ))?;
-    let found = shortest_algorithm_schedule(
-        alloc,
-        algorithm,
-        3,
-        1,
-        Some(0),
-        &BOTH,
-        &BOUNDS,
-        &mut Unwatched,
-    );
-    let refused = Err(AlgorithmExploreFault::Refused(AlgorithmRefusal::BadProcs));
-    assert!(rt; found == refused);
-    Ok(())
+    compare_cases(rt.alloc(), Kind::Search, OTHERS)
 }

@@ -1,33 +1,73 @@
 //! What tests of several files use.
 
-use algorithms::{Algorithm, read_algorithm};
-use std::alloc::Global;
-use std::io;
-use std::io::{ErrorKind, Write};
+use crate::sessions;
+use crate::texts::{bakeries, constructs, others};
+use algorithm_lab::AlgorithmReplayFault;
+use schedule::{Schedule, write_schedule};
+use std::alloc::{AllocError, Global};
+use std::fmt::Write;
 use std::test::Fail;
 
-/// How many requests for memory may be refused.
-pub const TRIES: usize = 200;
-
-/// The same algorithm, once for each try.
-pub fn all_algorithms(alloc: Global, text: &[u8]) -> Result<Vec<Algorithm>, Fail> {
-    let mut all = Vec::with_capacity(alloc, TRIES)?;
-    for _ in 0..TRIES {
-        all.push(read_algorithm(alloc, text)?)?;
-    }
-    Ok(all)
+/// The number that a word spells. Where it spells none, no case expects what comes of it.
+pub fn number(word: &str) -> u64 {
+    word.parse().unwrap_or(u64::MAX)
 }
 
-/// A writer that takes everything, and fails when it is flushed.
-#[derive(Drop)]
-pub struct Unflushed;
+/// The name in the header of a text.
+fn name_of(text: &[u8]) -> &str {
+    let text = std::str::from_utf8(text).unwrap_or("");
+    let (_, header) = text.split_once("algorithm ").unwrap_or(("", text));
+    let (name, _) = header.split_once(' ').unwrap_or((header, ""));
+    name
+}
 
-impl Write for Unflushed {
-    fn write(&mut self, bytes: &[u8]) -> io::Result<usize> {
-        Ok(bytes.len())
+/// The text of that name. That of no name is empty, which is read by no test.
+pub fn text_named(name: &str) -> &'static [u8] {
+    for text in [
+        bakeries::BAKERY,
+        bakeries::BAKERY_RUIN,
+        bakeries::EXIT_ON_CRASH,
+        bakeries::NO_LOOK,
+        bakeries::NO_TIES,
+        bakeries::RENUMBER,
+        others::BAKERY_1974,
+        others::FORGETFUL_PETERSON,
+        others::LAMPORT_FAST,
+        others::ONE_WORD,
+        others::PETERSON,
+        others::PETERSON_ORDER,
+        others::RECOVERABLE_PETERSON,
+        others::SZYMANSKI,
+        constructs::CONSTRUCTS,
+        sessions::BOUNDED,
+    ] {
+        if name_of(text) == name {
+            return text;
+        }
     }
+    b""
+}
 
-    fn flush(&mut self) -> io::Result<()> {
-        Err(io::Error::from(ErrorKind::Other))
+/// Writes what another writer has written.
+pub fn put_page(page: &[u8], text: &mut String) -> Result<(), Fail> {
+    text.push_str(std::str::from_utf8(page)?)?;
+    Ok(())
+}
+
+/// Writes the text of a schedule.
+pub fn put_schedule(alloc: Global, schedule: &Schedule, text: &mut String) -> Result<(), Fail> {
+    let written = write_schedule(alloc, schedule)?;
+    put_page(written.as_slice(), text)
+}
+
+/// Writes why a replay or a drawing ended: a line that is refused, with its number and that of the refusal.
+pub fn put_fault(fault: AlgorithmReplayFault, text: &mut String) -> Result<(), AllocError> {
+    match fault {
+        AlgorithmReplayFault::Refused { line, refusal } => {
+            let number = refusal.number().unwrap_or(0);
+            writeln!(text, "ended: refused {line} {number}")
+        }
+        AlgorithmReplayFault::Write => text.push_str("ended: write failed\n"),
+        AlgorithmReplayFault::OutOfMemory => text.push_str("ended: out of memory\n"),
     }
 }

@@ -1,9 +1,8 @@
 //! Drawings of the Bakeries.
 
-use crate::drawings::Drawn;
-
-pub const BAKERY_1974: Drawn = Drawn {
-    text: r"0                         1                         |
+pub const BAKERIES: &str = r"== bakery_1974
+--
+0                         1                         |
 : w choosing[0]=1         .                         | begin 0
 : r number[1] 0           .                         |
 | w number[0]=1           .                         | ready 0
@@ -23,12 +22,11 @@ x                         |                         | leave 0
 : r number[1] 2           |                         |
 line 8 refused 16
 . rest  : doorway  | waiting  # section  x crash
-",
-    picture: 5_490_679_870_352_790_400,
-};
-
-pub const BAKERY: Drawn = Drawn {
-    text: r"0                         1                         |
+ended: refused 8 16
+picture 5490679870352790400
+== bakery
+--
+0                         1                         |
 . r choosing[0] 0         .                         |
 . r number[0] 0           .                         |
 . r inside[0] 0           .                         |
@@ -54,12 +52,11 @@ x                         |                         | crash 0
 |                         | await number[0] 1 ×2    |
 line 10 refused 4
 . rest  : doorway  | waiting  # section  x crash
-",
-    picture: 5_623_589_707_359_010_848,
-};
-
-pub const BAKERY_RUIN: Drawn = Drawn {
-    text: r"0                         1                         |
+ended: refused 10 4
+picture 5623589707359010848
+== bakery_ruin
+--
+0                         1                         |
 . r choosing[0] 0         .                         |
 . r number[0] 0           .                         |
 . r inside[0] 0           .                         |
@@ -85,12 +82,11 @@ x                         |                         | crash 0
 |                         | await number[0] 1 ×2    |
 line 10 refused 4
 . rest  : doorway  | waiting  # section  x crash
-",
-    picture: 5_623_589_707_359_010_848,
-};
-
-pub const NO_LOOK: Drawn = Drawn {
-    text: r"0                         1                         |
+ended: refused 10 4
+picture 5623589707359010848
+== no_look
+--
+0                         1                         |
 . r choosing[0] 0         .                         |
 . r number[0] 0           .                         |
 . r inside[0] 0           .                         |
@@ -115,12 +111,11 @@ x                         |                         | crash 0
 |                         | await number[0] 1 ×2    |
 line 10 refused 4
 . rest  : doorway  | waiting  # section  x crash
-",
-    picture: 8_445_631_426_905_390_710,
-};
-
-pub const NO_TIES: Drawn = Drawn {
-    text: r"0                         1                         |
+ended: refused 10 4
+picture 8445631426905390710
+== no_ties
+--
+0                         1                         |
 . r choosing[0] 0         .                         |
 . r number[0] 0           .                         |
 . r inside[0] 0           .                         |
@@ -146,12 +141,11 @@ x                         |                         | crash 0
 |                         | await number[0] 1 ×2    |
 line 10 refused 4
 . rest  : doorway  | waiting  # section  x crash
-",
-    picture: 5_623_589_707_359_010_848,
-};
-
-pub const RENUMBER: Drawn = Drawn {
-    text: r"0                         1                         |
+ended: refused 10 4
+picture 5623589707359010848
+== renumber
+--
+0                         1                         |
 . r choosing[0] 0         .                         |
 . r number[0] 0           .                         |
 . r inside[0] 0           .                         |
@@ -177,12 +171,11 @@ x                         |                         | crash 0
 |                         | await number[0] 1 ×2    |
 line 10 refused 4
 . rest  : doorway  | waiting  # section  x crash
-",
-    picture: 5_623_589_707_359_010_848,
-};
-
-pub const EXIT_ON_CRASH: Drawn = Drawn {
-    text: r"0                         1                         |
+ended: refused 10 4
+picture 5623589707359010848
+== exit_on_crash
+--
+0                         1                         |
 . r choosing[0] 0         .                         |
 . r number[0] 0           .                         |
 . r inside[0] 0           .                         |
@@ -208,6 +201,6 @@ x                         |                         | crash 0
 |                         | await number[0] 1 ×2    |
 line 10 refused 4
 . rest  : doorway  | waiting  # section  x crash
-",
-    picture: 5_623_589_707_359_010_848,
-};
+ended: refused 10 4
+picture 5623589707359010848
+";

@@ -1,9 +1,8 @@
 //! Drawings of the other locks.
 
-use crate::drawings::Drawn;
-
-pub const PETERSON: Drawn = Drawn {
-    text: r"0                         1                         |
+pub const OTHERS: &str = r"== peterson
+--
+0                         1                         |
 . w flag[0]=1             .                         |
 . w turn=1                .                         |
 # r flag[1] 0             .                         | begin 0
@@ -32,12 +31,11 @@ x                         .                         | crash 0
                           #                         | answer 1 done
 verdict against 3 at 7
 . rest  : doorway  | waiting  # section  x crash
-",
-    picture: 6_044_797_182_028_309_743,
-};
-
-pub const PETERSON_ORDER: Drawn = Drawn {
-    text: r"0                         1                         |
+ended: against at 7
+picture 6044797182028309743
+== peterson_order
+--
+0                         1                         |
 : w flag[0]=1             .                         | begin 0
 | w turn=1                .                         | ready 0
 # r flag[1] 0             .                         | enter 0
@@ -63,12 +61,11 @@ x                         |                         | leave 0
 |                         #                         | answer 1 done
 verdict fine
 . rest  : doorway  | waiting  # section  x crash
-",
-    picture: 4_345_249_585_520_641_798,
-};
-
-pub const RECOVERABLE_PETERSON: Drawn = Drawn {
-    text: r"0                         1                         |
+ended: fine
+picture 4345249585520641798
+== recoverable_peterson
+--
+0                         1                         |
 . r flag[0] 0             .                         |
 : w flag[0]=1             .                         | begin 0
 : w turn=1                .                         |
@@ -93,12 +90,11 @@ x                         |                         | crash 0
 #                         | r turn 0                |
 line 10 refused 4
 . rest  : doorway  | waiting  # section  x crash
-",
-    picture: 5_214_825_465_431_945_906,
-};
-
-pub const FORGETFUL_PETERSON: Drawn = Drawn {
-    text: r"0                         1                         |
+ended: refused 10 4
+picture 5214825465431945906
+== forgetful_peterson
+--
+0                         1                         |
 . r flag[0] 0             .                         |
 : w flag[0]=1             .                         | begin 0
 | w turn=1                .                         | ready 0
@@ -122,12 +118,11 @@ x                         |                         | crash 0
 #                         | r flag[0] 2             |
 line 10 refused 4
 . rest  : doorway  | waiting  # section  x crash
-",
-    picture: 13_420_390_156_360_706_905,
-};
-
-pub const LAMPORT_FAST: Drawn = Drawn {
-    text: r"0                         1                         |
+ended: refused 10 4
+picture 13420390156360706905
+== lamport_fast
+--
+0                         1                         |
 . w b[0]=1                .                         |
 . w x=0                   .                         |
 . r y 0                   .                         |
@@ -150,12 +145,11 @@ x                         .                         | leave 0
 .                         . await y 1 ×2            |
 line 10 refused 4
 . rest  : doorway  | waiting  # section  x crash
-",
-    picture: 16_992_527_926_129_087_413,
-};
-
-pub const ONE_WORD: Drawn = Drawn {
-    text: r"0                         1                         |
+ended: refused 10 4
+picture 16992527926129087413
+== one_word
+--
+0                         1                         |
 . r held 0                .                         |
 # w held=1                .                         | begin 0
 #                         .                         | ready 0
@@ -168,12 +162,11 @@ x                         .                         | leave 0
 .                         . await held 1 ×2         |
 line 10 refused 4
 . rest  : doorway  | waiting  # section  x crash
-",
-    picture: 16_528_373_104_576_387_870,
-};
-
-pub const SZYMANSKI: Drawn = Drawn {
-    text: r"0                         1                         |
+ended: refused 10 4
+picture 16528373104576387870
+== szymanski
+--
+0                         1                         |
 . w flag[0]=1             .                         |
 . r flag[1] 0             .                         |
 . w flag[0]=3             .                         |
@@ -193,6 +186,6 @@ x                         .                         | leave 0
 .                         . await flag[0] 3 ×2      |
 line 10 refused 4
 . rest  : doorway  | waiting  # section  x crash
-",
-    picture: 140_191_467_925_505_860,
-};
+ended: refused 10 4
+picture 140191467925505860
+";

@@ -1,9 +1,7 @@
 //! Reports of bakeries.
 
-use crate::reports::Reported;
-
-pub const BAKERY: Reported = Reported {
-    schedule: r"rme 1 procs 3 limit 3 cap 1
+pub const BAKERIES: &str = r"== bakery
+rme 1 procs 3 limit 3 cap 1
 lock 2
 lock 0
 step 0 9
@@ -32,8 +30,8 @@ step 2 5
 lock 2
 step 1 5
 step 2 9
-",
-    report: r"begin 0
+--
+begin 0
 ready 0
 begin 1
 ready 1
@@ -58,11 +56,8 @@ words choosing 0 0 0
 words number 3 0 0
 words inside 0 0 0
 verdict fine
-",
-};
-
-pub const BAKERY_RUIN: Reported = Reported {
-    schedule: r"rme 1 procs 2 limit 4 cap 1
+== bakery_ruin
+rme 1 procs 2 limit 4 cap 1
 lock 1
 lock 0
 step 0 5
@@ -91,8 +86,8 @@ step 1 9
 lock 1
 step 0 9
 step 0 3
-",
-    report: r"begin 0
+--
+begin 0
 ready 0
 enter 0
 answer 0 clean
@@ -119,11 +114,8 @@ words number 0 0
 words inside 1 0
 words ruined 1
 verdict fine
-",
-};
-
-pub const BAKERY_1974: Reported = Reported {
-    schedule: r"rme 1 procs 3 limit 4 cap 1
+== bakery_1974
+rme 1 procs 3 limit 4 cap 1
 crash 2
 lock 2
 step 2 5
@@ -152,8 +144,8 @@ step 2 2
 step 0 5
 crash 0
 step 1 3
-",
-    report: r"crash 2
+--
+crash 2
 begin 2
 ready 2
 enter 2
@@ -184,5 +176,4 @@ answer 1 done
 words choosing 0 0 0
 words number 4 2 3
 verdict fine
-",
-};
+";

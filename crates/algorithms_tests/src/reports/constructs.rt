@@ -1,10 +1,8 @@
 //! The report of the text with each construct. What is computed is in its words, so that an operator, a comparison or a set of
 //! processes taken for another changes the report.
 
-use crate::reports::Reported;
-
-pub const CONSTRUCTS: Reported = Reported {
-    schedule: r"rme 1 procs 3 limit 7 cap 1
+pub const CONSTRUCTS: &str = r"== constructs
+rme 1 procs 3 limit 7 cap 1
 recover 1
 step 1 9
 lock 1
@@ -42,8 +40,8 @@ unlock 2
 step 2 9
 lock 0
 step 0 99
-",
-    report: r"answer 1 found nobody
+--
+answer 1 found nobody
 begin 1
 ready 1
 enter 1
@@ -96,5 +94,4 @@ words reckoned 69368473 69668473 69698473
 words decided 1507 5010 4140
 words passed 2811 509 102
 verdict fine
-",
-};
+";

@@ -1,9 +1,59 @@
 //! Reports of the other locks.
 
-use crate::reports::Reported;
+pub const ONE_WORD: &str = r"== one_word
+rme 1 procs 3 limit 1 cap 1
+lock 0
+lock 1
+lock 2
+step 1 2
+crash 2
+lock 2
+unlock 1
+step 2 9
+step 1 5
+step 2
+step 0 3
+lock 1
+step 2 2
+unlock 0
+step 0 2
+unlock 2
+step 2 2
+step 1 9
+unlock 1
+step 1 5
+--
+begin 1
+ready 1
+enter 1
+answer 1 done
+crash 2
+leave 1
+answer 1 done
+begin 0
+ready 0
+enter 0
+answer 0 done
+begin 2
+ready 2
+enter 2
+answer 2 done
+leave 0
+answer 0 done
+leave 2
+answer 2 done
+begin 1
+ready 1
+enter 1
+answer 1 done
+leave 1
+answer 1 done
+words held 0
+verdict against 2 at 11
+";
 
-pub const PETERSON: Reported = Reported {
-    schedule: r"rme 1 procs 2 limit 1 cap 1
+pub const OTHERS: &str = r"== peterson
+rme 1 procs 2 limit 1 cap 1
 lock 1
 crash 0
 step 1 9
@@ -26,8 +76,8 @@ lock 0
 step 0
 unlock 1
 step 1 3
-",
-    report: r"crash 0
+--
+crash 0
 begin 1
 ready 1
 enter 1
@@ -46,11 +96,8 @@ answer 1 done
 words flag 1 0
 words turn 0
 verdict against 3 at 8
-",
-};
-
-pub const PETERSON_ORDER: Reported = Reported {
-    schedule: r"rme 1 procs 2 limit 1 cap 1
+== peterson_order
+rme 1 procs 2 limit 1 cap 1
 lock 0
 lock 1
 step 0 5
@@ -75,8 +122,8 @@ lock 0
 step 0 2
 step 1
 step 1
-",
-    report: r"begin 0
+--
+begin 0
 ready 0
 enter 0
 answer 0 done
@@ -107,11 +154,8 @@ answer 1 done
 words flag 1 1
 words turn 1
 verdict fine
-",
-};
-
-pub const RECOVERABLE_PETERSON: Reported = Reported {
-    schedule: r"rme 1 procs 2 limit 1 cap 1
+== recoverable_peterson
+rme 1 procs 2 limit 1 cap 1
 lock 0
 lock 1
 step 0 5
@@ -138,8 +182,8 @@ step 0 5
 lock 0
 step 0 2
 step 1 9
-",
-    report: r"begin 0
+--
+begin 0
 ready 0
 enter 0
 answer 0 clean
@@ -168,11 +212,8 @@ answer 1 withdrawn
 words flag 1 0
 words turn 0
 verdict fine
-",
-};
-
-pub const FORGETFUL_PETERSON: Reported = Reported {
-    schedule: r"rme 1 procs 2 limit 1 cap 1
+== forgetful_peterson
+rme 1 procs 2 limit 1 cap 1
 lock 1
 lock 0
 step 1
@@ -199,8 +240,8 @@ step 1 9
 step 0 3
 unlock 1
 step 1 5
-",
-    report: r"begin 0
+--
+begin 0
 ready 0
 enter 0
 answer 0 clean
@@ -224,11 +265,8 @@ answer 1 unlocked
 words flag 1 0
 words turn 1
 verdict against 4 at 14 by 1 of 0
-",
-};
-
-pub const LAMPORT_FAST: Reported = Reported {
-    schedule: r"rme 1 procs 3 limit 1 cap 1
+== lamport_fast
+rme 1 procs 3 limit 1 cap 1
 lock 2
 lock 1
 lock 0
@@ -255,8 +293,8 @@ lock 2
 step 1 5
 crash 1
 lock 0
-",
-    report: r"begin 1
+--
+begin 1
 ready 1
 enter 1
 answer 1 done
@@ -286,64 +324,8 @@ words b 0 1 1
 words x 1
 words y 2
 verdict fine
-",
-};
-
-pub const ONE_WORD: Reported = Reported {
-    schedule: r"rme 1 procs 3 limit 1 cap 1
-lock 0
-lock 1
-lock 2
-step 1 2
-crash 2
-lock 2
-unlock 1
-step 2 9
-step 1 5
-step 2
-step 0 3
-lock 1
-step 2 2
-unlock 0
-step 0 2
-unlock 2
-step 2 2
-step 1 9
-unlock 1
-step 1 5
-",
-    report: r"begin 1
-ready 1
-enter 1
-answer 1 done
-crash 2
-leave 1
-answer 1 done
-begin 0
-ready 0
-enter 0
-answer 0 done
-begin 2
-ready 2
-enter 2
-answer 2 done
-leave 0
-answer 0 done
-leave 2
-answer 2 done
-begin 1
-ready 1
-enter 1
-answer 1 done
-leave 1
-answer 1 done
-words held 0
-verdict against 2 at 11
-",
-};
-
-pub const SZYMANSKI: Reported = Reported {
-    schedule: r"rme 1 procs 2 limit 1 cap 1
+== szymanski
+rme 1 procs 2 limit 1 cap 1
 lock 0
 step 0
 step 0
@@ -366,8 +348,8 @@ step 1
 step 0
 step 0
 step 0
-",
-    report: r"begin 0
+--
+begin 0
 ready 0
 enter 0
 answer 0 done
@@ -383,5 +365,4 @@ enter 0
 answer 0 done
 words flag 4 4
 verdict against 2 at 11
-",
-};
+";

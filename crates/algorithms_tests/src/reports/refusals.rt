@@ -1,110 +1,254 @@
-//! Schedules of which a line is refused.
+//! Schedules of which a line is refused: its number, that of the refusal, and what the lines before it report.
 
-/// Schedules of which this text refuses a line, by its number and that of the refusal, and what is written before it.
-pub const REFUSED_BY_PETERSON: &[(&str, (u64, u64), &str)] = &[
-    ("rme 1 procs 3 limit 1 cap 1\nlock 0\n", (1, 1), ""),
-    (
-        "rme 1 procs 2 limit 4611686018427387905 cap 1\nlock 0\n",
-        (1, 2),
-        "",
-    ),
-    ("rme 1 procs 2 limit 1 cap 1\nlock 2\n", (2, 3), ""),
-    ("rme 1 procs 2 limit 1 cap 1\nstep 2\n", (2, 3), ""),
-    ("rme 1 procs 2 limit 1 cap 1\ncrash 2\n", (2, 3), ""),
-    ("rme 1 procs 2 limit 1 cap 1\nconsistent 2\n", (2, 3), ""),
-    ("rme 1 procs 2 limit 1 cap 1\nlock 0\nlock 0\n", (3, 4), ""),
-    (
-        "rme 1 procs 2 limit 1 cap 1\nlock 0\nstep 0 3\ncrash 1\nlock 1\nunlock 1\n",
-        (6, 4),
-        "begin 0\nready 0\nenter 0\nanswer 0 done\ncrash 1\n",
-    ),
-    ("rme 1 procs 2 limit 1 cap 1\nunlock 0\n", (2, 5), ""),
-    (
-        "rme 1 procs 2 limit 1 cap 1\nlock 0\nstep 0 3\nlock 0\n",
-        (4, 6),
-        "begin 0\nready 0\nenter 0\nanswer 0 done\n",
-    ),
-    (
-        "rme 1 procs 2 limit 1 cap 1\nlock 0\nstep 0 3\nunlock 0\nunlock 0\n",
-        (5, 4),
-        "begin 0\nready 0\nenter 0\nanswer 0 done\n",
-    ),
-    ("rme 1 procs 2 limit 1 cap 1\nstep 0\n", (2, 7), ""),
-    (
-        "rme 1 procs 2 limit 1 cap 1\nlock 0\nstep 0 3\nstep 0\n",
-        (4, 7),
-        "begin 0\nready 0\nenter 0\nanswer 0 done\n",
-    ),
-    (
-        "rme 1 procs 2 limit 1 cap 1\nlock 0\nstep 0 3\ncrash 0\nstep 0 2\n",
-        (5, 7),
-        "begin 0\nready 0\nenter 0\nanswer 0 done\ncrash 0\n",
-    ),
-    ("rme 1 procs 2 limit 1 cap 1\nrecover 0\n", (2, 17), ""),
-    ("rme 1 procs 2 limit 1 cap 1\nwithdraw 0\n", (2, 17), ""),
-    (
-        "rme 1 procs 2 limit 1 cap 1\nlock 0\nstep 0 3\nconsistent 0\n",
-        (4, 17),
-        "begin 0\nready 0\nenter 0\nanswer 0 done\n",
-    ),
-    (
-        "rme 1 procs 2 limit 1 cap 1\nlock 0\nstep 0 3\nappend 0 1 5\n",
-        (4, 17),
-        "begin 0\nready 0\nenter 0\nanswer 0 done\n",
-    ),
-    (
-        "rme 1 procs 2 limit 1 cap 1\nlock 0\nstep 0 3\nclose 0\n",
-        (4, 17),
-        "begin 0\nready 0\nenter 0\nanswer 0 done\n",
-    ),
-    (
-        "rme 1 procs 2 limit 1 cap 1\nlock 0\nstep 0 3\nput 0 0 1\n",
-        (4, 17),
-        "begin 0\nready 0\nenter 0\nanswer 0 done\n",
-    ),
-    (
-        "rme 1 procs 2 limit 1 cap 1\nlock 0\nstep 0 3\nget 0 0\n",
-        (4, 17),
-        "begin 0\nready 0\nenter 0\nanswer 0 done\n",
-    ),
-];
-
-/// Schedules of which this text refuses a line, by its number and that of the refusal, and what is written before it.
-pub const REFUSED_BY_RECOVERABLE_PETERSON: &[(&str, (u64, u64), &str)] = &[
-    ("rme 1 procs 2 limit 1 cap 1\nwithdraw 1\n", (2, 14), ""),
-    (
-        "rme 1 procs 2 limit 1 cap 1\nlock 0\nstep 0\nwithdraw 0\n",
-        (4, 14),
-        "",
-    ),
-    (
-        "rme 1 procs 2 limit 1 cap 1\nlock 0\nstep 0 9\nrecover 0\n",
-        (4, 6),
-        "begin 0\nready 0\nenter 0\nanswer 0 clean\n",
-    ),
-    (
-        "rme 1 procs 2 limit 1 cap 1\nlock 0\nstep 0 9\nunlock 1\n",
-        (4, 5),
-        "begin 0\nready 0\nenter 0\nanswer 0 clean\n",
-    ),
-    (
-        "rme 1 procs 2 limit 1 cap 1\nlock 0\nstep 0 9\ncrash 0\nunlock 0\n",
-        (5, 5),
-        "begin 0\nready 0\nenter 0\nanswer 0 clean\ncrash 0\n",
-    ),
-];
-
-/// Schedules of which this text refuses a line, by its number and that of the refusal, and what is written before it.
-pub const REFUSED_BY_BAKERY_1974: &[(&str, (u64, u64), &str)] = &[
-    ("rme 1 procs 2 limit 0 cap 1\n", (1, 2), ""),
-    (
-        "rme 1 procs 2 limit 1 cap 1\nlock 1\nstep 1 9\nlock 0\nstep 0 9\n",
-        (5, 16),
-        "begin 1\nready 1\nenter 1\nanswer 1 done\nbegin 0\n",
-    ),
-    (
-        "rme 1 procs 2 limit 1 cap 1\nlock 1\nstep 1 9\nlock 0\nstep 0\nstep 0\nstep 0 2\n",
-        (7, 16),
-        "begin 1\nready 1\nenter 1\nanswer 1 done\nbegin 0\n",
-    ),
-];
+pub const REFUSALS: &str = r"== peterson
+rme 1 procs 3 limit 1 cap 1
+lock 0
+--
+ended: refused 1 1
+== peterson
+rme 1 procs 2 limit 4611686018427387905 cap 1
+lock 0
+--
+ended: refused 1 2
+== peterson
+rme 1 procs 2 limit 1 cap 1
+lock 2
+--
+ended: refused 2 3
+== peterson
+rme 1 procs 2 limit 1 cap 1
+step 2
+--
+ended: refused 2 3
+== peterson
+rme 1 procs 2 limit 1 cap 1
+crash 2
+--
+ended: refused 2 3
+== peterson
+rme 1 procs 2 limit 1 cap 1
+consistent 2
+--
+ended: refused 2 3
+== peterson
+rme 1 procs 2 limit 1 cap 1
+lock 0
+lock 0
+--
+ended: refused 3 4
+== peterson
+rme 1 procs 2 limit 1 cap 1
+lock 0
+step 0 3
+crash 1
+lock 1
+unlock 1
+--
+begin 0
+ready 0
+enter 0
+answer 0 done
+crash 1
+ended: refused 6 4
+== peterson
+rme 1 procs 2 limit 1 cap 1
+unlock 0
+--
+ended: refused 2 5
+== peterson
+rme 1 procs 2 limit 1 cap 1
+lock 0
+step 0 3
+lock 0
+--
+begin 0
+ready 0
+enter 0
+answer 0 done
+ended: refused 4 6
+== peterson
+rme 1 procs 2 limit 1 cap 1
+lock 0
+step 0 3
+unlock 0
+unlock 0
+--
+begin 0
+ready 0
+enter 0
+answer 0 done
+ended: refused 5 4
+== peterson
+rme 1 procs 2 limit 1 cap 1
+step 0
+--
+ended: refused 2 7
+== peterson
+rme 1 procs 2 limit 1 cap 1
+lock 0
+step 0 3
+step 0
+--
+begin 0
+ready 0
+enter 0
+answer 0 done
+ended: refused 4 7
+== peterson
+rme 1 procs 2 limit 1 cap 1
+lock 0
+step 0 3
+crash 0
+step 0 2
+--
+begin 0
+ready 0
+enter 0
+answer 0 done
+crash 0
+ended: refused 5 7
+== peterson
+rme 1 procs 2 limit 1 cap 1
+recover 0
+--
+ended: refused 2 17
+== peterson
+rme 1 procs 2 limit 1 cap 1
+withdraw 0
+--
+ended: refused 2 17
+== peterson
+rme 1 procs 2 limit 1 cap 1
+lock 0
+step 0 3
+consistent 0
+--
+begin 0
+ready 0
+enter 0
+answer 0 done
+ended: refused 4 17
+== peterson
+rme 1 procs 2 limit 1 cap 1
+lock 0
+step 0 3
+append 0 1 5
+--
+begin 0
+ready 0
+enter 0
+answer 0 done
+ended: refused 4 17
+== peterson
+rme 1 procs 2 limit 1 cap 1
+lock 0
+step 0 3
+close 0
+--
+begin 0
+ready 0
+enter 0
+answer 0 done
+ended: refused 4 17
+== peterson
+rme 1 procs 2 limit 1 cap 1
+lock 0
+step 0 3
+put 0 0 1
+--
+begin 0
+ready 0
+enter 0
+answer 0 done
+ended: refused 4 17
+== peterson
+rme 1 procs 2 limit 1 cap 1
+lock 0
+step 0 3
+get 0 0
+--
+begin 0
+ready 0
+enter 0
+answer 0 done
+ended: refused 4 17
+== recoverable_peterson
+rme 1 procs 2 limit 1 cap 1
+withdraw 1
+--
+ended: refused 2 14
+== recoverable_peterson
+rme 1 procs 2 limit 1 cap 1
+lock 0
+step 0
+withdraw 0
+--
+ended: refused 4 14
+== recoverable_peterson
+rme 1 procs 2 limit 1 cap 1
+lock 0
+step 0 9
+recover 0
+--
+begin 0
+ready 0
+enter 0
+answer 0 clean
+ended: refused 4 6
+== recoverable_peterson
+rme 1 procs 2 limit 1 cap 1
+lock 0
+step 0 9
+unlock 1
+--
+begin 0
+ready 0
+enter 0
+answer 0 clean
+ended: refused 4 5
+== recoverable_peterson
+rme 1 procs 2 limit 1 cap 1
+lock 0
+step 0 9
+crash 0
+unlock 0
+--
+begin 0
+ready 0
+enter 0
+answer 0 clean
+crash 0
+ended: refused 5 5
+== bakery_1974
+rme 1 procs 2 limit 0 cap 1
+--
+ended: refused 1 2
+== bakery_1974
+rme 1 procs 2 limit 1 cap 1
+lock 1
+step 1 9
+lock 0
+step 0 9
+--
+begin 1
+ready 1
+enter 1
+answer 1 done
+begin 0
+ended: refused 5 16
+== bakery_1974
+rme 1 procs 2 limit 1 cap 1
+lock 1
+step 1 9
+lock 0
+step 0
+step 0
+step 0 2
+--
+begin 1
+ready 1
+enter 1
+answer 1 done
+begin 0
+ended: refused 7 16
+";

@@ -1,9 +1,7 @@
 //! Reports of wrong bakeries.
 
-use crate::reports::Reported;
-
-pub const NO_LOOK: Reported = Reported {
-    schedule: r"rme 1 procs 2 limit 3 cap 1
+pub const VARIANTS: &str = r"== no_look
+rme 1 procs 2 limit 3 cap 1
 lock 0
 lock 1
 step 1 2
@@ -32,8 +30,8 @@ crash 1
 step 0 2
 lock 1
 step 1 3
-",
-    report: r"begin 0
+--
+begin 0
 ready 0
 enter 0
 answer 0 clean
@@ -62,11 +60,8 @@ words choosing 0 0
 words number 2 1
 words inside 0 1
 verdict against 2 at 13
-",
-};
-
-pub const NO_TIES: Reported = Reported {
-    schedule: r"rme 1 procs 2 limit 3 cap 1
+== no_ties
+rme 1 procs 2 limit 3 cap 1
 lock 1
 lock 0
 step 0 5
@@ -95,8 +90,8 @@ step 1 3
 step 0 3
 unlock 0
 step 0 5
-",
-    report: r"begin 0
+--
+begin 0
 begin 1
 ready 1
 ready 0
@@ -121,11 +116,8 @@ words choosing 0 0
 words number 0 2
 words inside 0 0
 verdict against 2 at 6
-",
-};
-
-pub const RENUMBER: Reported = Reported {
-    schedule: r"rme 1 procs 2 limit 5 cap 1
+== renumber
+rme 1 procs 2 limit 5 cap 1
 lock 0
 lock 1
 step 1
@@ -154,8 +146,8 @@ step 1 5
 step 0 5
 lock 0
 step 0 2
-",
-    report: r"begin 0
+--
+begin 0
 ready 0
 begin 1
 ready 1
@@ -172,11 +164,8 @@ words choosing 0 0
 words number 0 0
 words inside 0 0
 verdict fine
-",
-};
-
-pub const EXIT_ON_CRASH: Reported = Reported {
-    schedule: r"rme 1 procs 2 limit 3 cap 1
+== exit_on_crash
+rme 1 procs 2 limit 3 cap 1
 lock 1
 step 1
 step 1 3
@@ -201,8 +190,8 @@ step 0 2
 lock 1
 unlock 0
 step 0 5
-",
-    report: r"begin 1
+--
+begin 1
 ready 1
 begin 0
 ready 0
@@ -220,5 +209,4 @@ words choosing 0 1
 words number 0 0
 words inside 0 0
 verdict against 1 at 7
-",
-};
+";

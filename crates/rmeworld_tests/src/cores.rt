@@ -133,7 +133,7 @@ fn first_wrong(core: &mut Core, script: &str, deeds: &str) -> Option<u64> {
 /// Whether the script has the results that it says, and its deeds are those of the row.
 fn is_played(core: &mut Core, row: &str) -> bool {
     let mut deeds = row;
-    let script = cut(&mut deeds, "");
+    let script = cut(&mut deeds, " | ");
     first_wrong(core, script, deeds).is_none()
 }
 

@@ -37,25 +37,25 @@ step 1
 --
 ";
 
-/// What a call comes to: so many lines that are found, 0 of what is written, or no memory.
+/// What a call comes to: how many lines it finds, or that memory ran out. Where it writes, and finds nothing, there are 0.
 #[derive(Clone, Copy)]
-enum Came {
+enum Outcome {
     Lines(usize),
     OutOfMemory,
     Otherwise,
 }
 
-fn lines_of(found: Option<Schedule>) -> Came {
+fn lines_of(found: Option<Schedule>) -> Outcome {
     match found {
-        Some(found) => Came::Lines(found.lines().len()),
-        None => Came::Otherwise,
+        Some(found) => Outcome::Lines(found.lines().len()),
+        None => Outcome::Otherwise,
     }
 }
 
-fn came_of(fault: AlgorithmReplayFault) -> Came {
+fn outcome_of(fault: AlgorithmReplayFault) -> Outcome {
     match fault {
-        AlgorithmReplayFault::OutOfMemory => Came::OutOfMemory,
-        AlgorithmReplayFault::Refused { .. } | AlgorithmReplayFault::Write => Came::Otherwise,
+        AlgorithmReplayFault::OutOfMemory => Outcome::OutOfMemory,
+        AlgorithmReplayFault::Refused { .. } | AlgorithmReplayFault::Write => Outcome::Otherwise,
     }
 }
 
@@ -66,22 +66,22 @@ fn called(
     algorithm: Algorithm,
     schedule: &Schedule,
     printed: &mut [u8],
-) -> Came {
+) -> Outcome {
     match kind {
         Kind::Hunt => match hunt_algorithm_schedule(alloc, algorithm, 2, 1, 2, 20, 1000) {
             Ok(found) => lines_of(found),
-            Err(AlgorithmHuntFault::OutOfMemory) => Came::OutOfMemory,
-            Err(_) => Came::Otherwise,
+            Err(AlgorithmHuntFault::OutOfMemory) => Outcome::OutOfMemory,
+            Err(_) => Outcome::Otherwise,
         },
         Kind::Shrink => match shrink_algorithm_schedule(alloc, algorithm, schedule) {
             Ok(found) => lines_of(found),
-            Err(fault) => came_of(fault),
+            Err(fault) => outcome_of(fault),
         },
         _ => {
             let mut sink = ToWriter::new(Cursor::new(printed));
             match put_out(alloc, kind, algorithm, schedule, &mut sink) {
-                Ok(_) => Came::Lines(0),
-                Err(fault) => came_of(fault),
+                Ok(_) => Outcome::Lines(0),
+                Err(fault) => outcome_of(fault),
             }
         }
     }
@@ -120,8 +120,8 @@ fn refusals(
         let came = called(alloc, kind, algorithm, schedule, &mut printed);
         let written = before_zeros(&printed);
         match came {
-            Came::Lines(lines) if written == whole => return (refused, Some(lines)),
-            Came::OutOfMemory if may_be_written(kind, written, whole) => {}
+            Outcome::Lines(lines) if written == whole => return (refused, Some(lines)),
+            Outcome::OutOfMemory if may_be_written(kind, written, whole) => {}
             _ => return (refused, None),
         }
         refused = refused.saturating_add(1);

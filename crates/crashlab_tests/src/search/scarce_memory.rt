@@ -13,6 +13,7 @@ use rmeworld::Call;
 use schedule::{Schedule, write_schedule};
 use std::alloc::{AllocError, Global};
 use std::process::Abort;
+use std::test::Fail;
 use std::thread;
 use std::thread::Threads;
 
@@ -39,23 +40,24 @@ fn makes_thread<R: Threads>(rt: &R) -> bool {
     }
 }
 
-/// What several jobs do, and one job did with all memory.
-trait Work {
-    /// Whether the jobs come to the same as the one. None: memory ran out.
-    fn is_same<R: Threads + Sync>(&self, rt: &R, alloc: Global) -> Option<bool>;
-}
-
-/// Does the work again after each refusal, until it has an answer. How often it was refused, and whether it is the same.
-fn answered<R: Threads + Sync, W: Work>(
+/// Makes the call again after each refusal, which it answers by None, until it answers whether it comes to the same as with
+/// all memory. Then a thread can be made, or it can't.
+fn at_last<R: Threads + Abort, F: Fn() -> Option<bool>>(
     rt: &R,
-    alloc: Global,
-    spare: &mut Vec<Vec<u8>>,
-    scarce_memory: &mut ScarceMemory,
-    work: &W,
-) -> Option<(usize, bool)> {
+    spare: Vec<Vec<u8>>,
+    scarce_memory: ScarceMemory,
+    with_threads: bool,
+    call: F,
+)
+    requires { F.IsAlwaysCallable call }
+{
+    let mut spare = spare;
+    let mut scarce_memory = scarce_memory;
     for refused in 0..PIECES + SPARE {
-        if let Some(is_same) = work.is_same(rt, alloc) {
-            return Some((refused, is_same));
+        if let Some(is_same) = call() {
+            assert!(rt; refused > 0 && is_same, "{refused}");
+            assert!(rt; makes_thread(rt) == with_threads);
+            return;
         }
         scarce_memory.give_back();
         if refused >= PIECES {
@@ -63,39 +65,7 @@ fn answered<R: Threads + Sync, W: Work>(
             drop(piece);
         }
     }
-    None
-}
-
-/// All memory but a reserve. With threads, their stacks stay free.
-fn scarce<R: Threads + Sync>(
-    rt: &R,
-    alloc: Global,
-    with_threads: bool,
-) -> Result<ScarceMemory, AllocError> {
-    if with_threads {
-        ScarceMemory::of_threads(rt, alloc)
-    } else {
-        ScarceMemory::new(alloc)
-    }
-}
-
-/// Does the work while memory is scarce: at last it comes to the same. Then a thread can be made, or it can't.
-fn at_last<R: Threads + Sync + Abort, W: Work>(
-    rt: &R,
-    alloc: Global,
-    with_threads: bool,
-    work: &W,
-) {
-    let Ok(mut spare) = spare(alloc) else {
-        panic!(rt; "no spare memory")
-    };
-    let Ok(mut scarce_memory) = scarce(rt, alloc, with_threads) else {
-        panic!(rt; "no reserve")
-    };
-    let answer = answered(rt, alloc, &mut spare, &mut scarce_memory, work);
-    let (refused, is_same) = answer.unwrap_or((0, false));
-    assert!(rt; refused > 0 && is_same, "{refused}");
-    assert!(rt; makes_thread(rt) == with_threads);
+    panic!(rt; "never an answer")
 }
 
 /// Empty jugs, of which the big one has to hold four litres.
@@ -105,22 +75,6 @@ const EMPTY: Jugs = Jugs {
     wanted: 4,
     spills: 0,
 };
-
-/// A search of the jugs by this many jobs, and the path by one.
-#[derive(Drop)]
-struct Pouring {
-    jobs: usize,
-    one: Result<SearchOutcome<Pour>, SearchFault>,
-}
-
-impl Pouring {
-    fn new(alloc: Global, jobs: usize) -> Pouring {
-        Pouring {
-            jobs,
-            one: search(alloc, EMPTY, 100, 100, &mut Unwatched),
-        }
-    }
-}
 
 /// The path by this many jobs.
 fn poured<R: Threads + Sync>(
@@ -132,132 +86,174 @@ fn poured<R: Threads + Sync>(
     search_in_parallel(rt, alloc, EMPTY, jobs, 100, 100, &mut Unwatched)
 }
 
-impl Work for Pouring {
-    fn is_same<R: Threads + Sync>(&self, rt: &R, alloc: Global) -> Option<bool> {
-        match poured(rt, alloc, self.jobs) {
-            Err(SearchFault::OutOfMemory) => None,
-            found => Some(found == self.one),
-        }
+/// Whether it is the path by one. None: memory ran out.
+fn is_poured<R: Threads + Sync>(
+    rt: &R,
+    alloc: Global,
+    jobs: usize,
+    one: &Result<SearchOutcome<Pour>, SearchFault>,
+) -> Option<bool> {
+    match poured(rt, alloc, jobs) {
+        Err(SearchFault::OutOfMemory) => None,
+        found => Some(found == *one),
     }
 }
 
-#[test]
-fn a_search_by_two_jobs(rt: HostRuntime) {
-    at_last(&rt, rt.alloc(), true, &Pouring::new(rt.alloc(), 2));
+/// A search of the jugs.
+fn pours<R: Threads + Sync + Abort>(rt: &R, alloc: Global, jobs: usize) -> Result<(), AllocError> {
+    let one = search(alloc, EMPTY, 100, 100, &mut Unwatched);
+    let spare = spare(alloc)?;
+    let scarce_memory = ScarceMemory::of_threads(rt, alloc)?;
+    at_last(
+        rt,
+        spare,
+        scarce_memory,
+        true,
+        || is_poured(rt, alloc, jobs, &one),
+    );
+    Ok(())
 }
 
 #[test]
-fn a_search_by_three_jobs(rt: HostRuntime) {
-    at_last(&rt, rt.alloc(), true, &Pouring::new(rt.alloc(), 3));
+fn a_search_by_two_jobs(rt: HostRuntime) -> Result<(), Fail> {
+    pours(&rt, rt.alloc(), 2)?;
+    Ok(())
+}
+
+#[test]
+fn a_search_by_three_jobs(rt: HostRuntime) -> Result<(), Fail> {
+    pours(&rt, rt.alloc(), 3)?;
+    Ok(())
 }
 
 /// Two of the threads that they ask for can't be made.
 #[test]
-fn a_search_by_seven_jobs(rt: HostRuntime) {
-    at_last(&rt, rt.alloc(), true, &Pouring::new(rt.alloc(), 7));
+fn a_search_by_seven_jobs(rt: HostRuntime) -> Result<(), Fail> {
+    pours(&rt, rt.alloc(), 7)?;
+    Ok(())
 }
 
 /// Where no thread can be made, one does all the work.
 #[test]
-fn a_search_without_threads(rt: HostRuntime) {
-    at_last(&rt, rt.alloc(), false, &Pouring::new(rt.alloc(), 3));
+fn a_search_without_threads(rt: HostRuntime) -> Result<(), Fail> {
+    let alloc = rt.alloc();
+    let one = search(alloc, EMPTY, 100, 100, &mut Unwatched);
+    let spare = spare(alloc)?;
+    let scarce_memory = ScarceMemory::new(alloc)?;
+    at_last(
+        &rt,
+        spare,
+        scarce_memory,
+        false,
+        || is_poured(&rt, alloc, 3, &one),
+    );
+    Ok(())
 }
 
-/// A search of the lock by three jobs, and the schedule by one. These variables distinguish its states.
-#[derive(Drop)]
-struct Exploring {
+/// A search of the lock by this many jobs; by one, where it is 0. These variables distinguish its states.
+fn explored<R: Threads + Sync>(
+    rt: &R,
+    alloc: Global,
+    jobs: usize,
     variables: Variables,
-    one: Result<SearchOutcome<Move>, ExploreFault>,
+) -> Result<SearchOutcome<Move>, ExploreFault> {
+    let layout = Layout {
+        procs: 1,
+        cap: 1,
+        width: 1,
+    };
+    let bounds = Bounds {
+        crashes: 1,
+        moves: 100,
+        states: 1_000,
+    };
+    let calls = [Call::Lock, Call::Unlock];
+    let calls = calls.as_slice();
+    let variant = Variant::ExitOnCrash;
+    let watch = &mut Unwatched;
+    if jobs == 0 {
+        return shortest_schedule(alloc, variant, layout, 1, calls, variables, &bounds, watch);
+    }
+    shortest_schedule_in_parallel(
+        rt, alloc, jobs, variant, layout, 1, calls, variables, &bounds, watch,
+    )
 }
 
-const LAYOUT: Layout = Layout {
-    procs: 1,
-    cap: 1,
-    width: 1,
-};
-
-const BOUNDS: Bounds = Bounds {
-    crashes: 1,
-    moves: 100,
-    states: 1_000,
-};
-
-const CALLS: [Call; 2] = [Call::Lock, Call::Unlock];
-
-/// A variant with a short schedule.
-const VARIANT: Variant = Variant::ExitOnCrash;
-
-impl Exploring {
-    fn new(rt: &impl Abort, alloc: Global, variables: Variables) -> Exploring {
-        let one = shortest_schedule(
-            alloc,
-            VARIANT,
-            LAYOUT,
-            1,
-            &CALLS,
-            variables,
-            &BOUNDS,
-            &mut Unwatched,
-        );
-        assert!(rt; one.is_ok());
-        Exploring { variables, one }
+/// Whether it is the schedule by one. None: memory ran out.
+fn is_explored<R: Threads + Sync>(
+    rt: &R,
+    alloc: Global,
+    jobs: usize,
+    variables: Variables,
+    one: &Result<SearchOutcome<Move>, ExploreFault>,
+) -> Option<bool> {
+    match explored(rt, alloc, jobs, variables) {
+        Err(ExploreFault::OutOfMemory) => None,
+        found => Some(found == *one),
     }
 }
 
-impl Work for Exploring {
-    fn is_same<R: Threads + Sync>(&self, rt: &R, alloc: Global) -> Option<bool> {
-        let found = shortest_schedule_in_parallel(
-            rt,
-            alloc,
-            3,
-            VARIANT,
-            LAYOUT,
-            1,
-            &CALLS,
-            self.variables,
-            &BOUNDS,
-            &mut Unwatched,
-        );
-        match found {
-            Err(ExploreFault::OutOfMemory) => None,
-            found => Some(found == self.one),
-        }
-    }
-}
-
-/// A search of the lock by three jobs.
+/// A search of the lock by three jobs, with threads.
 fn explores<R: Threads + Sync + Abort>(
     rt: &R,
     alloc: Global,
-    with_threads: bool,
     variables: Variables,
-) {
+) -> Result<(), AllocError> {
+    let one = explored(rt, alloc, 0, variables);
+    assert!(rt; one.is_ok());
+    let spare = spare(alloc)?;
+    let scarce_memory = ScarceMemory::of_threads(rt, alloc)?;
     at_last(
         rt,
-        alloc,
-        with_threads,
-        &Exploring::new(rt, alloc, variables),
+        spare,
+        scarce_memory,
+        true,
+        || is_explored(rt, alloc, 3, variables, &one),
     );
+    Ok(())
 }
 
 #[test]
-fn a_search_of_the_lock_by_three_jobs(rt: HostRuntime) {
-    explores(&rt, rt.alloc(), true, Variables::All);
+fn a_search_of_the_lock_by_three_jobs(rt: HostRuntime) -> Result<(), Fail> {
+    explores(&rt, rt.alloc(), Variables::All)?;
+    Ok(())
 }
 
 #[test]
-fn a_search_by_live_variables_by_three_jobs(rt: HostRuntime) {
-    explores(&rt, rt.alloc(), true, Variables::Live);
+fn a_search_by_live_variables_by_three_jobs(rt: HostRuntime) -> Result<(), Fail> {
+    explores(&rt, rt.alloc(), Variables::Live)?;
+    Ok(())
+}
+
+/// A search of the lock by three jobs, where no thread can be made.
+fn explores_alone<R: Threads + Sync + Abort>(
+    rt: &R,
+    alloc: Global,
+    variables: Variables,
+) -> Result<(), AllocError> {
+    let one = explored(rt, alloc, 0, variables);
+    let spare = spare(alloc)?;
+    let scarce_memory = ScarceMemory::new(alloc)?;
+    at_last(
+        rt,
+        spare,
+        scarce_memory,
+        false,
+        || is_explored(rt, alloc, 3, variables, &one),
+    );
+    Ok(())
 }
 
 #[test]
-fn a_search_of_the_lock_without_threads(rt: HostRuntime) {
-    explores(&rt, rt.alloc(), false, Variables::All);
+fn a_search_of_the_lock_without_threads(rt: HostRuntime) -> Result<(), Fail> {
+    explores_alone(&rt, rt.alloc(), Variables::All)?;
+    Ok(())
 }
 
 #[test]
-fn a_search_by_live_variables_without_threads(rt: HostRuntime) {
-    explores(&rt, rt.alloc(), false, Variables::Live);
+fn a_search_by_live_variables_without_threads(rt: HostRuntime) -> Result<(), Fail> {
+    explores_alone(&rt, rt.alloc(), Variables::Live)?;
+    Ok(())
 }
 
 const ROUNDS: u64 = 400;
@@ -278,35 +274,54 @@ fn text_of(
     }
 }
 
-/// A hunt by three jobs, and the text that one finds.
-#[derive(Drop)]
-struct Hunting {
-    one: Result<Option<Vec<u8>>, HuntFault>,
-}
-
-impl Work for Hunting {
-    fn is_same<R: Threads + Sync>(&self, rt: &R, alloc: Global) -> Option<bool> {
-        let found = hunt_in_parallel(rt, alloc, 3, VARIANT, 1, ROUNDS, STEPS);
-        match text_of(alloc, found) {
-            Err(HuntFault::OutOfMemory) => None,
-            found => Some(found == self.one),
-        }
+/// Whether this many jobs find the text. None: memory ran out.
+fn is_hunted<R: Threads + Sync>(
+    rt: &R,
+    alloc: Global,
+    jobs: u64,
+    one: &Result<Option<Vec<u8>>, HuntFault>,
+) -> Option<bool> {
+    let found = hunt_in_parallel(rt, alloc, jobs, Variant::ExitOnCrash, 1, ROUNDS, STEPS);
+    match text_of(alloc, found) {
+        Err(HuntFault::OutOfMemory) => None,
+        found => Some(found == *one),
     }
 }
 
-/// A hunt by three jobs.
-fn hunts<R: Threads + Sync + Abort>(rt: &R, alloc: Global, with_threads: bool) {
-    let one = text_of(alloc, hunt(alloc, VARIANT, 1, ROUNDS, STEPS));
+/// What a hunt by one finds.
+fn hunted(alloc: Global) -> Result<Option<Vec<u8>>, HuntFault> {
+    text_of(alloc, hunt(alloc, Variant::ExitOnCrash, 1, ROUNDS, STEPS))
+}
+
+#[test]
+fn a_hunt_by_three_jobs(rt: HostRuntime) -> Result<(), Fail> {
+    let alloc = rt.alloc();
+    let one = hunted(alloc);
     assert!(rt; matches!(&one, Ok(Some(_))));
-    at_last(rt, alloc, with_threads, &Hunting { one });
+    let spare = spare(alloc)?;
+    let scarce_memory = ScarceMemory::of_threads(&rt, alloc)?;
+    at_last(
+        &rt,
+        spare,
+        scarce_memory,
+        true,
+        || is_hunted(&rt, alloc, 3, &one),
+    );
+    Ok(())
 }
 
 #[test]
-fn a_hunt_by_three_jobs(rt: HostRuntime) {
-    hunts(&rt, rt.alloc(), true);
-}
-
-#[test]
-fn a_hunt_without_threads(rt: HostRuntime) {
-    hunts(&rt, rt.alloc(), false);
+fn a_hunt_without_threads(rt: HostRuntime) -> Result<(), Fail> {
+    let alloc = rt.alloc();
+    let one = hunted(alloc);
+    let spare = spare(alloc)?;
+    let scarce_memory = ScarceMemory::new(alloc)?;
+    at_last(
+        &rt,
+        spare,
+        scarce_memory,
+        false,
+        || is_hunted(&rt, alloc, 3, &one),
+    );
+    Ok(())
 }

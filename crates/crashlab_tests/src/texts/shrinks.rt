@@ -65,18 +65,13 @@ const LINES: [(Variant, usize); 6] = [
     (Variant::LastSkipped, 19),
 ];
 
-/// The number of lines of a schedule that is minimized.
-fn least_lines(alloc: Global, variant: Variant, found: &Schedule) -> Option<usize> {
-    match shrink_found(alloc, variant, found) {
-        Ok(least) => Some(least.lines().len()),
-        Err(_) => None,
-    }
-}
-
-/// The same of the schedule that a hunt of seed 1 finds.
+/// The number of lines of the minimized schedule of a hunt of seed 1.
 fn least_lines_of_a_hunt(alloc: Global, variant: Variant) -> Option<usize> {
     match hunt(alloc, variant, 1, 10_000, 1_000) {
-        Ok(Some(found)) => least_lines(alloc, variant, &found),
+        Ok(Some(found)) => match shrink_found(alloc, variant, &found) {
+            Ok(least) => Some(least.lines().len()),
+            Err(_) => None,
+        },
         _ => None,
     }
 }

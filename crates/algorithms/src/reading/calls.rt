@@ -127,12 +127,22 @@ fn bound(
     let (part, rest) = split_value(rest);
     let known = algorithm.names.len();
     let value = value(alloc, algorithm, part)?;
-    ended(rest)?;
-    if is_bound(&value) && algorithm.names.len() == known {
+    if rest.is_empty() && is_bound(&value) && algorithm.names.len() == known {
         Ok(Some(value))
     } else {
         Err(LineFault::BadForm)
     }
+}
+
+/// The declaration of this name.
+fn declared(
+    alloc: Global,
+    name: &[u8],
+    each: bool,
+    bound: Option<Expression>,
+) -> Result<Declaration, LineFault> {
+    let name = String::from_utf8_lossy(alloc, name)?;
+    Ok(Declaration { name, each, bound })
 }
 
 /// Reads `shared NAME`, with `[procs]` and a bound where they are there.
@@ -143,10 +153,8 @@ fn shared(alloc: Global, algorithm: &mut Algorithm, tokens: &[Token]) -> Result<
     }
     let (each, rest) = each(after(tokens, 1))?;
     let bound = bound(alloc, algorithm, rest)?;
-    let name = String::from_utf8_lossy(alloc, name.as_bytes())?;
-    algorithm
-        .declarations
-        .push(Declaration { name, each, bound })?;
+    let declaration = declared(alloc, name.as_bytes(), each, bound)?;
+    algorithm.declarations.push(declaration)?;
     Ok(())
 }
 

@@ -20,6 +20,11 @@ fn is_in(label: &Label, call: CallRead) -> bool {
     call.number < label.number && label.number <= call.last
 }
 
+/// Gives a line another form.
+pub fn set_form(line: &mut Line, form: Form) {
+    line.form = form;
+}
+
 /// The names of a call, as bits: those that a line sets, those that a loop sets, and those that last.
 #[derive(Drop)]
 struct NameSets {
@@ -82,21 +87,29 @@ impl Draft {
         }
     }
 
+    /// Lets a goto of a call lead to its label.
+    fn lead(&mut self, call: CallRead, jump: Jump) -> Result<(), AlgorithmFault> {
+        let target = self.target(call, jump);
+        let Some(line) = self.algorithm.lines.get_mut(jump.place) else {
+            return Ok(());
+        };
+        match target {
+            Some(target) => {
+                set_form(line, Form::Local(LocalLine::Goto(target)));
+                Ok(())
+            }
+            None => Err(LineFault::BadLabel.at(line.number)),
+        }
+    }
+
     /// Lets the gotos of a call lead to their labels.
     fn resolve(&mut self, call: CallRead) -> Result<(), AlgorithmFault> {
         for at in 0..self.jumps.len() {
             let Some(jump) = self.jumps.as_slice().get(at).copied() else {
                 continue;
             };
-            if jump.place < call.from || call.to <= jump.place {
-                continue;
-            }
-            let target = self.target(call, jump);
-            if let Some(line) = self.algorithm.lines.get_mut(jump.place) {
-                match target {
-                    Some(target) => line.form = Form::Local(LocalLine::Goto(target)),
-                    None => return Err(LineFault::BadLabel.at(line.number)),
-                }
+            if call.from <= jump.place && jump.place < call.to {
+                self.lead(call, jump)?;
             }
         }
         Ok(())

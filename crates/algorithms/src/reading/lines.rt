@@ -17,7 +17,7 @@ const DEEPEST_BLOCK: usize = 16;
 const DEEPEST_LOOP: usize = 2;
 
 /// A block whose end is not read yet: the place of its first line, and what it is.
-#[derive(Clone, Copy, Debug)]
+#[derive(Clone, Copy)]
 pub struct Opened {
     pub place: usize,
     pub kind: Block,
@@ -25,7 +25,7 @@ pub struct Opened {
     pub block: usize,
 }
 
-#[derive(Clone, Copy, Debug, PartialEq, Eq)]
+#[derive(Clone, Copy, PartialEq, Eq)]
 pub enum Block {
     If,
     Else,
@@ -33,7 +33,7 @@ pub enum Block {
 }
 
 /// A label: its name, its place, the block in which it stands, and its line.
-#[derive(Clone, Copy, Debug)]
+#[derive(Clone, Copy)]
 pub struct Label {
     pub name: Word,
     pub place: usize,
@@ -42,14 +42,14 @@ pub struct Label {
 }
 
 /// A goto: its place, and the label that it names.
-#[derive(Clone, Copy, Debug)]
+#[derive(Clone, Copy)]
 pub struct Jump {
     pub place: usize,
     pub name: Word,
 }
 
 /// A call that was read: its lines, from a place to a place, and the number of the line that begins it.
-#[derive(Clone, Copy, Debug)]
+#[derive(Clone, Copy)]
 pub struct CallRead {
     pub call: Call,
     pub from: usize,
@@ -107,6 +107,14 @@ pub fn ended(tokens: &[Token]) -> Result<(), LineFault> {
     } else {
         Err(LineFault::BadForm)
     }
+}
+
+/// `BadDeed` where a deed or `may withdraw` is left, `BadForm` where another token is.
+fn ended_without_deed(tokens: &[Token]) -> Result<(), LineFault> {
+    if is_word(tokens.first(), b"this") || is_word(tokens.first(), b"may") {
+        return Err(LineFault::BadDeed);
+    }
+    ended(tokens)
 }
 
 /// Whether a value or a condition ends before this token.
@@ -326,10 +334,7 @@ impl Draft {
         }
         let (assigned, rest) = split_value(tokens);
         let value = value(alloc, &mut self.algorithm, assigned)?;
-        if is_word(rest.first(), b"this") || is_word(rest.first(), b"may") {
-            return Err(LineFault::BadDeed);
-        }
-        ended(rest)?;
+        ended_without_deed(rest)?;
         self.add(Form::Local(LocalLine::Assign { name, value }))?;
         Ok(())
     }
@@ -394,15 +399,8 @@ impl Draft {
         Ok(())
     }
 
-    /// `for NAME in MEMBERS`.
-    fn loop_head(&mut self, alloc: Global, tokens: &[Token]) -> Result<(), LineFault> {
-        let name = name_set(alloc, &mut self.algorithm, tokens.first())?;
-        if name < self.algorithm.lasting {
-            return Err(LineFault::NameTaken);
-        }
-        let rest = after_word(after(tokens, 1), b"in")?;
-        let members = members_of(rest.first())?;
-        ended(after(rest, 1))?;
+    /// The loops round the next line. `NameTaken` where one of them sets this name.
+    fn loops_round(&self, name: usize) -> Result<usize, LineFault> {
         let mut loops: usize = 0;
         for opened in &self.opened {
             if let Block::For { name: outer, .. } = opened.kind {
@@ -412,7 +410,19 @@ impl Draft {
                 loops = loops.saturating_add(1);
             }
         }
-        if loops >= DEEPEST_LOOP {
+        Ok(loops)
+    }
+
+    /// `for NAME in MEMBERS`.
+    fn loop_head(&mut self, alloc: Global, tokens: &[Token]) -> Result<(), LineFault> {
+        let name = name_set(alloc, &mut self.algorithm, tokens.first())?;
+        if name < self.algorithm.lasting {
+            return Err(LineFault::NameTaken);
+        }
+        let rest = after_word(after(tokens, 1), b"in")?;
+        let members = members_of(rest.first())?;
+        ended(after(rest, 1))?;
+        if self.loops_round(name)? >= DEEPEST_LOOP {
             return Err(LineFault::TooBig);
         }
         let place = self.add(Form::Local(LocalLine::First {

@@ -11,7 +11,7 @@ use std::alloc::Global;
 const LONGEST_NAME: usize = 32;
 
 /// A sign of a text.
-#[derive(Clone, Copy, Debug, PartialEq, Eq)]
+#[derive(Clone, Copy, PartialEq, Eq)]
 pub enum Sign {
     Assign,
     Colon,
@@ -25,14 +25,14 @@ pub enum Sign {
 }
 
 /// A word of a line, at most as long as a name.
-#[derive(Clone, Copy, Debug)]
+#[derive(Clone, Copy)]
 pub struct Word {
     letters: [u8; LONGEST_NAME],
     length: usize,
 }
 
 /// A token of a line.
-#[derive(Clone, Copy, Debug)]
+#[derive(Clone, Copy)]
 pub enum Token {
     Number(u64),
     Word(Word),

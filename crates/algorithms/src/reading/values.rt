@@ -14,7 +14,7 @@ use std::alloc::Global;
 const DEEPEST: usize = 16;
 
 /// What brackets are round.
-#[derive(Clone, Copy, Debug, PartialEq, Eq)]
+#[derive(Clone, Copy)]
 enum Bracket {
     Plain,
     Not,
@@ -22,7 +22,7 @@ enum Bracket {
 }
 
 /// What waits for its right side.
-#[derive(Clone, Copy, Debug, PartialEq, Eq)]
+#[derive(Clone, Copy)]
 enum Pending {
     Operator(Operator),
     Comparison(Comparison),

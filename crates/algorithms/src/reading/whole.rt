@@ -8,6 +8,7 @@ use crate::fault::{AlgorithmFault, LineFault};
 use crate::line::{Form, Line};
 use crate::ranks::lines_end;
 use crate::reading::calls::{head, promises};
+use crate::reading::checks::set_form;
 use crate::reading::flow::Flow;
 use crate::reading::lines::{CallRead, Draft};
 use crate::reading::tokens::{Tokens, tokens_of};
@@ -136,7 +137,7 @@ fn end_unreached(lines: &mut [Line], call: CallRead, reached: &[bool]) {
     for place in call.from..call.to {
         if reached.get(place).copied() == Some(false) {
             if let Some(line) = lines.get_mut(place) {
-                line.form = Form::Done(0);
+                set_form(line, Form::Done(0));
             }
         }
     }

@@ -4,10 +4,10 @@
 mod algorithm_commands;
 mod algorithm_explores;
 mod algorithm_texts;
-mod algorithms;
 mod explores;
 mod hunts;
 mod jobs;
 mod memory;
+mod named_texts;
 mod shrinks;
 mod watched;

@@ -1,6 +1,6 @@
 //! Hunts, drawings and least schedules of algorithms: what they write, and what is refused.
 
-use crate::searches::algorithms::algorithm_texts;
+use crate::searches::named_texts::algorithm_texts;
 use crate::support::invocation::{all_come_to, output_of, program_comes_to};
 use algorithms_tests::texts::others;
 use std::alloc::Global;

@@ -1,7 +1,7 @@
 //! Searches of algorithms. The schedules and the counts are those of the reference interpreter of the format.
 
-use crate::searches::algorithms::algorithm_texts;
 use crate::searches::explores;
+use crate::searches::named_texts::algorithm_texts;
 use crate::support::invocation::{all_come_to, program_comes_to};
 use std::test::Fail;
 

@@ -1,6 +1,6 @@
 //! Replays of algorithms where a text, a schedule, words or a file are at fault.
 
-use crate::searches::algorithms::algorithm_texts;
+use crate::searches::named_texts::algorithm_texts;
 use crate::support::invocation::{all_come_to, program_comes_to};
 use std::alloc::Global;
 use std::test::Fail;

@@ -1,6 +1,6 @@
 //! Each request for memory of searches, of schedules that are shrunk, and of commands on algorithms is refused in turn.
 
-use crate::searches::algorithms::algorithm_texts;
+use crate::searches::named_texts::algorithm_texts;
 use crate::searches::{algorithm_commands, algorithm_explores, explores, shrinks};
 use crate::support::invocation::all_want_memory;
 use std::test::Fail;

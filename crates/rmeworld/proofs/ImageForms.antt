@@ -83,9 +83,9 @@ members_or (object ms) = ms
 members_or d = no_members
 
 -- the image's members after the first four
-pub behind_four : (m0 m1 m2 m3 m4 : Members) (a b c d : Data) (wide : Bool) (i : Image) → object m0 ≡ image_data wide i → m0 ≡ member (codes "cap") a m1 → m1 ≡ member (codes "data") b m2
+pub after_four : (m0 m1 m2 m3 m4 : Members) (a b c d : Data) (wide : Bool) (i : Image) → object m0 ≡ image_data wide i → m0 ≡ member (codes "cap") a m1 → m1 ≡ member (codes "data") b m2
     → m2 ≡ member (codes "limit") c m3 → m3 ≡ member (codes "lock") d m4 → m4 ≡ member (codes "version") (whole_data i.version) (width_member wide i.width)
-behind_four m0 m1 m2 m3 m4 a b c d wide i e e1 e2 e3 e4 =
+after_four m0 m1 m2 m3 m4 a b c d wide i e e1 e2 e3 e4 =
     let behind1 = ap rest_of_members (sym e1 ∙ ap members_or e) in
     let behind2 = ap rest_of_members (sym e2 ∙ behind1) in
     let behind3 = ap rest_of_members (sym e3 ∙ behind2) in
@@ -111,7 +111,7 @@ no_lock m0 m1 m2 m3 a b c e1 e2 e3 not wide i e = not i.lock _ (ap rest_of_membe
 
 pub no_last : (m0 m1 m2 m3 m4 : Members) (a b c d : Data) → m0 ≡ member (codes "cap") a m1 → m1 ≡ member (codes "data") b m2 → m2 ≡ member (codes "limit") c m3 → m3 ≡ member (codes "lock") d m4
     → ((version : ℕ) (wide : Bool) (w : ℕ) → m4 ≡ member (codes "version") (whole_data version) (width_member wide w) → ⊥) → NoImage m0
-no_last m0 m1 m2 m3 m4 a b c d e1 e2 e3 e4 not wide i e = not i.version wide i.width (behind_four m0 m1 m2 m3 m4 a b c d wide i e e1 e2 e3 e4)
+no_last m0 m1 m2 m3 m4 a b c d e1 e2 e3 e4 not wide i e = not i.version wide i.width (after_four m0 m1 m2 m3 m4 a b c d wide i e e1 e2 e3 e4)
 
 -- the image of its members, one after another
 pub image_of_members : (m0 m1 m2 m3 m4 : Members) (wide : Bool) (i : Image) → m0 ≡ member (codes "cap") (whole_data i.cap) m1 → m1 ≡ member (codes "data") (list_data i.cells) m2 → m2 ≡ member (codes "limit") (whole_data i.limit) m3

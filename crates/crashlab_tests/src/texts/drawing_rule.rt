@@ -212,10 +212,10 @@ fn is_spelled(text: &[u8], moves: &str) -> bool {
         return false;
     };
     for letter in moves.as_bytes() {
-        let Some(behind) = rest.strip_prefix(spelled(*letter)) else {
+        let Some(left) = rest.strip_prefix(spelled(*letter)) else {
             return false;
         };
-        rest = behind;
+        rest = left;
     }
     rest.is_empty()
 }

@@ -1,5 +1,5 @@
 -- Counts of a list that is one longer.
-use Rattle.std.proofs.Common.{◌≡◌, ◌≢◌, ℕ, ◌+◌, ◌<◌, ◌≤◌, Bool, List, [], ◌∷◌, ◌++◌, length, count_by, cond, ◌==◌, refl, sym, inl, inr, arith, get_or, set, get_or-set_same, get_or-set_other, eq-eqb, ne_eqb}
+use Rattle.std.proofs.Common.{subst, ◌≡◌, ◌≢◌, ℕ, ◌+◌, ◌<◌, ◌≤◌, Bool, List, [], ◌∷◌, ◌++◌, length, count_by, cond, ◌==◌, refl, sym, inl, inr, arith, get_or, set, get_or-set_same, get_or-set_other, eq-eqb, ne_eqb}
 use Rattle.judge.proofs.Common.{cases_eq, cond-true, cond-false, Message, is_by, Lists}
 use Rattle.std.proofs.lemmas.List.Sums.{sum_by-append}
 pub use Rattle.redomail.specs.Shape.{bit as one_if}
@@ -27,4 +27,13 @@ Lists-counted counts n shown m v le below is lists k d l = elim (cases_eq m.send
       let more = count_push (is_by k) shown m in
       let none : one_if (m.sender == k) ≡ 0 = cond-false (m.sender == k) _ _ (ne_eqb m.sender k other) in
       rw get_or-set_other (omega (arith, was, more, none)))
+]
+
+-- counts that are at most the number shown, after one more message of p
+pub counts_low_more : (counts : List ℕ) (p v n shown : ℕ) → p < length counts → v ≡ get_or counts p 0
+    → ((k : ℕ) → k < n → get_or counts k 0 ≤ shown)
+    → (k : ℕ) → k < n → get_or (set counts p (v + 1)) k 0 ≤ shown + 1
+counts_low_more counts p v n shown within is low k l = elim (cases_eq p k) [
+  | inl same ↦ rw (← same, get_or-set_same) (omega (arith, is, subst (λ i. get_or counts i 0 ≤ shown) (sym same) (low k l)))
+  | inr other ↦ (let ne : k ≢ p = λ e. other (sym e) in rw get_or-set_other (omega (arith, low k l)))
 ]

@@ -34,3 +34,16 @@ HasRows-set rows n p a f row le has bits k l =
 -- a vector whose members are all overwritten
 pub take-refilled : {X : Type 0} (n : ℕ) (ws items : List X) → length ws ≡ n → take n (ws ++ drop (length ws) items) ≡ ws
 take-refilled n ws items e = rw (← e) (take-append-le (length ws) ws (drop (length ws) items) (omega arith) ∙ take-length ws)
+
+-- whether the mailbox is closed or ruined is no part of the invariant
+pub IsSound-ended : (judge : Kept) (closed ruined : Bool) → IsSound judge → IsSound (record judge { closed = closed; ruined = ruined })
+IsSound-ended judge closed ruined sound = record {
+  few = sound.few;
+  small = sound.small;
+  phases = sound.phases;
+  ahead = sound.ahead;
+  counts = sound.counts;
+  counts_low = sound.counts_low;
+  shown_low = sound.shown_low;
+  room = sound.room;
+}

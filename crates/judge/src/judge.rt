@@ -6,7 +6,7 @@ ghost use Rattle.rmecore.specs.Needs.{put, least, none_below, first_fault as fau
 ghost use Rattle.redomail.specs.Mailbox.{is_by, is_pending as is_pending_in, doer as doer_of};
 ghost use Rattle.judge.specs.Table.{State, empty, lock_needs, mail_needs, needs, after, judged};
 ghost use Rattle.judge.specs.Legal.{judged_all};
-ghost use Rattle.judge.specs.Kept.{HasRoom};
+ghost use Rattle.judge.specs.Kept.{HasRoom, Lists};
 ghost use Rattle.judge.specs.Stands.{Keeps, StandsAfter};
 ghost use Rattle.judge.specs.Starts.{state_of, IsStart, IsWithin, LockHolds, MailHolds};
 
@@ -15,7 +15,7 @@ use crate::start::Start;
 use crate::{place, rows, shape};
 use redomail::{Deed, Message};
 use rmecore::{Body, Fault, Outer, Phase, Refusal};
-use std::alloc::Global;
+use std::alloc::{AllocError, Global};
 use std::marker::Model;
 
 /// The judge of one list of deeds. Its state is that after the deeds it has accepted. Of the messages shown it keeps the
@@ -57,6 +57,13 @@ fn first_fault(needs: &[(bool, Fault)]) -> Option<Fault>
     None
 }
 
+/// The fault, unless the one need is met.
+fn fault_unless(met: bool, fault: Fault) -> Option<Fault>
+    ensures { result ≡ fault_of ((met, fault) ∷ []) }
+{
+    if met { None } else { Some(fault) }
+}
+
 /// Whether the pending message is exactly this one.
 fn is_pending(pending: Option<Message>, p: u64, seq: u64, v: Body) -> bool
     ensures { result ≡ is_pending_in pending p seq v }
@@ -67,23 +74,48 @@ fn is_pending(pending: Option<Message>, p: u64, seq: u64, v: Body) -> bool
     }
 }
 
+/// The process that does the deed of the lock.
+fn outer_doer(deed: Outer) -> u64
+    ensures { result ≡ lock_doer deed }
+{
+    match deed {
+        Outer::Begin(p) => p,
+        Outer::Ready(p) => p,
+        Outer::Enter(p) => p,
+        Outer::Crash(p) => p,
+        Outer::Reenter(p) => p,
+        Outer::Leave(p) => p,
+        Outer::Quit(p) => p,
+    }
+}
+
 /// The process that does the deed.
 fn doer(deed: &Deed) -> u64
     ensures { result ≡ doer_of deed.now }
 {
     match *deed {
-        Deed::Outer(Outer::Begin(p)) => p,
-        Deed::Outer(Outer::Ready(p)) => p,
-        Deed::Outer(Outer::Enter(p)) => p,
-        Deed::Outer(Outer::Crash(p)) => p,
-        Deed::Outer(Outer::Reenter(p)) => p,
-        Deed::Outer(Outer::Leave(p)) => p,
-        Deed::Outer(Outer::Quit(p)) => p,
+        Deed::Outer(outer) => outer_doer(outer),
         Deed::Commit { p, .. } => p,
         Deed::Show { p, .. } => p,
         Deed::Close { p } => p,
         Deed::Ruin { p } => p,
     }
+}
+
+/// Refuses sizes outside the limits.
+fn check_sizes(procs: u64, cap: u64) -> Result<(), Refusal>
+    ensures within { OnOk result (IsWithin procs cap) }
+    ensures procs { IsErrOf result Refusal.BadProcs ↔ ((procs ≡ 0) ⊎ (64 < procs)) }
+    ensures cap { IsErrOf result Refusal.BadCap ↔ ((0 < procs) × (procs ≤ 64) × ((cap ≡ 0) ⊎ (65536 < cap))) }
+    ensures only { IfErr result (λ r. (r ≡ Refusal.BadProcs) ⊎ (r ≡ Refusal.BadCap)) }
+{
+    if procs == 0 || procs > 64 {
+        return Err(Refusal::BadProcs);
+    }
+    if cap == 0 || cap > 65536 {
+        return Err(Refusal::BadCap);
+    }
+    Ok(())
 }
 
 impl Judge {
@@ -96,12 +128,15 @@ impl Judge {
         ensures cap { IsErrOf result Refusal.BadCap ↔ ((0 < procs) × (procs ≤ 64) × ((cap ≡ 0) ⊎ (65536 < cap))) }
         ensures only { IfErr result (λ r. (r ≡ Refusal.BadProcs) ⊎ (r ≡ Refusal.BadCap) ⊎ (r ≡ Refusal.OutOfMemory)) }
     {
-        if procs == 0 || procs > 64 {
-            return Err(Refusal::BadProcs);
-        }
-        if cap == 0 || cap > 65536 {
-            return Err(Refusal::BadCap);
-        }
+        check_sizes(procs, cap)?;
+        Ok(Judge::with_nothing_shown(alloc, procs, cap)?)
+    }
+
+    /// A judge of a new lock of these sizes.
+    fn with_nothing_shown(alloc: Global, procs: u64, cap: u64) -> Result<Judge, AllocError>
+        requires { IsWithin procs cap }
+        ensures { IfOk result (λ judge. StandsAfter (empty procs cap) [] judge) }
+    {
         let n = procs as usize;
         let phases = vec![in alloc; Phase::Out; n]?;
         let ahead = vec![in alloc; 0; n]?;
@@ -134,15 +169,20 @@ impl Judge {
         ensures only { IfErr result (λ r. (r ≡ Refusal.BadProcs) ⊎ (r ≡ Refusal.BadCap) ⊎ (r ≡ Refusal.BadShape)
             ⊎ (r ≡ Refusal.OutOfMemory)) }
     {
-        if start.procs == 0 || start.procs > 64 {
-            return Err(Refusal::BadProcs);
-        }
-        if start.cap == 0 || start.cap > 65536 {
-            return Err(Refusal::BadCap);
-        }
+        check_sizes(start.procs, start.cap)?;
         let Some(counts) = shape::counts(start) else {
             return Err(Refusal::BadShape);
         };
+        Judge::with_counts(alloc, start, &counts)
+    }
+
+    /// A judge of a history that continues from a start with these counts.
+    fn with_counts(alloc: Global, start: &Start, counts: &[u64; 64]) -> Result<Judge, Refusal>
+        requires start { IsStart start.now }
+        requires counts { Lists counts.now 64 (λ p. count_by (is_by p) start.now.shown) }
+        ensures made { IfOk result (λ judge. StandsAfter (state_of start.now) [] judge) }
+        ensures only { IfErr result (λ r. r ≡ Refusal.OutOfMemory) }
+    {
         let phases = Vec::from_slice(alloc, start.phases.as_slice())?;
         let ahead = rows::rows_of(alloc, start.ahead.as_slice())?;
         let counts = Vec::from_slice(alloc, &counts[..start.procs as usize])?;
@@ -207,6 +247,20 @@ impl Judge {
 }
 
 impl Judge {
+    /// The fault of an Enter, if any.
+    fn enter_fault(&self, p: u64) -> Option<Fault>
+        requires { p < self.now.procs }
+        ensures { (s : State) → Keeps self.now s → result ≡ fault_of (lock_needs s (Deed.Outer (Outer.Enter p))) }
+    {
+        let of = self.least_ahead(p);
+        first_fault(&[
+            (place::is_ready(self.phase(p)), Fault::OutOfPlace),
+            (self.none_inside(), Fault::TwoInside),
+            (self.none_dead_in(), Fault::NotReentered),
+            (of == self.procs, Fault::Overtaken { by: p, of }),
+        ])
+    }
+
     /// The fault of a deed of the lock, if any.
     fn lock_fault(&self, p: u64, deed: Outer) -> Option<Fault>
         requires below { p < self.now.procs }
@@ -216,27 +270,19 @@ impl Judge {
     {
         let phase = self.phase(p);
         match deed {
-            Outer::Begin(_) => first_fault(&[(place::is_out(phase), Fault::OutOfPlace)]),
-            Outer::Ready(_) => first_fault(&[(place::is_door(phase), Fault::OutOfPlace)]),
-            Outer::Enter(_) => {
-                let of = self.least_ahead(p);
-                first_fault(&[
-                    (place::is_ready(phase), Fault::OutOfPlace),
-                    (self.none_inside(), Fault::TwoInside),
-                    (self.none_dead_in(), Fault::NotReentered),
-                    (of == self.procs, Fault::Overtaken { by: p, of }),
-                ])
-            }
+            Outer::Begin(_) => fault_unless(place::is_out(phase), Fault::OutOfPlace),
+            Outer::Ready(_) => fault_unless(place::is_door(phase), Fault::OutOfPlace),
+            Outer::Enter(_) => self.enter_fault(p),
             Outer::Crash(_) => None,
-            Outer::Reenter(_) => first_fault(&[(place::is_dead_in(phase), Fault::OutOfPlace)]),
+            Outer::Reenter(_) => fault_unless(place::is_dead_in(phase), Fault::OutOfPlace),
             Outer::Leave(_) => first_fault(&[
                 (place::is_inside(phase), Fault::OutOfPlace),
                 (self.pending.is_none() || self.ruined, Fault::MailOrder),
             ]),
-            Outer::Quit(_) => first_fault(&[(
+            Outer::Quit(_) => fault_unless(
                 place::is_door(phase) || place::is_ready(phase),
                 Fault::OutOfPlace,
-            )]),
+            ),
         }
     }
 
@@ -324,22 +370,32 @@ impl Judge {
         self.pending = None;
     }
 
+    /// Applies a deed of the lock.
+    fn take_outer(&mut self, deed: Outer)
+        requires { lock_doer deed < self.old.procs }
+        ensures { (s : State) → Keeps self.old s → Keeps self.new (after s (Deed.Outer deed)) }
+    {
+        match deed {
+            Outer::Begin(p) => self.begin(p),
+            Outer::Ready(p) => self.move_to(p, Phase::Ready),
+            Outer::Enter(p) => self.pass(p, Phase::Inside),
+            Outer::Crash(p) => {
+                let phase = self.phase(p);
+                self.move_to(p, place::crashed(phase));
+            }
+            Outer::Reenter(p) => self.move_to(p, Phase::Inside),
+            Outer::Leave(p) => self.move_to(p, Phase::Out),
+            Outer::Quit(p) => self.pass(p, Phase::Out),
+        }
+    }
+
     /// Applies a deed.
     fn take(&mut self, deed: &Deed)
         requires { HasRoom self.old deed.now }
         ensures { (s : State) → Keeps self.old s → Keeps self.new (after s deed.now) }
     {
         match *deed {
-            Deed::Outer(Outer::Begin(p)) => self.begin(p),
-            Deed::Outer(Outer::Ready(p)) => self.move_to(p, Phase::Ready),
-            Deed::Outer(Outer::Enter(p)) => self.pass(p, Phase::Inside),
-            Deed::Outer(Outer::Crash(p)) => {
-                let phase = self.phase(p);
-                self.move_to(p, place::crashed(phase));
-            }
-            Deed::Outer(Outer::Reenter(p)) => self.move_to(p, Phase::Inside),
-            Deed::Outer(Outer::Leave(p)) => self.move_to(p, Phase::Out),
-            Deed::Outer(Outer::Quit(p)) => self.pass(p, Phase::Out),
+            Deed::Outer(outer) => self.take_outer(outer),
             Deed::Commit { p, seq, v } => {
                 self.pending = Some(Message {
                     sender: p,

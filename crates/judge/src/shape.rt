@@ -93,11 +93,10 @@ fn lock_holds(start: &Start) -> bool
 {
     let phases = start.phases.as_slice();
     let sets = start.ahead.as_slice();
-    phases.len() as u64 == start.procs
-        && sets.len() as u64 == start.procs
-        && !place::anyone_inside(phases)
-        && dead_in(phases) <= 1
-        && all_sets_ready(phases, sets)
+    if phases.len() as u64 != start.procs || sets.len() as u64 != start.procs {
+        return false;
+    }
+    !place::anyone_inside(phases) && dead_in(phases) <= 1 && all_sets_ready(phases, sets)
 }
 
 /// Whether the start's pending message is possible.

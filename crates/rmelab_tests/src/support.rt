@@ -6,6 +6,6 @@ pub mod alone;
 pub mod devices;
 pub mod fake;
 pub mod invocation;
+pub mod refused_memory;
 pub mod row;
-pub mod wanting;
 pub mod watching;

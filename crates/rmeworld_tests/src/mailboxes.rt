@@ -2,7 +2,7 @@
 //! of the content and words that break one, and each allocation failing in turn.
 
 use super::memory::{Memory, are_messages};
-use super::phrase::{Phrase, no_line};
+use super::phrase::{Phrase, Table, all_hold, cut, no_line};
 use linked_list_allocator::LocalHeap;
 use redomail::{Job, Layout, Next, Reply, Task, content};
 use rmecore::{Body, Refusal};
@@ -95,26 +95,38 @@ fn refusal_of(sizes: &str, task: &str) -> u64 {
     }
 }
 
+/// Rows of a mailbox's sizes, a task, and the number of its refusal; 0 where it is not refused.
+#[derive(Drop)]
+struct OnTasks;
+
+impl Table for OnTasks {
+    fn holds(&self, _: Global, row: &str) -> bool {
+        let mut rest = row;
+        let sizes = cut(&mut rest, ": ");
+        let task = cut(&mut rest, ": ");
+        rest.parse::<u64>() == Ok(refusal_of(sizes, task))
+    }
+}
+
 /// Each cause of a refusal, and their order.
+const REFUSALS: &str = "\
+sizes 0 0 0: get 9 4: 1
+sizes 65 1 1: close 0: 1
+sizes 1 0 0: get 9 4: 8
+sizes 1 65537 0: get 9 4: 8
+sizes 1 1 0: get 1 4: 3
+sizes 1 1 0: put 0 4 1: 13
+sizes 1 1 0: get 0 3: 15
+sizes 1 1 9: repair 0: 15
+sizes 64 65536 1: append 63 1 1 2: 15
+sizes 64 65536 3: append 63 1 1 2: 15
+sizes 64 65536 2: append 63 1 1 2: 0
+sizes 1 1 8: put 0 3 5: 0
+";
+
 #[test]
 fn refusals_in_order(rt: HostRuntime) {
-    let rows = [
-        ("sizes 0 0 0", "get 9 4", 1),
-        ("sizes 65 1 1", "close 0", 1),
-        ("sizes 1 0 0", "get 9 4", 8),
-        ("sizes 1 65537 0", "get 9 4", 8),
-        ("sizes 1 1 0", "get 1 4", 3),
-        ("sizes 1 1 0", "put 0 4 1", 13),
-        ("sizes 1 1 0", "get 0 3", 15),
-        ("sizes 1 1 9", "repair 0", 15),
-        ("sizes 64 65536 1", "append 63 1 1 2", 15),
-        ("sizes 64 65536 3", "append 63 1 1 2", 15),
-        ("sizes 64 65536 2", "append 63 1 1 2", 0),
-        ("sizes 1 1 8", "put 0 3 5", 0),
-    ];
-    for (sizes, task, number) in rows {
-        assert!(rt; refusal_of(sizes, task) == number, "{task} in {sizes}");
-    }
+    all_hold(&rt, rt.alloc(), &OnTasks, REFUSALS);
 }
 
 /// Whether this access comes after the first word that a task reads.

@@ -38,7 +38,7 @@ pub fn no_line(rt: &impl Abort, wrong: Option<u64>) {
 }
 
 /// Fails the test at the text that fails.
-pub fn no_text(rt: &impl Abort, wrong: Option<&str>) {
+fn no_text(rt: &impl Abort, wrong: Option<&str>) {
     if let Some(text) = wrong {
         panic!(rt; "{text}")
     }

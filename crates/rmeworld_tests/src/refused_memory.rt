@@ -1,7 +1,7 @@
 //! Each request for memory of worlds and of images is refused in turn: all memory is taken but for a reserve, which is given
 //! back piece by piece until a call meets no refusal. What it then gives is compared whole with what ample memory gives.
 
-use super::phrase::Phrase;
+use super::phrase::{Phrase, cut};
 use super::played::{first_wrong, world_of};
 use super::torn::is_same;
 use memory_limit::{PIECES, ScarceMemory};
@@ -173,34 +173,18 @@ fn taken_at_last(scarce_memory: &mut ScarceMemory, world: &mut World) -> Option<
     None
 }
 
-/// What comes next, and the deed with which it comes, each of another kind. The history is full before it.
-const DEEDS: [(&str, &str); 10] = [
-    ("lock 0; step 0 3", "begin 0"),
-    ("crash 1; crash 1; crash 1; lock 0; step 0 5", "ready 0"),
-    ("crash 1; crash 1; lock 0; step 0 9", "enter 0"),
-    (
-        "lock 0; step 0 11 clean; crash 0; lock 0; step 0 2",
-        "reenter 0",
-    ),
-    ("crash 1; lock 0; step 0 11 clean; unlock 0", "leave 0"),
-    ("crash 1; crash 1; lock 0; step 0 7; withdraw 0", "quit 0"),
-    (
-        "crash 1; lock 0; step 0 11 clean; append 0 1 77; step 0 6",
-        "commit 0 1 77",
-    ),
-    (
-        "lock 0; step 0 11 clean; append 0 1 77; step 0 11",
-        "show 0 0 1 77",
-    ),
-    (
-        "crash 1; lock 0; step 0 11 clean; close 0; step 0 1",
-        "close 0",
-    ),
-    (
-        "crash 1; crash 1; crash 1; lock 0; step 0 11 clean; crash 0; lock 0; step 0 4 owner-died; unlock 0",
-        "ruin 0",
-    ),
-];
+/// Rows of a deed and what comes before it, each of another kind. The history is full before the step with the deed.
+const DEEDS: &str = "\
+begin 0: lock 0; step 0 3
+ready 0: crash 1; crash 1; crash 1; lock 0; step 0 5
+enter 0: crash 1; crash 1; lock 0; step 0 9
+reenter 0: lock 0; step 0 11 clean; crash 0; lock 0; step 0 2
+leave 0: crash 1; lock 0; step 0 11 clean; unlock 0
+quit 0: crash 1; crash 1; lock 0; step 0 7; withdraw 0
+commit 0 1 77: crash 1; lock 0; step 0 11 clean; append 0 1 77; step 0 6
+show 0 0 1 77: lock 0; step 0 11 clean; append 0 1 77; step 0 11
+close 0: crash 1; lock 0; step 0 11 clean; close 0; step 0 1
+ruin 0: crash 1; crash 1; crash 1; lock 0; step 0 11 clean; crash 0; lock 0; step 0 4 owner-died; unlock 0";
 
 /// Whether the next steps of two worlds are the same.
 fn go_on_alike(world: &mut World, ample: &mut World) -> bool {
@@ -237,7 +221,9 @@ fn is_taken(
 #[test]
 fn a_step_with_each_kind_of_deed(rt: HostRuntime) {
     let alloc = rt.alloc();
-    for (script, deed) in DEEDS {
+    for row in DEEDS.split('\n') {
+        let mut script = row;
+        let deed = cut(&mut script, ": ");
         let mut ample = played(&rt, alloc, script);
         let mut world = played(&rt, alloc, script);
         let scarce_memory = scarce(&rt, alloc);

@@ -83,7 +83,7 @@ pub fn replays(alloc: Global, text: &[u8], report: &[u8]) -> bool {
 }
 
 /// Takes the text before the separator off the front. Without a separator it takes all.
-fn cut<'a>(text: &mut &'a str, separator: &str) -> &'a str {
+pub fn cut<'a>(text: &mut &'a str, separator: &str) -> &'a str {
     let (part, rest) = text.split_once(separator).unwrap_or((text, ""));
     *text = rest;
     part

@@ -1,5 +1,6 @@
 //! Texts that are faulty, and texts that are written as they were read.
 
+use crate::texts::kit::cut;
 use redomail::{Deed, Reply};
 use rmecore::Found;
 use rmeworld::Answer;
@@ -17,41 +18,101 @@ fn is_faulty(alloc: Global, text: &[u8], line: u64, number: u64) -> bool {
     }
 }
 
+/// Texts with a fault, with `==` between them. The line and the number of the fault stand before each.
+const HOSTILE_TEXTS: &str = "\
+1 1
+==
+2 5
+rme 1 procs 2 limit 10 cap 1
+lock 0==
+2 2
+rme 1 procs 2 limit 10 cap 1
+lok 0
+==
+2 3
+rme 1 procs 2 limit 10 cap 1
+lock 01
+==
+2 3
+rme 1 procs 2 limit 10 cap 1
+lock
+==
+2 3
+rme 1 procs 2 limit 10 cap 1
+step 0 1
+==
+2 4
+rme 1 procs 2 limit 10 cap 1
+append 0 1 18446744073709551616
+==
+2 4
+rme 1 procs 2 limit 10 cap 1
+step 0 1000001
+==
+2 6
+rme 1 procs 2 limit 10 cap 1
+lock 0 0
+==
+2 6
+rme 1 procs 2 limit 10 cap 1
+lock 0\x20
+==
+2 3
+rme 1 procs 2 limit 10 cap 1
+step 0\x20
+==
+1 6
+rme 1 procs 2 limit 10 cap 1 width 2
+==
+1 1
+rme 2 procs 2 limit 10 cap 1
+==
+1 3
+rme 2 procs 2 limit 10 cap 1 width 1
+==
+1 4
+rme 2 procs 2 limit 10 cap 1 width 9
+==
+1 1
+rme 3 procs 2 limit 10 cap 1
+==
+1 1
+rme 1 procs x limit 10 cop 1
+==
+1 3
+rme 1 procs 2 limit 10 cap
+==
+1 5
+rme 1 procs 2 limit 10 cap 1==
+2 2
+rme 1 procs 2 limit 10 cap 1
+
+==
+2 3
+rme 1 procs 2 limit 10 cap 1
+lock  0
+==
+2 3
+rme 1 procs 2 limit 10 cap 1
+lock 0\r
+";
+
+/// Whether the text after the first line of this row has the fault of that line.
+fn is_hostile(alloc: Global, row: &str) -> bool {
+    let mut text = row;
+    let mut fault = cut(&mut text, "\n");
+    let line = cut(&mut fault, " ").parse::<u64>();
+    let number = fault.parse::<u64>();
+    match (line, number) {
+        (Ok(line), Ok(number)) => is_faulty(alloc, text.as_bytes(), line, number),
+        _ => false,
+    }
+}
+
 #[test]
 fn hostile_texts(rt: HostRuntime) {
-    let cases: [(&str, u64, u64); 22] = [
-        ("", 1, 1),
-        ("rme 1 procs 2 limit 10 cap 1\nlock 0", 2, 5),
-        ("rme 1 procs 2 limit 10 cap 1\nlok 0\n", 2, 2),
-        ("rme 1 procs 2 limit 10 cap 1\nlock 01\n", 2, 3),
-        ("rme 1 procs 2 limit 10 cap 1\nlock\n", 2, 3),
-        ("rme 1 procs 2 limit 10 cap 1\nstep 0 1\n", 2, 3),
-        (
-            "rme 1 procs 2 limit 10 cap 1\nappend 0 1 18446744073709551616\n",
-            2,
-            4,
-        ),
-        ("rme 1 procs 2 limit 10 cap 1\nstep 0 1000001\n", 2, 4),
-        ("rme 1 procs 2 limit 10 cap 1\nlock 0 0\n", 2, 6),
-        ("rme 1 procs 2 limit 10 cap 1\nlock 0 \n", 2, 6),
-        ("rme 1 procs 2 limit 10 cap 1\nstep 0 \n", 2, 3),
-        ("rme 1 procs 2 limit 10 cap 1 width 2\n", 1, 6),
-        ("rme 2 procs 2 limit 10 cap 1\n", 1, 1),
-        ("rme 2 procs 2 limit 10 cap 1 width 1\n", 1, 3),
-        ("rme 2 procs 2 limit 10 cap 1 width 9\n", 1, 4),
-        ("rme 3 procs 2 limit 10 cap 1\n", 1, 1),
-        ("rme 1 procs x limit 10 cop 1\n", 1, 1),
-        ("rme 1 procs 2 limit 10 cap\n", 1, 3),
-        ("rme 1 procs 2 limit 10 cap 1", 1, 5),
-        ("rme 1 procs 2 limit 10 cap 1\n\n", 2, 2),
-        ("rme 1 procs 2 limit 10 cap 1\nlock  0\n", 2, 3),
-        ("rme 1 procs 2 limit 10 cap 1\nlock 0\r\n", 2, 3),
-    ];
-    for (text, line, number) in cases {
-        assert!(rt;
-            is_faulty(rt.alloc(), text.as_bytes(), line, number),
-            "{text}"
-        );
+    for row in HOSTILE_TEXTS.split("==\n") {
+        assert!(rt; is_hostile(rt.alloc(), row), "{row}");
     }
 }
 

@@ -45,7 +45,7 @@ Exit status: 0 where the verdict is fine, 1 where it is against, 2 after a fault
 Example: rmelab judge examples/overtaken.trace
 ";
 
-const HELPS: &str = "
+const HELPS_AND_WRONG_WORDS: &str = "
 @row rmelab --help @out HELP
 @row rmelab replay --help @out
 Runs a schedule of steps and crashes, and prints its report
@@ -212,14 +212,6 @@ Exit status: 0 where the words are a name, 2 where they are none, 3 after a faul
 Example: rmelab explain fault 5
 @row rmelab help @out HELP
 @row rmelab help judge @out JUDGE
-";
-
-#[test]
-fn helps(rt: HostRuntime) -> Result<(), Fail> {
-    all_come_to(&rt, rt.alloc(), &[TEXTS], HELPS)
-}
-
-const WRONG_WORDS: &str = "
 @row rmelab run --procs 1 --messages 1 --crash 0 @ends 2 @err
 error: the following required arguments were not provided:
   --seed <S>
@@ -254,6 +246,6 @@ For more information, try '--help'.
 ";
 
 #[test]
-fn wrong_words(rt: HostRuntime) -> Result<(), Fail> {
-    all_come_to(&rt, rt.alloc(), &[], WRONG_WORDS)
+fn helps_and_wrong_words(rt: HostRuntime) -> Result<(), Fail> {
+    all_come_to(&rt, rt.alloc(), &[TEXTS], HELPS_AND_WRONG_WORDS)
 }

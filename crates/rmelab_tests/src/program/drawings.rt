@@ -107,7 +107,8 @@ fn pages(rt: HostRuntime) -> Result<(), Fail> {
     all_come_to(&rt, rt.alloc(), &[TEXTS, page.as_str()], PAGES)
 }
 
-const DRAWINGS: &str = "
+/// A drawing up to the line that is refused is whole. If the text isn't a schedule, nothing is drawn.
+const DRAWINGS: &str = r#"
 @row rmelab draw @in SMALLEST @out DRAWN
 @row rmelab draw s.rme @in OTHER @file s.rme SMALLEST @out DRAWN
 @row rmelab draw --svg @in SMALLEST @out PICTURE
@@ -150,14 +151,6 @@ step 0 6
 # r ruined 0              #                         | answer 0 clean
 verdict against 2 at 6
 . rest  : doorway  | waiting  # section  x crash
-";
-
-#[test]
-fn drawings(rt: HostRuntime) -> Result<(), Fail> {
-    all_come_to(&rt, rt.alloc(), &[TEXTS], DRAWINGS)
-}
-
-const DRAWINGS_THAT_GO_ON_FROM_AN_IMAGE: &str = r#"
 @row rmelab draw --image a.json @in AGAIN @file a.json IMAGE @out AGAIN_DRAWN
 @row rmelab draw --image a.json s.rme @in OTHER @file a.json IMAGE @file s.rme AGAIN @out AGAIN_DRAWN
 @row rmelab draw --image a.json @in AGAIN @ends 2 @file a.json
@@ -169,14 +162,6 @@ rmelab: line 1: refused 9
 rmelab: image: rule 1
 @row rmelab draw --variant no-look --image a.json @in AGAIN @file a.json IMAGE @ends 2 @err BAD_VARIANT
 @row rmelab draw --image a.json @in AGAIN @ends 3 @err UNREAD
-"#;
-
-#[test]
-fn drawings_that_go_on_from_an_image(rt: HostRuntime) -> Result<(), Fail> {
-    all_come_to(&rt, rt.alloc(), &[TEXTS], DRAWINGS_THAT_GO_ON_FROM_AN_IMAGE)
-}
-
-const DRAWINGS_REFUSED: &str = "
 @row rmelab draw @ends 2 @in
 rme 1 procs 1 limit 10 cap 1
 lock 0
@@ -206,24 +191,15 @@ lock 01
 @err
 rmelab: line 2: fault 3
 @row rmelab draw --variant wrong @in SMALLEST @ends 2 @err BAD_VARIANT
-";
-
-/// A drawing up to the line that is refused is whole. If the text isn't a schedule, nothing is drawn.
-#[test]
-fn drawings_refused(rt: HostRuntime) -> Result<(), Fail> {
-    all_come_to(&rt, rt.alloc(), &[TEXTS], DRAWINGS_REFUSED)
-}
-
-const DRAWINGS_OVER_DEVICES_THAT_FAIL: &str = "
 @row rmelab draw @in SMALLEST @fails read @ends 3 @err UNREAD
 @row rmelab draw s.rme @in SMALLEST @file s.rme SMALLEST @fails file-read @ends 3 @err UNREAD
 @row rmelab draw --svg @in SMALLEST @fails write @ends 3 @err UNWRITTEN
 @row rmelab draw @in SMALLEST @fails flush @out DRAWN @ends 3 @err UNWRITTEN
 @row rmelab draw s.rme @in SMALLEST @fails file-memory @ends 3 @err
 rmelab: out of memory
-";
+"#;
 
 #[test]
-fn drawings_over_devices_that_fail(rt: HostRuntime) -> Result<(), Fail> {
-    all_come_to(&rt, rt.alloc(), &[TEXTS], DRAWINGS_OVER_DEVICES_THAT_FAIL)
+fn drawings(rt: HostRuntime) -> Result<(), Fail> {
+    all_come_to(&rt, rt.alloc(), &[TEXTS], DRAWINGS)
 }

@@ -144,14 +144,6 @@ See docs/use/algorithms.md, Meaning.
 @row rmelab explain algorithm fault 7 @out
 algorithm fault 7: A shared word stands within a value, a condition or an index, or is stored into another. One line is one access: read the word into a private name in a line of its own.
 See docs/use/algorithms.md, Faults of a text.
-";
-
-#[test]
-fn explanations(rt: HostRuntime) -> Result<(), Fail> {
-    all_come_to(&rt, rt.alloc(), &[TEXTS], EXPLANATIONS)
-}
-
-const WORDS_THAT_ARE_NO_NAME: &str = "
 @row rmelab explain fault 7 @ends 2 @err NO_NAME
 @row rmelab explain  @ends 2 @err
 error: '' names nothing that is explained
@@ -169,14 +161,6 @@ error: unexpected argument '--all' found
 Usage: rmelab explain [WORDS]...
 
 For more information, try '--help'.
-";
-
-#[test]
-fn words_that_are_no_name(rt: HostRuntime) -> Result<(), Fail> {
-    all_come_to(&rt, rt.alloc(), &[TEXTS], WORDS_THAT_ARE_NO_NAME)
-}
-
-const EXPLANATIONS_WHERE_DEVICES_FAIL: &str = "
 @row rmelab explain @fails write @ends 3 @err UNWRITTEN
 @row rmelab explain fault 5 @fails write @ends 3 @err UNWRITTEN
 @row rmelab explain fault 5 @fails flush @out NO_NEWLINE @ends 3 @err UNWRITTEN
@@ -184,6 +168,6 @@ const EXPLANATIONS_WHERE_DEVICES_FAIL: &str = "
 ";
 
 #[test]
-fn explanations_where_devices_fail(rt: HostRuntime) -> Result<(), Fail> {
-    all_come_to(&rt, rt.alloc(), &[TEXTS], EXPLANATIONS_WHERE_DEVICES_FAIL)
+fn explanations(rt: HostRuntime) -> Result<(), Fail> {
+    all_come_to(&rt, rt.alloc(), &[TEXTS], EXPLANATIONS)
 }

@@ -10,7 +10,8 @@ use std::env::FillError;
 use std::rt::Env;
 use std::test::Fail;
 
-const REPORTS: &str = "
+/// A bad variant is found before a bad size.
+const REPORTS_AND_REFUSALS: &str = "
 @row rmelab run --procs 1 --messages 1 --crash 0 --seed 1 @out
 sender 0 messages 1 twice 0 order yes
 total 1
@@ -20,28 +21,12 @@ nothing found
 rmelab 0.1.0
 @row rmelab -V @out
 rmelab 0.1.0
-";
-
-#[test]
-fn reports(rt: HostRuntime) -> Result<(), Fail> {
-    all_come_to(&rt, rt.alloc(), &[], REPORTS)
-}
-
-const WRITERS_THAT_FAIL: &str = "
 @row rmelab run --procs 1 --messages 1 --crash 0 --seed 1 @fails write @ends 3 @err
 rmelab: write failed
 @row rmelab hunt --variant right --seed 1 --rounds 1 --steps 1 @fails write @ends 3 @err
 rmelab: write failed
 @row rmelab --help @fails write @ends 3 @err
 rmelab: write failed
-";
-
-#[test]
-fn writers_that_fail(rt: HostRuntime) -> Result<(), Fail> {
-    all_come_to(&rt, rt.alloc(), &[], WRITERS_THAT_FAIL)
-}
-
-const ORDERS_THAT_ARE_REFUSED: &str = "
 @row rmelab hunt --variant wrong --seed 1 --rounds 0 --steps 1 @ends 2 @err
 rmelab: bad variant
 @row rmelab run --procs 0 --messages 1 --crash 0 --seed 1 @ends 2 @err
@@ -62,10 +47,9 @@ rmelab: bad size
 rmelab: bad size
 ";
 
-/// A bad variant is found before a bad size.
 #[test]
-fn orders_that_are_refused(rt: HostRuntime) -> Result<(), Fail> {
-    all_come_to(&rt, rt.alloc(), &[], ORDERS_THAT_ARE_REFUSED)
+fn reports_and_refusals(rt: HostRuntime) -> Result<(), Fail> {
+    all_come_to(&rt, rt.alloc(), &[], REPORTS_AND_REFUSALS)
 }
 
 const MEMBER_3_FAILED: &str = "rmelab: member 3 failed\n";

@@ -20,20 +20,12 @@ total 200
 
 const FOUR_SENDERS: &str = "
 @row rmelab run --procs 4 --messages 50 --crash 20 --seed 7 @out FOUR
+@row rmelab run --procs 4 --messages 50 --crash 20 --seed 7 --width 8 @out FOUR
 ";
 
 #[test]
 fn four_senders(rt: HostRuntime) -> Result<(), Fail> {
     all_come_to(&rt, rt.alloc(), &[TEXTS], FOUR_SENDERS)
-}
-
-const FOUR_SENDERS_OF_WIDE_MESSAGES: &str = "
-@row rmelab run --procs 4 --messages 50 --crash 20 --seed 7 --width 8 @out FOUR
-";
-
-#[test]
-fn four_senders_of_wide_messages(rt: HostRuntime) -> Result<(), Fail> {
-    all_come_to(&rt, rt.alloc(), &[TEXTS], FOUR_SENDERS_OF_WIDE_MESSAGES)
 }
 
 /// Whether each plan falls where the one with this seed does, or with the next one for each that follows.

@@ -13,7 +13,7 @@ rmelab: write failed
 rmelab: out of memory
 ";
 
-const DEVICES_THAT_FAIL: &str = "
+const DEVICES_AND_FILES_THAT_FAIL: &str = "
 @row rmelab replay @in SMALLEST @fails read @ends 3 @err UNREAD
 @row rmelab replay --json @in SMALLEST @fails read @ends 3 @err UNREAD
 @row rmelab replay --save a.json @in SMALLEST @fails read @ends 3 @err UNREAD
@@ -24,14 +24,6 @@ const DEVICES_THAT_FAIL: &str = "
 @row rmelab judge @in OVERTAKEN @fails flush @out AGAINST @ends 3 @err UNWRITTEN
 @row rmelab replay --save a.json @in SMALLEST @fails flush @out REPORT @ends 3 @err UNWRITTEN
 @row rmelab judge @fails err @ends 2
-";
-
-#[test]
-fn devices_that_fail(rt: HostRuntime) -> Result<(), Fail> {
-    all_come_to(&rt, rt.alloc(), &[reports::TEXTS, TEXTS], DEVICES_THAT_FAIL)
-}
-
-const FILES_THAT_FAIL: &str = "
 @row rmelab replay s.rme @in SMALLEST @file s.rme SMALLEST @fails file-read @ends 3 @err UNREAD
 @row rmelab replay --json s.rme @in SMALLEST @file s.rme SMALLEST @fails file-read @ends 3 @err UNREAD
 @row rmelab judge s.rme @in IN_ORDER @file s.rme OVERTAKEN @fails file-read @ends 3 @err UNREAD
@@ -45,6 +37,11 @@ const FILES_THAT_FAIL: &str = "
 ";
 
 #[test]
-fn files_that_fail(rt: HostRuntime) -> Result<(), Fail> {
-    all_come_to(&rt, rt.alloc(), &[reports::TEXTS, TEXTS], FILES_THAT_FAIL)
+fn devices_and_files_that_fail(rt: HostRuntime) -> Result<(), Fail> {
+    all_come_to(
+        &rt,
+        rt.alloc(),
+        &[reports::TEXTS, TEXTS],
+        DEVICES_AND_FILES_THAT_FAIL,
+    )
 }

@@ -18,7 +18,9 @@ rmelab: line 1: refused 9
 rmelab: image: rule 1
 "#;
 
-const IMAGES_SAVED: &str = r#"
+/// The header has to name the image's sizes. A greater width widens the image. A broken image is refused with its rule.
+/// A line that is refused leaves no part of an object.
+const IMAGES: &str = r#"
 @row rmelab replay --save a.json @in SMALLEST @out
 begin 0
 ready 0
@@ -63,15 +65,7 @@ crash 0
 words 0 0 1 1
 mail 0 closed 0 ruined 0
 verdict fine
-"#;
-
-#[test]
-fn images_saved(rt: HostRuntime) -> Result<(), Fail> {
-    all_come_to(&rt, rt.alloc(), &[TEXTS], IMAGES_SAVED)
-}
-
-const TORN_IMAGE: &str = "
-@row rmelab replay --image a.json @file a.json TORN_IMAGE @in
+@row rmelab replay --image a.json @name torn-image @file a.json TORN_IMAGE @in
 rme 1 procs 1 limit 10 cap 2
 lock 0
 step 0 4
@@ -86,15 +80,7 @@ words 0 0 1 1
 mail 1 closed 0 ruined 0
 message 0 0 1 77
 verdict fine
-";
-
-#[test]
-fn torn_image(rt: HostRuntime) -> Result<(), Fail> {
-    all_come_to(&rt, rt.alloc(), &[TEXTS], TORN_IMAGE)
-}
-
-const WIDE_TORN: &str = "
-@row rmelab replay --image a.json @file a.json WIDE_TORN_IMAGE @in
+@row rmelab replay --image a.json @name wide-torn @file a.json WIDE_TORN_IMAGE @in
 rme 2 procs 1 limit 10 cap 1 width 3
 lock 0
 step 0 4
@@ -109,14 +95,6 @@ words 0 0 1 1
 mail 1 closed 0 ruined 0
 message 0 0 1 7 8 9
 verdict fine
-";
-
-#[test]
-fn wide_torn(rt: HostRuntime) -> Result<(), Fail> {
-    all_come_to(&rt, rt.alloc(), &[TEXTS], WIDE_TORN)
-}
-
-const IMAGES_AND_HEADERS: &str = "
 @row rmelab replay --image a.json @file a.json TORN_IMAGE @ends 2 @err REFUSED_9 @in
 rme 1 procs 2 limit 10 cap 2
 @row rmelab replay --image a.json @file a.json TORN_IMAGE @ends 2 @err REFUSED_9 @in
@@ -144,15 +122,6 @@ verdict fine
 []@in SMALLEST
 @row rmelab replay --image a.json @err RULE_1 @file a.json
 []@ends 2
-";
-
-/// The header has to name the image's sizes. A greater width widens the image. A broken image is refused with its rule.
-#[test]
-fn images_and_headers(rt: HostRuntime) -> Result<(), Fail> {
-    all_come_to(&rt, rt.alloc(), &[TEXTS], IMAGES_AND_HEADERS)
-}
-
-const JSON_REPORTS: &str = "
 @row rmelab replay --json @ends 2 @in
 rme 1 procs 1 limit 10 cap 1
 lock 0
@@ -160,10 +129,9 @@ step 0 8
 consistent 0
 @err
 rmelab: line 4: refused 10
-";
+"#;
 
-/// A line that is refused leaves no part of an object.
 #[test]
-fn json_reports(rt: HostRuntime) -> Result<(), Fail> {
-    all_come_to(&rt, rt.alloc(), &[], JSON_REPORTS)
+fn images(rt: HostRuntime) -> Result<(), Fail> {
+    all_come_to(&rt, rt.alloc(), &[TEXTS], IMAGES)
 }

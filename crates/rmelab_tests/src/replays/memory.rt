@@ -1,10 +1,10 @@
 //! Each request for memory of replays, of a trace and of sessions is refused in turn.
 
 use crate::replays::{reports, sessions, stepwise};
-use crate::support::invocation::all_want_memory;
+use crate::support::invocation::all_meet_refusals;
 use std::test::Fail;
 
-const WANT_OF_MEMORY: &str = "
+const OUT_OF_MEMORY: &str = "
 @row rmelab replay @in SMALLEST @out REPORT
 @row rmelab replay --json --save a.json @in SMALLEST @out OBJECT
 @row rmelab replay --each @in SMALLEST @out TOLD
@@ -15,11 +15,11 @@ verdict fine
 ";
 
 #[test]
-fn want_of_memory(rt: HostRuntime) -> Result<(), Fail> {
-    all_want_memory(
+fn out_of_memory(rt: HostRuntime) -> Result<(), Fail> {
+    all_meet_refusals(
         &rt,
         rt.alloc(),
         &[reports::TEXTS, sessions::TEXTS, stepwise::TEXTS],
-        WANT_OF_MEMORY,
+        OUT_OF_MEMORY,
     )
 }

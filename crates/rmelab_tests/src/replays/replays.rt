@@ -3,8 +3,8 @@
 use crate::support::invocation::all_come_to;
 use std::test::Fail;
 
-const FIRST_STEPS: &str = "
-@row rmelab replay @in
+const REPLAYS: &str = "
+@row rmelab replay @name first-steps @in
 rme 1 procs 1 limit 1 cap 1
 lock 0
 step 0
@@ -29,15 +29,7 @@ rme 1 procs 1 limit 10 cap 65537
 lock 0
 @err
 rmelab: line 1: refused 8
-";
-
-#[test]
-fn first_steps(rt: HostRuntime) -> Result<(), Fail> {
-    all_come_to(&rt, rt.alloc(), &[], FIRST_STEPS)
-}
-
-const RUINED: &str = "
-@row rmelab replay @in
+@row rmelab replay @name ruined @in
 rme 1 procs 2 limit 10 cap 1
 lock 0
 step 0 11
@@ -75,15 +67,7 @@ words 0 0 0 0
 words 1 0 0 0
 mail 0 closed 0 ruined 1
 verdict fine
-";
-
-#[test]
-fn ruined(rt: HostRuntime) -> Result<(), Fail> {
-    all_come_to(&rt, rt.alloc(), &[], RUINED)
-}
-
-const REFUSALS: &str = "
-@row rmelab replay @ends 2 @in
+@row rmelab replay @name refusals @ends 2 @in
 rme 1 procs 1 limit 10 cap 1
 lock 0
 step 0 8
@@ -118,15 +102,7 @@ reenter 0
 answer 0 owner-died
 @err
 rmelab: line 7: refused 12
-";
-
-#[test]
-fn refusals(rt: HostRuntime) -> Result<(), Fail> {
-    all_come_to(&rt, rt.alloc(), &[], REFUSALS)
-}
-
-const WITHDRAW_REFUSED: &str = "
-@row rmelab replay @ends 2 @in
+@row rmelab replay @name withdraw-refused @ends 2 @in
 rme 1 procs 2 limit 10 cap 1
 withdraw 0
 @err
@@ -152,15 +128,7 @@ enter 0
 answer 0 clean
 @err
 rmelab: line 4: refused 14
-";
-
-#[test]
-fn withdraw_refused(rt: HostRuntime) -> Result<(), Fail> {
-    all_come_to(&rt, rt.alloc(), &[], WITHDRAW_REFUSED)
-}
-
-const TORN_AFTER_THE_COMMIT: &str = "
-@row rmelab replay @in
+@row rmelab replay @name torn-after-the-commit @in
 rme 1 procs 1 limit 10 cap 2
 lock 0
 step 0 8
@@ -189,15 +157,7 @@ words 0 0 1 1
 mail 1 closed 0 ruined 0
 message 0 0 1 77
 verdict fine
-";
-
-#[test]
-fn torn_after_the_commit(rt: HostRuntime) -> Result<(), Fail> {
-    all_come_to(&rt, rt.alloc(), &[], TORN_AFTER_THE_COMMIT)
-}
-
-const WIDE_TORN: &str = "
-@row rmelab replay @in
+@row rmelab replay @name wide-torn @in
 rme 2 procs 1 limit 10 cap 1 width 3
 lock 0
 step 0 8
@@ -240,15 +200,7 @@ words 0 0 1 1
 mail 1 closed 0 ruined 0
 message 0 0 1 7 8 9
 verdict fine
-";
-
-#[test]
-fn wide_torn(rt: HostRuntime) -> Result<(), Fail> {
-    all_come_to(&rt, rt.alloc(), &[], WIDE_TORN)
-}
-
-const HOSTILE_TEXT: &str = "
-@row rmelab replay @ends 2 @in
+@row rmelab replay @name hostile-text @ends 2 @in
 rme 1 procs 2 limit 10 cap 1
 lock 0
 step 0 11
@@ -263,6 +215,6 @@ rmelab: line 4: refused 13
 ";
 
 #[test]
-fn hostile_text(rt: HostRuntime) -> Result<(), Fail> {
-    all_come_to(&rt, rt.alloc(), &[], HOSTILE_TEXT)
+fn replays(rt: HostRuntime) -> Result<(), Fail> {
+    all_come_to(&rt, rt.alloc(), &[], REPLAYS)
 }

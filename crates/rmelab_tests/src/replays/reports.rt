@@ -105,7 +105,8 @@ rmelab: line 1: refused 9
 rmelab: bad variant
 "#;
 
-const REPORTS_AND_VERDICTS: &str = r#"
+/// The image that `--save` asks for is in the ending of the command, and none is after a fault.
+const REPORTS_AND_IMAGES: &str = r#"
 @row rmelab replay @in SMALLEST @out REPORT
 @row rmelab replay s.rme @in OTHER @file s.rme SMALLEST @out REPORT
 @row rmelab replay --json @in SMALLEST @out OBJECT
@@ -123,14 +124,6 @@ rmelab: line 2: fault 6
 @row rmelab judge t.trace @in IN_ORDER @file t.trace OVERTAKEN @out AGAINST @ends 1
 @row rmelab judge t.trace @in OVERTAKEN @file t.trace IN_ORDER @out
 verdict fine
-"#;
-
-#[test]
-fn reports_and_verdicts(rt: HostRuntime) -> Result<(), Fail> {
-    all_come_to(&rt, rt.alloc(), &[TEXTS], REPORTS_AND_VERDICTS)
-}
-
-const IMAGES_SAVED_AND_GONE_ON_FROM: &str = r#"
 @row rmelab replay --save a.json @in SMALLEST @out REPORT @saves a.json IMAGE
 @row rmelab replay --json --save a.json @in SMALLEST @out OBJECT @saves a.json IMAGE
 @row rmelab replay --image a.json --save b.json @in AGAIN @file a.json IMAGE @file b.json WIDEST @out AGAIN_REPORT @saves b.json IMAGE
@@ -170,14 +163,6 @@ words 0 0 3 0
 words 1 0 2 1
 mail 0 closed 0 ruined 0
 verdict fine
-"#;
-
-#[test]
-fn images_saved_and_gone_on_from(rt: HostRuntime) -> Result<(), Fail> {
-    all_come_to(&rt, rt.alloc(), &[TEXTS], IMAGES_SAVED_AND_GONE_ON_FROM)
-}
-
-const LINES_OF_FAULTS: &str = "
 @row rmelab replay @ends 2 @err
 rmelab: line 1: fault 1
 @row rmelab replay --save a.json @in ZERO_FIRST @ends 2 @err LINE_2_FAULT
@@ -194,22 +179,13 @@ rmelab: image: rule 1
 rmelab: line 2: fault 6
 @row rmelab replay --variant wrong @in SMALLEST @ends 2 @err BAD_VARIANT
 @row rmelab replay --variant no-look --image a.json @in SMALLEST @file a.json IMAGE @ends 2 @err BAD_VARIANT
-";
-
-#[test]
-fn lines_of_faults(rt: HostRuntime) -> Result<(), Fail> {
-    all_come_to(&rt, rt.alloc(), &[TEXTS], LINES_OF_FAULTS)
-}
-
-const SAVES_OF_A_COMMAND: &str = "
 @row rmelab replay --save b.json @in SMALLEST @out REPORT @saves b.json IMAGE
 @row rmelab replay --json --save b.json @in SMALLEST @out OBJECT @saves b.json IMAGE
 @row rmelab replay --save b.json @in MENDED_FIRST @out ENTERED @ends 2 @err LINE_4_REFUSED
 @row rmelab replay --save b.json @in ZERO_FIRST @ends 2 @err LINE_2_FAULT
-";
+"#;
 
-/// The image that `--save` asks for is in the ending of the command, and none is after a fault.
 #[test]
-fn saves_of_a_command(rt: HostRuntime) -> Result<(), Fail> {
-    all_come_to(&rt, rt.alloc(), &[TEXTS], SAVES_OF_A_COMMAND)
+fn reports_and_images(rt: HostRuntime) -> Result<(), Fail> {
+    all_come_to(&rt, rt.alloc(), &[TEXTS], REPORTS_AND_IMAGES)
 }

@@ -68,7 +68,9 @@ nothing to undo
 rmelab: write failed
 ";
 
-const A_SESSION_BEGINS: &str = "
+/// What is refused or can't be read changes nothing, and is answered with the number of the schedule's next line.
+/// In one session a process waits for another, is seen in the doorway, and comes back after a crash.
+const SESSIONS: &str = "
 @row rmelab step @in HEADED @out AT_REST
 @row rmelab step a.rme @out AT_REST @file a.rme
 rme 1 procs 2 limit 10 cap 1
@@ -90,23 +92,7 @@ lock 0
 @err
 rmelab: line 3: refused 4
 @row rmelab step b.rme @ends 3 @err UNREAD
-";
-
-#[test]
-fn a_session_begins(rt: HostRuntime) -> Result<(), Fail> {
-    all_come_to(&rt, rt.alloc(), &[TEXTS], A_SESSION_BEGINS)
-}
-
-const A_SESSION_GOES_BACK: &str = "
 @row rmelab step @in IN_AND_BACK @out IN_AND_BACK_TOLD
-";
-
-#[test]
-fn a_session_goes_back(rt: HostRuntime) -> Result<(), Fail> {
-    all_come_to(&rt, rt.alloc(), &[TEXTS], A_SESSION_GOES_BACK)
-}
-
-const LINES_ARE_REFUSED: &str = "
 @row rmelab step @in
 rme 1 procs 1 limit 10 cap 1
 lock 1
@@ -148,15 +134,6 @@ inside: nobody
 line 3: fault 6
 line 3: fault 6
 line 3: fault 5
-";
-
-/// What is refused or can't be read changes nothing, and is answered with the number of the schedule's next line.
-#[test]
-fn lines_are_refused(rt: HostRuntime) -> Result<(), Fail> {
-    all_come_to(&rt, rt.alloc(), &[], LINES_ARE_REFUSED)
-}
-
-const IT_SAYS_WHERE_EACH_STANDS: &str = "
 @row rmelab step @in
 rme 1 procs 3 limit 10 cap 1
 lock 0
@@ -241,12 +218,31 @@ process 0: 1,1,0 (row 1,k,0 number taken), waits
 process 1: 0,1,0 (row 0,k,0 waiting), crashed, rereads its words
 process 2: 0,0,0 (row 0,0,0 idle), outside
 inside: nobody
+@row rmelab step @in HEADED @fails read @out AT_REST @ends 3 @err UNREAD
+@row rmelab step @in HEADED @fails write @ends 3 @err UNWRITTEN
+@row rmelab step @in HEADED @fails flush @out AT_REST @ends 3 @err UNWRITTEN
+@row rmelab step a.rme @file a.rme HEADED @fails file-read @ends 3 @err UNREAD
+@row rmelab step @in
+rme 1 procs 2 limit 10 cap 1
+help
+quit
+lock 0
+@out
+process 0: 0,0,0 (row 0,0,0 idle), outside
+process 1: 0,0,0 (row 0,0,0 idle), outside
+inside: nobody
+a line of a schedule: lock P, step P K, crash P, unlock P, recover P, withdraw P
+                      of the built-in lock also: consistent P, append P SEQ VALUE, ..
+undo         go back to before the last line
+redo         take the line again that was undone last
+to answer P  take steps of P until its call is answered
+save FILE    write the schedule so far to a file, for replay
+help, quit
 ";
 
-/// One process waits for another, is seen in the doorway, and comes back after a crash.
 #[test]
-fn it_says_where_each_stands(rt: HostRuntime) -> Result<(), Fail> {
-    all_come_to(&rt, rt.alloc(), &[], IT_SAYS_WHERE_EACH_STANDS)
+fn sessions(rt: HostRuntime) -> Result<(), Fail> {
+    all_come_to(&rt, rt.alloc(), &[TEXTS], SESSIONS)
 }
 
 const A_SESSION_IS_SAVED: &str = "
@@ -290,40 +286,4 @@ lock 0
 #[test]
 fn a_session_is_saved(rt: HostRuntime) -> Result<(), Fail> {
     program_comes_to(&rt, rt.alloc(), &[TEXTS], A_SESSION_IS_SAVED)
-}
-
-const SESSIONS_OVER_DEVICES_THAT_FAIL: &str = "
-@row rmelab step @in HEADED @fails read @out AT_REST @ends 3 @err UNREAD
-@row rmelab step @in HEADED @fails write @ends 3 @err UNWRITTEN
-@row rmelab step @in HEADED @fails flush @out AT_REST @ends 3 @err UNWRITTEN
-@row rmelab step a.rme @file a.rme HEADED @fails file-read @ends 3 @err UNREAD
-";
-
-#[test]
-fn sessions_over_devices_that_fail(rt: HostRuntime) -> Result<(), Fail> {
-    all_come_to(&rt, rt.alloc(), &[TEXTS], SESSIONS_OVER_DEVICES_THAT_FAIL)
-}
-
-const A_SESSION_HELPS: &str = "
-@row rmelab step @in
-rme 1 procs 2 limit 10 cap 1
-help
-quit
-lock 0
-@out
-process 0: 0,0,0 (row 0,0,0 idle), outside
-process 1: 0,0,0 (row 0,0,0 idle), outside
-inside: nobody
-a line of a schedule: lock P, step P K, crash P, unlock P, recover P, withdraw P
-                      of the built-in lock also: consistent P, append P SEQ VALUE, ..
-undo         go back to before the last line
-redo         take the line again that was undone last
-to answer P  take steps of P until its call is answered
-save FILE    write the schedule so far to a file, for replay
-help, quit
-";
-
-#[test]
-fn a_session_helps(rt: HostRuntime) -> Result<(), Fail> {
-    all_come_to(&rt, rt.alloc(), &[], A_SESSION_HELPS)
 }

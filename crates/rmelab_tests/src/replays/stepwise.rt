@@ -56,7 +56,9 @@ rmelab: line 1: fault 1
 rmelab: write failed
 "#;
 
-const REPLAYS_STEP_BY_STEP: &str = "
+/// A process waits for one that has died, which then comes back. Under `no-look` the second process waits for nothing, and
+/// enters while the first is inside.
+const REPLAYS_STEP_BY_STEP: &str = r#"
 @row rmelab replay --each @in SMALLEST @out TOLD
 @row rmelab replay --each --json @in SMALLEST @out LINES
 @row rmelab replay --each --save a.json @in SMALLEST @out TOLD @saves a.json SAVED
@@ -175,16 +177,6 @@ enter 0
 at 0 section r ruined 0
 answer 0 clean
 @row rmelab replay --each @ends 2 @err LINE_1_FAULT
-";
-
-/// A process waits for one that has died, which then comes back. Under `no-look` the second process waits for nothing, and
-/// enters while the first is inside.
-#[test]
-fn replays_step_by_step(rt: HostRuntime) -> Result<(), Fail> {
-    all_come_to(&rt, rt.alloc(), &[TEXTS], REPLAYS_STEP_BY_STEP)
-}
-
-const REPLAYS_AS_LINES_OF_JSON: &str = r#"
 @row rmelab replay --json --each @in
 rme 1 procs 1 limit 10 cap 1
 lock 0
@@ -228,21 +220,13 @@ crash 0
 @row rmelab replay --each --json @ends 2 @err LINE_1_FAULT
 @row rmelab replay --each --json @in SMALLEST @fails write @ends 3 @err UNWRITTEN
 @row rmelab replay --each --json @in SMALLEST @fails flush @out LINES @ends 3 @err UNWRITTEN
-"#;
-
-#[test]
-fn replays_as_lines_of_json(rt: HostRuntime) -> Result<(), Fail> {
-    all_come_to(&rt, rt.alloc(), &[TEXTS], REPLAYS_AS_LINES_OF_JSON)
-}
-
-const STEPS_OVER_DEVICES_THAT_FAIL: &str = "
 @row rmelab replay --each @in SMALLEST @fails read @ends 3 @err
 rmelab: read failed
 @row rmelab replay --each @in SMALLEST @fails write @ends 3 @err UNWRITTEN
 @row rmelab replay --each @in SMALLEST @fails flush @out TOLD @ends 3 @err UNWRITTEN
-";
+"#;
 
 #[test]
-fn steps_over_devices_that_fail(rt: HostRuntime) -> Result<(), Fail> {
-    all_come_to(&rt, rt.alloc(), &[TEXTS], STEPS_OVER_DEVICES_THAT_FAIL)
+fn replays_step_by_step(rt: HostRuntime) -> Result<(), Fail> {
+    all_come_to(&rt, rt.alloc(), &[TEXTS], REPLAYS_STEP_BY_STEP)
 }

@@ -3,8 +3,8 @@
 use crate::support::invocation::all_come_to;
 use std::test::Fail;
 
-const BETWEEN_TWO_WORDS: &str = "
-@row rmelab replay --variant renumber @ends 1 @in
+const VARIANTS_AND_TRACES: &str = "
+@row rmelab replay --variant renumber @name between-two-words @ends 1 @in
 rme 1 procs 2 limit 10 cap 1
 lock 0
 step 0 6
@@ -26,15 +26,7 @@ words 0 0 3 0
 words 1 0 2 1
 mail 0 closed 0 ruined 0
 verdict against 4 at 6 by 1 of 0
-";
-
-#[test]
-fn between_two_words(rt: HostRuntime) -> Result<(), Fail> {
-    all_come_to(&rt, rt.alloc(), &[], BETWEEN_TWO_WORDS)
-}
-
-const WRONG_VARIANT: &str = "
-@row rmelab replay --variant no-look @ends 1 @in
+@row rmelab replay --variant no-look @name wrong-variant @ends 1 @in
 rme 1 procs 2 limit 10 cap 1
 lock 0
 lock 1
@@ -74,15 +66,7 @@ words 0 0 1 1
 words 1 0 1 0
 mail 0 closed 0 ruined 0
 verdict fine
-";
-
-#[test]
-fn wrong_variant(rt: HostRuntime) -> Result<(), Fail> {
-    all_come_to(&rt, rt.alloc(), &[], WRONG_VARIANT)
-}
-
-const TRACES: &str = "
-@row rmelab judge @ends 1 @in
+@row rmelab judge @name trace @ends 1 @in
 trace 1 procs 2 cap 1
 begin 0
 ready 0
@@ -128,6 +112,6 @@ verdict fine
 ";
 
 #[test]
-fn traces(rt: HostRuntime) -> Result<(), Fail> {
-    all_come_to(&rt, rt.alloc(), &[], TRACES)
+fn variants_and_traces(rt: HostRuntime) -> Result<(), Fail> {
+    all_come_to(&rt, rt.alloc(), &[], VARIANTS_AND_TRACES)
 }

@@ -115,6 +115,7 @@ fn hunted_schedules_are_made_least(rt: HostRuntime) -> Result<(), Fail> {
     Ok(())
 }
 
+/// Words that are refused open no file.
 const COMMANDS_ON_AN_ALGORITHM: &str = "
 @row rmelab hunt --algorithm a.lock --seed 1 --rounds 1 --steps 3 --jobs 4 @file a.lock PETERSON @file b.rme ALONE @out
 nothing found
@@ -132,6 +133,23 @@ rme 1 procs 3 limit 1 cap 1
 @err
 rmelab: line 1: refused 1
 @row rmelab step --algorithm a.lock @in SESSION @file a.lock ONE_WORD @out HELD
+@row rmelab hunt --seed 1 --rounds 0 --steps 1 --algorithm a.lock --variant right @ends 2 @err BAD_VARIANT
+@row rmelab hunt --seed 1 --rounds 0 --steps 1 --algorithm a.lock @ends 2 @err BAD_SIZE
+@row rmelab hunt --seed 1 --rounds 1 --steps 1 --variant right --limit 4 @ends 2 @err BAD_SIZE
+@row rmelab hunt --seed 1 --rounds 0 --steps 1 --algorithm a.lock --shrink @ends 2 @err
+error: with '--algorithm <FILE>' there is no '--shrink'; 'rmelab shrink' minimizes the schedule found
+
+For more information, try '--help'.
+@row rmelab hunt --seed 1 --rounds 0 --steps 1 @ends 2 @err NO_LOCK
+@row rmelab shrink --algorithm a.lock --variant right @ends 2 @err BAD_VARIANT
+@row rmelab shrink a.rme @ends 2 @err NO_LOCK
+@row rmelab draw --algorithm a.lock --variant right @ends 2 @err BAD_VARIANT
+@row rmelab draw --html --algorithm a.lock --image a.json @ends 2 @err BAD_VARIANT
+@row rmelab draw --html --algorithm a.lock @ends 2 @err NO_PAGE
+@row rmelab step --algorithm a.lock b.rme @ends 2 @err
+error: with '--algorithm <FILE>' there is no '[FILE]'; the first line of the input is a header
+
+For more information, try '--help'.
 ";
 
 #[test]
@@ -179,37 +197,5 @@ fn commands_on_an_algorithm_that_fail(rt: HostRuntime) -> Result<(), Fail> {
         rt.alloc(),
         &[algorithms.as_str(), TEXTS],
         COMMANDS_ON_AN_ALGORITHM_THAT_FAIL,
-    )
-}
-
-const WORDS_OF_NO_ALGORITHM: &str = "
-@row rmelab hunt --seed 1 --rounds 0 --steps 1 --algorithm a.lock --variant right @ends 2 @err BAD_VARIANT
-@row rmelab hunt --seed 1 --rounds 0 --steps 1 --algorithm a.lock @ends 2 @err BAD_SIZE
-@row rmelab hunt --seed 1 --rounds 1 --steps 1 --variant right --limit 4 @ends 2 @err BAD_SIZE
-@row rmelab hunt --seed 1 --rounds 0 --steps 1 --algorithm a.lock --shrink @ends 2 @err
-error: with '--algorithm <FILE>' there is no '--shrink'; 'rmelab shrink' minimizes the schedule found
-
-For more information, try '--help'.
-@row rmelab hunt --seed 1 --rounds 0 --steps 1 @ends 2 @err NO_LOCK
-@row rmelab shrink --algorithm a.lock --variant right @ends 2 @err BAD_VARIANT
-@row rmelab shrink a.rme @ends 2 @err NO_LOCK
-@row rmelab draw --algorithm a.lock --variant right @ends 2 @err BAD_VARIANT
-@row rmelab draw --html --algorithm a.lock --image a.json @ends 2 @err BAD_VARIANT
-@row rmelab draw --html --algorithm a.lock @ends 2 @err NO_PAGE
-@row rmelab step --algorithm a.lock b.rme @ends 2 @err
-error: with '--algorithm <FILE>' there is no '[FILE]'; the first line of the input is a header
-
-For more information, try '--help'.
-";
-
-/// No file is opened.
-#[test]
-fn words_of_no_algorithm(rt: HostRuntime) -> Result<(), Fail> {
-    let algorithms = algorithm_texts(rt.alloc())?;
-    all_come_to(
-        &rt,
-        rt.alloc(),
-        &[algorithms.as_str(), TEXTS],
-        WORDS_OF_NO_ALGORITHM,
     )
 }

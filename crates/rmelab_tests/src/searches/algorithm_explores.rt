@@ -45,25 +45,12 @@ error: with '--algorithm <FILE>' there is no '--stuck', no '--all-variables', no
 For more information, try '--help'.
 ";
 
-const SCHEDULES_OF_ALGORITHMS: &str = "
+/// Words that are refused open no file. A schedule that is found replays to its fault.
+const SEARCHES_OF_ALGORITHMS: &str = "
 @row rmelab explore --algorithm a.lock --procs 2 --limit 1 @file a.lock NO_LOOK @out SHORTEST @ends 1
 @row rmelab explore --procs 2 --algorithm a.lock --limit 1 --moves 20 --calls unlock,lock --jobs 4 @file a.lock NO_LOOK @out SHORTEST @ends 1
 @row rmelab explore --algorithm a.lock --procs 2 --limit 1 --crashes 1 @file a.lock PETERSON @out CRASH_INSIDE @ends 1
 @row rmelab explore --algorithm a.lock --procs 2 @file a.lock ONE_WORD @out TWO_AT_ONCE @ends 1
-";
-
-#[test]
-fn schedules_of_algorithms(rt: HostRuntime) -> Result<(), Fail> {
-    let algorithms = algorithm_texts(rt.alloc())?;
-    all_come_to(
-        &rt,
-        rt.alloc(),
-        &[algorithms.as_str(), TEXTS, explores::TEXTS],
-        SCHEDULES_OF_ALGORITHMS,
-    )
-}
-
-const ALGORITHMS_IN_WHICH_NOTHING_IS_FOUND: &str = "
 @row rmelab explore --algorithm a.lock --procs 2 --limit 1 --moves 19 @file a.lock NO_LOOK @out
 nothing found within 19 moves
 @row rmelab explore --algorithm a.lock --procs 2 @file a.lock BAKERY_RUIN @out
@@ -72,20 +59,6 @@ nothing found: all 925 states
 nothing found: all 58 states
 @row rmelab explore --algorithm a.lock --procs 2 --calls recover @file a.lock PETERSON @out
 nothing found: all 1 states
-";
-
-#[test]
-fn algorithms_in_which_nothing_is_found(rt: HostRuntime) -> Result<(), Fail> {
-    let algorithms = algorithm_texts(rt.alloc())?;
-    all_come_to(
-        &rt,
-        rt.alloc(),
-        &[algorithms.as_str()],
-        ALGORITHMS_IN_WHICH_NOTHING_IS_FOUND,
-    )
-}
-
-const WORDS_OF_NO_SEARCH: &str = "
 @row rmelab explore --procs 2 --algorithm a.lock --variant right @ends 2 @err BAD_VARIANT
 @row rmelab explore --procs 2 --variant wrong --algorithm a.lock --stuck @ends 2 @err BAD_VARIANT
 @row rmelab explore --procs 2 --algorithm a.lock --calls lock,append @ends 2 @err BAD_SIZE
@@ -96,21 +69,6 @@ const WORDS_OF_NO_SEARCH: &str = "
 @row rmelab explore --procs 2 --algorithm a.lock --width 1 @ends 2 @err NO_MAILBOX
 @row rmelab explore --procs 2 --stuck --moves 1 @ends 2 @err NO_LOCK
 @row rmelab explore --procs 2 --calls run @ends 2 @err NO_LOCK
-";
-
-/// No file is opened.
-#[test]
-fn words_of_no_search(rt: HostRuntime) -> Result<(), Fail> {
-    let algorithms = algorithm_texts(rt.alloc())?;
-    all_come_to(
-        &rt,
-        rt.alloc(),
-        &[algorithms.as_str(), TEXTS],
-        WORDS_OF_NO_SEARCH,
-    )
-}
-
-const SEARCHES_OF_ALGORITHMS_THAT_ARE_REFUSED: &str = "
 @row rmelab explore --algorithm a.lock --procs 3 @file a.lock PETERSON @ends 2 @err BAD_SIZE
 @row rmelab explore --algorithm a.lock --procs 2 --limit 0 @file a.lock PETERSON @ends 2 @err BAD_SIZE
 @row rmelab explore --algorithm a.lock --procs 2 --states 57 @file a.lock PETERSON @ends 3 @err
@@ -119,16 +77,27 @@ rmelab: too many states
 algorithm a for 2 processes
 promises exclusion@err
 rmelab: algorithm line 2: fault 3: the last line is not ended by a line feed
+@row rmelab replay --algorithm a.lock @in TWO_AT_ONCE @file a.lock ONE_WORD @ends 1 @out
+begin 0
+ready 0
+enter 0
+answer 0 done
+begin 1
+ready 1
+enter 1
+answer 1 done
+words held 1
+verdict against 2 at 6
 ";
 
 #[test]
-fn searches_of_algorithms_that_are_refused(rt: HostRuntime) -> Result<(), Fail> {
+fn searches_of_algorithms(rt: HostRuntime) -> Result<(), Fail> {
     let algorithms = algorithm_texts(rt.alloc())?;
     all_come_to(
         &rt,
         rt.alloc(),
-        &[algorithms.as_str(), TEXTS],
-        SEARCHES_OF_ALGORITHMS_THAT_ARE_REFUSED,
+        &[algorithms.as_str(), TEXTS, explores::TEXTS],
+        SEARCHES_OF_ALGORITHMS,
     )
 }
 
@@ -147,33 +116,7 @@ fn searches_of_algorithms_where_devices_fail(rt: HostRuntime) -> Result<(), Fail
     program_comes_to(
         &rt,
         rt.alloc(),
-        &[algorithms.as_str(), TEXTS],
+        &[algorithms.as_str(), TEXTS, explores::TEXTS],
         SEARCHES_OF_ALGORITHMS_WHERE_DEVICES_FAIL,
-    )
-}
-
-const FOUND_SCHEDULES_OF_ALGORITHMS_REPLAY: &str = "
-@row rmelab replay --algorithm a.lock @in TWO_AT_ONCE @file a.lock ONE_WORD @ends 1 @out
-begin 0
-ready 0
-enter 0
-answer 0 done
-begin 1
-ready 1
-enter 1
-answer 1 done
-words held 1
-verdict against 2 at 6
-";
-
-/// A schedule that is found replays to its fault.
-#[test]
-fn found_schedules_of_algorithms_replay(rt: HostRuntime) -> Result<(), Fail> {
-    let algorithms = algorithm_texts(rt.alloc())?;
-    all_come_to(
-        &rt,
-        rt.alloc(),
-        &[algorithms.as_str(), TEXTS],
-        FOUND_SCHEDULES_OF_ALGORITHMS_REPLAY,
     )
 }

@@ -22,7 +22,8 @@ For more information, try '--help'.
 rmelab: read failed
 ";
 
-const TEXTS_THAT_ARE_NO_ALGORITHM: &str = "
+/// A fault of the text comes before one of the schedule. A step may have three deeds: four are refused.
+const TEXTS_THAT_ARE_REFUSED: &str = "
 @row rmelab replay --algorithm a.lock @in ALONE @ends 2 @file a.lock
 @err
 rmelab: algorithm line 1: fault 1: the first two lines are no header and promises
@@ -104,52 +105,6 @@ call unlock
   done
 @err
 rmelab: algorithm line 7: fault 18: no run comes to this line
-";
-
-/// A fault of the text comes before one of the schedule.
-#[test]
-fn texts_that_are_no_algorithm(rt: HostRuntime) -> Result<(), Fail> {
-    let algorithms = algorithm_texts(rt.alloc())?;
-    all_come_to(
-        &rt,
-        rt.alloc(),
-        &[algorithms.as_str(), TEXTS],
-        TEXTS_THAT_ARE_NO_ALGORITHM,
-    )
-}
-
-/// Adds a text with this name: an algorithm whose own name has this number of letters.
-fn add_long_text(texts: &mut String, name: &str, letters: u64, end: &str) -> Result<(), Fail> {
-    texts.push_str("@text ")?;
-    texts.push_str(name)?;
-    texts.push_str("\nalgorithm ")?;
-    for _ in 0..letters {
-        texts.push('a')?;
-    }
-    texts.push_str(end)?;
-    Ok(())
-}
-
-/// A megabyte in one line, and a name of 10,000 letters.
-fn long_texts(alloc: Global) -> Result<String, Fail> {
-    let mut texts = String::from_str(alloc, TEXTS)?;
-    add_long_text(&mut texts, "LONG", 1_000_000, "\n")?;
-    add_long_text(&mut texts, "LONG_NAME", 10_000, " for 2 processes\n")?;
-    Ok(texts)
-}
-
-const LONG_TEXTS_OF_ALGORITHMS: &str = "
-@row rmelab replay --algorithm a.lock @in ALONE @file a.lock LONG @ends 2 @err LIMIT_PASSED
-@row rmelab replay --algorithm a.lock @in ALONE @file a.lock LONG_NAME @ends 2 @err LIMIT_PASSED
-";
-
-#[test]
-fn long_texts_of_algorithms(rt: HostRuntime) -> Result<(), Fail> {
-    let texts = long_texts(rt.alloc())?;
-    program_comes_to(&rt, rt.alloc(), &[texts.as_str()], LONG_TEXTS_OF_ALGORITHMS)
-}
-
-const RUNS_OF_ALGORITHMS_THAT_ARE_REFUSED: &str = "
 @row rmelab replay --algorithm a.lock b.rme @file a.lock PETERSON @ends 2 @file b.rme
 rme 1 procs 3 limit 1 cap 1
 lock 0
@@ -216,21 +171,6 @@ lock 0
 step 0
 @err
 rmelab: line 3: refused 16
-";
-
-/// A step may have three deeds: four are refused.
-#[test]
-fn runs_of_algorithms_that_are_refused(rt: HostRuntime) -> Result<(), Fail> {
-    let algorithms = algorithm_texts(rt.alloc())?;
-    all_come_to(
-        &rt,
-        rt.alloc(),
-        &[algorithms.as_str(), TEXTS],
-        RUNS_OF_ALGORITHMS_THAT_ARE_REFUSED,
-    )
-}
-
-const WORDS_BESIDE_AN_ALGORITHM: &str = "
 @row rmelab replay --algorithm a.lock --variant right @ends 2 @err BAD_VARIANT
 @row rmelab replay --variant wrong --algorithm a.lock @ends 2 @err BAD_VARIANT
 @row rmelab replay --algorithm a.lock --image a.json @ends 2 @err BAD_VARIANT
@@ -241,8 +181,45 @@ const WORDS_BESIDE_AN_ALGORITHM: &str = "
 ";
 
 #[test]
-fn words_beside_an_algorithm(rt: HostRuntime) -> Result<(), Fail> {
-    all_come_to(&rt, rt.alloc(), &[TEXTS], WORDS_BESIDE_AN_ALGORITHM)
+fn texts_that_are_refused(rt: HostRuntime) -> Result<(), Fail> {
+    let algorithms = algorithm_texts(rt.alloc())?;
+    all_come_to(
+        &rt,
+        rt.alloc(),
+        &[algorithms.as_str(), TEXTS],
+        TEXTS_THAT_ARE_REFUSED,
+    )
+}
+
+/// Adds a text with this name: an algorithm whose own name has this number of letters.
+fn add_long_text(texts: &mut String, name: &str, letters: u64, end: &str) -> Result<(), Fail> {
+    texts.push_str("@text ")?;
+    texts.push_str(name)?;
+    texts.push_str("\nalgorithm ")?;
+    for _ in 0..letters {
+        texts.push('a')?;
+    }
+    texts.push_str(end)?;
+    Ok(())
+}
+
+/// A megabyte in one line, and a name of 10,000 letters.
+fn long_texts(alloc: Global) -> Result<String, Fail> {
+    let mut texts = String::from_str(alloc, TEXTS)?;
+    add_long_text(&mut texts, "LONG", 1_000_000, "\n")?;
+    add_long_text(&mut texts, "LONG_NAME", 10_000, " for 2 processes\n")?;
+    Ok(texts)
+}
+
+const LONG_TEXTS_OF_ALGORITHMS: &str = "
+@row rmelab replay --algorithm a.lock @in ALONE @file a.lock LONG @ends 2 @err LIMIT_PASSED
+@row rmelab replay --algorithm a.lock @in ALONE @file a.lock LONG_NAME @ends 2 @err LIMIT_PASSED
+";
+
+#[test]
+fn long_texts_of_algorithms(rt: HostRuntime) -> Result<(), Fail> {
+    let texts = long_texts(rt.alloc())?;
+    program_comes_to(&rt, rt.alloc(), &[texts.as_str()], LONG_TEXTS_OF_ALGORITHMS)
 }
 
 const ALGORITHMS_WHERE_DEVICES_FAIL: &str = "

@@ -61,6 +61,10 @@ rmelab: too many states
 rmelab: bad size
 ";
 
+/// The counts are those of the plain program, whose search back goes over lists of the states before each.
+/// Some of the searches take longer than `rt try` allows.
+/// Of the right lock without `unlock`, and without a call by which a crashed process comes back, a state is stuck. Of a wrong
+/// variant a schedule that goes wrong is written: under `no-ties` both have the number 1, and neither waits for the other.
 const EXPLORES: &str = "
 @row rmelab explore --variant no-look --procs 2 --limit 1 @out SHORTEST @ends 1
 @row rmelab explore --variant no-look --procs 2 --limit 1 --moves 20 --calls unlock,lock @out SHORTEST @ends 1
@@ -74,42 +78,16 @@ nothing found: all 925 states
 nothing found: all 1541 states
 @row rmelab explore --variant right --procs 2 --crashes 1 --limit 1 --all-variables @out
 nothing found: all 2109 states
-";
-
-#[test]
-fn explores(rt: HostRuntime) -> Result<(), Fail> {
-    all_come_to(&rt, rt.alloc(), &[TEXTS], EXPLORES)
-}
-
-const EXPLORES_STUCK: &str = "
 @row rmelab explore --variant right --procs 2 --crashes 1 --stuck @out
 never stuck: all 7729 states
 @row rmelab explore --variant right --procs 3 --limit 1 --stuck @out
 never stuck: all 9145 states
 @row rmelab explore --variant renumber --procs 2 --crashes 1 --limit 2 --stuck @out
 never stuck: all 4071 states
-";
-
-/// The counts are those of the plain program, whose search back goes over lists of the states before each.
-#[test]
-fn explores_stuck(rt: HostRuntime) -> Result<(), Fail> {
-    all_come_to(&rt, rt.alloc(), &[], EXPLORES_STUCK)
-}
-
-const EXPLORES_STUCK_AT_LENGTH: &str = "
 @row rmelab explore --variant right --procs 2 --crashes 3 --stuck @out
 never stuck: all 45075 states
 @row rmelab explore --variant right --procs 3 --crashes 1 --limit 1 --stuck @out
 never stuck: all 92524 states
-";
-
-/// It takes longer than `rt try` allows.
-#[test]
-fn explores_stuck_at_length(rt: HostRuntime) -> Result<(), Fail> {
-    all_come_to(&rt, rt.alloc(), &[], EXPLORES_STUCK_AT_LENGTH)
-}
-
-const STUCK_AND_WRONG_ARE_TOLD_APART: &str = "
 @row rmelab explore --variant right --procs 2 --calls lock --limit 1 --stuck @out KEPT @ends 1
 @row rmelab explore --variant right --procs 2 --calls unlock --limit 1 --crashes 1 --stuck @out NOT_BACK @ends 1
 @row rmelab explore --variant right --procs 2 --calls lock --limit 1 @out
@@ -140,16 +118,6 @@ step 1
 step 1
 step 1
 @row rmelab explore --variant exit-on-crash --procs 1 --limit 1 --crashes 1 --stuck @out GONE_OUT @ends 1
-";
-
-/// Of the right lock without `unlock`, and without a call by which a crashed process comes back, a state is stuck. Of a wrong
-/// variant a schedule that goes wrong is written: under `no-ties` both have the number 1, and neither waits for the other.
-#[test]
-fn stuck_and_wrong_are_told_apart(rt: HostRuntime) -> Result<(), Fail> {
-    all_come_to(&rt, rt.alloc(), &[TEXTS], STUCK_AND_WRONG_ARE_TOLD_APART)
-}
-
-const EXPLORES_REFUSED: &str = "
 @row rmelab explore --variant right --procs 2 --crashes 1 --limit 1 --states 1540 @ends 3 @err TOO_MANY
 @row rmelab explore --variant right --procs 2 --crashes 1 --limit 1 --states 2108 --all-variables @ends 3 @err TOO_MANY
 @row rmelab explore --variant right --procs 2 --limit 1 --states 258 --stuck @ends 3 @err TOO_MANY
@@ -168,14 +136,6 @@ error: the following required arguments were not provided:
 Usage: rmelab explore --procs <N> --variant <V>
 
 For more information, try '--help'.
-";
-
-#[test]
-fn explores_refused(rt: HostRuntime) -> Result<(), Fail> {
-    all_come_to(&rt, rt.alloc(), &[TEXTS], EXPLORES_REFUSED)
-}
-
-const EXPLORES_TO_A_WRITER_THAT_FAILS: &str = "
 @row rmelab explore --variant exit-on-crash --procs 1 --limit 1 --crashes 1 @fails write @ends 3 @err UNWRITTEN
 @row rmelab explore --variant exit-on-crash --procs 1 --limit 1 --crashes 1 @fails flush @out GONE_OUT @ends 3 @err UNWRITTEN
 @row rmelab explore --variant right --procs 1 --limit 1 --moves 3 @fails write @ends 3 @err UNWRITTEN
@@ -184,8 +144,8 @@ const EXPLORES_TO_A_WRITER_THAT_FAILS: &str = "
 ";
 
 #[test]
-fn explores_to_a_writer_that_fails(rt: HostRuntime) -> Result<(), Fail> {
-    all_come_to(&rt, rt.alloc(), &[TEXTS], EXPLORES_TO_A_WRITER_THAT_FAILS)
+fn explores(rt: HostRuntime) -> Result<(), Fail> {
+    all_come_to(&rt, rt.alloc(), &[TEXTS], EXPLORES)
 }
 
 /// A schedule that is found replays to its fault, and one to a stuck state to a fine verdict.

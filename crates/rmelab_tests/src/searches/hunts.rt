@@ -69,7 +69,7 @@ fn hunt_seeds(rt: HostRuntime) -> Result<(), Fail> {
         let is_so = is_against(&rt, rt.alloc(), variant, &found)?;
         assert!(rt; is_so && is_fine(&rt, rt.alloc(), &found)?, "{variant}");
     }
-    all_come_to(&rt, rt.alloc(), &[], HUNT_SEEDS)
+    all_come_to(&rt, rt.alloc(), &[TEXTS], HUNT_SEEDS)
 }
 
 /// The schedule that `running_judge/lab`, a program written by hand, draws by the same rule.

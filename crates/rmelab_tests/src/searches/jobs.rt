@@ -11,16 +11,14 @@ use std::alloc::Global;
 use std::test::Fail;
 use std::thread::Threads;
 
-/// Each variant, and whether its hunt by seed 1, of 10,000 rounds of 1,000 moves, finds a schedule. The right lock has fewer
-/// rounds.
-const VARIANTS: [(Variant, u64, bool); 7] = [
-    (Variant::Right, 40, false),
-    (Variant::NoLook, 10_000, true),
-    (Variant::NoTies, 10_000, true),
-    (Variant::Renumber, 10_000, true),
-    (Variant::ExitOnCrash, 10_000, true),
-    (Variant::CountUp, 10_000, true),
-    (Variant::LastSkipped, 10_000, true),
+const VARIANTS: [Variant; 7] = [
+    Variant::Right,
+    Variant::NoLook,
+    Variant::NoTies,
+    Variant::Renumber,
+    Variant::ExitOnCrash,
+    Variant::CountUp,
+    Variant::LastSkipped,
 ];
 
 const JOBS: [u64; 5] = [0, 1, 2, 3, 7];
@@ -52,11 +50,14 @@ fn is_found(
     Ok(one.is_some())
 }
 
+/// Hunts by seed 1, of rounds of 1,000 moves, find a schedule of each wrong variant. The right lock has fewer rounds.
 #[test]
 fn the_same_schedule_for_any_number_of_jobs(rt: HostRuntime) -> Result<(), Fail> {
-    for (variant, rounds, wanted) in VARIANTS {
+    for variant in VARIANTS {
+        let is_wrong = variant != Variant::Right;
+        let rounds = if is_wrong { 10_000 } else { 40 };
         let found = is_found(&rt, rt.alloc(), variant, 1, rounds, 1_000)?;
-        assert!(rt; found == wanted, "{variant:?}");
+        assert!(rt; found == is_wrong, "{variant:?}");
     }
     Ok(())
 }
@@ -64,7 +65,7 @@ fn the_same_schedule_for_any_number_of_jobs(rt: HostRuntime) -> Result<(), Fail>
 /// Rounds of few moves, so that the one that finds is of a late batch, or none is.
 #[test]
 fn the_same_schedule_of_a_late_round(rt: HostRuntime) -> Result<(), Fail> {
-    for (variant, _, _) in VARIANTS {
+    for variant in VARIANTS {
         for (seed, rounds, steps) in [(1, 400, 60), (2, 333, 90), (3, 50, 20), (4, 1, 700)] {
             is_found(&rt, rt.alloc(), variant, seed, rounds, steps)?;
         }

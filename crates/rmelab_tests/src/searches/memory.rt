@@ -2,10 +2,10 @@
 
 use crate::searches::named_texts::algorithm_texts;
 use crate::searches::{algorithm_commands, algorithm_explores, explores, shrinks};
-use crate::support::invocation::all_want_memory;
+use crate::support::invocation::all_meet_refusals;
 use std::test::Fail;
 
-const WANT_OF_MEMORY: &str = "
+const OUT_OF_MEMORY: &str = "
 @row rmelab shrink --variant right @out FINE @in
 rme 1 procs 1 limit 10 cap 1
 lock 0
@@ -27,9 +27,9 @@ nothing found
 ";
 
 #[test]
-fn want_of_memory(rt: HostRuntime) -> Result<(), Fail> {
+fn out_of_memory(rt: HostRuntime) -> Result<(), Fail> {
     let algorithms = algorithm_texts(rt.alloc())?;
-    all_want_memory(
+    all_meet_refusals(
         &rt,
         rt.alloc(),
         &[
@@ -39,6 +39,6 @@ fn want_of_memory(rt: HostRuntime) -> Result<(), Fail> {
             explores::TEXTS,
             shrinks::TEXTS,
         ],
-        WANT_OF_MEMORY,
+        OUT_OF_MEMORY,
     )
 }

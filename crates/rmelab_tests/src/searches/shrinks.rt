@@ -41,14 +41,6 @@ const SHRINKS: &str = "
 @row rmelab shrink --variant no-look s.rme @in OTHER @file s.rme TWO_INSIDE @out LEAST @ends 1
 @row rmelab shrink --variant right @in TWO_INSIDE @out FINE
 @row rmelab shrink --variant no-ties @in TWO_INSIDE @out FINE
-";
-
-#[test]
-fn shrinks(rt: HostRuntime) -> Result<(), Fail> {
-    all_come_to(&rt, rt.alloc(), &[TEXTS], SHRINKS)
-}
-
-const SHRINKS_REFUSED: &str = "
 @row rmelab shrink --variant no-look @ends 2 @in
 rme 1 procs 1 limit 10 cap 1
 lock 0
@@ -67,14 +59,6 @@ lock 01
 rmelab: line 2: fault 3
 @row rmelab shrink --variant wrong @in TWO_INSIDE @ends 2 @err
 rmelab: bad variant
-";
-
-#[test]
-fn shrinks_refused(rt: HostRuntime) -> Result<(), Fail> {
-    all_come_to(&rt, rt.alloc(), &[TEXTS], SHRINKS_REFUSED)
-}
-
-const SHRINKS_OVER_DEVICES_THAT_FAIL: &str = "
 @row rmelab shrink --variant no-look @in TWO_INSIDE @fails read @ends 3 @err UNREAD
 @row rmelab shrink --variant no-look s.rme @in OTHER @file s.rme TWO_INSIDE @fails file-read @ends 3 @err UNREAD
 @row rmelab shrink --variant no-look @in TWO_INSIDE @fails write @ends 3 @err UNWRITTEN
@@ -85,8 +69,8 @@ rmelab: out of memory
 ";
 
 #[test]
-fn shrinks_over_devices_that_fail(rt: HostRuntime) -> Result<(), Fail> {
-    all_come_to(&rt, rt.alloc(), &[TEXTS], SHRINKS_OVER_DEVICES_THAT_FAIL)
+fn shrinks(rt: HostRuntime) -> Result<(), Fail> {
+    all_come_to(&rt, rt.alloc(), &[TEXTS], SHRINKS)
 }
 
 /// What `hunt --shrink` writes is what `shrink` makes of the schedule that the same hunt writes.
@@ -115,5 +99,5 @@ fn hunts_shrunk(rt: HostRuntime) -> Result<(), Fail> {
     for variant in ["no-look", "exit-on-crash"] {
         shrinks_what_it_finds(&rt, rt.alloc(), variant)?;
     }
-    all_come_to(&rt, rt.alloc(), &[], HUNTS_SHRUNK)
+    all_come_to(&rt, rt.alloc(), &[TEXTS], HUNTS_SHRUNK)
 }

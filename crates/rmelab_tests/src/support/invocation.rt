@@ -4,8 +4,8 @@
 use crate::support::alone::comes_to_alone;
 use crate::support::devices::{Feed, Paper, Ticking};
 use crate::support::fake::{Failing, Fake};
+use crate::support::refused_memory::meets_refusals;
 use crate::support::row::ProgramRow;
-use crate::support::wanting::wants;
 use cli::arguments::words::WordsFault;
 use commands::Terminal;
 use commands::program::run_program;
@@ -133,7 +133,7 @@ enum Manner {
     /// The program is run; and so are `read_words` and `command` alone.
     ProgramAndCommand,
     /// The program is run, and each request for memory is refused in turn.
-    WithoutMemory,
+    RefusedMemory,
 }
 
 fn is_played(
@@ -142,8 +142,8 @@ fn is_played(
     row: &ProgramRow<'_>,
     manner: Manner,
 ) -> Result<(), Fail> {
-    if manner == Manner::WithoutMemory {
-        return wants(rt, alloc, row);
+    if manner == Manner::RefusedMemory {
+        return meets_refusals(rt, alloc, row);
     }
     comes_to(rt, alloc, Ok(words_of(alloc, row.line)?), row)?;
     if manner == Manner::Program {
@@ -191,13 +191,13 @@ pub fn program_comes_to(
 }
 
 /// Each request for memory of each of the rows is refused in turn.
-pub fn all_want_memory(
+pub fn all_meet_refusals(
     rt: &(impl Threads + Wait + Sync),
     alloc: Global,
     texts: &[&str],
     rows: &str,
 ) -> Result<(), Fail> {
-    all_are_played(rt, alloc, texts, rows, Manner::WithoutMemory)
+    all_are_played(rt, alloc, texts, rows, Manner::RefusedMemory)
 }
 
 /// What the program prints on these words over this input, in a folder where `a.lock` is this text. It has to end with this

@@ -3,7 +3,8 @@
 //! A row begins with `@row` and the words of the command line. Its parts follow, in any order: `@in` is standard input, `@out`
 //! and `@err` what is written to the two outputs, `@shown` what a terminal shows, `@file NAME` one of two files in the folder,
 //! `@saves NAME` the file that is written, `@fails DEVICE` the device that fails, and `@ends` the exit status. The text of a
-//! part is what follows its line, or its name is in that line: a script of texts has `@text NAME` before each.
+//! part is what follows its line, or its name is in that line: a script of texts has `@text NAME` before each. `@name` is the
+//! name of a worked row, and only to be read.
 
 use crate::support::fake::Failing;
 
@@ -106,6 +107,9 @@ impl<'a> ProgramRow<'a> {
         let (head, body) = part.split_once("\n").unwrap_or((part, ""));
         let mut names = head.trim();
         let word = cut(&mut names, " ");
+        if word == "name" {
+            return Some(());
+        }
         if word == "ends" {
             self.status = status_named(names)?;
             return Some(());

@@ -94,7 +94,7 @@ fn refusals(
 }
 
 /// Each request for memory of the row is refused in turn: it has some, and at the end it meets no refusal.
-pub fn wants(
+pub fn meets_refusals(
     rt: &(impl Threads + Wait + Sync),
     alloc: Global,
     row: &ProgramRow<'_>,

@@ -1,13 +1,13 @@
 //! The lab over the running lock, and that over the plain reference: workers that crash, that are refused, and that meet at
 //! an asking.
 
-use crate::support::gated::{Gated, Until, WorkerProgress, meeting};
-use crate::support::messages::{TWO, are, are_all_sent};
+use crate::support::gated::{Hold, Until, WorkerProgress, gates_of};
+use crate::support::messages::{are, are_all_sent};
 use crate::support::noting::{ALONE, Noting};
 use crash_plans::{Never, Seeded};
 use execution::LockFault;
 use one_lock::lab::{Gate, LabFault, LabResult, Spec};
-use redomail::{Message, Reply};
+use redomail::Reply;
 use std::alloc::Global;
 use std::process::Abort;
 use std::sync::{Arc, Wait};
@@ -37,148 +37,163 @@ fn run<G: Gate + Send + Drop, R: Threads + Wait + Sync>(
     }
 }
 
-/// Two workers that meet: worker 1 comes while worker 0 is inside, and worker 0 goes on once worker 1 is at this asking.
-fn meets<R: Abort + Threads + Wait + Sync>(
+/// Whether a lab comes to these messages, or to this fault, where each worker has such a gate. Each sends one message of one
+/// word. No gate gives up, and each worker reports what its gate awaits. The room is the limit and the capacity.
+fn meets<R: Threads + Wait + Sync>(
     rt: &R,
     alloc: Global,
     lab: Lab,
-    limit: u64,
-    asking: u64,
-) -> Result<(), Fail> {
-    let mut spec = TWO;
-    spec.limit = limit;
-    let (first, second, zero, one) = meeting(alloc, asking)?;
-    let mut gates = Vec::new(alloc);
-    gates.push(first)?;
-    gates.push(second)?;
-    let result = run(rt, alloc, lab, spec, gates);
-    assert!(rt; !zero.has_given_up() && !one.has_given_up());
-    assert!(rt; zero.has_told_at(1, 27), "{lab:?}");
-    if limit > 1 {
-        let messages = result?.messages;
-        assert!(rt; are(messages.as_slice(), &[(0, 1, 1), (1, 1, 1_000_001)]));
-        assert!(rt; one.has_told(1, asking), "{lab:?}");
-    } else {
-        let fault = LockFault::NumbersSpent;
-        assert!(rt;
-            result.err() == Some(LabFault::Member { p: 1, fault }),
-            "{lab:?}"
-        );
-        assert!(rt; one.has_told_at(0, asking), "{lab:?}");
-    }
-    Ok(())
+    room: (u64, u64),
+    holds: &[Hold],
+    wanted: Result<&str, LabFault>,
+) -> Result<bool, Fail> {
+    let spec = Spec {
+        procs: holds.len() as u64,
+        messages: 1,
+        limit: room.0,
+        cap: room.1,
+        width: 1,
+    };
+    let (gates, workers) = gates_of(alloc, holds)?;
+    let is_right = match (run(rt, alloc, lab, spec, gates), wanted) {
+        (Ok(result), Ok(messages)) => are(result.messages.as_slice(), messages),
+        (Err(fault), Err(wanted)) => fault == wanted,
+        _ => false,
+    };
+    Ok(is_right && have_told(workers.as_slice(), holds))
 }
+
+fn have_told(workers: &[Arc<WorkerProgress>], holds: &[Hold]) -> bool {
+    for (worker, hold) in workers.iter().zip(holds) {
+        if worker.has_given_up() || !worker.has_told(hold.answer, hold.least, hold.most) {
+            return false;
+        }
+    }
+    true
+}
+
+/// Worker 1 comes while worker 0 is inside, and worker 0 goes on once worker 1 is at this asking. Worker 1's last answer
+/// comes after as many askings at the least, and at the most.
+fn come_inside(asking: u64, answer: u64, most: u64) -> [Hold; 2] {
+    let zero = Hold {
+        at: 12,
+        until: Until::Asking(asking),
+        on: 1,
+        answer: 1,
+        least: 27,
+        most: 27,
+    };
+    let one = Hold {
+        at: 1,
+        until: Until::Asking(12),
+        on: 0,
+        answer,
+        least: asking,
+        most,
+    };
+    [zero, one]
+}
+
+/// The message of worker 0, and then that of worker 1.
+const IN_ORDER: Result<&str, LabFault> = Ok("0 1 1; 1 1 1000001");
 
 #[test]
 fn both_at_once(rt: HostRuntime) -> Result<(), Fail> {
+    let holds = come_inside(20, 1, u64::MAX);
     for lab in BOTH {
-        meets(&rt, rt.alloc(), lab, 10, 20)?;
+        let is_right = meets(&rt, rt.alloc(), lab, (10, 2), &holds, IN_ORDER)?;
+        assert!(rt; is_right, "{lab:?}");
     }
     Ok(())
 }
 
 #[test]
 fn numbers_spent(rt: HostRuntime) -> Result<(), Fail> {
+    let (holds, fault) = (come_inside(7, 0, 7), LockFault::NumbersSpent);
     for lab in BOTH {
-        meets(&rt, rt.alloc(), lab, 1, 7)?;
+        let wanted = Err(LabFault::Member { p: 1, fault });
+        let is_right = meets(&rt, rt.alloc(), lab, (1, 2), &holds, wanted)?;
+        assert!(rt; is_right, "{lab:?}");
     }
     Ok(())
 }
 
-/// Worker p waits at its first asking until the other is answered. So the other's message comes first.
-fn waits_for_the_other<R: Abort + Threads + Wait + Sync>(
+/// A worker waits at this asking, or at none, until this one is answered. It asks as often as this at the least, and at the
+/// most.
+fn waits_for(at: u64, on: usize, least: u64, most: u64) -> Hold {
+    Hold {
+        at,
+        until: Until::Answer(1),
+        on,
+        answer: 1,
+        least,
+        most,
+    }
+}
+
+/// Whether each of two workers' messages comes first where the other worker waits for it at its first asking.
+fn each_waits<R: Threads + Wait + Sync>(
     rt: &R,
     alloc: Global,
     lab: Lab,
     limit: u64,
-    p: u64,
-) -> Result<(), Fail> {
-    let mut spec = TWO;
-    spec.limit = limit;
-    let zero = WorkerProgress::new(alloc)?;
-    let one = WorkerProgress::new(alloc)?;
-    let (first, second) = if p == 0 { (1, 0) } else { (0, 1) };
-    let mut gates = Vec::new(alloc);
-    gates.push(Gated::new(first, Until::Answer(1), &zero, &one)?)?;
-    gates.push(Gated::new(second, Until::Answer(1), &one, &zero)?)?;
-    let messages = run(rt, alloc, lab, spec, gates)?.messages;
-    let order = if p == 0 {
-        [(1, 1, 1_000_001), (0, 1, 1)]
-    } else {
-        [(0, 1, 1), (1, 1, 1_000_001)]
-    };
-    assert!(rt; are(messages.as_slice(), &order), "{lab:?}, worker {p}");
-    assert!(rt; !zero.has_given_up() && !one.has_given_up());
-    assert!(rt; zero.has_told_at(1, 27) && one.has_told_at(1, 27));
-    Ok(())
+) -> Result<bool, Fail> {
+    let zero_waits = [waits_for(1, 1, 27, 27), waits_for(0, 0, 27, 27)];
+    let one_waits = [waits_for(0, 1, 27, 27), waits_for(1, 0, 27, 27)];
+    let one_first = Ok("1 1 1000001; 0 1 1");
+    Ok(
+        meets(rt, alloc, lab, (limit, 2), &zero_waits, one_first)?
+            && meets(rt, alloc, lab, (limit, 2), &one_waits, IN_ORDER)?,
+    )
 }
 
 #[test]
 fn two_workers_at_once(rt: HostRuntime) -> Result<(), Fail> {
     for lab in BOTH {
-        waits_for_the_other(&rt, rt.alloc(), lab, 10, 0)?;
-        waits_for_the_other(&rt, rt.alloc(), lab, 10, 1)?;
+        assert!(rt; each_waits(&rt, rt.alloc(), lab, 10)?, "{lab:?}");
     }
     Ok(())
 }
 
 #[test]
 fn numbers_enough(rt: HostRuntime) -> Result<(), Fail> {
+    let holds = come_inside(20, 1, u64::MAX);
     for lab in BOTH {
-        meets(&rt, rt.alloc(), lab, 2, 20)?;
-        waits_for_the_other(&rt, rt.alloc(), lab, 1, 0)?;
-        waits_for_the_other(&rt, rt.alloc(), lab, 1, 1)?;
+        let is_right = meets(&rt, rt.alloc(), lab, (2, 2), &holds, IN_ORDER)?;
+        assert!(rt; is_right && each_waits(&rt, rt.alloc(), lab, 1)?, "{lab:?}");
     }
     Ok(())
+}
+
+/// Whether the messages of this lab are all that its workers had to send.
+fn are_sent(spec: Spec, ended: Result<LabResult, LabFault>) -> bool {
+    match ended {
+        Ok(result) => are_all_sent(spec, result.messages.as_slice()),
+        Err(_) => false,
+    }
+}
+
+fn tells<R: Threads + Wait + Sync>(rt: &R, alloc: Global, lab: Lab) -> Result<bool, Fail> {
+    let (gate, notes) = Noting::new(alloc)?;
+    let gates = vec![in alloc; gate]?;
+    Ok(are_sent(ALONE, run(rt, alloc, lab, ALONE, gates)) && notes.are_right())
 }
 
 #[test]
 fn answers_told(rt: HostRuntime) -> Result<(), Fail> {
     for lab in BOTH {
-        let (gate, notes) = Noting::new(rt.alloc())?;
-        let mut gates = Vec::new(rt.alloc());
-        gates.push(gate)?;
-        let messages = run(&rt, rt.alloc(), lab, ALONE, gates)?.messages;
-        assert!(rt; are_all_sent(ALONE, messages.as_slice()));
-        assert!(rt; notes.are_right(), "{lab:?}");
+        assert!(rt; tells(&rt, rt.alloc(), lab)?, "{lab:?}");
     }
     Ok(())
 }
 
-/// Three workers, and room for one message. Worker p waits at its first asking until worker `waits_on[p]` is answered, if
-/// that is another one. It answers what the lab answers.
-fn three_in_turn<R: Abort + Threads + Wait + Sync>(
-    rt: &R,
-    alloc: Global,
-    lab: Lab,
-    waits_on: [usize; 3],
-) -> Result<Option<LabFault>, Fail> {
-    let spec = Spec {
-        procs: 3,
-        messages: 1,
-        limit: 10,
-        cap: 1,
-        width: 1,
-    };
-    let mut all = Vec::new(alloc);
-    for _ in 0..3 {
-        all.push(WorkerProgress::new(alloc)?)?;
-    }
-    let mut gates = Vec::new(alloc);
-    for (p, on) in waits_on.into_iter().enumerate() {
-        let mine = all.get(p).ok_or("a worker")?;
-        let other = all.get(on).ok_or("another")?;
-        let at = if on == p { 0 } else { 1 };
-        gates.push(Gated::new(at, Until::Answer(1), mine, other)?)?;
-    }
-    let fault = run(rt, alloc, lab, spec, gates).err();
-    for progress in &all {
-        assert!(rt; !progress.has_given_up() && progress.has_told(1, 1));
-    }
-    Ok(fault)
+/// Worker p waits at its first asking until this one is answered, if that is another one.
+fn in_turn(p: usize, on: usize) -> Hold {
+    waits_for(if on == p { 0 } else { 1 }, on, 1, u64::MAX)
 }
 
-/// One worker stores its message, and the others are refused after one another: the lab answers the least of them.
+/// One of three workers stores its message, and the others are refused after one another, since there is room for one: the
+/// lab answers the least of them.
 #[test]
 fn the_least_of_two_that_are_refused(rt: HostRuntime) -> Result<(), Fail> {
     let rows = [
@@ -190,69 +205,41 @@ fn the_least_of_two_that_are_refused(rt: HostRuntime) -> Result<(), Fail> {
         ([0, 0, 1], 1),
     ];
     for lab in BOTH {
-        for (waits_on, p) in rows {
+        for ([zero, one, two], p) in rows {
+            let holds = [in_turn(0, zero), in_turn(1, one), in_turn(2, two)];
             let reply = Reply::Full;
-            let fault = three_in_turn(&rt, rt.alloc(), lab, waits_on)?;
-            assert!(rt;
-                fault == Some(LabFault::Reply { p, reply }),
-                "{lab:?}, {waits_on:?}"
-            );
+            let wanted = Err(LabFault::Reply { p, reply });
+            let is_right = meets(&rt, rt.alloc(), lab, (10, 1), &holds, wanted)?;
+            assert!(rt; is_right, "{lab:?}, {zero} {one} {two}");
         }
     }
     Ok(())
 }
 
-/// Gates of three workers. The first of this order is held at its asking 15, until the others have come after one another,
-/// each up to its asking 8.
-fn one_after_another(
-    alloc: Global,
-    all: &[Arc<WorkerProgress>],
-    order: [usize; 3],
-) -> Result<Vec<Gated>, Fail> {
+/// The gate of worker p of three. The first of this order is held inside, at its asking 15, until the others have come
+/// after one another, each up to its asking 8, where it finds the limit reached.
+fn one_after_another(order: [usize; 3], p: usize) -> Hold {
     let [holder, second, third] = order;
-    let mut gates = Vec::new(alloc);
-    for p in 0..3 {
-        let (at, until, on) = if p == holder {
-            (15, Until::Asking(8), third)
-        } else if p == second {
-            (1, Until::Asking(15), holder)
-        } else {
-            (1, Until::Asking(8), second)
-        };
-        let mine = all.get(p).ok_or("a worker")?;
-        let other = all.get(on).ok_or("another")?;
-        gates.push(Gated::new(at, until, mine, other)?)?;
-    }
-    Ok(gates)
-}
-
-/// Three workers, and the limit 1. The first of this order is inside while the others find the limit reached. It answers
-/// what the lab answers.
-fn two_without_numbers<R: Abort + Threads + Wait + Sync>(
-    rt: &R,
-    alloc: Global,
-    lab: Lab,
-    order: [usize; 3],
-) -> Result<Option<LabFault>, Fail> {
-    let spec = Spec {
-        procs: 3,
-        messages: 1,
-        limit: 1,
-        cap: 3,
-        width: 1,
+    let (at, until, on) = if p == holder {
+        (15, Until::Asking(8), third)
+    } else if p == second {
+        (1, Until::Asking(15), holder)
+    } else {
+        (1, Until::Asking(8), second)
     };
-    let mut all = Vec::new(alloc);
-    for _ in 0..3 {
-        all.push(WorkerProgress::new(alloc)?)?;
+    let (answer, least, most) = if p == holder {
+        (1, 15, u64::MAX)
+    } else {
+        (0, 8, 8)
+    };
+    Hold {
+        at,
+        until,
+        on,
+        answer,
+        least,
+        most,
     }
-    let gates = one_after_another(alloc, all.as_slice(), order)?;
-    let fault = run(rt, alloc, lab, spec, gates).err();
-    for (p, progress) in all.iter().enumerate() {
-        assert!(rt; !progress.has_given_up(), "{lab:?}, {order:?}");
-        let stored = order[0] == p && progress.has_told(1, 15);
-        assert!(rt; stored || progress.has_told_at(0, 8), "{lab:?}, {order:?}");
-    }
-    Ok(fault)
 }
 
 #[test]
@@ -267,25 +254,28 @@ fn the_least_of_two_without_numbers(rt: HostRuntime) -> Result<(), Fail> {
     ];
     for lab in BOTH {
         for (order, p) in rows {
+            let holds = [
+                one_after_another(order, 0),
+                one_after_another(order, 1),
+                one_after_another(order, 2),
+            ];
             let fault = LockFault::NumbersSpent;
-            let answer = two_without_numbers(&rt, rt.alloc(), lab, order)?;
-            assert!(rt;
-                answer == Some(LabFault::Member { p, fault }),
-                "{lab:?}, {order:?}"
-            );
+            let wanted = Err(LabFault::Member { p, fault });
+            let is_right = meets(&rt, rt.alloc(), lab, (1, 3), &holds, wanted)?;
+            assert!(rt; is_right, "{lab:?}, {order:?}");
         }
     }
     Ok(())
 }
 
-/// A lab with this many workers, each of which crashes at 20 of 1,000 askings.
-fn sends_all<R: Abort + Threads + Wait + Sync>(
+/// Whether a lab with this many workers sends all, where each crashes at 20 of 1,000 askings.
+fn sends_all<R: Threads + Wait + Sync>(
     rt: &R,
     alloc: Global,
     lab: Lab,
     procs: u64,
     width: u64,
-) -> Result<(), Fail> {
+) -> Result<bool, Fail> {
     let spec = Spec {
         procs,
         messages: 50,
@@ -297,16 +287,14 @@ fn sends_all<R: Abort + Threads + Wait + Sync>(
     for p in 0..procs {
         gates.push(Seeded::new(p.saturating_add(7), 20))?;
     }
-    let messages = run(rt, alloc, lab, spec, gates)?.messages;
-    assert!(rt; are_all_sent(spec, messages.as_slice()), "{lab:?}");
-    Ok(())
+    Ok(are_sent(spec, run(rt, alloc, lab, spec, gates)))
 }
 
 #[test]
 fn lab_run(rt: HostRuntime) -> Result<(), Fail> {
     for (procs, width) in [(1, 1), (4, 1), (4, 8), (8, 1), (8, 8)] {
         for lab in BOTH {
-            sends_all(&rt, rt.alloc(), lab, procs, width)?;
+            assert!(rt; sends_all(&rt, rt.alloc(), lab, procs, width)?, "{lab:?}");
         }
     }
     Ok(())

@@ -6,6 +6,7 @@ use one_lock::lab::Gate;
 use std::alloc::{AllocError, Global};
 use std::sync::Arc;
 use std::sync::atomic::{AtomicU64, Ordering};
+use std::test::Fail;
 
 /// How often a gate checks before it gives up.
 const MOST_LOOKS: u64 = 10_000_000;
@@ -37,27 +38,38 @@ impl WorkerProgress {
         self.gave_up.load(Ordering::SeqCst) > 0
     }
 
-    /// The worker has asked exactly this often, and its last answer, reported after its last asking, is this one; 0 is none.
-    pub fn has_told_at(&self, answer: u64, askings: u64) -> bool {
-        self.has_told(answer, askings) && self.askings.load(Ordering::SeqCst) == askings
-    }
-
-    /// The worker has asked at least this often, and its last answer, reported after its last asking, is this one; 0 is
-    /// none.
-    pub fn has_told(&self, answer: u64, least_askings: u64) -> bool {
+    /// The worker has asked at least and at most this often, and its last answer, reported after its last asking, is this
+    /// one; 0 is none.
+    pub fn has_told(&self, answer: u64, least: u64, most: u64) -> bool {
         let askings = self.askings.load(Ordering::SeqCst);
         let last = if answer == 0 { 0 } else { askings };
-        askings >= least_askings
+        least <= askings
+            && askings <= most
             && self.answer.load(Ordering::SeqCst) == answer
             && self.answered_at.load(Ordering::SeqCst) == last
     }
 }
 
 /// How far the other worker has to get.
-#[derive(Clone, Copy, Debug)]
+#[derive(Clone, Copy)]
 pub enum Until {
     Asking(u64),
     Answer(u64),
+}
+
+/// Where the gate of a worker holds it, and what the worker has reported in the end.
+#[derive(Clone, Copy)]
+pub struct Hold {
+    /// The asking at which it is held; 0 for none.
+    pub at: u64,
+    pub until: Until,
+    /// The worker that has to get that far.
+    pub on: usize,
+    /// Its last answer; 0 for none.
+    pub answer: u64,
+    /// The askings in the end: at least and at most as many.
+    pub least: u64,
+    pub most: u64,
 }
 
 /// A gate without a crash. It holds its worker at the asking with this number.
@@ -138,4 +150,22 @@ pub fn meeting(
     let first = Gated::new(12, Until::Asking(asking), &zero, &one)?;
     let second = Gated::new(1, Until::Asking(12), &one, &zero)?;
     Ok((first, second, zero, one))
+}
+
+/// A gate for each worker, and how far each has got.
+pub fn gates_of(
+    alloc: Global,
+    holds: &[Hold],
+) -> Result<(Vec<Gated>, Vec<Arc<WorkerProgress>>), Fail> {
+    let mut workers = Vec::new(alloc);
+    for _ in holds {
+        workers.push(WorkerProgress::new(alloc)?)?;
+    }
+    let mut gates = Vec::new(alloc);
+    for (p, hold) in holds.iter().enumerate() {
+        let mine = workers.get(p).ok_or("a worker")?;
+        let others = workers.get(hold.on).ok_or("another")?;
+        gates.push(Gated::new(hold.at, hold.until, mine, others)?)?;
+    }
+    Ok((gates, workers))
 }

@@ -2,20 +2,12 @@
 
 ghost use Rattle.std.specs.Prelude.{◌≡◌, length};
 
+use super::text::{cut, number};
 use one_lock::lab::Spec;
 use redomail::{Layout, Message, content};
 use rmecore::Body;
 use rmeworld::Image;
 use std::alloc::Global;
-
-/// Two workers that send one message each.
-pub const TWO: Spec = Spec {
-    procs: 2,
-    messages: 1,
-    limit: 10,
-    cap: 2,
-    width: 1,
-};
 
 /// A value of one word.
 pub fn body(word: u64) -> Body
@@ -27,16 +19,21 @@ pub fn body(word: u64) -> Body
     }
 }
 
-/// Whether the messages are these. Each is given as its sender, its sequence number and its word.
-pub fn are(messages: &[Message], wanted: &[(u64, u64, u64)]) -> bool {
-    messages.len() == wanted.len()
-        && messages.iter().zip(wanted).all(|(message, (sender, seq, word))| {
-            message.sender == *sender && message.seq == *seq && message.value == body(*word)
-        })
+/// Whether the messages are these, as in `0 1 5; 1 1 9`: each one's sender, sequence number and word.
+pub fn are(messages: &[Message], wanted: &str) -> bool {
+    let mut rest = wanted;
+    for message in messages {
+        let mut line = cut(&mut rest, "; ");
+        let is_sent = number(&mut line) == message.sender && number(&mut line) == message.seq;
+        if !is_sent || message.value != body(number(&mut line)) {
+            return false;
+        }
+    }
+    rest.is_empty()
 }
 
 /// Whether an image of two processes, with values of one word, shows exactly these messages.
-pub fn shows(alloc: Global, image: &Image, wanted: &[(u64, u64, u64)]) -> bool {
+pub fn shows(alloc: Global, image: &Image, wanted: &str) -> bool {
     let layout = Layout {
         procs: 2,
         cap: image.cap,

@@ -1,0 +1,5 @@
+use Rattle.robust_tests.proofs.members.crashes_at_askings.Given as goal
+
+-- the ledger of the blank that was just made
+abbrev pub ghosts-wrong_alone_on_plain : goal.ghosts-wrong_alone_on_plain
+ghosts-wrong_alone_on_plain g a = record { name = a.blank.name; parts = a.blank.parts }

@@ -1,5 +1,0 @@
-use Rattle.robust_tests.proofs.plain.members.refusals.Given as goal
-
--- the ledger of the blank that was just made
-abbrev pub ghosts-refuses : goal.ghosts-refuses
-ghosts-refuses g a = record { name = a.blank.name; parts = a.blank.parts }

@@ -1,8 +1,0 @@
-use Rattle.std.proofs.Common.{ap}
-use Rattle.robust.specs.Working.{seats_of}
-use Rattle.robust_tests.proofs.table.eight.made.Goals as goal
-
-pub returns : goal.returns
-returns g c =
-    let m = c.in-Ok.ensures.made in
-    (m.0, record { layout = record { procs = 8; cap = 1; width = 1 }; limit = 1000000 }, ap seats_of m.1)

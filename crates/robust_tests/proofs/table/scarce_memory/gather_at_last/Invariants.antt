@@ -1,5 +1,0 @@
-use Rattle.execution.specs.Gathering.{OneArena}
-use Rattle.robust_tests.proofs.table.scarce_memory.gather_at_last.Given as goal
-
-abbrev pub invariant-loop : goal.invariant-loop
-invariant-loop g l = record { arena : OneArena l.members.items }

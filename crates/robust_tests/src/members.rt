@@ -1,0 +1,183 @@
+//! The worked rows over members that need no threads.
+
+ghost use Rattle.std.specs.Prelude.{◌≡◌};
+
+use crate::both::{Played, wrong_on_both, wrong_on_either_path};
+use crate::support::counted::{Counted, never, stepwise};
+use crate::support::rows::first_wrong;
+use crate::support::tested::Tested;
+use crash_plans::CrashPlan;
+use redomail::Reply;
+use rmecore::Refusal;
+use std::alloc::Global;
+use std::marker::Brand;
+use std::process::Abort;
+use std::sync::Wait;
+use std::sync::ledger::{Blank, Ledger};
+use std::test::Fail;
+
+/// Calls that are refused, and don't ask the plan. One that is blocked reads four times.
+#[test]
+fn refusals(rt: HostRuntime) {
+    for rows in [
+        "0 lock_within 0: clean - 12; 0 consistent: not-inconsistent - 0; 1 unlock: not-owner - 0",
+        "0 unlock: not-owner - 0; 0 get 4: not-owner - 0; 0 put 4 1: not-owner - 0; \
+         0 lock_within 0: clean - 12; 0 consistent: not-inconsistent - 0; 0 lock: already-in - 0; \
+         0 recover: already-in - 0; 0 close_within 0: already-in - 0; 0 get 4: bad-index - 0; \
+         0 put 4 1: bad-index 11 0; 0 put 3 7: put - 2; 0 get 3: 7 - 2; \
+         1 close_within 3: not-yet 12 13",
+    ] {
+        let left = "anything";
+        let wrong = wrong_on_both(&rt, rt.alloc(), Played { cap: 1, rows, left });
+        assert!(&rt; wrong.is_none(), "{wrong:?}");
+    }
+}
+
+/// An unlock that ruins the lock, and the members that lock after it.
+#[test]
+fn ruined(rt: HostRuntime) {
+    let played = Played {
+        cap: 1,
+        rows: "0 lock_within 0 @12: crashed 11 12; 0 lock_within 0: owner-died 4 5; 0 unlock: unlocked 3 4; \
+               1 lock_within 0: not-recoverable 13 14; 0 lock_within 0: not-recoverable 13 14",
+        left: "words 0 0 0 0 0 0 1",
+    };
+    let wrong = wrong_on_both(&rt, rt.alloc(), played);
+    assert!(&rt; wrong.is_none(), "{wrong:?}");
+}
+
+/// A lock that gives up, and one that waits on and keeps its place.
+#[test]
+fn place_kept(rt: HostRuntime) {
+    for rows in [
+        "0 lock_within 0: clean 11 12; 1 lock_within 0: not-yet 9 10; 0 unlock: unlocked 2 3; \
+         1 lock_within 0: clean 7 8",
+        "0 lock_within 0: clean 11 12; 1 lock_within 0: not-yet 9 10; 1 lock_within 3: not-yet 8 9; \
+         0 unlock: unlocked 2 3; 1 lock_within 0: clean 7 8",
+    ] {
+        let left = "words 0 0 0 0 2 1";
+        let wrong = wrong_on_both(&rt, rt.alloc(), Played { cap: 1, rows, left });
+        assert!(&rt; wrong.is_none(), "{wrong:?}");
+    }
+}
+
+/// A place in the line that is given up.
+#[test]
+fn withdraw_member(rt: HostRuntime) {
+    let played = Played {
+        cap: 1,
+        rows: "0 lock_within 0: clean; 1 lock_within 0: not-yet; 1 withdraw: withdrawn 1 2; \
+               1 withdraw: not-owner - 0",
+        left: "words 0 1 1 0 0 0",
+    };
+    let wrong = wrong_on_either_path(&rt, rt.alloc(), played);
+    assert!(&rt; wrong.is_none(), "{wrong:?}");
+}
+
+#[test]
+fn an_entry_and_an_exit(rt: HostRuntime) {
+    let played = Played {
+        cap: 4,
+        rows: "0 unlock: not-owner 0 0; 0 lock_within 0: clean 11; 0 lock_within 0: already-in - 0; \
+               0 put 2 7: put; 0 get 2: 7; 0 get 4: bad-index - 0; 0 consistent: not-inconsistent - 0; \
+               1 lock_within 3: not-yet; 1 get 2: not-owner - 0; 1 withdraw: withdrawn 1; \
+               1 withdraw: not-owner - 0; 0 unlock: unlocked 2; 1 lock_within 0: clean; 1 get 2: 7",
+        left: "anything",
+    };
+    let wrong = wrong_on_either_path(&rt, rt.alloc(), played);
+    assert!(&rt; wrong.is_none(), "{wrong:?}");
+}
+
+#[test]
+fn a_crash_inside(rt: HostRuntime) {
+    let played = Played {
+        cap: 4,
+        rows: "0 lock_within 0 @12: crashed 11; 0 get 0: not-owner - 0; 0 consistent: not-inconsistent - 0; \
+               1 lock_within 9: not-yet; 0 recover: inside 3; 0 consistent: nothing-to-mend 2; \
+               0 unlock: unlocked; 0 recover: idle; 1 lock_within 0: clean",
+        left: "anything",
+    };
+    let wrong = wrong_on_both(&rt, rt.alloc(), played);
+    assert!(&rt; wrong.is_none(), "{wrong:?}");
+}
+
+/// Plays rows of a member of an arena of its own, which then closes the mailbox.
+fn wrong_alone<M: Tested, C: CrashPlan, R: Wait>(
+    rt: &R,
+    one: &mut M,
+    plan: &mut Counted<C>,
+) -> Option<&'static str> {
+    let rows = "lock_within 0 @1: crashed 0; recover: idle 3 4; lock_within 0 @9: crashed 8 9; \
+         unlock: not-owner 8 0; lock_within 0: owner-died 4 5; consistent: nothing-to-mend 2 3; \
+         unlock: unlocked 2 3; lock: clean 8 9; unlock: unlocked 2 3";
+    let wrong = first_wrong(rt, one, plan, rows);
+    if wrong.is_some() {
+        return wrong;
+    }
+    let is_closed = one.close_at_last(rt, plan) == Ok(Reply::ClosedNow);
+    if is_closed && one.own_steps() == 12 && plan.taken() == 13 {
+        None
+    } else {
+        Some("close")
+    }
+}
+
+fn wrong_alone_on_plain<L: Ledger, R: Wait>(
+    rt: &R,
+    alloc: Global,
+    blank: Blank,
+) -> Option<&'static str>
+    requires name { blank.name ≡ L.name }
+    requires parts { blank.parts ≡ L.parts }
+    requires one { blank.parts ≡ 1 }
+{
+    let Ok(mut all) = one_lock::Arena::new::<L, R>(rt, alloc, 1, 10, 1, 1, blank) else {
+        return Some("no arena");
+    };
+    match all.pop() {
+        Some(mut one) => wrong_alone(rt, &mut one, &mut never()),
+        None => Some("no member"),
+    }
+}
+
+fn wrong_alone_on_running<C: CrashPlan, R: Wait>(
+    rt: &R,
+    alloc: Global,
+    plan: &mut Counted<C>,
+) -> Option<&'static str> {
+    let Ok(mut all) = robust::Arena::new(rt, alloc, 1, 10, 1, 1) else {
+        return Some("no arena");
+    };
+    match all.pop() {
+        Some(mut one) => wrong_alone(rt, &mut one, plan),
+        None => Some("no member"),
+    }
+}
+
+#[test]
+fn crashes_at_askings(rt: HostRuntime) {
+    let wrong = wrong_alone_on_plain::<Brand, _>(&rt, rt.alloc(), Blank::new(1))
+        .or(wrong_alone_on_running(&rt, rt.alloc(), &mut never()))
+        .or(wrong_alone_on_running(&rt, rt.alloc(), &mut stepwise()));
+    assert!(&rt; wrong.is_none(), "{wrong:?}");
+}
+
+/// The refusal of an arena with this number of processes, limit, capacity and width.
+fn refusal<R: Abort>(rt: &R, alloc: Global, sizes: (u64, u64, u64, u64)) -> Option<Refusal> {
+    let (procs, limit, cap, width) = sizes;
+    robust::Arena::new(rt, alloc, procs, limit, cap, width).err()
+}
+
+#[test]
+fn sizes_outside_the_limits(rt: HostRuntime) {
+    for (sizes, wanted) in [
+        ((0, 0, 0, 0), Some(Refusal::BadProcs)),
+        ((65, 1, 1, 1), Some(Refusal::BadProcs)),
+        ((64, 0, 0, 1), Some(Refusal::BadLimit)),
+        ((1, 1, 65537, 9), Some(Refusal::BadCap)),
+        ((1, 1, 1, 9), Some(Refusal::BadWidth)),
+        ((64, 1 << 62, 2, 8), None),
+    ] {
+        assert!(&rt; refusal(&rt, rt.alloc(), sizes) == wanted, "{sizes:?}");
+    }
+}

@@ -2,6 +2,7 @@
 
 ghost use Rattle.std.specs.Prelude.{◌≡◌};
 ghost use Rattle.algorithms.specs.Values.{admits, evaluated_pair, holds};
+ghost use Rattle.algorithms.specs.declared.condition.Condition.{Compare, ComparePairs};
 
 use crate::constants::Constants;
 use crate::expression::{Expression, NAMES};
@@ -49,6 +50,36 @@ impl Comparison {
             Comparison::AtLeast => ordering.is_ge(),
         }
     }
+
+    /// Whether two values compare so.
+    fn of_values(
+        self,
+        left: &Expression,
+        right: &Expression,
+        constants: Constants,
+        store: &[u64; NAMES],
+    ) -> Option<bool>
+        ensures { result ≡ holds constants store.now (Compare self left.now right.now) }
+    {
+        let left = left.evaluate(constants, store)?;
+        let right = right.evaluate(constants, store)?;
+        Some(self.admits(left.cmp(&right)))
+    }
+
+    /// Whether two pairs compare so.
+    fn of_pairs(
+        self,
+        left: &Pair,
+        right: &Pair,
+        constants: Constants,
+        store: &[u64; NAMES],
+    ) -> Option<bool>
+        ensures { result ≡ holds constants store.now (ComparePairs self left.now right.now) }
+    {
+        let left = left.evaluate(constants, store)?;
+        let right = right.evaluate(constants, store)?;
+        Some(self.admits(left.0.cmp(&right.0).then(left.1.cmp(&right.1))))
+    }
 }
 
 impl Pair {
@@ -69,14 +100,10 @@ impl Condition {
     {
         match self {
             Condition::Compare(comparison, left, right) => {
-                let left = left.evaluate(constants, store)?;
-                let right = right.evaluate(constants, store)?;
-                Some(comparison.admits(left.cmp(&right)))
+                comparison.of_values(left, right, constants, store)
             }
             Condition::ComparePairs(comparison, left, right) => {
-                let left = left.evaluate(constants, store)?;
-                let right = right.evaluate(constants, store)?;
-                Some(comparison.admits(left.0.cmp(&right.0).then(left.1.cmp(&right.1))))
+                comparison.of_pairs(left, right, constants, store)
             }
             Condition::And(first, second) => {
                 if first.holds(constants, store)? {

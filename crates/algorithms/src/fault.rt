@@ -5,6 +5,7 @@ ghost use Rattle.algorithms.specs.declared.fault.AlgorithmFault.TheVariants.{Out
 ghost use Rattle.algorithms.specs.declared.fault.LineFault.TheVariants.{OutOfMemory as LineOutOfMemory};
 
 use std::alloc::{AllocError, AllocFailed};
+use std::fmt;
 use thiserror::Error;
 
 /// Why a text could not be read.
@@ -18,45 +19,26 @@ pub enum AlgorithmFault {
 }
 
 /// What is wrong with a line of an algorithm's text.
-#[derive(Clone, Copy, Debug, PartialEq, Eq, Error)]
+#[derive(Clone, Copy, Debug, PartialEq, Eq)]
 pub enum LineFault {
-    #[error("the first line is no header, or the second names no promises")]
     NoHeader,
-    #[error("a character that means nothing here")]
     BadCharacter,
-    #[error("the last line is not ended by a line feed")]
     NoNewline,
-    #[error("no line has this form")]
     BadForm,
-    #[error("the name is taken")]
     NameTaken,
-    #[error("there is no such name")]
     UnknownName,
-    #[error("a second access in one line")]
     TwoAccesses,
-    #[error("this cannot be set")]
     NotAssignable,
-    #[error("an `end`, an `else` or a `call` in the wrong place")]
     BadBlock,
-    #[error("there is no such label, or not from here")]
     BadLabel,
-    #[error("a name may be read before it is set")]
     Unset,
-    #[error("lines can go round without a step")]
     Endless,
-    #[error("this can come before the first step of the call")]
     NoStep,
-    #[error("the call can go past its last line")]
     FallsOff,
-    #[error("the deed does not fit the promises or the line")]
     BadDeed,
-    #[error("a limit is passed")]
     TooBig,
-    #[error("the calls do not fit together")]
     BadCall,
-    #[error("no run comes to this line")]
     NeverReached,
-    #[error("out of memory")]
     OutOfMemory,
 }
 
@@ -90,7 +72,40 @@ impl LineFault {
         };
         AlgorithmFault::At { line, number }
     }
+
+    /// What it says to a reader.
+    fn text(self) -> &'static str {
+        match self {
+            LineFault::NoHeader => "the first line is no header, or the second names no promises",
+            LineFault::BadCharacter => "a character that means nothing here",
+            LineFault::NoNewline => "the last line is not ended by a line feed",
+            LineFault::BadForm => "no line has this form",
+            LineFault::NameTaken => "the name is taken",
+            LineFault::UnknownName => "there is no such name",
+            LineFault::TwoAccesses => "a second access in one line",
+            LineFault::NotAssignable => "this cannot be set",
+            LineFault::BadBlock => "an `end`, an `else` or a `call` in the wrong place",
+            LineFault::BadLabel => "there is no such label, or not from here",
+            LineFault::Unset => "a name may be read before it is set",
+            LineFault::Endless => "lines can go round without a step",
+            LineFault::NoStep => "this can come before the first step of the call",
+            LineFault::FallsOff => "the call can go past its last line",
+            LineFault::BadDeed => "the deed does not fit the promises or the line",
+            LineFault::TooBig => "a limit is passed",
+            LineFault::BadCall => "the calls do not fit together",
+            LineFault::NeverReached => "no run comes to this line",
+            LineFault::OutOfMemory => "out of memory",
+        }
+    }
 }
+
+impl fmt::Display for LineFault {
+    fn fmt<W: fmt::Write>(&self, f: &mut fmt::Formatter<W>) -> fmt::Result {
+        f.write_str(self.text())
+    }
+}
+
+impl std::error::Error for LineFault {}
 
 impl From<AllocError> for LineFault {
     ghost from_gives = { λ _ e. e ≡ LineOutOfMemory };

@@ -11,7 +11,7 @@ use crate::noted::Noted;
 use crate::refusal::AlgorithmRefusal;
 
 /// A process between two accesses: the place of its next line, its private names, and the deeds noted since its access.
-#[derive(Clone, Copy, Debug)]
+#[derive(Clone, Copy)]
 pub struct LocalState {
     pub at: usize,
     pub store: [u64; NAMES],
@@ -20,7 +20,7 @@ pub struct LocalState {
 
 /// What one line does to a process between two accesses: it goes on, or the line is an access, or with an answer the end of the
 /// call.
-#[derive(Clone, Copy, Debug)]
+#[derive(Clone, Copy)]
 pub enum LineStep {
     GoesOn,
     Stops(Option<usize>),

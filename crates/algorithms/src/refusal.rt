@@ -4,36 +4,66 @@ ghost use Rattle.std.specs.Prelude.{◌≡◌};
 ghost use Rattle.algorithms.specs.declared.refusal.AlgorithmRefusal.TheVariants.{OutOfMemory};
 
 use std::alloc::{AllocError, AllocFailed};
-use thiserror::Error;
+use std::error::Error;
+use std::fmt;
 
 /// Why a world of an algorithm refuses. A refused call changes nothing.
-#[derive(Clone, Copy, Debug, PartialEq, Eq, Error)]
+#[derive(Clone, Copy, Debug, PartialEq, Eq)]
 pub enum AlgorithmRefusal {
-    #[error("the algorithm is not for this number of processes")]
     BadProcs,
-    #[error("the limit of numbers is not 1 to 2^62")]
     BadLimit,
-    #[error("there is no such process")]
     NoSuchProcess,
-    #[error("a call of the process is under way")]
     CallUnderWay,
-    #[error("no call of the process is under way")]
     NothingToDo,
-    #[error("the process is at no line with `may withdraw`")]
     NotWaiting,
-    #[error("the algorithm has no such call")]
     NoSuchCall,
     /// At the line of this place, a value is no number of 64 bits, an index no process, a store above its bound, or a deed
     /// the fourth of its step.
-    #[error("out of range at place {place}")]
     OutOfRange { place: usize },
     /// The algorithm itself is wrong here: a line or a word that is not there, a call that ends before its first step, or
     /// local lines that go round. No algorithm that was read meets it.
-    #[error("the algorithm is wrong at place {place}")]
     Malformed { place: usize },
-    #[error("out of memory")]
     OutOfMemory,
 }
+
+impl AlgorithmRefusal {
+    /// What it says to a reader, before the place where it has one.
+    fn text(self) -> &'static str {
+        match self {
+            AlgorithmRefusal::BadProcs => "the algorithm is not for this number of processes",
+            AlgorithmRefusal::BadLimit => "the limit of numbers is not 1 to 2^62",
+            AlgorithmRefusal::NoSuchProcess => "there is no such process",
+            AlgorithmRefusal::CallUnderWay => "a call of the process is under way",
+            AlgorithmRefusal::NothingToDo => "no call of the process is under way",
+            AlgorithmRefusal::NotWaiting => "the process is at no line with `may withdraw`",
+            AlgorithmRefusal::NoSuchCall => "the algorithm has no such call",
+            AlgorithmRefusal::OutOfRange { .. } => "out of range at place",
+            AlgorithmRefusal::Malformed { .. } => "the algorithm is wrong at place",
+            AlgorithmRefusal::OutOfMemory => "out of memory",
+        }
+    }
+
+    /// The place of the line at which it comes.
+    fn place(self) -> Option<usize> {
+        match self {
+            AlgorithmRefusal::OutOfRange { place } | AlgorithmRefusal::Malformed { place } => Some(
+                place,
+            ),
+            _ => None,
+        }
+    }
+}
+
+impl fmt::Display for AlgorithmRefusal {
+    fn fmt<W: fmt::Write>(&self, f: &mut fmt::Formatter<W>) -> fmt::Result {
+        match self.place() {
+            None => f.write_str(self.text()),
+            Some(place) => write!(f, "{} {place}", self.text()),
+        }
+    }
+}
+
+impl Error for AlgorithmRefusal {}
 
 impl From<AllocError> for AlgorithmRefusal {
     ghost from_gives = { λ _ e. e ≡ OutOfMemory };

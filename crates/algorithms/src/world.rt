@@ -214,7 +214,6 @@ fn taken(before: &LocalState, advanced: &Advanced, state: &LocalState) -> Taken
     }
 }
 
-#[tactic(auto, using(std::proofs::lemmas::List::replicate_more))]
 fn all_zero(alloc: Global, count: usize) -> Result<Vec<[u64; MOST_PROCS]>, AlgorithmRefusal>
     ensures rows { IfOk result (λ rows. rows.items ≡ replicate count (replicate 64 0)) }
     ensures memory { IfErr result (λ e. e ≡ AlgorithmRefusal.OutOfMemory) }
@@ -226,7 +225,6 @@ fn all_zero(alloc: Global, count: usize) -> Result<Vec<[u64; MOST_PROCS]>, Algor
     Ok(rows)
 }
 
-#[tactic(auto, using(std::proofs::lemmas::List::replicate_more))]
 fn all_at_rest(alloc: Global, count: usize) -> Result<Vec<Process>, AlgorithmRefusal>
     ensures rows { IfOk result (λ processes. processes.items ≡ replicate count resting) }
     ensures memory { IfErr result (λ e. e ≡ AlgorithmRefusal.OutOfMemory) }

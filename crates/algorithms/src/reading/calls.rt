@@ -6,7 +6,7 @@ use crate::expression::Expression;
 use crate::fault::LineFault;
 use crate::reading::lines::{CallRead, Draft, after, after_word, ended, split_value};
 use crate::reading::names::{declare_private, new_name, undeclared};
-use crate::reading::tokens::{Sign, Token, Tokens, is_sign, is_word};
+use crate::reading::tokens::{Sign, Token, Tokens, Word, is_sign, is_word};
 use crate::reading::values::value;
 use std::alloc::Global;
 
@@ -60,15 +60,20 @@ fn numbers(tokens: &[Token]) -> Result<(u64, u64, &[Token]), LineFault> {
     }
 }
 
+/// What a first line says: the name, and the least and the greatest number of processes.
+fn head_words(tokens: &[Token]) -> Result<(Word, u64, u64), LineFault> {
+    let rest = after_word(tokens, b"algorithm")?;
+    let name = new_name(rest.first())?;
+    let (least, most, rest) = numbers(after_word(after(rest, 1), b"for")?)?;
+    ended(after_word(rest, b"processes")?)?;
+    Ok((name, least, most))
+}
+
 /// Reads the first line: `algorithm NAME for LEAST to MOST processes`.
 pub fn head(alloc: Global, line: &Tokens) -> Result<Algorithm, LineFault> {
-    let header = LineFault::NoHeader;
-    let rest = after_word(line.all.as_slice(), b"algorithm").map_err(|_| header)?;
-    let name = new_name(rest.first()).map_err(|_| header)?;
-    let rest = after_word(after(rest, 1), b"for").map_err(|_| header)?;
-    let (least, most, rest) = numbers(rest)?;
-    let rest = after_word(rest, b"processes").map_err(|_| header)?;
-    ended(rest).map_err(|_| header)?;
+    let Ok((name, least, most)) = head_words(line.all.as_slice()) else {
+        return Err(LineFault::NoHeader);
+    };
     if least == 0 || least > most || most > MOST_PROCS as u64 {
         return Err(LineFault::TooBig);
     }
@@ -86,7 +91,9 @@ fn promised<'t>(tokens: &'t [Token], word: &[u8]) -> (bool, &'t [Token]) {
 
 /// Reads the second line: `promises exclusion, reentry, order`, of which the last two may be left out.
 pub fn promises(line: &Tokens) -> Result<Promises, LineFault> {
-    let rest = after_word(line.all.as_slice(), b"promises").map_err(|_| LineFault::NoHeader)?;
+    let Ok(rest) = after_word(line.all.as_slice(), b"promises") else {
+        return Err(LineFault::NoHeader);
+    };
     let rest = after_word(rest, b"exclusion")?;
     let (reentry, rest) = promised(rest, b"reentry");
     let (order, rest) = promised(rest, b"order");
@@ -127,12 +134,22 @@ fn bound(
     let (part, rest) = split_value(rest);
     let known = algorithm.names.len();
     let value = value(alloc, algorithm, part)?;
-    ended(rest)?;
-    if is_bound(&value) && algorithm.names.len() == known {
+    if rest.is_empty() && is_bound(&value) && algorithm.names.len() == known {
         Ok(Some(value))
     } else {
         Err(LineFault::BadForm)
     }
+}
+
+/// The declaration of this name.
+fn declared(
+    alloc: Global,
+    name: &[u8],
+    each: bool,
+    bound: Option<Expression>,
+) -> Result<Declaration, LineFault> {
+    let name = String::from_utf8_lossy(alloc, name)?;
+    Ok(Declaration { name, each, bound })
 }
 
 /// Reads `shared NAME`, with `[procs]` and a bound where they are there.
@@ -143,10 +160,8 @@ fn shared(alloc: Global, algorithm: &mut Algorithm, tokens: &[Token]) -> Result<
     }
     let (each, rest) = each(after(tokens, 1))?;
     let bound = bound(alloc, algorithm, rest)?;
-    let name = String::from_utf8_lossy(alloc, name.as_bytes())?;
-    algorithm
-        .declarations
-        .push(Declaration { name, each, bound })?;
+    let declaration = declared(alloc, name.as_bytes(), each, bound)?;
+    algorithm.declarations.push(declaration)?;
     Ok(())
 }
 
@@ -185,9 +200,18 @@ impl Draft {
         self.end_call(last)?;
         let call = call_of(tokens.first())?;
         ended(after(tokens, 1))?;
-        if self.calls.iter().any(|other| other.call == call) {
+        if self.has_call(call) {
             return Err(LineFault::BadCall);
         }
+        self.add_call(call)
+    }
+
+    fn has_call(&self, call: Call) -> bool {
+        self.calls.iter().any(|other| other.call == call)
+    }
+
+    /// Adds a call that begins at the next line.
+    fn add_call(&mut self, call: Call) -> Result<(), LineFault> {
         let from = self.algorithm.lines.len();
         let number = self.number;
         self.calls.push(CallRead {

@@ -4,7 +4,7 @@ use crate::fault::{AlgorithmFault, LineFault};
 use crate::line::{Form, Line, LocalLine};
 use crate::ranks::has_round;
 use crate::reading::lines::{CallRead, Jump};
-use crate::reading::usage::{bit, loop_name, names_read, names_set};
+use crate::reading::usage::{first_names, loop_name, names_read, names_set};
 use std::alloc::{AllocError, Global};
 
 /// The ways of a call from line to line. Which way a branch goes is not asked.
@@ -23,10 +23,41 @@ struct Ways {
     second: Option<usize>,
 }
 
+fn no_way() -> Ways {
+    Ways {
+        first: None,
+        second: None,
+    }
+}
+
 fn one_way(place: usize) -> Ways {
     Ways {
         first: Some(place),
         second: None,
+    }
+}
+
+fn two_ways(first: usize, second: usize) -> Ways {
+    Ways {
+        first: Some(first),
+        second: Some(second),
+    }
+}
+
+/// Where a local line leads, where `least` is the least number of processes and `next` the place of the line after it.
+fn local_ways(line: &LocalLine, least: u64, next: usize) -> Ways {
+    match line {
+        LocalLine::Assign { .. } | LocalLine::Note(_) => one_way(next),
+        LocalLine::Goto(target) => one_way(*target),
+        LocalLine::Branch { otherwise, .. } => two_ways(next, *otherwise),
+        LocalLine::First { members, after, .. } => {
+            if has_round(least, *members) {
+                one_way(next)
+            } else {
+                two_ways(next, *after)
+            }
+        }
+        LocalLine::Next { body, .. } => two_ways(*body, next),
     }
 }
 
@@ -38,40 +69,27 @@ impl<'a> Flow<'a> {
     fn ways(&self, place: usize) -> Ways {
         let next = place.saturating_add(1);
         let Some(line) = self.lines.get(place) else {
-            return Ways {
-                first: None,
-                second: None,
-            };
+            return no_way();
         };
         match &line.form {
-            Form::Done(_) => Ways {
-                first: None,
-                second: None,
-            },
-            Form::Access(_) | Form::Local(LocalLine::Assign { .. } | LocalLine::Note(_)) => one_way(
-                next,
-            ),
-            Form::Local(LocalLine::Goto(target)) => one_way(*target),
-            Form::Local(LocalLine::Branch { otherwise, .. }) => Ways {
-                first: Some(next),
-                second: Some(*otherwise),
-            },
-            Form::Local(LocalLine::First { members, after, .. }) => {
-                let second = if has_round(self.least, *members) {
-                    None
-                } else {
-                    Some(*after)
-                };
-                Ways {
-                    first: Some(next),
-                    second,
-                }
-            }
-            Form::Local(LocalLine::Next { body, .. }) => Ways {
-                first: Some(*body),
-                second: Some(next),
-            },
+            Form::Done(_) => no_way(),
+            Form::Access(_) => one_way(next),
+            Form::Local(local) => local_ways(local, self.least, next),
         }
+    }
+
+    /// Marks the places to which a line leads.
+    fn follow(&self, place: usize, places: &mut [bool]) {
+        let ways = self.ways(place);
+        mark(places, ways.first);
+        mark(places, ways.second);
+    }
+
+    /// One more than the longest way from the places to which a line leads.
+    fn rank_at(&self, place: usize, ranks: &[u64]) -> u64 {
+        let ways = self.ways(place);
+        let longest = rank_after(ranks, ways.first).max(rank_after(ranks, ways.second));
+        longest.saturating_add(1)
     }
 
     /// The longest way over local lines from each line of the call, once each line was taken as often as there are lines.
@@ -79,10 +97,9 @@ impl<'a> Flow<'a> {
         for _ in self.call.from..self.call.to {
             for place in self.call.from..self.call.to {
                 if self.is_local(place) {
-                    let ways = self.ways(place);
-                    let longest = rank_after(ranks, ways.first).max(rank_after(ranks, ways.second));
+                    let longer = self.rank_at(place, ranks);
                     if let Some(rank) = ranks.get_mut(place) {
-                        *rank = longest.saturating_add(1);
+                        *rank = longer;
                     }
                 }
             }
@@ -112,21 +129,20 @@ impl<'a> Flow<'a> {
     /// Which places a run comes to from the call's first line. Past an access only where `through`.
     fn reached(&self, alloc: Global, through: bool) -> Result<Vec<bool>, AllocError> {
         let mut reached = vec![in alloc; false; self.lines.len().saturating_add(1)]?;
-        if let Some(first) = reached.get_mut(self.call.from) {
-            *first = true;
-        }
+        mark(reached.as_mut_slice(), Some(self.call.from));
         for _ in self.call.from..self.call.to {
-            for place in self.call.from..self.call.to {
-                if reached.get(place).copied() == Some(true)
-                    && (through || !self.is_access(place))
-                {
-                    let ways = self.ways(place);
-                    mark(reached.as_mut_slice(), ways.first);
-                    mark(reached.as_mut_slice(), ways.second);
-                }
-            }
+            self.reach(reached.as_mut_slice(), through);
         }
         Ok(reached)
+    }
+
+    /// Marks the places to which the lines that are reached lead.
+    fn reach(&self, reached: &mut [bool], through: bool) {
+        for place in self.call.from..self.call.to {
+            if is_marked(reached, place) && (through || !self.is_access(place)) {
+                self.follow(place, reached);
+            }
+        }
     }
 
     fn number(&self, place: usize) -> u64 {
@@ -136,18 +152,20 @@ impl<'a> Flow<'a> {
         }
     }
 
+    /// Whether the text has a line of its own for this one.
+    fn is_own_line(&self, place: usize, jumps: &[Jump]) -> bool {
+        match self.lines.get(place).map(|line| &line.form) {
+            Some(Form::Local(LocalLine::Next { .. })) => false,
+            Some(Form::Local(LocalLine::Goto(_))) => jumps.iter().any(|jump| jump.place == place),
+            _ => true,
+        }
+    }
+
     /// `NeverReached` at the first line to which no run comes. The end of a loop, and the end of a block before `else`, are no
     /// lines of their own.
     fn check_reached(&self, reached: &[bool], jumps: &[Jump]) -> Result<(), AlgorithmFault> {
         for place in self.call.from..self.call.to {
-            let counts = match self.lines.get(place).map(|line| &line.form) {
-                Some(Form::Local(LocalLine::Next { .. })) => false,
-                Some(Form::Local(LocalLine::Goto(_))) => jumps
-                    .iter()
-                    .any(|jump| jump.place == place),
-                _ => true,
-            };
-            if counts && !is_marked(reached, place) {
+            if !is_marked(reached, place) && self.is_own_line(place, jumps) {
                 return Err(LineFault::NeverReached.at(self.number(place)));
             }
         }
@@ -174,33 +192,27 @@ impl<'a> Flow<'a> {
         lasting: u64,
     ) -> Result<Vec<u64>, AllocError> {
         let mut surely = vec![in alloc; u64::MAX; self.lines.len().saturating_add(1)]?;
-        if let Some(first) = surely.get_mut(self.call.from) {
-            *first = lasting;
-        }
+        restrict(surely.as_mut_slice(), Some(self.call.from), lasting);
         for _ in self.call.from..self.call.to {
             for place in self.call.from..self.call.to {
-                let Some(line) = self.lines.get(place) else {
-                    continue;
-                };
-                if !is_marked(reached, place) {
-                    continue;
+                if is_marked(reached, place) {
+                    self.set_after(place, surely.as_mut_slice());
                 }
-                let before = surely.get(place).copied().unwrap_or(0);
-                let after = before | names_set(&line.form);
-                let ways = self.ways(place);
-                restrict(
-                    surely.as_mut_slice(),
-                    ways.first,
-                    after | loop_name(&line.form),
-                );
-                restrict(
-                    surely.as_mut_slice(),
-                    ways.second,
-                    after & !loop_name(&line.form),
-                );
             }
         }
         Ok(surely)
+    }
+
+    /// Restricts the names before the places to which a line leads to those that are set after it.
+    fn set_after(&self, place: usize, surely: &mut [u64]) {
+        let Some(line) = self.lines.get(place) else {
+            return;
+        };
+        let after = names_at(surely, place) | names_set(&line.form);
+        let name = loop_name(&line.form);
+        let ways = self.ways(place);
+        restrict(surely, ways.first, after | name);
+        restrict(surely, ways.second, after & !name);
     }
 
     /// `Unset` at the first line that may read a name before it is set.
@@ -211,12 +223,17 @@ impl<'a> Flow<'a> {
         lasting: u64,
     ) -> Result<(), AlgorithmFault> {
         let surely = self.surely_set(alloc, reached, lasting)?;
+        self.check_read(reached, surely.as_slice())
+    }
+
+    /// `Unset` at the first line that reads a name that is not surely set before it.
+    fn check_read(&self, reached: &[bool], surely: &[u64]) -> Result<(), AlgorithmFault> {
         for place in self.call.from..self.call.to {
             let Some(line) = self.lines.get(place) else {
                 continue;
             };
-            let set = surely.as_slice().get(place).copied().unwrap_or(0);
-            if is_marked(reached, place) && (names_read(&line.form) & !set) != 0 {
+            let unset = names_read(&line.form) & !names_at(surely, place);
+            if is_marked(reached, place) && unset != 0 {
                 return Err(LineFault::Unset.at(line.number));
             }
         }
@@ -230,18 +247,21 @@ impl<'a> Flow<'a> {
         first || ways.second.is_some_and(|way| is_marked(places, way))
     }
 
-    /// Takes out the local lines that none of those that are left leads to, and those that lead to none of them.
-    fn take_out(&self, left: &mut [bool], followed: &mut [bool]) {
+    /// Marks just the places to which those that are left lead.
+    fn follow_all(&self, left: &[bool], followed: &mut [bool]) {
         for place in self.call.from..self.call.to {
             unmark(followed, place);
         }
         for place in self.call.from..self.call.to {
             if is_marked(left, place) {
-                let ways = self.ways(place);
-                mark(followed, ways.first);
-                mark(followed, ways.second);
+                self.follow(place, followed);
             }
         }
+    }
+
+    /// Takes out the local lines that none of those that are left leads to, and those that lead to none of them.
+    fn take_out(&self, left: &mut [bool], followed: &mut [bool]) {
+        self.follow_all(left, followed);
         for place in self.call.from..self.call.to {
             if !is_marked(followed, place) || !self.leads_to(place, left) {
                 unmark(left, place);
@@ -253,16 +273,26 @@ impl<'a> Flow<'a> {
     fn check_ends(&self, alloc: Global, reached: &[bool]) -> Result<(), AlgorithmFault> {
         let mut left = vec![in alloc; false; self.lines.len().saturating_add(1)]?;
         let mut followed = vec![in alloc; false; self.lines.len().saturating_add(1)]?;
-        for place in self.call.from..self.call.to {
-            if is_marked(reached, place) && !self.is_access(place) {
-                mark(left.as_mut_slice(), Some(place));
-            }
-        }
+        self.mark_local(reached, left.as_mut_slice());
         for _ in self.call.from..self.call.to {
             self.take_out(left.as_mut_slice(), followed.as_mut_slice());
         }
+        self.check_none(left.as_slice())
+    }
+
+    /// Marks the places that are reached and of no access.
+    fn mark_local(&self, reached: &[bool], left: &mut [bool]) {
         for place in self.call.from..self.call.to {
-            if is_marked(left.as_slice(), place) {
+            if is_marked(reached, place) && !self.is_access(place) {
+                mark(left, Some(place));
+            }
+        }
+    }
+
+    /// `Endless` at the first place that is left.
+    fn check_none(&self, left: &[bool]) -> Result<(), AlgorithmFault> {
+        for place in self.call.from..self.call.to {
+            if is_marked(left, place) {
                 return Err(LineFault::Endless.at(self.number(place)));
             }
         }
@@ -272,16 +302,28 @@ impl<'a> Flow<'a> {
     /// `NoStep` at the first end or deed that can come before the call's first step.
     fn check_steps(&self, alloc: Global) -> Result<(), AlgorithmFault> {
         let silent = self.reached(alloc, false)?;
+        self.check_silent(silent.as_slice())
+    }
+
+    /// `NoStep` at the first end or deed among these places.
+    fn check_silent(&self, silent: &[bool]) -> Result<(), AlgorithmFault> {
         for place in self.call.from..self.call.to {
-            let early = match self.lines.get(place).map(|line| &line.form) {
-                Some(Form::Done(_) | Form::Local(LocalLine::Note(_))) => true,
-                _ => false,
-            };
-            if early && is_marked(silent.as_slice(), place) {
+            if is_marked(silent, place) && self.is_told(place) {
                 return Err(LineFault::NoStep.at(self.number(place)));
             }
         }
         Ok(())
+    }
+
+    /// Whether a line is an end or a deed, which others see.
+    fn is_told(&self, place: usize) -> bool {
+        match self.lines.get(place) {
+            Some(line) => match &line.form {
+                Form::Done(_) | Form::Local(LocalLine::Note(_)) => true,
+                _ => false,
+            },
+            None => false,
+        }
     }
 
     /// Checks what the runs of the call may do, and answers which places they come to. `lasting` are the names that stay from
@@ -293,16 +335,22 @@ impl<'a> Flow<'a> {
         lasting: usize,
     ) -> Result<Vec<bool>, AlgorithmFault> {
         let reached = self.reached(alloc, true)?;
-        let mut names = 0;
-        for name in 0..lasting {
-            names |= bit(name);
-        }
-        self.check_reached(reached.as_slice(), jumps)?;
-        self.check_end(reached.as_slice())?;
-        self.check_set(alloc, reached.as_slice(), names)?;
-        self.check_ends(alloc, reached.as_slice())?;
-        self.check_steps(alloc)?;
+        self.check_places(alloc, reached.as_slice(), jumps, lasting)?;
         Ok(reached)
+    }
+
+    fn check_places(
+        &self,
+        alloc: Global,
+        reached: &[bool],
+        jumps: &[Jump],
+        lasting: usize,
+    ) -> Result<(), AlgorithmFault> {
+        self.check_reached(reached, jumps)?;
+        self.check_end(reached)?;
+        self.check_set(alloc, reached, first_names(lasting))?;
+        self.check_ends(alloc, reached)?;
+        self.check_steps(alloc)
     }
 }
 
@@ -311,6 +359,10 @@ fn rank_after(ranks: &[u64], way: Option<usize>) -> u64 {
         Some(place) => ranks.get(place).copied().unwrap_or(0),
         None => 0,
     }
+}
+
+fn names_at(surely: &[u64], place: usize) -> u64 {
+    surely.get(place).copied().unwrap_or(0)
 }
 
 fn is_marked(places: &[bool], place: usize) -> bool {

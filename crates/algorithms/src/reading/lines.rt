@@ -17,7 +17,7 @@ const DEEPEST_BLOCK: usize = 16;
 const DEEPEST_LOOP: usize = 2;
 
 /// A block whose end is not read yet: the place of its first line, and what it is.
-#[derive(Clone, Copy, Debug)]
+#[derive(Clone, Copy)]
 pub struct Opened {
     pub place: usize,
     pub kind: Block,
@@ -25,7 +25,7 @@ pub struct Opened {
     pub block: usize,
 }
 
-#[derive(Clone, Copy, Debug, PartialEq, Eq)]
+#[derive(Clone, Copy)]
 pub enum Block {
     If,
     Else,
@@ -33,7 +33,7 @@ pub enum Block {
 }
 
 /// A label: its name, its place, the block in which it stands, and its line.
-#[derive(Clone, Copy, Debug)]
+#[derive(Clone, Copy)]
 pub struct Label {
     pub name: Word,
     pub place: usize,
@@ -42,14 +42,14 @@ pub struct Label {
 }
 
 /// A goto: its place, and the label that it names.
-#[derive(Clone, Copy, Debug)]
+#[derive(Clone, Copy)]
 pub struct Jump {
     pub place: usize,
     pub name: Word,
 }
 
 /// A call that was read: its lines, from a place to a place, and the number of the line that begins it.
-#[derive(Clone, Copy, Debug)]
+#[derive(Clone, Copy)]
 pub struct CallRead {
     pub call: Call,
     pub from: usize,
@@ -109,6 +109,14 @@ pub fn ended(tokens: &[Token]) -> Result<(), LineFault> {
     }
 }
 
+/// `BadDeed` where a deed or `may withdraw` is left, `BadForm` where another token is.
+fn ended_without_deed(tokens: &[Token]) -> Result<(), LineFault> {
+    if is_word(tokens.first(), b"this") || is_word(tokens.first(), b"may") {
+        return Err(LineFault::BadDeed);
+    }
+    ended(tokens)
+}
+
 /// Whether a value or a condition ends before this token.
 fn ends_value(token: &Token) -> bool {
     is_word(Some(token), b"then")
@@ -162,6 +170,62 @@ fn members_of(token: Option<&Token>) -> Result<Members, LineFault> {
     }
 }
 
+/// The processes that a loop goes over: `in MEMBERS`.
+fn members_said(tokens: &[Token]) -> Result<Members, LineFault> {
+    let rest = after_word(tokens, b"in")?;
+    let members = members_of(rest.first())?;
+    ended(after(rest, 1))?;
+    Ok(members)
+}
+
+/// The deed that a line says: `this is DEED`.
+fn deed_said(tokens: &[Token]) -> Result<Deed, LineFault> {
+    let rest = after_word(after_word(tokens, b"this")?, b"is")?;
+    let deed = deed_of(rest.first())?;
+    ended(after(rest, 1))?;
+    Ok(deed)
+}
+
+/// The tokens after `may withdraw`, where a line says it.
+fn after_withdraw(tokens: &[Token]) -> Result<&[Token], LineFault> {
+    if is_word(tokens.first(), b"may") {
+        after_word(after(tokens, 1), b"withdraw")
+    } else {
+        Ok(tokens)
+    }
+}
+
+/// The index of an answer, which is added where it is new.
+fn answer_place(
+    alloc: Global,
+    answers: &mut Vec<String>,
+    answer: &[u8],
+) -> Result<usize, LineFault> {
+    if let Some(place) = answers.iter().position(|other| other.as_bytes() == answer) {
+        return Ok(place);
+    }
+    let place = answers.len();
+    answers.push(String::from_utf8_lossy(alloc, answer)?)?;
+    Ok(place)
+}
+
+/// Whether a block or a label begins here.
+fn begins_no_simple(tokens: &[Token]) -> bool {
+    is_word(tokens.first(), b"if")
+        || is_word(tokens.first(), b"for")
+        || is_sign(tokens.get(1), Sign::Colon)
+}
+
+/// Lets a goto, or a line that leads past a block, lead to this place.
+pub fn lead_to(form: &mut Form, place: usize) {
+    match form {
+        Form::Local(LocalLine::Branch { otherwise, .. }) => *otherwise = place,
+        Form::Local(LocalLine::First { after, .. }) => *after = place,
+        Form::Local(LocalLine::Goto(target)) => *target = place,
+        _ => {}
+    }
+}
+
 impl Draft {
     /// Adds a line, and answers its place.
     fn add(&mut self, form: Form) -> Result<usize, LineFault> {
@@ -171,16 +235,15 @@ impl Draft {
         Ok(place)
     }
 
+    fn add_local(&mut self, line: LocalLine) -> Result<usize, LineFault> {
+        self.add(Form::Local(line))
+    }
+
     /// Lets a line that leads past a block lead to the next place.
     fn land(&mut self, place: usize) {
         let next = self.algorithm.lines.len();
         if let Some(line) = self.algorithm.lines.get_mut(place) {
-            match &mut line.form {
-                Form::Local(LocalLine::Branch { otherwise, .. }) => *otherwise = next,
-                Form::Local(LocalLine::First { after, .. }) => *after = next,
-                Form::Local(LocalLine::Goto(target)) => *target = next,
-                _ => {}
-            }
+            lead_to(&mut line.form, next);
         }
     }
 
@@ -217,50 +280,47 @@ impl Draft {
         let declaration = declaration_of(&self.algorithm, name.as_bytes()).ok_or(
             LineFault::UnknownName,
         )?;
-        let each = self
-            .algorithm
-            .declarations
-            .get(declaration)
-            .is_some_and(|declared| declared.each);
-        let rest = after(tokens, 1);
-        if !each {
-            if is_sign(rest.first(), Sign::OpenIndex) {
-                return Err(LineFault::BadForm);
-            }
-            return Ok((
-                WordOf {
-                    declaration,
-                    index: None,
-                },
-                rest,
-            ));
+        let (index, rest) = self.index(alloc, declaration, after(tokens, 1))?;
+        Ok((WordOf { declaration, index }, rest))
+    }
+
+    /// Whether a declaration has a word for each process.
+    fn has_index(&self, declaration: usize) -> bool {
+        match self.algorithm.declarations.get(declaration) {
+            Some(declared) => declared.each,
+            None => false,
         }
-        let rest = after_sign(rest, Sign::OpenIndex)?;
-        let (index, rest) = split_value(rest);
-        let index = value(alloc, &mut self.algorithm, index)?;
+    }
+
+    /// The index of a shared word, where its declaration has a word for each process, and the tokens after it.
+    fn index<'t>(
+        &mut self,
+        alloc: Global,
+        declaration: usize,
+        tokens: &'t [Token],
+    ) -> Result<(Option<Expression>, &'t [Token]), LineFault> {
+        if !self.has_index(declaration) {
+            return if is_sign(tokens.first(), Sign::OpenIndex) {
+                Err(LineFault::BadForm)
+            } else {
+                Ok((None, tokens))
+            };
+        }
+        let (part, rest) = split_value(after_sign(tokens, Sign::OpenIndex)?);
+        let index = value(alloc, &mut self.algorithm, part)?;
         let rest = after_sign(rest, Sign::CloseIndex)?;
-        Ok((
-            WordOf {
-                declaration,
-                index: Some(index),
-            },
-            rest,
-        ))
+        Ok((Some(index), rest))
     }
 
     /// Adds an access, with what may follow it in its line: `may withdraw`, and a deed.
     fn access(&mut self, word: WordOf, action: Action, tokens: &[Token]) -> Result<(), LineFault> {
         let may_withdraw = is_word(tokens.first(), b"may");
-        let rest = if may_withdraw {
-            after_word(after(tokens, 1), b"withdraw")?
-        } else {
-            tokens
-        };
         self.add(Form::Access(AccessLine {
             word,
             action,
             may_withdraw,
         }))?;
+        let rest = after_withdraw(tokens)?;
         if rest.is_empty() {
             Ok(())
         } else {
@@ -269,11 +329,20 @@ impl Draft {
     }
 
     fn deed(&mut self, tokens: &[Token]) -> Result<(), LineFault> {
-        let rest = after_word(after_word(tokens, b"this")?, b"is")?;
-        let deed = deed_of(rest.first())?;
-        ended(after(rest, 1))?;
-        self.add(Form::Local(LocalLine::Note(deed)))?;
+        let deed = deed_said(tokens)?;
+        self.add_local(LocalLine::Note(deed))?;
         Ok(())
+    }
+
+    /// The condition of `until CONDITION`, and the tokens after it.
+    fn until<'t>(
+        &mut self,
+        alloc: Global,
+        tokens: &'t [Token],
+    ) -> Result<(Condition, &'t [Token]), LineFault> {
+        let (part, rest) = split_value(after_word(tokens, b"until")?);
+        let condition = condition(alloc, &mut self.algorithm, part)?;
+        Ok((condition, rest))
     }
 
     /// `await NAME := WORD until CONDITION`.
@@ -281,9 +350,16 @@ impl Draft {
         let name = name_set(alloc, &mut self.algorithm, tokens.first())?;
         let rest = after_sign(after(tokens, 1), Sign::Assign)?;
         let (word, rest) = self.word(alloc, rest)?;
-        let (until, rest) = split_value(after_word(rest, b"until")?);
-        let until = condition(alloc, &mut self.algorithm, until)?;
+        let (until, rest) = self.until(alloc, rest)?;
         self.access(word, Action::Await { name, until }, rest)
+    }
+
+    /// `WORD := VALUE`.
+    fn stores(&mut self, alloc: Global, tokens: &[Token]) -> Result<(), LineFault> {
+        let (word, rest) = self.word(alloc, tokens)?;
+        let (stored, rest) = split_value(after_sign(rest, Sign::Assign)?);
+        let value = value(alloc, &mut self.algorithm, stored)?;
+        self.access(word, Action::Store { value }, rest)
     }
 
     /// `WORD := VALUE`, `NAME := WORD` or `NAME := VALUE`.
@@ -292,10 +368,7 @@ impl Draft {
             return Err(LineFault::BadForm);
         };
         if declaration_of(&self.algorithm, first.as_bytes()).is_some() {
-            let (word, rest) = self.word(alloc, tokens)?;
-            let (stored, rest) = split_value(after_sign(rest, Sign::Assign)?);
-            let value = value(alloc, &mut self.algorithm, stored)?;
-            return self.access(word, Action::Store { value }, rest);
+            return self.stores(alloc, tokens);
         }
         if is_sign(tokens.get(1), Sign::OpenIndex) {
             return Err(LineFault::UnknownName);
@@ -308,45 +381,52 @@ impl Draft {
         self.assigned(alloc, name, rest)
     }
 
-    /// What is assigned to a private name: a shared word, or a value.
-    fn assigned(&mut self, alloc: Global, name: usize, tokens: &[Token]) -> Result<(), LineFault> {
-        let loads = match tokens.first() {
+    /// Whether a shared word comes next.
+    fn begins_word(&self, tokens: &[Token]) -> bool {
+        match tokens.first() {
             Some(Token::Word(word)) => {
                 declaration_of(&self.algorithm, word.as_bytes()).is_some()
                     || is_sign(tokens.get(1), Sign::OpenIndex)
             }
             _ => false,
-        };
-        if loads {
-            let (word, rest) = self.word(alloc, tokens)?;
-            if matches!(rest.first(), Some(Token::Sign(_) | Token::Number(_))) {
-                return Err(LineFault::TwoAccesses);
-            }
-            return self.access(word, Action::Load { name }, rest);
+        }
+    }
+
+    /// A shared word that is assigned to a private name.
+    fn loads(&mut self, alloc: Global, name: usize, tokens: &[Token]) -> Result<(), LineFault> {
+        let (word, rest) = self.word(alloc, tokens)?;
+        if matches!(rest.first(), Some(Token::Sign(_) | Token::Number(_))) {
+            return Err(LineFault::TwoAccesses);
+        }
+        self.access(word, Action::Load { name }, rest)
+    }
+
+    /// What is assigned to a private name: a shared word, or a value.
+    fn assigned(&mut self, alloc: Global, name: usize, tokens: &[Token]) -> Result<(), LineFault> {
+        if self.begins_word(tokens) {
+            return self.loads(alloc, name, tokens);
         }
         let (assigned, rest) = split_value(tokens);
         let value = value(alloc, &mut self.algorithm, assigned)?;
-        if is_word(rest.first(), b"this") || is_word(rest.first(), b"may") {
-            return Err(LineFault::BadDeed);
-        }
-        ended(rest)?;
-        self.add(Form::Local(LocalLine::Assign { name, value }))?;
+        ended_without_deed(rest)?;
+        self.add_local(LocalLine::Assign { name, value })?;
         Ok(())
     }
 
     /// `done WORDS`.
     fn done(&mut self, alloc: Global, rest: &[Token], answer: &[u8]) -> Result<(), LineFault> {
         ended(rest)?;
-        let answers = &mut self.algorithm.answers;
-        let place = answers.iter().position(|other| other.as_bytes() == answer);
-        let place = match place {
-            Some(place) => place,
-            None => {
-                answers.push(String::from_utf8_lossy(alloc, answer)?)?;
-                answers.len().saturating_sub(1)
-            }
-        };
+        let place = answer_place(alloc, &mut self.algorithm.answers, answer)?;
         self.add(Form::Done(place))?;
+        Ok(())
+    }
+
+    /// `goto NAME`.
+    fn jump(&mut self, rest: &[Token]) -> Result<(), LineFault> {
+        let name = new_name(rest.first())?;
+        ended(after(rest, 1))?;
+        let place = self.add_local(LocalLine::Goto(0))?;
+        self.jumps.push(Jump { place, name })?;
         Ok(())
     }
 
@@ -354,12 +434,7 @@ impl Draft {
     fn simple(&mut self, alloc: Global, tokens: &[Token], answer: &[u8]) -> Result<(), LineFault> {
         let first = tokens.first();
         if is_word(first, b"goto") {
-            let rest = after(tokens, 1);
-            let name = new_name(rest.first())?;
-            ended(after(rest, 1))?;
-            let place = self.add(Form::Local(LocalLine::Goto(0)))?;
-            self.jumps.push(Jump { place, name })?;
-            Ok(())
+            self.jump(after(tokens, 1))
         } else if is_word(first, b"done") {
             self.done(alloc, after(tokens, 1), answer)
         } else if is_word(first, b"this") {
@@ -371,22 +446,29 @@ impl Draft {
         }
     }
 
-    /// `if CONDITION then`, with a statement in the same line or a block after it.
-    fn branch(&mut self, alloc: Global, tokens: &[Token], answer: &[u8]) -> Result<(), LineFault> {
+    /// Adds the line of `if CONDITION then`, and answers its place and the tokens after it.
+    fn test<'t>(
+        &mut self,
+        alloc: Global,
+        tokens: &'t [Token],
+    ) -> Result<(usize, &'t [Token]), LineFault> {
         let (test, rest) = split_value(tokens);
         let condition: Condition = condition(alloc, &mut self.algorithm, test)?;
-        let rest = after_word(rest, b"then")?;
-        let place = self.add(Form::Local(LocalLine::Branch {
+        let otherwise = 0;
+        let place = self.add_local(LocalLine::Branch {
             condition,
-            otherwise: 0,
-        }))?;
+            otherwise,
+        })?;
+        Ok((place, after_word(rest, b"then")?))
+    }
+
+    /// `if CONDITION then`, with a statement in the same line or a block after it.
+    fn branch(&mut self, alloc: Global, tokens: &[Token], answer: &[u8]) -> Result<(), LineFault> {
+        let (place, rest) = self.test(alloc, tokens)?;
         if rest.is_empty() {
             return self.open(place, Block::If);
         }
-        if is_word(rest.first(), b"if")
-            || is_word(rest.first(), b"for")
-            || is_sign(rest.get(1), Sign::Colon)
-        {
+        if begins_no_simple(rest) {
             return Err(LineFault::BadForm);
         }
         self.simple(alloc, rest, answer)?;
@@ -394,15 +476,8 @@ impl Draft {
         Ok(())
     }
 
-    /// `for NAME in MEMBERS`.
-    fn loop_head(&mut self, alloc: Global, tokens: &[Token]) -> Result<(), LineFault> {
-        let name = name_set(alloc, &mut self.algorithm, tokens.first())?;
-        if name < self.algorithm.lasting {
-            return Err(LineFault::NameTaken);
-        }
-        let rest = after_word(after(tokens, 1), b"in")?;
-        let members = members_of(rest.first())?;
-        ended(after(rest, 1))?;
+    /// The loops round the next line. `NameTaken` where one of them sets this name.
+    fn loops_round(&self, name: usize) -> Result<usize, LineFault> {
         let mut loops: usize = 0;
         for opened in &self.opened {
             if let Block::For { name: outer, .. } = opened.kind {
@@ -412,47 +487,81 @@ impl Draft {
                 loops = loops.saturating_add(1);
             }
         }
-        if loops >= DEEPEST_LOOP {
+        Ok(loops)
+    }
+
+    /// `for NAME in MEMBERS`.
+    fn loop_head(&mut self, alloc: Global, tokens: &[Token]) -> Result<(), LineFault> {
+        let name = name_set(alloc, &mut self.algorithm, tokens.first())?;
+        if name < self.algorithm.lasting {
+            return Err(LineFault::NameTaken);
+        }
+        let members = members_said(after(tokens, 1))?;
+        if self.loops_round(name)? >= DEEPEST_LOOP {
             return Err(LineFault::TooBig);
         }
-        let place = self.add(Form::Local(LocalLine::First {
+        let place = self.add_local(LocalLine::First {
             name,
             members,
             after: 0,
-        }))?;
+        })?;
         self.open(place, Block::For { name, members })
     }
 
     /// `else`.
     fn other(&mut self, tokens: &[Token]) -> Result<(), LineFault> {
         ended(tokens)?;
-        if !self
-            .opened
-            .last()
-            .is_some_and(|opened| opened.kind == Block::If)
-        {
+        if !matches!(
+            self.opened.last(),
+            Some(Opened {
+                kind: Block::If,
+                ..
+            })
+        ) {
             return Err(LineFault::BadBlock);
         }
-        let place = self.add(Form::Local(LocalLine::Goto(0)))?;
+        let place = self.add_local(LocalLine::Goto(0))?;
         let opened = self.close()?;
         self.land(opened.place);
         self.open(place, Block::Else)
+    }
+
+    /// Adds the line that begins the next round of a loop, where the block is one.
+    fn go_round(&mut self, opened: Opened) -> Result<(), LineFault> {
+        if let Block::For { name, members } = opened.kind {
+            let body = opened.place.saturating_add(1);
+            self.add_local(LocalLine::Next {
+                name,
+                members,
+                body,
+            })?;
+        }
+        Ok(())
     }
 
     /// `end`.
     fn end(&mut self, tokens: &[Token]) -> Result<(), LineFault> {
         ended(tokens)?;
         let opened = self.opened.last().copied().ok_or(LineFault::BadBlock)?;
-        if let Block::For { name, members } = opened.kind {
-            let body = opened.place.saturating_add(1);
-            self.add(Form::Local(LocalLine::Next {
-                name,
-                members,
-                body,
-            }))?;
-        }
+        self.go_round(opened)?;
         self.close()?;
         self.land(opened.place);
+        Ok(())
+    }
+
+    /// `NAME:`.
+    fn label(&mut self, tokens: &[Token]) -> Result<(), LineFault> {
+        let name = new_name(tokens.first())?;
+        ended(after(tokens, 2))?;
+        let place = self.algorithm.lines.len();
+        let block = self.opened.last().map(|opened| opened.block);
+        let number = self.number;
+        self.labels.push(Label {
+            name,
+            place,
+            block,
+            number,
+        })?;
         Ok(())
     }
 
@@ -469,18 +578,7 @@ impl Draft {
         } else if is_word(first, b"end") {
             self.end(after(tokens, 1))
         } else if is_sign(tokens.get(1), Sign::Colon) {
-            let name = new_name(first)?;
-            ended(after(tokens, 2))?;
-            let place = self.algorithm.lines.len();
-            let block = self.opened.last().map(|opened| opened.block);
-            let number = self.number;
-            self.labels.push(Label {
-                name,
-                place,
-                block,
-                number,
-            })?;
-            Ok(())
+            self.label(tokens)
         } else {
             self.simple(alloc, tokens, line.answer.as_slice())
         }

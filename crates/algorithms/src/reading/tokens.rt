@@ -11,7 +11,7 @@ use std::alloc::Global;
 const LONGEST_NAME: usize = 32;
 
 /// A sign of a text.
-#[derive(Clone, Copy, Debug, PartialEq, Eq)]
+#[derive(Clone, Copy, PartialEq, Eq)]
 pub enum Sign {
     Assign,
     Colon,
@@ -25,14 +25,14 @@ pub enum Sign {
 }
 
 /// A word of a line, at most as long as a name.
-#[derive(Clone, Copy, Debug)]
+#[derive(Clone, Copy)]
 pub struct Word {
     letters: [u8; LONGEST_NAME],
     length: usize,
 }
 
 /// A token of a line.
-#[derive(Clone, Copy, Debug)]
+#[derive(Clone, Copy)]
 pub enum Token {
     Number(u64),
     Word(Word),
@@ -205,13 +205,9 @@ fn before_comment(line: &[u8]) -> &[u8] {
     }
 }
 
-/// The tokens of a line, without its LF. A comment is none.
-pub fn tokens_of(alloc: Global, line: &[u8]) -> Result<Tokens, LineFault> {
-    if !line.iter().all(|byte| *byte >= b' ' && *byte <= b'~') {
-        return Err(LineFault::BadCharacter);
-    }
-    let mut all = Vec::new(alloc);
-    let mut rest = before_comment(line);
+/// Reads tokens up to the end or the word `done`, and answers the bytes after it.
+fn read_tokens<'l>(all: &mut Vec<Token>, bytes: &'l [u8]) -> Result<&'l [u8], LineFault> {
+    let mut rest = bytes;
     while let Some(first) = rest.first().copied() {
         if first == b' ' {
             rest = &rest[1..];
@@ -221,11 +217,20 @@ pub fn tokens_of(alloc: Global, line: &[u8]) -> Result<Tokens, LineFault> {
         all.push(token)?;
         rest = &rest[length..];
         if is_word(Some(&token), b"done") {
-            let answer = answer_of(alloc, rest)?;
-            return Ok(Tokens { all, answer });
+            return Ok(rest);
         }
     }
-    let answer = Vec::new(alloc);
+    Ok(rest)
+}
+
+/// The tokens of a line, without its LF. A comment is none.
+pub fn tokens_of(alloc: Global, line: &[u8]) -> Result<Tokens, LineFault> {
+    if !line.iter().all(|byte| *byte >= b' ' && *byte <= b'~') {
+        return Err(LineFault::BadCharacter);
+    }
+    let mut all = Vec::new(alloc);
+    let rest = read_tokens(&mut all, before_comment(line))?;
+    let answer = answer_of(alloc, rest)?;
     Ok(Tokens { all, answer })
 }
 

@@ -9,6 +9,15 @@ pub fn bit(name: usize) -> u64 {
     if name < NAMES { 1 << name } else { 0 }
 }
 
+/// The bits of the first names.
+pub fn first_names(count: usize) -> u64 {
+    let mut names = 0;
+    for name in 0..count {
+        names |= bit(name);
+    }
+    names
+}
+
 fn of_value(value: &Expression) -> u64 {
     match value {
         Expression::Private(name) => bit(*name),

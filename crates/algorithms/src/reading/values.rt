@@ -14,7 +14,7 @@ use std::alloc::Global;
 const DEEPEST: usize = 16;
 
 /// What brackets are round.
-#[derive(Clone, Copy, Debug, PartialEq, Eq)]
+#[derive(Clone, Copy)]
 enum Bracket {
     Plain,
     Not,
@@ -22,7 +22,7 @@ enum Bracket {
 }
 
 /// What waits for its right side.
-#[derive(Clone, Copy, Debug, PartialEq, Eq)]
+#[derive(Clone, Copy)]
 enum Pending {
     Operator(Operator),
     Comparison(Comparison),
@@ -51,6 +51,16 @@ struct Parts {
     head: Option<Bracket>,
 }
 
+impl Parts {
+    /// The one part that is left.
+    fn whole(&mut self) -> Result<Operand, LineFault> {
+        if self.operands.len() > 1 || !self.pending.is_empty() {
+            return Err(LineFault::BadForm);
+        }
+        last(&mut self.operands)
+    }
+}
+
 fn strength(pending: Pending) -> u8 {
     match pending {
         Pending::Operator(Operator::Sum | Operator::Difference) => 4,
@@ -62,50 +72,128 @@ fn strength(pending: Pending) -> u8 {
     }
 }
 
+impl Operand {
+    fn value(self) -> Result<Expression, LineFault> {
+        match self {
+            Operand::Value(value) => Ok(value),
+            Operand::Pair(_) | Operand::Condition(_) => Err(LineFault::BadForm),
+        }
+    }
+
+    fn pair(self) -> Result<Pair, LineFault> {
+        match self {
+            Operand::Pair(pair) => Ok(pair),
+            Operand::Value(_) | Operand::Condition(_) => Err(LineFault::BadForm),
+        }
+    }
+
+    fn condition(self) -> Result<Condition, LineFault> {
+        match self {
+            Operand::Condition(condition) => Ok(condition),
+            Operand::Pair(_) | Operand::Value(_) => Err(LineFault::BadForm),
+        }
+    }
+}
+
+/// Takes the last part.
+fn last(operands: &mut Vec<Operand>) -> Result<Operand, LineFault> {
+    operands.pop().ok_or(LineFault::BadForm)
+}
+
+/// Takes the last part, which has to be a value.
+fn last_value(operands: &mut Vec<Operand>) -> Result<Expression, LineFault> {
+    last(operands)?.value()
+}
+
+fn boxed_value(alloc: Global, operands: &mut Vec<Operand>) -> Result<Box<Expression>, LineFault> {
+    Ok(Box::new(alloc, last_value(operands)?)?)
+}
+
+/// Takes the last part, which has to be a condition.
+fn last_condition(alloc: Global, operands: &mut Vec<Operand>) -> Result<Box<Condition>, LineFault> {
+    let condition = last(operands)?.condition()?;
+    Ok(Box::new(alloc, condition)?)
+}
+
+/// The last two parts as one value.
+fn operation(
+    alloc: Global,
+    operands: &mut Vec<Operand>,
+    operator: Operator,
+) -> Result<Operand, LineFault> {
+    let right = boxed_value(alloc, operands)?;
+    let left = boxed_value(alloc, operands)?;
+    Ok(Operand::Value(Expression::Joined(operator, left, right)))
+}
+
+/// The comparison of the last part with a value after it.
+fn values_compared(
+    operands: &mut Vec<Operand>,
+    comparison: Comparison,
+    right: Expression,
+) -> Result<Operand, LineFault> {
+    let left = last_value(operands)?;
+    Ok(Operand::Condition(Condition::Compare(comparison, left, right)))
+}
+
+/// The comparison of the last part with a pair after it.
+fn pairs_compared(
+    operands: &mut Vec<Operand>,
+    comparison: Comparison,
+    right: Pair,
+) -> Result<Operand, LineFault> {
+    let left = last(operands)?.pair()?;
+    Ok(Operand::Condition(Condition::ComparePairs(comparison, left, right)))
+}
+
+/// The comparison of the last two parts: of two values, or of two pairs.
+fn compared(operands: &mut Vec<Operand>, comparison: Comparison) -> Result<Operand, LineFault> {
+    match last(operands)? {
+        Operand::Value(right) => values_compared(operands, comparison, right),
+        Operand::Pair(right) => pairs_compared(operands, comparison, right),
+        Operand::Condition(_) => Err(LineFault::BadForm),
+    }
+}
+
+/// The last two parts as one condition.
+fn both(alloc: Global, operands: &mut Vec<Operand>) -> Result<Operand, LineFault> {
+    let right = last_condition(alloc, operands)?;
+    let left = last_condition(alloc, operands)?;
+    Ok(Operand::Condition(Condition::And(left, right)))
+}
+
+/// The last two parts as one condition, of which one has to hold.
+fn either(alloc: Global, operands: &mut Vec<Operand>) -> Result<Operand, LineFault> {
+    let right = last_condition(alloc, operands)?;
+    let left = last_condition(alloc, operands)?;
+    Ok(Operand::Condition(Condition::Or(left, right)))
+}
+
+/// The last two parts as one pair.
+fn paired(operands: &mut Vec<Operand>) -> Result<Operand, LineFault> {
+    let second = last_value(operands)?;
+    let first = last_value(operands)?;
+    Ok(Operand::Pair(Pair { first, second }))
+}
+
 /// Joins the last two parts.
 fn join(alloc: Global, operands: &mut Vec<Operand>, pending: Pending) -> Result<(), LineFault> {
-    let right = operands.pop().ok_or(LineFault::BadForm)?;
-    let left = operands.pop().ok_or(LineFault::BadForm)?;
-    let joined = match (pending, left, right) {
-        (Pending::Operator(operator), Operand::Value(left), Operand::Value(right)) => {
-            Operand::Value(Expression::Joined(
-                operator,
-                Box::new(alloc, left)?,
-                Box::new(alloc, right)?,
-            ))
-        }
-        (Pending::Comparison(comparison), Operand::Value(left), Operand::Value(right)) => {
-            Operand::Condition(Condition::Compare(comparison, left, right))
-        }
-        (Pending::Comparison(comparison), Operand::Pair(left), Operand::Pair(right)) => {
-            Operand::Condition(Condition::ComparePairs(comparison, left, right))
-        }
-        (Pending::And, Operand::Condition(left), Operand::Condition(right)) => {
-            Operand::Condition(Condition::And(Box::new(alloc, left)?, Box::new(alloc, right)?))
-        }
-        (Pending::Or, Operand::Condition(left), Operand::Condition(right)) => {
-            Operand::Condition(Condition::Or(Box::new(alloc, left)?, Box::new(alloc, right)?))
-        }
-        (Pending::Open(_, _), Operand::Value(first), Operand::Value(second)) => Operand::Pair(Pair {
-            first,
-            second,
-        }),
-        _ => return Err(LineFault::BadForm),
+    let joined = match pending {
+        Pending::Operator(operator) => operation(alloc, operands, operator),
+        Pending::Comparison(comparison) => compared(operands, comparison),
+        Pending::And => both(alloc, operands),
+        Pending::Or => either(alloc, operands),
+        Pending::Open(_, _) => paired(operands),
     };
-    operands.push(joined)?;
+    operands.push(joined?)?;
     Ok(())
 }
 
 /// Negates the last part.
 fn negate(alloc: Global, operands: &mut Vec<Operand>) -> Result<(), LineFault> {
-    match operands.pop() {
-        Some(Operand::Condition(condition)) => {
-            let not = Operand::Condition(Condition::Not(Box::new(alloc, condition)?));
-            operands.push(not)?;
-            Ok(())
-        }
-        _ => Err(LineFault::BadForm),
-    }
+    let condition = last_condition(alloc, operands)?;
+    operands.push(Operand::Condition(Condition::Not(condition)))?;
+    Ok(())
 }
 
 /// Joins what is at least this strong.
@@ -162,6 +250,61 @@ fn comma(alloc: Global, parts: &mut Parts) -> Result<(), LineFault> {
     }
 }
 
+/// How many brackets are open.
+fn brackets(pending: &[Pending]) -> usize {
+    pending
+        .iter()
+        .filter(|pending| strength(**pending) == 0)
+        .count()
+}
+
+/// Opens a bracket.
+fn open(parts: &mut Parts) -> Result<(), LineFault> {
+    if brackets(parts.pending.as_slice()) >= DEEPEST {
+        return Err(LineFault::TooBig);
+    }
+    let bracket = parts.head.take().unwrap_or(Bracket::Plain);
+    parts.pending.push(Pending::Open(bracket, false))?;
+    Ok(())
+}
+
+/// Adds a value that is read.
+fn add_value(parts: &mut Parts, value: Expression) -> Result<(), LineFault> {
+    parts.operands.push(Operand::Value(value))?;
+    parts.begins = false;
+    Ok(())
+}
+
+/// The bracket that comes next after this word.
+fn bracket_after(word: &[u8]) -> Option<Bracket> {
+    if word == b"not".as_slice() {
+        Some(Bracket::Not)
+    } else if word == b"max".as_slice() {
+        Some(Bracket::Joins(Operator::Maximum))
+    } else if word == b"min".as_slice() {
+        Some(Bracket::Joins(Operator::Minimum))
+    } else {
+        None
+    }
+}
+
+/// The value that a word is: a number of the format, or a private name.
+fn value_of(
+    alloc: Global,
+    algorithm: &mut Algorithm,
+    word: &[u8],
+) -> Result<Expression, LineFault> {
+    if word == b"me".as_slice() {
+        Ok(Expression::Me)
+    } else if word == b"procs".as_slice() {
+        Ok(Expression::Procs)
+    } else if word == b"limit".as_slice() {
+        Ok(Expression::Limit)
+    } else {
+        Ok(Expression::Private(name_read(alloc, algorithm, word)?))
+    }
+}
+
 /// Reads a word where a value begins.
 fn first_word(
     alloc: Global,
@@ -169,27 +312,12 @@ fn first_word(
     parts: &mut Parts,
     word: &[u8],
 ) -> Result<(), LineFault> {
-    let value = if word == b"not".as_slice() {
-        parts.head = Some(Bracket::Not);
+    if let Some(bracket) = bracket_after(word) {
+        parts.head = Some(bracket);
         return Ok(());
-    } else if word == b"max".as_slice() {
-        parts.head = Some(Bracket::Joins(Operator::Maximum));
-        return Ok(());
-    } else if word == b"min".as_slice() {
-        parts.head = Some(Bracket::Joins(Operator::Minimum));
-        return Ok(());
-    } else if word == b"me".as_slice() {
-        Expression::Me
-    } else if word == b"procs".as_slice() {
-        Expression::Procs
-    } else if word == b"limit".as_slice() {
-        Expression::Limit
-    } else {
-        Expression::Private(name_read(alloc, algorithm, word)?)
-    };
-    parts.operands.push(Operand::Value(value))?;
-    parts.begins = false;
-    Ok(())
+    }
+    let value = value_of(alloc, algorithm, word)?;
+    add_value(parts, value)
 }
 
 /// Reads a token where a value begins.
@@ -200,28 +328,9 @@ fn begin(
     token: &Token,
 ) -> Result<(), LineFault> {
     match token {
-        Token::Sign(Sign::Open) => {
-            if parts
-                .pending
-                .iter()
-                .filter(|pending| strength(**pending) == 0)
-                .count()
-                >= DEEPEST
-            {
-                return Err(LineFault::TooBig);
-            }
-            let bracket = parts.head.take().unwrap_or(Bracket::Plain);
-            parts.pending.push(Pending::Open(bracket, false))?;
-            Ok(())
-        }
+        Token::Sign(Sign::Open) => open(parts),
         _ if parts.head.is_some() => Err(LineFault::BadForm),
-        Token::Number(number) => {
-            parts
-                .operands
-                .push(Operand::Value(Expression::Number(*number)))?;
-            parts.begins = false;
-            Ok(())
-        }
+        Token::Number(number) => add_value(parts, Expression::Number(*number)),
         Token::Word(word) => first_word(alloc, algorithm, parts, word.as_bytes()),
         Token::Sign(_) => Err(LineFault::BadForm),
     }
@@ -258,6 +367,26 @@ fn go_on(alloc: Global, parts: &mut Parts, token: &Token) -> Result<(), LineFaul
     Ok(())
 }
 
+/// Reads all tokens.
+fn read_parts(
+    alloc: Global,
+    algorithm: &mut Algorithm,
+    parts: &mut Parts,
+    tokens: &[Token],
+) -> Result<(), LineFault> {
+    for token in tokens {
+        if parts.begins {
+            begin(alloc, algorithm, parts, token)?;
+        } else {
+            go_on(alloc, parts, token)?;
+        }
+    }
+    if parts.begins {
+        return Err(LineFault::BadForm);
+    }
+    join_stronger(alloc, &mut parts.operands, &mut parts.pending, 1)
+}
+
 /// What the tokens say, as a whole.
 fn parsed(
     alloc: Global,
@@ -270,25 +399,8 @@ fn parsed(
         begins: true,
         head: None,
     };
-    for token in tokens {
-        if parts.begins {
-            begin(alloc, algorithm, &mut parts, token)?;
-        } else {
-            go_on(alloc, &mut parts, token)?;
-        }
-    }
-    if parts.begins {
-        return Err(LineFault::BadForm);
-    }
-    join_stronger(alloc, &mut parts.operands, &mut parts.pending, 1)?;
-    match (
-        parts.operands.pop(),
-        parts.operands.is_empty(),
-        parts.pending.is_empty(),
-    ) {
-        (Some(operand), true, true) => Ok(operand),
-        _ => Err(LineFault::BadForm),
-    }
+    read_parts(alloc, algorithm, &mut parts, tokens)?;
+    parts.whole()
 }
 
 /// The value that the tokens say.
@@ -297,10 +409,7 @@ pub fn value(
     algorithm: &mut Algorithm,
     tokens: &[Token],
 ) -> Result<Expression, LineFault> {
-    match parsed(alloc, algorithm, tokens)? {
-        Operand::Value(value) => Ok(value),
-        Operand::Pair(_) | Operand::Condition(_) => Err(LineFault::BadForm),
-    }
+    parsed(alloc, algorithm, tokens)?.value()
 }
 
 /// The condition that the tokens say.
@@ -309,8 +418,5 @@ pub fn condition(
     algorithm: &mut Algorithm,
     tokens: &[Token],
 ) -> Result<Condition, LineFault> {
-    match parsed(alloc, algorithm, tokens)? {
-        Operand::Condition(condition) => Ok(condition),
-        Operand::Pair(_) | Operand::Value(_) => Err(LineFault::BadForm),
-    }
+    parsed(alloc, algorithm, tokens)?.condition()
 }

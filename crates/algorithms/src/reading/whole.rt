@@ -3,7 +3,7 @@
 ghost use Rattle.std.specs.Prelude.{IfOk, OnOk};
 ghost use Rattle.algorithms.specs.Ranked.{LocalLinesEnd, AccessesLeadOn};
 
-use crate::algorithm::{Algorithm, Call};
+use crate::algorithm::{Algorithm, Call, Promises};
 use crate::fault::{AlgorithmFault, LineFault};
 use crate::line::{Form, Line};
 use crate::ranks::lines_end;
@@ -31,7 +31,7 @@ struct Filled {
 
 /// The tokens of one line, with its number.
 fn read_tokens(alloc: Global, number: u64, line: &[u8]) -> Result<Filled, AlgorithmFault> {
-    if line.len() > LONGEST_LINE {
+    if number > MOST_LINES as u64 || line.len() > LONGEST_LINE {
         return Err(LineFault::TooBig.at(number));
     }
     match tokens_of(alloc, line) {
@@ -40,22 +40,24 @@ fn read_tokens(alloc: Global, number: u64, line: &[u8]) -> Result<Filled, Algori
     }
 }
 
+/// Adds a line, unless it is empty.
+fn add_filled(lines: &mut Vec<Filled>, line: Filled) -> Result<(), AlgorithmFault> {
+    if line.tokens.all.is_empty() {
+        return Ok(());
+    }
+    if lines.len() >= MOST_FILLED {
+        return Err(LineFault::TooBig.at(line.number));
+    }
+    lines.push(line).map_err(|_| AlgorithmFault::OutOfMemory)
+}
+
 /// The lines of a text that are not empty.
 fn lines_of(alloc: Global, text: &[u8]) -> Result<Vec<Filled>, AlgorithmFault> {
     let mut lines = Vec::new(alloc);
     let mut number: u64 = 1;
     let mut rest = text;
     while let Some(end) = rest.iter().position(|byte| *byte == b'\n') {
-        if number > MOST_LINES as u64 {
-            return Err(LineFault::TooBig.at(number));
-        }
-        let line = read_tokens(alloc, number, &rest[..end])?;
-        if !line.tokens.all.is_empty() {
-            if lines.len() >= MOST_FILLED {
-                return Err(LineFault::TooBig.at(number));
-            }
-            lines.push(line).map_err(|_| AlgorithmFault::OutOfMemory)?;
-        }
+        add_filled(&mut lines, read_tokens(alloc, number, &rest[..end])?)?;
         rest = &rest[end + 1..];
         number = number.saturating_add(1);
     }
@@ -66,16 +68,25 @@ fn lines_of(alloc: Global, text: &[u8]) -> Result<Vec<Filled>, AlgorithmFault> {
     }
 }
 
+/// The promises that the second line says, and its number. `first` is the number of the line before it.
+fn second_line(lines: &[Filled], first: u64) -> Result<(Promises, u64), AlgorithmFault> {
+    let Some(second) = lines.get(1) else {
+        return Err(LineFault::NoHeader.at(first));
+    };
+    match promises(&second.tokens) {
+        Ok(promises) => Ok((promises, second.number)),
+        Err(fault) => Err(fault.at(second.number)),
+    }
+}
+
 /// The draft of a text of which the first two lines are read.
 fn draft(alloc: Global, lines: &[Filled]) -> Result<Draft, AlgorithmFault> {
     let Some(first) = lines.first() else {
         return Err(LineFault::NoHeader.at(1));
     };
     let mut algorithm = head(alloc, &first.tokens).map_err(|fault| fault.at(first.number))?;
-    let Some(second) = lines.get(1) else {
-        return Err(LineFault::NoHeader.at(first.number));
-    };
-    algorithm.promises = promises(&second.tokens).map_err(|fault| fault.at(second.number))?;
+    let (promises, number) = second_line(lines, first.number)?;
+    algorithm.promises = promises;
     Ok(Draft {
         algorithm,
         opened: Vec::new(alloc),
@@ -83,13 +94,12 @@ fn draft(alloc: Global, lines: &[Filled]) -> Result<Draft, AlgorithmFault> {
         labels: Vec::new(alloc),
         jumps: Vec::new(alloc),
         calls: Vec::new(alloc),
-        number: second.number,
+        number,
     })
 }
 
 /// Reads all lines after the first two.
-fn forms(alloc: Global, lines: &[Filled]) -> Result<Draft, AlgorithmFault> {
-    let mut draft = draft(alloc, lines)?;
+fn read_lines(alloc: Global, draft: &mut Draft, lines: &[Filled]) -> Result<(), AlgorithmFault> {
     for line in lines.get(2..).unwrap_or(&[]) {
         let last = draft.number;
         draft.number = line.number;
@@ -98,7 +108,14 @@ fn forms(alloc: Global, lines: &[Filled]) -> Result<Draft, AlgorithmFault> {
             .map_err(|fault| fault.at(line.number))?;
     }
     let last = draft.number;
-    draft.end_call(last).map_err(|fault| fault.at(last))?;
+    draft.end_call(last).map_err(|fault| fault.at(last))
+}
+
+/// The draft of a whole text.
+fn forms(alloc: Global, text: &[u8]) -> Result<Draft, AlgorithmFault> {
+    let lines = lines_of(alloc, text)?;
+    let mut draft = draft(alloc, lines.as_slice())?;
+    read_lines(alloc, &mut draft, lines.as_slice())?;
     Ok(draft)
 }
 
@@ -129,6 +146,22 @@ fn entries(draft: &mut Draft) -> Result<(), AlgorithmFault> {
 /// The calls that a text has, in the order in which they are checked.
 const CALLS: [Call; 4] = [Call::Lock, Call::Unlock, Call::Recover, Call::Withdraw];
 
+/// Checks the labels, the names and the deeds of all calls.
+fn check_calls(draft: &mut Draft) -> Result<(), AlgorithmFault> {
+    entries(draft)?;
+    for call in CALLS {
+        if let Some(call) = call_of(draft, call) {
+            draft.check_call(call)?;
+        }
+    }
+    draft.check_withdraw()
+}
+
+/// Lets a line end its call.
+fn end_line(line: &mut Line) {
+    line.form = Form::Done(0);
+}
+
 /// Lets each line of a call to which no run comes end the call. Such a line has no text of its own: after a block that always
 /// ends in `goto` or `done`, it is the way past an `else`, or back to the head of a loop. What it is does not matter, since no
 /// run comes there. But there may be no line to which it would lead, and an end leads to none.
@@ -136,7 +169,7 @@ fn end_unreached(lines: &mut [Line], call: CallRead, reached: &[bool]) {
     for place in call.from..call.to {
         if reached.get(place).copied() == Some(false) {
             if let Some(line) = lines.get_mut(place) {
-                line.form = Form::Done(0);
+                end_line(line);
             }
         }
     }
@@ -194,15 +227,8 @@ pub fn read_algorithm(alloc: Global, text: &[u8]) -> Result<Algorithm, Algorithm
     ensures ends { IfOk result LocalLinesEnd }
     ensures leads { IfOk result AccessesLeadOn }
 {
-    let lines = lines_of(alloc, text)?;
-    let mut draft = forms(alloc, lines.as_slice())?;
-    entries(&mut draft)?;
-    for call in CALLS {
-        if let Some(call) = call_of(&draft, call) {
-            draft.check_call(call)?;
-        }
-    }
-    draft.check_withdraw()?;
+    let mut draft = forms(alloc, text)?;
+    check_calls(&mut draft)?;
     check_flow(alloc, &mut draft)?;
     Ok(draft.algorithm)
 }

@@ -1,0 +1,9 @@
+use Rattle.std.proofs.Common.{◌++◌, ◌∷◌, [], ◌∙◌, ap, replicate}
+use Rattle.std.proofs.lemmas.List.{replicate_more}
+use Rattle.algorithms.proofs.world.all_zero.Goals as goal
+
+pub loop-row-preserved : goal.loop-row-preserved
+loop-row-preserved c =
+    c.in_ok-push.ensures.items
+    ∙ ap (λ xs. xs ++ replicate 64 0 ∷ []) c.loop-row.invariant
+    ∙ replicate_more c.loop-row.row (replicate 64 0)

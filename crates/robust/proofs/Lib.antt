@@ -4,6 +4,7 @@ pub mod Peeks
 pub mod Waits
 pub mod Straight
 pub mod Entering
+pub mod SettingOut
 pub mod FastAppend
 pub mod CallCommon
 pub mod FastCalls

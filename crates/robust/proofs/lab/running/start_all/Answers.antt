@@ -21,3 +21,6 @@ pub spawn_with-requires-clause-runs : goal.spawn_with-requires-clause-runs
 spawn_with-requires-clause-runs g c κs within =
     let new = subst (All (IsNew (sizes_of c.args.spec))) c.in-Some.ensures.steps.0 c.loop-member.invariant.new in
     (search rules, search rules, c.requires.messages.0, c.requires.messages.1, c.requires.width.0, c.requires.width.1, All-head (IsNew (sizes_of c.args.spec)) c.in-Some.member (into_iter_items c.next.new.self) new)
+
+pub returns-clause-spec : goal.returns-clause-spec
+returns-clause-spec g c = c.loop-member.invariant.spec

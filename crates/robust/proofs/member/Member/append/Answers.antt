@@ -1,5 +1,5 @@
-use Rattle.std.proofs.Common.{◌≡◌, ◌⊎◌, ℕ, length, Ok, IfOk, IfErr, ap, ◌∙◌, subst, inr, arith}
-use Rattle.robust.proofs.Common.{Stored, Already, IsAmong, Append, Lock, Setup, ready, shown_by, Seated, began, ToldIn, WholeEnds, WholeFails, seat_of}
+use Rattle.std.proofs.Common.{◌≡◌, ◌⊎◌, None, ℕ, length, Ok, IfOk, IfErr, OnOk, ap, ◌∙◌, subst, inr, arith}
+use Rattle.robust.proofs.Common.{Stored, Already, IsAmong, Append, Lock, Setup, ready, refusal_now, shown_by, Seated, began, ToldIn, WholeEnds, WholeFails, seat_of, ok_any}
 use Rattle.execution.proofs.WholeCalls.{err_more}
 use Rattle.robust.proofs.Appended.{append_shown, append_tells}
 use Rattle.robust.proofs.Working.{mail_seat}
@@ -29,3 +29,20 @@ returns-clause-tells g c =
 
 pub returns-clause-seat : goal.returns-clause-seat
 returns-clause-seat g c = mail_seat c.self.inside.call_driver c.mail.new.self (Append c.args.seq c.args.value) _ _ c.mail.result c.mail.ensures.replied c.mail.ensures.fails ∙ ap seat_of c.self.view_is
+
+pub returns-clause-wide : goal.returns-clause-wide
+returns-clause-wide g c =
+    let w : c.setup.result.layout.width ≡ c.args.self.now.seat_view.setup.layout.width = ap (λ (s : Setup). s.layout.width) c.setup.ensures.is ∙ ap (λ (x : Seated). x.seat_view.setup.layout.width) c.self.view_is in
+    ok_any c.mail.result _ (omega (arith, c.width.ensures.width, w, c.if-width-setup.false))
+
+pub returns-clause-accepted : goal.returns-clause-accepted
+returns-clause-accepted g c = subst (λ (x : Seated). OnOk c.mail.result (refusal_now (ready x) Lock ≡ None)) c.self.view_is c.mail.ensures.accepted
+
+pub returns-clause-patient : goal.returns-clause-patient
+returns-clause-patient g c = c.mail.ensures.patient
+
+pub returns-clause-kind : goal.returns-clause-kind
+returns-clause-kind g c = c.mail.ensures.fits
+
+pub returns-clause-out : goal.returns-clause-out
+returns-clause-out g c = λ away wide. c.mail.ensures.out away

@@ -1,5 +1,5 @@
-use Rattle.std.proofs.Common.{rules, ◌≡◌, [], ◌∷◌, subst}
-use Rattle.robust.proofs.Common.{Answer, Mail, last_put, value_or, LastIsOwn, Served, Seated, began}
+use Rattle.std.proofs.Common.{rules, ◌≡◌, [], ◌∷◌, ap, ◌∙◌, subst}
+use Rattle.robust.proofs.Common.{seat_of, Answer, Mail, last_put, value_or, LastIsOwn, Served, Seated, began}
 use Rattle.execution.proofs.OneStep.{got}
 use Rattle.redomail.specs.declared.reply.Reply.TheVariants.{Word}
 use Rattle.rmeworld.specs.declared.call.Call.TheVariants.{Get}
@@ -20,3 +20,18 @@ returns-clause-own g c =
     let r = c.in_ok-value.ensures.answered in
     subst (λ (u : Seated). LastIsOwn u.seat_view.setup u.seat_view.by c.args.i c.call.new.self.seat_view.seen) c.self.view_is
     (last_is_own_after c.self.inside.call_driver c.call.new.self (Get c.args.i) _ r.0 c.args.i c.by-by.ensures.seat_view r.1)
+
+pub returns-clause-accepted : goal.returns-clause-accepted
+returns-clause-accepted g c = rw (← c.self.view_is) c.in_ok-value.ensures.accepted
+
+pub returns-clause-seat : goal.returns-clause-seat
+returns-clause-seat g c = c.call.ensures.seat ∙ ap seat_of c.self.view_is
+
+pub returns-clause-few : goal.returns-clause-few
+returns-clause-few g c = rw (← c.self.view_is) c.call.ensures.few
+
+pub returns-in_err-value-clause-seat : goal.returns-in_err-value-clause-seat
+returns-in_err-value-clause-seat g c = c.call.ensures.seat ∙ ap seat_of c.self.view_is
+
+pub returns-in_err-value-clause-few : goal.returns-in_err-value-clause-few
+returns-in_err-value-clause-few g c = rw (← c.self.view_is) c.call.ensures.few

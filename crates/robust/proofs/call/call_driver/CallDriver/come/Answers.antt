@@ -51,3 +51,30 @@ returns-in_err-reply-in-Clean-clause-out g c = λ none. cut_out c.args.self.now 
 
 pub returns-in_err-ended-in-OwnerDied-clause-out : goal.returns-in_err-ended-in-OwnerDied-clause-out
 returns-in_err-ended-in-OwnerDied-clause-out g c = λ none. cut_out c.args.self.now c.mend_and_work.new.self _ _ _ c.in_err-ended-in-OwnerDied.ensures.cut
+
+pub returns-in_ok-reply-in-Clean-clause-fits : goal.returns-in_ok-reply-in-Clean-clause-fits
+returns-in_ok-reply-in-Clean-clause-fits g c = c.in_ok-reply-in-Clean.ensures.fits
+
+pub returns-in_ok-reply-in-Clean-clause-out : goal.returns-in_ok-reply-in-Clean-clause-out
+returns-in_ok-reply-in-Clean-clause-out g c = λ none. c.in_ok-reply-in-Clean.ensures.out
+
+pub returns-in_ok-ended-in-OwnerDied-clause-fits : goal.returns-in_ok-ended-in-OwnerDied-clause-fits
+returns-in_ok-ended-in-OwnerDied-clause-fits g c = c.in_ok-ended-in-OwnerDied.ensures.fits
+
+pub returns-in_ok-ended-in-OwnerDied-clause-out : goal.returns-in_ok-ended-in-OwnerDied-clause-out
+returns-in_ok-ended-in-OwnerDied-clause-out g c = λ none. c.in_ok-ended-in-OwnerDied.ensures.out
+
+pub returns-in_ok-ended-in-OwnerDied-clause-few : goal.returns-in_ok-ended-in-OwnerDied-clause-few
+returns-in_ok-ended-in-OwnerDied-clause-few g c = c.mend_and_work.ensures.few
+
+pub returns-in_err-ended-in-OwnerDied-clause-few : goal.returns-in_err-ended-in-OwnerDied-clause-few
+returns-in_err-ended-in-OwnerDied-clause-few g c = c.mend_and_work.ensures.few
+
+pub returns-in-NumbersSpent-clause-few : goal.returns-in-NumbersSpent-clause-few
+returns-in-NumbersSpent-clause-few g c = none_at_most c.args.self.now c.args.self.now _ refl
+
+pub returns-in-None-clause-few : goal.returns-in-None-clause-few
+returns-in-None-clause-few g c = none_at_most c.args.self.now c.args.self.now _ refl
+
+pub returns-in-None-clause-out : goal.returns-in-None-clause-out
+returns-in-None-clause-out g c = λ waits. waits c.in-None.is

@@ -1,5 +1,6 @@
-use Rattle.std.proofs.Common.{Ok}
-use Rattle.robust.proofs.CallCommon.{Lock, ready, began, WholeEnds, WholeFails, cut_out, ok_some, whole_fails, cut_fails, whole_replied, goes_idle, err_some}
+use Rattle.std.proofs.Common.{Some, Ok, ap}
+use Rattle.robust.proofs.CallCommon.{Lock, Seated, ready, began, WholeEnds, WholeFails, ok_any, cut_out, lock_idle, ok_some, whole_fails, cut_fails, whole_replied, goes_idle, err_some}
+use Rattle.execution.proofs.WholeCalls.{task_fits}
 use Rattle.robust.proofs.call.call_driver.CallDriver.mail.Goals as goal
 
 pub returns-in-Ok-clause-replied : goal.returns-in-Ok-clause-replied
@@ -31,3 +32,34 @@ returns-in-Err-clause-fails g c = (
 
 pub returns-in-Err-clause-out : goal.returns-in-Err-clause-out
 returns-in-Err-clause-out g c = λ alive. cut_out c.set_out_lock.new.self c.take_all.new.self _ _ _ c.in-Err.ensures.cut
+
+pub returns-in-Ok-clause-accepted : goal.returns-in-Ok-clause-accepted
+returns-in-Ok-clause-accepted g c = ok_any c.finish.result _ c.in_ok-set_out_lock.ensures.accepted
+
+pub returns-in-Ok-clause-fits : goal.returns-in-Ok-clause-fits
+returns-in-Ok-clause-fits g c = c.finish.ensures.fits
+
+pub finish-requires-clause-idle : goal.finish-requires-clause-idle
+finish-requires-clause-idle g c =
+    let ends = c.in-Ok.ensures.ends in
+    lock_idle c.set_out_lock.new.self c.take_all.new.self ends.0 (Some c.in-Ok.answer) _ _ ends.1
+
+pub finish-requires-clause-leaves : goal.finish-requires-clause-leaves
+finish-requires-clause-leaves g c = c.in-Ok.ensures.fits
+
+pub finish-requires-clause-task : goal.finish-requires-clause-task
+finish-requires-clause-task g c =
+    let ends = c.in-Ok.ensures.ends in
+    task_fits c.args.self.now c.set_out_lock.new.self c.take_all.new.self ends.0 (Some c.in-Ok.answer) c.args.task.now _ _ c.in_ok-set_out_lock.ensures.out.0 ends.1 c.requires.task
+
+pub take_all-requires-clause-begun : goal.take_all-requires-clause-begun
+take_all-requires-clause-begun g c = c.in_ok-set_out_lock.ensures.out.1
+
+pub take_all-requires-clause-seat_view : goal.take_all-requires-clause-seat_view
+take_all-requires-clause-seat_view g c = c.in_ok-set_out_lock.ensures.out.2
+
+pub take_all-requires-clause-start : goal.take_all-requires-clause-start
+take_all-requires-clause-start g c = ap (λ (u : Seated). u.seat_view.start) c.in_ok-set_out_lock.ensures.out.0
+
+pub returns-in-Err-clause-idle : goal.returns-in-Err-clause-idle
+returns-in-Err-clause-idle g c = c.in-Err.ensures.cut.1.idle

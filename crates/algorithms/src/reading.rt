@@ -5,6 +5,7 @@ mod checks;
 mod flow;
 mod lines;
 mod names;
+mod parts;
 mod tokens;
 mod usage;
 mod values;

@@ -3,18 +3,19 @@
 ghost use Rattle.std.specs.Prelude.{◌≡◌, ℕ, ◌+◌, ◌==◌, count_by, nat_lt, length, ◌<◌, ◌≤◌, ◌↔◌, ◌⊎◌, Bool, true, is_some, List, [], ◌∷◌, ◌++◌, IfNone, IfSome, IsSome, All, slice_index, IsTrue, IfOk, IfErr, IsErrOf, MatchResult, OnErr, OnOk, Ok, Err, false};
 ghost use Rattle.rmecore.specs.AbstractLock.{is_inside, is_dead_in, doer as lock_doer};
 ghost use Rattle.rmecore.specs.Needs.{put, least, none_below, first_fault as fault_of};
-ghost use Rattle.redomail.specs.Mailbox.{is_by, is_pending as is_pending_in, doer as doer_of};
+ghost use Rattle.redomail.specs.Mailbox.{is_by};
 ghost use Rattle.judge.specs.Table.{State, empty, lock_needs, mail_needs, needs, after, judged};
 ghost use Rattle.judge.specs.Legal.{judged_all};
 ghost use Rattle.judge.specs.Kept.{HasRoom, Lists};
 ghost use Rattle.judge.specs.Stands.{Keeps, StandsAfter};
 ghost use Rattle.judge.specs.Starts.{state_of, IsStart, IsWithin, LockHolds, MailHolds};
 
+use crate::deeds::{doer, is_pending};
 use crate::mail_part::MailPart;
 use crate::start::Start;
 use crate::{place, rows, shape};
 use redomail::{Deed, Message};
-use rmecore::{Body, Fault, Outer, Phase, Refusal};
+use rmecore::{Fault, Outer, Phase, Refusal};
 use std::alloc::{AllocError, Global};
 use std::marker::Model;
 
@@ -64,60 +65,6 @@ fn fault_unless(met: bool, fault: Fault) -> Option<Fault>
     if met { None } else { Some(fault) }
 }
 
-/// Whether the pending message is exactly this one.
-fn is_pending(pending: Option<Message>, p: u64, seq: u64, v: Body) -> bool
-    ensures { result ≡ is_pending_in pending p seq v }
-{
-    match pending {
-        None => false,
-        Some(m) => m.sender == p && m.seq == seq && m.value == v,
-    }
-}
-
-/// The process that does the deed of the lock.
-fn outer_doer(deed: Outer) -> u64
-    ensures { result ≡ lock_doer deed }
-{
-    match deed {
-        Outer::Begin(p) => p,
-        Outer::Ready(p) => p,
-        Outer::Enter(p) => p,
-        Outer::Crash(p) => p,
-        Outer::Reenter(p) => p,
-        Outer::Leave(p) => p,
-        Outer::Quit(p) => p,
-    }
-}
-
-/// The process that does the deed.
-fn doer(deed: &Deed) -> u64
-    ensures { result ≡ doer_of deed.now }
-{
-    match *deed {
-        Deed::Outer(outer) => outer_doer(outer),
-        Deed::Commit { p, .. } => p,
-        Deed::Show { p, .. } => p,
-        Deed::Close { p } => p,
-        Deed::Ruin { p } => p,
-    }
-}
-
-/// Refuses sizes outside the limits.
-fn check_sizes(procs: u64, cap: u64) -> Result<(), Refusal>
-    ensures within { OnOk result (IsWithin procs cap) }
-    ensures procs { IsErrOf result Refusal.BadProcs ↔ ((procs ≡ 0) ⊎ (64 < procs)) }
-    ensures cap { IsErrOf result Refusal.BadCap ↔ ((0 < procs) × (procs ≤ 64) × ((cap ≡ 0) ⊎ (65536 < cap))) }
-    ensures only { IfErr result (λ r. (r ≡ Refusal.BadProcs) ⊎ (r ≡ Refusal.BadCap)) }
-{
-    if procs == 0 || procs > 64 {
-        return Err(Refusal::BadProcs);
-    }
-    if cap == 0 || cap > 65536 {
-        return Err(Refusal::BadCap);
-    }
-    Ok(())
-}
-
 impl Judge {
     /// A judge of a new lock, before any deed. `procs` is 1 to 64, `cap`, the mailbox's capacity in messages, 1 to 65,536.
     ///
@@ -128,7 +75,7 @@ impl Judge {
         ensures cap { IsErrOf result Refusal.BadCap ↔ ((0 < procs) × (procs ≤ 64) × ((cap ≡ 0) ⊎ (65536 < cap))) }
         ensures only { IfErr result (λ r. (r ≡ Refusal.BadProcs) ⊎ (r ≡ Refusal.BadCap) ⊎ (r ≡ Refusal.OutOfMemory)) }
     {
-        check_sizes(procs, cap)?;
+        shape::check_sizes(procs, cap)?;
         Ok(Judge::with_nothing_shown(alloc, procs, cap)?)
     }
 
@@ -169,7 +116,7 @@ impl Judge {
         ensures only { IfErr result (λ r. (r ≡ Refusal.BadProcs) ⊎ (r ≡ Refusal.BadCap) ⊎ (r ≡ Refusal.BadShape)
             ⊎ (r ≡ Refusal.OutOfMemory)) }
     {
-        check_sizes(start.procs, start.cap)?;
+        shape::check_sizes(start.procs, start.cap)?;
         let Some(counts) = shape::counts(start) else {
             return Err(Refusal::BadShape);
         };

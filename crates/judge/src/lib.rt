@@ -2,6 +2,7 @@
 #![tactic(auto)]
 
 pub mod ahead;
+mod deeds;
 pub mod judge;
 pub mod laws;
 pub mod mail_part;

@@ -1,15 +1,31 @@
-//! Checks of a start. They do not allocate.
+//! Checks of sizes and of a start. They do not allocate.
 
-ghost use Rattle.std.specs.Prelude.{◌≡◌, ℕ, ◌+◌, ◌<◌, ◌≤◌, ◌↔◌, true, All, IsTrue, IfSome, IsSome, length, count_by, map, slice_index, is_none};
+ghost use Rattle.std.specs.Prelude.{◌≡◌, ℕ, ◌+◌, ◌<◌, ◌≤◌, ◌↔◌, ◌⊎◌, true, All, IsTrue, IfSome, IsSome, IfErr, IsErrOf, OnOk, length, count_by, map, slice_index, is_none};
 ghost use Rattle.rmecore.specs.AbstractLock.{is_ready as is_at_ready, is_dead_in as is_at_dead_in};
 ghost use Rattle.redomail.specs.Mailbox.{is_by};
 ghost use Rattle.judge.specs.Kept.{Lists};
-ghost use Rattle.judge.specs.Starts.{phase_in, IsNext, AreNumbered, LockHolds, MailHolds};
+ghost use Rattle.judge.specs.Starts.{IsWithin, phase_in, IsNext, AreNumbered, LockHolds, MailHolds};
 
 use crate::place;
 use crate::start::Start;
 use redomail::Message;
-use rmecore::Phase;
+use rmecore::{Phase, Refusal};
+
+/// Refuses sizes outside the limits.
+pub(crate) fn check_sizes(procs: u64, cap: u64) -> Result<(), Refusal>
+    ensures within { OnOk result (IsWithin procs cap) }
+    ensures procs { IsErrOf result Refusal.BadProcs ↔ ((procs ≡ 0) ⊎ (64 < procs)) }
+    ensures cap { IsErrOf result Refusal.BadCap ↔ ((0 < procs) × (procs ≤ 64) × ((cap ≡ 0) ⊎ (65536 < cap))) }
+    ensures only { IfErr result (λ r. (r ≡ Refusal.BadProcs) ⊎ (r ≡ Refusal.BadCap)) }
+{
+    if procs == 0 || procs > 64 {
+        return Err(Refusal::BadProcs);
+    }
+    if cap == 0 || cap > 65536 {
+        return Err(Refusal::BadCap);
+    }
+    Ok(())
+}
 
 /// A process's phase. An index past the list is out.
 fn phase_at(phases: &[Phase], p: u64) -> Phase

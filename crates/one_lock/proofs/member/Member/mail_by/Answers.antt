@@ -1,6 +1,28 @@
-use Rattle.std.proofs.Common.{◌≡◌, subst}
+use Rattle.std.proofs.Common.{◌≡◌, true, IfErr, refl, ap, ◌∙◌, subst}
 use Rattle.one_lock.proofs.Common.{falls_by}
+use Rattle.one_lock.specs.Member.{of_lock, stands_entered, stands_out}
+use Rattle.one_lock.proofs.Concluded.{concluded_asked, concluded_counts, concluded_goes, concluded_stands, concluded_faults}
 use Rattle.one_lock.proofs.member.Member.mail_by.Goals as goal
 
 pub conclude-requires-in-Err : goal.conclude-requires-in-Err
 conclude-requires-in-Err g c = λ f. subst (λ r. falls_by r f ≡ f) c.in-Err.is (c.entered-entry.ensures.falls f)
+
+pub returns-in-Err-clause-asked : goal.returns-in-Err-clause-asked
+returns-in-Err-clause-asked g c =
+    λ out. concluded_asked c.args.self.now c.begin.new.self c.conclude-in-Err.new.self _ _ c.conclude-in-Err.result c.conclude-in-Err.ensures.answer (g.P.CrashPlan.askings c.args.plan.now) (g.P.CrashPlan.askings c.begin.new.plan) (g.P.CrashPlan.askings c.conclude-in-Err.new.plan) c.in_ok-begin.ensures.asked c.conclude-in-Err.ensures.asked
+
+pub returns-in-Err-clause-counted : goal.returns-in-Err-clause-counted
+returns-in-Err-clause-counted g c = λ out. concluded_counts c.args.self.now c.begin.new.self c.conclude-in-Err.new.self _ _ c.conclude-in-Err.result c.conclude-in-Err.ensures.answer c.begin.ensures.counted
+
+pub returns-in-Err-clause-goes : goal.returns-in-Err-clause-goes
+returns-in-Err-clause-goes g c = concluded_goes c.args.self.now c.begin.new.self c.conclude-in-Err.new.self _ _ c.conclude-in-Err.result c.conclude-in-Err.ensures.answer c.begin.ensures.goes
+
+pub returns-in-Err-clause-fallen : goal.returns-in-Err-clause-fallen
+returns-in-Err-clause-fallen g c = c.conclude-in-Err.ensures.fallen ∙ ap (falls_by c.conclude-in-Err.result) c.in_ok-begin.ensures.fallen
+
+pub returns-in-Err-clause-stands : goal.returns-in-Err-clause-stands
+returns-in-Err-clause-stands g c = λ out. concluded_stands c.args.self.now c.begin.new.self c.conclude-in-Err.new.self _ _ c.conclude-in-Err.result c.conclude-in-Err.ensures.answer stands_out (c.entered-entry.ensures.stands ∙ ap stands_entered c.in-Err.is) refl
+
+pub returns-in-Err-clause-faults : goal.returns-in-Err-clause-faults
+returns-in-Err-clause-faults g c =
+    λ out. concluded_faults c.args.self.now c.begin.new.self c.conclude-in-Err.new.self _ _ c.conclude-in-Err.result c.conclude-in-Err.ensures.answer (λ e. of_lock e ≡ true) (subst (λ r. IfErr r (λ e. of_lock e ≡ true)) c.in-Err.is c.entered-entry.ensures.faults) refl

@@ -26,3 +26,12 @@ returns-clause-stands g c = λ unmended. concluded_stands c.args.self.now c.begi
 pub returns-clause-answered : goal.returns-clause-answered
 returns-clause-answered g c =
     λ unmended. as_told g.S.Sizes.named mended_by c.args.self.now c.begin.new.self c.conclude.new.self _ _ Consistent _ _ _ c.conclude.result c.in_ok-begin.ensures.answered c.mended-repaired.ensures.told c.conclude.ensures.answer
+
+pub returns-in_err-begin-clause-asked : goal.returns-in_err-begin-clause-asked
+returns-in_err-begin-clause-asked g c = λ unmended. c.in_err-begin.ensures.ended
+
+pub returns-in_err-begin-clause-counted : goal.returns-in_err-begin-clause-counted
+returns-in_err-begin-clause-counted g c = λ unmended. c.begin.ensures.counted
+
+pub returns-in_err-begin-clause-goes : goal.returns-in_err-begin-clause-goes
+returns-in_err-begin-clause-goes g c = c.begin.ensures.goes

@@ -26,3 +26,12 @@ returns-in-Err-clause-stands g c = λ out. concluded_stands c.args.self.now c.be
 pub returns-in-Err-clause-faults : goal.returns-in-Err-clause-faults
 returns-in-Err-clause-faults g c =
     λ out. concluded_faults c.args.self.now c.begin.new.self c.conclude-in-Err.new.self _ _ c.conclude-in-Err.result c.conclude-in-Err.ensures.answer (λ e. of_lock e ≡ true) (subst (λ r. IfErr r (λ e. of_lock e ≡ true)) c.in-Err.is c.entered-entry.ensures.faults) refl
+
+pub returns-in_err-begin-clause-asked : goal.returns-in_err-begin-clause-asked
+returns-in_err-begin-clause-asked g c = λ out. c.in_err-begin.ensures.ended
+
+pub returns-in_err-begin-clause-counted : goal.returns-in_err-begin-clause-counted
+returns-in_err-begin-clause-counted g c = λ out. c.begin.ensures.counted
+
+pub returns-in_err-begin-clause-goes : goal.returns-in_err-begin-clause-goes
+returns-in_err-begin-clause-goes g c = c.begin.ensures.goes

@@ -28,3 +28,12 @@ returns-clause-faults g c = λ inside there. concluded_faults c.args.self.now c.
 pub returns-clause-answered : goal.returns-clause-answered
 returns-clause-answered g c =
     λ inside there. as_told g.S.Sizes.named (λ _. Ok tt) c.args.self.now c.begin.new.self c.conclude.new.self _ _ (Put c.args.i c.args.value) _ _ _ c.conclude.result c.in_ok-begin.ensures.answered refl c.conclude.ensures.answer
+
+pub returns-in_err-begin-clause-asked : goal.returns-in_err-begin-clause-asked
+returns-in_err-begin-clause-asked g c = λ inside there. c.in_err-begin.ensures.ended
+
+pub returns-in_err-begin-clause-counted : goal.returns-in_err-begin-clause-counted
+returns-in_err-begin-clause-counted g c = λ inside there. c.begin.ensures.counted
+
+pub returns-in_err-begin-clause-goes : goal.returns-in_err-begin-clause-goes
+returns-in_err-begin-clause-goes g c = c.begin.ensures.goes

@@ -1,5 +1,5 @@
 -- The last asking of a call, before its answer: it leaves all of the member as it was but for its state.
-use Rattle.std.proofs.Common.{◌≡◌, ◌⊎◌, ◌+◌, ◌-◌, ◌<◌, ◌^◌, ℕ, min, Result, Ok, Err, IfErr, refl, sym, ap, ◌∙◌, subst, inl, inr, arith}
+use Rattle.std.proofs.Common.{◌≡◌, ◌⊎◌, ◌+◌, ◌-◌, ◌<◌, ◌≤◌, ◌^◌, ℕ, min, Result, Ok, Err, IfErr, refl, sym, ap, ◌∙◌, subst, inl, inr, arith}
 use Rattle.one_lock.proofs.Common.{Seat, Goes, AskedEach}
 use Rattle.crash_plans.specs.Plans.{Askings}
 use Rattle.execution.specs.declared.lock_fault.LockFault.{LockFault}
@@ -13,6 +13,14 @@ use Rattle.rmecore.specs.Simulated.{one_more}
 abbrev pub Concluded : {T : Type 0} → Seat → MemberState → Result T LockFault → Seat → Result T LockFault → Type 0
 Concluded x standing answer y result =
     ((result ≡ answer) × (y ≡ record x { standing = standing })) ⊎ ((result ≡ Err Crashed) × (y ≡ record x { standing = Lost }))
+
+-- two parts of a call, one after the other: the second began with n own steps
+pub asked_then : (old x z : Seat) (n : ℕ) (a b c : Askings) → AskedEach old x a b → n ≡ x.steps → n ≤ z.steps → (c.asked < 2 ^ 64 - 1 → c.asked + n ≡ b.asked + z.steps) → AskedEach old z a c
+asked_then old x z n a b c each is more then few =
+    let sum = then few in
+    let below : b.asked < 2 ^ 64 - 1 = omega (arith, few, more, sum) in
+    let first = each below in
+    omega (arith, first, sum, is)
 
 module _ {T : Type 0} (old x y : Seat) (standing : MemberState) (answer result : Result T LockFault) (h : Concluded x standing answer y result) where
   kept : {A : Type 0} (f : Seat → A) → f (record x { standing = standing }) ≡ f x → f (record x { standing = Lost }) ≡ f x → f y ≡ f x

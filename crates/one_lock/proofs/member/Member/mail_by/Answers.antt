@@ -1,7 +1,7 @@
-use Rattle.std.proofs.Common.{◌≡◌, true, IfErr, refl, ap, ◌∙◌, subst}
+use Rattle.std.proofs.Common.{rules, ◌≡◌, true, IfErr, refl, ap, ◌∙◌, subst}
 use Rattle.one_lock.proofs.Common.{falls_by}
 use Rattle.one_lock.specs.Member.{of_lock, stands_entered, stands_out}
-use Rattle.one_lock.proofs.Concluded.{concluded_asked, concluded_counts, concluded_goes, concluded_stands, concluded_faults}
+use Rattle.one_lock.proofs.Concluded.{asked_then, concluded_asked, concluded_counts, concluded_goes, concluded_stands, concluded_faults}
 use Rattle.one_lock.proofs.member.Member.mail_by.Goals as goal
 
 pub conclude-requires-in-Err : goal.conclude-requires-in-Err
@@ -35,3 +35,8 @@ returns-in_err-begin-clause-counted g c = λ out. c.begin.ensures.counted
 
 pub returns-in_err-begin-clause-goes : goal.returns-in_err-begin-clause-goes
 returns-in_err-begin-clause-goes g c = c.begin.ensures.goes
+
+pub returns-in_ok-reply-in-Ok-clause-asked : goal.returns-in_ok-reply-in-Ok-clause-asked
+returns-in_ok-reply-in-Ok-clause-asked g c =
+    let each = asked_then c.args.self.now c.begin.new.self c.work.new.self _ (g.P.CrashPlan.askings c.args.plan.now) (g.P.CrashPlan.askings c.begin.new.plan) (g.P.CrashPlan.askings c.work.new.plan) c.in_ok-begin.ensures.asked (search rules) c.work.ensures.goes.2 c.in_ok-reply-in-Ok.ensures.asked in
+    λ out. concluded_asked c.args.self.now c.work.new.self c.conclude.new.self _ _ c.conclude.result c.conclude.ensures.answer (g.P.CrashPlan.askings c.args.plan.now) (g.P.CrashPlan.askings c.work.new.plan) (g.P.CrashPlan.askings c.conclude.new.plan) each c.conclude.ensures.asked

@@ -1,6 +1,6 @@
 -- The last asking of a call, before its answer: it leaves all of the member as it was but for its state.
 use Rattle.std.proofs.Common.{◌≡◌, ◌⊎◌, ◌+◌, ◌-◌, ◌<◌, ◌≤◌, ◌^◌, ℕ, min, Result, Ok, Err, IfErr, refl, sym, ap, ◌∙◌, subst, inl, inr, arith}
-use Rattle.one_lock.proofs.Common.{Seat, Goes, AskedEach}
+use Rattle.one_lock.proofs.Common.{Layout, Seat, Goes, AskedEach}
 use Rattle.crash_plans.specs.Plans.{Askings}
 use Rattle.execution.specs.declared.lock_fault.LockFault.{LockFault}
 use Rattle.execution.specs.declared.lock_fault.LockFault.TheVariants.{Crashed}
@@ -21,6 +21,12 @@ asked_then old x z n a b c each is more then few =
     let below : b.asked < 2 ^ 64 - 1 = omega (arith, few, more, sum) in
     let first = each below in
     omega (arith, first, sum, is)
+
+pub goes_then : (old x z : Seat) (p : ℕ) (l : Layout) (n : ℕ) → Goes old x → p ≡ x.process → l ≡ x.layout → n ≡ x.steps → (z.process ≡ p) × (z.layout ≡ l) × (n ≤ z.steps) → Goes old z
+goes_then old x z p l n goes same_process same_layout is then =
+    let few = goes.2 in
+    let more = then.2 in
+    (then.0 ∙ same_process ∙ goes.0, then.1 ∙ same_layout ∙ goes.1, omega (arith, few, more, is))
 
 module _ {T : Type 0} (old x y : Seat) (standing : MemberState) (answer result : Result T LockFault) (h : Concluded x standing answer y result) where
   kept : {A : Type 0} (f : Seat → A) → f (record x { standing = standing }) ≡ f x → f (record x { standing = Lost }) ≡ f x → f y ≡ f x

@@ -1,7 +1,7 @@
 use Rattle.std.proofs.Common.{rules, ◌≡◌, true, IfErr, refl, ap, ◌∙◌, subst}
 use Rattle.one_lock.proofs.Common.{falls_by}
 use Rattle.one_lock.specs.Member.{of_lock, stands_entered, stands_out}
-use Rattle.one_lock.proofs.Concluded.{asked_then, concluded_asked, concluded_counts, concluded_goes, concluded_stands, concluded_faults}
+use Rattle.one_lock.proofs.Concluded.{asked_then, goes_then, concluded_asked, concluded_counts, concluded_goes, concluded_stands, concluded_faults}
 use Rattle.one_lock.proofs.member.Member.mail_by.Goals as goal
 
 pub conclude-requires-in-Err : goal.conclude-requires-in-Err
@@ -40,3 +40,7 @@ pub returns-in_ok-reply-in-Ok-clause-asked : goal.returns-in_ok-reply-in-Ok-clau
 returns-in_ok-reply-in-Ok-clause-asked g c =
     let each = asked_then c.args.self.now c.begin.new.self c.work.new.self _ (g.P.CrashPlan.askings c.args.plan.now) (g.P.CrashPlan.askings c.begin.new.plan) (g.P.CrashPlan.askings c.work.new.plan) c.in_ok-begin.ensures.asked (search rules) c.work.ensures.goes.2 c.in_ok-reply-in-Ok.ensures.asked in
     λ out. concluded_asked c.args.self.now c.work.new.self c.conclude.new.self _ _ c.conclude.result c.conclude.ensures.answer (g.P.CrashPlan.askings c.args.plan.now) (g.P.CrashPlan.askings c.work.new.plan) (g.P.CrashPlan.askings c.conclude.new.plan) each c.conclude.ensures.asked
+
+pub returns-in_ok-reply-in-Ok-clause-goes : goal.returns-in_ok-reply-in-Ok-clause-goes
+returns-in_ok-reply-in-Ok-clause-goes g c =
+    concluded_goes c.args.self.now c.work.new.self c.conclude.new.self _ _ c.conclude.result c.conclude.ensures.answer (goes_then c.args.self.now c.begin.new.self c.work.new.self _ _ _ c.begin.ensures.goes (search rules) (search rules) (search rules) c.work.ensures.goes)

@@ -28,6 +28,9 @@ goes_then old x z p l n goes same_process same_layout is then =
     let more = then.2 in
     (then.0 ∙ same_process ∙ goes.0, then.1 ∙ same_layout ∙ goes.1, omega (arith, few, more, is))
 
+pub counts_then : (old x z : Seat) (m n : ℕ) → Counts old x → old.steps ≤ x.steps → m ≡ x.counted → n ≡ x.steps → n ≤ z.steps → z.counted ≡ min (m + (z.steps - n)) (2 ^ 64 - 1) → Counts old z
+counts_then old x z m n counts few same is more then = omega (arith, counts, few, same, is, more, then)
+
 module _ {T : Type 0} (old x y : Seat) (standing : MemberState) (answer result : Result T LockFault) (h : Concluded x standing answer y result) where
   kept : {A : Type 0} (f : Seat → A) → f (record x { standing = standing }) ≡ f x → f (record x { standing = Lost }) ≡ f x → f y ≡ f x
   kept f same lost = by h

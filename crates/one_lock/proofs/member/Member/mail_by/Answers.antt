@@ -1,7 +1,7 @@
 use Rattle.std.proofs.Common.{rules, ◌≡◌, true, IfErr, refl, ap, ◌∙◌, subst}
 use Rattle.one_lock.proofs.Common.{falls_by}
 use Rattle.one_lock.specs.Member.{of_lock, stands_entered, stands_out}
-use Rattle.one_lock.proofs.Concluded.{asked_then, goes_then, concluded_asked, concluded_counts, concluded_goes, concluded_stands, concluded_faults}
+use Rattle.one_lock.proofs.Concluded.{asked_then, counts_then, goes_then, concluded_asked, concluded_counts, concluded_goes, concluded_stands, concluded_faults}
 use Rattle.one_lock.proofs.member.Member.mail_by.Goals as goal
 
 pub conclude-requires-in-Err : goal.conclude-requires-in-Err
@@ -44,3 +44,7 @@ returns-in_ok-reply-in-Ok-clause-asked g c =
 pub returns-in_ok-reply-in-Ok-clause-goes : goal.returns-in_ok-reply-in-Ok-clause-goes
 returns-in_ok-reply-in-Ok-clause-goes g c =
     concluded_goes c.args.self.now c.work.new.self c.conclude.new.self _ _ c.conclude.result c.conclude.ensures.answer (goes_then c.args.self.now c.begin.new.self c.work.new.self _ _ _ c.begin.ensures.goes (search rules) (search rules) (search rules) c.work.ensures.goes)
+
+pub returns-in_ok-reply-in-Ok-clause-counted : goal.returns-in_ok-reply-in-Ok-clause-counted
+returns-in_ok-reply-in-Ok-clause-counted g c =
+    λ out. concluded_counts c.args.self.now c.work.new.self c.conclude.new.self _ _ c.conclude.result c.conclude.ensures.answer (counts_then c.args.self.now c.begin.new.self c.work.new.self _ _ c.begin.ensures.counted c.begin.ensures.goes.2 (search rules) (search rules) c.work.ensures.goes.2 c.work.ensures.counted)

@@ -1,5 +1,5 @@
 -- The last asking of a call, before its answer: it leaves all of the member as it was but for its state.
-use Rattle.std.proofs.Common.{◌≡◌, ◌⊎◌, ◌+◌, ◌-◌, ◌<◌, ◌≤◌, ◌^◌, ℕ, min, Result, Ok, Err, IfErr, refl, sym, ap, ◌∙◌, subst, inl, inr, arith}
+use Rattle.std.proofs.Common.{◌≡◌, ◌⊎◌, ◌+◌, ◌-◌, ◌<◌, ◌≤◌, ◌^◌, ℕ, min, Result, Err, IfErr, refl, sym, ap, ◌∙◌, subst, inl, inr, arith}
 use Rattle.one_lock.proofs.Common.{Layout, Seat, Goes, AskedEach}
 use Rattle.crash_plans.specs.Plans.{Askings}
 use Rattle.execution.specs.declared.lock_fault.LockFault.{LockFault}

@@ -3,6 +3,7 @@ pub mod Executions
 pub mod Steps
 pub mod Seats
 pub mod Answered
+pub mod Concluded
 pub mod Whole
 pub mod LabCommon
 pub mod Endings

@@ -1,0 +1,39 @@
+use Rattle.std.proofs.Common.{◌≡◌, true, refl, ap, ◌∙◌}
+use Rattle.rmeworld.specs.declared.call.Call.TheVariants.{Lock}
+use Rattle.one_lock.proofs.Common.{entry_by, falls_by}
+use Rattle.one_lock.specs.Member.{of_lock, stands_entered}
+use Rattle.one_lock.proofs.Answered.{as_told}
+use Rattle.one_lock.proofs.Concluded.{concluded_asked, concluded_counts, concluded_goes, concluded_stands, concluded_faults}
+use Rattle.one_lock.proofs.member.Member.lock_by.Goals as goal
+
+pub returns-clause-asked : goal.returns-clause-asked
+returns-clause-asked g c =
+    λ out. concluded_asked c.args.self.now c.begin.new.self c.conclude.new.self _ _ c.conclude.result c.conclude.ensures.answer (g.P.CrashPlan.askings c.args.plan.now) (g.P.CrashPlan.askings c.begin.new.plan) (g.P.CrashPlan.askings c.conclude.new.plan) c.in_ok-begin.ensures.asked c.conclude.ensures.asked
+
+pub returns-clause-counted : goal.returns-clause-counted
+returns-clause-counted g c = λ out. concluded_counts c.args.self.now c.begin.new.self c.conclude.new.self _ _ c.conclude.result c.conclude.ensures.answer c.begin.ensures.counted
+
+pub returns-clause-goes : goal.returns-clause-goes
+returns-clause-goes g c = concluded_goes c.args.self.now c.begin.new.self c.conclude.new.self _ _ c.conclude.result c.conclude.ensures.answer c.begin.ensures.goes
+
+pub returns-clause-fallen : goal.returns-clause-fallen
+returns-clause-fallen g c = c.conclude.ensures.fallen ∙ ap (falls_by c.conclude.result) c.in_ok-begin.ensures.fallen
+
+pub returns-clause-stands : goal.returns-clause-stands
+returns-clause-stands g c = λ out. concluded_stands c.args.self.now c.begin.new.self c.conclude.new.self _ _ c.conclude.result c.conclude.ensures.answer stands_entered c.entered-entry.ensures.stands refl
+
+pub returns-clause-faults : goal.returns-clause-faults
+returns-clause-faults g c = λ out. concluded_faults c.args.self.now c.begin.new.self c.conclude.new.self _ _ c.conclude.result c.conclude.ensures.answer (λ e. of_lock e ≡ true) c.entered-entry.ensures.faults refl
+
+pub returns-clause-answered : goal.returns-clause-answered
+returns-clause-answered g c =
+    λ out. as_told g.S.Sizes.named entry_by c.args.self.now c.begin.new.self c.conclude.new.self _ _ Lock _ _ _ c.conclude.result c.in_ok-begin.ensures.answered c.entered-entry.ensures.told c.conclude.ensures.answer
+
+pub returns-in_err-begin-clause-asked : goal.returns-in_err-begin-clause-asked
+returns-in_err-begin-clause-asked g c = λ out. c.in_err-begin.ensures.ended
+
+pub returns-in_err-begin-clause-counted : goal.returns-in_err-begin-clause-counted
+returns-in_err-begin-clause-counted g c = λ out. c.begin.ensures.counted
+
+pub returns-in_err-begin-clause-goes : goal.returns-in_err-begin-clause-goes
+returns-in_err-begin-clause-goes g c = c.begin.ensures.goes

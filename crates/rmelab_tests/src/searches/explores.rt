@@ -62,7 +62,6 @@ rmelab: bad size
 ";
 
 /// The counts are those of the plain program, whose search back goes over lists of the states before each.
-/// Some of the searches take longer than `rt try` allows.
 /// Of the right lock without `unlock`, and without a call by which a crashed process comes back, a state is stuck. Of a wrong
 /// variant a schedule that goes wrong is written: under `no-ties` both have the number 1, and neither waits for the other.
 const EXPLORES: &str = "
@@ -84,10 +83,6 @@ never stuck: all 7729 states
 never stuck: all 9145 states
 @row rmelab explore --variant renumber --procs 2 --crashes 1 --limit 2 --stuck @out
 never stuck: all 4071 states
-@row rmelab explore --variant right --procs 2 --crashes 3 --stuck @out
-never stuck: all 45075 states
-@row rmelab explore --variant right --procs 3 --crashes 1 --limit 1 --stuck @out
-never stuck: all 92524 states
 @row rmelab explore --variant right --procs 2 --calls lock --limit 1 --stuck @out KEPT @ends 1
 @row rmelab explore --variant right --procs 2 --calls unlock --limit 1 --crashes 1 --stuck @out NOT_BACK @ends 1
 @row rmelab explore --variant right --procs 2 --calls lock --limit 1 @out
@@ -146,6 +141,19 @@ For more information, try '--help'.
 #[test]
 fn explores(rt: HostRuntime) -> Result<(), Fail> {
     all_come_to(&rt, rt.alloc(), &[TEXTS], EXPLORES)
+}
+
+const EXPLORES_STUCK_AT_LENGTH: &str = "
+@row rmelab explore --variant right --procs 2 --crashes 3 --stuck @out
+never stuck: all 45075 states
+@row rmelab explore --variant right --procs 3 --crashes 1 --limit 1 --stuck @out
+never stuck: all 92524 states
+";
+
+/// It takes longer than `rt try` allows.
+#[test]
+fn explores_stuck_at_length(rt: HostRuntime) -> Result<(), Fail> {
+    all_come_to(&rt, rt.alloc(), &[], EXPLORES_STUCK_AT_LENGTH)
 }
 
 /// A schedule that is found replays to its fault, and one to a stuck state to a fine verdict.

@@ -8,12 +8,12 @@ use crate::support::text_named;
 use algorithm_explorer::{AlgorithmHuntFault, hunt_algorithm_schedule, shrink_algorithm_schedule};
 use algorithm_lab::AlgorithmReplayFault;
 use algorithms::{Algorithm, read_algorithm};
-use memory_limit::ScarceMemory;
 use schedule::{Schedule, ToWriter, read_schedule};
 use std::alloc::Global;
 use std::io::Cursor;
 use std::process::Abort;
 use std::test::Fail;
+use test_support::memory_limit::ScarceMemory;
 
 /// How many requests for memory may be refused.
 const TRIES: usize = 200;

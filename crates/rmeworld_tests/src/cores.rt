@@ -1,10 +1,11 @@
 //! The worked rows on a simulated core. A script is like one for a world (`played`), without data words. `step 0 7 in` ends
 //! with this answer of the core.
 
-use super::phrase::{Phrase, Table, all_hold, cut, found_of, is_refusal, place};
+use super::phrase::{Phrase, Table, all_hold, found_of, is_refusal, place};
 use super::played::are_words;
 use rmecore::{Core, CoreDone, Happened, Kind, Outer, Refusal, Word};
 use std::alloc::Global;
+use test_support::text::cut;
 
 /// The core's answer with this name.
 fn done_of(name: &str) -> Option<CoreDone> {

@@ -1,12 +1,13 @@
 //! Texts of images: worked ones, broken ones, and other spellings.
 
-use super::phrase::{Phrase, Table, all_hold, cut, no_line};
+use super::phrase::{Phrase, Table, all_hold, no_line};
 use judge::{Judge, Start};
 use redomail::{Layout, Message};
 use rmecore::{Own, Phase, Refusal};
 use rmeworld::image::rules::{find_in, layout, word};
 use rmeworld::{DataWords, Image, Owns, first_rule, read_image, start_of, widen, write_image};
 use std::alloc::{AllocError, Global};
+use test_support::text::cut;
 
 /// One process inside, and an empty mailbox.
 const SMALLEST: &str =

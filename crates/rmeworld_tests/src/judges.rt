@@ -1,10 +1,11 @@
 //! Lists of deeds for a judge, and starts. A deed that is refused has its fault after it, as in `enter 1 overtaken 1 0`.
 
-use super::phrase::{Phrase, Table, all_hold, cut, is_refusal, place};
+use super::phrase::{Phrase, Table, all_hold, is_refusal, place};
 use judge::{Ahead, Judge, Messages, Phases, Start};
 use redomail::Message;
 use rmecore::{Fault, Phase, Refusal};
 use std::alloc::{AllocError, Global};
+use test_support::text::cut;
 
 /// The fault with this name and these processes.
 fn fault_of(text: &str) -> Option<Fault> {

@@ -2,11 +2,12 @@
 //! of the content and words that break one, and each allocation failing in turn.
 
 use super::memory::{Memory, are_messages};
-use super::phrase::{Phrase, Table, all_hold, cut, no_line};
+use super::phrase::{Phrase, Table, all_hold, no_line};
 use linked_list_allocator::LocalHeap;
 use redomail::{Job, Layout, Next, Reply, Task, content};
 use rmecore::{Body, Refusal};
 use std::alloc::{AllocError, Global};
+use test_support::text::cut;
 
 const ONE: Layout = Layout {
     procs: 1,

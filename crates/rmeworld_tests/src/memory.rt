@@ -3,9 +3,10 @@
 ghost use Rattle.std.specs.Prelude.{◌≡◌, ◌+◌, true, false, if◌then◌else◌};
 ghost use Rattle.redomail.specs.Layout.{held};
 
-use super::phrase::{Phrase, cut, reply_of};
+use super::phrase::{Phrase, reply_of};
 use redomail::{Cells, Job, Layout, Message, Reply, Stop, Task, content, run_task};
 use std::alloc::{AllocError, Global};
+use test_support::text::cut;
 
 /// The words, the number of calls of the task, the call at which it stops (0: none), and the number of stops.
 #[derive(Drop)]

@@ -5,6 +5,7 @@ use rmecore::{Body, Found, Outer, Refusal};
 use rmeworld::{Answer, Call};
 use std::alloc::Global;
 use std::process::Abort;
+use test_support::text::cut;
 
 /// A phrase. A number that is missing counts as the greatest u64.
 #[derive(Clone, Copy)]
@@ -14,13 +15,6 @@ pub struct Phrase<'a> {
     count: usize,
     /// The text after the numbers.
     pub rest: &'a str,
-}
-
-/// Takes the text before the separator off the front. Without a separator it takes all.
-pub fn cut<'a>(text: &mut &'a str, separator: &str) -> &'a str {
-    let (part, rest) = text.split_once(separator).unwrap_or((text, ""));
-    *text = rest;
-    part
 }
 
 /// Fails the test at the row that fails, and the line in it.
@@ -97,13 +91,13 @@ impl<'a> Phrase<'a> {
         let mut numbers = [u64::MAX; 12];
         let mut count = 0usize;
         for slot in &mut numbers {
-            let mut behind = rest;
-            let Ok(number) = cut(&mut behind, " ").parse::<u64>() else {
+            let mut after = rest;
+            let Ok(number) = cut(&mut after, " ").parse::<u64>() else {
                 break;
             };
             *slot = number;
             count = count.saturating_add(1);
-            rest = behind;
+            rest = after;
         }
         Phrase {
             word,

@@ -5,11 +5,12 @@
 //! lock words of process 0, `began` those at the start of its call. `steps`, `blocked` and `deeds` are counts, `data` is a
 //! data word, and `image` the text of the image. `from-image` replaces the world by a new one from its image.
 
-use super::phrase::{Phrase, answer_of, cut, place};
+use super::phrase::{Phrase, answer_of, place};
 use redomail::Deed;
 use rmecore::{Own, Refusal};
 use rmeworld::{Answer, Image, World, write_image};
 use std::alloc::Global;
+use test_support::text::cut;
 
 /// Takes steps. True: the last one and no other has the wanted answer.
 pub fn step(world: &mut World, p: u64, count: u64, wanted: Option<Answer>) -> bool {

@@ -1,15 +1,16 @@
 //! Each request for memory of worlds and of images is refused in turn: all memory is taken but for a reserve, which is given
 //! back piece by piece until a call meets no refusal. What it then gives is compared whole with what ample memory gives.
 
-use super::phrase::{Phrase, cut};
+use super::phrase::Phrase;
 use super::played::{first_wrong, world_of};
 use super::torn::is_same;
-use memory_limit::{PIECES, ScarceMemory};
 use redomail::Deed;
 use rmecore::Refusal;
 use rmeworld::{Image, Stepped, World, read_image, write_image};
 use std::alloc::Global;
 use std::process::Abort;
+use test_support::memory_limit::{PIECES, ScarceMemory};
+use test_support::text::cut;
 
 /// A world after this script.
 fn played(rt: &impl Abort, alloc: Global, script: &str) -> World {

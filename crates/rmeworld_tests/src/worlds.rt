@@ -1,9 +1,10 @@
 //! The worked rows on a world.
 
-use super::phrase::{Phrase, Table, all_hold, cut, is_refusal};
+use super::phrase::{Phrase, Table, all_hold, is_refusal};
 use super::played::{world_of, wrong_on};
 use rmeworld::World;
 use std::alloc::Global;
+use test_support::text::cut;
 
 /// Whether the script has the results that it says, and its deeds are those of the row.
 fn is_played(alloc: Global, world: &mut World, row: &str) -> bool {

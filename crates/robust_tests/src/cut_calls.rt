@@ -4,12 +4,13 @@ use crate::support::counted::{at, never};
 use crate::support::rows::{call_of, first_wrong_of_two, word_at};
 use crate::support::running::two;
 use crate::support::tested::Tested;
-use crate::support::text::{cut, number, place};
+use crate::support::text::{number, place};
 use rmeworld::{Image, start_of};
 use robust::{LockFault, Member};
 use std::alloc::Global;
 use std::process::Abort;
 use std::sync::Wait;
+use test_support::text::cut;
 
 /// The names of all words: those of both processes, and 11 + n + 3cap data words. The record and place 0 have three each.
 const WORDS: &str =

@@ -7,7 +7,6 @@ use crate::support::counted::never;
 use crate::support::messages::{are, body};
 use crate::support::rows::begins_with;
 use crate::support::running::two;
-use memory_limit::{PIECES, ScarceMemory};
 use redomail::Reply;
 use rmecore::Refusal;
 use rmeworld::Image;
@@ -15,6 +14,7 @@ use robust::{Arena, GatherFault, Member, gather};
 use std::alloc::Global;
 use std::process::Abort;
 use std::test::Fail;
+use test_support::memory_limit::{PIECES, ScarceMemory};
 
 /// The number of members of a new arena.
 fn members_made<R: Abort>(rt: &R, alloc: Global) -> Result<usize, Refusal> {

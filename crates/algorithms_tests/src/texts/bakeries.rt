@@ -366,7 +366,7 @@ call withdraw
 ";
 
 pub const RENUMBER: &[u8] =
-    br"# renumber: the Bakery that takes a new number after a crash behind the doorway.
+    br"# renumber: the Bakery that takes a new number after a crash past its doorway.
 algorithm renumber for 1 to 64 processes
 promises exclusion, reentry, order
 

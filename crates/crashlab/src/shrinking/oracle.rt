@@ -5,7 +5,8 @@ ghost use Rattle.schedule.specs.Schedules.{Scheduled};
 
 use schedule::{OutOfMemory, Schedule};
 
-/// A test oracle: it says whether a schedule goes wrong, by playing it on a new world. By what it decides stays the same.
+/// A test oracle: it says whether a schedule goes wrong, by playing it on a new world. Its criterion stays the same from one
+/// schedule to the next.
 pub trait Oracle {
     ghost Criterion: { Type 0 };
 

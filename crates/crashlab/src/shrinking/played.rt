@@ -14,9 +14,9 @@ use schedule::replays::verdict::fault_number;
 use schedule::{OutOfMemory, Page, ReplayFault, Schedule, Verdict, replay_on};
 use std::alloc::Global;
 
-/// The verdict that a smaller schedule has to keep: on this variant, against this number.
+/// The oracle of a variant: a schedule goes wrong where its verdict on the variant is against this number.
 #[derive(Clone, Copy)]
-pub struct Wanted {
+pub struct VariantOracle {
     pub alloc: Global,
     pub variant: Variant,
     pub number: u64,
@@ -55,13 +55,13 @@ pub fn played(alloc: Global, variant: Variant, schedule: &Schedule) -> Result<Ve
     }
 }
 
-impl Oracle for Wanted {
+impl Oracle for VariantOracle {
     ghost use Rattle.std.specs.Prelude.{ℕ};
     ghost use Rattle.crashlab.specs.declared.variant.Variant.{Variant as VariantOf};
 
     ghost Criterion = { VariantOf × ℕ };
 
-    ghost criterion_of = { λ w. (w.variant, w.number) };
+    ghost criterion_of = { λ oracle. (oracle.variant, oracle.number) };
 
     ghost is_wrong = { λ criterion. GoesWrong criterion.0 criterion.1 };
 

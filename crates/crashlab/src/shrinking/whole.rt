@@ -5,7 +5,7 @@ ghost use Rattle.crashlab.specs.Hunts.{IsFound};
 ghost use Rattle.crashlab.specs.Shrunk.{IsReason, Shrinks};
 
 use crate::shrinking::minimizing::minimize;
-use crate::shrinking::played::{Wanted, played};
+use crate::shrinking::played::{VariantOracle, played};
 use crate::variant::Variant;
 use schedule::replays::verdict::fault_number;
 use schedule::{OutOfMemory, ReplayFault, Schedule, Verdict};
@@ -25,12 +25,12 @@ pub fn shrink(
         Verdict::Fine => return Ok(None),
         Verdict::Against { fault, .. } => fault,
     };
-    let mut wanted = Wanted {
+    let mut oracle = VariantOracle {
         alloc,
         variant,
         number: fault_number(fault),
     };
-    match minimize(alloc, &mut wanted, schedule) {
+    match minimize(alloc, &mut oracle, schedule) {
         Ok(least) => Ok(Some(least)),
         Err(OutOfMemory) => Err(ReplayFault::OutOfMemory),
     }

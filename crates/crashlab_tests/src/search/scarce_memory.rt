@@ -7,7 +7,6 @@ use explorer::{SearchFault, SearchOutcome, Unwatched, search, search_in_parallel
 use lock_explorer::{
     Bounds, ExploreFault, Move, Variables, shortest_schedule, shortest_schedule_in_parallel,
 };
-use memory_limit::{PIECES, ScarceMemory};
 use redomail::Layout;
 use rmeworld::Call;
 use schedule::{Schedule, write_schedule};
@@ -16,6 +15,7 @@ use std::process::Abort;
 use std::test::Fail;
 use std::thread;
 use std::thread::Threads;
+use test_support::memory_limit::{PIECES, ScarceMemory};
 
 /// The pieces that are given back after the reserve.
 const SPARE: usize = 64;

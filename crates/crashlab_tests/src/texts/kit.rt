@@ -8,6 +8,7 @@ use schedule::{
     replay_on,
 };
 use std::alloc::Global;
+use test_support::text::cut;
 
 /// What a replay answers, where it writes just this. None: it writes something else.
 pub type Answer = Option<Result<Verdict, ReplayFault>>;
@@ -80,13 +81,6 @@ fn is_right(alloc: Global, answer: Answer, report: &[u8], fault: Option<ReplayFa
 pub fn replays(alloc: Global, text: &[u8], report: &[u8]) -> bool {
     let answer = replayed(alloc, &mut Text::new(text, 7), report);
     is_right(alloc, answer, report, None)
-}
-
-/// Takes the text before the separator off the front. Without a separator it takes all.
-pub fn cut<'a>(text: &mut &'a str, separator: &str) -> &'a str {
-    let (part, rest) = text.split_once(separator).unwrap_or((text, ""));
-    *text = rest;
-    part
 }
 
 /// The refusal of a line and a number after a name, as in `sizes 1 8`.

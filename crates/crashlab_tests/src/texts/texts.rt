@@ -1,6 +1,5 @@
 //! Texts that are faulty, and texts that are written as they were read.
 
-use crate::texts::kit::cut;
 use redomail::{Deed, Reply};
 use rmecore::Found;
 use rmeworld::Answer;
@@ -9,6 +8,7 @@ use schedule::texts::device::{Page, write_all};
 use schedule::texts::trace::{Trace, read_trace};
 use schedule::{TextFault, read_schedule, write_schedule};
 use std::alloc::{AllocError, Global};
+use test_support::text::cut;
 
 /// Whether the text has a fault in this line, with this number.
 fn is_faulty(alloc: Global, text: &[u8], line: u64, number: u64) -> bool {

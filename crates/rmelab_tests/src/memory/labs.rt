@@ -1,12 +1,12 @@
 //! Each request for memory of a lab over the running lock is refused in turn.
 
 use crash_plans::Never;
-use memory_limit::{PIECES, ScarceMemory};
 use robust::{LabFault, Spec, run_lab};
 use std::alloc::{AllocError, Global};
 use std::sync::Wait;
 use std::test::Fail;
 use std::thread::Threads;
+use test_support::memory_limit::{PIECES, ScarceMemory};
 
 const TWO: Spec = Spec {
     procs: 2,

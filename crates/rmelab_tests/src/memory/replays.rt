@@ -1,10 +1,10 @@
 //! Each request for memory of a replay is refused in turn.
 
-use memory_limit::{PIECES, ScarceMemory};
 use schedule::{ReplayFault, Text, ToWriter, Verdict, replay};
 use std::alloc::Global;
 use std::io::Cursor;
 use std::test::Fail;
+use test_support::memory_limit::{PIECES, ScarceMemory};
 
 const TORN: &str =
     "rme 1 procs 1 limit 10 cap 2\nlock 0\nstep 0 8\nappend 0 1 77\nstep 0 7\ncrash 0\nlock 0\nstep 0 4\nconsistent 0\nstep 0 11\nappend 0 1 77\nstep 0 3\n";

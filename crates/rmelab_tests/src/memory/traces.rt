@@ -1,9 +1,9 @@
 //! Judging a trace keeps one line of it in memory: a long trace meets as many refusals as a short one.
 
-use memory_limit::{PIECES, ScarceMemory};
 use schedule::{ReplayFault, Text, Verdict, judge_trace};
 use std::alloc::{AllocError, Global};
 use std::test::Fail;
+use test_support::memory_limit::{PIECES, ScarceMemory};
 
 const IN_ORDER: &[u8] = b"trace 1 procs 2 cap 1
 begin 0

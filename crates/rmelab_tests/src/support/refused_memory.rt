@@ -6,13 +6,13 @@ use crate::support::invocation::words_of;
 use crate::support::row::ProgramRow;
 use commands::NoScreen;
 use commands::program::run_program;
-use memory_limit::{PIECES, ScarceMemory};
 use std::alloc::{AllocError, Global};
 use std::io::Cursor;
 use std::process::ExitCode;
 use std::sync::Wait;
 use std::test::Fail;
 use std::thread::Threads;
+use test_support::memory_limit::{PIECES, ScarceMemory};
 
 /// The words of a command line, once for each try.
 fn all_words(alloc: Global, line: &str) -> Result<Vec<Vec<String>>, AllocError> {

@@ -7,6 +7,7 @@
 //! name of a worked row, and only to be read.
 
 use crate::support::fake::Failing;
+use test_support::text::cut;
 
 /// An invocation, and the output that is expected.
 #[derive(Clone, Copy)]
@@ -21,13 +22,6 @@ pub struct ProgramRow<'a> {
     pub told: &'a str,
     pub saved: (&'a str, &'a str),
     pub status: u8,
-}
-
-/// Takes the text before the separator off the front. Without a separator it takes all.
-fn cut<'a>(text: &mut &'a str, separator: &str) -> &'a str {
-    let (part, rest) = text.split_once(separator).unwrap_or((text, ""));
-    *text = rest;
-    part
 }
 
 /// The text with this name, in one of these scripts of texts.

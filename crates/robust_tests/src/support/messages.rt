@@ -2,12 +2,13 @@
 
 ghost use Rattle.std.specs.Prelude.{◌≡◌, length};
 
-use super::text::{cut, number};
+use super::text::number;
 use one_lock::lab::Spec;
 use redomail::{Layout, Message, content};
 use rmecore::Body;
 use rmeworld::Image;
 use std::alloc::Global;
+use test_support::text::cut;
 
 /// A value of one word.
 pub fn body(word: u64) -> Body

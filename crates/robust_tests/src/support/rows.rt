@@ -10,7 +10,7 @@ ghost use Rattle.std.specs.Prelude.{◌≡◌};
 use super::counted::{Counted, at, never};
 use super::messages::shows;
 use super::tested::{MemberCall, Tested};
-use super::text::{cut, number, part, place};
+use super::text::{number, part, place};
 use crash_plans::CrashPlan;
 use execution::LockFault;
 use redomail::Reply;
@@ -19,6 +19,7 @@ use rmeworld::{Answer, Image, start_of};
 use std::alloc::Global;
 use std::process::Abort;
 use std::sync::Wait;
+use test_support::text::cut;
 
 /// The call of these words.
 pub fn call_of(words: &str) -> Option<MemberCall> {

@@ -1,11 +1,6 @@
 //! Lines of text that tests read: words, and numbers.
 
-/// Takes the text before the separator off the front. Without a separator it takes all.
-pub fn cut<'a>(text: &mut &'a str, separator: &str) -> &'a str {
-    let (part, rest) = text.split_once(separator).unwrap_or((text, ""));
-    *text = rest;
-    part
-}
+use test_support::text::cut;
 
 /// The part with this number, from 0, of a text whose parts are separated by `; `. An empty one, where there are fewer.
 pub fn part(text: &str, at: usize) -> &str {

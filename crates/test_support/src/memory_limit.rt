@@ -1,7 +1,5 @@
 //! A memory limit for tests: it takes all memory except a reserve, and gives the reserve back piece by piece. So each
 //! allocation of a call fails in turn, until the call succeeds.
-#![tactic(auto)]
-
 use std::alloc::{AllocError, Global};
 use std::sync::atomic::{AtomicU64, Ordering};
 use std::thread;

@@ -1,0 +1,5 @@
+//! What the tests of several crates need: a limit on memory, and the parts of a text.
+#![tactic(auto)]
+
+pub mod memory_limit;
+pub mod text;

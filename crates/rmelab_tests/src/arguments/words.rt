@@ -1,189 +1,71 @@
 //! The command lines that spell a command.
 
 use crate::support::invocation::words_of;
-use cli::arguments::args::{Alphabet, Command, HuntArgs, JudgeArgs, RunArgs};
-use cli::arguments::words::{WordsFault, read_words};
-use crashlab::Variant;
+use cli::arguments::words::read_words;
 use std::alloc::Global;
+use std::fmt::Write;
 use std::test::Fail;
 
+/// Command lines, and the command that each spells, whole. Any variant goes without an image, and the right lock beside one. The
+/// numbers of `hunt` and `run` are the greatest.
+const SPELLED: &str = "\
+rmelab replay
+Replay(ReplayArgs { json: false, each: false, variant: Right, image: None, save: None, file: None })
+rmelab replay --image a.json
+Replay(ReplayArgs { json: false, each: false, variant: Right, image: Some(\"a.json\"), save: None, file: None })
+rmelab replay --variant right --image a.json
+Replay(ReplayArgs { json: false, each: false, variant: Right, image: Some(\"a.json\"), save: None, file: None })
+rmelab replay --image a.json --variant right
+Replay(ReplayArgs { json: false, each: false, variant: Right, image: Some(\"a.json\"), save: None, file: None })
+rmelab replay --variant no-look
+Replay(ReplayArgs { json: false, each: false, variant: NoLook, image: None, save: None, file: None })
+rmelab replay --variant count-up a.rme
+Replay(ReplayArgs { json: false, each: false, variant: CountUp, image: None, save: None, file: Some(\"a.rme\") })
+rmelab replay --save a.json --variant right
+Replay(ReplayArgs { json: false, each: false, variant: Right, image: None, save: Some(\"a.json\"), file: None })
+rmelab draw --image a.json
+Draw(DrawArgs { html: false, svg: false, variant: Right, image: Some(\"a.json\"), file: None })
+rmelab draw --variant right --image a.json
+Draw(DrawArgs { html: false, svg: false, variant: Right, image: Some(\"a.json\"), file: None })
+rmelab hunt --variant last-skipped --seed 1 --rounds 10000 --steps 10000
+Hunt(HuntArgs { variant: LastSkipped, seed: 1, rounds: 10000, steps: 10000, shrink: false, jobs: 0 })
+rmelab hunt --variant last-skipped --seed 1 --rounds 10000 --steps 10000 --jobs 7
+Hunt(HuntArgs { variant: LastSkipped, seed: 1, rounds: 10000, steps: 10000, shrink: false, jobs: 7 })
+rmelab run --procs 16 --messages 4096 --crash 50 --seed 7
+Run(RunArgs { procs: 16, messages: 4096, crash: 50, seed: 7, width: 1 })
+rmelab run --procs 16 --messages 4096 --crash 50 --seed 7 --width 8
+Run(RunArgs { procs: 16, messages: 4096, crash: 50, seed: 7, width: 8 })
+rmelab explore --variant right --procs 2
+Explore(ExploreArgs { variant: Right, procs: 2, calls: Alphabet { lock: true, unlock: true, recover: false, consistent: false, \
+withdraw: false, append: false, close: false }, crashes: 0, moves: 18446744073709551615, states: 10000000, limit: 4, cap: 1, \
+width: 1, stuck: false, all_variables: false, jobs: 0 })
+rmelab explore --variant right --procs 2 --calls unlock,lock,lock
+Explore(ExploreArgs { variant: Right, procs: 2, calls: Alphabet { lock: true, unlock: true, recover: false, consistent: false, \
+withdraw: false, append: false, close: false }, crashes: 0, moves: 18446744073709551615, states: 10000000, limit: 4, cap: 1, \
+width: 1, stuck: false, all_variables: false, jobs: 0 })
+rmelab explore --variant right --procs 2 --calls close,append
+Explore(ExploreArgs { variant: Right, procs: 2, calls: Alphabet { lock: false, unlock: false, recover: false, consistent: false, \
+withdraw: false, append: true, close: true }, crashes: 0, moves: 18446744073709551615, states: 10000000, limit: 4, cap: 1, \
+width: 1, stuck: false, all_variables: false, jobs: 0 })
+rmelab judge
+Judge(JudgeArgs { json: false, file: None })
+";
+
 /// The command that the line spells.
-fn read(alloc: Global, line: &str) -> Result<Command, WordsFault> {
-    read_words(alloc, &words_of(alloc, line)?)
+fn spelled(alloc: Global, line: &str) -> Result<String, Fail> {
+    let mut text = String::new(alloc);
+    write!(text, "{:?}", read_words(alloc, &words_of(alloc, line)?)?)?;
+    Ok(text)
 }
 
-/// Whether an option or a file is this text. The empty text: it isn't given.
-fn is_text(given: &Option<String>, wanted: &str) -> bool {
-    given.as_deref().unwrap_or("") == wanted
-}
-
-/// Whether the line spells a replay on this variant with this image, this file for the last image and this schedule, which
-/// prints the report alone.
-fn is_replay(alloc: Global, line: &str, variant: Variant, texts: (&str, &str, &str)) -> bool {
-    let (image, save, file) = texts;
-    match read(alloc, line) {
-        Ok(Command::Replay(args)) => {
-            args.variant == variant
-                && !args.json
-                && !args.each
-                && is_text(&args.image, image)
-                && is_text(&args.save, save)
-                && is_text(&args.file, file)
+#[test]
+fn lines_spell_commands(rt: HostRuntime) -> Result<(), Fail> {
+    let mut last = "";
+    for line in SPELLED.split('\n') {
+        if last.starts_with("rmelab ") {
+            assert!(rt; spelled(rt.alloc(), last)?.as_str() == line, "{last}");
         }
-        _ => false,
+        last = line;
     }
-}
-
-/// Any variant goes without an image, and the right lock beside one.
-#[test]
-fn replays(rt: HostRuntime) {
-    let image = ("a.json", "", "");
-    for (words, variant, texts) in [
-        ("rmelab replay", Variant::Right, ("", "", "")),
-        ("rmelab replay --image a.json", Variant::Right, image),
-        (
-            "rmelab replay --variant right --image a.json",
-            Variant::Right,
-            image,
-        ),
-        (
-            "rmelab replay --image a.json --variant right",
-            Variant::Right,
-            image,
-        ),
-        (
-            "rmelab replay --variant no-look",
-            Variant::NoLook,
-            ("", "", ""),
-        ),
-        (
-            "rmelab replay --variant count-up a.rme",
-            Variant::CountUp,
-            ("", "", "a.rme"),
-        ),
-        (
-            "rmelab replay --save a.json --variant right",
-            Variant::Right,
-            ("", "a.json", ""),
-        ),
-    ] {
-        assert!(rt; is_replay(rt.alloc(), words, variant, texts), "{words}");
-    }
-}
-
-/// Whether the line spells a drawing of the right lock, as text and without a page, from this image.
-fn is_drawing(alloc: Global, line: &str, image: &str) -> bool {
-    match read(alloc, line) {
-        Ok(Command::Draw(args)) => args.variant == Variant::Right && is_text(&args.image, image),
-        _ => false,
-    }
-}
-
-#[test]
-fn drawings(rt: HostRuntime) {
-    for line in [
-        "rmelab draw --image a.json",
-        "rmelab draw --variant right --image a.json",
-    ] {
-        assert!(rt; is_drawing(rt.alloc(), line, "a.json"), "{line}");
-    }
-}
-
-fn hunt_of(alloc: Global, line: &str) -> Option<HuntArgs> {
-    match read(alloc, line) {
-        Ok(Command::Hunt(args)) => Some(args),
-        _ => None,
-    }
-}
-
-#[test]
-fn a_hunt(rt: HostRuntime) {
-    let plain = "rmelab hunt --variant last-skipped --seed 1 --rounds 10000 --steps 10000";
-    let shared =
-        "rmelab hunt --variant last-skipped --seed 1 --rounds 10000 --steps 10000 --jobs 7";
-    for (line, jobs) in [(plain, 0), (shared, 7)] {
-        let longest = HuntArgs {
-            variant: Variant::LastSkipped,
-            seed: 1,
-            rounds: 10_000,
-            steps: 10_000,
-            shrink: false,
-            jobs,
-        };
-        assert!(rt; hunt_of(rt.alloc(), line) == Some(longest), "{line}");
-    }
-}
-
-fn run_of(alloc: Global, line: &str) -> Option<RunArgs> {
-    match read(alloc, line) {
-        Ok(Command::Run(args)) => Some(args),
-        _ => None,
-    }
-}
-
-#[test]
-fn runs(rt: HostRuntime) {
-    let narrow = "rmelab run --procs 16 --messages 4096 --crash 50 --seed 7";
-    let wide = "rmelab run --procs 16 --messages 4096 --crash 50 --seed 7 --width 8";
-    for (line, width) in [(narrow, 1), (wide, 8)] {
-        let greatest = RunArgs {
-            procs: 16,
-            messages: 4096,
-            crash: 50,
-            seed: 7,
-            width,
-        };
-        assert!(rt; run_of(rt.alloc(), line) == Some(greatest), "{line}");
-    }
-}
-
-fn calls_of(alloc: Global, line: &str) -> Option<Alphabet> {
-    match read(alloc, line) {
-        Ok(Command::Explore(args)) => Some(args.calls),
-        _ => None,
-    }
-}
-
-#[test]
-fn calls_of_a_search(rt: HostRuntime) {
-    let plain = Alphabet {
-        lock: true,
-        unlock: true,
-        recover: false,
-        consistent: false,
-        withdraw: false,
-        append: false,
-        close: false,
-    };
-    let mail = Alphabet {
-        lock: false,
-        unlock: false,
-        append: true,
-        close: true,
-        ..plain
-    };
-    for (line, calls) in [
-        ("rmelab explore --variant right --procs 2", plain),
-        (
-            "rmelab explore --variant right --procs 2 --calls unlock,lock,lock",
-            plain,
-        ),
-        (
-            "rmelab explore --variant right --procs 2 --calls close,append",
-            mail,
-        ),
-    ] {
-        assert!(rt; calls_of(rt.alloc(), line) == Some(calls), "{line}");
-    }
-}
-
-/// A judge of standard input, which prints the verdict line.
-#[test]
-fn a_judge(rt: HostRuntime) -> Result<(), Fail> {
-    let plain = JudgeArgs {
-        json: false,
-        file: None,
-    };
-    assert!(rt; read(rt.alloc(), "rmelab judge")? == Command::Judge(plain));
     Ok(())
 }

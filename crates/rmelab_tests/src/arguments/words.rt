@@ -5,51 +5,67 @@ use cli::arguments::words::read_words;
 use std::alloc::Global;
 use std::fmt::Write;
 use std::test::Fail;
+use test_support::text::cut;
 
 /// Command lines, and the command that each spells, whole. Any variant goes without an image, and the right lock beside one. The
 /// numbers of `hunt` and `run` are the greatest.
 const SPELLED: &str = "\
 rmelab replay
 Replay(ReplayArgs { json: false, each: false, variant: Right, image: None, save: None, file: None })
+
 rmelab replay --image a.json
 Replay(ReplayArgs { json: false, each: false, variant: Right, image: Some(\"a.json\"), save: None, file: None })
+
 rmelab replay --variant right --image a.json
 Replay(ReplayArgs { json: false, each: false, variant: Right, image: Some(\"a.json\"), save: None, file: None })
+
 rmelab replay --image a.json --variant right
 Replay(ReplayArgs { json: false, each: false, variant: Right, image: Some(\"a.json\"), save: None, file: None })
+
 rmelab replay --variant no-look
 Replay(ReplayArgs { json: false, each: false, variant: NoLook, image: None, save: None, file: None })
+
 rmelab replay --variant count-up a.rme
 Replay(ReplayArgs { json: false, each: false, variant: CountUp, image: None, save: None, file: Some(\"a.rme\") })
+
 rmelab replay --save a.json --variant right
 Replay(ReplayArgs { json: false, each: false, variant: Right, image: None, save: Some(\"a.json\"), file: None })
+
 rmelab draw --image a.json
 Draw(DrawArgs { html: false, svg: false, variant: Right, image: Some(\"a.json\"), file: None })
+
 rmelab draw --variant right --image a.json
 Draw(DrawArgs { html: false, svg: false, variant: Right, image: Some(\"a.json\"), file: None })
+
 rmelab hunt --variant last-skipped --seed 1 --rounds 10000 --steps 10000
 Hunt(HuntArgs { variant: LastSkipped, seed: 1, rounds: 10000, steps: 10000, shrink: false, jobs: 0 })
+
 rmelab hunt --variant last-skipped --seed 1 --rounds 10000 --steps 10000 --jobs 7
 Hunt(HuntArgs { variant: LastSkipped, seed: 1, rounds: 10000, steps: 10000, shrink: false, jobs: 7 })
+
 rmelab run --procs 16 --messages 4096 --crash 50 --seed 7
 Run(RunArgs { procs: 16, messages: 4096, crash: 50, seed: 7, width: 1 })
+
 rmelab run --procs 16 --messages 4096 --crash 50 --seed 7 --width 8
 Run(RunArgs { procs: 16, messages: 4096, crash: 50, seed: 7, width: 8 })
+
 rmelab explore --variant right --procs 2
 Explore(ExploreArgs { variant: Right, procs: 2, calls: Alphabet { lock: true, unlock: true, recover: false, consistent: false, \
 withdraw: false, append: false, close: false }, crashes: 0, moves: 18446744073709551615, states: 10000000, limit: 4, cap: 1, \
 width: 1, stuck: false, all_variables: false, jobs: 0 })
+
 rmelab explore --variant right --procs 2 --calls unlock,lock,lock
 Explore(ExploreArgs { variant: Right, procs: 2, calls: Alphabet { lock: true, unlock: true, recover: false, consistent: false, \
 withdraw: false, append: false, close: false }, crashes: 0, moves: 18446744073709551615, states: 10000000, limit: 4, cap: 1, \
 width: 1, stuck: false, all_variables: false, jobs: 0 })
+
 rmelab explore --variant right --procs 2 --calls close,append
 Explore(ExploreArgs { variant: Right, procs: 2, calls: Alphabet { lock: false, unlock: false, recover: false, consistent: false, \
 withdraw: false, append: true, close: true }, crashes: 0, moves: 18446744073709551615, states: 10000000, limit: 4, cap: 1, \
 width: 1, stuck: false, all_variables: false, jobs: 0 })
+
 rmelab judge
-Judge(JudgeArgs { json: false, file: None })
-";
+Judge(JudgeArgs { json: false, file: None })";
 
 /// The command that the line spells.
 fn spelled(alloc: Global, line: &str) -> Result<String, Fail> {
@@ -60,12 +76,10 @@ fn spelled(alloc: Global, line: &str) -> Result<String, Fail> {
 
 #[test]
 fn lines_spell_commands(rt: HostRuntime) -> Result<(), Fail> {
-    let mut last = "";
-    for line in SPELLED.split('\n') {
-        if last.starts_with("rmelab ") {
-            assert!(rt; spelled(rt.alloc(), last)?.as_str() == line, "{last}");
-        }
-        last = line;
+    for row in SPELLED.split("\n\n") {
+        let mut command = row;
+        let line = cut(&mut command, "\n");
+        assert!(rt; spelled(rt.alloc(), line)?.as_str() == command, "{line}");
     }
     Ok(())
 }

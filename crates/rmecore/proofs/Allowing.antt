@@ -1,5 +1,5 @@
 -- The needs of a deed as facts about the abstract lock, in both directions.
-use Rattle.std.proofs.Common.{◌≡◌, ◌≢◌, ℕ, zero, suc, ◌<◌, Bool, true, false, if◌then◌else◌, ◌==◌, ◌⊎◌, refl, ap, inl, inr, arith, eq-eqb, eqb-true, lt-ltb, ltb-true, ◌≤◌}
+use Rattle.std.proofs.Common.{◌≡◌, ◌≢◌, ℕ, zero, suc, ◌<◌, Bool, true, false, ◌==◌, ◌⊎◌, refl, ap, inl, inr, arith, eq-eqb, eqb-true, lt-ltb, ltb-true, ◌≤◌}
 use Rattle.rmecore.proofs.Common.{cases_Bool, or_cases, false_from_ne_true, cond_both, Outer, Begin, Enter, Crash, Reenter, Leave, Quit, Phase, Out, AtDoor as Door, Ready, Within as Inside, DeadIn, Abstract}
 use Rattle.rmecore.proofs.Common.{is_out, is_door, is_ready, is_inside, is_dead_in, needs, AllHold, least, none_below, put}
 use Rattle.rmecore.specs.declared.outer.Outer.TheVariants.{Ready as IsReady}

@@ -18,7 +18,7 @@ pub use Rattle.rmecore.specs.declared.tally.Tally.{Tally}
 pub use Rattle.rmecore.specs.declared.word.Word.{Word}
 pub use Rattle.rmecore.specs.declared.word.Word.TheVariants.{Choosing, Number, Inside as InsideOf, Data}
 pub use Rattle.rmecore.specs.AbstractLock.{Abstract, is_out, is_door, is_ready, is_inside, is_dead_in, needs, nobody, crashed, done, Legal, doer}
-pub use Rattle.rmecore.specs.HomeState.{IsUninterrupted, IsHome, IsWaiting, entries, IsLess, EnterInLine, CanComeHome, IsFirst, IsAheadOfDoorways, Counts, IsStepOf, IsOfDoorway, CanEnter}
+pub use Rattle.rmecore.specs.HomeState.{IsUninterrupted, IsHome, IsWaiting, IsInLine, entries, IsLess, EnterInLine, answer_of, IsAnswered, CanComeHome, CanStillEnter, IsFirst, IsAheadOfDoorways, Counts, IsStepOf, IsOfDoorway, CanEnter}
 pub use Rattle.rmecore.specs.Lawful.{IsRow, IsLawful, all_dead, dead_phase, phase_by, is_ahead, start_of}
 pub use Rattle.rmecore.specs.Machine.{first, place_of, access, kind_of, word_of, carried, Standing, next_access, owner, InLock, IsLeast, IsAllowed, StoresOwn, absent, after_access, performed, progress, is_blocked, answer, at_door, at_wait, reread_answer, shut_answer, unmark_answer}
 pub use Rattle.rmecore.specs.Needs.{AllHold, least, none_below, put}

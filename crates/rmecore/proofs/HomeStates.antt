@@ -1,13 +1,15 @@
--- From every world of a run all processes can come home, and the one that waits with the least pair can enter.
-use Rattle.std.proofs.Common.{◌≡◌, ◌≢◌, ℕ, zero, suc, ◌<◌, ◌≤◌, true, ◌==◌, ◌⊎◌, List, [], ◌∷◌, length, Option, refl, sym, ap, ◌∙◌, subst, inl, inr, arith, eq-eqb}
+-- From every world of a run all processes can come home.
+use Rattle.std.proofs.Common.{◌≡◌, ◌≢◌, ℕ, zero, suc, ◌<◌, ◌≤◌, true, false, ◌==◌, ◌⊎◌, List, [], ◌∷◌, length, Option, refl, sym, ap, ◌∙◌, subst, inl, inr, arith, eq-eqb}
 use Rattle.rmecore.proofs.Common.{cases_eq, cases_lt, or_left, or_right, Own, Place, Wait, has, without, others, is_before}
-use Rattle.rmecore.proofs.Common.{World, final}
-use Rattle.rmecore.proofs.Common.{IsUninterrupted, IsHome, IsWaiting, IsLess, EnterInLine, CanComeHome}
+use Rattle.rmecore.proofs.Common.{World, final, deeds}
+use Rattle.rmecore.proofs.Common.{IsUninterrupted, IsHome, IsWaiting, IsInLine, IsLess, EnterInLine, CanComeHome, entries, is_idle}
+use Rattle.rmecore.specs.HomeState.{ComesBefore}
 use Rattle.rmecore.proofs.Invariant.{has-without, has-others}
 use Rattle.rmecore.proofs.Bounds.{before_test}
 use Rattle.rmecore.proofs.Rows.{before_by}
 use Rattle.rmecore.proofs.Continuations.{Continues, ended, followed, followed_by, widened}
 use Rattle.rmecore.proofs.SoundWorlds.{Sound}
+use Rattle.rmecore.proofs.InLine.{InLineWith, stays_in_line, is_answered}
 use Rattle.rmecore.proofs.Settling.{Ends, IsSettled, fits, settled_as, settles}
 use Rattle.rmecore.proofs.Entering.{MayPass, enters_and_leaves}
 use Rattle.rmecore.proofs.Scans.{without_less}
@@ -52,15 +54,15 @@ pub waits_as : (s : Place) → IsWaiting s → Waits s
 waits_as (Wait k unpassed looked) h = record { number = k; unpassed = unpassed; looked = looked; is = refl }
 waits_as _ h = absurd h
 
--- those that waited before wait as before
-pub record Stays (w w' : World) : Type 0 where
-  pub words : (p : ℕ) → IsWaiting (w.places p) → w'.words p ≡ w.words p
-  pub places : (p : ℕ) → IsWaiting (w.places p) → w'.places p ≡ w.places p
+-- the processes below m are home or wait
+pub record Settled (n m : ℕ) (w : World) : Type 0 where
+  pub sound : Sound n w
+  pub settled : (p : ℕ) → p < m → IsSettled w p
 
-pub record Settled (n m : ℕ) (w w' : World) : Type 0 where
-  pub sound : Sound n w'
-  pub settled : (p : ℕ) → p < m → IsSettled w' p
-  pub stays : Stays w w'
+-- all that wait enter, in the order of their pairs
+pub record WaitersEnter (n : ℕ) (w : World) (entered : List ℕ) : Type 0 where
+  pub each : (p : ℕ) → p < n → IsWaiting (w.places p) → has entered p ≡ true
+  pub order : (p q : ℕ) → p < n → q < n → IsWaiting (w.places p) → IsWaiting (w.places q) → IsLess w p q → ComesBefore p q entered
 
 -- the least pair of those that wait
 
@@ -108,31 +110,18 @@ least_of (suc m) w h =
 module _ (n limit : ℕ) where
   -- first each process goes on alone, until it is home or waits
 
-  one_more : {m : ℕ} {w w' w'' : World} → Settled n m w w' → Ends n m (λ w. IsSettled w m) w' w'' → (IsWaiting (w'.places m) → ⊥) → Settled n (suc m) w w''
-  one_more {m = m} {w = w} {w' = w'} {w'' = w''} h e none =
-      let same : (p : ℕ) → IsWaiting (w.places p) → p ≢ m = λ p waits is. none (subst (λ r. IsWaiting (w'.places r)) is (subst IsWaiting (sym (h.stays.places p waits)) waits)) in
+  one_more : {m : ℕ} {w w' : World} → Settled n m w → Ends n m (λ w. IsSettled w m) w w' → Settled n (suc m) w'
+  one_more {m = m} {w = w} {w' = w'} h e =
       record {
         sound = e.sound;
-        settled = λ p less. elim (cases_eq p m) [ inl is ↦ subst (IsSettled w'') (sym is) e.there | inr ne ↦ settled_as w' w'' p (e.words p ne) (e.places p ne) (h.settled p (omega arith)) ];
-        stays = record {
-          words = λ p waits. e.words p (same p waits) ∙ h.stays.words p waits;
-          places = λ p waits. e.places p (same p waits) ∙ h.stays.places p waits;
-        };
+        settled = λ p less. elim (cases_eq p m) [ inl is ↦ subst (IsSettled w') (sym is) e.there | inr ne ↦ settled_as w w' p (e.words p ne) (e.places p ne) (h.settled p (omega arith)) ];
       }
 
-  next_settles : {m : ℕ} {w w' : World} → m < n → Settled n m w w' → Continues n limit IsUninterrupted w' [] (λ w''. Settled n (suc m) w w'')
-  next_settles {m = m} {w = w} {w' = w'} below h =
-      elim (waits_or_not (w'.places m)) [
-        | inl waits ↦ ended (record {
-          sound = h.sound;
-          settled = λ p less. elim (cases_eq p m) [ inl is ↦ subst (IsSettled w') (sym is) (inr waits) | inr ne ↦ h.settled p (omega arith) ];
-          stays = h.stays;
-        })
-        | inr none ↦ widened (λ e q. q.0) (λ w'' e. one_more h e none) (settles n limit m below (w'.places m) h.sound refl)
-      ]
+  next_settles : {m : ℕ} {w : World} → m < n → Settled n m w → Continues n limit IsUninterrupted w [] (Settled n (suc m))
+  next_settles {m = m} {w = w} below h = widened (λ e q. q.0) (λ w' e. one_more h e) (settles n limit m below (w.places m) h.sound refl)
 
-  pub all_settle : (m : ℕ) → m ≤ n → {w : World} → Sound n w → Continues n limit IsUninterrupted w [] (λ w'. Settled n m w w')
-  all_settle zero low sound = ended (record { sound = sound; settled = λ p less. absurd (omega arith); stays = record { words = λ p h. refl; places = λ p h. refl } })
+  pub all_settle : (m : ℕ) → m ≤ n → {w : World} → Sound n w → Continues n limit IsUninterrupted w [] (Settled n m)
+  all_settle zero low sound = ended (record { sound = sound; settled = λ p less. absurd (omega arith) })
   all_settle (suc m) low sound = followed (all_settle m (omega arith) sound) (λ w' h. next_settles (omega arith) h)
 
   -- the least pair passes all
@@ -158,11 +147,11 @@ module _ (n limit : ℕ) where
   -- all come home, and enter in line
   pub record Homecoming (w : World) : Type 0 where
     pub line : List ℕ
-    pub in_line : EnterInLine n w line
+    pub in_line : WaitersEnter n w line
     pub way : Continues n limit IsUninterrupted w line (λ w'. (p : ℕ) → p < n → IsHome w' p)
 
   -- after the first is home
-  joined : {w w' : World} → (l : Least n w) → Ends n l.first (λ w. IsHome w l.first) w w' → {line : List ℕ} → EnterInLine n w' line → EnterInLine n w (l.first ∷ line)
+  joined : {w w' : World} → (l : Least n w) → Ends n l.first (λ w. IsHome w l.first) w w' → {line : List ℕ} → WaitersEnter n w' line → WaitersEnter n w (l.first ∷ line)
   joined {w = w} {w' = w'} l e {line = line} rest =
       record {
         each = λ p low waits. elim (cases_eq p l.first) [ inl is ↦ or_left (p == l.first) (has line p) (eq-eqb p l.first is) | inr ne ↦ or_right (p == l.first) (has line p) (rest.each p low (still p ne waits)) ];
@@ -216,22 +205,50 @@ module _ (n limit : ℕ) where
             first_goes l c (go_home most (without l.first js) (omega arith) c.goal.sound (settled_still c.goal h) (still_listed js l.first c.goal listed))
       ]
 
-  -- those that waited in w wait in w' as well
-  as_before : {w w' : World} {line : List ℕ} → Stays w w' → EnterInLine n w' line → EnterInLine n w line
+  -- those that are in line in w wait with the same number in w', where all are home or wait
+  pub record LinedUp (w w' : World) : Type 0 where
+    pub waits : (p : ℕ) → p < n → IsInLine w p → IsWaiting (w'.places p)
+    pub number : (p : ℕ) → p < n → IsInLine w p → (w'.words p).number ≡ (w.words p).number
+
+  lined_up : {w : World} → Sound n w → (c : Continues n limit IsUninterrupted w [] (Settled n n)) → LinedUp w (final n limit w c.events)
+  lined_up {w = w} sound c =
+      let w' : World = final n limit w c.events in
+      let none : (p : ℕ) → has (entries (deeds n limit w c.events)) p ≡ false = λ p. ap (λ l. has l p) c.entered in
+      let kept : (p : ℕ) → IsInLine w p → InLineWith w' p (w.words p).number = λ p h. stays_in_line n limit w c.events p c.run c.each sound h (none p) in
+      record {
+        waits = λ p low h. elim (c.goal.settled p low) [ inl home ↦ absurd (let number : (w'.words p).number ≡ 0 = ap (λ x. x.number) home.1 in let some = (kept p h).in_line.0 in omega arith) | inr waits ↦ waits ];
+        number = λ p low h. (kept p h).number;
+      }
+
+  as_before : {w w' : World} {line : List ℕ} → LinedUp w w' → WaitersEnter n w' line → EnterInLine n w line
   as_before {w = w} {w' = w'} s h =
       record {
-        each = λ p low waits. h.each p low (still p waits);
+        each = λ p low wp. h.each p low (s.waits p low wp);
         order = λ p q hp hq wp wq less.
-            let now : IsLess w' p q = subst (λ (x : Own). is_before x.number p (w'.words q).number q ≡ true) (sym (s.words p wp)) (subst (λ (x : Own). is_before (w.words p).number p x.number q ≡ true) (sym (s.words q wq)) less) in
-            h.order p q hp hq (still p wp) (still q wq) now;
+            let now : IsLess w' p q = subst (λ x. is_before x p (w'.words q).number q ≡ true) (sym (s.number p hp wp)) (subst (λ x. is_before (w.words p).number p x q ≡ true) (sym (s.number q hq wq)) less) in
+            h.order p q hp hq (s.waits p hp wp) (s.waits q hq wq) now;
       }
-    where
-      still : (p : ℕ) → IsWaiting (w.places p) → IsWaiting (w'.places p)
-      still p waits = subst IsWaiting (sym (s.places p waits)) waits
+
+  -- the way home, with who enters in it
+  pub record WayHome (w : World) : Type 0 where
+    pub line : List ℕ
+    pub in_line : EnterInLine n w line
+    pub way : Continues n limit IsUninterrupted w line (λ w'. (p : ℕ) → p < n → IsHome w' p)
+
+  pub way_home : {w : World} → Sound n w → WayHome w
+  way_home {w = w} sound =
+      let c = all_settle n (omega arith) sound in
+      let rest = go_home (length (others n n)) (others n n) (omega arith) c.goal.sound c.goal.settled (λ p low waits. has-others n n p low (λ is. omega arith)) in
+      record { line = rest.line; in_line = as_before (lined_up sound c) rest.in_line; way = followed_by c rest.way }
 
   pub comes_home : {w : World} → Sound n w → CanComeHome n limit w
   comes_home {w = w} sound =
-      let c = all_settle n (omega arith) sound in
-      let rest = go_home (length (others n n)) (others n n) (omega arith) c.goal.sound c.goal.settled (λ p low waits. has-others n n p low (λ is. omega arith)) in
-      let way = followed_by c rest.way in
-      record { events = way.events; run = way.run; uninterrupted = way.each; home = way.goal; in_line = subst (EnterInLine n w) (sym way.entered) (as_before c.goal.stays rest.in_line) }
+      let h = way_home sound in
+      record {
+        events = h.way.events;
+        run = h.way.run;
+        uninterrupted = h.way.each;
+        answered = λ p low busy. is_answered n limit w h.way.events p h.way.run h.way.each busy (ap is_idle (h.way.goal p low).0);
+        home = h.way.goal;
+        in_line = subst (EnterInLine n w) (sym h.way.entered) h.in_line;
+      }

@@ -8,7 +8,9 @@ pub mod Continuations
 pub mod SoundWorlds
 pub mod Settling
 pub mod Entering
+pub mod InLine
 pub mod HomeStates
+pub mod AnyEntry
 pub mod LeastPairs
 pub mod Soles
 pub mod Phases

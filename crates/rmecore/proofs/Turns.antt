@@ -10,15 +10,15 @@ only_is true x t e = cc
 only_is false x t e = absurd (cc)
 
 module _ (n limit p : ℕ) where
-  else_by : (b : Bool) (x s t : Place) (d : Option Outer) → only b x ≡ Some t → Elsewhere x → Plain p d → Turn p s t d
-  else_by b x s t d e away plain = Else (subst Elsewhere (only_is b x t e) away) plain
+  else_by : (b : Bool) (x s t : Place) (d : Option Outer) → only b x ≡ Some t → Elsewhere s → Elsewhere x → Plain p d → Turn p s t d
+  else_by b x s t d e from away plain = Else from (subst Elsewhere (only_is b x t e) away) plain
 
   restarts : (call : CoreCall) (c k v : ℕ) (t : Place) → restart n p call c k v ≡ t → Turn p (Reread call (c ∷ k ∷ [])) t (step_deed p (Reread call (c ∷ k ∷ [])) Rereads v)
-  restarts Lock (suc c) zero v t e = Else (subst Elsewhere e tt) tt
-  restarts call (suc c) zero v t e = Else (subst Elsewhere e tt) tt
-  restarts call zero zero (suc v) t e = Else (subst Elsewhere e tt) tt
+  restarts Lock (suc c) zero v t e = Else tt (subst Elsewhere e tt) tt
+  restarts call (suc c) zero v t e = Else tt (subst Elsewhere e tt) tt
+  restarts call zero zero (suc v) t e = Else tt (subst Elsewhere e tt) tt
   restarts call zero (suc k) (suc v) t e = Reenters call (zero ∷ suc k ∷ []) refl (sym e) refl
-  restarts _ _ _ _ t e = Else (subst Elsewhere e tt) tt
+  restarts _ _ _ _ t e = Else tt (subst Elsewhere e tt) tt
 
   glanced : (s : Place) (v : ℕ) → step_deed p s Glances v ≡ None
   glanced (Reread call (c ∷ k ∷ [])) v = refl
@@ -37,22 +37,22 @@ module _ (n limit p : ℕ) where
   unmarked_else _ = tt
 
   pub turn : (s : Place) (kind : Kind) (word : Word) (v : ℕ) (t : Place) → next n limit p s kind word v ≡ Some t → Turn p s t (step_deed p s kind v)
-  turn (Reread call []) Rereads (ChoosingOf q) v t e = else_by (q == p) _ _ t _ e tt tt
-  turn (Reread call (c ∷ [])) Rereads (NumberOf q) v t e = else_by (q == p) _ _ t _ e tt tt
+  turn (Reread call []) Rereads (ChoosingOf q) v t e = else_by (q == p) _ _ t _ e tt tt tt
+  turn (Reread call (c ∷ [])) Rereads (NumberOf q) v t e = else_by (q == p) _ _ t _ e tt tt tt
   turn (Reread call (c ∷ k ∷ [])) Rereads (InsideOf q) v t e = restarts call c k v t (only_is (q == p) (restart n p call c k v) t e)
-  turn Opening Opens (ChoosingOf q) v t e = else_by _ _ _ t _ e tt refl
-  turn (Door unread m) Peeks (NumberOf j) v t e = else_by (has unread j) _ _ t _ e tt tt
-  turn (Door [] m) Takes (NumberOf q) v t e = else_by _ _ _ t _ e tt refl
-  turn (Door [] m) Shuts (ChoosingOf q) v t e = else_by _ _ _ t _ e tt refl
-  turn (Shutting call k) Shuts (ChoosingOf q) v t e = else_by _ _ _ t _ e (shut_else call k) tt
+  turn Opening Opens (ChoosingOf q) v t e = else_by _ _ _ t _ e tt tt refl
+  turn (Door unread m) Peeks (NumberOf j) v t e = else_by (has unread j) _ _ t _ e tt tt tt
+  turn (Door [] m) Takes (NumberOf q) v t e = else_by _ _ _ t _ e tt tt refl
+  turn (Door [] m) Shuts (ChoosingOf q) v t e = else_by _ _ _ t _ e tt tt refl
+  turn (Shutting call k) Shuts (ChoosingOf q) v t e = else_by _ _ _ t _ e tt (shut_else call k) tt
   turn (Wait k unpassed None) Looks (ChoosingOf j) v t e =
-      else_by (has unpassed j) _ _ t _ e (cond_both (v == 0) (Wait k unpassed (Some j)) (Wait k unpassed None) Elsewhere (λ _. tt) (λ _. tt)) tt
+      else_by (has unpassed j) _ _ t _ e tt (cond_both (v == 0) (Wait k unpassed (Some j)) (Wait k unpassed None) Elsewhere (λ _. tt) (λ _. tt)) tt
   turn (Wait k unpassed (Some i)) Weighs (NumberOf j) v t e =
-      else_by (j == i) _ _ t _ e (cond_both ((v == 0) || is_before k p v j) (Wait k (without j unpassed) None) (Wait k unpassed (Some i)) Elsewhere (λ _. tt) (λ _. tt)) tt
+      else_by (j == i) _ _ t _ e tt (cond_both ((v == 0) || is_before k p v j) (Wait k (without j unpassed) None) (Wait k unpassed (Some i)) Elsewhere (λ _. tt) (λ _. tt)) tt
   turn (Wait k [] None) Marks (InsideOf q) v t e = Enters k [] None refl (sym (only_is _ Inside t e)) refl
   turn Leaving Drops (NumberOf q) v t e = Exits refl (subst Elsewhere (only_is _ (Unmarking Unlock) t e) tt) refl
-  turn Withdrawing Drops (NumberOf q) v t e = else_by _ _ _ t _ e tt refl
-  turn (Unmarking call) Marks (InsideOf q) v t e = else_by _ _ _ t _ e (unmarked_else call) tt
+  turn Withdrawing Drops (NumberOf q) v t e = else_by _ _ _ t _ e tt tt refl
+  turn (Unmarking call) Marks (InsideOf q) v t e = else_by _ _ _ t _ e tt (unmarked_else call) tt
   turn s Glances (ChoosingOf q) v t e = glance s t v e
   turn s Glances (NumberOf q) v t e = glance s t v e
   turn s Glances (InsideOf q) v t e = glance s t v e

@@ -1,10 +1,13 @@
 -- "Home state" of Petri nets: a state that some continuation of every run reaches. Here all processes rest and all words are
--- 0. What a continuation answers, and in which order it lets those in that wait.
-use Rattle.std.specs.Prelude.{◌≡◌, ◌≢◌, ◌⊎◌, ◌++◌, ℕ, ◌<◌, ◌≤◌, true, List, [], ◌∷◌, All}
+-- 0. What a continuation answers, in which order it lets those in that are in line, and that each process can still enter.
+use Rattle.std.specs.Prelude.{◌≡◌, ◌≢◌, ◌⊎◌, ◌++◌, ℕ, ◌<◌, ◌≤◌, true, false, List, [], ◌∷◌, All, Option, None, IsSome, unwrap_or}
 use Rattle.rmecore.specs.AbstractLock.{Abstract, is_door}
-use Rattle.rmecore.specs.Place.{Event, Starts, Crashes, Steps, Place, Rest, Door, Wait, has, is_before, process}
-use Rattle.rmecore.specs.World.{World, Run, deeds, final}
+use Rattle.rmecore.specs.Machine.{answer}
+use Rattle.rmecore.specs.Place.{Event, Starts, Crashes, Steps, Place, Rest, Door, Wait, Withdrawing, has, is_before, process, moved}
+use Rattle.rmecore.specs.Refused.{is_idle}
+use Rattle.rmecore.specs.World.{World, Run, deeds, final, own_events}
 use Rattle.rmecore.specs.declared.core_call.CoreCall.TheVariants.{Withdraw}
+use Rattle.rmecore.specs.declared.core_done.CoreDone.{CoreDone}
 use Rattle.rmecore.specs.declared.outer.Outer.{Outer}
 use Rattle.rmecore.specs.declared.outer.Outer.TheVariants.{Enter}
 
@@ -18,10 +21,15 @@ IsUninterrupted _ = Unit {0}
 abbrev pub IsHome : World → ℕ → Type 0
 IsHome w p = (w.places p ≡ Rest) × (w.words p ≡ record { choosing = 0; number = 0; inside = 0 })
 
--- a process waits in line
+-- a process is at its scan of the others
 abbrev pub IsWaiting : Place → Type 0
 IsWaiting (Wait number unpassed looked) = Unit {0}
 IsWaiting _ = ⊥
+
+-- In line, alive or dead: a process has a number, has not entered with it and is not withdrawing. So it waits, or has taken its
+-- number and not yet finished its doorway, or crashed there, or is at rest or rereads after such a crash.
+abbrev pub IsInLine : World → ℕ → Type 0
+IsInLine w p = (0 < (w.words p).number) × ((w.words p).inside ≡ 0) × (w.places p ≢ Withdrawing)
 
 -- the processes of the Enters, in their order
 abbrev pub entries : List Outer → List ℕ
@@ -38,18 +46,37 @@ ComesBefore p q (r ∷ rs) = (r ≡ p) ⊎ ((r ≢ q) × ComesBefore p q rs)
 abbrev pub IsLess : World → ℕ → ℕ → Type 0
 IsLess w p q = is_before (w.words p).number p (w.words q).number q ≡ true
 
--- all that wait enter, in the order of their pairs
+-- all that are in line enter, in the order of their pairs
 pub record EnterInLine (n : ℕ) (w : World) (entered : List ℕ) : Type 0 where
-  pub each : (p : ℕ) → p < n → IsWaiting (w.places p) → has entered p ≡ true
-  pub order : (p q : ℕ) → p < n → q < n → IsWaiting (w.places p) → IsWaiting (w.places q) → IsLess w p q → ComesBefore p q entered
+  pub each : (p : ℕ) → p < n → IsInLine w p → has entered p ≡ true
+  pub order : (p q : ℕ) → p < n → q < n → IsInLine w p → IsInLine w q → IsLess w p q → ComesBefore p q entered
 
--- A continuation without crash and withdraw brings all processes home. So each call under way is answered.
+-- the answer of an event, from its process's place before it
+abbrev pub answer_of : Place → Event → Option CoreDone
+answer_of place (Steps p kind word v) = answer place kind v
+answer_of place _ = None
+
+-- among the own events of a process, from this place, one has an answer
+abbrev pub IsAnswered : ℕ → ℕ → Place → List Event → Type 0
+IsAnswered n limit place [] = ⊥
+IsAnswered n limit place (e ∷ es) = IsSome (answer_of place e) ⊎ IsAnswered n limit (unwrap_or (moved n limit place e) place) es
+
+-- A continuation without crash and withdraw brings all processes home. Each call that is under way at its beginning is
+-- answered in it: no other call of the process starts before that answer.
 pub record CanComeHome (n limit : ℕ) (w : World) : Type 0 where
   pub events : List Event
   pub run : Run n limit w events
   pub uninterrupted : All IsUninterrupted events
+  pub answered : (p : ℕ) → p < n → is_idle (w.places p) ≡ false → IsAnswered n limit (w.places p) (own_events p events)
   pub home : (p : ℕ) → p < n → IsHome (final n limit w events) p
   pub in_line : EnterInLine n w (entries (deeds n limit w events))
+
+-- p enters in a continuation without crash and withdraw
+pub record CanStillEnter (n limit : ℕ) (w : World) (p : ℕ) : Type 0 where
+  pub events : List Event
+  pub run : Run n limit w events
+  pub uninterrupted : All IsUninterrupted events
+  pub enters : has (entries (deeds n limit w events)) p ≡ true
 
 -- no number above 0 is in a pair before that of p
 abbrev pub IsFirst : ℕ → World → ℕ → Type 0

@@ -20,10 +20,10 @@ Plain p (Some (Quit q)) = q ≡ p
 Plain p _ = ⊥
 
 -- a step of p from place s to place t with deed d: an entry in line, a re-entry, an exit, no change of place and no deed, or
--- a plain deed elsewhere
+-- a plain deed that begins and ends elsewhere
 pub data Turn (p : ℕ) (s t : Place) (d : Option Outer) : Type 0 where
   Enters : (number : ℕ) → (unpassed : List ℕ) → (looked : Option ℕ) → s ≡ Wait number unpassed looked → t ≡ Inside → d ≡ Some (Enter p) → Turn p s t d
   Reenters : (call : CoreCall) → (seen : List ℕ) → s ≡ Reread call seen → t ≡ Inside → d ≡ Some (Reenter p) → Turn p s t d
   Exits : s ≡ Leaving → Elsewhere t → d ≡ Some (Leave p) → Turn p s t d
   Same : s ≡ t → d ≡ None → Turn p s t d
-  Else : Elsewhere t → Plain p d → Turn p s t d
+  Else : Elsewhere s → Elsewhere t → Plain p d → Turn p s t d

@@ -17,7 +17,7 @@ ghost use Rattle.rmecore.specs.Needs.{AllHold};
 ghost use Rattle.rmecore.specs.AbstractLock.{Abstract, nobody, needs, done, doer, Legal};
 ghost use Rattle.rmecore.specs.Sole.{IsIn, IsEnter, IsLeave, Sole, all_done};
 ghost use Rattle.rmecore.specs.Turn.{Turn};
-ghost use Rattle.rmecore.specs.HomeState.{CanComeHome, CanEnterIfAhead, CanEnterIfFirst};
+ghost use Rattle.rmecore.specs.HomeState.{CanComeHome, CanStillEnter, CanEnterIfAhead, CanEnterIfFirst};
 
 use crate::outer::Outer;
 use crate::own::Own;
@@ -149,12 +149,22 @@ pub fn who_stands_inside_is_in()
 {}
 
 /// After every run, some continuation without crash and withdraw answers each call that is under way and leads to the world
-/// in which all rest and all words are 0. In it all that wait enter, in the order of their pairs. That it is taken is not said.
+/// in which all rest and all words are 0. In it all that are in line enter, in the order of their pairs. In line are those that
+/// have a number, have not entered with it and are not withdrawing, alive or crashed. That it is taken is not said.
 pub fn every_run_can_come_home()
     ensures from_rest { (n limit : ℕ) (events : List Event) → Run n limit at_rest events
         → CanComeHome n limit (final n limit at_rest events) }
     ensures later { (n limit : ℕ) (words : ℕ → Own) (events : List Event) → IsLawful n limit words
         → Run n limit (all_dead words) events → CanComeHome n limit (final n limit (all_dead words) events) }
+{}
+
+/// After every run, each process can still enter, if a number is below the limit: some continuation without crash and withdraw
+/// has its entry. That it is taken is not said.
+pub fn every_process_can_enter()
+    ensures from_rest { (n limit p : ℕ) (events : List Event) → p < n → 1 ≤ limit → Run n limit at_rest events
+        → CanStillEnter n limit (final n limit at_rest events) p }
+    ensures later { (n limit p : ℕ) (words : ℕ → Own) (events : List Event) → p < n → 1 ≤ limit → IsLawful n limit words
+        → Run n limit (all_dead words) events → CanStillEnter n limit (final n limit (all_dead words) events) p }
 {}
 
 /// Forward first come, first served. A process waits with the least pair of all that hold a number, so nobody is inside, alive

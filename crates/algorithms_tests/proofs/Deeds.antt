@@ -45,7 +45,7 @@ of_turn p s t d (Turn.Enters number unpassed looked from to is) = subst (OfStep 
 of_turn p s t d (Turn.Reenters call seen from to is) = subst (OfStep p) (sym is) refl
 of_turn p s t d (Turn.Exits from else is) = subst (OfStep p) (sym is) refl
 of_turn p s t d (Turn.Same same is) = subst (OfStep p) (sym is) tt
-of_turn p s t d (Turn.Else else plain) = plain_of p d plain
+of_turn p s t d (Turn.Else from to plain) = plain_of p d plain
 
 -- what is heard of a step, in the phase of the abstract lock
 pub hears : (n : ℕ) (a : Abstract) (p : ℕ) (phase : Phase) (d : Option Outer) → phase ≡ a.phase p → OfStep p d → Allowed n a d → heard promised p phase (noted_by d) ≡ record { told = deed_told d; phase = (after_deed a d).phase p }

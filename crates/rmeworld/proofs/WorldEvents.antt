@@ -203,7 +203,7 @@ module _ (l : Layout) (a : Abstract) (w : Words) (m : Mailbox) (p : ℕ) (layout
       subst (λ x. Goes x (entry b c from to)) (sym g) (by_deed (Leave p) (entry b c from to) refl may' known.1 (λ kept. away _ w m b c from to f))
   turned b c from to d (Same e f) may h =
       subst (λ x. Goes x (entry b c from to)) (sym f) (nothing (entry b c from to) (subst (λ x. PostAt l p (a.phase p) w m (entry b c from x)) e (stay b c from h)))
-  turned b c from to d (Else e f) may h = plain b c from to d e f may
+  turned b c from to d (Else g e f) may h = plain b c from to d e f may
 
   pub falls : AllHold (needs l.procs a (Crash p)) → Goes (Some (Crash p)) dead
   falls may = by_deed (Crash p) dead refl may tt (λ kept. tt)

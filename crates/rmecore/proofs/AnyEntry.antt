@@ -1,6 +1,6 @@
 -- From every world of a run each process can still enter: all come home, and then it locks alone.
 use Rattle.std.proofs.Common.{◌≡◌, ℕ, zero, suc, ◌<◌, ◌≤◌, true, ◌==◌, List, [], ◌∷◌, ◌++◌, length, None, refl, sym, ap, ◌∙◌, subst, arith, lt-ltb, eq-eqb}
-use Rattle.rmecore.proofs.Common.{or_left, or_right, Lock, Take as Takes, Shut as Shuts, Rereads, Open as Opens, Peek as Peeks, Own, Choosing as ChoosingOf, Number as NumberOf, InsideOf, Place, Rest, Reread, Opening, Door, Shutting, Wait}
+use Rattle.rmecore.proofs.Common.{or_left, or_right, Lock, Take as Takes, Shut as Shuts, Rereads, Open as Opens, Peek as Peeks, Own, Choosing as ChoosingOf, Number as NumberOf, InsideOf, Place, Rest, Reread, Opening, Door, Shutting, Wait, Inside}
 use Rattle.rmecore.proofs.Common.{has, without, others, is_before, Event, Starts, Crashes, Steps, World}
 use Rattle.rmecore.proofs.Common.{IsUninterrupted, IsHome, IsStepOf, CanStillEnter}
 use Rattle.rmecore.proofs.Invariant.{eqb_self}
@@ -24,9 +24,9 @@ module _ (n limit p : ℕ) (below : p < n) (some : 0 < limit) where
   abbrev Alone : World → Type 0
   Alone w = (q : ℕ) → IsOther n p q → w.words q ≡ Zero
 
-  -- p enters
+  -- p enters, and is inside
   abbrev Enters : World → Type 0
-  Enters w = Continues n limit IsUninterrupted w (p ∷ []) (λ w'. Sound n w')
+  Enters w = Continues n limit IsUninterrupted w (p ∷ []) (λ w'. w'.places p ≡ Inside)
 
   still : {w w' : World} {e : Event} {t : Place} → Stepped n p w e t w' → Alone w → Alone w'
   still r alone q other = r.words q other.1 ∙ alone q other
@@ -36,7 +36,7 @@ module _ (n limit p : ℕ) (below : p < n) (some : 0 < limit) where
       (ap (λ x. x.choosing) (alone j other), or_left ((w.words j).number == 0) (is_before (w.words p).number p (w.words j).number j) (eq-eqb (w.words j).number 0 (ap (λ x. x.number) (alone j other))))
 
   marks : {w : World} → Sound n w → Alone w → w.places p ≡ Wait 1 (others n p) None → Enters w
-  marks {w = w} sound alone at = widened (whole p) (λ w' h. h.sound) (enters n limit p below 1 (others n p) None sound at (passes w alone))
+  marks {w = w} sound alone at = widened (whole p) (λ w' h. h.place) (enters n limit p below 1 (others n p) None sound at (passes w alone))
 
   shuts : {w : World} → Sound n w → Alone w → w.places p ≡ Shutting Lock 1 → Enters w
   shuts sound alone at =
@@ -81,4 +81,4 @@ module _ (n limit p : ℕ) (below : p < n) (some : 0 < limit) where
       let h = way_home n limit sound in
       let home = sound_final n limit w h.way.events sound h.way.run in
       let c = followed_by h.way (locks home h.way.goal) in
-      record { events = c.events; run = c.run; uninterrupted = c.each; enters = subst (λ l. has l p ≡ true) (sym c.entered) (has_last h.line) }
+      record { events = c.events; run = c.run; uninterrupted = c.each; enters = subst (λ l. has l p ≡ true) (sym c.entered) (has_last h.line); inside = c.goal }

@@ -3,7 +3,7 @@
 use Rattle.std.specs.Prelude.{◌≡◌, ◌≢◌, ◌⊎◌, ◌++◌, ℕ, ◌<◌, ◌≤◌, true, false, List, [], ◌∷◌, All, Option, None, IsSome, unwrap_or}
 use Rattle.rmecore.specs.AbstractLock.{Abstract, is_door}
 use Rattle.rmecore.specs.Machine.{answer}
-use Rattle.rmecore.specs.Place.{Event, Starts, Crashes, Steps, Place, Rest, Door, Wait, Withdrawing, has, is_before, process, moved}
+use Rattle.rmecore.specs.Place.{Event, Starts, Crashes, Steps, Place, Rest, Door, Wait, Inside, Withdrawing, has, is_before, process, moved}
 use Rattle.rmecore.specs.Refused.{is_idle}
 use Rattle.rmecore.specs.World.{World, Run, deeds, final, own_events}
 use Rattle.rmecore.specs.declared.core_call.CoreCall.TheVariants.{Withdraw}
@@ -71,12 +71,13 @@ pub record CanComeHome (n limit : ℕ) (w : World) : Type 0 where
   pub home : (p : ℕ) → p < n → IsHome (final n limit w events) p
   pub in_line : EnterInLine n w (entries (deeds n limit w events))
 
--- p enters in a continuation without crash and withdraw
+-- p enters in a continuation without crash and withdraw, and is inside at its end
 pub record CanStillEnter (n limit : ℕ) (w : World) (p : ℕ) : Type 0 where
   pub events : List Event
   pub run : Run n limit w events
   pub uninterrupted : All IsUninterrupted events
   pub enters : has (entries (deeds n limit w events)) p ≡ true
+  pub inside : (final n limit w events).places p ≡ Inside
 
 -- no number above 0 is in a pair before that of p
 abbrev pub IsFirst : ℕ → World → ℕ → Type 0

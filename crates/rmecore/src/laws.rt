@@ -158,8 +158,8 @@ pub fn every_run_can_come_home()
         → Run n limit (all_dead words) events → CanComeHome n limit (final n limit (all_dead words) events) }
 {}
 
-/// After every run, each process can still enter, if a number is below the limit: some continuation without crash and withdraw
-/// has its entry. That it is taken is not said.
+/// After every run each process can still enter, where the limit is at least 1: in some continuation without crash and withdraw
+/// it enters, and is inside at the end. That it is taken is not said.
 pub fn every_process_can_enter()
     ensures from_rest { (n limit p : ℕ) (events : List Event) → p < n → 1 ≤ limit → Run n limit at_rest events
         → CanStillEnter n limit (final n limit at_rest events) p }

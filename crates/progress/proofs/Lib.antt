@@ -1,0 +1,9 @@
+pub mod Common
+pub mod Potentials
+pub mod Short
+pub mod Sums
+pub mod Falls
+pub mod OwnFalls
+pub mod Works
+pub mod Owing
+pub mod Waiting

@@ -1,0 +1,4 @@
+pub mod InLine
+pub mod Disturbances
+pub mod Pieces
+pub mod BoundedWaiting

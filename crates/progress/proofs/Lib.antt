@@ -7,3 +7,6 @@ pub mod OwnFalls
 pub mod Works
 pub mod Owing
 pub mod Waiting
+pub mod Overtaking
+pub mod Doorways
+pub mod WaitFree

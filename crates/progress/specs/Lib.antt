@@ -2,3 +2,5 @@ pub mod InLine
 pub mod Disturbances
 pub mod Pieces
 pub mod BoundedWaiting
+pub mod Bypass
+pub mod WaitFree

@@ -1,11 +1,16 @@
 //! Laws of progress over every run of the definitions. Each law is the contract of a function with an empty body.
 
-ghost use Rattle.std.specs.Prelude.{◌<◌, ℕ, List};
-ghost use Rattle.rmecore.specs.Place.{Event};
-ghost use Rattle.rmecore.specs.World.{at_rest, Run, final};
+ghost use Rattle.std.specs.Prelude.{◌≡◌, ◌<◌, ◌+◌, ℕ, List, []};
+ghost use Rattle.rmecore.specs.AbstractLock.{Abstract};
+ghost use Rattle.rmecore.specs.Place.{Event, Reread, Leaving};
+ghost use Rattle.rmecore.specs.World.{World, at_rest, Run, final};
 ghost use Rattle.rmecore.specs.Lawful.{IsLawful, all_dead};
+ghost use Rattle.rmecore.specs.declared.core_call.CoreCall.TheVariants.{Lock, Recover};
 ghost use Rattle.rmecore.specs.declared.own.Own.{Own};
 ghost use Rattle.progress.specs.BoundedWaiting.{WorkIsBounded, WaitingIsBounded};
+ghost use Rattle.progress.specs.Bypass.{EntersOnce, EntersOnceWhileReady, IsInDoorway, LaterWaitsForDoorway};
+ghost use Rattle.progress.specs.InLine.{IsInLine};
+ghost use Rattle.progress.specs.WaitFree.{LeavesWithin, IsBeforeLine, IsRereading, IsLeaving, IsRecovering};
 
 /// The law of work. While a process in line has not entered, at most `(n - 1)(6n + 13) + 8` starts and steps that are neither
 /// blocked nor a glance are made by all processes together. Each disturbance adds `3n + 4`. Nothing is asked of a scheduler.
@@ -24,4 +29,40 @@ pub fn waiting_is_bounded()
         → WaitingIsBounded n limit (final n limit at_rest events) p }
     ensures later { (n limit p : ℕ) (words : ℕ → Own) (events : List Event) → p < n → IsLawful n limit words
         → Run n limit (all_dead words) events → WaitingIsBounded n limit (final n limit (all_dead words) events) p }
+{}
+
+/// Bounded overtaking in line. While a process is in line, each other process enters once at most, whatever crashes and gives
+/// up. Of a re-entry after a crash nothing is said. The same of every lock whose histories the abstract lock allows.
+pub fn one_entry_while_in_line()
+    ensures from_rest { (n limit p : ℕ) (events : List Event) → p < n → Run n limit at_rest events
+        → EntersOnce IsInLine n limit (final n limit at_rest events) p }
+    ensures later { (n limit p : ℕ) (words : ℕ → Own) (events : List Event) → p < n → IsLawful n limit words
+        → Run n limit (all_dead words) events → EntersOnce IsInLine n limit (final n limit (all_dead words) events) p }
+    ensures legal { (n p : ℕ) (a : Abstract) → p < n → EntersOnceWhileReady n a p }
+{}
+
+/// Bounded overtaking in the doorway. While a process is in its doorway, alive or crashed, each other process enters once at
+/// most. One that begins after it does not enter before the process in the doorway has its number, or gives up.
+pub fn one_entry_while_in_doorway()
+    ensures from_rest { (n limit p : ℕ) (events : List Event) → p < n → Run n limit at_rest events
+        → EntersOnce IsInDoorway n limit (final n limit at_rest events) p }
+    ensures later { (n limit p : ℕ) (words : ℕ → Own) (events : List Event) → p < n → IsLawful n limit words
+        → Run n limit (all_dead words) events → EntersOnce IsInDoorway n limit (final n limit (all_dead words) events) p }
+    ensures begun { (n limit p : ℕ) (events : List Event) → p < n → Run n limit at_rest events
+        → LaterWaitsForDoorway n limit (final n limit at_rest events) p }
+    ensures begun_later { (n limit p : ℕ) (words : ℕ → Own) (events : List Event) → p < n → IsLawful n limit words
+        → Run n limit (all_dead words) events → LaterWaitsForDoorway n limit (final n limit (all_dead words) events) p }
+{}
+
+/// The wait-free parts. A lock has its number, and has shut its doorway, or has given up, by its own step `n + 6`, counted from
+/// its first reread. A process that enters again after a crash inside has its rereads alone, which are three steps. An exit
+/// takes two steps, and a recovery four at most. Whatever the others do.
+pub fn doorway_exit_and_recovery_are_wait_free()
+    ensures doorway { (n limit p : ℕ) (w : World) → p < n → w.places p ≡ Reread Lock []
+        → LeavesWithin (n + 6) IsBeforeLine n limit w p }
+    ensures reentry { (n limit p : ℕ) (w : World) → p < n → w.places p ≡ Reread Lock []
+        → LeavesWithin 3 IsRereading n limit w p }
+    ensures exit { (n limit p : ℕ) (w : World) → p < n → w.places p ≡ Leaving → LeavesWithin 2 IsLeaving n limit w p }
+    ensures recovery { (n limit p : ℕ) (w : World) → p < n → w.places p ≡ Reread Recover []
+        → LeavesWithin 4 IsRecovering n limit w p }
 {}

@@ -52,7 +52,6 @@ ONE_PLACE = [
     ("what stands after a fault", r"\| `GatherFault` \|", "docs/dev/surface.md"),
     ("the variants", r"\| NoTies \|", "docs/dev/surface.md"),
     ("the hunt's drawing rule", r"w / 64 modulo 16", "docs/dev/surface.md"),
-    ("the runs of accesses for C", r"\| 387 \|", "docs/dev/surface.md"),
     ("the order of faults of a text", r"1 NoHeader, line 1", "docs/dev/texts.md"),
     ("the rules of an image", r"At most one process is \(0,k,1\)", "docs/dev/texts.md"),
     ("the signs of a drawing", r"`#` section, a space for dead", "docs/dev/texts.md"),

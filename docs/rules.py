@@ -92,12 +92,7 @@ GROUPS = "|".join(f"(?P<w{at}>{word})".replace(" ", r"\s+") for at, (word, _) in
 REFUSED = re.compile(rf"\b(?:{GROUPS})\b", re.I)
 
 # Where one of these words is right all the same: the file, the exact words, and why. One that nothing needs is a finding.
-ALLOWED = [
-    ("docs/theory/model.md", "The pass", "the specification's definition Pass is quoted under its own name"),
-    ("docs/theory/model.md", "each pass", "the specification's definition Pass is quoted under its own name"),
-    ("docs/theory/model.md", "its pass", "the specification's definition Pass is quoted under its own name"),
-    ("docs/theory/model.md", "member p's pass", "the specification's definition Pass is quoted under its own name"),
-]
+ALLOWED: list[tuple[str, str, str]] = []
 
 # Names that were replaced, as types and modules. Found, Seat, Seen and Words have a second meaning that stays.
 RETIRED_NAMES = (

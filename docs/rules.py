@@ -5,6 +5,7 @@ They read files alone: no program has to be built. docs/check runs them."""
 import os
 import re
 import subprocess
+from typing import Iterator
 
 TOP = os.path.dirname(os.path.dirname(os.path.realpath(__file__)))
 ARCHITECTURE = "docs/dev/architecture.md"
@@ -16,8 +17,45 @@ MOST_LINES_OF_A_BODY = 40
 WIDEST_CLAUSE = 140  # Bytes.
 MOST_NOUNS = 40
 MOST_DOUBLE_NAMES = 4
+MOST_WORDS = 47_300  # Of all pages by hand, as `wc -w` counts them.
 MOST_HEADLINES = 2
-HEADLINE = "any list of steps and crashes, no two are in the section"
+HEADLINE = "nobody enters before the process that crashed there has entered again"
+
+# What is made and not written: a file, a folder, or a page with such a part, and what makes it. docs/check compares each.
+MADE = {
+    "docs/theory/laws.md": "docs/from-sources",
+    "docs/dev/calls.md": "docs/from-sources",
+    "docs/use/rmelab.1": "docs/from-help",
+    "completions/rmelab.bash": "docs/from-help",
+    "completions/_rmelab": "docs/from-help",
+    "completions/rmelab.fish": "docs/from-help",
+    "c/man": "c/man-pages",
+    "examples/drawings": "rmelab draw",
+    "examples/rows": "rmelab replay, rmelab judge",
+}
+
+# Facts that have one place: words that only this page may have, of those by hand.
+ONE_PLACE = [
+    ("the limits", r"4,611,686,018,427,387,904", "docs/theory/model.md"),
+    ("the table of steps", r"\| `weigh` \| `wait\(W, j\)`", "docs/theory/model.md"),
+    ("the restart table", r"\| 1,k,0 \| number taken", "docs/theory/model.md"),
+    ("own steps of a lock", r"\| 0,0,0 \| 3n \+ 4 \+ b", "docs/theory/model.md"),
+    ("own steps of an append", r"3n \+ 18 \+ 2W", "docs/theory/model.md"),
+    ("the asking rule", r"askings = own steps \+ 1, and", "docs/theory/model.md"),
+    ("the data words", r"10 \+ W \+ n \+ \(2 \+ W\)", "docs/theory/mailbox.md"),
+    ("the record rule", r"count = rec_at \+ 1, the list rule holds", "docs/theory/mailbox.md"),
+    ("the judge table", r"\| Enter p \| ready \(1\)", "docs/theory/judge.md"),
+    ("the plain properties", r"Between an Enter p or Reenter p", "docs/theory/judge.md"),
+    ("the premises", r"\| private loss only \|", THEOREM),
+    ("the refusals", r"\| 13 \| BadIndex \|", "docs/use/errors.md"),
+    ("the faults of a member", r"\| 7 \| NotInconsistent \|", "docs/use/errors.md"),
+    ("what stands after a fault", r"\| `GatherFault` \|", "docs/dev/surface.md"),
+    ("the variants", r"\| NoTies \|", "docs/dev/surface.md"),
+    ("the hunt's drawing rule", r"w / 64 modulo 16", "docs/dev/surface.md"),
+    ("the order of faults of a text", r"1 NoHeader, line 1", "docs/dev/texts.md"),
+    ("the rules of an image", r"At most one process is \(0,k,1\)", "docs/dev/texts.md"),
+    ("the signs of a drawing", r"`#` section, a space for dead", "docs/dev/texts.md"),
+]
 
 # ---- words
 
@@ -54,12 +92,12 @@ GROUPS = "|".join(f"(?P<w{at}>{word})".replace(" ", r"\s+") for at, (word, _) in
 REFUSED = re.compile(rf"\b(?:{GROUPS})\b", re.I)
 
 # Where one of these words is right all the same: the file, the exact words, and why. One that nothing needs is a finding.
-ALLOWED = [
-    ("docs/theory/model.md", "The pass", "the specification's definition Pass is quoted under its own name"),
-    ("docs/theory/model.md", "each pass", "the specification's definition Pass is quoted under its own name"),
-    ("docs/theory/model.md", "its pass", "the specification's definition Pass is quoted under its own name"),
-    ("docs/theory/model.md", "member p's pass", "the specification's definition Pass is quoted under its own name"),
-]
+ALLOWED: list[tuple[str, str, str]] = []
+# Files whose comments still have such words.
+READ_LATER = (
+    "bench/explore/process.rs bench/run c/faults_test.c c/kill_roles.c c/kill_roles.h c/kill_test.c c/monitor.h c/reap_test.c c/rme.c "
+    "c/send.c c/torture.c c/wake_test.c crates/cli/src/explain/texts.rt wrong-bodies/try"
+).split()
 
 # Names that were replaced, as types and modules. Found, Seat, Seen and Words have a second meaning that stays.
 RETIRED_NAMES = (
@@ -119,25 +157,47 @@ def prose_of_page(text):
 RATTLE = re.compile(r"//[^\n]*|b?r(#*)\".*?\"\1|b?\"(?:\\.|[^\"\\])*\"|b?'(?:\\.[^']*|[^'\\])'", re.S)
 
 
-def comments_of(name, text):
-    """Only the comments, everything else blank."""
-    if name.endswith(".rt"):
-        kept = [match for match in RATTLE.finditer(text) if match[0].startswith("//")]
-    else:
-        kept = list(re.finditer(r"(?:^|(?<=\s))--(?=\s)[^\n]*", text))
+# Strings are passed over, so that no mark in them begins a comment.
+STRING = r"\"(?:\\.|[^\"\\\n])*\"|'(?:\\.|[^'\\\n])*'"
+# What has prose, by the end of a file's name; a script of any name begins with `#!`.
+COMMENTS = {
+    ".rt": RATTLE,
+    ".antt": re.compile(r"(?:^|(?<=\s))--(?=\s)[^\n]*"),
+    ".c": re.compile(rf"{STRING}|/\*.*?\*/|//[^\n]*", re.S),
+    ".py": re.compile(rf'""".*?"""|{STRING}|(?:^|(?<=\s))#[^\n]*', re.S | re.M),
+}
+KINDS = {".h": ".c", ".rs": ".c"}
+BEGINS = ("//", "/*", "--", "#", '"""')
+# The program's own texts are strings.
+PRINTED = "crates/cli/src/"
+
+
+def kind_of(name: str, text: str) -> str:
+    end = os.path.splitext(name)[1]
+    return KINDS.get(end, end) if end else ".py" if text.startswith("#!") else ""
+
+
+def comments_of(name: str, text: str) -> str:
+    """Only the comments, and the strings that the program prints, everything else blank."""
     lines, at = [], 0
-    for match in kept:
-        lines.append(re.sub(r"[^\n]", " ", text[at : match.start()]))
-        lines.append(re.sub(r"^(//[/!]?|--)", lambda mark: " " * len(mark[0]), match[0]))
-        at = match.end()
+    for match in COMMENTS[kind_of(name, text)].finditer(text):
+        if match[0].startswith(BEGINS) or (name.startswith(PRINTED) and '"' in match[0][:4]):
+            lines.append(re.sub(r"[^\n]", " ", text[at : match.start()]))
+            lines.append(re.sub(r"^(//[/!]?|--)", lambda mark: " " * len(mark[0]), match[0]))
+            at = match.end()
     return "".join(lines + [re.sub(r"[^\n]", " ", text[at:])])
 
 
-def refused_words():
+def refused_words() -> Iterator[str]:
     used = set()
-    for name in pages() + sources(".rt", ".antt"):
+    for name in repository_files():
+        end = os.path.splitext(name)[1]
+        if name in READ_LATER or end not in ("", ".md", ".rt", ".antt", ".c", ".h", ".rs", ".py") or name == "docs/rules.py":
+            continue
         text = text_of(name)
-        prose = prose_of_page(text) if name.endswith(".md") else blanked(comments_of(name, text), CODE)
+        if end != ".md" and kind_of(name, text) not in COMMENTS:
+            continue
+        prose = prose_of_page(text) if end == ".md" else blanked(comments_of(name, text), CODE)
         for file, words, _ in ALLOWED:
             if file == name and words in prose:
                 used.add((file, words))
@@ -347,8 +407,40 @@ def glossary_too_long():
             yield f"{ARCHITECTURE}:{rows[-1][0] if rows else 1}: {heading} has {len(rows)} rows, 1 to {most} are allowed"
 
 
+def pages_by_hand() -> list[str]:
+    return [page for page in pages() if page not in MADE]
+
+
+# A part of a page that a script makes.
+MADE_PART = re.compile(r"<!-- made by .*?<!-- end of what is made -->", re.S)
+
+
+def too_many_words() -> Iterator[str]:
+    """All pages by hand together, without the parts that a script makes."""
+    words = {page: len(MADE_PART.sub("", text_of(page)).split()) for page in pages_by_hand()}
+    if sum(words.values()) > MOST_WORDS:
+        most = ", ".join(f"{page} {words[page]}" for page in sorted(words, key=lambda page: -words[page])[:5])
+        yield f"docs/rules.py:1: the pages have {sum(words.values()):,} words by hand, {MOST_WORDS:,} at most; {most}"
+
+
+def made_by_nothing() -> Iterator[str]:
+    for name, maker in MADE.items():
+        if not os.path.exists(os.path.join(TOP, name)):
+            yield f"docs/rules.py:1: {maker} makes no {name}"
+
+
+def facts_in_another_place() -> Iterator[str]:
+    for fact, words, home in ONE_PLACE:
+        for page in pages_by_hand():
+            at = re.search(words, text_of(page))
+            if page == home and not at:
+                yield f"{page}:1: {fact}: not here"
+            elif page != home and at:
+                yield f"{page}:{line_at(text_of(page), at.start())}: {fact}: its place is {home}"
+
+
 def headline_repeated():
-    found = [(page, line_at(text_of(page), at.start())) for page in pages() for at in re.finditer(re.escape(HEADLINE), text_of(page))]
+    found = [(page, line_at(text_of(page), at.start())) for page in pages_by_hand() for at in re.finditer(re.escape(HEADLINE), text_of(page))]
     for page, line in found[MOST_HEADLINES:]:
         yield f"{page}:{line}: the headline once more"
     if {page for page, _ in found} != {"README.md", THEOREM}:
@@ -418,6 +510,9 @@ RULES = [
     crates_listed,
     glossary_too_long,
     headline_repeated,
+    too_many_words,
+    made_by_nothing,
+    facts_in_another_place,
     unproved_said_elsewhere,
     links_that_lead_nowhere,
     mentions_of_no_page,

@@ -11,13 +11,13 @@ TOP = os.path.dirname(os.path.dirname(os.path.realpath(__file__)))
 ARCHITECTURE = "docs/dev/architecture.md"
 THEOREM = "docs/theory/theorem.md"
 
-MOST_CRATES = 31
+MOST_CRATES = 32
 MOST_LINES_OF_A_FILE = 500
 MOST_LINES_OF_A_BODY = 40
 WIDEST_CLAUSE = 140  # Bytes.
 MOST_NOUNS = 40
 MOST_DOUBLE_NAMES = 4
-MOST_WORDS = 47_300  # Of all pages by hand, as `wc -w` counts them.
+MOST_WORDS = 48_500  # Of all pages by hand, as `wc -w` counts them.
 MOST_HEADLINES = 2
 HEADLINE = "nobody enters before the process that crashed there has entered again"
 

@@ -52,22 +52,22 @@ pub fn repair_completes()
     ensures { RepairCompletes }
 {}
 
-/// The number of steps of each task, by its reply.
+/// Each task takes the steps that its reply has in the table of own steps.
 pub fn steps_told()
     ensures { StepsTold }
 {}
 
-/// The number of steps of `consistent`, and its reply.
+/// `consistent` takes the steps that its reply has in the table of own steps.
 pub fn consistent_told()
     ensures { ConsistentTold }
 {}
 
-/// The words ruined and armed after each task.
+/// After each task the words ruined and armed are those that its reply says.
 pub fn tasks_end()
     ensures { TasksEnd }
 {}
 
-/// The words ruined and armed after `consistent`.
+/// After `consistent` the words ruined and armed are those that its reply says.
 pub fn consistent_ends()
     ensures { ConsistentEnds }
 {}

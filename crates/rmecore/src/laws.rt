@@ -34,7 +34,8 @@ pub fn every_run_ends_lawful()
         → IsLawful n limit (final n limit at_rest events).words }
 {}
 
-/// The same two laws for runs that start from any lawful words with every process crashed.
+/// From any lawful words with every process crashed, each run's deeds are allowed by the abstract lock, and after it the words
+/// are lawful.
 pub fn every_later_run_is_legal()
     ensures legal { (n limit : ℕ) (words : ℕ → Own) (events : List Event) → IsLawful n limit words
         → Run n limit (all_dead words) events → Legal n (start_of words) (deeds n limit (all_dead words) events) }
@@ -87,7 +88,7 @@ pub fn refused()
         → ⊥ }
 {}
 
-/// The definitions are total, but a run uses only the cases of the specification's tables. No number read is above the
+/// The definitions are total, but a run uses only the cases of the tables of docs/theory/model.md. No number read is above the
 /// limit. A process's words are always a row of the restart table.
 pub fn tables_are_kept()
     ensures greatest { (n limit p m : ℕ) (w : World) (unread : List ℕ)
@@ -95,8 +96,8 @@ pub fn tables_are_kept()
     ensures rows { (n limit p : ℕ) (w : World) → IsReached n limit w → IsRow limit (w.words p) }
 {}
 
-/// The number of steps of a call, blocked ones not counted. It is 0 at the call's start and grows by one with each such
-/// step. With the answer it is the number in the table of own steps. While a call is under way the number is below the
+/// A call's steps, blocked ones not counted, are 0 at its start, and grow by one with each such step. With the answer their
+/// number is the one in the table of own steps. While a call is under way it is below the
 /// greatest of that table. A lock from words 0 takes n + 5 steps up to the end of its `shut`. The words that the call
 /// rereads are those at its start.
 pub fn steps_of_a_call()

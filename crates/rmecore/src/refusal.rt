@@ -38,7 +38,7 @@ pub enum Refusal {
 impl Refusal {
     ghost use Rattle.rmecore.specs.Refused.{number_of};
 
-    /// The refusal's number in the specification, 1 to 15. `OutOfMemory` has none.
+    /// The refusal's number, 1 to 15, as docs/use/errors.md has it. `OutOfMemory` has none.
     pub fn number(self) -> Option<u64>
         ensures { result ≡ number_of self }
     {

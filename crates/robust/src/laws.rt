@@ -6,11 +6,11 @@ ghost use Rattle.execution.specs.Ruins.{NobodyRuins};
 ghost use Rattle.execution.specs.Tabled.{CallsKeepTheTable};
 ghost use Rattle.execution.specs.WholeSteps.{StoredAppendSteps};
 
-/// The headline. For any number of processes, any limit and room, and any list of entries that is a run, with or without
-/// crashes, the deeds are legal: the judge allows each of them. So no two processes are inside; nobody enters before one that
-/// crashed inside has entered again; one whose doorway was finished before another's super-passage began enters first unless it withdrew;
-/// and each sender's messages are in the mailbox once, in order, none after closing. The words at the end of the run are
-/// lawful, and each append that was answered Stored or Already is shown.
+/// For any number of processes, any limit and room, and any list of entries that is a run, with or without crashes, the deeds
+/// are legal: the judge allows each of them. No two processes are inside. Nobody enters before one that crashed inside has
+/// entered again. One whose doorway was finished before another's super-passage began enters first, unless it withdrew. Each
+/// sender's messages are in the mailbox once, in order, none after closing. The words at the end of the run are lawful, and
+/// each append that was answered Stored or Already is shown.
 pub fn every_run_is_sound()
     ensures { EveryRunIsSound }
 {
@@ -36,8 +36,8 @@ pub fn entries_stand_in_runs()
     ensures { EntriesStandInRuns }
 {}
 
-/// Each call of a member takes just the own steps of the specification's table and its blocked steps, whatever the others do
-/// meanwhile. While it has no answer it has taken fewer than the most that such a call takes.
+/// Each call of a member takes just the own steps of the table of docs/theory/model.md and its blocked steps, whatever the
+/// others do meanwhile. While it has no answer it has taken fewer than the most that such a call takes.
 pub fn calls_keep_the_table()
     ensures { CallsKeepTheTable }
 {}

@@ -20,7 +20,7 @@ ghost use Rattle.diagram.specs.Sessions.{played, refusal_in, session_after};
 
 use crate::session::simulation::Simulation;
 
-/// Whatever lines a session was given: what it shows is the simulation of its schedule, played from its begin.
+/// Whatever lines a session was given, it shows the simulation of its schedule, played from its beginning.
 pub fn sessions_show_their_schedule<S: Simulation>()
     ensures { (first : S) (schedule : Scheduled) (inputs : List (List ℕ))
         → IsOfSchedule S.semantics (session_after S.semantics (at_schedule S.semantics first schedule []) inputs) }

@@ -12,7 +12,7 @@ pub fn one_spelling()
     ensures only { (one other : Scheduled) → IsScheduled one → IsScheduled other → spelling one ≡ spelling other → one ≡ other }
 {}
 
-/// The same for traces.
+/// A text has no fault exactly where it is the spelling of a trace, and then that trace is read.
 pub fn one_spelling_of_traces()
     ensures again { (trace : Traced) → IsTraced trace → trace_at (trace_spelling trace) ≡ Ok trace }
     ensures takes { (text : List ℕ) (trace : Traced) → trace_at text ≡ Ok trace

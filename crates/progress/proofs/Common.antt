@@ -1,5 +1,5 @@
 -- Imports that two or more proof files of this crate share. Declares nothing.
-pub use Rattle.std.proofs.lemmas.Bool.{and_parts, or_cases, false_from_ne_true, cases_eq, cases_lt, and_from, or_left, or_right}
+pub use Rattle.std.proofs.lemmas.Bool.{cases_Bool, and_parts, or_cases, false_from_ne_true, cases_eq, cases_lt, and_from, or_left, or_right}
 pub use Rattle.rmecore.specs.declared.core_call.CoreCall.{CoreCall}
 pub use Rattle.rmecore.specs.declared.core_call.CoreCall.TheVariants.{Lock, Unlock, Withdraw, Recover}
 pub use Rattle.rmecore.specs.declared.kind.Kind.{Kind}

@@ -95,28 +95,31 @@ module _ (n limit k p q : ℕ) (below : q < n) (low : p < n) (ne : q ≢ p) (hel
   reads_p : (j v : ℕ) → (w.words j).number ≡ v → p ≡ j → v ≡ k
   reads_p j v told is = sym told ∙ ap (λ r. (w.words r).number) (sym is) ∙ number
 
+  -- a doorway that has missed p after a peek missed it before
+  missed : (unread : List ℕ) (m j v : ℕ) → (w.words j).number ≡ v → (not (has (without j unread) p) && nat_lt (max m v) k) ≡ true → (not (has unread p) && nat_lt m k) ≡ true
+  missed unread m j v told e =
+      let both = and_parts (not (has (without j unread) p)) (nat_lt (max m v) k) e in
+      let less : max m v < k = ltb-true (max m v) k both.1 in
+      elim (cases_eq p j) [
+        | inl is ↦ let same = reads_p j v told is in absurd (omega arith)
+        | inr far ↦
+            let gone : has unread p ≡ false = sym (has-without unread p j far) ∙ not-true (has (without j unread) p) both.0 in
+            and_from (not (has unread p)) (nat_lt m k) (not_from_false (has unread p) gone) (lt-ltb m k (omega arith))
+      ]
+
   peeks : (unread : List ℕ) (m j v : ℕ) → has unread j ≡ true → (w.words j).number ≡ v
       → length (without j unread) + 2 + scan n (2 * n - 2) (not (has (without j unread) p) && nat_lt (max m v) k) + 1 ≤ length unread + 2 + scan n (2 * n - 2) (not (has unread p) && nat_lt m k)
   peeks unread m j v there told =
       let less = without_less unread j there in
-      let sooner = scan_sooner n (2 * n - 2) (not (has (without j unread) p) && nat_lt (max m v) k) (not (has unread p) && nat_lt m k) missed in
+      let sooner = scan_sooner n (2 * n - 2) (not (has (without j unread) p) && nat_lt (max m v) k) (not (has unread p) && nat_lt m k) (missed unread m j v told) in
       omega arith
-    where
-      missed : (not (has (without j unread) p) && nat_lt (max m v) k) ≡ true → (not (has unread p) && nat_lt m k) ≡ true
-      missed e =
-          let both = and_parts (not (has (without j unread) p)) (nat_lt (max m v) k) e in
-          let less : max m v < k = ltb-true (max m v) k both.1 in
-          elim (cases_eq p j) [
-            | inl is ↦ let same = reads_p j v told is in absurd (omega arith)
-            | inr far ↦
-                let gone : has unread p ≡ false = sym (has-without unread p j far) ∙ not-true (has (without j unread) p) both.0 in
-                and_from (not (has unread p)) (nat_lt m k) (not_from_false (has unread p) gone) (lt-ltb m k (omega arith))
-          ]
+
+  -- who takes a number ahead of p has missed p
+  taken_ahead : (m v : ℕ) → v ≡ m + 1 → is_before v q k p ≡ true → nat_lt m k ≡ true
+  taken_ahead m v is e = let before = before_by v q k p e in lt-ltb m k (omega arith)
 
   takes : (m v : ℕ) → v ≡ m + 1 → 1 + scan n (2 * n - 2) (is_before v q k p) + 1 ≤ 2 + scan n (2 * n - 2) (nat_lt m k)
-  takes m v is =
-      let sooner = scan_sooner n (2 * n - 2) (is_before v q k p) (nat_lt m k) (λ e. let before = before_by v q k p e in lt-ltb m k (omega arith)) in
-      omega arith
+  takes m v is = let sooner = scan_sooner n (2 * n - 2) (is_before v q k p) (nat_lt m k) (taken_ahead m v is) in omega arith
 
   looks : (x : Own) (j : ℕ) (unpassed : List ℕ) (r : ℕ) (zeroed : Bool) → has unpassed r ≡ true
       → Down (scan n (2 * length unpassed) (ahead x)) (not (not zeroed)) false x (if zeroed then Wait j unpassed (Some r) else Wait j unpassed None)

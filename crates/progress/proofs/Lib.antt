@@ -10,3 +10,5 @@ pub mod Waiting
 pub mod Overtaking
 pub mod Doorways
 pub mod WaitFree
+pub mod Takes
+pub mod Unspent

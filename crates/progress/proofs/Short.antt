@@ -5,7 +5,7 @@ use Rattle.progress.proofs.Common.{Own, Word, Choosing as ChoosingOf, Number as 
 use Rattle.progress.proofs.Common.{Event, Starts, Crashes, Steps, without, others, is_before, restart, started, shut, unmarked, process, moved, span, World, at_rest, May, after, Run, final}
 use Rattle.rmecore.proofs.Invariant.{put_same, put_other}
 use Rattle.rmecore.proofs.Runs.{guard}
-use Rattle.rmecore.proofs.Scans.{without_le}
+use Rattle.rmecore.proofs.Scans.{without_le, without_has, lined_above}
 use Rattle.rmecore.proofs.SoundWorlds.{Sound, sound_after, sound_rest, sound_image}
 
 length-span_le : (p i k : ℕ) → length (span p i k) ≤ k
@@ -27,14 +27,17 @@ pub others_fewer : (n p : ℕ) → p < n → length (others n p) + 1 ≤ n
 others_fewer n p below = let h = length-span_less p 0 (n - 0) (omega arith) (omega arith) in omega arith
 
 abbrev pub Short : ℕ → Place → Type 0
-Short n (Door unread m) = length unread + 1 ≤ n
+Short n (Door unread m) = (length unread + 1 ≤ n) × ((j : ℕ) → has unread j ≡ true → j < n)
 Short n (Wait k unpassed None) = length unpassed + 1 ≤ n
 Short n (Wait k unpassed (Some i)) = (length unpassed + 1 ≤ n) × (has unpassed i ≡ true)
 Short n _ = Unit {0}
 
 module _ (n limit p : ℕ) (below : p < n) where
+  fresh : Short n (Door (others n p) 0)
+  fresh = (others_fewer n p below, (lined_above n p 0).below)
+
   short_restart : (call : CoreCall) (c k i : ℕ) → Short n (restart n p call c k i)
-  short_restart Lock (suc c) zero i = others_fewer n p below
+  short_restart Lock (suc c) zero i = fresh
   short_restart Lock zero (suc k) zero = others_fewer n p below
   short_restart _ (suc c) zero i = tt
   short_restart _ zero zero (suc i) = tt
@@ -63,8 +66,8 @@ module _ (n limit p : ℕ) (below : p < n) where
   short_next (Reread call []) Rereads (ChoosingOf q) v some h = guarded (q == p) _ _ some (λ e. tt)
   short_next (Reread call (c ∷ [])) Rereads (NumberOf q) v some h = guarded (q == p) _ _ some (λ e. tt)
   short_next (Reread call (c ∷ k ∷ [])) Rereads (InsideOf q) v some h = guarded (q == p) _ _ some (λ e. short_restart call c k v)
-  short_next Opening Opens (ChoosingOf q) v some h = guarded _ _ _ some (λ e. others_fewer n p below)
-  short_next (Door unread m) Peeks (NumberOf j) v some h = guarded _ (Door (without j unread) (max m v)) _ some (λ e. fewer unread j h)
+  short_next Opening Opens (ChoosingOf q) v some h = guarded _ _ _ some (λ e. fresh)
+  short_next (Door unread m) Peeks (NumberOf j) v some h = guarded _ (Door (without j unread) (max m v)) _ some (λ e. (fewer unread j h.0, λ i there. h.1 i (without_has unread i j there)))
   short_next (Door [] m) Takes (NumberOf q) v some h = guarded _ _ _ some (λ e. tt)
   short_next (Door [] m) Shuts (ChoosingOf q) v some h = guarded _ _ _ some (λ e. tt)
   short_next (Shutting call k) Shuts (ChoosingOf q) v some h = guarded _ _ _ some (λ e. short_shut call k)

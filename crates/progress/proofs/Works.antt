@@ -26,7 +26,10 @@ left_most n k p ahead x (Reread _ seen) h short =
     let m = recovering_more n ahead x.choosing x.number x.inside in
     omega arith
 left_most n k p ahead x Opening h short = omega arith
-left_most n k p ahead x (Door unread m) h short = let r = scan_most n (2 * n - 2) (not (has unread p) && nat_lt m k) in omega arith
+left_most n k p ahead x (Door unread m) h short =
+    let r = scan_most n (2 * n - 2) (not (has unread p) && nat_lt m k) in
+    let l : length unread + 1 ≤ n = short.0 in
+    omega arith
 left_most n k p ahead x (Shutting Lock j) h short = let r = scan_most n (2 * n - 2) ahead in omega arith
 left_most n k p ahead x (Shutting _ j) h short = let r = scan_most n (2 * n - 2) ahead in omega arith
 left_most n k p ahead x (Wait j unpassed None) h short = let r = scan_most n (2 * length unpassed) ahead in omega arith
@@ -126,7 +129,7 @@ module _ (n limit k p : ℕ) (low : p < n) (held : 0 < k) where
     abbrev goes : Event → Place
     goes e = unwrap_or (moved n limit (w.places (process e)) e) (w.places (process e))
 
-    unpassed : (q : ℕ) → q < n → q ≢ p → Unpassed p (is_before (w.words q).number q k p) (w.places q)
+    pub unpassed : (q : ℕ) → q < n → q ≢ p → Unpassed p (is_before (w.words q).number q k p) (w.places q)
     unpassed q below ne = unpassed_of p k q (h.sound.lock.ahead p q) (w.words q) (w.words p) (w.places q) (w.places p) line.number held (h.sound.tied.pairs q p below low ne)
 
     other : (e : Event) → May n limit w e → process e ≢ p

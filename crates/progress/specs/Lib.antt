@@ -4,3 +4,4 @@ pub mod Pieces
 pub mod BoundedWaiting
 pub mod Bypass
 pub mod WaitFree
+pub mod UnspentNumbers

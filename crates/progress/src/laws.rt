@@ -11,6 +11,7 @@ ghost use Rattle.progress.specs.BoundedWaiting.{WorkIsBounded, WaitingIsBounded}
 ghost use Rattle.progress.specs.Bypass.{EntersOnce, EntersOnceWhileReady, IsInDoorway, LaterWaitsForDoorway};
 ghost use Rattle.progress.specs.InLine.{IsInLine};
 ghost use Rattle.progress.specs.WaitFree.{LeavesWithin, IsBeforeLine, IsRereading, IsLeaving, IsRecovering};
+ghost use Rattle.progress.specs.UnspentNumbers.{NumbersAreUnspent};
 
 /// The law of work. While a process in line has not entered, at most `(n - 1)(6n + 13) + 8` starts and steps that are neither
 /// blocked nor a glance are made by all processes together. Each disturbance adds `3n + 4`. Nothing is asked of a scheduler.
@@ -65,4 +66,14 @@ pub fn doorway_exit_and_recovery_are_wait_free()
     ensures exit { (n limit p : ℕ) (w : World) → p < n → w.places p ≡ Leaving → LeavesWithin 2 IsLeaving n limit w p }
     ensures recovery { (n limit p : ℕ) (w : World) → p < n → w.places p ≡ Reread Recover []
         → LeavesWithin 4 IsRecovering n limit w p }
+{}
+
+/// Numbers are not spent before a process in line enters, where the limit is at least `n - 1` above the greatest number that
+/// any process holds or has read in its doorway. A withdraw of another process costs at most one number more. Crashes and
+/// recoveries cost none.
+pub fn numbers_are_not_spent()
+    ensures from_rest { (n limit p : ℕ) (events : List Event) → p < n → Run n limit at_rest events
+        → NumbersAreUnspent n limit (final n limit at_rest events) p }
+    ensures later { (n limit p : ℕ) (words : ℕ → Own) (events : List Event) → p < n → IsLawful n limit words
+        → Run n limit (all_dead words) events → NumbersAreUnspent n limit (final n limit (all_dead words) events) p }
 {}

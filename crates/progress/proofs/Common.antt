@@ -16,7 +16,6 @@ pub use Rattle.rmecore.specs.Needs.{put}
 pub use Rattle.rmecore.specs.Paid.{is_glance}
 pub use Rattle.rmecore.specs.Place.{Place, Rest, Dead, Reread, Opening, Door, Shutting, Wait, Inside, Leaving, Withdrawing, Unmarking, has, only, next, Event, Starts, Crashes, Steps, without, others, is_before, restart, started, shut, unmarked, process, moved, span}
 pub use Rattle.rmecore.specs.World.{World, at_rest, is_store, write, May, after, Run, final, Reads, stored, deeds, deed, and_then, step_deed}
-pub use Rattle.progress.specs.InLine.{NeverWithdraws}
-pub use Rattle.progress.specs.Disturbances.{is_disturbance, is_effective, count, disturbances, work}
+pub use Rattle.progress.specs.Disturbances.{is_disturbance, is_effective, count, disturbances, work, NeverWithdraws}
 pub use Rattle.progress.specs.Pieces.{Owes, is_move, moves, joined, Full}
 pub use Rattle.progress.specs.BoundedWaiting.{most_work, WorkIsBounded, WaitingIsBounded}

@@ -2,6 +2,7 @@
 use Rattle.std.proofs.Common.{◌≡◌, ◌≢◌, ℕ, ◌<◌, ◌≤◌, true, false, ◌⊎◌, List, [], ◌∷◌, Option, Some, None, refl, sym, ap, ◌∙◌, subst, inl, inr, arith, eq-eqb, ne_eqb}
 use Rattle.std.proofs.lemmas.Bool.{cases_eq}
 use Rattle.rmecore.specs.AbstractLock.{Abstract, is_ready, crashed, done, Legal}
+use Rattle.rmecore.specs.HomeState.{IsInLine}
 use Rattle.rmecore.specs.Needs.{put}
 use Rattle.rmecore.specs.Place.{Event, process}
 use Rattle.rmecore.specs.Sole.{IsIn}
@@ -15,7 +16,6 @@ use Rattle.rmecore.proofs.Invariant.{Tied, put_same, put_other, phase_waiting}
 use Rattle.rmecore.proofs.Rows.{after_deed}
 use Rattle.rmecore.proofs.Runs.{kept, legal}
 use Rattle.progress.specs.Bypass.{times_entered, ReadyThroughout, Throughout}
-use Rattle.progress.specs.InLine.{IsInLine}
 
 -- q is inside, or out, or has p ahead: it does not enter before p
 abbrev pub Barred : Abstract → ℕ → ℕ → Type 0
@@ -125,7 +125,7 @@ module _ (n p q : ℕ) (ne : q ≢ p) where
 -- a process in line is ready in the abstract lock
 module _ (n limit p : ℕ) (below : p < n) where
   ready_now : (w : World) (a : Abstract) → Tied n w a → IsInLine w p → a.phase p ≡ Ready
-  ready_now w a t h = t.phase p below ∙ phase_waiting _ _ _ _ h.number h.outside
+  ready_now w a t h = t.phase p below ∙ phase_waiting _ _ _ _ h.0 h.1
 
   first_world : (P : World → Type 0) (w : World) (es : List Event) → Throughout P n limit w es → P w
   first_world P w [] h = h

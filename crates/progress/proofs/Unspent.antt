@@ -176,6 +176,6 @@ module _ (n limit k p : ℕ) (low : p < n) (held : 0 < k) where
 
 pub numbers_unspent : (n limit p : ℕ) (w : World) → p < n → Kept n w → NumbersAreUnspent n limit w p
 numbers_unspent n limit p w low h greatest events line upto run stays outside enough =
-    let in_line : InLine (w.words p).number (w.words p) (w.places p) = record { number = refl; outside = line.outside; stays = line.stays } in
-    let most = left_most n limit (w.words p).number p low line.number w in
-    unspent n limit (w.words p).number p low line.number w events greatest h in_line upto run stays outside (omega arith)
+    let in_line : InLine (w.words p).number (w.words p) (w.places p) = record { number = refl; outside = line.1; stays = line.2 } in
+    let most = left_most n limit (w.words p).number p low line.0 w in
+    unspent n limit (w.words p).number p low line.0 w events greatest h in_line upto run stays outside (omega arith)

@@ -67,7 +67,7 @@ too_many n most l a d e f g = omega arith
 pub waiting_bounded : (n limit p : ℕ) (w : World) → p < n → Kept n w → WaitingIsBounded n limit w p
 waiting_bounded n limit p w low h pieces line run full stays enough =
     true_from_ne_false (has (entries (deeds n limit w (joined pieces))) p) (λ outside.
-    let in_line : InLine (w.words p).number (w.words p) (w.places p) = record { number = refl; outside = line.outside; stays = line.stays } in
-    let few = pieces_few n limit (w.words p).number p low line.number w pieces h in_line run full stays outside in
+    let in_line : InLine (w.words p).number (w.words p) (w.places p) = record { number = refl; outside = line.1; stays = line.2 } in
+    let few = pieces_few n limit (w.words p).number p low line.0 w pieces h in_line run full stays outside in
     let bound = work_bounded n limit p w low h (joined pieces) line run stays outside in
     too_many n (most_work n) (length pieces) (work n limit w (joined pieces)) (disturbances n limit w (joined pieces)) enough few bound)

@@ -225,7 +225,7 @@ module _ (n limit k p : ℕ) (low : p < n) (held : 0 < k) where
 
 pub work_bounded : (n limit p : ℕ) (w : World) → p < n → Kept n w → WorkIsBounded n limit w p
 work_bounded n limit p w low h events line run stays outside =
-    let in_line : InLine (w.words p).number (w.words p) (w.places p) = record { number = refl; outside = line.outside; stays = line.stays } in
-    let f = works n limit (w.words p).number p low line.number w events h in_line run stays outside in
-    let most = potential_most n limit (w.words p).number p low line.number w h in
+    let in_line : InLine (w.words p).number (w.words p) (w.places p) = record { number = refl; outside = line.1; stays = line.2 } in
+    let f = works n limit (w.words p).number p low line.0 w events h in_line run stays outside in
+    let most = potential_most n limit (w.words p).number p low line.0 w h in
     omega arith

@@ -1,11 +1,10 @@
 -- Bounded waiting. Whoever is in line enters after a bounded amount of work, and after a bounded number of rounds. Each
 -- disturbance adds to both bounds.
 use Rattle.std.specs.Prelude.{◌≡◌, ℕ, ◌+◌, ◌-◌, ◌*◌, ◌≤◌, true, false, List, length}
-use Rattle.rmecore.specs.HomeState.{entries}
+use Rattle.rmecore.specs.HomeState.{entries, IsInLine}
 use Rattle.rmecore.specs.Place.{Event, has}
 use Rattle.rmecore.specs.World.{World, Run, deeds}
-use Rattle.progress.specs.Disturbances.{disturbances, work}
-use Rattle.progress.specs.InLine.{IsInLine, NeverWithdraws}
+use Rattle.progress.specs.Disturbances.{disturbances, work, NeverWithdraws}
 use Rattle.progress.specs.Pieces.{Full, joined}
 
 -- the most effective events of n processes before one that is in line enters

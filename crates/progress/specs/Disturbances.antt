@@ -1,6 +1,6 @@
 -- What a run does beside the work that its calls have to do. A disturbance is a crash, the start of a recovery or a withdraw,
 -- or the answer that the numbers are spent. A step is effective if it is neither blocked nor a glance: it leads its call on.
-use Rattle.std.specs.Prelude.{ℕ, suc, Bool, true, false, not, ◌||◌, if◌then◌else◌, List, [], ◌∷◌}
+use Rattle.std.specs.Prelude.{◌≢◌, ℕ, suc, Bool, true, false, not, ◌||◌, if◌then◌else◌, List, [], ◌∷◌, All}
 use Rattle.rmecore.specs.Machine.{is_blocked}
 use Rattle.rmecore.specs.Paid.{is_glance}
 use Rattle.rmecore.specs.Place.{Event, Starts, Crashes, Steps, Place, Door, process}
@@ -32,3 +32,7 @@ disturbances = count is_disturbance
 
 abbrev pub work : ℕ → ℕ → World → List Event → ℕ
 work = count is_effective
+
+-- p does not start to withdraw
+abbrev pub NeverWithdraws : ℕ → List Event → Type 0
+NeverWithdraws p events = All (λ e. e ≢ Starts p Withdraw) events

@@ -1,4 +1,3 @@
-pub mod InLine
 pub mod Disturbances
 pub mod Pieces
 pub mod BoundedWaiting

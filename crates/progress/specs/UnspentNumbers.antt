@@ -1,12 +1,11 @@
 -- How many numbers the others can take before one that is in line enters. Lamport's numbers have no bound; here they do.
 use Rattle.std.specs.Prelude.{◌≡◌, ℕ, ◌+◌, ◌-◌, ◌<◌, ◌≤◌, Bool, true, false, List}
-use Rattle.rmecore.specs.HomeState.{entries}
+use Rattle.rmecore.specs.HomeState.{entries, IsInLine}
 use Rattle.rmecore.specs.Place.{Event, Starts, Steps, Place, Door, has}
 use Rattle.rmecore.specs.World.{World, Run, deeds}
 use Rattle.rmecore.specs.declared.core_call.CoreCall.TheVariants.{Withdraw}
 use Rattle.rmecore.specs.declared.kind.Kind.TheVariants.{Shut as Shuts}
-use Rattle.progress.specs.Disturbances.{count}
-use Rattle.progress.specs.InLine.{IsInLine, NeverWithdraws}
+use Rattle.progress.specs.Disturbances.{count, NeverWithdraws}
 
 -- no number read in a doorway at this place is greater
 abbrev pub ReadsUpTo : ℕ → Place → Type 0

@@ -2,6 +2,7 @@
 
 ghost use Rattle.std.specs.Prelude.{◌≡◌, ◌<◌, ◌+◌, ℕ, List, []};
 ghost use Rattle.rmecore.specs.AbstractLock.{Abstract};
+ghost use Rattle.rmecore.specs.HomeState.{IsInLine};
 ghost use Rattle.rmecore.specs.Place.{Event, Reread, Leaving};
 ghost use Rattle.rmecore.specs.World.{World, at_rest, Run, final};
 ghost use Rattle.rmecore.specs.Lawful.{IsLawful, all_dead};
@@ -9,7 +10,6 @@ ghost use Rattle.rmecore.specs.declared.core_call.CoreCall.TheVariants.{Lock, Re
 ghost use Rattle.rmecore.specs.declared.own.Own.{Own};
 ghost use Rattle.progress.specs.BoundedWaiting.{WorkIsBounded, WaitingIsBounded};
 ghost use Rattle.progress.specs.Bypass.{EntersOnce, EntersOnceWhileReady, IsInDoorway, LaterWaitsForDoorway};
-ghost use Rattle.progress.specs.InLine.{IsInLine};
 ghost use Rattle.progress.specs.WaitFree.{LeavesWithin, IsBeforeLine, IsRereading, IsLeaving, IsRecovering};
 ghost use Rattle.progress.specs.UnspentNumbers.{NumbersAreUnspent};
 

@@ -130,7 +130,7 @@ abbrev state_at : Image → ℕ → State
 state_at i p = record { procs = length i.lock; cap = i.cap; lock = start_of (own_at i.lock); mail = mailbox_of (layout_of i) p (words_of i.cells) }
 
 -- the mailbox that the words describe is the same, whichever process is alone in
-one_mailbox : (i : Image) (k : IsLawfulImage i) (p q : ℕ) → IsInAlone i p → IsInAlone i q → mailbox_of (layout_of i) p (words_of i.cells) ≡ mailbox_of (layout_of i) q (words_of i.cells)
+pub one_mailbox : (i : Image) (k : IsLawfulImage i) (p q : ℕ) → IsInAlone i p → IsInAlone i q → mailbox_of (layout_of i) p (words_of i.cells) ≡ mailbox_of (layout_of i) q (words_of i.cells)
 one_mailbox i k p q hp hq = by (find_in (length i.lock) (start_of (own_at i.lock)).phase)
   where
     by : ((r : ℕ) × (r < length i.lock) × IsIn ((start_of (own_at i.lock)).phase r)) ⊎ ((r : ℕ) → r < length i.lock → IsIn ((start_of (own_at i.lock)).phase r) → ⊥) → mailbox_of (layout_of i) p (words_of i.cells) ≡ mailbox_of (layout_of i) q (words_of i.cells)

@@ -16,6 +16,8 @@ pub mod Advancing
 pub mod Reaching
 pub mod Holders
 pub mod LawfulNow
+pub mod Recoverable
+pub mod CallsAnswered
 pub mod Carrying
 pub mod HomeState
 pub mod FromImages
@@ -39,6 +41,7 @@ pub mod ImageCommon
 pub mod ImageForms
 pub mod ImageJudged
 pub mod ImageStarts
+pub mod FirstStart
 pub mod ImageTexts
 pub mod LineFeeds
 pub mod ImageSpelt

@@ -1,12 +1,12 @@
 //! Laws over every execution of a world: every list of events, of any number of processes, in which each event is allowed
 //! after those before it. Each law is the contract of a function.
 
-ghost use Rattle.std.specs.Prelude.{◌≡◌, ℕ, false, List, [], ◌∷◌, ◌++◌, length, None};
+ghost use Rattle.std.specs.Prelude.{◌≡◌, ℕ, ◌<◌, ◌≤◌, false, List, [], ◌∷◌, ◌++◌, length, None};
 ghost use Rattle.rmecore.specs.Lawful.{IsLawful};
 ghost use Rattle.rmecore.specs.Paid.{is_glance};
 ghost use Rattle.rmecore.specs.Simulated.{own_at};
 ghost use Rattle.rmecore.specs.declared.own.Own.{Own};
-ghost use Rattle.redomail.specs.Layout.{Words, words_of};
+ghost use Rattle.redomail.specs.Layout.{Words, IsLayout, words_of};
 ghost use Rattle.judge.specs.Legal.{Leads, IsLegal};
 ghost use Rattle.judge.specs.Starts.{state_of};
 ghost use Rattle.judge.specs.Table.{State};
@@ -17,7 +17,7 @@ ghost use Rattle.rmeworld.specs.ImageRules.{layout_of, IsLawfulImage};
 ghost use Rattle.rmeworld.specs.ImageStart.{IsStartOf};
 ghost use Rattle.rmeworld.specs.CallWalk.{CallsTakeTheirSteps, NoCallTakesMore};
 ghost use Rattle.rmeworld.specs.Holders.{OnlyHoldersPut};
-ghost use Rattle.rmeworld.specs.HomeState.{CanComeHome};
+ghost use Rattle.rmeworld.specs.HomeState.{CanComeHome, CanComeHomeMended, CanStillEnter};
 ghost use Rattle.rmeworld.specs.Law.{IsLater, EveryExecutionIsSound, EveryExecutionIsLegal, EveryExecutionEndsLawful};
 ghost use Rattle.rmeworld.specs.Reached.{crashed_global_state, EveryLaterExecutionIsSound, EveryExecutionLeavesAnImage};
 ghost use Rattle.rmeworld.specs.Replayed.{start_refusal, started, advance_refusal, stepped, advanced, crash_refusal, crash_deed, crashed, list_of};
@@ -150,9 +150,11 @@ pub fn messages_were_sent()
 {}
 
 /// After every execution, some continuation without crash and withdraw answers each call that is under way and leads to a
-/// global state in which all processes rest and all lock words are 0. In it all that wait enter, in the order of their
-/// pairs. Also from lawful lock words with all processes crashed, whatever the data words are (`later`), so from each lawful
-/// image (`image`). That it is taken is not said.
+/// global state in which all processes rest and all lock words are 0. In it all that are in line enter, in the order of their
+/// pairs. If the lock is not ruined, and no unlock under way ruins it, nothing in the continuation ruins it. Also from lawful
+/// lock words with all processes crashed, whatever the data words are (`later`), so from each lawful image (`image`). From all
+/// words 0 (`mended`) and from a lawful image (`image`), no record is armed at the end of such a continuation: what a crash cut
+/// off is mended. That it is taken is not said.
 pub fn every_execution_can_come_home()
     ensures new { (l : Layout) (limit : ℕ) (execution : List WorldEvent) → Execution l limit at_first execution
         → CanComeHome l limit (last_global_state l limit at_first execution) }
@@ -161,5 +163,22 @@ pub fn every_execution_can_come_home()
         Execution l limit first execution → CanComeHome l limit (last_global_state l limit first execution) }
     ensures image { (i : Image) (execution : List WorldEvent) → IsLawfulImage i
         → let first = global_state_of (image_world i) in Execution (layout_of i) i.limit first execution
-        → CanComeHome (layout_of i) i.limit (last_global_state (layout_of i) i.limit first execution) }
+        → CanComeHomeMended (layout_of i) i.limit (last_global_state (layout_of i) i.limit first execution) }
+    ensures mended { (l : Layout) (limit : ℕ) (execution : List WorldEvent) → IsLayout l → Execution l limit at_first execution
+        → CanComeHomeMended l limit (last_global_state l limit at_first execution) }
+{}
+
+/// After every execution each process can still enter, where the limit is at least 1: in some continuation without crash and
+/// withdraw it enters. If the lock is not ruined, and no unlock under way ruins it, nothing in the continuation ruins it, and
+/// the process holds the lock at the end. Also from lawful lock words with all processes crashed, whatever the data words are
+/// (`later`), and from each lawful image (`image`). That it is taken is not said.
+pub fn every_process_can_enter()
+    ensures new { (l : Layout) (limit p : ℕ) (execution : List WorldEvent) → p < l.procs → 1 ≤ limit
+        → Execution l limit at_first execution → CanStillEnter l limit (last_global_state l limit at_first execution) p }
+    ensures later { (l : Layout) (limit p : ℕ) (words : ℕ → Own) (cells : Words) (execution : List WorldEvent) → p < l.procs
+        → 1 ≤ limit → IsLawful l.procs limit words → let first = crashed_global_state l.procs words cells in
+        Execution l limit first execution → CanStillEnter l limit (last_global_state l limit first execution) p }
+    ensures image { (i : Image) (p : ℕ) (execution : List WorldEvent) → IsLawfulImage i → p < (layout_of i).procs
+        → let first = global_state_of (image_world i) in Execution (layout_of i) i.limit first execution
+        → CanStillEnter (layout_of i) i.limit (last_global_state (layout_of i) i.limit first execution) p }
 {}

@@ -26,6 +26,11 @@ pub fn images_are_starts()
     ensures { (i : ImageOf) (s : Start) → IsLawfulImage i → IsStartOf i s → IsStart s }
 {}
 
+/// Every lawful image has a start. So a law that names an image's start speaks of every lawful image.
+pub fn images_have_starts()
+    ensures { (i : ImageOf) → IsLawfulImage i → (s : Start) × IsStartOf i s }
+{}
+
 /// A text has at most one image, in one form.
 pub fn texts_spell_one_image()
     ensures { (text : List ℕ) (wide also : Bool) (i j : ImageOf)

@@ -12,3 +12,4 @@ pub mod Doorways
 pub mod WaitFree
 pub mod Takes
 pub mod Unspent
+pub mod FullPieces

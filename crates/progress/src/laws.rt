@@ -10,6 +10,7 @@ ghost use Rattle.rmecore.specs.declared.core_call.CoreCall.TheVariants.{Lock, Re
 ghost use Rattle.rmecore.specs.declared.own.Own.{Own};
 ghost use Rattle.progress.specs.BoundedWaiting.{WorkIsBounded, WaitingIsBounded};
 ghost use Rattle.progress.specs.Bypass.{EntersOnce, EntersOnceWhileReady, IsInDoorway, LaterWaitsForDoorway};
+ghost use Rattle.progress.specs.Pieces.{HasFullPiece};
 ghost use Rattle.progress.specs.WaitFree.{LeavesWithin, IsBeforeLine, IsRereading, IsLeaving, IsRecovering};
 ghost use Rattle.progress.specs.UnspentNumbers.{NumbersAreUnspent};
 
@@ -76,4 +77,13 @@ pub fn numbers_are_not_spent()
         → NumbersAreUnspent n limit (final n limit at_rest events) p }
     ensures later { (n limit p : ℕ) (words : ℕ → Own) (events : List Event) → p < n → IsLawful n limit words
         → Run n limit (all_dead words) events → NumbersAreUnspent n limit (final n limit (all_dead words) events) p }
+{}
+
+/// A full piece can always follow. In every world of a run there is one of starts and steps alone, in which each process moves.
+/// So the pieces that bounded waiting asks for can be as many as wanted.
+pub fn a_full_piece_can_follow()
+    ensures from_rest { (n limit : ℕ) (events : List Event) → Run n limit at_rest events
+        → HasFullPiece n limit (final n limit at_rest events) }
+    ensures later { (n limit : ℕ) (words : ℕ → Own) (events : List Event) → IsLawful n limit words
+        → Run n limit (all_dead words) events → HasFullPiece n limit (final n limit (all_dead words) events) }
 {}

@@ -39,7 +39,7 @@ module _ (n limit q : ℕ) (w : World) (below : q < n) where
         event = Steps q (kind_of a) (word_of a) v;
         may = (below, subst (λ t. IsSome (next n limit q t (kind_of a) (word_of a) v)) (sym at) (allowed (read w.words (word_of a))), λ loads. reads w.words a v fits refl loads);
         own = refl;
-        is = ap not no_glance;
+        is = rw no_glance refl;
         ordinary = tt;
       }
 

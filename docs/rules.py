@@ -34,6 +34,15 @@ MADE = {
     "examples/rows": "rmelab replay, rmelab judge",
 }
 
+# Pages with parts that are made, between `<!-- made by .. -->` and `<!-- end of what is made -->`, and what makes them.
+MADE_PARTS = {
+    "docs/use/command-line.md": "docs/from-sources",
+    "docs/use/errors.md": "docs/from-sources",
+    "docs/use/algorithms.md": "docs/from-sources",
+    "docs/dev/testing.md": "docs/from-sources",
+    "docs/use/c.md": "c/man-pages",
+}
+
 # Facts that have one place: words that only this page may have, of those by hand.
 ONE_PLACE = [
     ("the limits", r"4,611,686,018,427,387,904", "docs/theory/model.md"),
@@ -149,8 +158,13 @@ def line_at(text, at):
     return text.count("\n", 0, at) + 1
 
 
+# A part of a page that a script makes.
+MADE_PART = re.compile(r"<!-- made by .*?<!-- end of what is made -->", re.S)
+
+
 def prose_of_page(text):
-    return blanked(blanked(text, FENCE), CODE)
+    """What a page says by hand: what is made is read where it is made from."""
+    return blanked(blanked(blanked(text, MADE_PART), FENCE), CODE)
 
 
 # A comment, a string, a raw string or a character of Rattle's sources.
@@ -409,10 +423,6 @@ def glossary_too_long():
 
 def pages_by_hand() -> list[str]:
     return [page for page in pages() if page not in MADE]
-
-
-# A part of a page that a script makes.
-MADE_PART = re.compile(r"<!-- made by .*?<!-- end of what is made -->", re.S)
 
 
 def too_many_words() -> Iterator[str]:

@@ -1,0 +1,154 @@
+"""The parts of pages that are made of the sources: the commands, the meanings of numbers and words, and the wrong bodies.
+
+A part of a page stands between `<!-- made by docs/from-sources: NAME -->` and `<!-- end of what is made -->`."""
+
+import os
+import re
+from typing import Iterator
+
+from rules import MADE_PARTS, TOP, repository_files, text_of
+
+PARSER, ARGUMENT = "crates/cli/src/arguments/parser.rt", "crates/cli/src/arguments/argument.rt"
+EXPLAIN = "crates/cli/src/explain"
+STRING = r'"((?:\\.|[^"\\])*)"'
+CONSTANT = re.compile(rf"const (\w+): &str =\s+{STRING};", re.S)
+CALL = re.compile(rf"Argument::(\w+)\(([^()]*|[^()]*\([^()]*\)[^()]*)\)(\.required\(\))?")
+COMMAND = re.compile(rf'let about = {STRING};(.*?)command\(alloc, "(\w+)", about, (\w+),', re.S)
+ENTRY = re.compile(rf"(?:(\w+)(?: \{{ \.\. \}}|\(_\))? => |\n        )of_\w+\({STRING}, (\w+)\)")
+BEGINS = re.compile(r"(<!-- made by docs/from-sources: ([\w ]+) -->\n).*?(<!-- end of what is made -->)", re.S)
+
+
+def plain(text: str) -> str:
+    """The value of a string of the sources."""
+    return re.sub(r"\\\n\s*", "", text).replace("\\n", "\n").replace('\\"', '"')
+
+
+def constants(file: str) -> dict[str, str]:
+    return {name: plain(value) for name, value in CONSTANT.findall(text_of(file))}
+
+
+def cell(text: str) -> str:
+    return " ".join(text.split()).replace("|", "\\|")
+
+
+# ---- the commands
+
+
+def shared_argument(name: str) -> tuple[str, str]:
+    """An argument that several commands have: its spelling and its help."""
+    body = re.search(rf"pub fn {name}\(\).*?\n    }}\n", text_of(ARGUMENT), re.S)
+    assert body
+    help_text = re.search(rf"let \w+ = {STRING};", body[0])
+    value = re.search(rf"Argument::text\({STRING}, {STRING}", body[0])
+    assert help_text and value
+    return f"--{value[1]} {value[2]}", plain(help_text[1])
+
+
+def argument(kind: str, words: list[str], named: dict[str, str]) -> tuple[str, str]:
+    """The spelling of an argument, and its help."""
+    if kind in ("variant", "algorithm", "image"):
+        return shared_argument(kind)
+    if kind == "new":
+        return "WORDS", named["names"]
+    if kind == "file":
+        return "FILE", words[0]
+    if kind == "flag":
+        return f"--{words[0]}", words[1]
+    return f"--{words[0]} {words[1]}", words[2] if len(words) > 2 else named["calls"]
+
+
+def command(name: str) -> str:
+    """The synopsis of a command, what it reads and prints, and its options."""
+    for about, body, found, help_name in COMMAND.findall(text_of(PARSER)):
+        if found != name:
+            continue
+        named = {word: plain(text) for word, text in re.findall(rf"let (\w+) =\s+{STRING};", body)}
+        rows, synopsis = [], [f"rmelab {name}"]
+        for kind, given, required in CALL.findall(body):
+            spelled, text = argument(kind, [plain(word) for word in re.findall(STRING, given)], named)
+            rows.append(f"| `{spelled}` | {cell(text)} |")
+            synopsis.append(spelled if required else f"[{spelled}]" + "..." * (kind == "new"))
+        said = [line for line in constants(PARSER)[help_name].split("\n") if re.match(r"(?:In|Out|Shown): ", line)]
+        lines = ["```text", *wrapped(synopsis), "```", "", plain(about) + ".", ""]
+        lines += [f"- *{head}*: {text}" for head, text in (line.split(": ", 1) for line in said)]
+        return "\n".join(lines + ["", "| option | what it is |", "|---|---|", *rows]) + "\n"
+    raise KeyError(name)
+
+
+def wrapped(words: list[str]) -> list[str]:
+    lines = [words[0]]
+    for word in words[1:]:
+        if len(lines[-1]) + len(word) > 110:
+            lines.append(" " * 7)
+        lines[-1] += " " + word
+    return lines
+
+
+def statuses() -> str:
+    """The exit statuses, as the help has them."""
+    text = constants(PARSER)["STATUSES"].removeprefix("Exit status: ")
+    rows = re.findall(r"(\d) (.*?)(?=, \d |\.$)", text)
+    return "\n".join(["| status | when |", "|---|---|", *[f"| {status} | {cell(when)} |" for status, when in rows]]) + "\n"
+
+
+# ---- what explain explains
+
+
+def explained(kind: str) -> Iterator[tuple[str, str, str]]:
+    """The entries of a kind: the number or the words, the name in the sources, and the meaning."""
+    for file in sorted(name for name in repository_files() if re.fullmatch(rf"{EXPLAIN}/\w+\.rt", name)):
+        texts = constants(file)
+        for name, spelled, text in ENTRY.findall(text_of(file)):
+            if spelled.startswith(kind + " "):
+                yield spelled.removeprefix(kind + " "), name, cell(texts[text])
+
+
+def numbered(kind: str) -> str:
+    rows = sorted(explained(kind), key=lambda row: int(row[0]))
+    return "\n".join(["| number | name | meaning |", "|---|---|---|", *[f"| {' | '.join(row)} |" for row in rows]]) + "\n"
+
+
+def answers() -> str:
+    rows = [f"| `{words}` | {text} |" for words, _, text in explained("answer")]
+    return "\n".join(["| answer | meaning |", "|---|---|", *rows]) + "\n"
+
+
+# ---- wrong bodies
+
+
+def wrong_bodies() -> str:
+    """The wrong bodies that the gate has, by crate and function, and how many are outside."""
+    inside: dict[str, dict[str, list[str]]] = {}
+    outside: dict[str, int] = {}
+    for file in repository_files():
+        edit = re.fullmatch(r"crates/(\w+)/must-fail/(\w+)-(\w+)\.edit", file)
+        listed = re.fullmatch(r"wrong-bodies/(\w+)\.txt", file)
+        if edit:
+            inside.setdefault(edit[1], {}).setdefault(edit[2], []).append(edit[3].replace("_", " "))
+        elif listed:
+            outside[listed[1]] = len(re.findall(r"^== ", text_of(file), re.M))
+    lines = ["| crate | in the gate: each function, and what is wrong | further |", "|---|---|---|"]
+    for crate in sorted({*inside, *outside}):
+        told = [f"`{function}`: {', '.join(sorted(wrong))}" for function, wrong in sorted(inside.get(crate, {}).items())]
+        lines.append(f"| `{crate}` | {'; '.join(told) or 'none'} | {outside.get(crate, 0)} |")
+    gate = sum(len(wrong) for functions in inside.values() for wrong in functions.values())
+    return "\n".join(lines + [f"| all | {gate} | {sum(outside.values())} |"]) + "\n"
+
+
+# ---- the pages
+
+
+def part(name: str) -> str:
+    kind, _, rest = name.partition(" ")
+    if kind == "command":
+        return command(rest)
+    if kind == "numbers":
+        return numbered(rest)
+    return {"statuses": statuses, "answers": answers, "wrong bodies": wrong_bodies}[name]()
+
+
+def pages() -> Iterator[tuple[str, str]]:
+    """Each page with such parts, and its text with each part made anew."""
+    for page, maker in MADE_PARTS.items():
+        if maker == "docs/from-sources" and os.path.exists(os.path.join(TOP, page)):
+            yield page, BEGINS.sub(lambda at: at[1] + part(at[2]) + at[3], text_of(page))

@@ -63,6 +63,16 @@ ONE_PLACE = [
     ("the hunt's drawing rule", r"w / 64 modulo 16", "docs/dev/surface.md"),
     ("the order of faults of a text", r"1 NoHeader, line 1", "docs/dev/texts.md"),
     ("the rules of an image", r"At most one process is \(0,k,1\)", "docs/dev/texts.md"),
+    ("the lines of the Bakery", r"(?m)^    await c := choosing\[j\] until c = 0", "docs/use/tour.md"),
+    ("what a stuck state is", r"bring each process to rest with all lock words 0", "docs/use/command-line.md"),
+    ("the lines of a report", r"\| `begin P`, `ready P` \|", "docs/use/command-line.md"),
+    ("the grammar of an algorithm", r'block    = \{ NAME ":" NL', "docs/use/algorithms.md"),
+    ("what a seed finds", r"that of the first round, by number", "docs/use/command-line.md"),
+    ("the crates", r"\| `redomail` \| the layout", ARCHITECTURE),
+    ("the instructions of a lock", r"\| 64 \| 2,619 \|", "docs/dev/performance.md"),
+    ("the shortest schedules of the variants", r"\| no-ties \| 2 \| lock, unlock", "bench/explore/README.md"),
+    ("what the gate costs", r"54\.1 minutes", "docs/dev/performance.md"),
+    ("what an order of stores has to keep", r"`xchg`", "docs/theory/trust.md"),
     ("the signs of a drawing", r"`#` section, a space for dead", "docs/dev/texts.md"),
 ]
 
@@ -510,6 +520,16 @@ def algorithms_that_differ():
                 yield f"{name}:1: not the text {constant} of crates/algorithms_tests"
 
 
+def algorithms_shown_otherwise() -> Iterator[str]:
+    """A block of a page with lines of an algorithm is a part of a text of examples/algorithms."""
+    texts = [text_of(name) for name in repository_files() if re.fullmatch(r"examples/algorithms/[\w-]+\.lock", name)]
+    for page in pages():
+        for block in re.finditer(r"^```text\n(.*?)^```$", text_of(page), re.M | re.S):
+            shows = re.search(r"^  \w+(?:\[\w+\])? := |^shared ", block[1], re.M)
+            if shows and not block[1].startswith("$ ") and not any(block[1] in text for text in texts):
+                yield f"{page}:{line_at(text_of(page), block.start())}: no text of examples/algorithms has these lines"
+
+
 RULES = [
     refused_words,
     retired_names,
@@ -527,6 +547,7 @@ RULES = [
     links_that_lead_nowhere,
     mentions_of_no_page,
     algorithms_that_differ,
+    algorithms_shown_otherwise,
 ]
 
 

@@ -414,7 +414,7 @@ def crates_listed():
                 yield f"{ARCHITECTURE}:{line}: crates.txt has no `{crate}`"
     for page in pages():
         met = []
-        for line, row in enumerate(text_of(page).split("\n") + [""], 1):
+        for line, row in enumerate(blanked(text_of(page), MADE_PART).split("\n") + [""], 1):
             item = re.match(r"(?:\| |[-*] |\d+\. )`(\w+)`", row)
             if item and item[1] in set(listed) | set(known):
                 met.append(line)

@@ -1,4 +1,4 @@
-"""The parts of pages that are made of the sources: the commands, the meanings of numbers and words, and the wrong bodies.
+"""The parts of pages that are made of the sources: commands, the meanings of numbers and words, wrong bodies, and programs.
 
 A part of a page stands between `<!-- made by docs/from-sources: NAME -->` and `<!-- end of what is made -->`."""
 
@@ -15,7 +15,10 @@ CONSTANT = re.compile(rf"const (\w+): &str =\s+{STRING};", re.S)
 CALL = re.compile(rf"Argument::(\w+)\(([^()]*|[^()]*\([^()]*\)[^()]*)\)(\.required\(\))?")
 COMMAND = re.compile(rf'let about = {STRING};(.*?)command\(alloc, "(\w+)", about, (\w+),', re.S)
 ENTRY = re.compile(rf"(?:(\w+)(?: \{{ \.\. \}}|\(_\))? => |\n        )of_\w+\({STRING}, (\w+)\)")
-BEGINS = re.compile(r"(<!-- made by docs/from-sources: ([\w ]+) -->\n).*?(<!-- end of what is made -->)", re.S)
+BEGINS = re.compile(r"(<!-- made by docs/from-sources: ([\w ./-]+) -->\n).*?(<!-- end of what is made -->)", re.S)
+FENCES = {".c": "c", ".rs": "rust", ".py": "python", ".rt": "rust"}
+# The inner comment, the imports and the allowances of a file, which a page leaves out.
+HEAD = re.compile(r"(//!.*\n|#!\[.*\n|use .*\n|\n)*")
 
 
 def plain(text: str) -> str:
@@ -135,6 +138,21 @@ def wrong_bodies() -> str:
     return "\n".join(lines + [f"| all | {gate} | {sum(outside.values())} |"]) + "\n"
 
 
+# ---- files
+
+
+def shown(words: str) -> str:
+    """A file as a block, or its lines A to B of `A B FILE`."""
+    *between, name = words.split()
+    text = text_of(name)
+    if between:
+        first, last = map(int, between)
+        text = "".join(text.splitlines(keepends=True)[first - 1 : last])
+    if name.endswith(".rt"):
+        text = HEAD.sub("", text, count=1)
+    return f"```{FENCES.get(os.path.splitext(name)[1], 'text')}\n{text}```\n"
+
+
 # ---- the pages
 
 
@@ -144,6 +162,8 @@ def part(name: str) -> str:
         return command(rest)
     if kind == "numbers":
         return numbered(rest)
+    if kind in ("file", "lines"):
+        return shown(rest)
     return {"statuses": statuses, "answers": answers, "wrong bodies": wrong_bodies}[name]()
 
 

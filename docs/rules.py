@@ -39,8 +39,10 @@ MADE_PARTS = {
     "docs/use/command-line.md": "docs/from-sources",
     "docs/use/errors.md": "docs/from-sources",
     "docs/use/algorithms.md": "docs/from-sources",
+    "docs/use/rust.md": "docs/from-sources",
+    "docs/use/tour.md": "docs/from-sources",
     "docs/dev/testing.md": "docs/from-sources",
-    "docs/use/c.md": "c/man-pages",
+    "docs/use/c.md": "docs/from-sources",  # And its table of calls c/man-pages.
 }
 
 # Facts that have one place: words that only this page may have, of those by hand.
@@ -520,16 +522,6 @@ def algorithms_that_differ():
                 yield f"{name}:1: not the text {constant} of crates/algorithms_tests"
 
 
-def algorithms_shown_otherwise() -> Iterator[str]:
-    """A block of a page with lines of an algorithm is a part of a text of examples/algorithms."""
-    texts = [text_of(name) for name in repository_files() if re.fullmatch(r"examples/algorithms/[\w-]+\.lock", name)]
-    for page in pages():
-        for block in re.finditer(r"^```text\n(.*?)^```$", text_of(page), re.M | re.S):
-            shows = re.search(r"^  \w+(?:\[\w+\])? := |^shared ", block[1], re.M)
-            if shows and not block[1].startswith("$ ") and not any(block[1] in text for text in texts):
-                yield f"{page}:{line_at(text_of(page), block.start())}: no text of examples/algorithms has these lines"
-
-
 RULES = [
     refused_words,
     retired_names,
@@ -547,7 +539,6 @@ RULES = [
     links_that_lead_nowhere,
     mentions_of_no_page,
     algorithms_that_differ,
-    algorithms_shown_otherwise,
 ]
 
 

@@ -138,6 +138,28 @@ def wrong_bodies() -> str:
     return "\n".join(lines + [f"| all | {gate} | {sum(outside.values())} |"]) + "\n"
 
 
+# ---- the crates
+
+
+def first_sentence(crate: str) -> str:
+    """What the inner comment of a crate's root says first."""
+    root = next(name for name in (f"crates/{crate}/src/lib.rt", f"crates/{crate}/src/main.rt") if os.path.exists(f"{TOP}/{name}"))
+    said = re.match(r"(?://!.*\n)+", text_of(root))
+    text = " ".join(line[3:].strip() for line in said[0].splitlines()) if said else ""
+    return cell(re.split(r"(?<=\.) (?=[A-Z])", text)[0].rstrip("."))
+
+
+def crates() -> str:
+    """The crates, each after those that it uses."""
+    lines = re.findall(r"^(\w+)[^:\n]*:(.*)$", text_of("crates.txt"), re.M)
+    waiting, rows = {crate: used.split() for crate, used in lines}, ["| crate | what it is |", "|---|---|"]
+    while waiting:
+        crate = next(name for name, used in waiting.items() if not set(used) & set(waiting))
+        del waiting[crate]
+        rows.append(f"| `{crate}` | {first_sentence(crate)} |")
+    return "\n".join(rows) + "\n"
+
+
 # ---- files
 
 
@@ -164,7 +186,7 @@ def part(name: str) -> str:
         return numbered(rest)
     if kind in ("file", "lines"):
         return shown(rest)
-    return {"statuses": statuses, "answers": answers, "wrong bodies": wrong_bodies}[name]()
+    return {"statuses": statuses, "answers": answers, "wrong bodies": wrong_bodies, "crates": crates}[name]()
 
 
 def pages() -> Iterator[tuple[str, str]]:

@@ -41,6 +41,7 @@ MADE_PARTS = {
     "docs/use/algorithms.md": "docs/from-sources",
     "docs/use/rust.md": "docs/from-sources",
     "docs/use/tour.md": "docs/from-sources",
+    "docs/dev/architecture.md": "docs/from-sources",
     "docs/dev/testing.md": "docs/from-sources",
     "docs/use/c.md": "docs/from-sources",  # And its table of calls c/man-pages.
 }
@@ -70,7 +71,7 @@ ONE_PLACE = [
     ("the lines of a report", r"\| `begin P`, `ready P` \|", "docs/use/command-line.md"),
     ("the grammar of an algorithm", r'block    = \{ NAME ":" NL', "docs/use/algorithms.md"),
     ("what a seed finds", r"that of the first round, by number", "docs/use/command-line.md"),
-    ("the crates", r"\| `redomail` \| the layout", ARCHITECTURE),
+    ("the crates", r"\| `redomail` \| The mailbox: a redo", ARCHITECTURE),
     ("the instructions of a lock", r"\| 64 \| 2,619 \|", "docs/dev/performance.md"),
     ("the shortest schedules of the variants", r"\| no-ties \| 2 \| lock, unlock", "bench/explore/README.md"),
     ("what the gate costs", r"54\.1 minutes", "docs/dev/performance.md"),
@@ -451,6 +452,13 @@ def made_by_nothing() -> Iterator[str]:
             yield f"docs/rules.py:1: {maker} makes no {name}"
 
 
+def named_and_not_here() -> Iterator[str]:
+    """Pages speak of definitions, laws and pages by name: no specification is in the repository."""
+    for page in pages():
+        for at in re.finditer(r"\bthe specifications?\b", prose_of_page(text_of(page))):
+            yield f"{page}:{line_at(text_of(page), at.start())}: `{at[0]}`: say what is meant"
+
+
 def facts_in_another_place() -> Iterator[str]:
     for fact, words, home in ONE_PLACE:
         for page in pages_by_hand():
@@ -535,6 +543,7 @@ RULES = [
     too_many_words,
     made_by_nothing,
     facts_in_another_place,
+    named_and_not_here,
     unproved_said_elsewhere,
     links_that_lead_nowhere,
     mentions_of_no_page,

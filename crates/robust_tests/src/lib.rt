@@ -1,5 +1,5 @@
-//! Tests of the running lock and of its plain reference: the specification's worked rows over members, and members that
-//! crash. The rows are played on both locks where both have the calls.
+//! Tests of the running lock and of its plain reference: the worked rows over members, and members that crash. The rows are
+//! played on both locks where both have the calls.
 #![tactic(auto)]
 
 #[cfg(test)]

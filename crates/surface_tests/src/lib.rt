@@ -1,5 +1,5 @@
-//! Names each public item of the specification by the path and with the signature that the specification gives it, so that
-//! none of them can move, change or go without this crate failing to compile. What the items do is tested elsewhere.
+//! Names each public item that users rely on, by its path and with its signature, so that none of them can move, change or go
+//! without this crate failing to compile. What the items do is tested elsewhere.
 #![tactic(auto)]
 
 pub mod of_crashlab;

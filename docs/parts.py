@@ -163,6 +163,16 @@ def crates() -> str:
 # ---- files
 
 
+def algorithms() -> str:
+    """The texts of algorithms: what each promises, and its first comment."""
+    rows = ["| text | promises | what it is |", "|---|---|---|"]
+    for file in sorted(name for name in repository_files() if re.fullmatch(r"examples/algorithms/[\w-]+\.lock", name)):
+        comment, promises = re.search(r"^# (.*)", text_of(file)), re.search(r"^promises (.*)", text_of(file), re.M)
+        assert comment and promises
+        rows.append(f"| `{os.path.basename(file)}` | {promises[1]} | {cell(comment[1])} |")
+    return "\n".join(rows) + "\n"
+
+
 def shown(words: str) -> str:
     """A file as a block, or its lines A to B of `A B FILE`."""
     *between, name = words.split()
@@ -186,7 +196,7 @@ def part(name: str) -> str:
         return numbered(rest)
     if kind in ("file", "lines"):
         return shown(rest)
-    return {"statuses": statuses, "answers": answers, "wrong bodies": wrong_bodies, "crates": crates}[name]()
+    return {"statuses": statuses, "answers": answers, "wrong bodies": wrong_bodies, "crates": crates, "algorithms": algorithms}[name]()
 
 
 def pages() -> Iterator[tuple[str, str]]:

@@ -43,6 +43,7 @@ MADE_PARTS = {
     "docs/use/tour.md": "docs/from-sources",
     "docs/dev/architecture.md": "docs/from-sources",
     "docs/dev/testing.md": "docs/from-sources",
+    "examples/algorithms/README.md": "docs/from-sources",
     "docs/use/c.md": "docs/from-sources",  # And its table of calls c/man-pages.
 }
 

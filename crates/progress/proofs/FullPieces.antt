@@ -1,5 +1,5 @@
 -- Each process can always move by a start or a step, so a full piece can always follow.
-use Rattle.std.proofs.Common.{◌≡◌, ◌≢◌, ℕ, zero, suc, ◌<◌, ◌≤◌, true, false, not, ◌&&◌, ◌==◌, nat_lt, List, [], ◌∷◌, All, Option, Some, None, IsSome, IfSome, refl, sym, ap, subst, inl, inr, arith, eq-eqb}
+use Rattle.std.proofs.Common.{◌≡◌, ◌≢◌, ℕ, zero, suc, ◌<◌, ◌≤◌, true, false, ◌&&◌, ◌==◌, nat_lt, List, [], ◌∷◌, All, Option, Some, None, IsSome, IfSome, refl, sym, subst, inl, inr, arith, eq-eqb}
 use Rattle.std.proofs.lemmas.List.Elements.{All-nil, All-cons}
 use Rattle.progress.proofs.Common.{cases_Bool, cases_eq, and_from, or_left, or_right, Lock, Unlock, Place, Rest, Dead, Reread, Door, Wait, Inside, next, Event, Starts, Steps, process, started, World, May, after, Run, is_glance, is_move, moves}
 use Rattle.progress.specs.Pieces.{IsOrdinary, HasFullPiece}

@@ -13,3 +13,4 @@ pub mod WaitFree
 pub mod Takes
 pub mod Unspent
 pub mod FullPieces
+pub mod WorldWaiting

@@ -4,3 +4,4 @@ pub mod BoundedWaiting
 pub mod Bypass
 pub mod WaitFree
 pub mod UnspentNumbers
+pub mod WorldWaiting

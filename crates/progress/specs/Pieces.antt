@@ -22,7 +22,7 @@ moves q [] = false
 moves q (e ∷ es) = ((process e == q) && is_move e) || moves q es
 
 -- the pieces, one after another
-abbrev pub joined : List (List Event) → List Event
+abbrev pub joined : {A : Type 0} → List (List A) → List A
 joined [] = []
 joined (piece ∷ pieces) = piece ++ joined pieces
 

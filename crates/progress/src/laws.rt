@@ -8,11 +8,21 @@ ghost use Rattle.rmecore.specs.World.{World, at_rest, Run, final};
 ghost use Rattle.rmecore.specs.Lawful.{IsLawful, all_dead};
 ghost use Rattle.rmecore.specs.declared.core_call.CoreCall.TheVariants.{Lock, Recover};
 ghost use Rattle.rmecore.specs.declared.own.Own.{Own};
+ghost use Rattle.redomail.specs.Layout.{Words};
+ghost use Rattle.rmeworld.specs.ImageRules.{layout_of, IsLawfulImage};
+ghost use Rattle.rmeworld.specs.ProcessState.{WorldEvent};
+ghost use Rattle.rmeworld.specs.Reached.{crashed_global_state};
+ghost use Rattle.rmeworld.specs.World.{at_first, Execution, last_global_state};
+ghost use Rattle.rmeworld.specs.WorldState.{global_state_of, image_world};
 ghost use Rattle.progress.specs.BoundedWaiting.{WorkIsBounded, WaitingIsBounded};
 ghost use Rattle.progress.specs.Bypass.{EntersOnce, EntersOnceWhileReady, IsInDoorway, LaterWaitsForDoorway};
 ghost use Rattle.progress.specs.Pieces.{HasFullPiece};
 ghost use Rattle.progress.specs.WaitFree.{LeavesWithin, IsBeforeLine, IsRereading, IsLeaving, IsRecovering};
 ghost use Rattle.progress.specs.UnspentNumbers.{NumbersAreUnspent};
+ghost use Rattle.progress.specs.WorldWaiting.{WorldWaitingIsBounded};
+
+use redomail::Layout;
+use rmeworld::image::Image;
 
 /// The law of work. While a process in line has not entered, at most `(n - 1)(6n + 13) + 8` starts and steps that are neither
 /// blocked nor a glance are made by all processes together. Each disturbance adds `3n + 4`. Nothing is asked of a scheduler.
@@ -31,6 +41,20 @@ pub fn waiting_is_bounded()
         → WaitingIsBounded n limit (final n limit at_rest events) p }
     ensures later { (n limit p : ℕ) (words : ℕ → Own) (events : List Event) → p < n → IsLawful n limit words
         → Run n limit (all_dead words) events → WaitingIsBounded n limit (final n limit (all_dead words) events) p }
+{}
+
+/// Bounded waiting in a whole world, from all words 0, from lawful lock words with all processes crashed (`later`) and from each
+/// lawful image. A process in line enters within as many pieces, in each of which each process that owes a step of the lock
+/// takes one. The steps of a task are none of these, so a holder may hold the others up by tasks without end.
+pub fn waiting_in_a_world_is_bounded()
+    ensures new { (l : Layout) (limit p : ℕ) (execution : List WorldEvent) → p < l.procs → Execution l limit at_first execution
+        → WorldWaitingIsBounded l limit (last_global_state l limit at_first execution) p }
+    ensures later { (l : Layout) (limit p : ℕ) (words : ℕ → Own) (cells : Words) (execution : List WorldEvent) → p < l.procs
+        → IsLawful l.procs limit words → let first = crashed_global_state l.procs words cells in
+        Execution l limit first execution → WorldWaitingIsBounded l limit (last_global_state l limit first execution) p }
+    ensures image { (i : Image) (p : ℕ) (execution : List WorldEvent) → IsLawfulImage i → p < (layout_of i).procs
+        → let first = global_state_of (image_world i) in Execution (layout_of i) i.limit first execution
+        → WorldWaitingIsBounded (layout_of i) i.limit (last_global_state (layout_of i) i.limit first execution) p }
 {}
 
 /// Bounded overtaking in line. While a process is in line, each other process enters once at most, whatever crashes and gives

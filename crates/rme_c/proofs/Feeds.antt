@@ -75,6 +75,7 @@ idle_fed p x v here eight fits idle b =
       kept = λ h. absurd (omega (arith, h));
       few = omega arith;
       steps = rw idles refl;
+      idle = λ none. refl;
     }
 
 fits_landing : (p : RmeProcess) (q : RmePosition) (from to : Stage) (checks : Bool) → Fits p (Lock from) → Fits (record p { position = q }) (landing checks to)
@@ -127,6 +128,7 @@ module _ (p : RmeProcess) (t : Stage) (v : ℕ) (r : Landing) (q : RmeProcess) (
         kept = is.kept;
         few = is.few;
         steps = rw (busy_at p (Lock t) here busy) (ap (λ (z : RmeProcess). z.steps) is.process);
+        idle = λ none. let busy = busy_at p (Lock t) here busy in cc;
       }
 
 -- a step that is taken, encoded as numbers, with its code
@@ -148,4 +150,5 @@ step_fed p x v m q y t b a code n o here busy step there same shows kept few pro
           ∙ ap (λ (z : Position). shown p.procs (outcome (machine_state_at p z) (next_access (machine_state_at p z)) v).answer (next_access (machine_state_at q y))) (sym here)
           ∙ ap (λ (z : Position). shown p.procs (outcome (machine_state_of p) (next_access (machine_state_of p)) v).answer (next_access (machine_state_at q z))) (sym there);
       steps = rw (busy_at p x here busy) steps;
+      idle = λ none. let busy = busy_at p x here busy in cc;
     }

@@ -7,6 +7,7 @@ pub mod Numbers
 pub mod Feeds
 pub mod RunSteps
 pub mod RunFeeds
+pub mod RunCodes
 pub mod WholeCalls
 pub mod StoredAll
 pub mod AppendStarts

@@ -1,5 +1,5 @@
 -- A run that is fed, and the run that comes next.
-use Rattle.std.proofs.Common.{◌≡◌, ℕ, zero, suc, min, ◌+◌, ◌*◌, ◌<◌, ◌≤◌, false, is_none, List, [], ◌∷◌, ◌++◌, length, Option, Some, None, refl, sym, ap, ◌∙◌, subst, eq-eqb, arith}
+use Rattle.std.proofs.Common.{◌≡◌, ℕ, zero, suc, min, ◌+◌, ◌*◌, ◌<◌, ◌≤◌, true, false, Bool, if◌then◌else◌, IfSome, is_none, List, [], ◌∷◌, ◌++◌, length, Option, Some, None, refl, sym, ap, ◌∙◌, subst, eq-eqb, arith}
 use Rattle.rme_c.proofs.Common.{lt-ltb, Access, Stage, place_of, above, above_past, first, Position, Lock, Within, RmeProcess, machine_state_at, machine_state_of, position_of, stage_of, IsFed, IsStep, MachineState, Told, held, next_access, outcome, stepped}
 use Rattle.rme_c.proofs.Feeds.{busy_told}
 use Rattle.rme_c.proofs.Numbers.{stands}
@@ -70,6 +70,17 @@ module _ (p : RmeProcess) where
   marks_next js k none =
       subst (λ l. IsNextRun (place_at p (Wait k l None)) n own run.Marks) (sym none)
       (record { some = omega arith; each = (refl, (rw (eq-eqb own own refl) refl, tt)) })
+
+  -- a wait with a process left, which was looked at or not
+  pub look_next : (i k j : ℕ) (looked : Bool) (o : Option Run) → o ≡ (if looked then None else Some (run.Looks j)) → first (above n own i) ≡ Some j → above n own j ≡ above n own i
+      → IfSome o (λ r. IsNextRun (place_at p (Wait k (above n own i) (if looked then first (above n own i) else None))) n own r)
+  look_next i k j true o e f same = rw e tt
+  look_next i k j false o e f same = rw e (looks_next i k j f same)
+
+  -- a wait with none left
+  pub mark_next : (js : List ℕ) (k : ℕ) (looked : Bool) → js ≡ [] → IsNextRun (place_at p (Wait k js (if looked then first js else None))) n own run.Marks
+  mark_next js k true none = subst (λ l. IsNextRun (place_at p (Wait k l (first l))) n own run.Marks) (sym none) (marks_next [] k refl)
+  mark_next js k false none = marks_next js k none
 
   abbrev ends : List Access
   ends = Store kind.Mark (word.Inside own) 1 ∷ Load kind.Get (word.Data 0) ∷ []
@@ -205,7 +216,7 @@ module _ (p : RmeProcess) (x : RmePosition) (steps : ℕ) (a : RmeAccess) (r : �
   abbrev others : List ℕ
   others = above p.procs p.index 0
 
-  opened_go : (k c : ℕ) → k + 1 ≡ p.procs → c + k + 1 ≤ 18446744073709551615 → GoesOn (told (fed_zeros k (reached p Opening c)).machine 0)
+  pub opened_go : (k c : ℕ) → k + 1 ≡ p.procs → c + k + 1 ≤ 18446744073709551615 → GoesOn (told (fed_zeros k (reached p Opening c)).machine 0)
   opened_go zero c all most = told_goes p Opening (Store kind.Open (word.Choosing p.index) 1) 0 refl refl refl
   opened_go (suc k) c all most =
       let l = length_others p.procs p.index below in
@@ -238,7 +249,7 @@ module _ (p : RmeProcess) (x : RmePosition) (steps : ℕ) (a : RmeAccess) (r : �
     abbrev number : ℕ
     number = m + 1
 
-    shut_go : (k : ℕ) → k + 1 ≡ 2 * p.procs → c + k + 1 ≤ 18446744073709551615 → GoesOn (told (fed_zeros k (reached p (Door [] m) c)).machine 0)
+    pub shut_go : (k : ℕ) → k + 1 ≡ 2 * p.procs → c + k + 1 ≤ 18446744073709551615 → GoesOn (told (fed_zeros k (reached p (Door [] m) c)).machine 0)
     shut_go zero all most = absurd (omega (arith, all))
     shut_go (suc zero) all most =
         subst (λ (y : Counted). GoesOn (told y.machine 0)) (sym (taken p m 0 c free (omega (arith, most))))

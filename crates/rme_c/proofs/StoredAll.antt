@@ -1,9 +1,10 @@
 -- An append by one feed.
-use Rattle.std.proofs.Common.{◌≡◌, ℕ, zero, suc, min, ◌+◌, ◌*◌, ◌<◌, ◌≤◌, false, List, [], ◌∷◌, ◌++◌, length, take, drop, slice_index, None, refl, sym, ap, ◌∙◌, subst, arith, length-take}
-use Rattle.rme_c.proofs.Common.{Place, Reply, Done, Script, puts, store_steps, record_of, length-store_steps, step-record, step-commit, step-entry, step-last, step-count, step-disarm, held, Purpose, next_access, access_by, Position, Within, RmeProcess, purpose_of, layout_of, machine_state_at, Fits, position_of, Told, IsStep, stepped}
+use Rattle.std.proofs.Common.{◌≡◌, ◌↔◌, ℕ, zero, suc, min, ◌+◌, ◌*◌, ◌<◌, ◌≤◌, false, List, [], ◌∷◌, ◌++◌, length, take, drop, slice_index, None, refl, sym, ap, ◌∙◌, subst, arith, length-take}
+use Rattle.rme_c.proofs.Common.{Place, Reply, Done, Script, puts, store_steps, record_of, length-store_steps, step-record, step-commit, step-entry, step-last, step-count, step-disarm, held, Purpose, MachineState, next_access, access_by, Position, Lock, Within, RmeProcess, purpose_of, layout_of, machine_state_at, Fits, position_of, Told, IsStep, stepped}
 use Rattle.redomail.specs.declared.reply.Reply.TheVariants.{Stored}
 use Rattle.redomail.specs.Layout.{place_at, last_at}
 use Rattle.rmecore.specs.Place as place
+use Rattle.rmecore.specs.declared.stage.Stage.TheVariants as stage
 use Rattle.rmeworld.specs.ProcessState.{Doing}
 use Rattle.rme_c.specs.Codes.{shown}
 use Rattle.rme_c.specs.declared.process.RmeAccess.{RmeAccess}
@@ -138,6 +139,12 @@ module _ (p : RmeProcess) (eight : length p.value ≡ 8) (at seq : ℕ) (fits : 
         ends = done;
       }
 
+-- the first of some stores that come next
+pub first_store : (k : ℕ) (c : Counted) → 0 < k → IsStores k c → IsStore (next_access c.machine)
+first_store zero c some h = absurd (omega (arith, some))
+first_store (suc zero) c some h = h.1
+first_store (suc (suc k)) c some h = first_store (suc k) c (omega arith) h.0
+
 module _ (p : RmeProcess) (seq closed count last : ℕ) (here : position_of p ≡ Within (script_position.Closed seq)) (few : p.steps < 4611686018427387904) where
   abbrev third : Position
   third = Within (script_position.Last seq closed count)
@@ -161,12 +168,19 @@ module _ (p : RmeProcess) (seq closed count last : ℕ) (here : position_of p �
       let led : counted_at m (m.steps + 3) there ≡ fed_once (counted_at p (p.steps + 2) third) last = λ i. record { machine = exact i; steps = more i } in
       subst (λ x. IsStored x q s a) (led ∙ ap (λ x. fed_once x last) asked_from) makes
 
-  pub appended : (q : RmeProcess) (s : RmeStores) (a : RmeAccess) → (s.count ≡ 0 → IsFedRun (fed_two (counted_of p) closed count) last q a s.told) → (0 < s.count → IsStored (fed_once (fed_two (counted_of p) closed count) last) q s a) → IsAppended p closed count last q s a
-  appended q s a ended stored =
+  -- the third load leads to an answer
+  pub no_store : (m : RmeProcess) (y : Position) (t : Told) → IsStep p third last m y t → y ≡ Lock stage.Inside → IsStore (next_access (fed_once (fed_two (counted_of p) closed count) last).machine) → ⊥
+  no_store m y t step is h =
+      let led : (fed_once (fed_two (counted_of p) closed count) last).machine ≡ machine_state_at m (Lock stage.Inside) = ap (λ x. (fed_once x last).machine) (sym asked_from) ∙ sym step.exact ∙ ap (machine_state_at m) is in
+      subst (λ (z : MachineState). IsStore (next_access z)) led h
+
+  pub appended : (q : RmeProcess) (s : RmeStores) (a : RmeAccess) → ((0 < s.count) ↔ IsStore (next_access (fed_once (fed_two (counted_of p) closed count) last).machine)) → (s.count ≡ 0 → IsFedRun (fed_two (counted_of p) closed count) last q a s.told) → (0 < s.count → IsStored (fed_once (fed_two (counted_of p) closed count) last) q s a) → IsAppended p closed count last q s a
+  appended q s a when ended stored =
       record {
         loads_closed = ap (λ y. next_access (machine_state_at p y)) here;
         loads_count = ap (λ y. next_access (fed_once (counted_at p p.steps y) closed).machine) here;
         loads_last = ap (λ y. next_access (fed_two (counted_at p p.steps y) closed count).machine) here;
+        when = when;
         ended = ended;
         stored = stored;
       }

@@ -1,14 +1,17 @@
 -- A run: accesses that follow one another as long as each load reads 0. C makes them in order, up to the first word that is not
 -- 0, and feeds them at once: that many zeros, and then the last word that it has read.
-use Rattle.std.specs.Prelude.{◌≡◌, ℕ, zero, suc, ◌+◌, ◌-◌, ◌<◌, ◌≤◌, ◌==◌, nat_lt, is_none, if◌then◌else◌, List, [], ◌∷◌, ◌++◌, length, Some, None, IfSome, ◌⊎◌}
+use Rattle.std.specs.Prelude.{◌≡◌, ℕ, zero, suc, ◌+◌, ◌-◌, ◌<◌, ◌≤◌, ◌==◌, ◌||◌, nat_lt, nat_le, Bool, is_none, if◌then◌else◌, List, [], ◌∷◌, ◌++◌, length, Option, Some, None, IfSome, ◌⊎◌}
 use Rattle.redomail.specs.Layout.{held}
-use Rattle.rmecore.specs.Place.{above}
+use Rattle.rmecore.specs.Place.{above, Place, Reread, Opening, Door, Wait, Leaving}
+use Rattle.rmecore.specs.declared.core_call.CoreCall.TheVariants.{Lock}
 use Rattle.rmecore.specs.declared.access.Access.{Access}
 use Rattle.rmecore.specs.declared.access.Access.TheVariants.{Load, Store}
 use Rattle.rmecore.specs.declared.kind.Kind.TheVariants.{Reread as Rereads, Open as Opens, Peek as Peeks, Take as Takes, Shut as Shuts, Look as Looks, Weigh as Weighs, Mark as Marks, Drop as Drops, Get as Gets}
 use Rattle.rmecore.specs.declared.word.Word.TheVariants.{Choosing, Number, Inside, Data}
 use Rattle.rmeworld.specs.declared.call.Call.{Call}
 use Rattle.rmeworld.specs.MachineState.{MachineState, started, stepped, next_access, outcome}
+use Rattle.rmeworld.specs.declared.script_state.ScriptState.{ScriptState}
+use Rattle.rmeworld.specs.declared.script_state.ScriptState.TheVariants.{Free, Doing}
 use Rattle.rme_c.specs.declared.position.Position.{Position}
 use Rattle.rme_c.specs.declared.process.RmeAccess.{RmeAccess}
 use Rattle.rme_c.specs.declared.process.RmeCall.{RmeCall}
@@ -100,12 +103,54 @@ pub record IsNextRun (s : MachineState) (n p : ℕ) (r : Run) : Type 0 where
   pub some : 0 < length (accesses_of n p r)
   pub each : IsRun s (accesses_of n p r)
 
+-- the run that comes next at a place of the lock's part, if one does
+abbrev pub run_at : ℕ → Place → Option Run
+run_at limit (Reread Lock []) = if nat_lt 0 limit then Some run.Locks else None
+run_at limit Opening = Some run.Opens
+run_at limit (Door (j ∷ js) m) = Some (run.Peeks j)
+run_at limit (Door [] m) = if nat_lt m limit then Some (run.Takes (m + 1)) else None
+run_at limit (Wait k (j ∷ js) None) = Some (run.Looks j)
+run_at limit (Wait k [] None) = Some run.Marks
+run_at limit Leaving = Some run.Leaves
+run_at limit _ = None
+
+-- no run comes next while a script is under way
+abbrev pub run_by_parts : ℕ → Place → ScriptState → Option Run
+run_by_parts limit place Free = run_at limit place
+run_by_parts limit place (Doing purpose job) = None
+
+-- the run that comes next, if one does
+abbrev pub next_run : MachineState → Option Run
+next_run s = run_by_parts s.limit s.lock s.script_state
+
+-- `rme_feed` has answered with this code that the call goes on
+abbrev pub goes_on : ℕ → Bool
+goes_on code = (code == 0) || nat_le 64 code
+
+-- the code of a run, or this code where no run comes next
+abbrev pub run_or : ℕ → Option Run → ℕ
+run_or code None = code
+run_or code (Some r) = run_code r
+
+-- the run that is answered in place of this code: the call goes on, and the run comes next
+abbrev pub run_for : ℕ → MachineState → Option Run
+run_for code s = if goes_on code then next_run s else None
+
+-- the code that `rme_feed_run` answers: that of `rme_feed`, or of the run that is answered in its place
+abbrev pub feed_code : ℕ → MachineState → ℕ
+feed_code code s = run_or code (run_for code s)
+
+-- the code that `rme_start_run` answers: that of the refusal, or of the run that comes next
+abbrev pub start_code : ℕ → MachineState → ℕ
+start_code refusal s = if refusal == 0 then run_or 0 (next_run s) else refusal
+
 -- `rme_feed` has answered that the call goes on
 abbrev pub GoesOn : ℕ → Type 0
 GoesOn code = (code ≡ 0) ⊎ (64 ≤ code)
 
 -- a call was started or refused: the code is that of the refusal, of the run that comes next, or 0 with its first access shown
 pub record IsStartedRun (p : RmeProcess) (c : RmeCall) (q : RmeProcess) (b a : RmeAccess) (r : ℕ) : Type 0 where
+  pub code : r ≡ start_code (refusal_code (start_cause (machine_state_of p) c)) (machine_state_of q)
   pub status : r < 256 → r ≡ refusal_code (start_cause (machine_state_of p) c)
   pub allowed : 256 ≤ r → refusal_code (start_cause (machine_state_of p) c) ≡ 0
   pub started : refusal_code (start_cause (machine_state_of p) c) ≡ 0 → IfSome (call_by p.width c) (λ d. machine_state_of q ≡ started (machine_state_of p) d)

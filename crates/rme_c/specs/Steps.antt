@@ -1,5 +1,5 @@
 -- A step from a position, in the numbers of C.
-use Rattle.std.specs.Prelude.{◌≡◌, ℕ, ◌+◌, ◌<◌, ◌≤◌, ◌==◌, not, is_none, if◌then◌else◌, Bool, Option}
+use Rattle.std.specs.Prelude.{◌≡◌, ℕ, ◌+◌, ◌<◌, ◌≤◌, ◌==◌, not, is_none, if◌then◌else◌, Bool, true, Option}
 use Rattle.redomail.specs.declared.layout.Layout.{Layout}
 use Rattle.redomail.specs.Layout.{held}
 use Rattle.rmeworld.specs.Answered.{by_lock}
@@ -48,3 +48,4 @@ pub record IsFed (p : RmeProcess) (v : ℕ) (q : RmeProcess) (b a : RmeAccess) (
   pub kept : 64 ≤ r → a ≡ b
   pub few : r < 256
   pub steps : q.steps ≡ if is_none (next_access (machine_state_of p)) then p.steps else held (p.steps + 1)
+  pub idle : is_none (next_access (machine_state_of p)) ≡ true → q ≡ p

@@ -1,5 +1,5 @@
 -- An append by one feed: the three words that it loads first, and its stores, which are named all together.
-use Rattle.std.specs.Prelude.{◌≡◌, ℕ, zero, suc, ◌+◌, ◌<◌, Bool, true, false, List, [], ◌∷◌, ◌++◌, take, Option, Some, None}
+use Rattle.std.specs.Prelude.{◌≡◌, ◌↔◌, ℕ, zero, suc, ◌+◌, ◌<◌, Bool, true, false, List, [], ◌∷◌, ◌++◌, take, Option, Some, None}
 use Rattle.redomail.specs.Layout.{last_at}
 use Rattle.redomail.specs.declared.reply.Reply.TheVariants.{Stored}
 use Rattle.redomail.specs.declared.stage.JobStage.{JobStage}
@@ -67,11 +67,12 @@ pub record IsStored (c : Counted) (q : RmeProcess) (s : RmeStores) (a : RmeAcces
 abbrev pub fed_two : Counted → ℕ → ℕ → Counted
 fed_two c v w = fed_once (fed_once c v) w
 
--- the process was at the first load of an append, and was fed what it loads: closed, count and its own last number. If no stores are named,
--- that is all; else it was fed its stores too
+-- the process was at the first load of an append, and was fed what it loads: closed, count and its own last number. Stores are named
+-- where one comes next, and then it was fed them too; else that is all
 pub record IsAppended (p : RmeProcess) (closed count last : ℕ) (q : RmeProcess) (s : RmeStores) (a : RmeAccess) : Type 0 where
   pub loads_closed : next_access (counted_of p).machine ≡ Some (Load Gets (Data 1))
   pub loads_count : next_access (fed_once (counted_of p) closed).machine ≡ Some (Load Gets (Data 2))
   pub loads_last : next_access (fed_two (counted_of p) closed count).machine ≡ Some (Load Gets (Data (last_at (layout_of p) p.index)))
+  pub when : (0 < s.count) ↔ IsStore (next_access (fed_once (fed_two (counted_of p) closed count) last).machine)
   pub ended : s.count ≡ 0 → IsFedRun (fed_two (counted_of p) closed count) last q a s.told
   pub stored : 0 < s.count → IsStored (fed_once (fed_two (counted_of p) closed count) last) q s a

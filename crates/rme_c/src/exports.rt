@@ -7,12 +7,13 @@ ghost use Rattle.rmeworld.specs.MachineState.{resting, crashed, started, stepped
 ghost use Rattle.rme_c.specs.Blocks.{is_block as is_block_of, image_of};
 ghost use Rattle.rme_c.specs.Codes.{refusal_code as code_of_refusal, told as told_of, wanted as wanted_of, shown as shown_of};
 ghost use Rattle.rme_c.specs.Positions.{machine_state_at, machine_state_of, position_of, stage_now, Fits};
-ghost use Rattle.rme_c.specs.Runs.{counted_of, fed_zeros, IsFedRun, IsStartedRun, IsWholeCall};
+ghost use Rattle.rme_c.specs.Runs.{counted_of, fed_zeros, feed_code, IsFedRun, IsStartedRun, IsWholeCall};
 ghost use Rattle.rme_c.specs.Starts.{size_cause, call_by, refusal_of, start_cause};
 ghost use Rattle.rme_c.specs.Steps.{IsFed};
 ghost use Rattle.rme_c.specs.declared.script_position.ScriptPosition.TheVariants as ScriptPositionOf;
 ghost use Rattle.rme_c.specs.declared.position.Position.TheVariants as PositionOf;
 ghost use Rattle.rme_c.specs.declared.runs.Run.TheVariants as RunOf;
+ghost use Rattle.rmecore.specs.declared.stage.Stage.TheVariants as StageOf;
 ghost use Rattle.rmeworld.specs.declared.call.Call.TheVariants as CallOf;
 
 use crate::accesses::next_at;
@@ -147,7 +148,8 @@ pub(crate) fn check_feed(p: &mut RmeProcess, value: u64, steps: u64, next: &mut 
     requires fits { Fits p.old (PositionOf.Within ScriptPositionOf.Checking) }
     requires eight { length p.old.value ≡ 8 }
     requires steps { steps ≡ p.old.steps + 1 }
-    ensures { IsFed p.old value p.new next.old next.new result }
+    ensures fed { IsFed p.old value p.new next.old next.new result }
+    ensures inside { value ≢ 1 → position_of p.new ≡ PositionOf.Lock StageOf.Inside }
 {
     // For the proof alone: its value is read.
     let _whole = *p;
@@ -329,6 +331,7 @@ pub extern "C" fn rme_feed(p: &mut RmeProcess, value: u64, next: &mut RmeAccess)
     ensures kept { 64 ≤ result → next.new ≡ next.old }
     ensures few { result < 256 }
     ensures steps { p.new.steps ≡ if is_none (next_access (machine_state_of p.old)) then p.old.steps else held (p.old.steps + 1) }
+    ensures idle { is_none (next_access (machine_state_of p.old)) ≡ true → p.new ≡ p.old }
 {
     // For the proof alone: its value is read.
     let _whole = *p;
@@ -409,7 +412,10 @@ pub extern "C" fn rme_feed_run(
     value: u64,
     next: &mut RmeAccess,
 ) -> u64
-    ensures { IsFedRun (fed_zeros zeros (counted_of p.old)) value p.new next.new result }
+    ensures fed { IsFedRun (fed_zeros zeros (counted_of p.old)) value p.new next.new result }
+    ensures code { result ≡ feed_code (told_of (fed_zeros zeros (counted_of p.old)).machine value) (machine_state_of p.new) }
+    // No call is under way: nothing is done.
+    ensures kept { is_none (next_access (machine_state_of p.old)) ≡ true → p.new ≡ p.old }
 {
     // For the proof alone: its value is read.
     let _whole = *p;

@@ -1,13 +1,15 @@
 //! Runs: accesses that follow one another as long as each load reads 0. C is given a run as one number, makes its accesses in
 //! order up to the first word that is not 0, and feeds what it has read in one call.
 
-ghost use Rattle.std.specs.Prelude.{◌≡◌, ◌+◌, ◌*◌, ◌<◌, ◌≤◌, IfSome, None, false, length};
+ghost use Rattle.std.specs.Prelude.{◌≡◌, ◌≢◌, ◌+◌, ◌*◌, ◌<◌, ◌≤◌, IfSome, Some, None, true, false, is_none, if◌then◌else◌, length};
 ghost use Rattle.rmecore.specs.Machine.{first as first_of};
 ghost use Rattle.rmecore.specs.Place.{above};
 ghost use Rattle.rmecore.specs.declared.core_call.CoreCall.TheVariants as CallOf;
 ghost use Rattle.rmecore.specs.declared.stage.Stage.TheVariants as StageOf;
+ghost use Rattle.rmeworld.specs.MachineState.{next_access};
+ghost use Rattle.rme_c.specs.Codes.{told as told_of};
 ghost use Rattle.rme_c.specs.Positions.{layout_of, machine_state_at, machine_state_of, position_of, Fits};
-ghost use Rattle.rme_c.specs.Runs.{counted_of, fed_zeros, run_code, run_by, BeginsBelow, GoesOn, IsNextRun, IsFedRun, IsWholeCall};
+ghost use Rattle.rme_c.specs.Runs.{counted_of, fed_zeros, run_code, run_by, next_run as run_next, run_for, run_or, feed_code, BeginsBelow, GoesOn, IsNextRun, IsFedRun, IsWholeCall};
 ghost use Rattle.rme_c.specs.Starts.{size_cause};
 ghost use Rattle.rme_c.specs.declared.position.Position.TheVariants as Position;
 ghost use Rattle.rme_c.specs.declared.runs.Run.TheVariants as RunOf;
@@ -48,6 +50,7 @@ fn first_run(p: &RmeProcess, call: CoreCall) -> Option<Run>
     requires { Fits p.now (Position.Lock (StageOf.ReadingChoosing call)) }
     ensures is { IfSome result (λ r. IsNextRun (machine_state_at p.now (Position.Lock (StageOf.ReadingChoosing call)))
         p.now.procs p.now.index r) }
+    ensures next { result ≡ run_next (machine_state_at p.now (Position.Lock (StageOf.ReadingChoosing call))) }
     ensures below { IfSome result BeginsBelow }
 {
     match call {
@@ -63,6 +66,7 @@ fn door_run(p: &RmeProcess, next: u64, greatest: u64) -> Option<Run>
     requires { Fits p.now (Position.Lock (StageOf.Door next greatest)) }
     ensures is { IfSome result (λ r. IsNextRun (machine_state_at p.now (Position.Lock (StageOf.Door next greatest)))
         p.now.procs p.now.index r) }
+    ensures next { result ≡ run_next (machine_state_at p.now (Position.Lock (StageOf.Door next greatest))) }
     ensures below { IfSome result BeginsBelow }
 {
     match first(p, next) {
@@ -72,19 +76,30 @@ fn door_run(p: &RmeProcess, next: u64, greatest: u64) -> Option<Run>
     }
 }
 
-/// The run that begins in a wait.
+/// The run that begins with a look at this process. None: it was taken already.
 // Inline: once in each run.
 #[inline(always)]
-fn wait_run(p: &RmeProcess, number: u64, next: u64) -> Run
-    requires { Fits p.now (Position.Lock (StageOf.Wait number next false)) }
-    ensures is { IsNextRun (machine_state_at p.now (Position.Lock (StageOf.Wait number next false))) p.now.procs p.now.index result }
-    ensures below { BeginsBelow result }
+fn look_run(j: u64, looked: bool) -> Option<Run>
+    ensures { result ≡ if looked then None else Some (RunOf.Looks j) }
+{
+    if looked { None } else { Some(Run::Looks(j)) }
+}
+
+/// The run that begins in a wait, if one does.
+// Inline: once in each run.
+#[inline(always)]
+fn wait_run(p: &RmeProcess, number: u64, next: u64, looked: bool) -> Option<Run>
+    requires { Fits p.now (Position.Lock (StageOf.Wait number next looked)) }
+    ensures is { IfSome result (λ r. IsNextRun (machine_state_at p.now (Position.Lock (StageOf.Wait number next looked)))
+        p.now.procs p.now.index r) }
+    ensures next { result ≡ run_next (machine_state_at p.now (Position.Lock (StageOf.Wait number next looked))) }
+    ensures below { IfSome result BeginsBelow }
 {
     // For the proof alone: its value is read.
     let _ = number;
     match first(p, next) {
-        Some(j) => Run::Looks(j),
-        None => Run::Marks,
+        Some(j) => look_run(j, looked),
+        None => Some(Run::Marks),
     }
 }
 
@@ -94,6 +109,7 @@ fn wait_run(p: &RmeProcess, number: u64, next: u64) -> Run
 fn run_at(p: &RmeProcess, stage: Stage) -> Option<Run>
     requires { Fits p.now (Position.Lock stage) }
     ensures is { IfSome result (λ r. IsNextRun (machine_state_at p.now (Position.Lock stage)) p.now.procs p.now.index r) }
+    ensures next { result ≡ run_next (machine_state_at p.now (Position.Lock stage)) }
     ensures below { IfSome result BeginsBelow }
 {
     match stage {
@@ -103,8 +119,8 @@ fn run_at(p: &RmeProcess, stage: Stage) -> Option<Run>
         Stage::Wait {
             number,
             next,
-            looked: false,
-        } => Some(wait_run(p, number, next)),
+            looked,
+        } => wait_run(p, number, next, looked),
         Stage::Leaving => Some(Run::Leaves),
         _ => None,
     }
@@ -115,6 +131,7 @@ fn run_at(p: &RmeProcess, stage: Stage) -> Option<Run>
 #[inline(always)]
 fn run_now(p: &RmeProcess) -> Option<Run>
     ensures is { IfSome result (λ r. IsNextRun (machine_state_of p.now) p.now.procs p.now.index r) }
+    ensures next { result ≡ run_next (machine_state_of p.now) }
     ensures below { IfSome result BeginsBelow }
 {
     run_at(p, lock_stage(p)?)
@@ -153,8 +170,10 @@ fn locked(p: &mut RmeProcess, zeros: u64, value: u64, steps: u64, next: &mut Rme
     requires eight { length p.old.value ≡ 8 }
     requires some { 0 < p.old.limit }
     requires whole { zeros ≡ 3 * p.old.procs + 4 }
+    requires sound { value ≢ 1 }
     requires steps { steps ≡ p.old.steps + zeros + 1 }
-    ensures { IsFedRun (fed_zeros zeros (counted_of p.old)) value p.new next.new result }
+    ensures fed { IsFedRun (fed_zeros zeros (counted_of p.old)) value p.new next.new result }
+    ensures code { result ≡ feed_code (told_of (fed_zeros zeros (counted_of p.old)).machine value) (machine_state_of p.new) }
 {
     let q = p.position;
     p.unmended = 0;
@@ -174,7 +193,8 @@ fn peeked(p: &mut RmeProcess, zeros: u64, value: u64, steps: u64, next: &mut Rme
     requires some { 0 < p.old.limit }
     requires zero { value ≡ 0 }
     requires steps { steps ≡ p.old.steps + zeros + 1 }
-    ensures { IsFedRun (fed_zeros zeros (counted_of p.old)) value p.new next.new result }
+    ensures fed { IsFedRun (fed_zeros zeros (counted_of p.old)) value p.new next.new result }
+    ensures code { result ≡ feed_code (told_of (fed_zeros zeros (counted_of p.old)).machine value) (machine_state_of p.new) }
 {
     // For the proof alone: its value is read.
     let _ = (zeros, value);
@@ -203,7 +223,8 @@ fn passed(
     requires free { greatest < p.old.limit }
     requires zero { value ≡ 0 }
     requires steps { steps ≡ p.old.steps + zeros + 1 }
-    ensures { IsFedRun (fed_zeros zeros (counted_of p.old)) value p.new next.new result }
+    ensures fed { IsFedRun (fed_zeros zeros (counted_of p.old)) value p.new next.new result }
+    ensures code { result ≡ feed_code (told_of (fed_zeros zeros (counted_of p.old)).machine value) (machine_state_of p.new) }
 {
     // For the proof alone: its value is read.
     let _ = (zeros, value, from);
@@ -230,8 +251,10 @@ fn marked(
     requires few { p.old.procs ≤ 64 }
     requires eight { length p.old.value ≡ 8 }
     requires one { zeros ≡ 1 }
+    requires sound { value ≢ 1 }
     requires steps { steps ≡ p.old.steps + zeros + 1 }
-    ensures { IsFedRun (fed_zeros zeros (counted_of p.old)) value p.new next.new result }
+    ensures fed { IsFedRun (fed_zeros zeros (counted_of p.old)) value p.new next.new result }
+    ensures code { result ≡ feed_code (told_of (fed_zeros zeros (counted_of p.old)).machine value) (machine_state_of p.new) }
 {
     // For the proof alone: its value is read.
     let _ = (number, from, zeros);
@@ -252,7 +275,8 @@ fn left(p: &mut RmeProcess, zeros: u64, value: u64, steps: u64, next: &mut RmeAc
     requires eight { length p.old.value ≡ 8 }
     requires one { zeros ≡ 1 }
     requires steps { steps ≡ p.old.steps + zeros + 1 }
-    ensures { IsFedRun (fed_zeros zeros (counted_of p.old)) value p.new next.new result }
+    ensures fed { IsFedRun (fed_zeros zeros (counted_of p.old)) value p.new next.new result }
+    ensures code { result ≡ feed_code (told_of (fed_zeros zeros (counted_of p.old)).machine value) (machine_state_of p.new) }
 {
     // For the proof alone: its value is read.
     let _ = zeros;
@@ -288,8 +312,8 @@ pub fn leave(p: &mut RmeProcess, next: &mut RmeAccess) -> u64
     stage_feed(p, stage, 0, 2, next)
 }
 
-/// Takes the steps of a whole run of which each reads 0, or of one that ends its call. None: it is another feed, and nothing
-/// changed.
+/// Takes the steps of a whole run of which each reads 0, or of one that ends its call. A lock that is found ruined goes on, so it
+/// is another feed. None: it is another feed, and nothing changed.
 // Inline: once in each run.
 #[inline(always)]
 fn whole_run(
@@ -305,12 +329,15 @@ fn whole_run(
     requires eight { length p.old.value ≡ 8 }
     requires steps { steps ≡ p.old.steps + zeros + 1 }
     ensures fed { IfSome result (λ r. IsFedRun (fed_zeros zeros (counted_of p.old)) value p.new next.new r) }
+    ensures code { IfSome result
+        (λ r. r ≡ feed_code (told_of (fed_zeros zeros (counted_of p.old)).machine value) (machine_state_of p.new)) }
     ensures none { result ≡ None → (p.new ≡ p.old) × (next.new ≡ next.old) }
+    ensures busy { result ≢ None → is_none (next_access (machine_state_of p.old)) ≡ false }
 {
     match stage {
         Stage::ReadingChoosing {
             call: CoreCall::Lock,
-        } if zeros == 3 * p.procs + 4 && p.limit > 0 => {
+        } if zeros == 3 * p.procs + 4 && value != 1 && p.limit > 0 => {
             Some(locked(p, zeros, value, steps, next))
         }
         Stage::Opening if zeros + 1 == p.procs && value == 0 && p.limit > 0 => {
@@ -329,7 +356,7 @@ fn whole_run(
             number,
             next: from,
             looked: false,
-        } if zeros == 1 => match first(p, from) {
+        } if zeros == 1 && value != 1 => match first(p, from) {
             None => Some(marked(p, number, from, zeros, value, steps, next)),
             Some(_) => None,
         },
@@ -340,7 +367,8 @@ fn whole_run(
 
 /// Feeds that many zeros one by one.
 fn feed_zeros(p: &mut RmeProcess, zeros: u64, next: &mut RmeAccess)
-    ensures { counted_of p.new ≡ fed_zeros zeros (counted_of p.old) }
+    ensures fed { counted_of p.new ≡ fed_zeros zeros (counted_of p.old) }
+    ensures kept { is_none (next_access (machine_state_of p.old)) ≡ true → p.new ≡ p.old }
 {
     for k in 0..zeros {
         // For the proof alone: its value is read.
@@ -355,11 +383,13 @@ fn feed_zeros(p: &mut RmeProcess, zeros: u64, next: &mut RmeAccess)
 fn next_run(p: &RmeProcess, told: u64) -> Option<Run>
     ensures goes { IfSome result (λ _. GoesOn told) }
     ensures is { IfSome result (λ r. IsNextRun (machine_state_of p.now) p.now.procs p.now.index r) }
+    ensures next { result ≡ run_for told (machine_state_of p.now) }
     ensures below { IfSome result BeginsBelow }
 {
-    match run_now(p) {
-        Some(run) if told == 0 || told >= 64 => Some(run),
-        _ => None,
+    if told == 0 || told >= 64 {
+        run_now(p)
+    } else {
+        None
     }
 }
 
@@ -367,7 +397,9 @@ fn next_run(p: &RmeProcess, told: u64) -> Option<Run>
 // Apart: keeps a common run small.
 #[inline(never)]
 fn fed_singly(p: &mut RmeProcess, zeros: u64, value: u64, next: &mut RmeAccess) -> u64
-    ensures { IsFedRun (fed_zeros zeros (counted_of p.old)) value p.new next.new result }
+    ensures fed { IsFedRun (fed_zeros zeros (counted_of p.old)) value p.new next.new result }
+    ensures code { result ≡ feed_code (told_of (fed_zeros zeros (counted_of p.old)).machine value) (machine_state_of p.new) }
+    ensures kept { is_none (next_access (machine_state_of p.old)) ≡ true → p.new ≡ p.old }
 {
     feed_zeros(p, zeros, next);
     let told = rme_feed(p, value, next);
@@ -382,7 +414,9 @@ fn fed_singly(p: &mut RmeProcess, zeros: u64, value: u64, next: &mut RmeAccess) 
 #[inline(always)]
 pub fn feed_run(p: &mut RmeProcess, zeros: u64, value: u64, next: &mut RmeAccess) -> u64
     requires eight { length p.old.value ≡ 8 }
-    ensures { IsFedRun (fed_zeros zeros (counted_of p.old)) value p.new next.new result }
+    ensures fed { IsFedRun (fed_zeros zeros (counted_of p.old)) value p.new next.new result }
+    ensures code { result ≡ feed_code (told_of (fed_zeros zeros (counted_of p.old)).machine value) (machine_state_of p.new) }
+    ensures kept { is_none (next_access (machine_state_of p.old)) ≡ true → p.new ≡ p.old }
 {
     if p.steps >= MANY || zeros >= MANY {
         return fed_singly(p, zeros, value, next);
@@ -402,6 +436,7 @@ pub fn feed_run(p: &mut RmeProcess, zeros: u64, value: u64, next: &mut RmeAccess
 #[inline(always)]
 pub fn begun(p: &RmeProcess, next: &mut RmeAccess) -> u64
     ensures run { 256 ≤ result → IsNextRun (machine_state_of p.now) p.now.procs p.now.index (run_by result next.new.value) }
+    ensures code { result ≡ run_or 0 (run_next (machine_state_of p.now)) }
     ensures few { result < 256 → (result ≡ 0) × (next.new ≡ next.old) }
 {
     match run_now(p) {

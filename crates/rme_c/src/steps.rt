@@ -1,6 +1,6 @@
 //! The steps of a script on the data words.
 
-ghost use Rattle.std.specs.Prelude.{◌≡◌, Some, None, false, length};
+ghost use Rattle.std.specs.Prelude.{◌≡◌, ◌≢◌, ◌⊎◌, Some, None, false, length};
 ghost use Rattle.rmecore.specs.Machine.{word_of};
 ghost use Rattle.rmecore.specs.declared.access.Access.TheVariants as AccessOf;
 ghost use Rattle.rmecore.specs.declared.kind.Kind.TheVariants as KindOf;
@@ -132,6 +132,7 @@ pub fn checked(p: &mut RmeProcess, value: u64) -> (Position, Told)
     requires { Fits p.old (Position.Within ScriptPosition.Checking) }
     ensures step { IsStep p.old (Position.Within ScriptPosition.Checking) value p.new result.0 result.1 }
     ensures same { p.new ≡ record p.old { barred = p.new.barred } }
+    ensures inside { value ≢ 1 → result.0 ≡ Position.Lock StageOf.Inside }
 {
     if value == 1 {
         p.barred = 1;
@@ -221,6 +222,8 @@ pub fn decided(p: &mut RmeProcess, seq: u64, closed: u64, count: u64, last: u64)
     requires { Fits p.old (Position.Within (ScriptPosition.Last seq closed count)) }
     ensures step { IsStep p.old (Position.Within (ScriptPosition.Last seq closed count)) last p.new result.0 result.1 }
     ensures same { p.new ≡ p.old }
+    ensures ends { (result.0 ≡ Position.Lock StageOf.Inside)
+        ⊎ (result.0 ≡ Position.Within (ScriptPosition.Store count seq 0)) }
 {
     if seq == 0 {
         replied(Reply::OutOfOrder)

@@ -19,7 +19,7 @@ pub record Stands (l : Layout) (w : GlobalState) : Type 0 where
   pub orderly : AllOrderly w
   pub sound : Sound l.procs (core_of w)
 
-stands_last : (l : Layout) (limit : ℕ) (first : GlobalState) (execution : List WorldEvent) → Stands l first → Execution l limit first execution → Stands l (last_global_state l limit first execution)
+pub stands_last : (l : Layout) (limit : ℕ) (first : GlobalState) (execution : List WorldEvent) → Stands l first → Execution l limit first execution → Stands l (last_global_state l limit first execution)
 stands_last l limit first execution h told =
     let r = projected l limit first execution h.held told in
     record {
@@ -28,10 +28,10 @@ stands_last l limit first execution h told =
       sound = subst (Sound l.procs) r.ends (sound_final l.procs limit (core_of first) r.events h.sound r.run);
     }
 
-stands_first : (l : Layout) → Stands l at_first
+pub stands_first : (l : Layout) → Stands l at_first
 stands_first l = record { held = λ p. tt; orderly = λ p. tt; sound = sound_rest l.procs }
 
-stands_crashed : (l : Layout) (limit : ℕ) (words : ℕ → Own) (cells : Words) → IsLawful l.procs limit words → Stands l (crashed_global_state l.procs words cells)
+pub stands_crashed : (l : Layout) (limit : ℕ) (words : ℕ → Own) (cells : Words) → IsLawful l.procs limit words → Stands l (crashed_global_state l.procs words cells)
 stands_crashed l limit words cells lawful =
     let n : ℕ = l.procs in
     record {
@@ -40,7 +40,7 @@ stands_crashed l limit words cells lawful =
       sound = record { lock = start_of words; tied = crashed_tied n limit words cells lawful; awaits = λ p. crashed_at (λ x. Awaits n p x.lock) n p tt tt };
     }
 
-stands_image : (i : Image) → IsLawfulImage i → Stands (layout_of i) (global_state_of (image_world i))
+pub stands_image : (i : Image) → IsLawfulImage i → Stands (layout_of i) (global_state_of (image_world i))
 stands_image i lawful = subst (Stands (layout_of i)) (sym (image_global_state i)) (stands_crashed (layout_of i) i.limit (own_at i.lock) (words_of i.cells) (lawful.lawful (omega arith)))
 
 home_of : (l : Layout) (limit : ℕ) (w : GlobalState) → Stands l w → CanComeHome l limit w

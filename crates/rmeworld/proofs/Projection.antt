@@ -9,6 +9,7 @@ use Rattle.rmecore.specs.Place.{started}
 use Rattle.rmecore.specs.World.{Reads, read, after, deeds}
 use Rattle.rmecore.specs.declared.core_call.CoreCall.TheVariants as core
 use Rattle.redomail.specs.declared.task.Task.TheVariants as task
+use Rattle.rmeworld.specs.LockEvents.{begun_event, exit_event, moved_event, lock_event, event_then, lock_events}
 use Rattle.rmeworld.specs.declared.call.Call.TheVariants.{Get, Put}
 
 -- a process with a script is inside, and the script has a step left
@@ -68,40 +69,44 @@ Tells n limit p words lock lock' words' d None = (lock' ≡ lock) × (words' ≡
 Tells n limit p words lock lock' words' d (Some x) = (process x ≡ p) × (moved n limit lock x ≡ Some lock') × (stored words x ≡ words') × Reads words x × (d ≡ deed lock x)
 
 module _ (l : Layout) (limit : ℕ) (w : GlobalState) (p : ℕ) where
-  abbrev Meets : Place → ProcessState → (ℕ → Own) → Option Outer → Type 0
-  Meets lock s' words' d = ((o : Option Event) × Tells l.procs limit p w.words lock s'.lock words' d o) × Held s'.script_state s'.lock
+  abbrev Meets : Place → ProcessState → (ℕ → Own) → Option Outer → Option Event → Type 0
+  Meets lock s' words' d o = Tells l.procs limit p w.words lock s'.lock words' d o × Held s'.script_state s'.lock
 
   by_lock : (lock : Place) (b c : Bool) (o : Option Place) (s' : ProcessState) (words' : ℕ → Own) (d : Option Outer) (x : Event) → at_lock l p lock b c o ≡ Some s' → process x ≡ p → moved l.procs limit lock x ≡ o → stored w.words x ≡ words' → (IsSome o → Reads w.words x)
-      → d ≡ deed lock x → Meets lock s' words' d
+      → d ≡ deed lock x → Meets lock s' words' d (Some x)
   by_lock lock b c o s' words' d x e same is words reads deed_is =
       let r = at_lock_some l p lock b c o s' e in
       let place_is : r.place ≡ s'.lock = ap (λ (s : ProcessState). s.lock) r.process_state in
-      ((Some x, (same, is ∙ (r.some ∙ ap Some place_is), words, reads (rw r.some refl), deed_is)), subst (λ (s : ProcessState). Held s.script_state s.lock) r.process_state (held_at l p lock r.place))
+      ((same, is ∙ (r.some ∙ ap Some place_is), words, reads (rw r.some refl), deed_is), subst (λ (s : ProcessState). Held s.script_state s.lock) r.process_state (held_at l p lock r.place))
 
-  by_nothing : (lock : Place) (s0 s' : ProcessState) → lock ≡ Inside → s0.lock ≡ Inside → Held s0.script_state s0.lock → s0 ≡ s' → Meets lock s' w.words None
+  by_nothing : (lock : Place) (s0 s' : ProcessState) → lock ≡ Inside → s0.lock ≡ Inside → Held s0.script_state s0.lock → s0 ≡ s' → Meets lock s' w.words None None
   by_nothing lock s0 s' here there held e =
-      ((None, (sym (ap (λ (s : ProcessState). s.lock) e) ∙ (there ∙ sym here), refl, refl)), subst (λ (s : ProcessState). Held s.script_state s.lock) e held)
+      ((sym (ap (λ (s : ProcessState). s.lock) e) ∙ (there ∙ sym here), refl, refl), subst (λ (s : ProcessState). Held s.script_state s.lock) e held)
 
-  by_script_state : (lock : Place) (b c : Bool) (purpose : Purpose) (e : Script Reply) (s' : ProcessState) → lock ≡ Inside → settled b c purpose e ≡ s' → Meets lock s' w.words None
+  by_script_state : (lock : Place) (b c : Bool) (purpose : Purpose) (e : Script Reply) (s' : ProcessState) → lock ≡ Inside → settled b c purpose e ≡ s' → Meets lock s' w.words None (exit_event p s'.lock)
   by_script_state lock b c purpose e s' here is =
       let r = settled_place b c purpose e in
       let held = subst (λ (s : ProcessState). Held s.script_state s.lock) is r.0 in
       elim r.1 [
-        | inl stays ↦ by_nothing lock (settled b c purpose e) s' here stays r.0 is
+        | inl stays ↦
+            let to : s'.lock ≡ Inside = sym (ap (λ (s : ProcessState). s.lock) is) ∙ stays in
+            let none : exit_event p s'.lock ≡ None = ap (exit_event p) to in
+            subst (λ o. Meets lock s' w.words None o) (sym none) (by_nothing lock (settled b c purpose e) s' here stays r.0 is)
         | inr leaves ↦
             (let to : s'.lock ≡ Leaving = sym (ap (λ (s : ProcessState). s.lock) is) ∙ leaves in
-            ((Some (Starts p core.Unlock), (refl, rw (here, to) refl, refl, tt, refl)), held))
+            let some : exit_event p s'.lock ≡ Some (Starts p core.Unlock) = ap (exit_event p) to in
+            subst (λ o. Meets lock s' w.words None o) (sym some) ((refl, rw (here, to) refl, refl, tt, refl), held))
       ]
 
   -- a script that begins inside
-  by_script : (lock : Place) (b fits : Bool) (purpose : Purpose) (left : Script Reply) (s' : ProcessState) → HasStep left → inside_only lock b fits purpose left ≡ Some s' → Meets lock s' w.words None
+  by_script : (lock : Place) (b fits : Bool) (purpose : Purpose) (left : Script Reply) (s' : ProcessState) → HasStep left → inside_only lock b fits purpose left ≡ Some s' → Meets lock s' w.words None None
   by_script lock b fits purpose left s' step e = let r = inside_some lock b fits purpose left s' e in by_nothing lock (begun b purpose left) s' r.0 refl (refl, step) r.2
 
   -- a start of the lock's part
-  by_start : (lock : Place) (b : Bool) (call : CoreCall) (s' : ProcessState) → at_lock l p lock b false (started lock call) ≡ Some s' → Meets lock s' w.words None
+  by_start : (lock : Place) (b : Bool) (call : CoreCall) (s' : ProcessState) → at_lock l p lock b false (started lock call) ≡ Some s' → Meets lock s' w.words None (Some (Starts p call))
   by_start lock b call s' e = by_lock lock b false (started lock call) s' w.words None (Starts p call) e refl refl refl (λ _. tt) refl
 
-  begins : (lock : Place) (b : Bool) (script_state : ScriptState) (call : Call) (s' : ProcessState) → begun_from l p lock b script_state call ≡ Some s' → Meets lock s' w.words None
+  begins : (lock : Place) (b : Bool) (script_state : ScriptState) (call : Call) (s' : ProcessState) → begun_from l p lock b script_state call ≡ Some s' → Meets lock s' w.words None (begun_event p b call)
   begins lock b Free Lock s' e = by_start lock b core.Lock s' e
   begins lock b Free Recover s' e = by_start lock b core.Recover s' e
   begins lock b Free Withdraw s' e = by_start lock b core.Withdraw s' e
@@ -120,7 +125,7 @@ module _ (l : Layout) (limit : ℕ) (w : GlobalState) (p : ℕ) where
   shows s kind _ v some e = e
 
   moves : (lock : Place) (b c : Bool) (script_state : ScriptState) (kind : Kind) (word : Word) (v : ℕ) (s' : ProcessState) → moved_by l limit p lock b c script_state kind word v ≡ Some s' → Held script_state lock
-      → (is_store kind ≡ false → reading w word ≡ v) → Meets lock s' (words_after w.words (Moves p kind word v)) (outer_by p lock script_state kind v)
+      → (is_store kind ≡ false → reading w word ≡ v) → Meets lock s' (words_after w.words (Moves p kind word v)) (outer_by p lock script_state kind v) (moved_event p script_state kind word v s'.lock)
   moves lock b c Free kind word v s' e held told =
       by_lock lock b c (next l.procs limit p lock kind word v) s' _ _ (Steps p kind word v) e refl refl refl (λ some. λ load. shows lock kind word v some (told load)) refl
   moves lock b c (Doing purpose (Asks j rest)) Gets (DataAt i) v s' e held told = by_script_state lock b c purpose (rest v) s' held.0 (only_some _ _ s' e).1
@@ -132,16 +137,20 @@ module _ (l : Layout) (limit : ℕ) where
   n = l.procs
 
   tells : (w : GlobalState) (e : WorldEvent) (s' : ProcessState) → next_process_state l limit (w.process_states (who e)) e ≡ Some s' → Held (w.process_states (who e)).script_state (w.process_states (who e)).lock → GlobalState-Reads w e
-      → Meets l limit w (who e) (w.process_states (who e)).lock s' (words_after w.words e) (outer (w.process_states (who e)) e)
+      → Meets l limit w (who e) (w.process_states (who e)).lock s' (words_after w.words e) (outer (w.process_states (who e)) e) (lock_event l limit (w.process_states (who e)) e)
   tells w (Begins p call) s' e held reads = let s = w.process_states p in begins l limit w p s.lock s.mended s.script_state call s' e
   tells w (Falls p) s' e held reads =
       let is : dead ≡ s' = cc in
       let place : Dead ≡ s'.lock = ap (λ (s : ProcessState). s.lock) is in
-      ((Some (Crashes p), (refl, ap Some place, refl, tt, refl)), subst (λ (s : ProcessState). Held s.script_state s.lock) is tt)
-  tells w (Moves p kind word v) s' e held reads = let s = w.process_states p in moves l limit w p s.lock s.mended s.barred s.script_state kind word v s' e held reads
+      ((refl, ap Some place, refl, tt, refl), subst (λ (s : ProcessState). Held s.script_state s.lock) is tt)
+  tells w (Moves p kind word v) s' e held reads =
+      let s = w.process_states p in
+      let after : (unwrap_or (next_process_state l limit s (Moves p kind word v)) s).lock ≡ s'.lock = ap (λ o. (unwrap_or o s).lock) e in
+      subst (λ x. Meets l limit w p s.lock s' (words_after w.words (Moves p kind word v)) (outer s (Moves p kind word v)) (moved_event p s.script_state kind word v x)) (sym after)
+      (moves l limit w p s.lock s.mended s.barred s.script_state kind word v s' e held reads)
   tells w (Looks-at p word v) s' e held reads =
       let is : w.process_states p ≡ s' = cc in
-      subst (λ (s : ProcessState). Meets l limit w p (w.process_states p).lock s w.words None) is ((None, (refl, refl, refl)), held)
+      subst (λ (s : ProcessState). Meets l limit w p (w.process_states p).lock s w.words None None) is ((refl, refl, refl), held)
 
   pub some_of : (o : Option ProcessState) (d : ProcessState) → IsSome o → (s' : ProcessState) × (o ≡ Some s') × (unwrap_or o d ≡ s')
   some_of None d some = absurd (cc)
@@ -156,28 +165,30 @@ module _ (l : Layout) (limit : ℕ) where
   held_put : (process_states : ℕ → ProcessState) (p : ℕ) (s : ProcessState) → ((q : ℕ) → Held (process_states q).script_state (process_states q).lock) → Held s.script_state s.lock → (q : ℕ) → Held (put process_states p s q).script_state (put process_states p s q).lock
   held_put process_states p s h here q = elim (cases_Bool (q == p)) [ inl e ↦ rw e here | inr e ↦ rw e (h q) ]
 
-  -- a run of the lock from w to a world, with these deeds
-  pub record Projected (w : World) (ds : List Outer) (end : World) : Type 0 where
+  -- a run of the lock from w to a world, of these events, with these deeds
+  pub record Projected (w : World) (names : List Event) (ds : List Outer) (end : World) : Type 0 where
     pub events : List Event
+    pub named : events ≡ names
     pub run : Run n limit w events
     pub same : deeds n limit w events ≡ ds
     pub ends : final n limit w events ≡ end
 
-  go : (w : GlobalState) (p : ℕ) (s' : ProcessState) (words' : ℕ → Own) (d : Option Outer) (o : Option Event) (ds : List Outer) (end : World) → p < n → Tells n limit p w.words (w.process_states p).lock s'.lock words' d o
-      → Projected (record { words = words'; places = λ q. (put w.process_states p s' q).lock }) ds end → Projected (core_of w) (and_then d ds) end
-  go w p s' words' d None ds end below t rest =
+  go : (w : GlobalState) (p : ℕ) (s' : ProcessState) (words' : ℕ → Own) (d : Option Outer) (o : Option Event) (names : List Event) (ds : List Outer) (end : World) → p < n → Tells n limit p w.words (w.process_states p).lock s'.lock words' d o
+      → Projected (record { words = words'; places = λ q. (put w.process_states p s' q).lock }) names ds end → Projected (core_of w) (event_then o names) (and_then d ds) end
+  go w p s' words' d None names ds end below t rest =
       let same : record { words = words'; places = λ q. (put w.process_states p s' q).lock } ≡ core_of w =
       λ i. record { words = t.1 i; places = λ q. (locks_put w.process_states p s' q ∙ put_back (λ r. (w.process_states r).lock) p s'.lock t.0 q) i } in
-      rw t.2 (subst (λ u. Projected u ds end) same rest)
-  go w p s' words' d (Some x) ds end below t rest =
+      rw t.2 (subst (λ u. Projected u names ds end) same rest)
+  go w p s' words' d (Some x) names ds end below t rest =
       let f : ℕ → Place = λ r. (w.process_states r).lock in
       let there : put f p s'.lock ≡ put f (process x) (unwrap_or (moved n limit (f (process x)) x) (f (process x))) =
       subst (λ r. put f p s'.lock ≡ put f r (unwrap_or (moved n limit (f r) x) (f r))) (sym t.0) (rw t.1 refl) in
       let to : record { words = words'; places = λ q. (put w.process_states p s' q).lock } ≡ after n limit (core_of w) x =
       λ i. record { words = (sym t.2) i; places = λ q. (locks_put w.process_states p s' q ∙ ap (λ g. g q) there) i } in
-      let on = subst (λ u. Projected u ds end) to rest in
+      let on = subst (λ u. Projected u names ds end) to rest in
       record {
         events = x ∷ on.events;
+        named = ap (λ l. x ∷ l) on.named;
         run = ((rw t.0 below, rw (t.0, t.1) refl, t.3), on.run);
         same =
             ap (λ r. and_then (deed (f r) x) (deeds n limit (after n limit (core_of w) x) on.events)) t.0
@@ -195,11 +206,11 @@ module _ (l : Layout) (limit : ℕ) where
   all_held w [] held execution = held
   all_held w (e ∷ es) held execution = all_held (onward l limit w e) es (held_after w e execution.0 held) execution.1
 
-  pub projected : (w : GlobalState) (es : List WorldEvent) → AllHeld w → Execution l limit w es → Projected (core_of w) (outers l limit w es) (core_of (last_global_state l limit w es))
-  projected w [] held execution = record { events = []; run = tt; same = refl; ends = refl }
+  pub projected : (w : GlobalState) (es : List WorldEvent) → AllHeld w → Execution l limit w es → Projected (core_of w) (lock_events l limit w es) (outers l limit w es) (core_of (last_global_state l limit w es))
+  projected w [] held execution = record { events = []; named = refl; run = tt; same = refl; ends = refl }
   projected w (e ∷ es) held execution =
       let s = some_of (next_process_state l limit (w.process_states (who e)) e) (w.process_states (who e)) execution.0.1 in
       let t = tells w e s.0 s.1 (held (who e)) execution.0.2 in
       let rest = projected (onward l limit w e) es (held_after w e execution.0 held) execution.1 in
-      go w (who e) s.0 (words_after w.words e) (outer (w.process_states (who e)) e) t.0.0 _ (core_of (last_global_state l limit (onward l limit w e) es)) execution.0.0 t.0.1
-      (subst (λ r. Projected (record { words = words_after w.words e; places = λ q. (put w.process_states (who e) r q).lock }) (outers l limit (onward l limit w e) es) (core_of (last_global_state l limit (onward l limit w e) es))) s.2 rest)
+      go w (who e) s.0 (words_after w.words e) (outer (w.process_states (who e)) e) (lock_event l limit (w.process_states (who e)) e) (lock_events l limit (onward l limit w e) es) _ (core_of (last_global_state l limit (onward l limit w e) es)) execution.0.0 t.0
+      (subst (λ r. Projected (record { words = words_after w.words e; places = λ q. (put w.process_states (who e) r q).lock }) (lock_events l limit (onward l limit w e) es) (outers l limit (onward l limit w e) es) (core_of (last_global_state l limit (onward l limit w e) es))) s.2 rest)

@@ -1,6 +1,6 @@
 -- "Home state" of Petri nets, for a whole world: a global state that some continuation of every execution reaches. All
--- processes are at rest, all lock words are 0, and no script is under way. Which calls a continuation answers, that it ruins
--- no lock, and that each process can still enter.
+-- processes are at rest, all lock words are 0, and no script is under way. Which calls a continuation answers, that it need not
+-- ruin the lock, and that each process can still enter.
 use Rattle.std.specs.Prelude.{◌≡◌, ℕ, ◌<◌, true, List, [], ◌∷◌, All, ◌⊎◌, Option, None, IsSome, unwrap_or}
 use Rattle.rmecore.specs.HomeState.{IsHome as IsHomeOfLock, EnterInLine, entries}
 use Rattle.rmecore.specs.Place.{Inside, has}
@@ -61,7 +61,7 @@ pub record StaysRecoverable (l : Layout) (limit : ℕ) (w : GlobalState) (events
 
 -- A continuation without crash and withdraw brings all processes home. Each call that is under way at its beginning is
 -- answered in it: no other call of the process begins before that answer. All that are in line at its beginning enter, in the
--- order of their pairs. It ruins no lock.
+-- order of their pairs. Where the lock is not ruined at its beginning, nothing in it ruins the lock.
 pub record CanComeHome (l : Layout) (limit : ℕ) (w : GlobalState) : Type 0 where
   pub events : List WorldEvent
   pub execution : Execution l limit w events
@@ -76,8 +76,8 @@ pub record CanComeHomeMended (l : Layout) (limit : ℕ) (w : GlobalState) : Type
   pub way : CanComeHome l limit w
   pub mended : IsRecoverable l.procs w → (last_global_state l limit w way.events).cells 3 ≡ 0
 
--- p enters in a continuation without crash and withdraw that ruins no lock. Where the lock is not ruined, p holds it at the
--- end.
+-- p enters in a continuation without crash and withdraw. Where the lock is not ruined at its beginning, nothing in it ruins the
+-- lock, and p holds it at the end.
 pub record CanStillEnter (l : Layout) (limit : ℕ) (w : GlobalState) (p : ℕ) : Type 0 where
   pub events : List WorldEvent
   pub execution : Execution l limit w events

@@ -30,3 +30,4 @@ pub mod ImageText
 pub mod ImageWiden
 pub mod WideWords
 pub mod ReplyEvents
+pub mod LockEvents

@@ -1,7 +1,7 @@
 use Rattle.std.proofs.Common.{rules, ◌≡◌, arith}
 use Rattle.rme_c.proofs.Common.{Within}
 use Rattle.rme_c.specs.declared.script_position.ScriptPosition.TheVariants as script_position
-use Rattle.rme_c.proofs.StoredAll.{appended, stored_from}
+use Rattle.rme_c.proofs.StoredAll.{appended, first_store, stored_from}
 use Rattle.rme_c.proofs.appends.appended.Goals as goal
 
 pub returns-in-Within-Store-default-default-eq0 : goal.returns-in-Within-Store-default-default-eq0
@@ -11,6 +11,8 @@ returns-in-Within-Store-default-default-eq0 c =
     let some = c.store_all.ensures.some in
     let x = c.in-Within-Store-default-default-eq0 in
     let is : c.decided-to.result.0 ≡ Within (script_position.Store x.at x.seq 0) = search (rules, x.is, x.field-0-is, x.field-0-2-test, x.field-0-2-is) in
+    let stores = stored_from p c.args.seq c.args.closed c.args.count c.args.last r.here r.few c.decided-to.new.p _ _ _ c.decided-to.result.0 c.decided-to.result.1 _ _ c.decided-to.ensures.same c.decided-to.ensures.step is c.store_all.ensures.stored in
     appended p c.args.seq c.args.closed c.args.count c.args.last r.here r.few _ _ _
+    ((λ h. first_store _ _ some stores.stores), (λ h. some))
     (λ z. absurd (omega (arith, z, some)))
-    (λ h. stored_from p c.args.seq c.args.closed c.args.count c.args.last r.here r.few c.decided-to.new.p _ _ _ c.decided-to.result.0 c.decided-to.result.1 _ _ c.decided-to.ensures.same c.decided-to.ensures.step is c.store_all.ensures.stored)
+    (λ h. stores)

@@ -5,8 +5,8 @@ use Rattle.rme_c.proofs.Arms.{has_script_position}
 use Rattle.rme_c.proofs.Feeds.{step_fed}
 use Rattle.rme_c.proofs.exports.check_feed.Goals as goal
 
-pub returns : goal.returns
-returns c =
+pub returns-clause-fed : goal.returns-clause-fed
+returns-clause-fed c =
     let p = c.args.p.now in
     let to = c.checked-behind.result.0 in
     let procs : c.machine_state.new.p.procs ≡ p.procs = ap (λ (z : RmeProcess). z.procs) c.machine_state.ensures.same ∙ ap (λ (z : RmeProcess). z.procs) c.checked-behind.ensures.same in

@@ -15,5 +15,8 @@ returns-in-Some-clause-steps c = c.counted_feed.ensures.steps
 pub returns-in-Some-clause-kept : goal.returns-in-Some-clause-kept
 returns-in-Some-clause-kept c = c.counted_feed.ensures.kept
 
+pub returns-in-Some-clause-idle : goal.returns-in-Some-clause-idle
+returns-in-Some-clause-idle c = c.counted_feed.ensures.idle
+
 pub returns-in-Some-clause-few : goal.returns-in-Some-clause-few
 returns-in-Some-clause-few c = c.counted_feed.ensures.few

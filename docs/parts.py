@@ -116,6 +116,20 @@ def answers() -> str:
     return "\n".join(["| answer | meaning |", "|---|---|", *rows]) + "\n"
 
 
+VARIANT = re.compile(rf"((?:    ///.*\n)*)    #\[error\({STRING}\)\]\n    (\w+)")
+
+
+def variants(words: str) -> str:
+    """The variants of an error type, `TYPE FILE`, with their documentation, or else with the text that it prints."""
+    name, file = words.split()
+    declared = re.search(rf"pub enum {name} \{{\n(.*?)^\}}", text_of(file), re.M | re.S)
+    assert declared
+    rows = ["| number | name | meaning |", "|---|---|---|"]
+    for number, (docs, printed, variant) in enumerate(VARIANT.findall(declared[1]), 1):
+        rows.append(f"| {number} | {variant} | {cell(docs.replace('///', '')) or plain(printed).capitalize()} |")
+    return "\n".join(rows) + "\n"
+
+
 # ---- wrong bodies
 
 
@@ -194,6 +208,8 @@ def part(name: str) -> str:
         return command(rest)
     if kind == "numbers":
         return numbered(rest)
+    if kind == "variants":
+        return variants(rest)
     if kind in ("file", "lines"):
         return shown(rest)
     return {"statuses": statuses, "answers": answers, "wrong bodies": wrong_bodies, "crates": crates, "algorithms": algorithms}[name]()

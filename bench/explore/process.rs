@@ -225,7 +225,7 @@ impl Process {
     }
 
     /// Gives the dead variables their first values: `barred`, which an answer alone reads, and `mended` outside, where no
-    /// errand is under way.
+    /// script is under way.
     pub fn forget(&mut self) {
         self.barred = false;
         if self.errand == Errand::Free && self.stage != Stage::Inside {

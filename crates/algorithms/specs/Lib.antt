@@ -6,3 +6,4 @@ pub mod Steps
 pub mod Worlds
 pub mod Faults
 pub mod Ranked
+pub mod Deeds

@@ -5,6 +5,7 @@ pub mod access;
 pub mod algorithm;
 pub mod condition;
 pub mod constants;
+mod deeds;
 pub mod expression;
 pub mod fault;
 pub mod line;

@@ -85,17 +85,21 @@ const BAD: &str = "\
 == falls off in withdraw\nalgorithm a for 2 processes\npromises exclusion\nshared flag[procs] up to 1\nshared turn\ncall lock\n  turn := 1 may withdraw\n  done\ncall unlock\n  turn := 0 this is leave\n  done\ncall withdraw\n  turn := 0\n--\nline 12: fault 14\n\
 == never reached in recover\nalgorithm a for 2 processes\npromises exclusion\nshared flag[procs] up to 1\nshared turn\ncall lock\n  turn := 1\n  done\ncall unlock\n  turn := 0 this is leave\n  done\ncall recover\n  turn := 0\n  done\n  turn := 1\n  done\n--\nline 14: fault 18\n\
 == may withdraw in unlock\nalgorithm a for 2 processes\npromises exclusion\nshared flag[procs] up to 1\nshared turn\ncall lock\n  turn := 1 may withdraw\n  done\ncall unlock\n  turn := 0 may withdraw this is leave\n  done\ncall withdraw\n  turn := 0\n  done\n--\nline 9: fault 17\n\
+== no enter in lock\nalgorithm a for 2 processes\npromises exclusion\nshared flag[procs] up to 1\nshared turn\ncall lock\n  turn := 1\n  done\ncall unlock\n  turn := 0 this is leave\n  done\n--\nline 5: fault 15\n\
+== no leave in unlock\nalgorithm a for 2 processes\npromises exclusion\nshared flag[procs] up to 1\nshared turn\ncall lock\n  turn := 1 this is enter\n  done\ncall unlock\n  turn := 0\n  done\n--\nline 8: fault 15\n\
+== enter in unlock alone\nalgorithm a for 2 processes\npromises exclusion\nshared flag[procs] up to 1\nshared turn\ncall lock\n  turn := 1\n  done\ncall unlock\n  turn := 1 this is enter\n  turn := 0 this is leave\n  done\n--\nline 5: fault 15\n\
+== leave in lock alone\nalgorithm a for 2 processes\npromises exclusion\nshared flag[procs] up to 1\nshared turn\ncall unlock\n  turn := 0\n  done\ncall lock\n  turn := 1 this is enter\n  turn := 0 this is leave\n  done\n--\nline 5: fault 15\n\
 ";
 
 /// Texts in which nothing is wrong.
 const GOOD: &str = "\
-== good\nalgorithm a for 2 processes\npromises exclusion\nshared flag[procs] up to 1\nshared turn\ncall lock\nl:\n  for j in others\n    v := flag[j]\n    if v = 1 then goto out\n  end\n  goto l\nout:\n  turn := v\n  done\ncall unlock\n  turn := 0 this is leave\n  done\n--\nread\n\
-== good\nalgorithm a for 2 processes\npromises exclusion\nshared flag[procs] up to 1\nshared turn\ncall lock\n  v := turn\n  if not (v = 1 or (v, me) <= (2, (v + 1) * 2)) and (v) < 3 then done\n  done\ncall unlock\n  turn := 0 this is leave\n  done\n--\nread\n\
-== good\nalgorithm a for 2 processes\npromises exclusion\nshared flag[procs] up to 1\nshared turn\ncall lock\n  v := turn\n  if v = 1then done\n  done\ncall unlock\n  turn := 0 this is leave\n  done\n--\nread\n\
-== good\nalgorithm a for 2 processes\npromises exclusion\nshared flag[procs] up to 1\nshared turn\ncall unlock\n  turn := 0 this is leave\n  done\ncall lock\n  turn := 1\n  done\ncall recover\n  f := flag[me]\n  if f = 1 then\n    flag[me] := 0\n    done left\n  else\n    done nothing\n  end\n--\nread\n\
-== good\nalgorithm a for 2 processes\npromises exclusion\nshared flag[procs] up to 1\nshared turn\ncall lock\n  v := turn\n  if v = 1 then\n    if me = 0 then\n      done\n    else\n      done\n    end\n  else\n    done\n  end\ncall unlock\n  k := me\n  flag[k] := 0 this is leave\n  done\n--\nread\n\
-== good\nalgorithm a for 2 processes\npromises exclusion\nshared flag[procs] up to 1\nshared turn\ncall lock\n  turn := 1\n  done\ncall unlock\n  turn := 0 this is leave\n  for j in all\n    v := flag[j]\n    done\n  end\n--\nread\n\
-== good\nalgorithm a for 2 processes\npromises exclusion\nshared flag[procs] up to 1\nshared turn\ncall lock\nl:\n  v := turn\n  if v = 1 then\n    turn := 0\n    goto l\n  else\n    turn := 1\n    goto l\n  end\ncall unlock\nl:\n  turn := 0 this is leave\n  goto l\n--\nread\n\
+== good\nalgorithm a for 2 processes\npromises exclusion\nshared flag[procs] up to 1\nshared turn\ncall lock\nl:\n  for j in others\n    v := flag[j]\n    if v = 1 then goto out\n  end\n  goto l\nout:\n  turn := v this is enter\n  done\ncall unlock\n  turn := 0 this is leave\n  done\n--\nread\n\
+== good\nalgorithm a for 2 processes\npromises exclusion\nshared flag[procs] up to 1\nshared turn\ncall lock\n  v := turn this is enter\n  if not (v = 1 or (v, me) <= (2, (v + 1) * 2)) and (v) < 3 then done\n  done\ncall unlock\n  turn := 0 this is leave\n  done\n--\nread\n\
+== good\nalgorithm a for 2 processes\npromises exclusion\nshared flag[procs] up to 1\nshared turn\ncall lock\n  v := turn this is enter\n  if v = 1then done\n  done\ncall unlock\n  turn := 0 this is leave\n  done\n--\nread\n\
+== good\nalgorithm a for 2 processes\npromises exclusion\nshared flag[procs] up to 1\nshared turn\ncall unlock\n  turn := 0 this is leave\n  done\ncall lock\n  turn := 1 this is enter\n  done\ncall recover\n  f := flag[me]\n  if f = 1 then\n    flag[me] := 0\n    done left\n  else\n    done nothing\n  end\n--\nread\n\
+== good\nalgorithm a for 2 processes\npromises exclusion\nshared flag[procs] up to 1\nshared turn\ncall lock\n  v := turn this is enter\n  if v = 1 then\n    if me = 0 then\n      done\n    else\n      done\n    end\n  else\n    done\n  end\ncall unlock\n  k := me\n  flag[k] := 0 this is leave\n  done\n--\nread\n\
+== good\nalgorithm a for 2 processes\npromises exclusion\nshared flag[procs] up to 1\nshared turn\ncall lock\n  turn := 1 this is enter\n  done\ncall unlock\n  turn := 0 this is leave\n  for j in all\n    v := flag[j]\n    done\n  end\n--\nread\n\
+== good\nalgorithm a for 2 processes\npromises exclusion\nshared flag[procs] up to 1\nshared turn\ncall lock\nl:\n  v := turn\n  if v = 1 then\n    turn := 0\n    goto l\n  else\n    turn := 1 this is enter\n    goto l\n  end\ncall unlock\nl:\n  turn := 0 this is leave\n  goto l\n--\nread\n\
 ";
 
 /// Writes what the reading of a text comes to.

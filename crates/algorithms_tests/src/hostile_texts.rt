@@ -25,7 +25,7 @@ const HOSTILE: &str = "\
 
 /// A long text that is read. What stands after a second `@` comes once, at its end.
 const LONG: &str =
-    "== 1000 a long text\nalgorithm a for 2 processes\npromises exclusion\nshared x\ncall unlock\nx := 0\ndone\ncall lock\n@v := x\n@done--\nread\n";
+    "== 1000 a long text\nalgorithm a for 2 processes\npromises exclusion\nshared x\ncall unlock\nx := 0 this is leave\ndone\ncall lock\n@v := x\n@this is enter\ndone--\nread\n";
 
 /// Writes the text that a case gives, with its repeated part.
 fn put_whole(times: u64, given: &str, whole: &mut String) -> Result<(), AllocError> {

@@ -89,7 +89,7 @@ Promises { reentry: true, order: true }
 
 /// Two answers that differ in the spaces between their words alone.
 const SPACED: &str =
-    "== spaces\nalgorithm a for 2 processes\npromises exclusion\nshared x\ncall lock\n  x := 1\n  done   let-in  at once \ncall unlock\n  x := 0\n  done let-in at   once# again\n--\nanswer let-in at once\n";
+    "== spaces\nalgorithm a for 2 processes\npromises exclusion\nshared x\ncall lock\n  x := 1 this is enter\n  done   let-in  at once \ncall unlock\n  x := 0 this is leave\n  done let-in at   once# again\n--\nanswer let-in at once\n";
 
 /// Writes the form of each line.
 fn put_forms(algorithm: &Algorithm, text: &mut String) -> Result<(), AllocError> {

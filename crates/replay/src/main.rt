@@ -2,12 +2,12 @@
 //! the simulated side alone, so that a first proved report needs few libraries.
 #![tactic(auto)]
 
-use schedule::{FromReader, ReplayFault, ToWriter, replay};
+use schedule::{ReplayFault, replay_to_writer};
 use std::alloc::Global;
-use std::io::{self, BufReader, BufWriter};
+use std::io::{self, BufReader, BufWriter, Write};
 use std::process::ExitCode;
 
-/// Replays the schedule on standard input, and writes the report to standard output.
+/// Replays the schedule on standard input, and writes the report to standard output. If the flush fails, that is the fault.
 fn report<R: Input + Print>(rt: &R, alloc: Global) -> Result<(), ReplayFault> {
     let Ok(reader) = BufReader::new(alloc, rt.reader()) else {
         return Err(ReplayFault::OutOfMemory);
@@ -15,11 +15,11 @@ fn report<R: Input + Print>(rt: &R, alloc: Global) -> Result<(), ReplayFault> {
     let Ok(writer) = BufWriter::new(alloc, io::writer(rt)) else {
         return Err(ReplayFault::OutOfMemory);
     };
-    replay(
-        alloc,
-        &mut FromReader::new(reader),
-        &mut ToWriter::new(writer),
-    )?;
+    let (verdict, mut writer) = replay_to_writer(alloc, reader, writer);
+    if writer.flush().is_err() {
+        return Err(ReplayFault::Write);
+    }
+    verdict?;
     Ok(())
 }
 

@@ -1,9 +1,10 @@
 -- The answer of a trace that was judged to its end.
-use Rattle.std.proofs.Common.{◌≡◌, ℕ, ◌+◌, ◌<◌, List, [], ◌∷◌, ◌++◌, length, Option, Some, None, Result, Ok, Err, Bool, true, refl, sym, ap, subst, ◌∙◌}
+use Rattle.std.proofs.Common.{◌≡◌, ℕ, ◌+◌, ◌-◌, ◌<◌, ◌^◌, ◌⊎◌, min, inl, inr, List, [], ◌∷◌, ◌++◌, length, Option, Some, None, Result, Ok, Err, Bool, true, refl, sym, ap, subst, ◌∙◌}
 use Rattle.schedule.proofs.ReplaysCommon.{Refusal, Deed, Kept, empty, LineFault, RunningVerdict, ReplayFault, Text, Read, OutOfMemory, TraceStage, TraceHead, Verdict, deed_at, opened, parts_of, text_at, trace_head_at}
 use Rattle.schedule.proofs.ReplaysCommon.{Stands, trace_answer, answer_of, judged_of, judge_refusal, numbered, JudgesTrace}
 use Rattle.schedule.specs.declared.replays.stage.TraceStage.TheVariants as stages
 use Rattle.schedule.specs.Numbers.{number_of}
+use Rattle.schedule.specs.TraceJudges.{JudgesText}
 use Rattle.schedule.proofs.Closing.{ruled_on}
 use Rattle.schedule.proofs.Staging.{none_last, none_empty, fine_last, faulty_last}
 
@@ -62,3 +63,12 @@ judges old new text before now ended _ given told fine e is = ((text, given, tol
 
 pub is_of_text : (parts : List (List ℕ)) (answer : Result Verdict ReplayFault) → answer ≡ trace_answer parts → of_text answer
 is_of_text parts answer e = subst of_text (sym e) (answer_is (text_at trace_head_at item parts))
+
+-- the source has failed, or memory has run out
+pub stops : (fault : ReplayFault) (old new : List ℕ) (before now : ℕ) (ended : Bool) → ((fault ≡ Read) × (now ≡ min (before + 1) (2 ^ 64 - 1))) ⊎ ((fault ≡ OutOfMemory) × (now ≡ before)) → JudgesTrace old new before now ended (Err fault)
+stops fault old new before now ended (inl failed) = rw failed.0 failed.1
+stops fault old new before now ended (inr memory) = rw memory.0 memory.1
+
+pub stops_known : {A B : Type 0} (fault : ReplayFault) (text : List ℕ) → ((fault ≡ Read) × A) ⊎ ((fault ≡ OutOfMemory) × B) → JudgesText text (Err fault)
+stops_known fault text (inl failed) = inl (ap Err failed.0)
+stops_known fault text (inr memory) = inr (inl (ap Err memory.0))

@@ -34,7 +34,7 @@ module _ {S : Type 0} (b : Behaviour S) (P : S → List Told → Type 0) where
             ]
       ]
 
-  line_keeps : (s : S) (h : List Told) (line : Line) → IsKept → P s h → P (line_on b s line).left (h ++ (line_on b s line).told)
+  pub line_keeps : (s : S) (h : List Told) (line : Line) → IsKept → P s h → P (line_on b s line).left (h ++ (line_on b s line).told)
   unfolding line_on
   line_keeps s h (Start p call) keeps now = by (b.start_refusal s p call) refl
     where

@@ -31,5 +31,8 @@ pub mod Answering
 pub mod Heading
 pub mod Cutting
 pub mod Kept
+pub mod Busy
+pub mod Legs
+pub mod LineNumbers
 pub mod WorldRuns
 pub mod Fed

@@ -1,33 +1,36 @@
--- The run of a schedule on a world follows an execution from where the world began, so its deeds are legal.
-use Rattle.std.proofs.Common.{◌≡◌, ℕ, List, [], ◌∷◌, ◌++◌, map, Option, Some, None, Result, Ok, Err, IfOk, refl, sym, ap, ◌∙◌, subst, inl, append_assoc, append-nil}
+-- The run of a schedule on a world is an execution from where the world began, with the events of its lines, so its deeds are
+-- legal.
+use Rattle.std.proofs.Common.{◌≡◌, ℕ, zero, suc, ◌+◌, ◌-◌, ◌<◌, true, false, is_some, List, [], ◌∷◌, ◌++◌, All, length, map, Option, Some, None, Result, Ok, Err, IfOk, ◌⊎◌, refl, sym, ap, ◌∙◌, subst, inl, inr, append_assoc, append-nil, arith}
+use Rattle.std.proofs.lemmas.List.Elements.{All-nil, All-cons}
 use Rattle.schedule.proofs.ReplaysCommon.{Fault, Refusal, one_more, Deed, empty, State, judged, Answer, Image, Stepped, new_refusal, WorldState, machine_state_at, process_state_at, global_state_of, Takes, new_world, image_world}
-use Rattle.schedule.proofs.ReplaysCommon.{Line, ReplayFault, Verdict, Fine, Tape, Part, deeds_of, Told, Did, told_of, did, answered, run_on, verdict_on, ruled, verdict_from, world_behaviour}
+use Rattle.schedule.proofs.ReplaysCommon.{Line, Start, Step, Crash, ReplayFault, Verdict, Fine, Tape, Part, deeds_of, Told, Did, Answered, told_of, did, answered, unless, followed, steps, line_on, run_on, verdict_on, ruled, verdict_from, world_behaviour}
 use Rattle.rmecore.specs.Machine.{kind_of}
 use Rattle.rmecore.specs.declared.access.Access.{Access}
 use Rattle.redomail.specs.Layout.{size}
+use Rattle.redomail.specs.declared.layout.Layout.{Layout}
 use Rattle.judge.specs.Legal.{and_then, judged_all, Leads}
 use Rattle.judge.specs.Starts.{state_of}
-use Rattle.judge.specs.declared.start.Start.{Start}
+use Rattle.judge.specs.declared.start.Start.{Start as StartState}
+use Rattle.rmeworld.specs.ImageRules.{layout_of, IsLawfulImage}
 use Rattle.rmeworld.specs.ImageStart.{IsStartOf}
 use Rattle.rmeworld.specs.Reached.{IsOrigin, IsWorld}
 use Rattle.rmeworld.specs.Answered.{answer_at}
-use Rattle.rmeworld.specs.CallWalk.{answer_to}
-use Rattle.rmeworld.specs.Replayed.{started, stepped, stepped_if, advanced, advanced_if, crashed, crash_deed, world_event, value_of, list_of}
-use Rattle.rmeworld.specs.ProcessState.{WorldEvent, who}
+use Rattle.rmeworld.specs.Replayed.{start_refusal, started, advance_refusal, stepped, stepped_if, advanced, advanced_if, crash_refusal, crashed, crash_deed, world_event, value_of, list_of}
+use Rattle.rmeworld.specs.ProcessState.{WorldEvent, Begins, Falls}
 use Rattle.rmeworld.specs.MachineState.{next_access}
-use Rattle.rmeworld.specs.World.{GlobalState, at_first, Can, onward, Execution, last_global_state, event_deeds, deeds}
+use Rattle.rmeworld.specs.World.{GlobalState, at_first, onward, event_deeds}
 use Rattle.rmeworld.proofs.Beginning.{follows_new, follows_image, follows_legal, image_origin}
 use Rattle.rmeworld.proofs.Following.{Follows, below_if, start_is, step_is, follows_started, follows_advanced, follows_crashed}
 use Rattle.rmeworld.proofs.FromImages.{image_global_state}
-use Rattle.rmeworld.proofs.ExecutionGrows.{execution_more, last_more}
 use Rattle.rmeworld.proofs.Worlds.{new_global_state}
 use Rattle.rmeworld.proofs.WorldSteps.{step_takes, crash_takes}
 use Rattle.schedule.specs.Replays.{Replays}
-use Rattle.schedule.specs.Executions.{first_global_state, told_at, told_in, IsExecution}
-use Rattle.schedule.proofs.Kept.{IsKept, run_keeps}
+use Rattle.schedule.specs.Executions.{first_global_state, told_at, told_in, IsStepOf, Answers, IsLinePlayed, ArePlayed, lines_played, IsExecution}
+use Rattle.schedule.proofs.Busy.{still_busy}
+use Rattle.schedule.proofs.Kept.{IsKept, line_keeps, run_keeps}
+use Rattle.schedule.proofs.Legs.{Leg, leg_none, leg_one, leg_both, execution_deeds}
+use Rattle.schedule.proofs.LineNumbers.{one_more_line, line_stops, numbers_rise}
 use Rattle.schedule.proofs.Playing.{deeds_told, deeds_append}
-use Rattle.redomail.specs.declared.layout.Layout.{Layout}
-use Rattle.rmeworld.specs.ImageRules.{layout_of, IsLawfulImage}
 
 -- a legal history has no deed that the judge refuses
 pub legal_is_fine : (k : ℕ) (s t : State) (deeds : List Deed) → Leads s deeds t → verdict_from k s deeds ≡ Fine
@@ -42,44 +45,11 @@ deeds_did : (deed : Option Deed) → deeds_of (did deed) ≡ list_of deed
 deeds_did None = refl
 deeds_did (Some deed) = refl
 
-module _ (l : Layout) (limit : ℕ) where
-  -- an execution from here ends in this global state, and reports this
-  record Tells (first w : GlobalState) (told : List Told) : Type 0 where
-    pub execution : List WorldEvent
-    pub may : Execution l limit first execution
-    pub last : last_global_state l limit first execution ≡ w
-    pub said : told_in l limit first execution ≡ told
-
-  told_more : (w : GlobalState) (es : List WorldEvent) (e : WorldEvent) → told_in l limit w (es ++ e ∷ []) ≡ told_in l limit w es ++ told_at l (last_global_state l limit w es) e
-  told_more w [] e = append-nil (told_at l w e)
-  told_more w (x ∷ es) e = ap (λ ts. told_at l w x ++ ts) (told_more (onward l limit w x) es e) ∙ sym (append_assoc (told_at l w x) _ _)
-
-  told_deeds : (ds : List Deed) (p : ℕ) (answer : Option Answer) → deeds_of (map Did ds ++ answered p answer) ≡ ds
-  told_deeds [] p None = refl
-  told_deeds [] p (Some answer) = refl
-  told_deeds (d ∷ ds) p answer = ap (λ (es : List Deed). d ∷ es) (told_deeds ds p answer)
-
-  -- the deeds in what an execution reports are its deeds
-  execution_deeds : (w : GlobalState) (es : List WorldEvent) → deeds_of (told_in l limit w es) ≡ deeds l limit w es
-  execution_deeds w [] = refl
-  execution_deeds w (e ∷ es) = deeds_append (told_at l w e) (told_in l limit (onward l limit w e) es) ∙ (λ i. told_deeds (event_deeds l w e) (who e) (answer_to (w.process_states (who e)) e) i ++ execution_deeds (onward l limit w e) es i)
-
-  tells_more : {s new : WorldState} {e : WorldEvent} (first : GlobalState) (told : List Told) → s.layout ≡ l → s.limit ≡ limit → Takes s e new → Tells first (global_state_of s) told → Tells first (global_state_of new) (told ++ told_at l (global_state_of s) e)
-  tells_more {s = s} {new = new} {e = e} first told layout limited takes h =
-      let can = subst (λ x. Can x limit (global_state_of s) e) layout (subst (λ x. Can s.layout x (global_state_of s) e) limited takes.can) in
-      record {
-        execution = h.execution ++ e ∷ [];
-        may = execution_more l limit first h.execution e h.may (subst (λ w. Can l limit w e) (sym h.last) can);
-        last = last_more l limit first h.execution e ∙ ap (λ w. onward l limit w e) h.last ∙ (λ i. onward (sym layout i) (sym limited i) (global_state_of s) e) ∙ sym takes.global_state;
-        said = told_more first h.execution e ∙ (λ i. h.said i ++ told_at l (h.last i) e);
-      }
-
--- a world of these sizes that follows an execution from here, which reports this
+-- a world of these sizes that follows an execution from here, whose deeds are reported
 record Goes (l : Layout) (limit : ℕ) (first : GlobalState) (s : WorldState) (told : List Told) : Type 0 where
   pub layout : s.layout ≡ l
   pub limited : s.limit ≡ limit
   pub follows : Follows first s (deeds_of told)
-  pub tells : Tells l limit first (global_state_of s) told
 
 sizes_kept : (s : WorldState) (p : ℕ) → ((advanced s p).layout ≡ s.layout) × ((advanced s p).limit ≡ s.limit)
 sizes_kept s p = by (next_access (machine_state_at s.processes p))
@@ -95,34 +65,149 @@ one_told (Some d) ds is = ap (map Did) (sym is)
 world_keeps : (l : Layout) (limit : ℕ) (first : GlobalState) → IsKept world_behaviour (Goes l limit first)
 world_keeps l limit first =
     record {
-      started = λ s h p call now may. record {
-        layout = now.layout;
-        limited = now.limited;
-        follows = follows_started s p call now.follows may;
-        tells = subst (Tells l limit first (global_state_of (started s p call))) (append-nil h) (tells_more l limit first h now.layout now.limited (start_is s p call now.follows may).3 now.tells);
-      };
+      started = λ s h p call now may. record { layout = now.layout; limited = now.limited; follows = follows_started s p call now.follows may };
       advanced = λ s h p now may.
           let kept = sizes_kept s p in
-          let is = step_is s p now.follows may in
           let step : Stepped = stepped s p in
-          let said : told_at l (global_state_of s) (world_event s p is.access) ≡ told_of p step.deed step.answer =
-          (λ i. map Did (event_deeds (sym now.layout i) (global_state_of s) (world_event s p is.access)) ++ answered p (answer_at (process_state_at s.processes p) (kind_of is.access) (value_of s is.access)))
-          ∙ ap (λ ts. ts ++ answered p (answer_at (process_state_at s.processes p) (kind_of is.access) (value_of s is.access))) (one_told _ _ is.one)
-          ∙ ap (λ o. told_of p (stepped_if s p o).deed (stepped_if s p o).answer) (sym is.step.next) in
-          let takes : Takes s (world_event s p is.access) (advanced s p) = subst (λ o. Takes s (world_event s p is.access) (advanced_if s p o)) (sym is.step.next) (step_takes s p is.access is.step) in
           record {
             layout = kept.0 ∙ now.layout;
             limited = kept.1 ∙ now.limited;
             follows = subst (Follows first (advanced s p)) (sym (deeds_append h (told_of p step.deed step.answer) ∙ ap (λ ds. deeds_of h ++ ds) (deeds_told p step.deed step.answer ∙ deeds_did step.deed))) (follows_advanced s p now.follows may);
-            tells = subst (λ ts. Tells l limit first (global_state_of (advanced s p)) (h ++ ts)) said (tells_more l limit first h now.layout now.limited takes now.tells);
           };
       crashed = λ s h p now may. record {
         layout = now.layout;
         limited = now.limited;
         follows = subst (Follows first (crashed s p)) (sym (deeds_append h (Did (crash_deed p) ∷ []))) (follows_crashed s p now.follows may);
-        tells = tells_more l limit first h now.layout now.limited (crash_takes s p now.follows.world.configured (below_if p s.layout.procs None may).0) now.tells;
       };
     }
+
+module _ (l : Layout) (limit : ℕ) (first : GlobalState) where
+  -- a step of p
+  step_leg : (s : WorldState) (h : List Told) (p : ℕ) → Goes l limit first s h → advance_refusal s p ≡ None
+      → (e : WorldEvent) × IsStepOf p e × Leg l limit (global_state_of s) (global_state_of (advanced s p)) (told_of p (stepped s p).deed (stepped s p).answer) (e ∷ [])
+  step_leg s h p now may =
+      let is = step_is s p now.follows may in
+      let e : WorldEvent = world_event s p is.access in
+      let said : told_at l (global_state_of s) e ≡ told_of p (stepped s p).deed (stepped s p).answer =
+      (λ i. map Did (event_deeds (sym now.layout i) (global_state_of s) e) ++ answered p (answer_at (process_state_at s.processes p) (kind_of is.access) (value_of s is.access)))
+      ∙ ap (λ ts. ts ++ answered p (answer_at (process_state_at s.processes p) (kind_of is.access) (value_of s is.access))) (one_told _ _ is.one)
+      ∙ ap (λ o. told_of p (stepped_if s p o).deed (stepped_if s p o).answer) (sym is.step.next) in
+      let takes : Takes s e (advanced s p) = subst (λ o. Takes s e (advanced_if s p o)) (sym is.step.next) (step_takes s p is.access is.step) in
+      (e, refl, subst (λ ts. Leg l limit (global_state_of s) (global_state_of (advanced s p)) ts (e ∷ [])) said (leg_one l limit now.layout now.limited takes))
+
+  abbrev AreSteps : ℕ → ℕ → GlobalState → List WorldEvent → Type 0
+  AreSteps p n w es = All (IsStepOf p) es × ((length es ≡ n) ⊎ ((length es < n) × Answers l limit p w es))
+
+  one_step : (p n : ℕ) (w : GlobalState) (e : WorldEvent) → IsStepOf p e → Answers l limit p w (e ∷ []) → AreSteps p (suc n) w (e ∷ [])
+  one_step p zero w e of answers = (All-cons (IsStepOf p) e [] of (All-nil (IsStepOf p)), inl refl)
+  one_step p (suc n) w e of answers = (All-cons (IsStepOf p) e [] of (All-nil (IsStepOf p)), inr (omega arith, answers))
+
+  more_steps : (p n : ℕ) (w u : GlobalState) (e : WorldEvent) (es : List WorldEvent) → IsStepOf p e → onward l limit w e ≡ u → AreSteps p n u es → AreSteps p (suc n) w (e ∷ es)
+  more_steps p n w u e es of leads (all, inl each) = (All-cons (IsStepOf p) e es of all, inl (omega (arith, each)))
+  more_steps p n w u e es of leads (all, inr fewer) =
+      let answers = fewer.1 in
+      let said : told_in l limit w (e ∷ es) ≡ (told_at l w e ++ answers.1.0) ++ Answered p answers.0 ∷ [] =
+      ap (λ x. told_at l w e ++ told_in l limit x es) leads ∙ ap (λ ts. told_at l w e ++ ts) answers.1.1 ∙ sym (append_assoc (told_at l w e) answers.1.0 (Answered p answers.0 ∷ [])) in
+      (All-cons (IsStepOf p) e es of all, inr (omega (arith, fewer.0), (answers.0, (told_at l w e ++ answers.1.0, said))))
+
+  -- the steps of a line that is not refused
+  steps_leg : (p n : ℕ) (s : WorldState) (h : List Told) → Goes l limit first s h → advance_refusal s p ≡ None
+      → (es : List WorldEvent) × Leg l limit (global_state_of s) (global_state_of (steps world_behaviour p n s).1) (steps world_behaviour p n s).0 es × AreSteps p n (global_state_of s) es
+  unfolding steps
+  steps_leg p zero s h now may = ([], leg_none l limit (global_state_of s), (All-nil (IsStepOf p), inl refl))
+  steps_leg p (suc n) s h now may = by (stepped s p).answer refl (λ on next. steps_leg p n (advanced s p) (h ++ told) on next)
+    where
+      told : List Told
+      told = told_of p (stepped s p).deed (stepped s p).answer
+
+      goes : is_some (advance_refusal s p) ≡ false
+      goes = ap is_some may
+
+      step : (e : WorldEvent) × IsStepOf p e × Leg l limit (global_state_of s) (global_state_of (advanced s p)) told (e ∷ [])
+      step = step_leg s h p now may
+
+      Rest : Type 0
+      Rest =
+          Goes l limit first (advanced s p) (h ++ told) → advance_refusal (advanced s p) p ≡ None
+          → (es : List WorldEvent) × Leg l limit (global_state_of (advanced s p)) (global_state_of (steps world_behaviour p n (advanced s p)).1) (steps world_behaviour p n (advanced s p)).0 es
+          × AreSteps p n (global_state_of (advanced s p)) es
+
+      by : (o : Option Answer) → (stepped s p).answer ≡ o → Rest
+          → (es : List WorldEvent) × Leg l limit (global_state_of s) (global_state_of (steps world_behaviour p (suc n) s).1) (steps world_behaviour p (suc n) s).0 es × AreSteps p (suc n) (global_state_of s) es
+      by (Some answer) is rest =
+          let f : is_some (stepped s p).answer ≡ true = ap is_some is in
+          let said = step.2.said ∙ ap (λ o. did (stepped s p).deed ++ answered p o) is in
+          rw (goes, f) (
+            step.0 ∷ [],
+            subst (λ ts. Leg l limit (global_state_of s) (global_state_of (advanced s p)) ts (step.0 ∷ [])) (sym (append-nil told)) step.2,
+            one_step p n (global_state_of s) step.0 step.1 (answer, (did (stepped s p).deed, said)),
+          )
+      by None is rest =
+          let f : is_some (stepped s p).answer ≡ false = ap is_some is in
+          let on : Goes l limit first (advanced s p) (h ++ told) = (world_keeps l limit first).advanced s h p now may in
+          let more = rest on (still_busy s p now.follows may is) in
+          rw (goes, f) (
+            step.0 ∷ more.0,
+            leg_both l limit step.2 more.1,
+            more_steps p n (global_state_of s) (global_state_of (advanced s p)) step.0 more.0 step.1 step.2.last more.2,
+          )
+
+  -- a line that is not refused
+  line_leg : (s : WorldState) (h : List Told) (line : Line) → Goes l limit first s h → (line_on world_behaviour s line).refused ≡ None
+      → (es : List WorldEvent) × Leg l limit (global_state_of s) (global_state_of (line_on world_behaviour s line).left) (line_on world_behaviour s line).told es × IsLinePlayed l limit (global_state_of s) line es
+  unfolding line_on
+  line_leg s h (Start p call) now fine = by (start_refusal s p call) refl fine
+    where
+      by : (o : Option Refusal) → start_refusal s p call ≡ o → (unless o s [] (started s p call)).refused ≡ None
+          → (es : List WorldEvent) × Leg l limit (global_state_of s) (global_state_of (unless o s [] (started s p call)).left) (unless o s [] (started s p call)).told es × (es ≡ Begins p call ∷ [])
+      by None may accepted = (Begins p call ∷ [], leg_one l limit now.layout now.limited (start_is s p call now.follows may).3, refl)
+      by (Some refusal) refused accepted = absurd (cc)
+  line_leg s h (Step p n) now fine = steps_leg p n s h now fine
+  line_leg s h (Crash p) now fine = by (crash_refusal s p) refl fine
+    where
+      by : (o : Option Refusal) → crash_refusal s p ≡ o → (unless o s (Did (crash_deed p) ∷ []) (crashed s p)).refused ≡ None
+          → (es : List WorldEvent) × Leg l limit (global_state_of s) (global_state_of (unless o s (Did (crash_deed p) ∷ []) (crashed s p)).left) (unless o s (Did (crash_deed p) ∷ []) (crashed s p)).told es × (es ≡ Falls p ∷ [])
+      by None may accepted = (Falls p ∷ [], leg_one l limit now.layout now.limited (crash_takes s p now.follows.world.configured (below_if p s.layout.procs None may).0), refl)
+      by (Some refusal) refused accepted = absurd (cc)
+
+  -- the lines of a run
+  run_leg : (k : ℕ) (s : WorldState) (h : List Told) (lines : List Line) → Goes l limit first s h
+      → (es : List WorldEvent) × Leg l limit (global_state_of s) (global_state_of (run_on world_behaviour k s lines).left) (run_on world_behaviour k s lines).told es
+      × ArePlayed l limit (global_state_of s) (lines_played k (run_on world_behaviour k s lines).refused lines) es
+  unfolding run_on
+  run_leg k s h [] now = ([], leg_none l limit (global_state_of s), refl)
+  run_leg k s h (line ∷ lines) now = by (line_on world_behaviour s line).refused refl (λ on. run_leg (k + 1) part.left (h ++ part.told) lines on)
+    where
+      part : Part WorldState Refusal
+      part = line_on world_behaviour s line
+
+      rest : Part WorldState (ℕ × Refusal)
+      rest = run_on world_behaviour (k + 1) part.left lines
+
+      Later : Type 0
+      Later =
+          Goes l limit first part.left (h ++ part.told)
+          → (es : List WorldEvent) × Leg l limit (global_state_of part.left) (global_state_of rest.left) rest.told es × ArePlayed l limit (global_state_of part.left) (lines_played (k + 1) rest.refused lines) es
+
+      by : (o : Option Refusal) → part.refused ≡ o → Later
+          → (es : List WorldEvent) × Leg l limit (global_state_of s) (global_state_of (followed k part o rest).left) (followed k part o rest).told es
+          × ArePlayed l limit (global_state_of s) (lines_played k (followed k part o rest).refused (line ∷ lines)) es
+      by None fine more =
+          let here = line_leg s h line now fine in
+          let on : Goes l limit first part.left (h ++ part.told) = line_keeps world_behaviour (Goes l limit first) s h line (world_keeps l limit first) now in
+          let later = more on in
+          let there = subst (λ w. ArePlayed l limit w (lines_played (k + 1) rest.refused lines) later.0) (sym here.1.last) later.2 in (
+            here.0 ++ later.0,
+            leg_both l limit here.1 later.1,
+            rw (one_more_line k rest.refused line lines (numbers_rise world_behaviour (k + 1) part.left lines)) (here.0, (later.0, refl, here.2, there)),
+          )
+      by (Some refusal) stops more =
+          let still = line_stops world_behaviour s line refusal stops in
+          let none : k - k ≡ 0 = omega arith in (
+            [],
+            rw (still.0, still.1) (leg_none l limit (global_state_of s)),
+            rw none refl,
+          )
 
 run_is_fine : (l : Layout) (limit k : ℕ) (first : GlobalState) (state : State) (s : WorldState) (lines : List Line) → IsOrigin l limit first state → Goes l limit first s [] → verdict_on state (deeds_of (run_on world_behaviour k s lines).told) ≡ Fine
 run_is_fine l limit k first state s lines begins now =
@@ -132,19 +217,22 @@ run_is_fine l limit k first state s lines begins now =
     let legal = follows_legal first state run.left (deeds_of run.told) there end.follows in
     legal_is_fine 1 state legal.0 (deeds_of run.told) legal.1
 
--- the run follows an execution from where its world began, and its words are those of the execution's end
-run_is_execution : (l : Layout) (limit k : ℕ) (origin : Option Image) (s : WorldState) (lines : List Line) → Goes l limit (first_global_state origin) s [] → IsExecution l limit origin (run_on world_behaviour k s lines)
-run_is_execution l limit k origin s lines now =
+-- the run is an execution from where its world began, with the events of its lines, and its words are those of the execution's end
+run_is_execution : (l : Layout) (limit : ℕ) (origin : Option Image) (s : WorldState) (lines : List Line) → global_state_of s ≡ first_global_state origin → Goes l limit (first_global_state origin) s []
+    → IsExecution l limit origin lines (run_on world_behaviour 2 s lines)
+run_is_execution l limit origin s lines begins now =
     let first : GlobalState = first_global_state origin in
-    let run : Part WorldState (ℕ × Refusal) = run_on world_behaviour k s lines in
-    let end : Goes l limit first run.left run.told = run_keeps world_behaviour (Goes l limit first) k s [] lines (world_keeps l limit first) now in
-    let h : Tells l limit first (global_state_of run.left) run.told = end.tells in
+    let run : Part WorldState (ℕ × Refusal) = run_on world_behaviour 2 s lines in
+    let end : Goes l limit first run.left run.told = run_keeps world_behaviour (Goes l limit first) 2 s [] lines (world_keeps l limit first) now in
+    let played = run_leg l limit first 2 s [] lines now in
+    let h : Leg l limit first (global_state_of run.left) run.told played.0 = subst (λ w. Leg l limit w (global_state_of run.left) run.told played.0) begins played.1 in
     let world : IsWorld run.left = end.follows.world in
     record {
-      execution = h.execution;
+      execution = played.0;
       may = h.may;
+      events = subst (λ w. ArePlayed l limit w (lines_played 2 run.refused lines) played.0) begins played.2;
       told = h.said;
-      deeds = sym (execution_deeds l limit first h.execution) ∙ ap deeds_of h.said;
+      deeds = sym (execution_deeds l limit first played.0) ∙ ap deeds_of h.said;
       words = record {
         version = refl;
         layout = (λ j. record { procs = world.configured.words_each j; cap = run.left.layout.cap; width = run.left.layout.width }) ∙ end.layout;
@@ -157,21 +245,21 @@ run_is_execution l limit k origin s lines now =
 
 -- a world that has reported nothing yet
 goes_new : (l : Layout) (limit : ℕ) → new_refusal l limit ≡ None → Goes l limit at_first (new_world l limit) []
-goes_new l limit may = record { layout = refl; limited = refl; follows = follows_new l limit may; tells = record { execution = []; may = tt; last = sym (new_global_state l limit); said = refl } }
+goes_new l limit may = record { layout = refl; limited = refl; follows = follows_new l limit may }
 
 goes_image : (i : Image) → IsLawfulImage i → Goes (layout_of i) i.limit (first_global_state (Some i)) (image_world i) []
-goes_image i lawful = record { layout = refl; limited = refl; follows = follows_image i lawful; tells = record { execution = []; may = tt; last = sym (image_global_state i); said = refl } }
+goes_image i lawful = record { layout = refl; limited = refl; follows = follows_image i lawful }
 
-pub new_is_execution : (l : Layout) (limit : ℕ) (lines : List Line) → new_refusal l limit ≡ None → IsExecution l limit None (run_on world_behaviour 2 (new_world l limit) lines)
-new_is_execution l limit lines may = run_is_execution l limit 2 None (new_world l limit) lines (goes_new l limit may)
+pub new_is_execution : (l : Layout) (limit : ℕ) (lines : List Line) → new_refusal l limit ≡ None → IsExecution l limit None lines (run_on world_behaviour 2 (new_world l limit) lines)
+new_is_execution l limit lines may = run_is_execution l limit None (new_world l limit) lines (new_global_state l limit) (goes_new l limit may)
 
-pub image_is_execution : (i : Image) (lines : List Line) → IsLawfulImage i → IsExecution (layout_of i) i.limit (Some i) (run_on world_behaviour 2 (image_world i) lines)
-image_is_execution i lines lawful = run_is_execution (layout_of i) i.limit 2 (Some i) (image_world i) lines (goes_image i lawful)
+pub image_is_execution : (i : Image) (lines : List Line) → IsLawfulImage i → IsExecution (layout_of i) i.limit (Some i) lines (run_on world_behaviour 2 (image_world i) lines)
+image_is_execution i lines lawful = run_is_execution (layout_of i) i.limit (Some i) (image_world i) lines (image_global_state i) (goes_image i lawful)
 
 pub new_is_fine : (l : Layout) (limit : ℕ) (lines : List Line) → new_refusal l limit ≡ None → verdict_on (empty l.procs l.cap) (deeds_of (run_on world_behaviour 2 (new_world l limit) lines).told) ≡ Fine
 new_is_fine l limit lines may = run_is_fine l limit 2 at_first (empty l.procs l.cap) (new_world l limit) lines (inl (refl, refl)) (goes_new l limit may)
 
-pub image_is_fine : (i : Image) (start : Start) (lines : List Line) → IsLawfulImage i → IsStartOf i start → verdict_on (state_of start) (deeds_of (run_on world_behaviour 2 (image_world i) lines).told) ≡ Fine
+pub image_is_fine : (i : Image) (start : StartState) (lines : List Line) → IsLawfulImage i → IsStartOf i start → verdict_on (state_of start) (deeds_of (run_on world_behaviour 2 (image_world i) lines).told) ≡ Fine
 image_is_fine i start lines lawful begins =
     run_is_fine (layout_of i) i.limit 2 _ (state_of start) (image_world i) lines (image_origin i start lawful begins) (goes_image i lawful)
 

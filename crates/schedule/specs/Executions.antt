@@ -1,6 +1,6 @@
 -- What an execution of the model reports, and the run of a schedule on a world as such an execution
 -- (the specification's Run).
-use Rattle.std.specs.Prelude.{◌≡◌, ℕ, List, [], ◌∷◌, ◌++◌, length, map, Option, Some, None}
+use Rattle.std.specs.Prelude.{◌≡◌, ℕ, ◌-◌, ◌<◌, ◌⊎◌, List, [], ◌∷◌, ◌++◌, All, length, map, take, Option, Some, None}
 use Rattle.rmecore.specs.declared.refusal.Refusal.{Refusal}
 use Rattle.redomail.specs.declared.layout.Layout.{Layout}
 use Rattle.rmeworld.specs.CallWalk.{answer_to}
@@ -8,11 +8,14 @@ use Rattle.rmecore.specs.Simulated.{own_at}
 use Rattle.redomail.specs.Layout.{words_of}
 use Rattle.rmeworld.specs.Reached.{crashed_global_state, IsImageOf}
 use Rattle.rmeworld.specs.Replayed.{image_of}
-use Rattle.rmeworld.specs.ProcessState.{WorldEvent, who}
+use Rattle.rmeworld.specs.ProcessState.{WorldEvent, Begins, Falls, Moves, who}
 use Rattle.rmeworld.specs.World.{GlobalState, at_first, onward, Execution, last_global_state, event_deeds, deeds}
 use Rattle.rmeworld.specs.WorldState.{WorldState}
+use Rattle.rmeworld.specs.declared.answer.Answer.{Answer}
 use Rattle.rmeworld.specs.declared.image.Image.{Image}
-use Rattle.schedule.specs.Runs.{Told, Did, answered, Part, deeds_of}
+use Rattle.schedule.specs.declared.lines.line.Line.{Line}
+use Rattle.schedule.specs.declared.lines.line.Line.TheVariants.{Start, Step, Crash}
+use Rattle.schedule.specs.Runs.{Told, Did, Answered, answered, Part, deeds_of}
 
 -- where a world begins: new, with all words 0, or made of an image, with its words and every process crashed
 abbrev pub first_global_state : Option Image → GlobalState
@@ -28,11 +31,41 @@ abbrev pub told_in : Layout → ℕ → GlobalState → List WorldEvent → List
 told_in l limit w [] = []
 told_in l limit w (e ∷ es) = told_at l w e ++ told_in l limit (onward l limit w e) es
 
--- Some execution, from the first state of a new world or of one made of this image, reports just what the run reports,
--- has just its deeds, and ends with just the words that the run leaves.
-pub record IsExecution (l : Layout) (limit : ℕ) (origin : Option Image) (run : Part WorldState (ℕ × Refusal)) : Type 0 where
+-- a load or a store of p
+abbrev pub IsStepOf : ℕ → WorldEvent → Type 0
+IsStepOf p (Moves q kind word v) = q ≡ p
+IsStepOf p e = ⊥
+
+-- what these events report ends with the answer of p's call
+abbrev pub Answers : Layout → ℕ → ℕ → GlobalState → List WorldEvent → Type 0
+Answers l limit p w es = (answer : Answer) × ((before : List Told) × (told_in l limit w es ≡ before ++ Answered p answer ∷ []))
+
+-- the events of one line: one start of the call, one crash, or as many steps of the process as the line says. They are fewer
+-- only where the last one answers the call
+abbrev pub IsLinePlayed : Layout → ℕ → GlobalState → Line → List WorldEvent → Type 0
+IsLinePlayed l limit w (Start p call) es = es ≡ Begins p call ∷ []
+IsLinePlayed l limit w (Step p n) es = All (IsStepOf p) es × ((length es ≡ n) ⊎ ((length es < n) × Answers l limit p w es))
+IsLinePlayed l limit w (Crash p) es = es ≡ Falls p ∷ []
+
+-- the events are those of the lines, line by line
+abbrev pub ArePlayed : Layout → ℕ → GlobalState → List Line → List WorldEvent → Type 0
+ArePlayed l limit w [] es = es ≡ []
+ArePlayed l limit w (line ∷ lines) es =
+    (now : List WorldEvent) × ((later : List WorldEvent) × (es ≡ now ++ later) × IsLinePlayed l limit w line now
+    × ArePlayed l limit (last_global_state l limit w now) lines later)
+
+-- the lines that are played, where the first has this number: all of them, or those before the one that is refused
+abbrev pub lines_played : ℕ → Option (ℕ × Refusal) → List Line → List Line
+lines_played first None lines = lines
+lines_played first (Some refused) lines = take (refused.0 - first) lines
+
+-- Some execution, from the first state of a new world or of one made of this image, has just the starts, steps and crashes of
+-- the lines that are played, reports just what the run reports, has just its deeds, and ends with just the words that the run
+-- leaves. The first line after the header has the number 2.
+pub record IsExecution (l : Layout) (limit : ℕ) (origin : Option Image) (lines : List Line) (run : Part WorldState (ℕ × Refusal)) : Type 0 where
   pub execution : List WorldEvent
   pub may : Execution l limit (first_global_state origin) execution
+  pub events : ArePlayed l limit (first_global_state origin) (lines_played 2 run.refused lines) execution
   pub told : told_in l limit (first_global_state origin) execution ≡ run.told
   pub deeds : deeds l limit (first_global_state origin) execution ≡ deeds_of run.told
   pub words : IsImageOf l limit (last_global_state l limit (first_global_state origin) execution) (image_of run.left)

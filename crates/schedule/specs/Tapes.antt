@@ -1,5 +1,5 @@
 -- Bytes that are read, and bytes that are written, in pieces.
-use Rattle.std.specs.Prelude.{◌≡◌, ℕ, Bool, List, [], ◌++◌}
+use Rattle.std.specs.Prelude.{◌≡◌, ℕ, Bool, List, [], ◌++◌, Option, IsSome}
 
 -- what was read of a source: the bytes that it has given, whether it has reached its end, and how often it failed,
 -- at most 2^64 - 1
@@ -18,6 +18,10 @@ pub record WritesFront (old new bytes rest : List ℕ) : Type 0 where
 pub record Tape : Type 0 where
   pub taken : List ℕ
   pub failures : ℕ
+
+-- the bytes that every writer of this type holds are known (`contents` of std's `Write`)
+abbrev pub AreKnown : {W : Type 0} → (W → Option (List ℕ)) → Type 0
+AreKnown {W} contents = (w : W) → IsSome (contents w)
 
 -- all of the text was written
 pub record Writes (before now : Tape) (text : List ℕ) : Type 0 where

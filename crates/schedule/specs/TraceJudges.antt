@@ -1,5 +1,5 @@
 -- Judging a trace, line by line (the specification's Trace).
-use Rattle.std.specs.Prelude.{◌≡◌, ℕ, ◌-◌, min, Bool, true, ◌+◌, ◌<◌, ◌≤◌, ◌^◌, ◌&&◌, nat_lt, nat_le, List, [], ◌∷◌, ◌++◌, length, Option, Some, None, Result, Ok, Err, if◌then◌else◌}
+use Rattle.std.specs.Prelude.{◌≡◌, ℕ, ◌-◌, min, Bool, true, ◌+◌, ◌<◌, ◌≤◌, ◌^◌, ◌⊎◌, ◌&&◌, nat_lt, nat_le, List, [], ◌∷◌, ◌++◌, length, Option, Some, None, Result, Ok, Err, if◌then◌else◌}
 use Rattle.rmecore.specs.declared.refusal.Refusal.{Refusal}
 use Rattle.rmecore.specs.declared.refusal.Refusal.TheVariants.{BadProcs, BadCap}
 use Rattle.rmecore.specs.Refused.{number_of}
@@ -100,3 +100,7 @@ abbrev pub JudgesTrace : List ℕ → List ℕ → ℕ → ℕ → Bool → Resu
 JudgesTrace old new before now ended (Err Read) = now ≡ min (before + 1) (2 ^ 64 - 1)
 JudgesTrace old new before now ended (Err OutOfMemory) = now ≡ before
 JudgesTrace old new before now ended answer = AnswersText old new ended answer × (now ≡ before)
+
+-- what judging a trace answers where it is known that the source gives this text
+abbrev pub JudgesText : List ℕ → Result Verdict ReplayFault → Type 0
+JudgesText text answer = (answer ≡ Err Read) ⊎ (answer ≡ Err OutOfMemory) ⊎ (answer ≡ trace_answer (parts_of text))

@@ -62,3 +62,13 @@ pub record WasRead (old new : Reading) (text : List ℕ) : Type 0 where
 abbrev pub ReplaysSource : Reading → Reading → Tape → Tape → Result Verdict ReplayFault → Type 0
 ReplaysSource old new before now answer =
     (Unread old new answer × Silent before now) ⊎ ((text : List ℕ) × WasRead old new text × OfText before now (schedule_at text) answer)
+
+-- the same where it is known that the source gives this text
+abbrev pub ReplaysText : List ℕ → Reading → Reading → Tape → Tape → Result Verdict ReplayFault → Type 0
+ReplaysText text old new before now answer = (Unread old new answer × Silent before now) ⊎ OfText before now (schedule_at text) answer
+
+-- the same between a reader and a writer, by what the writer held before and holds now
+abbrev pub ReplaysBetween : List ℕ → List ℕ → List ℕ → Result Verdict ReplayFault → Type 0
+ReplaysBetween text before now answer =
+    ((answer ≡ Err Read) ⊎ (answer ≡ Err OutOfMemory)) × (now ≡ before)
+    ⊎ ((failures : ℕ) × OfText (record { taken = before; failures = 0 }) (record { taken = now; failures = failures }) (schedule_at text) answer)

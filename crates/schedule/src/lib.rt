@@ -11,7 +11,7 @@ pub use lines::fault::LineFault;
 pub use lines::line::Line;
 pub use replays::last_words::put_verdict;
 pub use replays::replay_fault::ReplayFault;
-pub use replays::replay_text::replay;
+pub use replays::replay_text::{replay, replay_to_writer};
 pub use replays::replaying::replay_on;
 pub use replays::trace_judge::judge_trace;
 pub use replays::verdict::Verdict;

@@ -1,11 +1,14 @@
 //! A whole text.
 
 ghost use Rattle.std.specs.Prelude.{IfOk, OnOk};
+ghost use Rattle.algorithms.specs.Deeds.{SaysDeed};
 ghost use Rattle.algorithms.specs.Ranked.{LocalLinesEnd, AccessesLeadOn};
+ghost use Rattle.algorithms.specs.declared.line.Deed.TheVariants as deeds;
 
 use crate::algorithm::{Algorithm, Call, Promises};
+use crate::deeds::says_deed;
 use crate::fault::{AlgorithmFault, LineFault};
-use crate::line::{Form, Line};
+use crate::line::{Deed, Form, Line};
 use crate::ranks::lines_end;
 use crate::reading::calls::{head, promises};
 use crate::reading::flow::Flow;
@@ -217,18 +220,45 @@ fn check_flow(alloc: Global, draft: &mut Draft) -> Result<(), AlgorithmFault>
     }
 }
 
+/// Checks that a line of the call that begins at this place says a deed.
+fn check_said(draft: &Draft, call: Call, entry: usize, deed: Deed) -> Result<(), AlgorithmFault>
+    ensures { OnOk result (SaysDeed draft.now.algorithm entry deed) }
+{
+    if says_deed(&draft.algorithm, entry, deed) {
+        return Ok(());
+    }
+    let number = match call_of(draft, call) {
+        Some(call) => call.number,
+        None => draft.number,
+    };
+    Err(LineFault::BadDeed.at(number))
+}
+
+/// Checks that the lock says that it enters, and the unlock that it leaves.
+fn check_deeds(draft: &Draft) -> Result<(), AlgorithmFault>
+    ensures enters { OnOk result (SaysDeed draft.now.algorithm draft.now.algorithm.entries.lock deeds.Enter) }
+    ensures leaves { OnOk result (SaysDeed draft.now.algorithm draft.now.algorithm.entries.unlock deeds.Leave) }
+{
+    let entries = draft.algorithm.entries;
+    check_said(draft, Call::Lock, entries.lock, Deed::Enter)?;
+    check_said(draft, Call::Unlock, entries.unlock, Deed::Leave)
+}
+
 /// Reads an algorithm from a text.
 ///
 /// Faults are looked for in four rounds, and the first that is found is named: those of the characters and tokens of all lines;
 /// those of forms, declared names, blocks and calls; call by call those of labels, names and deeds; and call by call those of
-/// what runs may do. Calls are taken in the order lock, unlock, recover, withdraw, whatever their order in the text, and in
-/// each call labels before names and deeds.
+/// what runs may do, and at last that the lock says `enter` and the unlock `leave`. Calls are taken in the order lock, unlock,
+/// recover, withdraw, whatever their order in the text, and in each call labels before names and deeds.
 pub fn read_algorithm(alloc: Global, text: &[u8]) -> Result<Algorithm, AlgorithmFault>
     ensures ends { IfOk result LocalLinesEnd }
     ensures leads { IfOk result AccessesLeadOn }
+    ensures enters { IfOk result (λ a. SaysDeed a a.entries.lock deeds.Enter) }
+    ensures leaves { IfOk result (λ a. SaysDeed a a.entries.unlock deeds.Leave) }
 {
     let mut draft = forms(alloc, text)?;
     check_calls(&mut draft)?;
     check_flow(alloc, &mut draft)?;
+    check_deeds(&draft)?;
     Ok(draft.algorithm)
 }

@@ -1,8 +1,9 @@
 //! Searches of the jugs.
 
 use crate::search::jugs::{Jugs, Pour};
-use explorer::{SearchFault, SearchOutcome, Unwatched, Watch, search};
-use std::alloc::Global;
+use explorer::{SearchFault, SearchOutcome, Unwatched, Watch, search, search_in_parallel};
+use std::alloc::{AllocError, Global};
+use std::thread::Threads;
 
 /// Jugs of which the big one has to hold this many litres.
 fn empty(wanted: u64) -> Jugs {
@@ -82,6 +83,63 @@ fn states_past_the_moves_are_not_counted(rt: HostRuntime) {
     assert!(rt; are_none_within(rt.alloc(), 7, 2, 6));
     assert!(rt; answers(rt.alloc(), 7, 2, 5, Err(SearchFault::TooManyStates)));
     assert!(rt; are_none_within(rt.alloc(), 4, 5, 12));
+}
+
+/// The answer of a search by this many threads.
+fn answer_by(
+    rt: &(impl Threads + Sync),
+    alloc: Global,
+    threads: usize,
+    wanted: u64,
+    most_moves: u64,
+    most_states: u64,
+) -> Result<SearchOutcome<Pour>, SearchFault> {
+    let mut jobs = Vec::new(alloc);
+    for _ in 0..threads.min(64) {
+        jobs.push(empty(wanted))?;
+    }
+    let start = empty(wanted);
+    search_in_parallel(
+        rt,
+        alloc,
+        start,
+        jobs,
+        most_moves,
+        most_states,
+        &mut Unwatched,
+    )
+}
+
+/// At each bound of states and of moves, threads find what one search does.
+#[test]
+fn any_number_of_threads_answers_the_same_at_the_bounds(rt: HostRuntime) {
+    for wanted in [1, 2, 4, 5, 7] {
+        for most_moves in 0..10 {
+            for most_states in 0..18 {
+                let one = search(
+                    rt.alloc(),
+                    empty(wanted),
+                    most_moves,
+                    most_states,
+                    &mut Unwatched,
+                );
+                for threads in [1, 2, 3, 7] {
+                    let found = answer_by(
+                        &rt,
+                        rt.alloc(),
+                        threads,
+                        wanted,
+                        most_moves,
+                        most_states,
+                    );
+                    assert!(rt;
+                        found == one,
+                        "{wanted} {most_moves} {most_states} {threads}"
+                    );
+                }
+            }
+        }
+    }
 }
 
 /// What a search showed its watcher: how many states, the sum of the moves to them, and the first and the last call.

@@ -163,7 +163,7 @@ call lock
   this is leave
   done
 call unlock
-  x := 0
+  x := 0 this is leave
   done
 @file b.rme
 rme 1 procs 2 limit 1 cap 1

@@ -21,13 +21,14 @@ ghost use Rattle.schedule.specs.Executions.{IsExecution};
 ghost use Rattle.schedule.specs.Verdicts.{verdict_on};
 
 /// The run of a schedule on a world is an execution of the model, also where a line is refused or memory runs out.
-/// From a new world, or from that of a lawful image, some execution has just the deeds and answers of the run, in its order,
-/// and ends with just the words that the run leaves. A replay reports just this run.
+/// From a new world, or from that of a lawful image, some execution has just the starts, steps and crashes of the lines that
+/// were played, and just the deeds and answers of the run, in its order, and ends with just the words that the run leaves.
+/// A replay reports just this run.
 pub fn runs_are_executions()
     ensures new { (l : LayoutOf) (limit : ℕ) (lines : List LineOf) → new_refusal l limit ≡ None
-        → IsExecution l limit None (run_on world_behaviour 2 (new_world l limit) lines) }
+        → IsExecution l limit None lines (run_on world_behaviour 2 (new_world l limit) lines) }
     ensures later { (i : ImageOf) (lines : List LineOf) → IsLawfulImage i
-        → IsExecution (layout_of i) i.limit (Some i) (run_on world_behaviour 2 (image_world i) lines) }
+        → IsExecution (layout_of i) i.limit (Some i) lines (run_on world_behaviour 2 (image_world i) lines) }
 {}
 
 /// The lock theorem for replays: whatever lines are played on a new world, a new judge of its processes and its capacity

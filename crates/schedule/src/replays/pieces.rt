@@ -1,6 +1,7 @@
 //! Cuts pieces of any length into lines, and reads the whole text of a source.
 
 ghost use Rattle.std.specs.Prelude.{◌≡◌, ℕ, ◌+◌, ◌-◌, ◌^◌, ◌⊎◌, List, [], ◌∷◌, ◌++◌, OnOk, IfOk, IfErr, true, min, length, ◌≤◌};
+ghost use Rattle.std.specs.Io.KnownBytes.{Consumes, IsAtEnd};
 ghost use Rattle.schedule.specs.Words.{parts_of};
 
 use crate::lines::cut::cut_once;
@@ -70,8 +71,10 @@ pub fn take_lines<S: Source, T: TakeLine>(
 ) -> Result<Vec<u8>, ReplayFault>
     ensures taken { (lines : List (List ℕ)) → T.after taker.old lines
         → IfOk result (λ rest. (text : List ℕ) × ((S.reading source.new).given ≡ (S.reading source.old).given ++ text)
+        × Consumes (S.coming source.old) (S.coming source.new) text
         × ((more : List (List ℕ)) × (parts_of text ≡ more ++ rest.items ∷ []) × T.after taker.new (lines ++ more))) }
     ensures ended { OnOk result ((S.reading source.new).ended ≡ true) }
+    ensures none_left { OnOk result (IsAtEnd (S.coming source.new)) }
     ensures finite { OnOk result (length (S.reading source.new).given ≤ 2 ^ 63) }
     ensures fine { OnOk result ((S.reading source.new).failures ≡ (S.reading source.old).failures) }
     ensures fault { IfErr result (λ fault. (fault ≡ ReplayFault.Read)
@@ -93,6 +96,9 @@ pub fn take_lines<S: Source, T: TakeLine>(
 /// All bytes that the source still has. `Read` where the source fails.
 pub fn read_all<S: Source>(alloc: Global, source: &mut S) -> Result<Vec<u8>, ReplayFault>
     ensures given { IfOk result (λ text. (S.reading source.new).given ≡ (S.reading source.old).given ++ text.items) }
+    // Where it is known what is to come, this is just what was read.
+    ensures known { IfOk result (λ text. Consumes (S.coming source.old) (S.coming source.new) text.items
+        × IsAtEnd (S.coming source.new)) }
     ensures ended { OnOk result ((S.reading source.new).ended ≡ true) }
     ensures fine { OnOk result ((S.reading source.new).failures ≡ (S.reading source.old).failures) }
     ensures fault { IfErr result (λ fault. (fault ≡ ReplayFault.Read)

@@ -1,6 +1,6 @@
 //! Replays the text of a schedule.
 
-ghost use Rattle.std.specs.Prelude.{◌≡◌, ◌+◌, ◌^◌, ◌<◌, ◌≤◌, List, length, drop, Ok, IfOk};
+ghost use Rattle.std.specs.Prelude.{◌≡◌, ◌+◌, ◌^◌, ◌<◌, ◌≤◌, ℕ, List, [], length, drop, Ok, IfOk, Some, unwrap_or};
 ghost use Rattle.judge.specs.Table.{State};
 ghost use Rattle.judge.specs.Stands.{Keeps};
 ghost use Rattle.schedule.specs.Replays.{Replays};
@@ -14,7 +14,8 @@ ghost use Rattle.schedule.specs.Words.{parts_of};
 ghost use Rattle.schedule.specs.RunningVerdicts.{running_judge};
 ghost use Rattle.schedule.specs.Plays.{Runs};
 ghost use Rattle.schedule.specs.Schedules.{schedule_at, scheduled_with};
-ghost use Rattle.schedule.specs.Wholes.{layout_of, header_fault, OfSchedule, OfText, ReplaysSource};
+ghost use Rattle.schedule.specs.Tapes.{AreKnown};
+ghost use Rattle.schedule.specs.Wholes.{layout_of, header_fault, OfSchedule, OfText, ReplaysSource, ReplaysText, ReplaysBetween};
 
 use crate::lexer::in_place::read_whole;
 use crate::replays::laws::worlds_are_never_found_out;
@@ -27,10 +28,12 @@ use crate::replays::verdict::Verdict;
 use crate::texts::device::{Sink, Source};
 use crate::texts::fault::TextFault;
 use crate::texts::head::Head;
+use crate::texts::wrapped::{FromReader, ToWriter};
 use judge::Judge;
 use rmecore::Refusal;
 use rmeworld::{Machine, World};
 use std::alloc::Global;
+use std::io;
 
 /// The fault where no world or no judge has the header's sizes.
 fn at_header(refusal: Refusal) -> ReplayFault
@@ -146,9 +149,31 @@ pub fn replay<R: Source, W: Sink>(
     // What was read, written and answered.
     ensures replay { ReplaysSource (R.reading source.old) (R.reading source.new)
         (W.tape w.old) (W.tape w.new) result }
+    // Where it is known what the source gives, just this text is replayed.
+    ensures known { (text : List ℕ) → R.coming source.old ≡ Some text
+        → ReplaysText text (R.reading source.old) (R.reading source.new) (W.tape w.old) (W.tape w.new) result }
     // By the lock theorem no replay answers `Against`.
     ensures fine { IfOk result (λ verdict. verdict ≡ Verdict.Fine) }
 {
     let text = read_all(alloc, source)?;
     replay_text(alloc, text, w)
+}
+
+/// Replays the schedule whose text a reader of std gives, and writes its report to a writer of std, as `replay` does.
+/// Answers the writer as well. It does not flush it.
+pub fn replay_to_writer<R: io::Read + Drop, W: io::Write>(
+    alloc: Global,
+    reader: R,
+    writer: W,
+) -> (Result<Verdict, ReplayFault>, W)
+    // Where it is known what the reader gives and what the writer holds, the writer holds the report of just this text, after
+    // what it held.
+    ensures known { (text : List ℕ) → R.remaining reader ≡ Some text → AreKnown W.contents
+        → ReplaysBetween text (unwrap_or (W.contents writer) []) (unwrap_or (W.contents result.1) []) result.0 }
+    ensures fine { IfOk result.0 (λ verdict. verdict ≡ Verdict.Fine) }
+{
+    let mut source = FromReader::new(reader);
+    let mut sink = ToWriter::new(writer);
+    let answer = replay(alloc, &mut source, &mut sink);
+    (answer, sink.into_inner())
 }

@@ -1,8 +1,8 @@
 //! Judges a trace while it is read.
 
-ghost use Rattle.std.specs.Prelude.{◌≡◌, ℕ, ◌+◌, ◌-◌, ◌<◌, ◌^◌, ◌++◌, ◌∷◌, [], ◌⊎◌, List, length, IfOk, IfErr, OnOk, min, true};
+ghost use Rattle.std.specs.Prelude.{◌≡◌, ℕ, ◌+◌, ◌-◌, ◌<◌, ◌^◌, ◌++◌, ◌∷◌, [], ◌⊎◌, List, length, IfOk, IfErr, OnOk, min, true, Some};
 ghost use Rattle.schedule.specs.Numbers.{number_of};
-ghost use Rattle.schedule.specs.TraceJudges.{TraceJudgeState, Follows, trace_answer, JudgesTrace};
+ghost use Rattle.schedule.specs.TraceJudges.{TraceJudgeState, Follows, trace_answer, JudgesTrace, JudgesText};
 
 use crate::lines::fault::LineFault;
 use crate::replays::pieces::{TakeLine, take_lines};
@@ -92,8 +92,10 @@ impl TakeLine for TraceJudge {
 /// The answer is that of the whole text, however the bytes are cut into pieces. It is the first of these that fits:
 /// `Read`, the first fault of the text, `Refused` at line 1 where no judge has its sizes, the verdict on its deeds.
 pub fn judge_trace<S: Source>(alloc: Global, source: &mut S) -> Result<Verdict, ReplayFault>
-    ensures { JudgesTrace (S.reading source.old).given (S.reading source.new).given (S.reading source.old).failures
+    ensures judges { JudgesTrace (S.reading source.old).given (S.reading source.new).given (S.reading source.old).failures
         (S.reading source.new).failures (S.reading source.new).ended result }
+    // Where it is known what the source gives, the answer is that of just this text.
+    ensures known { (text : List ℕ) → S.coming source.old ≡ Some text → JudgesText text result }
 {
     let mut trace_judge = TraceJudge::new(alloc);
     let rest = take_lines(alloc, source, &mut trace_judge)?;

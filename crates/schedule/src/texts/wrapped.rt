@@ -1,9 +1,11 @@
 //! Readers and writers of std as devices.
 
-ghost use Rattle.std.specs.Prelude.{◌≡◌, ◌+◌, ◌-◌, ◌^◌, ◌<◌, ◌≤◌, ◌++◌, List, ℕ, [], length, take, OnOk, OnErr, IfOk, min, false};
+ghost use Rattle.std.specs.Prelude.{◌≡◌, ◌+◌, ◌-◌, ◌^◌, ◌<◌, ◌≤◌, ◌++◌, List, ℕ, [], length, take, OnOk, OnErr, IfOk, min, false, Some, unwrap_or};
+ghost use Rattle.schedule.specs.Tapes.{AreKnown};
 
 use crate::texts::device::{Failed, Sink, Source};
 use histories::Log;
+use std::snapshot::Snapshot;
 use std::{io, mem};
 
 /// The log with the bytes added. A log is for proofs alone and takes no memory.
@@ -33,12 +35,11 @@ pub struct FromReader<R> {
     ghost few: { count ≤ 2 ^ 62 },
 }
 
-impl<R> FromReader<R> {
-    /// A reader that has given nothing yet.
+impl<R: io::Read> FromReader<R> {
+    /// A reader that has given nothing yet. Where it is known what the reader will give, this is to come.
     pub fn new(inner: R) -> FromReader<R>
-        ensures given { result.given.items ≡ [] }
-        ensures ended { result.ended ≡ false }
-        ensures failures { result.failures ≡ 0 }
+        ensures reading { ⟦<FromReader<R> as Source>⟧.reading result ≡ record { given = []; ended = false; failures = 0 } }
+        ensures coming { ⟦<FromReader<R> as Source>⟧.coming result ≡ R.remaining inner }
     {
         FromReader {
             inner,
@@ -50,6 +51,7 @@ impl<R> FromReader<R> {
     }
 
     fn fail(&mut self) -> Failed
+        ensures inner { self.new.inner ≡ self.old.inner }
         ensures given { self.new.given.items ≡ self.old.given.items }
         ensures ended { self.new.ended ≡ self.old.ended }
         ensures failures { self.new.failures ≡ min (self.old.failures + 1) (2 ^ 64 - 1) }
@@ -60,6 +62,7 @@ impl<R> FromReader<R> {
 
     fn take(&mut self, bytes: &[u8])
         requires { self.old.count + length bytes.now ≤ 2 ^ 62 }
+        ensures inner { self.new.inner ≡ self.old.inner }
         ensures given { self.new.given.items ≡ self.old.given.items ++ bytes.now }
         ensures failures { self.new.failures ≡ self.old.failures }
         ensures ended { self.new.ended ≡ self.old.ended }
@@ -71,6 +74,8 @@ impl<R> FromReader<R> {
 
 impl<R: io::Read> Source for FromReader<R> {
     ghost reading = { λ s. record { given = s.given.items; ended = s.ended; failures = s.failures } };
+
+    ghost coming = { λ s. R.remaining s.inner };
 
     fn read(&mut self, buf: &mut [u8]) -> Result<usize, Failed> {
         let left = MOST_BYTES - self.count;
@@ -92,27 +97,50 @@ impl<R: io::Read> Source for FromReader<R> {
 }
 
 /// Any writer of std as a sink. It fails where the writer does, also where that was only interrupted or wrote nothing.
+/// What it has taken is what the writer holds, where that is known of every writer of the type. So it begins with what the
+/// writer held at first.
 #[derive(Drop)]
-pub struct ToWriter<W> {
+pub struct ToWriter<W: io::Write> {
     inner: W,
+    first: Snapshot<W>,
     taken: Log<u8>,
     failures: u64,
+    ghost passed: { AreKnown W.contents
+        → W.contents inner ≡ Some (unwrap_or (W.contents first.value) [] ++ taken.items) },
 }
 
-impl<W> ToWriter<W> {
-    /// A writer that has taken nothing yet.
+impl<W: io::Write> ToWriter<W> {
+    /// A writer that has taken what it holds already, where that is known, and else nothing.
     pub fn new(inner: W) -> ToWriter<W>
-        ensures taken { result.taken.items ≡ [] }
-        ensures failures { result.failures ≡ 0 }
+        ensures { ⟦<ToWriter<W> as Sink>⟧.tape result
+            ≡ record { taken = unwrap_or (W.contents inner) []; failures = 0 } }
     {
+        let first = Snapshot::of(&inner);
         ToWriter {
             inner,
+            first,
             taken: Log::new(),
             failures: 0,
         }
     }
 
+    /// The writer.
+    pub fn get_ref(&self) -> &W
+        ensures { AreKnown W.contents → W.contents result.now ≡ Some (⟦<ToWriter<W> as Sink>⟧.tape self.now).taken }
+    {
+        &self.inner
+    }
+
+    /// The writer. It holds what was taken.
+    pub fn into_inner(self) -> W
+        ensures { AreKnown W.contents → W.contents result ≡ Some (⟦<ToWriter<W> as Sink>⟧.tape self).taken }
+    {
+        self.inner
+    }
+
     fn fail(&mut self) -> Failed
+        ensures inner { self.new.inner ≡ self.old.inner }
+        ensures first { self.new.first.value ≡ self.old.first.value }
         ensures taken { self.new.taken.items ≡ self.old.taken.items }
         ensures failures { self.new.failures ≡ min (self.old.failures + 1) (2 ^ 64 - 1) }
     {
@@ -122,7 +150,7 @@ impl<W> ToWriter<W> {
 }
 
 impl<W: io::Write> Sink for ToWriter<W> {
-    ghost tape = { λ s. record { taken = s.taken.items; failures = s.failures } };
+    ghost tape = { λ s. record { taken = unwrap_or (W.contents s.first.value) [] ++ s.taken.items; failures = s.failures } };
 
     fn write(&mut self, bytes: &[u8]) -> Result<usize, Failed> {
         match self.inner.write(bytes) {

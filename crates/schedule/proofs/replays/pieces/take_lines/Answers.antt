@@ -1,4 +1,5 @@
 use Rattle.std.proofs.Common.{◌≡◌, ◌+◌, ◌≤◌, ◌^◌, List, ℕ, [], ◌∷◌, ◌++◌, take, length, sym, ap, ◌∙◌, append_assoc, arith, length-append, length-take}
+use Rattle.std.proofs.KnownBytes.{Consumes-trans}
 use Rattle.schedule.proofs.Cutting.{parts_of-pieces}
 use Rattle.schedule.proofs.replays.pieces.take_lines.Goals as goal
 
@@ -18,8 +19,9 @@ loop-preserved g c =
         text ++ piece,
         given,
         more,
+        Consumes-trans _ _ _ text piece inv.3 c.in-Ok.ensures.coming.0,
         λ lines after.
-            let so_far = inv.3 lines after in
+            let so_far = inv.4 lines after in
             let fed = c.in_ok-feed-in-Ok.ensures.taken (lines ++ so_far.0) so_far.2 in
             let rest : List (List ℕ) = c.feed.new.buffer.items ∷ [] in (
               so_far.0 ++ fed.0,

@@ -359,13 +359,24 @@ int fcntl(int file, int command, ...)
     return (int)syscall(SYS_fcntl, file, command, argument);
 }
 
+static unsigned descriptors(void)
+{
+    unsigned count = 0;
+    for (int file = 0; file < 256; file++)
+        count += syscall(SYS_fcntl, file, F_GETFD, 0) >= 0;
+    return count;
+}
+
 static void attach_to_a_file_that_is_replaced(void)
 {
     struct rme_seat seat;
     make(2, 4);
     EXPECT(rme_create(other_path, 2, 4, 1, 0), 0);
     replace = true;
+    const unsigned before = descriptors();
     EXPECT(rme_attach(&seat, path, 0), ESTALE);
+    EXPECT(descriptors(), before);
+    EXPECT(rme_detach(&seat), EINVAL);
     EXPECT(rme_attach(&seat, path, 0), 0);
 }
 

@@ -125,28 +125,32 @@ static void descriptor_of_another_seat(void) { closed_descriptor(3); }
 
 /* ---- children ---- */
 
-/* A child closes its share, and its parent is killed after that: it has died all the same. */
+/* A child closes its share, and its parent is killed after that, inside or at rest: it has died all the same. */
 static void detach_of_a_child(void)
 {
     struct rme_seat seat;
-    make_with_data(2);
-    pid_t parent = fork();
-    if (parent == 0) {
-        EXPECT(rme_attach(&seat, path, 0), 0);
-        EXPECT(rme_lock(&seat), 0);
-        pid_t child = fork();
-        if (child == 0) {
-            EXPECT(rme_detach(&seat), EINVAL);
-            _exit(0);
+    for (int inside = 0; inside < 2; inside++) {
+        make_with_data(2);
+        pid_t parent = fork();
+        if (parent == 0) {
+            EXPECT(rme_attach(&seat, path, 0), 0);
+            if (inside)
+                EXPECT(rme_lock(&seat), 0);
+            pid_t child = fork();
+            if (child == 0) {
+                EXPECT(rme_detach(&seat), EINVAL);
+                EXPECT(rme_detach(&seat), EINVAL);
+                _exit(0);
+            }
+            expect_exit(child, 0);
+            kill(getpid(), SIGKILL);
         }
-        expect_exit(child, 0);
-        kill(getpid(), SIGKILL);
+        waitpid(parent, NULL, 0);
+        EXPECT(life_of(0), RME_DEAD);
+        EXPECT(rme_attach(&seat, path, 0), 0);
+        EXPECT(rme_crashed(&seat), true);
+        EXPECT(rme_lock(&seat), inside ? EOWNERDEAD : 0);
     }
-    waitpid(parent, NULL, 0);
-    EXPECT(life_of(0), RME_DEAD);
-    EXPECT(rme_attach(&seat, path, 0), 0);
-    EXPECT(rme_crashed(&seat), true);
-    EXPECT(rme_lock(&seat), EOWNERDEAD);
 }
 
 /* A program that the process becomes has neither the file nor the index. */

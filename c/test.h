@@ -88,7 +88,7 @@ static int run_tests(int count, char **word, const struct test *tests, size_t al
         int status = 0;
         pid_t child = fork();
         if (child == 0) {
-            alarm(60);
+            alarm(20);
             tests[i].test();
             fflush(NULL);
             _exit(0);

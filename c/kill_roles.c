@@ -175,9 +175,9 @@ static void arrive(struct rme_seat *seat, uint64_t index)
         fail("attach does not tell that an earlier process died inside", (int64_t)index);
     if (owed.notice && rme_reaped(seat) != RME_FOUND_INSIDE)
         fail("attach does not tell again what nobody has acknowledged", (int64_t)index);
-    if (!owed.notice && is_inside(index) && rme_reaped(seat) == RME_FOUND_INSIDE)
+    if (!pair && !owed.notice && is_inside(index) && rme_reaped(seat) == RME_FOUND_INSIDE)
         fail("attach tells of a repair that nobody has made", (int64_t)index);
-    duty->notice |= rme_reaped(seat) == RME_FOUND_INSIDE;
+    duty->notice |= !pair && rme_reaped(seat) == RME_FOUND_INSIDE;
     if (owed.found && !rme_crashed(seat) && rme_reaped(seat) != RME_FOUND_INSIDE)
         fail("attach does not tell that one who died inside was reaped", (int64_t)index);
 }
@@ -247,7 +247,7 @@ static void reap(uint64_t index)
     if (marked)
         shared->duty[index].reaped = 1;
     shared->duty[index].attached = 0;
-    shared->duty[index].notice |= *mark(index) / RME_REAPED == RME_FOUND_INSIDE;
+    shared->duty[index].notice |= !pair && *mark(index) / RME_REAPED == RME_FOUND_INSIDE;
     if (shared->duty[index].found && *mark(index) / RME_REAPED != RME_FOUND_INSIDE)
         fail("the mark does not say that one who died inside was reaped", (int64_t)*mark(index));
 }

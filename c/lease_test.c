@@ -223,12 +223,10 @@ static int repair_that_forks(struct rme_seat *dead, uint64_t index, void *data, 
     (void)dead, (void)index, (void)data, (void)bytes, (void)context;
     pid_t child = fork();
     if (child == 0) {
-        common->forked = getpid();
         nap(30);
         _exit(0);
     }
-    while (!common->forked)
-        nap(0.001);
+    common->forked = child;
     kill(getpid(), SIGKILL);
     return 1;
 }
@@ -237,7 +235,8 @@ static int repair_that_forks(struct rme_seat *dead, uint64_t index, void *data, 
 static void child_of_a_killed_reaper(void)
 {
     struct rme_seat seat;
-    for (int in_lock = 0; in_lock < 2; in_lock++) {
+    for (int k = 0; k < 20; k++) {
+        const bool in_lock = k % 2;
         make_with_data(3);
         die(0, INSIDE);
         pid_t reaper = fork();

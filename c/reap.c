@@ -2,6 +2,7 @@
  * the calls of its seat. */
 #include "shim.h"
 
+#include <poll.h>
 #include <stdatomic.h>
 #include <stdio.h>
 #include <sys/stat.h>
@@ -11,6 +12,32 @@
 /* It is one of an open file of its own, which is not mapped: a child of fork closes it, and so can't keep it when the reaper ends.
  * Each descriptor and one, while it is a lease; 0 is room. */
 static _Atomic int leases[MOST_PROCS];
+static _Thread_local int ends[2]; /* of a pipe, by which a child says that it has closed all */
+
+static void before_fork(void)
+{
+    bool some = false;
+    for (unsigned i = 0; i < MOST_PROCS; i++)
+        some = some || leases[i];
+    if (!some || pipe2(ends, O_CLOEXEC))
+        ends[0] = ends[1] = -1;
+}
+
+static void close_ends(void)
+{
+    for (unsigned i = 0; i < 2; i++)
+        if (ends[i] >= 0)
+            close(ends[i]);
+}
+
+/* Whoever is killed after its fork has a child without its leases. */
+static void wait_for_child(void)
+{
+    struct pollfd said = {.fd = ends[0], .events = POLLIN};
+    if (ends[0] >= 0)
+        poll(&said, 1, 100 /* milliseconds, for a child that was killed */);
+    close_ends();
+}
 
 static void close_in_child(void)
 {
@@ -19,9 +46,12 @@ static void close_in_child(void)
         if (file >= 0)
             close(file);
     }
+    const bool said = ends[1] >= 0 && write(ends[1], "", 1) == 1;
+    (void)said; /* else nobody waits for it */
+    close_ends();
 }
 
-static void close_at_fork(void) { pthread_atfork(NULL, NULL, close_in_child); }
+static void close_at_fork(void) { pthread_atfork(before_fork, wait_for_child, close_in_child); }
 
 /* Whether it was there, and is another now. */
 static bool note_lease(int was, int now)

@@ -5,10 +5,10 @@
  * (not proved): makes each access that the machine names and waits (rme.c), keeps the file (file.c), and recovers for the dead
  * (reap.c). Beside it status.c says how a file stands.
  *
- * What one holder has written before its rme_unlock, in plain writes to rme_data or to any other memory that both map, the next
- * holder reads after its lock, and a repair that is called after its death. Each store of the shim into the lock's words is an
- * exchange (x86-64: xchg): no later load passes it, which the lock needs, and no earlier write is passed by it. Each load is one of
- * an acquire. What one that died inside has written may be there in part. */
+ * What one holder has written before its rme_unlock, in plain writes to rme_data or to other memory that both map, the next holder
+ * reads after its lock. For each store of the shim into the words is a sequentially consistent one, which is an exchange (xchg on
+ * x86-64): no earlier write comes after it, and no later load before it, which the lock itself needs. Of one that died inside, the
+ * next one or a repair may find any part of what it was writing. */
 #ifndef RME_H
 #define RME_H
 
@@ -73,7 +73,7 @@ typedef int rme_repair(struct rme_seat *dead, uint64_t index, void *data, size_t
  *     EBUSY   a call with this seat is under way: in another thread, or in the one that this signal handler has interrupted; or,
  *             but for locks, rme_blocker, rme_withdraw, rme_read_from and rme_detach: its lock was left after ETIMEDOUT
  *     EBADMSG the words are none that this library leaves, and the call named one that is not there; nothing is stored there
- *     EBADF   of those that ask for a lease (rme_lock_reaping, rme_lock_reaping_until, rme_blocker, rme_index_status, rme_pid): the
+ *     EBADF   only of calls that ask for a lease (rme_lock_reaping, rme_lock_reaping_until, rme_blocker, rme_index_status, rme_pid): the
  *             seat's descriptor was closed, or is another file's by now
  * A seat is used by one thread at a time. No call with a seat is a point of cancellation, and cancellation is off in the others;
  * none may be left by longjmp or asynchronous cancellation. Cutting the file short while it is mapped ends in SIGBUS. */
@@ -88,8 +88,8 @@ typedef int rme_repair(struct rme_seat *dead, uint64_t index, void *data, size_t
  *     and those of open, posix_fallocate, write and linkat */
 int rme_create(const char *path, uint64_t procs, uint64_t cap, uint64_t width, uint64_t data_bytes);
 
-/* The same, with this mode, whatever the umask is, and this group ((gid_t)-1: as the system has it). Whoever may write the file can
- * take part, and can break the lock for all.
+/* The same, with this mode and group. The umask takes nothing of the mode; the group (gid_t)-1 is the one that the system gives.
+ * Whoever may write the file can take part, and can break the lock for all.
  * Errors:
  *     EINVAL sizes out of range, or a mode above 0777 or one that is not the owner's to read and write
  *     EPERM  the group is none that this process may give
@@ -173,7 +173,7 @@ int rme_interrupt(struct rme_seat *seat);
  * Errors: those of rme_lock, and of fcntl */
 int rme_lock_reaping(struct rme_seat *seat, uint64_t turns, rme_repair *repair, void *context);
 
-/* The same, up to this time of CLOCK_MONOTONIC (null: for ever).
+/* The same, up to this time of CLOCK_MONOTONIC, or for ever where it is null.
  * Errors:
  *     EINVAL    no time
  *     ETIMEDOUT still not inside: it keeps its place in line
@@ -192,7 +192,8 @@ int rme_blocker(struct rme_seat *seat, uint64_t *index, bool *alive);
  *     EINVAL it does not wait */
 int rme_withdraw(struct rme_seat *seat);
 
-/* Leaves. Without rme_consistent after EOWNERDEAD it ruins the lock for all.
+/* Leaves. What this process has written inside, in plain writes too, the next holder reads. Without rme_consistent after EOWNERDEAD
+ * it ruins the lock for all.
  * Errors:
  *     EPERM not inside */
 int rme_unlock(struct rme_seat *seat);

@@ -144,7 +144,7 @@ void rme_close_seat(struct rme_seat *s)
 
 int rme_open_seat(struct rme_seat *s, const char *path, int access)
 {
-    struct stat status;
+    struct stat status = {0};
     if (!s || !path)
         return EINVAL;
     *s = (struct rme_seat){.self = s, .file = open(path, access | O_CLOEXEC | O_NONBLOCK | O_NOCTTY)};
@@ -208,7 +208,7 @@ int rme_life_of(const struct rme_seat *s, uint64_t index, int *life)
 static int lease_within(const struct rme_seat *s, uint64_t index, uint64_t milliseconds)
 {
     const struct timespec nap = {0, 1000000};
-    int life, error;
+    int life = RME_ABSENT, error;
     for (uint64_t passed = 0; (error = rme_lease(s->file, index, F_WRLCK, BOTH_BYTES)) == EBUSY && milliseconds > 0; passed++) {
         error = rme_life_of(s, index, &life);
         if (error || life == RME_ALIVE)

@@ -15,7 +15,7 @@
 enum { DATA_BYTES = 1000 };
 
 /* Seen by all processes of a test. */
-struct common { volatile int repairs, forked, answer, bytes; };
+struct common { volatile int repairs, forked, answer; };
 static struct common *common;
 static bool no_proc;
 

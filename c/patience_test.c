@@ -6,7 +6,7 @@
 
 #include <sys/resource.h>
 
-static struct rme_seat holder, seat;
+static struct rme_seat holder, waiter;
 
 static struct timespec after(double seconds)
 {
@@ -27,7 +27,7 @@ static void begin(bool inside)
 {
     make(3, 4);
     EXPECT(rme_attach(&holder, path, 0), 0);
-    EXPECT(rme_attach(&seat, path, 1), 0);
+    EXPECT(rme_attach(&waiter, path, 1), 0);
     if (inside)
         EXPECT(rme_lock(&holder), 0);
 }
@@ -44,28 +44,28 @@ static struct rme_index index_of(uint64_t index)
 static void trylock_of_a_free_lock(void)
 {
     begin(false);
-    EXPECT(rme_trylock(&seat), 0);
+    EXPECT(rme_trylock(&waiter), 0);
     EXPECT(index_of(1).found, RME_FOUND_INSIDE);
-    EXPECT(rme_trylock(&seat), EDEADLK);
-    EXPECT(rme_append(&seat, 1, &(uint64_t){7}), 0);
-    EXPECT(rme_unlock(&seat), 0);
-    EXPECT(rme_trylock(&seat), 0);
-    EXPECT(rme_unlock(&seat), 0);
+    EXPECT(rme_trylock(&waiter), EDEADLK);
+    EXPECT(rme_append(&waiter, 1, &(uint64_t){7}), 0);
+    EXPECT(rme_unlock(&waiter), 0);
+    EXPECT(rme_trylock(&waiter), 0);
+    EXPECT(rme_unlock(&waiter), 0);
 }
 
 static void trylock_of_a_lock_that_is_held(void)
 {
     begin(true);
-    EXPECT(rme_trylock(&seat), EAGAIN);
+    EXPECT(rme_trylock(&waiter), EAGAIN);
     EXPECT(index_of(1).found, RME_FOUND_IDLE);
-    EXPECT(rme_unlock(&seat), EPERM);
-    EXPECT(rme_withdraw(&seat), EINVAL);
-    EXPECT(rme_lock_within(&seat, 3), ETIMEDOUT);
-    EXPECT(rme_trylock(&seat), EBUSY);
+    EXPECT(rme_unlock(&waiter), EPERM);
+    EXPECT(rme_withdraw(&waiter), EINVAL);
+    EXPECT(rme_lock_within(&waiter, 3), ETIMEDOUT);
+    EXPECT(rme_trylock(&waiter), EBUSY);
     EXPECT(index_of(1).found, RME_FOUND_WAITING);
     EXPECT(rme_unlock(&holder), 0);
-    EXPECT(rme_trylock(&seat), EBUSY);
-    EXPECT(rme_lock(&seat), 0);
+    EXPECT(rme_trylock(&waiter), EBUSY);
+    EXPECT(rme_lock(&waiter), 0);
 }
 
 static void trylock_after_a_death(void)
@@ -74,10 +74,10 @@ static void trylock_after_a_death(void)
     EXPECT(rme_attach(&holder, path, 2), 0);
     die(1, INSIDE);
     EXPECT(rme_trylock(&holder), EAGAIN);
-    EXPECT(rme_attach(&seat, path, 1), 0);
-    EXPECT(rme_trylock(&seat), EOWNERDEAD);
-    EXPECT(rme_consistent(&seat), 0);
-    EXPECT(rme_unlock(&seat), 0);
+    EXPECT(rme_attach(&waiter, path, 1), 0);
+    EXPECT(rme_trylock(&waiter), EOWNERDEAD);
+    EXPECT(rme_consistent(&waiter), 0);
+    EXPECT(rme_unlock(&waiter), 0);
     EXPECT(rme_trylock(&holder), 0);
 }
 
@@ -87,19 +87,19 @@ static void lock_until_a_time(void)
 {
     begin(true);
     const struct timespec past = {0, 0}, soon = after(0.2), from = after(0);
-    EXPECT(rme_lock_until(&seat, &past), ETIMEDOUT);
-    EXPECT(rme_lock_until(&seat, NULL), EINVAL);
-    EXPECT(rme_lock_until(&seat, &(struct timespec){0, -1}), EINVAL);
-    EXPECT(rme_lock_until(&seat, &(struct timespec){0, 1000000000}), EINVAL);
-    EXPECT(rme_lock_until(&seat, &soon), ETIMEDOUT);
+    EXPECT(rme_lock_until(&waiter, &past), ETIMEDOUT);
+    EXPECT(rme_lock_until(&waiter, NULL), EINVAL);
+    EXPECT(rme_lock_until(&waiter, &(struct timespec){0, -1}), EINVAL);
+    EXPECT(rme_lock_until(&waiter, &(struct timespec){0, 1000000000}), EINVAL);
+    EXPECT(rme_lock_until(&waiter, &soon), ETIMEDOUT);
     EXPECT(passed_since(from) >= 0.2, true);
     EXPECT(passed_since(from) < 10, true);
     EXPECT(index_of(1).found, RME_FOUND_WAITING);
     EXPECT(rme_unlock(&holder), 0);
-    EXPECT(rme_lock_until(&seat, &past), 0);
-    EXPECT(rme_unlock(&seat), 0);
-    EXPECT(rme_lock_until(&seat, &(struct timespec){INT64_MAX, 999999999}), 0);
-    EXPECT(rme_unlock(&seat), 0);
+    EXPECT(rme_lock_until(&waiter, &past), 0);
+    EXPECT(rme_unlock(&waiter), 0);
+    EXPECT(rme_lock_until(&waiter, &(struct timespec){INT64_MAX, 999999999}), 0);
+    EXPECT(rme_unlock(&waiter), 0);
 }
 
 /* It sleeps meanwhile, and is woken by the unlock. */
@@ -130,14 +130,14 @@ static void lock_reaping_until_a_time(void)
 {
     begin(true);
     const struct timespec past = {0, 0}, soon = after(0.1), from = after(0), late = after(30);
-    EXPECT(rme_lock_reaping_until(&seat, 0, &past, NULL, NULL), ETIMEDOUT);
-    EXPECT(rme_lock_reaping_until(&seat, 0, &(struct timespec){0, -1}, NULL, NULL), EINVAL);
-    EXPECT(rme_lock_reaping_until(&seat, 0, &soon, NULL, NULL), ETIMEDOUT);
+    EXPECT(rme_lock_reaping_until(&waiter, 0, &past, NULL, NULL), ETIMEDOUT);
+    EXPECT(rme_lock_reaping_until(&waiter, 0, &(struct timespec){0, -1}, NULL, NULL), EINVAL);
+    EXPECT(rme_lock_reaping_until(&waiter, 0, &soon, NULL, NULL), ETIMEDOUT);
     EXPECT(passed_since(from) >= 0.1, true);
-    EXPECT(rme_lock_reaping_until(&seat, 1000000, &soon, NULL, NULL), ETIMEDOUT);
+    EXPECT(rme_lock_reaping_until(&waiter, 1000000, &soon, NULL, NULL), ETIMEDOUT);
     EXPECT(index_of(1).found, RME_FOUND_WAITING);
     EXPECT(rme_detach(&holder), EBUSY); /* it has died inside */
-    EXPECT(rme_lock_reaping_until(&seat, 3, &late, NULL, NULL), 0);
+    EXPECT(rme_lock_reaping_until(&waiter, 3, &late, NULL, NULL), 0);
     EXPECT(passed_since(from) < 20, true);
 }
 
@@ -150,7 +150,7 @@ static void lock_reaping_sleeps(void)
     for (int k = 0; k < 3; k++) {
         const struct timespec soon = after(0.5);
         EXPECT(getrusage(RUSAGE_SELF, &from), 0);
-        EXPECT(rme_lock_reaping_until(&seat, turns[k], &soon, NULL, NULL), ETIMEDOUT);
+        EXPECT(rme_lock_reaping_until(&waiter, turns[k], &soon, NULL, NULL), ETIMEDOUT);
         EXPECT(getrusage(RUSAGE_SELF, &to), 0);
         const long system = (to.ru_stime.tv_sec - from.ru_stime.tv_sec) * 1000000 + to.ru_stime.tv_usec - from.ru_stime.tv_usec;
         const long user = (to.ru_utime.tv_sec - from.ru_utime.tv_sec) * 1000000 + to.ru_utime.tv_usec - from.ru_utime.tv_usec;
@@ -166,25 +166,25 @@ static void interrupt_of_the_next_wait(void)
     begin(false);
     EXPECT(rme_interrupt(&none), EINVAL);
     EXPECT(rme_interrupt(NULL), EINVAL);
-    EXPECT(rme_interrupt(&seat), 0);
-    EXPECT(rme_lock(&seat), 0); /* it does not wait */
-    EXPECT(rme_unlock(&seat), 0);
+    EXPECT(rme_interrupt(&waiter), 0);
+    EXPECT(rme_lock(&waiter), 0); /* it does not wait */
+    EXPECT(rme_unlock(&waiter), 0);
     EXPECT(rme_lock(&holder), 0);
-    EXPECT(rme_lock(&seat), EINTR);
+    EXPECT(rme_lock(&waiter), EINTR);
     EXPECT(index_of(1).found, RME_FOUND_WAITING);
-    EXPECT(rme_lock_within(&seat, 3), ETIMEDOUT); /* it was said once */
-    EXPECT(rme_interrupt(&seat), 0);
-    EXPECT(rme_lock_reaping(&seat, 3, NULL, NULL), EINTR);
-    EXPECT(rme_interrupt(&seat), 0);
-    EXPECT(rme_lock_until(&seat, &(struct timespec){INT64_MAX, 0}), EINTR);
-    EXPECT(rme_withdraw(&seat), 0);
-    EXPECT(rme_detach(&seat), 0);
+    EXPECT(rme_lock_within(&waiter, 3), ETIMEDOUT); /* it was said once */
+    EXPECT(rme_interrupt(&waiter), 0);
+    EXPECT(rme_lock_reaping(&waiter, 3, NULL, NULL), EINTR);
+    EXPECT(rme_interrupt(&waiter), 0);
+    EXPECT(rme_lock_until(&waiter, &(struct timespec){INT64_MAX, 0}), EINTR);
+    EXPECT(rme_withdraw(&waiter), 0);
+    EXPECT(rme_detach(&waiter), 0);
 }
 
 static void interrupt_in_the_handler(int number)
 {
     (void)number;
-    rme_interrupt(&seat);
+    rme_interrupt(&waiter);
 }
 
 /* Of a lock that spins, yields or sleeps; with SA_RESTART too. */
@@ -197,17 +197,17 @@ static void interrupt_by_a_signal(void)
         const struct timespec from = after(0);
         EXPECT(sigaction(SIGALRM, &action, NULL), 0);
         ualarm(microseconds, 0);
-        EXPECT(k % 3 ? rme_lock(&seat) : rme_lock_reaping(&seat, 3, NULL, NULL), EINTR);
+        EXPECT(k % 3 ? rme_lock(&waiter) : rme_lock_reaping(&waiter, 3, NULL, NULL), EINTR);
         EXPECT(passed_since(from) < 5, true);
         EXPECT(index_of(1).found, RME_FOUND_WAITING);
     }
     EXPECT(rme_unlock(&holder), 0);
-    EXPECT(rme_lock(&seat), 0);
+    EXPECT(rme_lock(&waiter), 0);
 }
 
 static void *lock_and_say(void *argument)
 {
-    *(volatile int *)argument = rme_lock(&seat);
+    *(volatile int *)argument = rme_lock(&waiter);
     return NULL;
 }
 
@@ -219,10 +219,10 @@ static void interrupt_by_a_thread(void)
     EXPECT(pthread_create(&thread, NULL, lock_and_say, (void *)&told), 0);
     nap(0.2);
     EXPECT(told, -1);
-    EXPECT(rme_interrupt(&seat), 0);
+    EXPECT(rme_interrupt(&waiter), 0);
     EXPECT(pthread_join(thread, NULL), 0);
     EXPECT(told, EINTR);
-    EXPECT(rme_withdraw(&seat), 0);
+    EXPECT(rme_withdraw(&waiter), 0);
 }
 
 /* A signal without rme_interrupt ends nothing. */
@@ -233,7 +233,7 @@ static void signal_alone(void)
     signal(SIGALRM, ignore);
     ualarm(20000, 20000);
     const struct timespec soon = after(0.3), from = after(0);
-    EXPECT(rme_lock_until(&seat, &soon), ETIMEDOUT);
+    EXPECT(rme_lock_until(&waiter, &soon), ETIMEDOUT);
     EXPECT(passed_since(from) >= 0.3, true);
     ualarm(0, 0);
 }
@@ -248,25 +248,25 @@ static void entries_and_waits(void)
     EXPECT(rme_pid(&holder, 2), 0);
     EXPECT(rme_pid(&holder, 3), 0);
     for (int k = 0; k < 5; k++) {
-        EXPECT(rme_lock(&seat), 0);
-        EXPECT(rme_unlock(&seat), 0);
+        EXPECT(rme_lock(&waiter), 0);
+        EXPECT(rme_unlock(&waiter), 0);
     }
     EXPECT(index_of(1).entries, 5);
     EXPECT(index_of(1).waits, 0);
     EXPECT(rme_lock(&holder), 0);
-    EXPECT(rme_trylock(&seat), EAGAIN);
+    EXPECT(rme_trylock(&waiter), EAGAIN);
     EXPECT(index_of(1).waits, 0);
-    EXPECT(rme_lock_within(&seat, 30), ETIMEDOUT);
-    EXPECT(rme_lock_within(&seat, 30), ETIMEDOUT);
+    EXPECT(rme_lock_within(&waiter, 30), ETIMEDOUT);
+    EXPECT(rme_lock_within(&waiter, 30), ETIMEDOUT);
     EXPECT(index_of(1).entries, 5);
     EXPECT(index_of(1).waits, 1);
     EXPECT(rme_unlock(&holder), 0);
-    EXPECT(rme_lock(&seat), 0);
+    EXPECT(rme_lock(&waiter), 0);
     EXPECT(index_of(1).entries, 6);
     EXPECT(index_of(1).waits, 1);
     EXPECT(index_of(0).entries, 1);
-    EXPECT(rme_unlock(&seat), 0);
-    EXPECT(rme_detach(&seat), 0);
+    EXPECT(rme_unlock(&waiter), 0);
+    EXPECT(rme_detach(&waiter), 0);
     EXPECT(index_of(1).pid, 0);
     EXPECT(index_of(1).entries, 6);
     die(1, INSIDE);

@@ -277,11 +277,11 @@ static bool read_numbers(char **word, int count, uint64_t *number)
 }
 
 /* The group of this name, or number. */
-static bool read_group(const char *word, gid_t *group)
+static bool read_group(char *word, gid_t *group)
 {
-    uint64_t number;
+    uint64_t number = 0;
     const struct group *named = getgrnam(word);
-    if (!named && (!read_numbers((char *[]){(char *)(uintptr_t)word}, 1, &number) || number >= UINT32_MAX))
+    if (!named && (!read_numbers(&word, 1, &number) || number >= UINT32_MAX))
         return false;
     *group = named ? named->gr_gid : (gid_t)number;
     return true;

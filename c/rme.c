@@ -161,7 +161,7 @@ static uint64_t finish(struct rme_seat *s, uint64_t told, struct made made, stru
     return told;
 }
 
-int rme_error_of(uint64_t told)
+static int error_of(uint64_t told)
 {
     static const int errors[RME_DONE + 1] = {
         [RME_CALL_UNDER_WAY] = EBUSY, [RME_NOT_OWNER] = EPERM, [RME_ALREADY_IN] = EDEADLK, [RME_UNMENDED] = EOWNERDEAD,
@@ -193,7 +193,7 @@ int rme_end_call(struct rme_seat *s, int error)
 /* The end of a call of RME_LOCK. */
 int rme_end_lock(struct rme_seat *s, uint64_t told)
 {
-    int error = rme_error_of(told);
+    int error = error_of(told);
     if (told == RME_CLEAN || told == RME_OWNER_DIED)
         tally(s, ENTRIES);
     else if (told == RME_BLOCKED && __atomic_exchange_n(&s->interrupted, 0, __ATOMIC_SEQ_CST))
@@ -246,7 +246,7 @@ static INLINED int call(struct rme_seat *s, const struct rme_call *asked, struct
     if (error)
         return error;
     uint64_t told = rme_make_call(s, asked, may_wait, &access);
-    error = rme_end_call(s, rme_error_of(told));
+    error = rme_end_call(s, error_of(told));
     if (got && !error)
         *got = told == RME_WORD ? access.value : told;
     return error;
@@ -286,7 +286,7 @@ int rme_trylock(struct rme_seat *s)
     const uint64_t told = rme_make_call(s, &lock_call, at_once, &access);
     if (told != RME_BLOCKED)
         return rme_end_lock(s, told);
-    error = rme_error_of(rme_make_call(s, &withdraw_call, at_once, &access));
+    error = error_of(rme_make_call(s, &withdraw_call, at_once, &access));
     return rme_end_call(s, error ? error : EAGAIN);
 }
 

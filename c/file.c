@@ -130,16 +130,19 @@ static int wiped_on_fork(struct rme_seat *s)
     return madvise(page, PAGE, MADV_WIPEONFORK) ? errno : 0;
 }
 
+/* First it is not attached, for a handler that calls rme_interrupt. */
 void rme_close_seat(struct rme_seat *s)
 {
+    const struct rme_seat was = *s;
     const bool ours = rme_check_file(s) == 0;
-    if (s->header)
-        munmap(s->header, s->length);
-    if (s->state)
-        munmap(s->state, PAGE);
-    if (ours)
-        close(s->file);
     *s = (struct rme_seat){.file = -1};
+    __atomic_signal_fence(__ATOMIC_SEQ_CST);
+    if (was.header)
+        munmap(was.header, was.length);
+    if (was.state)
+        munmap(was.state, PAGE);
+    if (ours)
+        close(was.file);
 }
 
 int rme_open_seat(struct rme_seat *s, const char *path, int access)

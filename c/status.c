@@ -84,6 +84,8 @@ int rme_acknowledge(struct rme_seat *s)
     const int error = rme_begin_call(s);
     if (error)
         return error;
+    if (s->machine.index >= s->machine.procs || s->machine.procs > MOST_PROCS)
+        return rme_end_call(s, EINVAL);
     store(&s->header->marks[s->machine.index], RME_ATTACHED);
     s->reaped = 0;
     return rme_end_call(s, 0);

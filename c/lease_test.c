@@ -18,8 +18,9 @@ enum { DATA_BYTES = 1000 };
 struct common { volatile int repairs, forked, answer; };
 static struct common *common;
 static bool no_proc;
+static int opens_until_replaced;
 
-/* In place of the C library's: where /proc is not mounted. */
+/* In place of the C library's: where /proc is not mounted, and where the file is replaced under its name. */
 int open(const char *name, int flags, ...)
 {
     va_list rest;
@@ -28,6 +29,8 @@ int open(const char *name, int flags, ...)
     va_end(rest);
     if (no_proc && strncmp(name, "/proc/", 6) == 0)
         return errno = ENOENT, -1;
+    if (opens_until_replaced && strcmp(name, path) == 0 && --opens_until_replaced == 0)
+        EXPECT(rename(other_path, path), 0);
     return (int)syscall(SYS_openat, AT_FDCWD, name, flags, mode);
 }
 
@@ -372,6 +375,22 @@ static void lease_after_an_error(void)
     }
 }
 
+/* The lease is asked of the file that was opened first, whatever has its name meanwhile: there the process lives. */
+static void reaping_of_a_file_that_is_replaced(void)
+{
+    struct rme_seat living;
+    make_with_data(2);
+    EXPECT(rme_create(other_path, 2, 4, 1, DATA_BYTES), 0);
+    EXPECT(rme_attach(&living, path, 0), 0);
+    EXPECT(rme_lock(&living), 0);
+    opens_until_replaced = 2;
+    EXPECT(rme_reap(path, 0, repair, NULL), EBUSY);
+    EXPECT(opens_until_replaced, 0);
+    EXPECT(common->repairs, 0);
+    EXPECT(rme_unlock(&living), 0);
+    EXPECT(rme_detach(&living), 0);
+}
+
 /* ---- what a refusal leaves ---- */
 
 struct effects { unsigned descriptors, mappings, names; uint64_t bytes; };
@@ -499,8 +518,8 @@ static const struct test tests[] = {
     TEST(descriptor_that_is_closed), TEST(descriptor_of_another_file), TEST(descriptor_of_the_file_by_another_open),
     TEST(descriptor_of_another_seat), TEST(detach_of_a_child), TEST(exec_of_another_program), TEST(descriptors_close_on_exec),
     TEST(child_of_a_killed_reaper), TEST(child_that_returns_from_a_repair), TEST(blocked_by_a_reaper),
-    TEST(reaper_waits_for_nobody), TEST(lease_after_an_error), TEST(refusals_to_create), TEST(refusals_to_attach),
-    TEST(refusals_to_reap),
+    TEST(reaper_waits_for_nobody), TEST(lease_after_an_error), TEST(reaping_of_a_file_that_is_replaced), TEST(refusals_to_create),
+    TEST(refusals_to_attach), TEST(refusals_to_reap),
 };
 
 int main(int count, char **word) { return run_tests(count, word, tests, sizeof tests / sizeof *tests); }

@@ -102,11 +102,18 @@ static void lock_until_a_time(void)
     EXPECT(rme_unlock(&waiter), 0);
 }
 
-/* It sleeps meanwhile, and is woken by the unlock. */
-static void lock_until_sleeps(void)
+static double processor_time(void)
 {
     struct rusage usage;
+    EXPECT(getrusage(RUSAGE_SELF, &usage), 0);
+    return (double)(usage.ru_utime.tv_sec + usage.ru_stime.tv_sec) + (double)(usage.ru_utime.tv_usec + usage.ru_stime.tv_usec) * 1e-6;
+}
+
+/* It sleeps meanwhile, on one number after the other, and is woken. */
+static void lock_until_sleeps(void)
+{
     begin(true);
+    EXPECT(rme_lock_within(&waiter, 3), ETIMEDOUT);
     pid_t child = fork();
     if (child == 0) {
         struct rme_seat own;
@@ -114,13 +121,14 @@ static void lock_until_sleeps(void)
         EXPECT(rme_attach(&own, path, 2), 0);
         EXPECT(rme_lock_until(&own, &late), 0);
         EXPECT(passed_since(from) < 20, true);
-        EXPECT(getrusage(RUSAGE_SELF, &usage), 0);
-        EXPECT((double)usage.ru_utime.tv_sec + (double)usage.ru_utime.tv_usec * 1e-6 < 0.3, true);
+        EXPECT(processor_time() < 0.3, true);
         EXPECT(rme_unlock(&own), 0);
         _exit(rme_detach(&own));
     }
     nap(0.5);
     EXPECT(rme_unlock(&holder), 0);
+    nap(0.7);
+    EXPECT(rme_withdraw(&waiter), 0);
     int status = 0;
     EXPECT(waitpid(child, &status, 0), child);
     EXPECT(status, 0);
@@ -145,16 +153,12 @@ static void lock_reaping_until_a_time(void)
 static void lock_reaping_sleeps(void)
 {
     static const uint64_t turns[] = {0, 1, 100};
-    struct rusage from, to;
     begin(true);
     for (int k = 0; k < 3; k++) {
         const struct timespec soon = after(0.5);
-        EXPECT(getrusage(RUSAGE_SELF, &from), 0);
+        const double before = processor_time();
         EXPECT(rme_lock_reaping_until(&waiter, turns[k], &soon, NULL, NULL), ETIMEDOUT);
-        EXPECT(getrusage(RUSAGE_SELF, &to), 0);
-        const long system = (to.ru_stime.tv_sec - from.ru_stime.tv_sec) * 1000000 + to.ru_stime.tv_usec - from.ru_stime.tv_usec;
-        const long user = (to.ru_utime.tv_sec - from.ru_utime.tv_sec) * 1000000 + to.ru_utime.tv_usec - from.ru_utime.tv_usec;
-        EXPECT(system + user < 150000, true);
+        EXPECT(processor_time() - before < 0.15, true);
     }
 }
 

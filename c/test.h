@@ -26,7 +26,7 @@ static void expect_at(int line, const char *what, long got, long wanted)
 }
 #define EXPECT(call, wanted) expect_at(__LINE__, #call, (long)(call), (long)(wanted))
 
-static void nap(double seconds)
+static inline void nap(double seconds)
 {
     struct timespec time = {(time_t)seconds, (long)((seconds - (double)(time_t)seconds) * 1e9)};
     nanosleep(&time, NULL);
@@ -40,7 +40,7 @@ static inline void make(uint64_t procs, uint64_t cap)
 
 /* A process of this index that gets so far and is killed. */
 enum stand { INSIDE, IN_LINE };
-static void die(uint64_t index, enum stand stand)
+static inline void die(uint64_t index, enum stand stand)
 {
     pid_t child = fork();
     if (child == 0) {

@@ -283,7 +283,7 @@ int rme_attach_file(struct rme_seat *s, int file, uint64_t index, uint64_t milli
 int rme_detach(struct rme_seat *s)
 {
     WITHOUT_CANCELLATION;
-    if (!is_open(s))
+    if (!is_open(s) || s->file < 0)
         return EINVAL;
     int error = is_attached(s) ? rme_begin_call(s) : 0;
     if (error == EBUSY)

@@ -289,6 +289,29 @@ static void child_that_returns_from_a_repair(void)
     }
 }
 
+/* ---- a repair that does what it may not ---- */
+
+static int repair_that_detaches(struct rme_seat *dead, uint64_t index, void *data, size_t bytes, void *context)
+{
+    EXPECT(rme_detach(dead), EINVAL);
+    EXPECT(rme_lock_reaping(context ? (struct rme_seat *)context : dead, 3, NULL, NULL), context ? EBUSY : EDEADLK);
+    return repair(dead, index, data, bytes, NULL);
+}
+
+static void detach_in_a_repair(void)
+{
+    struct rme_seat seat;
+    make_with_data(3);
+    die(0, INSIDE);
+    EXPECT(rme_reap(path, 0, repair_that_detaches, NULL), 0);
+    die(0, INSIDE);
+    EXPECT(rme_attach(&seat, path, 1), 0);
+    EXPECT(rme_lock_reaping(&seat, 3, repair_that_detaches, &seat), 0);
+    EXPECT(common->repairs, 2);
+    EXPECT(rme_unlock(&seat), 0);
+    EXPECT(rme_detach(&seat), 0);
+}
+
 /* ---- reapers and those who wait ---- */
 
 static int repair_that_waits(struct rme_seat *dead, uint64_t index, void *data, size_t bytes, void *context)
@@ -391,8 +414,8 @@ static void reaping_of_a_file_that_is_replaced(void)
 static const struct test tests[] = {
     TEST(descriptor_that_is_closed), TEST(descriptor_of_another_file), TEST(descriptor_of_the_file_by_another_open),
     TEST(descriptor_of_another_seat), TEST(detach_of_a_child), TEST(exec_of_another_program), TEST(descriptors_close_on_exec),
-    TEST(child_of_a_killed_reaper), TEST(child_that_returns_from_a_repair), TEST(blocked_by_a_reaper),
-    TEST(reaper_waits_for_nobody), TEST(lease_after_an_error), TEST(reaping_of_a_file_that_is_replaced),
+    TEST(child_of_a_killed_reaper), TEST(child_that_returns_from_a_repair), TEST(detach_in_a_repair),
+    TEST(blocked_by_a_reaper), TEST(reaper_waits_for_nobody), TEST(lease_after_an_error), TEST(reaping_of_a_file_that_is_replaced),
 };
 
 int main(int count, char **word) { return run_tests(count, word, tests, sizeof tests / sizeof *tests); }

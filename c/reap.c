@@ -136,6 +136,7 @@ static int reap_by(int file, const struct rme_seat *own, uint64_t index, rme_rep
     if (error)
         return error;
     dead.self = &dead;
+    dead.file = -1; /* no rme_detach of it closes what is the seat's */
     dead.state = own->state + 1;
     dead.interrupted = 0;
     *dead.state = FREE;

@@ -172,7 +172,7 @@ static void lock_reaping_sleeps(void)
         const struct timespec soon = after(0.5);
         looks = 0;
         EXPECT(rme_lock_reaping_until(&waiter, turns[k], &soon, NULL, NULL), ETIMEDOUT);
-        EXPECT(looks > 0 && looks < 40, true); /* one after each sleep of 20 milliseconds */
+        EXPECT(looks > 0 && looks < 100, true); /* one after each sleep of 20 milliseconds, and some before */
     }
 }
 

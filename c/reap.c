@@ -203,7 +203,9 @@ int rme_reap_all(const char *path, rme_repair *repair, void *context, uint64_t *
 /* Whether an error of the reaping says that the one who blocks lives, or that another acts for it. */
 static bool is_alive(int error) { return error == EBUSY || error == ESRCH; }
 
-/* After a look that has found a living process the next comes after a sleep. */
+/* After a look that has found a living process, the least number of readings before the next, so that they come to sleep soon. */
+enum { LEAST_TURNS = 50 };
+
 int rme_lock_reaping_until(struct rme_seat *s, uint64_t turns, const struct timespec *until, rme_repair *repair, void *context)
 {
     WITHOUT_CANCELLATION;
@@ -225,7 +227,7 @@ int rme_lock_reaping_until(struct rme_seat *s, uint64_t turns, const struct time
             return rme_end_call(s, error);
         if (is_alive(error) && rme_time_left(until) == 0)
             break;
-        may_wait.turns = is_alive(error) ? UINT64_MAX : turns;
+        may_wait.turns = is_alive(error) && turns < LEAST_TURNS ? LEAST_TURNS : turns;
     }
     return rme_end_lock(s, told);
 }

@@ -167,9 +167,9 @@ int rme_trylock(struct rme_seat *seat);
  *     EINVAL the seat is not attached */
 int rme_interrupt(struct rme_seat *seat);
 
-/* rme_lock that reaps the dead who block it: after `turns` blocked readings, and then after each of its sleeps, which are 20
- * milliseconds long at most, it looks whether the process that blocks it lives. After an error of the reaping it keeps its place, as
- * after ETIMEDOUT.
+/* rme_lock that reaps the dead who block it: after `turns` blocked readings, and again after as many (50 at least) or after a sleep,
+ * which is 20 milliseconds long at most, it looks whether the process that blocks it lives. After an error of the reaping it keeps its
+ * place, as after ETIMEDOUT.
  * Errors: those of rme_lock, and of fcntl */
 int rme_lock_reaping(struct rme_seat *seat, uint64_t turns, rme_repair *repair, void *context);
 

@@ -30,6 +30,11 @@ static int open_unnamed(const char *path, char name[PATH_MAX])
 /* A whole file, which then gets its name in one step, unless there is one. */
 int rme_create(const char *path, uint64_t procs, uint64_t cap, uint64_t width, uint64_t data_bytes)
 {
+    return rme_create_with(path, procs, cap, width, NULL, data_bytes);
+}
+
+int rme_create_with(const char *path, uint64_t procs, uint64_t cap, uint64_t width, const void *data, uint64_t data_bytes)
+{
     WITHOUT_CANCELLATION;
     const struct rme_header header = {
         .magic = RME_MAGIC, .format = RME_FORMAT, .header = RME_HEADER, .words = rme_words(procs, cap, width),
@@ -49,6 +54,8 @@ int rme_create(const char *path, uint64_t procs, uint64_t cap, uint64_t width, u
     snprintf(descriptor, sizeof descriptor, "/proc/self/fd/%d", file);
     int error = posix_fallocate(file, 0, (off_t)(data_offset(header.words, procs) + data_bytes));
     if (!error && pwrite(file, &header, sizeof header, 0) != (ssize_t)sizeof header)
+        error = EIO;
+    if (!error && data && pwrite(file, data, data_bytes, (off_t)data_offset(header.words, procs)) != (ssize_t)data_bytes)
         error = EIO;
     if (!error && linkat(AT_FDCWD, *name ? name : descriptor, AT_FDCWD, path, AT_SYMLINK_FOLLOW))
         error = errno;

@@ -303,9 +303,9 @@ uint64_t log_ordinal(const struct log_view *v, uint64_t cursor)
     return v->segment[segment - v->first].before + place;
 }
 
-bool log_stands(const struct log_view *v, uint64_t sender)
+bool log_stands(const struct log_view *v, uint64_t from, uint64_t sender)
 {
-    for (uint64_t i = 0; i < v->count; i++)
+    for (uint64_t i = from; i < v->count; i++)
         for (uint64_t k = 0; k < 3; k++)
             if (v->segment[i].lines[8 * sender + k])
                 return true;

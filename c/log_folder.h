@@ -50,8 +50,8 @@ void log_view(const struct log_files *files, struct log_view *view);
 bool log_message(const struct log_view *view, uint64_t ordinal, uint64_t *sender, uint64_t *number);
 uint64_t log_ordinal(const struct log_view *view, uint64_t cursor);
 uint64_t value_of(uint64_t sender, uint64_t number, uint64_t j);
-/* Whether the sender stands in the lock of any segment. */
-bool log_stands(const struct log_view *view, uint64_t sender);
+/* Whether the sender stands in the lock of a segment, from this one on. */
+bool log_stands(const struct log_view *view, uint64_t from, uint64_t sender);
 
 /* Whether an append was cut in two after its commit. */
 bool log_is_half_done(const struct log_view *view);

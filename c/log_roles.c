@@ -44,14 +44,14 @@ void log_examine_end(enum log_role role)
     log_examine(&v);
     if (v.procs == 0)
         fail("a whole run leaves no log", 0);
-    if ((role == SEND || role == SEND_NEXT) && (v.numbers[0] < messages || log_stands(&v, 0)))
+    if ((role == SEND || role == SEND_NEXT) && (v.numbers[0] < messages || log_stands(&v, v.count - 1, 0)))
         fail("a whole run has not sent, or leaves words", (int64_t)v.numbers[0]);
     if (role == READ && log_ordinal(&v, v.reader) != v.messages)
         fail("a whole run has not read all", (int64_t)v.reader);
     if (role == DROP && v.first < v.last && (!v.reader || v.first < v.reader >> 20))
         fail("a whole run has not dropped", (int64_t)v.first);
     for (uint64_t i = 0; role == DROP && i < files.count; i++)
-        if (strlen(files.file[i].name) == 8 && strtoull(files.file[i].name, NULL, 10) < v.first)
+        if (files.file[i].name[0] == '0' && strtoull(files.file[i].name, NULL, 10) < v.first)
             fail("a whole run leaves what it has dropped", (int64_t)v.first);
 }
 
@@ -106,6 +106,7 @@ static void read_all(void)
         expect("read", TRACED(rme_log_read(&reader, &m, 1, &count)), 0);
         if (count == 0)
             break;
+        v = view_now();
         if (!log_message(&v, ordinal, &sender, &number) || m.sender != sender || m.number != number ||
             m.value[0] != value_of(sender, number, 0))
             fail("another message is read", (int64_t)m.number);
@@ -177,16 +178,15 @@ void log_visit(enum log_visitor visitor)
     struct log_view v = view_now();
     if (v.procs == 0)
         return;
-    if (visitor == SENDS || visitor == DROPS)
+    if (visitor != READS)
         come_by();
     if (visitor == READS)
         look_on();
+    if (visitor == DROPS && view_now().reader)
+        read_all();
     if (visitor == DROPS || visitor == PASSES) {
-        if (view_now().reader || visitor == PASSES)
-            read_all();
         drop();
-    }
-    if (visitor == DROPS)
         come_by();
+    }
     log_examine(&v);
 }

@@ -8,6 +8,7 @@
 #include <stdio.h>
 #include <stdlib.h>
 #include <string.h>
+#include <sys/inotify.h>
 #include <sys/mman.h>
 #include <sys/stat.h>
 #include <unistd.h>
@@ -69,6 +70,19 @@ static const struct log_file *find(const struct log_files *files, const struct l
     return NULL;
 }
 
+bool folder_may_differ(void)
+{
+    static int watch = -1;
+    static char events[1 << 14];
+    if (watch < 0) {
+        watch = inotify_init1(IN_NONBLOCK | IN_CLOEXEC);
+        if (watch < 0 || inotify_add_watch(watch, log_folder_name, IN_CREATE | IN_DELETE | IN_MOVE) < 0)
+            fail("inotify", errno);
+        return true;
+    }
+    return read(watch, events, sizeof events) > 0;
+}
+
 bool folder_look(struct log_files *files)
 {
     struct log_files found;
@@ -112,6 +126,16 @@ static uint64_t own_data(const uint64_t *words, uint64_t bytes)
     return h->magic == RME_MAGIC && bytes >= sizeof *h && 8 * at < bytes ? at : 0;
 }
 
+/* A word of a file, by which states are told apart: not the identity of the log, and not what a reaper has found, which no call of the log
+ * asks for. */
+static uint64_t word_apart(const struct log_file *f, uint64_t identity, uint64_t k)
+{
+    const uint64_t marks = offsetof(struct rme_header, marks) / 8;
+    if (k == identity)
+        return 0;
+    return k >= marks && k < marks + 64 ? f->words[k] % RME_REAPED : f->words[k];
+}
+
 struct snapshot folder_snapshot(const struct log_files *files, bool apart)
 {
     static uint64_t numbers[1 << 16];
@@ -125,10 +149,11 @@ struct snapshot folder_snapshot(const struct log_files *files, bool apart)
         n += MOST_NAME / 8 + 2;
         numbers[at + MOST_NAME / 8] = f->bytes;
         for (uint64_t k = 0; k < f->bytes / 8; k++) {
-            if (f->words[k] == 0 || (apart && k == identity))
+            const uint64_t word = apart ? word_apart(f, identity, k) : f->words[k];
+            if (word == 0)
                 continue;
             numbers[n++] = k;
-            numbers[n++] = f->words[k];
+            numbers[n++] = word;
         }
         numbers[at + MOST_NAME / 8 + 1] = n;
     }

@@ -25,8 +25,11 @@ extern const char *log_folder_name;
 
 /* Reads the names in the folder, and maps what is new. True: a name has come or gone, or is of another file. */
 bool folder_look(struct log_files *files);
+/* False: no name has come or gone since this was asked last. */
+bool folder_may_differ(void);
 void folder_clear(struct log_files *files);
-/* With `apart` the identity of the log, which is drawn, is left out, so that states are told apart by the rest. */
+/* With `apart` it is only that by which states are told apart: the identity of the log, which is drawn, and what a reaper has found, which
+ * no call of the log asks for, are left out. */
 struct snapshot folder_snapshot(const struct log_files *files, bool apart);
 void folder_restore(struct log_files *files, const struct snapshot *snapshot);
 bool folder_same(const struct snapshot *a, const struct snapshot *b);

@@ -111,46 +111,61 @@ static void passed_segments(void)
     EXPECT(read_numbers(&reader, 3, 3), 0);
 }
 
-/* In this time another process appends `count` more, one after the other. */
-static pid_t append_soon(uint64_t next, uint64_t count, double pause)
+/* Another process appends `count` messages, one after each pause: the time at which it does. */
+static pid_t append_soon(uint64_t count, double pause)
 {
     const pid_t child = fork();
     if (child == 0) {
-        EXPECT(rme_log_open(&second, folder, 1, 0), 0);
-        for (uint64_t number = next; number < next + count; number++) {
+        EXPECT(rme_log_open(&sender, folder, 1, 0), 0);
+        for (uint64_t number = 1; number <= count; number++) {
             nap(pause);
-            EXPECT(append(&second, number), 0);
+            const double time = now();
+            uint64_t value = 0;
+            memcpy(&value, &time, sizeof value);
+            EXPECT(rme_log_append(&sender, number, &value), 0);
         }
         _exit(0);
     }
     return child;
 }
 
-/* It sleeps, and is woken soon: also at the end of a segment that is full, and of one that is closed. */
+static int by_size(const void *a, const void *b)
+{
+    const double difference = *(const double *)a - *(const double *)b;
+    return (difference > 0) - (difference < 0);
+}
+
+/* It sleeps, and is woken soon: by its longest sleep alone it would be 50 milliseconds late. Every second message comes where the segment
+ * before is full. */
 static void readers_sleep(void)
 {
+    enum { TIMES = 15 };
     struct rme_message m;
     uint64_t count = 0;
-    double slept = 0;
-    make(folder, 1);
+    double late[2][TIMES] = {{0}};
+    make(folder, 2);
     EXPECT(rme_log_close(&sender), 0);
     EXPECT(rme_log_reader_open(&reader, folder, NULL), 0);
-    EXPECT(read_numbers(&reader, 1, 1), 0);
+    EXPECT(read_numbers(&reader, 1, 2), 0);
     const double begun = now();
     EXPECT(rme_log_wait(&reader, 30), ETIMEDOUT);
     EXPECT(now() - begun >= 0.03, true);
-    const pid_t child = append_soon(1, 40, 0.01);
-    for (uint64_t number = 1; number <= 40; number++) {
-        const double before = now();
+    const pid_t child = append_soon(2 * TIMES, 0.13);
+    for (uint64_t number = 1; number <= 2 * TIMES; number++) {
         EXPECT(rme_log_wait(&reader, 5000), 0);
-        slept += now() - before;
+        const double woken = now();
         EXPECT(rme_log_read(&reader, &m, 1, &count), 0);
         EXPECT(m.number, number);
+        memcpy(&late[number % 2][number / 2 % TIMES], m.value, sizeof late[0][0]);
+        late[number % 2][number / 2 % TIMES] = woken - late[number % 2][number / 2 % TIMES];
     }
     int status = 0;
     waitpid(child, &status, 0);
     EXPECT(status, 0);
-    EXPECT(slept < 2, true); /* 40 times some 10 milliseconds; by its longest sleep alone it would be 4 seconds */
+    for (int seam = 0; seam < 2; seam++) {
+        qsort(late[seam], TIMES, sizeof late[0][0], by_size);
+        EXPECT(late[seam][TIMES / 2] < 0.02, true);
+    }
 }
 
 static void on_alarm(int signal) { (void)signal; }
@@ -180,7 +195,7 @@ static void events(void)
     EXPECT(read(file, &times, sizeof times), sizeof times);
     EXPECT(read_numbers(&reader, 1, 1), 0);
     EXPECT(poll(&polled, 1, 150), 0);
-    const pid_t child = append_soon(1, 5, 0.02);
+    const pid_t child = append_soon(5, 0.02);
     for (uint64_t got = 0; got < 5;) {
         EXPECT(poll(&polled, 1, 5000), 1);
         EXPECT(read(file, &times, sizeof times), sizeof times);

@@ -259,6 +259,9 @@ static void foreign_heads(void)
     copy("/proc/self/status", name_in(folder, "00000001"));
     EXPECT(rme_log_drop(folder, 9, NULL), EBADMSG);
     EXPECT(remove(name_in(folder, "00000001")), 0);
+    EXPECT(rme_create(name_in(folder, "00000001"), 2, 2, 1, 0), 0);
+    EXPECT(rme_log_drop(folder, 9, NULL), EBADMSG);
+    EXPECT(remove(name_in(folder, "00000001")), 0);
     EXPECT(rme_log_close(&sender), 0);
     EXPECT(rename(name_in(folder, "log"), name_in(room, "kept")), 0);
     EXPECT(rme_log_open(&sender, folder, 0, 0), ENOENT);

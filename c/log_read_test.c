@@ -85,7 +85,7 @@ static void named_readers(void)
     EXPECT(rme_log_drop(folder, 9, &first), 0);
     EXPECT(first, 2); /* for the first */
     EXPECT(rme_log_readers(folder, note, seen), 0);
-    EXPECT(strcmp(seen[0].name, "a") || strcmp(seen[1].name, "b_-9"), 0);
+    EXPECT(strcmp(seen[0].name, "a") == 0 && strcmp(seen[1].name, "b_-9") == 0, true);
     EXPECT(seen[0].unread == 4 && seen[0].alive && !seen[0].overtaken, true);
     EXPECT(seen[1].unread == 0 && !seen[1].alive && !seen[1].overtaken, true);
     EXPECT(read_numbers(&reader, 4, 7), 0);

@@ -175,8 +175,10 @@ int rme_log_readers(const char *folder, int (*visit)(const struct rme_log_reader
 /* Answers what an error of these calls says, in words of the log; else what rme_strerror says. */
 const char *rme_log_strerror(int error);
 
-/* Answers sizeof (struct rme_log), and that of struct rme_log_reader, for callers that do not read this file. */
+/* Answers sizeof (struct rme_log), for callers that do not read this file. */
 size_t rme_log_size(void);
+
+/* Answers sizeof (struct rme_log_reader), for callers that do not read this file. */
 size_t rme_log_reader_size(void);
 
 #ifdef __cplusplus

@@ -98,11 +98,11 @@ static void read_all(void)
     static struct rme_log_reader reader;
     struct log_duty *duty = &log_shared->duty;
     struct rme_message m;
-    uint64_t count = 0, sender = 0, number = 0, ordinal;
+    uint64_t count = 0, sender = 0, number = 0;
     expect("open of a reader", TRACED(rme_log_reader_open(&reader, log_folder_name, "r")), 0);
     for (;;) {
         struct log_view v = view_now();
-        ordinal = log_ordinal(&v, reader.cursor.segment << 20 | reader.cursor.place);
+        const uint64_t ordinal = log_ordinal(&v, reader.cursor.segment << 20 | reader.cursor.place);
         expect("read", TRACED(rme_log_read(&reader, &m, 1, &count)), 0);
         if (count == 0)
             break;

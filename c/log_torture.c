@@ -1,9 +1,9 @@
 /* Real processes over one log, which really die.
  *
- *     log_torture FOLDER SENDERS MESSAGES CAP KILLS-PER-SECOND SEED [drop]
+ *     log_torture FOLDER SENDERS MESSAGES CAP MESSAGES-PER-KILL SEED [drop]
  *
  * Each sender sends MESSAGES messages, through segments of CAP. Two named readers read all of them. All are killed by SIGKILL at random and
- * started again; each goes on with nothing but the log. A sender sends its last message again. With `drop` a third kind drops what both
+ * started again, one for each MESSAGES-PER-KILL messages or so; each goes on with nothing but the log. A sender sends its last message again. With `drop` a third kind drops what both
  * readers have passed, and is killed too. A reader sees each message of a sender once and in order, but for those since it kept its cursor
  * last, which it sees once more. What stands in the segments at the end is for log-judge. */
 #define _GNU_SOURCE
@@ -30,7 +30,7 @@ struct seen {
 };
 struct tally {
     struct seen seen[READERS];
-    _Atomic uint64_t already, drops, polls, done[MOST + READERS + 1];
+    _Atomic uint64_t sent, already, drops, polls;
 };
 
 static const char *folder;
@@ -66,9 +66,9 @@ static void send(uint64_t sender)
         const uint64_t value[2] = {value_of(sender, number, 0), value_of(sender, number, 1)};
         expect("append", rme_log_append(&log, number, value), number < next ? EALREADY : 0, 4);
         tally->already += number < next;
+        tally->sent++;
     }
     expect("close", rme_log_close(&log), 0, 5);
-    tally->done[sender] = 1;
 }
 
 static void check(struct seen *seen, const struct rme_message *m, bool behind)
@@ -120,7 +120,6 @@ static void read_all(uint64_t r)
         behind = behind && seen->all < senders * messages && count > 0; /* a batch that was not kept, at most */
     }
     expect("close of a reader", rme_log_reader_close(&reader), 0, 12);
-    tally->done[senders + r] = 1;
 }
 
 static void drop(void)
@@ -131,7 +130,6 @@ static void drop(void)
         nap(0.002);
     }
     expect("drop", rme_log_drop(folder, UINT64_MAX, NULL), 0, 13);
-    tally->done[senders + READERS] = 1;
 }
 
 static pid_t begin(uint64_t p)
@@ -149,15 +147,23 @@ static pid_t begin(uint64_t p)
     _exit(0);
 }
 
+/* Until so many messages more are sent, or, where none are, for a twentieth of a second. */
+static void await(uint64_t more)
+{
+    const uint64_t before = tally->sent;
+    for (int times = 0; tally->sent - before < more && times < 200; times++)
+        nap(0.00025);
+}
+
 /* Answers how many were killed. */
-static uint64_t torment(uint64_t all, double rate)
+static uint64_t torment(uint64_t all, double messages_per_kill)
 {
     pid_t child[MOST + READERS + 1] = {0};
     uint64_t kills = 0, live = all;
     for (uint64_t p = 0; p < all; p++)
         child[p] = begin(p);
     while (live > 0) {
-        nap(drand48() * 2 / rate);
+        await((uint64_t)(drand48() * 2 * messages_per_kill));
         const uint64_t p = (uint64_t)(drand48() * (double)all);
         if (child[p] > 0)
             kill(child[p], SIGKILL);

@@ -111,13 +111,13 @@ static void passed_segments(void)
     EXPECT(read_numbers(&reader, 3, 3), 0);
 }
 
-/* Another process appends `count` messages, one after each pause: the time at which it does. */
-static pid_t append_soon(uint64_t count, double pause)
+/* Another process appends `count` messages from this number on, one after each pause: the time at which it does. */
+static pid_t append_soon(uint64_t first, uint64_t count, double pause)
 {
     const pid_t child = fork();
     if (child == 0) {
         EXPECT(rme_log_open(&sender, folder, 1, 0), 0);
-        for (uint64_t number = 1; number <= count; number++) {
+        for (uint64_t number = first; number < first + count; number++) {
             nap(pause);
             const double time = now();
             uint64_t value = 0;
@@ -135,14 +135,35 @@ static int by_size(const void *a, const void *b)
     return (difference > 0) - (difference < 0);
 }
 
-/* It sleeps, and is woken soon: by its longest sleep alone it would be 50 milliseconds late. Every second message comes where the segment
- * before is full. */
-static void readers_sleep(void)
+enum { TIMES = 15 };
+
+/* Whether it is woken soon, at least mostly. Every second message comes where the segment before is full. */
+static bool is_woken_soon(uint64_t first)
 {
-    enum { TIMES = 15 };
     struct rme_message m;
     uint64_t count = 0;
+    int status = 0;
     double late[2][TIMES] = {{0}};
+    const pid_t child = append_soon(first, 2 * TIMES, 0.13);
+    for (uint64_t i = 0; i < 2 * TIMES; i++) {
+        EXPECT(rme_log_wait(&reader, 5000), 0);
+        const double woken = now();
+        EXPECT(rme_log_read(&reader, &m, 1, &count), 0);
+        EXPECT(m.number, first + i);
+        memcpy(&late[i % 2][i / 2], m.value, sizeof late[0][0]);
+        late[i % 2][i / 2] = woken - late[i % 2][i / 2];
+    }
+    waitpid(child, &status, 0);
+    EXPECT(status, 0);
+    for (int seam = 0; seam < 2; seam++)
+        qsort(late[seam], TIMES, sizeof late[0][0], by_size);
+    return late[0][TIMES / 2] < 0.02 && late[1][TIMES / 2] < 0.02;
+}
+
+/* It sleeps, and is woken soon: by its longest sleep alone it would be 50 milliseconds late. A machine that has much to do gets three
+ * trials. */
+static void readers_sleep(void)
+{
     make(folder, 2);
     EXPECT(rme_log_close(&sender), 0);
     EXPECT(rme_log_reader_open(&reader, folder, NULL), 0);
@@ -150,22 +171,10 @@ static void readers_sleep(void)
     const double begun = now();
     EXPECT(rme_log_wait(&reader, 30), ETIMEDOUT);
     EXPECT(now() - begun >= 0.03, true);
-    const pid_t child = append_soon(2 * TIMES, 0.13);
-    for (uint64_t number = 1; number <= 2 * TIMES; number++) {
-        EXPECT(rme_log_wait(&reader, 5000), 0);
-        const double woken = now();
-        EXPECT(rme_log_read(&reader, &m, 1, &count), 0);
-        EXPECT(m.number, number);
-        memcpy(&late[number % 2][number / 2 % TIMES], m.value, sizeof late[0][0]);
-        late[number % 2][number / 2 % TIMES] = woken - late[number % 2][number / 2 % TIMES];
-    }
-    int status = 0;
-    waitpid(child, &status, 0);
-    EXPECT(status, 0);
-    for (int seam = 0; seam < 2; seam++) {
-        qsort(late[seam], TIMES, sizeof late[0][0], by_size);
-        EXPECT(late[seam][TIMES / 2] < 0.02, true);
-    }
+    bool soon = false;
+    for (uint64_t trial = 0; trial < 3 && !soon; trial++)
+        soon = is_woken_soon(1 + trial * 2 * TIMES);
+    EXPECT(soon, true);
 }
 
 static void on_alarm(int signal) { (void)signal; }
@@ -177,7 +186,7 @@ static void waits_that_are_interrupted(void)
     EXPECT(rme_log_seek_end(&reader), 0);
     const struct sigaction action = {.sa_handler = on_alarm, .sa_flags = SA_RESTART};
     sigaction(SIGALRM, &action, NULL);
-    ualarm(20000, 0);
+    ualarm(20000, 20000); /* again and again: the first may come before it waits */
     EXPECT(rme_log_wait(&reader, 5000), EINTR);
 }
 
@@ -195,7 +204,7 @@ static void events(void)
     EXPECT(read(file, &times, sizeof times), sizeof times);
     EXPECT(read_numbers(&reader, 1, 1), 0);
     EXPECT(poll(&polled, 1, 150), 0);
-    const pid_t child = append_soon(5, 0.02);
+    const pid_t child = append_soon(1, 5, 0.02);
     for (uint64_t got = 0; got < 5;) {
         EXPECT(poll(&polled, 1, 5000), 1);
         EXPECT(read(file, &times, sizeof times), sizeof times);
@@ -210,8 +219,10 @@ static void events(void)
 /* With read permission alone: it reads and waits, and can neither keep a cursor nor drop. */
 static void read_permission(void)
 {
-    int status = 0;
+    int status = 0, ends[2];
+    char byte = 0;
     make(folder, 1);
+    EXPECT(pipe2(ends, O_CLOEXEC), 0);
     EXPECT(chmod(folder, 0755) || chmod(name_in(folder, "log"), 0644) || chmod(name_in(folder, "00000001"), 0644), 0);
     const pid_t child = fork();
     if (child == 0) {
@@ -223,11 +234,13 @@ static void read_permission(void)
         EXPECT(rme_log_reader_open(&reader, folder, NULL), 0);
         EXPECT(read_numbers(&reader, 1, 1), 0);
         EXPECT(rme_log_wait(&reader, 5), ETIMEDOUT);
+        EXPECT(write(ends[1], &byte, 1), 1);
         EXPECT(rme_log_wait(&reader, 5000), 0);
         EXPECT(read_numbers(&reader, 2, 2), 0);
         _exit(0);
     }
-    nap(0.05);
+    close(ends[1]);
+    EXPECT(read(ends[0], &byte, 1) >= 0, true);
     if (getuid() == 0)
         EXPECT(append(&sender, 2), 0);
     waitpid(child, &status, 0);

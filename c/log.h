@@ -9,7 +9,7 @@
 #define LOG_MAGIC UINT64_C(0x31676f6c656d72)
 #define LOG_FORMAT UINT64_C(1)
 enum log_kind { LOG_HEAD = 0, LOG_SEGMENT, LOG_READER }; /* added to the magic number */
-enum { LOG_SEGMENTS = 99999999, LOG_PLACES = 1 << 20, LOG_ANY = MOST_PROCS /* no index: it reads */ };
+enum { LOG_SEGMENTS = 99999999, LOG_CAP = 65536, LOG_PLACES = 1 << 20 /* above LOG_CAP */, LOG_ANY = MOST_PROCS /* no index: it reads */ };
 
 /* The caller's own data of the log's files. All of them are written before the file has its name, but for `first` and `last`, which only
  * rise, `waiters` and `cursor`. */

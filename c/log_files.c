@@ -1,4 +1,5 @@
-/* The files of a log: their names, and whether one is what its name says. Each is a file of the library, whose caller's data are the log's. */
+/* The files of a log: their names, and whether one is what its name says. Each is a file of the library, with the log's data as the
+ * caller's. */
 #include "log.h"
 
 #include <inttypes.h>

@@ -154,7 +154,7 @@ int rme_log_read(struct rme_log_reader *r, struct rme_message *messages, uint64_
 
 int rme_log_seek(struct rme_log_reader *r, struct rme_cursor cursor)
 {
-    if (!r || !r->head.header)
+    if (!r || !r->head.header || cursor.segment > LOG_SEGMENTS || cursor.place > LOG_CAP)
         return EINVAL;
     r->cursor = cursor.segment > 0 ? cursor : (struct rme_cursor){load(&head_of(&r->head)->first), 0};
     return 0;

@@ -38,6 +38,8 @@ static void overtaken_readers(void)
     EXPECT(read_numbers(&reader, 5, 7), 0);
     EXPECT(rme_log_seek(&reader, (struct rme_cursor){3, 1}), 0);
     EXPECT(read_numbers(&reader, 6, 7), 0);
+    EXPECT(rme_log_seek(&reader, (struct rme_cursor){3, 65537}), EINVAL);
+    EXPECT(rme_log_seek(&reader, (struct rme_cursor){UINT64_C(100000000), 0}), EINVAL);
     EXPECT(rme_log_seek(&reader, (struct rme_cursor){3, 3}), 0);
     EXPECT(rme_log_read(&reader, &m, 1, &count), EINVAL);
     EXPECT(rme_log_drop(folder, UINT64_MAX, &first), 0);

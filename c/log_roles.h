@@ -30,8 +30,8 @@ void log_play(enum log_role role);
 /* What has to hold at every instant; and after a whole run. */
 void log_examine(struct log_view *view);
 void log_examine_end(enum log_role role);
-/* Others, who come by beside the dead: one who sends past a seam; one who reads; one who sends, reads all under the reader's name, drops and
- * sends; and the same without the reading. */
+/* Others, who come by beside the dead: one who sends past a seam; one who reads; one who sends, reads all under the reader's name, drops
+ * and sends; and the same without the reading. */
 enum log_visitor { SENDS, READS, DROPS, PASSES, LOG_VISITORS };
 void log_visit(enum log_visitor visitor);
 

@@ -12,7 +12,11 @@ static const char reader_prefix[] = "reader-";
 
 /* ---- named readers ---- */
 
-static int is_readers(const struct dirent *entry) { return strncmp(entry->d_name, reader_prefix, sizeof reader_prefix - 1) == 0; }
+/* With a dot it is one that is made, or was when its maker died, in a file system that has no files without a name. */
+static int is_readers(const struct dirent *entry)
+{
+    return strncmp(entry->d_name, reader_prefix, sizeof reader_prefix - 1) == 0 && !strchr(entry->d_name, '.');
+}
 
 /* Opens the file of the reader with this name, at index 0 or with LOG_ANY. */
 static int open_reader(struct rme_seat *seat, const struct rme_seat *head, const char *folder, const char *name, uint64_t index)
@@ -282,6 +286,8 @@ static int visit_reader(const char *name, void *context)
     int error = reader_state(v->head, v->folder, name, &state);
     if (!error)
         error = count_unread(v->head, v->folder, v->messages, &state);
+    if (error == ENOENT) /* it was forgotten meanwhile */
+        return 0;
     return error ? error : v->visit(&state, v->context);
 }
 

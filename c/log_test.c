@@ -244,15 +244,19 @@ static void foreign_files(void)
 static void foreign_heads(void)
 {
     make(folder, 3);
+    copy("/proc/self/status", name_in(room, "text"));
     copy("/proc/self/status", name_in(folder, "reader-x"));
     EXPECT(rme_log_reader_open(&reader, folder, "x"), EBADMSG);
     EXPECT(rme_log_drop(folder, 9, NULL), EBADMSG);
-    EXPECT(remove(name_in(folder, "reader-x")), 0);
+    EXPECT(rename(name_in(folder, "reader-x"), name_in(folder, "reader-x.AbC123")), 0); /* as one who died making it may leave it */
+    copy(name_in(room, "text"), name_in(folder, "00000001.AbC123"));
     copy("/proc/self/status", name_in(folder, "notes"));
     copy(name_in(folder, "00000001"), name_in(folder, "00000001.save"));
     copy("/proc/self/status", name_in(folder, "00000000"));
     EXPECT(rme_log_drop(folder, 9, NULL), 0);
     EXPECT(access(name_in(folder, "00000001"), F_OK), -1);
+    EXPECT(access(name_in(folder, "00000001.AbC123"), F_OK), -1);
+    EXPECT(remove(name_in(folder, "reader-x.AbC123")), 0);
     EXPECT(remove(name_in(folder, "notes")), 0);
     EXPECT(remove(name_in(folder, "00000001.save")), 0);
     EXPECT(remove(name_in(folder, "00000000")), 0);

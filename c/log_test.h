@@ -37,7 +37,10 @@ static const char *name_in(const char *of, const char *name)
     return into;
 }
 
-static int append(struct rme_log *log, uint64_t number) { return rme_log_append(log, number, (uint64_t[]){100 * log->seat.machine.index + number}); }
+static int append(struct rme_log *log, uint64_t number)
+{
+    return rme_log_append(log, number, (uint64_t[]){100 * log->seat.machine.index + number});
+}
 
 /* A log of two senders and segments of two messages, of which sender 0 has sent this many. */
 static void make(const char *of, uint64_t sent)

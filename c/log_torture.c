@@ -3,9 +3,10 @@
  *     log_torture FOLDER SENDERS MESSAGES CAP MESSAGES-PER-KILL SEED [drop]
  *
  * Each sender sends MESSAGES messages, through segments of CAP. Two named readers read all of them. All are killed by SIGKILL at random and
- * started again, one for each MESSAGES-PER-KILL messages or so; each goes on with nothing but the log. A sender sends its last message again. With `drop` a third kind drops what both
- * readers have passed, and is killed too. A reader sees each message of a sender once and in order, but for those since it kept its cursor
- * last, which it sees once more. What stands in the segments at the end is for log-judge. */
+ * started again, one for each MESSAGES-PER-KILL messages or so; each goes on with nothing but the log. A sender sends its last message
+ * again. With `drop` a third kind drops what both readers have passed, and is killed too. A reader sees each message of a sender once and
+ * in order, but for those since it kept its cursor last, which it sees once more. What stands in the segments at the end is for
+ * log-judge. */
 #define _GNU_SOURCE
 #include "rme_log.h"
 
@@ -73,7 +74,8 @@ static void send(uint64_t sender)
 
 static void check(struct seen *seen, const struct rme_message *m, bool behind)
 {
-    const bool right = m->sender < senders && m->value[0] == value_of(m->sender, m->number, 0) && m->value[1] == value_of(m->sender, m->number, 1);
+    const bool right = m->sender < senders && m->value[0] == value_of(m->sender, m->number, 0) &&
+                       m->value[1] == value_of(m->sender, m->number, 1);
     const uint64_t last = right ? seen->last[m->sender] : 0;
     if (!right || m->number > last + 1 || (m->number <= last && !behind)) {
         fprintf(stderr, "log_torture: message %" PRIu64 " of %" PRIu64 " after %" PRIu64 "\n", m->number, m->sender, last);

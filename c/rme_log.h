@@ -93,8 +93,8 @@ int rme_log_next(struct rme_log *log, uint64_t *number);
 int rme_log_close(struct rme_log *log);
 
 /* Opens a log for reading. Without a name (null) the reader stands at the first message that is not dropped. With one, of letters, digits,
- * `_` and `-`, it stands where the reader with this name was at its last rme_log_keep; or at the first message, and from now on nothing that
- * it has not passed is dropped. To read without a name, read permission is enough.
+ * `_` and `-`, it stands where the reader with this name was at its last rme_log_keep; or at the first message, and from now on nothing
+ * that it has not passed is dropped. To read without a name, read permission is enough.
  * Errors:
  *     EBUSY        a living process reads under this name
  *     EINVAL       no name that a reader can have
@@ -108,7 +108,9 @@ int rme_log_reader_open(struct rme_log_reader *reader, const char *folder, const
  *     EINVAL  there is no such place in the segment */
 int rme_log_read(struct rme_log_reader *reader, struct rme_message *messages, uint64_t room, uint64_t *count);
 
-/* Moves the reader to a cursor that it had before; segment 0 is the first message that is not dropped. */
+/* Moves the reader to a cursor that it had before; segment 0 is the first message that is not dropped.
+ * Errors:
+ *     EINVAL no log has such a place */
 int rme_log_seek(struct rme_log_reader *reader, struct rme_cursor cursor);
 
 /* Moves the reader past all messages that there are.
@@ -128,8 +130,8 @@ int rme_log_keep(struct rme_log_reader *reader);
  *     and those of rme_log_read */
 int rme_log_wait(struct rme_log_reader *reader, uint64_t milliseconds);
 
-/* Makes an eventfd for poll, select and epoll: *file can be read whenever messages have come since it was read last, and at first where there
- * are some. Read it, then rme_log_read until there are none. A thread of the library sleeps for it; rme_log_reader_close ends both.
+/* Makes an eventfd for poll, select and epoll: *file can be read whenever messages have come since it was read last, and at first where
+ * there are some. Read it, then rme_log_read until there are none. A thread of the library sleeps for it; rme_log_reader_close ends both.
  * Errors:
  *     EALREADY the reader has one
  *     and those of eventfd and pthread_create */
@@ -138,8 +140,8 @@ int rme_log_event(struct rme_log_reader *reader, int *file);
 /* Closes the reader. A cursor that was not kept is lost. */
 int rme_log_reader_close(struct rme_log_reader *reader);
 
-/* Takes away the segments before this one, but for those that a named reader has not passed, and the last one. *first (may be null) gets the
- * number of the first segment that is left. One that was killed may be called again.
+/* Takes away the segments before this one, but for those that a named reader has not passed, and the last one. *first (may be null) gets
+ * the number of the first segment that is left. One that was killed may be called again.
  * Errors: those of opendir and unlink */
 int rme_log_drop(const char *folder, uint64_t before, uint64_t *first);
 

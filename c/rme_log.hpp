@@ -84,7 +84,10 @@ private:
 /* One reader. A loop over it meets the messages that there are; after each its cursor is right past that message. */
 class log_reader {
 public:
-    explicit log_reader(const std::string &folder) : raw_(new rme_log_reader) { check(rme_log_reader_open(raw_.get(), folder.c_str(), nullptr)); }
+    explicit log_reader(const std::string &folder) : raw_(new rme_log_reader)
+    {
+        check(rme_log_reader_open(raw_.get(), folder.c_str(), nullptr));
+    }
     log_reader(const std::string &folder, const std::string &name) : raw_(new rme_log_reader)
     {
         check(rme_log_reader_open(raw_.get(), folder.c_str(), name.c_str()));

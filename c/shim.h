@@ -54,8 +54,8 @@ int rme_end_call(struct rme_seat *s, int error);
 uint64_t rme_make_call(struct rme_seat *s, const struct rme_call *asked, struct patience may_wait, struct rme_access *access);
 int rme_error_of(uint64_t told);
 
-/* file.c: rme_create with the caller's own data (null: all 0); a seat without an index; the bytes of an index's lease (F_WRLCK, F_UNLCK); what others have of them. status.c: what a
- * reaper left in a mark. */
+/* file.c: rme_create with the caller's own data (null: all 0); a seat without an index; the bytes of an index's lease (F_WRLCK,
+ * F_UNLCK); what others have of them. status.c: what a reaper left in a mark. */
 enum { REAPERS_BYTE = 1, BOTH_BYTES = 2 };
 int rme_create_with(const char *path, uint64_t procs, uint64_t cap, uint64_t width, const void *data, uint64_t data_bytes);
 int rme_open_seat(struct rme_seat *s, const char *path, int access);

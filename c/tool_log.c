@@ -178,7 +178,9 @@ int log_command(int count, char **word)
     static const struct {
         const char *name;
         int (*obey)(int count, char **word);
-    } commands[] = {{"create", create}, {"append", append}, {"follow", follow}, {"status", show_status}, {"drop", drop}, {"forget", forget}};
+    } commands[] = {
+        {"create", create}, {"append", append}, {"follow", follow}, {"status", show_status}, {"drop", drop}, {"forget", forget},
+    };
     for (size_t i = 0; count > 0 && i < sizeof commands / sizeof *commands; i++)
         if (strcmp(word[0], commands[i].name) == 0)
             return commands[i].obey(count - 1, word + 1);

@@ -124,9 +124,23 @@ static void create_that_is_killed(void)
     }
 }
 
-static bool no_unnamed_files;
+static bool no_unnamed_files, no_proc;
 
-/* In place of the C library's: a file system that has no files without a name. */
+/* In place of the C library's: a file system that has no files without a name; no /proc. */
+int access(const char *name, int may)
+{
+    if (no_proc && strncmp(name, "/proc/", 6) == 0)
+        return errno = ENOENT, -1;
+    return (int)syscall(SYS_faccessat, AT_FDCWD, name, may);
+}
+
+int linkat(int from, const char *name, int to, const char *new_name, int flags)
+{
+    if (no_proc && strncmp(name, "/proc/", 6) == 0)
+        return errno = ENOENT, -1;
+    return (int)syscall(SYS_linkat, from, name, to, new_name, flags);
+}
+
 int open(const char *name, int flags, ...)
 {
     va_list rest;
@@ -135,6 +149,8 @@ int open(const char *name, int flags, ...)
     va_end(rest);
     if ((flags & O_TMPFILE) == O_TMPFILE && no_unnamed_files)
         return errno = EOPNOTSUPP, -1;
+    if (no_proc && strncmp(name, "/proc/", 6) == 0)
+        return errno = ENOENT, -1;
     return (int)syscall(SYS_openat, AT_FDCWD, name, flags, mode);
 }
 
@@ -148,6 +164,79 @@ static void create_without_unnamed_files(void)
     EXPECT(names(), 1);
     EXPECT(rme_attach(&seat, path, 0), 0);
     EXPECT(rme_lock(&seat), 0);
+}
+
+static void create_without_proc(void)
+{
+    struct rme_seat seat;
+    no_proc = true;
+    make(2, 4);
+    EXPECT(names(), 1);
+    EXPECT(rme_create(path, 2, 4, 1, 0), EEXIST);
+    EXPECT(names(), 1);
+    die(1, INSIDE);
+    EXPECT(rme_attach(&seat, path, 0), 0);
+    EXPECT(rme_lock_reaping(&seat, 3, NULL, NULL), 0);
+    EXPECT(rme_unlock(&seat), 0);
+    die(1, INSIDE);
+    EXPECT(rme_reap(path, 1, NULL, NULL), 0);
+    EXPECT(rme_lock(&seat), 0);
+    EXPECT(rme_attach_file(&seat, 0, 0, 0), ENOENT);
+}
+
+/* ---- a repair that mends the mailbox itself, or has no time now ---- */
+
+static int mend(struct rme_seat *dead, uint64_t index, void *data, size_t bytes, void *context)
+{
+    (void)data, (void)bytes;
+    EXPECT(rme_consistent(dead), 0);
+    return context && index == *(uint64_t *)context ? EINTR : 0;
+}
+
+static void repair_that_calls_consistent(void)
+{
+    struct rme_seat seat;
+    struct rme_index status;
+    uint64_t reaped = 9;
+    make(4, 4);
+    die(1, INSIDE), die(2, IN_LINE), die(3, IN_LINE);
+    EXPECT(rme_reap_all(path, mend, NULL, &reaped), 0);
+    EXPECT(reaped, 3);
+    EXPECT(rme_inspect(&seat, path), 0);
+    for (uint64_t index = 0; index < 4; index++) {
+        EXPECT(rme_index_status(&seat, index, &status), 0);
+        EXPECT(status.life == RME_ABSENT && status.found == RME_FOUND_IDLE, true);
+    }
+    EXPECT(rme_detach(&seat), 0);
+    EXPECT(rme_attach(&seat, path, 0), 0);
+    die(3, INSIDE);
+    EXPECT(rme_lock_reaping(&seat, 3, mend, NULL), 0);
+    EXPECT(rme_unlock(&seat), 0);
+    die(3, INSIDE);
+    EXPECT(rme_reap(path, 3, mend, NULL), 0);
+    EXPECT(rme_reap(path, 3, mend, NULL), ESRCH);
+    EXPECT(rme_lock(&seat), 0);
+}
+
+/* EINTR of a repair leaves the place as it was; the others are reaped all the same. */
+static void repair_that_is_interrupted(void)
+{
+    struct rme_seat seat;
+    struct rme_index status;
+    uint64_t reaped = 9, index = 1;
+    make(4, 4);
+    die(1, INSIDE), die(2, IN_LINE);
+    EXPECT(rme_reap_all(path, mend, &index, &reaped), EINTR);
+    EXPECT(reaped, 1);
+    EXPECT(rme_attach(&seat, path, 3), 0);
+    EXPECT(rme_lock_reaping(&seat, 3, mend, &index), EINTR);
+    EXPECT(rme_index_status(&seat, 1, &status), 0);
+    EXPECT(status.life == RME_DEAD && status.found == RME_FOUND_INSIDE && status.reaped == 0, true);
+    EXPECT(rme_index_status(&seat, 3, &status), 0);
+    EXPECT(status.found, RME_FOUND_WAITING);
+    EXPECT(rme_lock_reaping(&seat, 3, mend, NULL), 0);
+    EXPECT(rme_index_status(&seat, 1, &status), 0);
+    EXPECT(status.life == RME_ABSENT && status.reaped == RME_FOUND_INSIDE, true);
 }
 
 /* ---- a signal handler, and cancellation ---- */
@@ -270,13 +359,24 @@ int fcntl(int file, int command, ...)
     return (int)syscall(SYS_fcntl, file, command, argument);
 }
 
+static unsigned descriptors(void)
+{
+    unsigned count = 0;
+    for (int file = 0; file < 256; file++)
+        count += syscall(SYS_fcntl, file, F_GETFD, 0) >= 0;
+    return count;
+}
+
 static void attach_to_a_file_that_is_replaced(void)
 {
     struct rme_seat seat;
     make(2, 4);
     EXPECT(rme_create(other_path, 2, 4, 1, 0), 0);
     replace = true;
+    const unsigned before = descriptors();
     EXPECT(rme_attach(&seat, path, 0), ESTALE);
+    EXPECT(descriptors(), before);
+    EXPECT(rme_detach(&seat), EINVAL);
     EXPECT(rme_attach(&seat, path, 0), 0);
 }
 
@@ -323,6 +423,7 @@ static void waiting_behind_a_long_holder(void)
 static const struct test tests[] = {
     TEST(detach_after_a_death_inside), TEST(detach_after_a_death_in_line), TEST(detach_after_a_failed_attach),
     TEST(create_where_nothing_can_be_written), TEST(create_that_is_killed), TEST(create_without_unnamed_files),
+    TEST(create_without_proc), TEST(repair_that_calls_consistent), TEST(repair_that_is_interrupted),
     TEST(lock_in_a_signal_handler), TEST(cancel_a_thread_that_waits), TEST(cancel_a_thread_that_attaches),
     TEST(count_above_cap), TEST(record_past_the_end), TEST(attach_to_a_file_that_is_replaced),
     TEST(waiting_behind_a_long_holder),

@@ -1,6 +1,7 @@
 #define _GNU_SOURCE
 #include "hostile.h"
 
+#include <dirent.h>
 #include <errno.h>
 #include <fcntl.h>
 #include <inttypes.h>
@@ -14,6 +15,7 @@
 #include <unistd.h>
 
 char path[4096];
+const char *folder;
 static const char *running = "";
 
 /* ---- processes ---- */
@@ -102,6 +104,18 @@ uint64_t length_of(void)
     if (stat(path, &status))
         fail("stat", errno);
     return (uint64_t)status.st_size;
+}
+
+unsigned entries_of(const char *name)
+{
+    DIR *opened = opendir(name);
+    unsigned found = 0;
+    if (!opened)
+        fail("opendir", errno);
+    for (const struct dirent *entry; (entry = readdir(opened));)
+        found += entry->d_name[0] != '.';
+    closedir(opened);
+    return found;
 }
 
 /* ---- the file between two pages that may not be touched; they stay when it is unmapped ---- */

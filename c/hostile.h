@@ -8,6 +8,7 @@
 enum { PROCS = 3, WIDTH = 1, CAP = 166 };
 
 extern char path[4096];
+extern const char *folder;
 
 _Noreturn void fail(const char *what, int64_t number);
 void expect(const char *what, int got, int wanted);
@@ -19,6 +20,8 @@ void new_file(uint64_t data_bytes);
 void patch(uint64_t offset, uint64_t word);
 void cut(uint64_t length);
 uint64_t length_of(void);
+/* How many names a folder has. */
+unsigned entries_of(const char *name);
 /* Where a word of the block lies in the file. */
 uint64_t offset_of(uint64_t place);
 
@@ -26,6 +29,15 @@ uint64_t offset_of(uint64_t place);
 void every_call(void);
 /* Every call of the seat, which may be attached or not. */
 void every_seat_call(struct rme_seat *seat);
+
+/* hostile_disks.c: a full disk, a read-only one, a copy with holes; a limit of a file's length and of descriptors; a file that may
+ * only be read. */
+void full_disk(uint64_t which);
+void read_only(uint64_t which);
+void copy_with_holes(uint64_t full);
+void file_too_big(uint64_t which);
+void no_descriptors(uint64_t which);
+void no_permission(uint64_t which);
 
 /* Runs one case in a process of its own: it has to end with 0, or by this signal where one is named. Answers whether it did. */
 bool run_case(const char *name, void (*body)(uint64_t), uint64_t argument, int allowed_signal);

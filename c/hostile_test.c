@@ -10,23 +10,18 @@
 #define _GNU_SOURCE
 #include "hostile.h"
 
-#include <dirent.h>
 #include <errno.h>
 #include <fcntl.h>
 #include <inttypes.h>
 #include <pthread.h>
-#include <sched.h>
 #include <signal.h>
 #include <stdio.h>
 #include <stdlib.h>
 #include <string.h>
-#include <sys/mount.h>
-#include <sys/resource.h>
 #include <sys/stat.h>
 #include <sys/wait.h>
 #include <unistd.h>
 
-static const char *folder;
 static unsigned cases, failed;
 
 static const uint64_t odd[] = {0, 1, 2, UINT64_C(1) << 32, UINT64_C(1) << 63, UINT64_MAX - 4095, UINT64_MAX};
@@ -47,18 +42,6 @@ static bool is_lawful(void)
     const uint64_t rule = rme_content_rule(copy, words, PROCS, CAP, WIDTH, RME_LIMIT);
     expect("detach", rme_detach(&seat), 0);
     return rule == RME_LAWFUL;
-}
-
-static unsigned entries_of(const char *name)
-{
-    DIR *opened = opendir(name);
-    unsigned found = 0;
-    if (!opened)
-        fail("opendir", errno);
-    for (const struct dirent *entry; (entry = readdir(opened));)
-        found += entry->d_name[0] != '.';
-    closedir(opened);
-    return found;
 }
 
 /* ---- the header and the length ---- */
@@ -323,100 +306,6 @@ static void linked(uint64_t which)
     unlink(path);
 }
 
-/* ---- disks ---- */
-
-/* A small file system, which this process alone sees. */
-static void mount_small(void)
-{
-    if (unshare(CLONE_NEWNS) || mount(NULL, "/", NULL, MS_REC | MS_PRIVATE, NULL) || mount("none", folder, "tmpfs", 0, "size=64k"))
-        fail("mount (--no-mount leaves this case out)", errno);
-}
-
-static void full_disk(uint64_t which)
-{
-    (void)which;
-    mount_small();
-    new_file(0);
-    expect("create of too much", rme_create(path, PROCS, 65536, 8, 0), EEXIST);
-    char name[sizeof path];
-    snprintf(name, sizeof name, "%s", path);
-    snprintf(path + strlen(path), 8, ".more");
-    expect("create on a full disk", rme_create(path, PROCS, 65536, 8, 0), ENOSPC);
-    if (entries_of(folder) != 1)
-        fail("a create on a full disk leaves a file", (int64_t)entries_of(folder));
-    const int filler = open(path, O_WRONLY | O_CREAT | O_CLOEXEC, 0600);
-    char bytes[4096] = {1};
-    while (write(filler, bytes, sizeof bytes) > 0)
-        ;
-    snprintf(path, sizeof path, "%s", name);
-    expect("create where a file is, on a full disk", rme_create(path, PROCS, CAP, WIDTH, 0), EEXIST);
-    every_call();
-    if (entries_of(folder) != 2)
-        fail("a call on a full disk leaves a file", (int64_t)entries_of(folder));
-}
-
-static void read_only(uint64_t which)
-{
-    struct rme_seat seat;
-    (void)which;
-    mount_small();
-    new_file(0);
-    if (mount(NULL, folder, NULL, MS_REMOUNT | MS_RDONLY, NULL))
-        fail("remount (--no-mount leaves this case out)", errno);
-    expect("attach", rme_attach(&seat, path, 0), EROFS);
-    expect("create where a file is", rme_create(path, PROCS, CAP, WIDTH, 0), EEXIST);
-    expect("inspect", rme_inspect(&seat, path), 0);
-    struct rme_message read[4];
-    if (rme_read_from(&seat, 0, read, 4) != 2)
-        fail("messages of a file that is looked at", 0);
-    every_seat_call(&seat);
-    expect("detach", rme_detach(&seat), 0);
-    every_call();
-    snprintf(path + strlen(path), 8, ".more");
-    expect("create on a read-only disk", rme_create(path, PROCS, CAP, WIDTH, 0), EROFS);
-}
-
-static void file_too_big(uint64_t which)
-{
-    const struct rlimit most = {8192, 8192};
-    (void)which;
-    unlink(path);
-    signal(SIGXFSZ, SIG_IGN);
-    if (setrlimit(RLIMIT_FSIZE, &most))
-        fail("setrlimit", errno);
-    expect("create past the limit of a file", rme_create(path, PROCS, CAP, WIDTH, 0), EFBIG);
-    if (entries_of(folder) != 0)
-        fail("a create past the limit leaves a file", 0);
-}
-
-static void no_descriptors(uint64_t which)
-{
-    struct rme_seat seat;
-    (void)which;
-    new_file(0);
-    const struct rlimit most = {0, 0};
-    if (setrlimit(RLIMIT_NOFILE, &most))
-        fail("setrlimit", errno);
-    expect("attach", rme_attach(&seat, path, 0), EMFILE);
-    expect("inspect", rme_inspect(&seat, path), EMFILE);
-    expect("reap", rme_reap(path, 0, NULL, NULL), EMFILE);
-    expect_one_of("create", rme_create(path, PROCS, CAP, WIDTH, 0), (const int[]){EMFILE, EEXIST, 0});
-}
-
-static void no_permission(uint64_t which)
-{
-    struct rme_seat seat;
-    (void)which;
-    new_file(0);
-    if (chmod(path, 0444) || chmod(folder, 0755) || (geteuid() == 0 && seteuid(65534)))
-        fail("a file that may only be read", errno);
-    expect("attach", rme_attach(&seat, path, 0), EACCES);
-    expect("inspect", rme_inspect(&seat, path), 0);
-    every_seat_call(&seat);
-    expect("detach", rme_detach(&seat), 0);
-    every_call();
-}
-
 /* ---- misuse of a seat ---- */
 
 static struct rme_seat shared_seat;
@@ -565,6 +454,8 @@ int main(int argc, char **argv)
     if (argc < 5) {
         go("a full disk", full_disk, 0);
         go("a read-only disk", read_only, 0);
+        go("a copy with holes, and room for them", copy_with_holes, 0);
+        go("a copy with holes on a full disk", copy_with_holes, 1);
     }
     printf("hostile_test cases %u failed %u%s\n", cases, failed, argc < 5 ? "" : ", without a full and a read-only disk");
     return failed != 0;

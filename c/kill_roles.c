@@ -154,7 +154,7 @@ static void work(struct rme_seat *seat, uint64_t index)
 static void leave(struct rme_seat *seat, uint64_t index)
 {
     shared->leased[index] = 0;
-    shared->duty[index].attached = 0;
+    shared->duty[index].attached = shared->duty[index].notice = 0;
     expect("detach", TRACED(rme_detach(seat)), 0);
 }
 
@@ -173,6 +173,11 @@ static void arrive(struct rme_seat *seat, uint64_t index)
         fail("attach does not tell that an earlier process was reaped", (int64_t)index);
     if (owed.inside && !rme_crashed(seat))
         fail("attach does not tell that an earlier process died inside", (int64_t)index);
+    if (owed.notice && rme_reaped(seat) != RME_FOUND_INSIDE)
+        fail("attach does not tell again what nobody has acknowledged", (int64_t)index);
+    if (!pair && !owed.notice && is_inside(index) && rme_reaped(seat) == RME_FOUND_INSIDE)
+        fail("attach tells of a repair that nobody has made", (int64_t)index);
+    duty->notice |= !pair && rme_reaped(seat) == RME_FOUND_INSIDE;
     if (owed.found && !rme_crashed(seat) && rme_reaped(seat) != RME_FOUND_INSIDE)
         fail("attach does not tell that one who died inside was reaped", (int64_t)index);
 }
@@ -188,7 +193,7 @@ static void glance(uint64_t index)
         fail("other messages are read", (int64_t)data(2));
     shared->leased[index] = 0;
     if (idle)
-        shared->duty[index].attached = 0;
+        shared->duty[index].attached = shared->duty[index].notice = 0;
     expect("detach of one who has only read", TRACED(rme_detach(&seat)), idle ? 0 : EBUSY);
 }
 
@@ -242,6 +247,7 @@ static void reap(uint64_t index)
     if (marked)
         shared->duty[index].reaped = 1;
     shared->duty[index].attached = 0;
+    shared->duty[index].notice |= !pair && *mark(index) / RME_REAPED == RME_FOUND_INSIDE;
     if (shared->duty[index].found && *mark(index) / RME_REAPED != RME_FOUND_INSIDE)
         fail("the mark does not say that one who died inside was reaped", (int64_t)*mark(index));
 }

@@ -11,6 +11,7 @@ struct duty {
     uint64_t inside;   /* a lock has let it in, and it has not begun to unlock; nobody has repaired its data */
     uint64_t stored;   /* the number of the last append that was answered */
     uint64_t closed;   /* a close was answered */
+    uint64_t notice;   /* a reaping of one who died inside was answered or told, and no orderly detach after it; not of a pair */
     uint64_t reaped;   /* a reaping was answered, and no attach after it */
     uint64_t found;    /* a reaper began where it stood inside, and no attach after it; of a pair it is not asked */
 };

@@ -19,7 +19,7 @@ int rme_log_create(const char *folder, uint64_t procs, uint64_t cap, uint64_t wi
     int error = log_folder(whole, folder);
     if (!error)
         error = log_path(path, whole, "log");
-    return error ? error : rme_create_with(path, procs, 1, 1, &head, sizeof head);
+    return error ? error : rme_create_with(path, procs, 1, 1, &head, sizeof head, 0600, (gid_t)-1);
 }
 
 static struct rme_seat *segment(struct rme_log *log) { return &log->segments[log->at]; }

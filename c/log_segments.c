@@ -35,7 +35,7 @@ int log_open_segment(struct rme_seat *seat, const struct rme_seat *head, const c
     if (number < load(&head_of(head)->first))
         error = ENODATA;
     if (error && opened)
-        rme_detach(seat);
+        log_close(seat, index);
     return error;
 }
 
@@ -56,7 +56,7 @@ int log_make_segment(const struct rme_seat *head, const char *folder, uint64_t n
     }
     int error = log_segment_path(path, folder, number);
     if (!error)
-        error = rme_create_with(path, head->machine.procs, h->cap, h->width, &next, sizeof next);
+        error = rme_create_with(path, head->machine.procs, h->cap, h->width, &next, sizeof next, 0600, (gid_t)-1);
     if (number < load(&h->first)) {
         unlink(path);
         return ENODATA;

@@ -2,6 +2,90 @@
  * the calls of its seat. */
 #include "shim.h"
 
+#include <poll.h>
+#include <stdatomic.h>
+#include <stdio.h>
+#include <sys/stat.h>
+
+/* ---- a reaper's lease ---- */
+
+/* It is one of an open file of its own, which is not mapped: a child of fork closes it, and so can't keep it when the reaper ends.
+ * Each descriptor and one, while it is a lease; 0 is room. */
+static _Atomic int leases[MOST_PROCS];
+static _Thread_local int ends[2]; /* of a pipe, by which a child says that it has closed all */
+
+static void before_fork(void)
+{
+    bool some = false;
+    for (unsigned i = 0; i < MOST_PROCS; i++)
+        some = some || leases[i];
+    if (!some || pipe2(ends, O_CLOEXEC))
+        ends[0] = ends[1] = -1;
+}
+
+static void close_ends(void)
+{
+    for (unsigned i = 0; i < 2; i++)
+        if (ends[i] >= 0)
+            close(ends[i]);
+}
+
+/* Whoever is killed after its fork has a child without its leases. */
+static void wait_for_child(void)
+{
+    struct pollfd said = {.fd = ends[0], .events = POLLIN};
+    if (ends[0] >= 0)
+        poll(&said, 1, 100 /* milliseconds, for a child that was killed */);
+    close_ends();
+}
+
+static void close_in_child(void)
+{
+    for (unsigned i = 0; i < MOST_PROCS; i++) {
+        const int file = atomic_exchange(&leases[i], 0) - 1;
+        if (file >= 0)
+            close(file);
+    }
+    const bool said = ends[1] >= 0 && write(ends[1], "", 1) == 1;
+    (void)said; /* else nobody waits for it */
+    close_ends();
+}
+
+static void close_at_fork(void) { pthread_atfork(before_fork, wait_for_child, close_in_child); }
+
+/* Whether it was there, and is another now. */
+static bool note_lease(int was, int now)
+{
+    static pthread_once_t once = PTHREAD_ONCE_INIT;
+    pthread_once(&once, close_at_fork);
+    for (unsigned i = 0; i < MOST_PROCS; i++) {
+        int there = was;
+        if (atomic_compare_exchange_strong(&leases[i], &there, now))
+            return true;
+    }
+    return false;
+}
+
+/* The file, opened anew; or the seat's own descriptor, where it can't be. */
+static int open_anew(const struct rme_seat *own, const char *path, int *file)
+{
+    char name[32];
+    struct stat status;
+    const int error = rme_check_file(own);
+    if (error)
+        return error;
+    snprintf(name, sizeof name, "/proc/self/fd/%d", own->file);
+    *file = open(path ? path : name, O_RDWR | O_CLOEXEC | O_NONBLOCK | O_NOCTTY);
+    if (*file >= 0 && (fstat(*file, &status) || status.st_dev != own->device || status.st_ino != own->inode)) {
+        close(*file);
+        *file = -1;
+    }
+    *file = *file < 0 ? own->file : *file;
+    return 0;
+}
+
+/* ---- acting for the dead ---- */
+
 /* Leaves the place that was found. */
 static int give_up(struct rme_seat *dead, int found, rme_repair *repair, void *context)
 {
@@ -9,9 +93,13 @@ static int give_up(struct rme_seat *dead, int found, rme_repair *repair, void *c
     void *data = rme_data(dead, &bytes);
     int error = 0;
     if (found == RME_FOUND_INSIDE) {
-        bool lost = repair && repair(dead, dead->machine.index, data, bytes, context);
-        error = lost ? ENOTRECOVERABLE : rme_consistent(dead); /* unmended, the unlock ruins the lock, as with POSIX */
-        rme_unlock(dead);
+        const int said = repair ? repair(dead, dead->machine.index, data, bytes, context) : 0;
+        if (said == EINTR)
+            return EINTR;
+        error = said ? ENOTRECOVERABLE : rme_consistent(dead); /* unmended, the unlock ruins the lock, as with POSIX */
+        error = error == EINVAL && repair ? 0 : error;         /* the repair itself has called it */
+        const int left = rme_unlock(dead);
+        error = error ? error : left;
     } else if (found == RME_FOUND_DOORWAY || found == RME_FOUND_WAITING) {
         error = rme_lock_within(dead, 0);
         error = error == 0 ? rme_unlock(dead) : error == ETIMEDOUT ? rme_withdraw(dead) : error;
@@ -22,38 +110,62 @@ static int give_up(struct rme_seat *dead, int found, rme_repair *repair, void *c
 /* With the lease of the dead. Whoever is killed in here leaves the mark RME_ATTACHED, and with it what was found. */
 static int act_for(struct rme_seat *dead, rme_repair *repair, void *context)
 {
-    uint64_t *mark = &dead->header->marks[dead->machine.index], most = load(mark) / RME_REAPED;
+    const uint64_t index = dead->machine.index;
+    uint64_t *mark = &dead->header->marks[index], most = (uint64_t)rme_reaped_of(dead, index);
     int found = 0, error;
     if (!(load(mark) & RME_ATTACHED))
         return ESRCH;
     error = rme_recover(dead, &found);
     if (error)
         return error;
-    most = most > (uint64_t)found ? most : (uint64_t)found;
-    store(mark, RME_ATTACHED + RME_REAPED * most);
+    store(mark, RME_ATTACHED + RME_REAPED * most + RME_BEGUN * (uint64_t)found);
     error = give_up(dead, found, repair, context);
-    if (rests(dead))
+    most = most > (uint64_t)found ? most : (uint64_t)found;
+    if (is_attached(dead) && rests(dead)) { /* not in a child that repair has forked */
+        store(line_of(dead, index) + PID, 0);
         store(mark, RME_REAPED * most);
+    }
     return error;
 }
 
-/* The lease is one of the seat's own open file: it ends with this process, as the seat's own lease does. */
-static int reap(const struct rme_seat *own, uint64_t index, rme_repair *repair, void *context)
+/* With an open file, which has no lease of the index yet. */
+static int reap_by(int file, const struct rme_seat *own, uint64_t index, rme_repair *repair, void *context)
 {
     struct rme_seat dead = *own;
-    uint64_t state = FREE;
+    int error = rme_lease(file, index, F_WRLCK, REAPERS_BYTE);
+    if (error)
+        return error;
+    dead.self = &dead;
+    dead.file = -1; /* no rme_detach of it closes what is the seat's */
+    dead.state = own->state + 1;
+    dead.interrupted = 0;
+    *dead.state = FREE;
+    rme_become(&dead, index, true);
+    error = act_for(&dead, repair, context);
+    if (!is_attached(&dead))
+        return error;
+    *dead.state = ELSEWHERE;
+    const int left = rme_lease(file, index, F_UNLCK, REAPERS_BYTE);
+    return error ? error : left;
+}
+
+static int reap(const struct rme_seat *own, const char *path, uint64_t index, rme_repair *repair, void *context)
+{
+    int file;
     if (index >= own->machine.procs)
         return EINVAL;
     if (!(load(&own->header->marks[index]) & RME_ATTACHED))
         return ESRCH;
-    int error = rme_lease(own, index, F_WRLCK, REAPERS_BYTE);
+    int error = open_anew(own, path, &file);
     if (error)
         return error;
-    dead.state = &state;
-    rme_become(&dead, index, true);
-    error = act_for(&dead, repair, context);
-    int left = rme_lease(own, index, F_UNLCK, REAPERS_BYTE);
-    return error ? error : left;
+    if (file == own->file)
+        return reap_by(file, own, index, repair, context);
+    const bool noted = note_lease(0, file + 1);
+    error = reap_by(file, own, index, repair, context);
+    if (!noted || note_lease(file + 1, 0)) /* else this is a child that repair has forked, and it is closed */
+        close(file);
+    return error;
 }
 
 int rme_reap(const char *path, uint64_t index, rme_repair *repair, void *context)
@@ -63,41 +175,64 @@ int rme_reap(const char *path, uint64_t index, rme_repair *repair, void *context
     int error = rme_open_seat(&s, path, O_RDWR);
     if (error)
         return error;
-    error = reap(&s, index, repair, context);
+    error = reap(&s, path, index, repair, context);
     rme_close_seat(&s);
     return error;
 }
 
 int rme_reap_all(const char *path, rme_repair *repair, void *context, uint64_t *reaped)
 {
+    WITHOUT_CANCELLATION;
+    struct rme_seat s;
     uint64_t done = 0;
-    int first = 0;
-    for (uint64_t j = 0; j < MOST_PROCS; j++) {
-        int error = rme_reap(path, j, repair, context);
-        if (error == EINVAL && j > 0) /* no such index */
-            break;
+    int first = rme_open_seat(&s, path, O_RDWR);
+    const uint64_t procs = first ? 0 : s.machine.procs;
+    for (uint64_t j = 0; j < procs; j++) {
+        const int error = reap(&s, path, j, repair, context);
         done += error == 0 || error == ENOTRECOVERABLE;
         if (!first && error != EBUSY && error != ESRCH)
             first = error;
     }
+    if (procs)
+        rme_close_seat(&s);
     if (reaped)
         *reaped = done;
     return first;
 }
 
-int rme_lock_reaping(struct rme_seat *s, uint64_t turns, rme_repair *repair, void *context)
+/* Whether an error of the reaping says that the one who blocks lives, or that another acts for it. */
+static bool is_alive(int error) { return error == EBUSY || error == ESRCH; }
+
+/* After a look that has found a living process, the least number of readings before the next, so that they come to sleep soon. */
+enum { LEAST_TURNS = 50 };
+
+int rme_lock_reaping_until(struct rme_seat *s, uint64_t turns, const struct timespec *until, rme_repair *repair, void *context)
 {
     WITHOUT_CANCELLATION;
-    const struct patience may_wait = {.turns = turns, .longest = 20, .once = true};
+    struct patience may_wait = {.turns = turns, .longest = 20, .until = until, .once = true};
     struct rme_access blocked;
     uint64_t told;
+    if (until && !is_time(until))
+        return EINVAL;
     int error = rme_begin_call(s);
     if (error)
         return error;
     while ((told = rme_make_call(s, &(struct rme_call){.code = RME_LOCK}, may_wait, &blocked)) == RME_BLOCKED) {
-        error = reap(s, blocked.place / 3, repair, context);
-        if (error && error != EBUSY && error != ESRCH && error != ENOTRECOVERABLE)
+        if (load(&s->interrupted))
+            break;
+        error = reap(s, NULL, blocked.place / 3, repair, context);
+        if (!is_attached(s)) /* a child that repair has forked */
+            return EINVAL;
+        if (error && !is_alive(error) && error != ENOTRECOVERABLE)
             return rme_end_call(s, error);
+        if (is_alive(error) && rme_time_left(until) == 0)
+            break;
+        may_wait.turns = is_alive(error) && turns < LEAST_TURNS ? LEAST_TURNS : turns;
     }
-    return rme_end_call(s, rme_error_of(told));
+    return rme_end_lock(s, told);
+}
+
+int rme_lock_reaping(struct rme_seat *s, uint64_t turns, rme_repair *repair, void *context)
+{
+    return rme_lock_reaping_until(s, turns, NULL, repair, context);
 }

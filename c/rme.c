@@ -99,17 +99,35 @@ static INLINED void run(const struct rme_seat *s, uint64_t told, uint64_t number
 
 enum { LEAST_PAUSES = 16, MOST_PAUSES = 2000, YIELDS = 100, AT_ONCE = 3000 /* ticks: about a microsecond */ };
 
+/* The nanoseconds up to this time; without one, more than any sleep. */
+int64_t rme_time_left(const struct timespec *until)
+{
+    enum { BILLION = 1000000000 };
+    struct timespec now;
+    if (!until)
+        return INT64_MAX;
+    clock_gettime(CLOCK_MONOTONIC, &now);
+    const int64_t seconds = (int64_t)until->tv_sec - (int64_t)now.tv_sec;
+    const int64_t left = seconds > BILLION ? INT64_MAX : seconds * BILLION + until->tv_nsec - now.tv_nsec;
+    return left > 0 ? left : 0;
+}
+
 /* After a blocked reading: for each process it pauses at first, then lets others run, then sleeps. A yield that comes back at
  * once says that a processor is free: then more pauses cost nothing. Who stores 0 sees the sleeper's bit, or else the kernel sees
  * the 0 here and does not sleep. The time is for those who die between their store and their waking. */
 static __attribute__((noinline)) void rest(struct rme_seat *s, uint64_t place, uint64_t seen, struct patience *may_wait)
 {
     uint64_t *sleepers = sleepers_on(s, place);
-    const struct timespec most = {0, (long)may_wait->longest * 1000000};
+    const int64_t left = rme_time_left(may_wait->until), longest = (int64_t)may_wait->longest * 1000000;
+    const struct timespec most = {0, (long)(left < longest ? left : longest)};
+    if (!s->blocked_at)
+        tally(s, WAITS);
     if (s->blocked_at != sleepers)
         s->turn = s->yields = 0;
     s->blocked_at = sleepers;
-    if (s->turn++ < s->pauses + LEAST_PAUSES) {
+    if (left == 0 || load(&s->interrupted)) {
+        may_wait->turns = 0;
+    } else if (s->turn++ < s->pauses + LEAST_PAUSES) {
         __builtin_ia32_pause();
     } else if (s->yields++ < YIELDS) {
         const uint64_t before = __builtin_ia32_rdtsc();
@@ -143,7 +161,7 @@ static uint64_t finish(struct rme_seat *s, uint64_t told, struct made made, stru
     return told;
 }
 
-int rme_error_of(uint64_t told)
+static int error_of(uint64_t told)
 {
     static const int errors[RME_DONE + 1] = {
         [RME_CALL_UNDER_WAY] = EBUSY, [RME_NOT_OWNER] = EPERM, [RME_ALREADY_IN] = EDEADLK, [RME_UNMENDED] = EOWNERDEAD,
@@ -159,7 +177,7 @@ int rme_error_of(uint64_t told)
 int rme_begin_call(struct rme_seat *s)
 {
     uint64_t was = FREE;
-    if (s && s->state && __atomic_compare_exchange_n(s->state, &was, BUSY, false, __ATOMIC_ACQUIRE, __ATOMIC_RELAXED))
+    if (s && s->self == s && s->state && __atomic_compare_exchange_n(s->state, &was, BUSY, false, __ATOMIC_ACQUIRE, __ATOMIC_RELAXED))
         return 0;
     return was == BUSY ? EBUSY : EINVAL;
 }
@@ -170,6 +188,17 @@ int rme_end_call(struct rme_seat *s, int error)
     s->astray = false;
     __atomic_store_n(s->state, FREE, __ATOMIC_RELEASE);
     return error;
+}
+
+/* The end of a call of RME_LOCK. */
+int rme_end_lock(struct rme_seat *s, uint64_t told)
+{
+    int error = error_of(told);
+    if (told == RME_CLEAN || told == RME_OWNER_DIED)
+        tally(s, ENTRIES);
+    else if (told == RME_BLOCKED && __atomic_exchange_n(&s->interrupted, 0, __ATOMIC_SEQ_CST))
+        error = EINTR;
+    return rme_end_call(s, error);
 }
 
 /* An append, by one feed of the words that it loads first. Its stores are those of data words; as in `take`, none goes to a word that
@@ -217,7 +246,7 @@ static INLINED int call(struct rme_seat *s, const struct rme_call *asked, struct
     if (error)
         return error;
     uint64_t told = rme_make_call(s, asked, may_wait, &access);
-    error = rme_end_call(s, rme_error_of(told));
+    error = rme_end_call(s, error_of(told));
     if (got && !error)
         *got = told == RME_WORD ? access.value : told;
     return error;
@@ -227,8 +256,48 @@ static INLINED int call(struct rme_seat *s, const struct rme_call *asked, struct
 static const struct patience at_once = {0};
 static const struct rme_call lock_call = {.code = RME_LOCK}, unlock_call = {.code = RME_UNLOCK};
 
-int rme_lock(struct rme_seat *s) { return call(s, &lock_call, (struct patience){.turns = UINT64_MAX, .longest = 50}, NULL); }
-int rme_lock_within(struct rme_seat *s, uint64_t turns) { return call(s, &lock_call, (struct patience){turns, .longest = 1}, NULL); }
+static INLINED int lock(struct rme_seat *s, struct patience may_wait)
+{
+    struct rme_access access;
+    const int error = rme_begin_call(s);
+    return error ? error : rme_end_lock(s, rme_make_call(s, &lock_call, may_wait, &access));
+}
+
+int rme_lock(struct rme_seat *s) { return lock(s, (struct patience){.turns = UINT64_MAX, .longest = 50}); }
+int rme_lock_within(struct rme_seat *s, uint64_t turns) { return lock(s, (struct patience){turns, .longest = 1}); }
+
+int rme_lock_until(struct rme_seat *s, const struct timespec *until)
+{
+    if (!is_time(until))
+        return EINVAL;
+    return lock(s, (struct patience){.turns = UINT64_MAX, .longest = 50, .until = until});
+}
+
+/* A place in line that an earlier lock has kept is not given up here. */
+int rme_trylock(struct rme_seat *s)
+{
+    static const struct rme_call withdraw_call = {.code = RME_WITHDRAW};
+    struct rme_access access;
+    int error = rme_begin_call(s);
+    if (error)
+        return error;
+    if (rme_next(&s->machine, &access) == 0)
+        return rme_end_call(s, EBUSY);
+    const uint64_t told = rme_make_call(s, &lock_call, at_once, &access);
+    if (told != RME_BLOCKED)
+        return rme_end_lock(s, told);
+    error = error_of(rme_make_call(s, &withdraw_call, at_once, &access));
+    return rme_end_call(s, error ? error : EAGAIN);
+}
+
+int rme_interrupt(struct rme_seat *s)
+{
+    if (!is_open(s) || !is_attached(s))
+        return EINVAL;
+    store(&s->interrupted, 1);
+    return 0;
+}
+
 int rme_unlock(struct rme_seat *s) { return call(s, &unlock_call, at_once, NULL); }
 int rme_consistent(struct rme_seat *s) { return call(s, &(struct rme_call){.code = RME_CONSISTENT}, at_once, NULL); }
 int rme_withdraw(struct rme_seat *s) { return call(s, &(struct rme_call){.code = RME_WITHDRAW}, at_once, NULL); }

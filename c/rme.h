@@ -3,12 +3,19 @@
  *
  * Two layers, both in librme. The machine (proved): which shared word a process loads or stores next, and what that was. The shim
  * (not proved): makes each access that the machine names and waits (rme.c), keeps the file (file.c), and recovers for the dead
- * (reap.c). Beside it status.c says how a file stands. */
+ * (reap.c). Beside it status.c says how a file stands.
+ *
+ * What one holder has written before its rme_unlock, in plain writes to rme_data or to other memory that both map, the next holder
+ * reads after its lock. For each store of the shim into the words is a sequentially consistent one, which is an exchange (xchg on
+ * x86-64): no earlier write comes after it, and no later load before it, which the lock itself needs. Of one that died inside, the
+ * next one or a repair may find any part of what it was writing. */
 #ifndef RME_H
 #define RME_H
 
 #include "rme_machine.h"
 #include <stdbool.h>
+#include <sys/types.h>
+#include <time.h>
 
 #ifdef __cplusplus
 extern "C" {
@@ -16,8 +23,8 @@ extern "C" {
 
 /* ---- the file that processes share ----
  *
- * A page with the header; a page with a cache line for each process, that begins with its three lock words and the set of those
- * who sleep on one of them; the data words; from the next multiple of 64 bytes on the caller's own data. */
+ * A page with the header; a page with a cache line for each process: its three lock words, the set of those who sleep on one of
+ * them, its pid and what it counts; the data words; from the next multiple of 64 bytes on the caller's own data. */
 
 #define RME_VERSION "1.0.0" /* of the library */
 #define RME_MAGIC UINT64_C(0x31656d7265726d65)
@@ -25,8 +32,9 @@ extern "C" {
 #define RME_HEADER 4096
 #define RME_LIMIT (UINT64_C(1) << 62)
 
-/* `marks` are 0 at rest; 1 (RME_ATTACHED) from an attach on until an orderly rme_detach, so whoever attaches to one that is 1
- * comes back from a crash; and what a reaper found there (RME_FOUND_..) times 256. */
+/* `marks` are 0 at rest. Bit 0 (RME_ATTACHED) is set from an attach on until an orderly rme_detach, so whoever attaches then comes
+ * back from a crash. Times 256 (RME_REAPED): where reapers have found one whose place they have given up (RME_FOUND_..), from then
+ * on until an orderly rme_detach; times 65,536: where a reaper has found one, and may have been killed since. */
 enum { RME_ATTACHED = 1, RME_REAPED = 256 };
 struct rme_header {
     uint64_t magic, format, header, words, procs, cap, width, limit, data_bytes;
@@ -35,13 +43,15 @@ struct rme_header {
 
 /* One living process at its index, or a file that is looked at. A program only makes room for it: rme_attach and rme_inspect
  * fill it, whatever stood there; a second of them on a seat that is attached loses the first, whose index stays taken until the
- * process ends. All zeros are a seat that is not attached. */
+ * process ends. All zeros are a seat that is not attached. It stays where it was filled: a copy, or one that was moved, is not
+ * attached, and its calls answer EINVAL. */
 struct rme_seat {
     struct rme_process machine;
     struct rme_header *header; /* null: not attached */
     /* Of each process eight words; the data words; whether a call is under way; the set of those who sleep where it waited last. */
     uint64_t *lines, *words, *state, *blocked_at;
-    uint64_t count, length, data_bytes, turn, yields, pauses;
+    uint64_t count, length, data_bytes, turn, yields, pauses, device, inode, interrupted;
+    const struct rme_seat *self; /* where it was filled */
     int file, reaped;
     bool crashed, astray;
 };
@@ -51,15 +61,20 @@ struct rme_message {
 };
 
 /* What the caller's own data need after the process `index` died inside: it acts as that process, inside, with the lock's data
- * area. 0: repaired. Any other answer: they are lost, and the lock is ruined for all. It may be killed and called again, so it
- * must be able to start anew. It may use rme_get, rme_put and rme_read_from of `dead`, and must neither detach nor unlock it. */
+ * area. 0: repaired. EINTR: not repaired now, and the place is left as a reaper that is killed here would leave it; the reaping answers
+ * EINTR. Any other answer: they are lost, and the lock is ruined for all. It may be killed and called again, so it must be able to
+ * start anew. It may use rme_get, rme_put, rme_read_from and rme_consistent of `dead`, and must neither detach nor unlock it. A child
+ * that it forks does not act for the dead one. */
 typedef int rme_repair(struct rme_seat *dead, uint64_t index, void *data, size_t data_bytes, void *context);
 
 /* Each call answers 0 or one of its errors, unless it says `Answers`. Each call with a seat has these errors too:
- *     EINVAL  the seat is not attached in this process (in a child of fork it can only look), or a pointer that is needed is null
+ *     EINVAL  the seat is not attached in this process (in a child of fork it can only look), it is a copy, or a pointer that is
+ *             needed is null
  *     EBUSY   a call with this seat is under way: in another thread, or in the one that this signal handler has interrupted; or,
  *             but for locks, rme_blocker, rme_withdraw, rme_read_from and rme_detach: its lock was left after ETIMEDOUT
  *     EBADMSG the words are none that this library leaves, and the call named one that is not there; nothing is stored there
+ *     EBADF   only of calls that ask for a lease (rme_lock_reaping, rme_lock_reaping_until, rme_blocker, rme_index_status, rme_pid): the
+ *             seat's descriptor was closed, or is another file's by now
  * A seat is used by one thread at a time. No call with a seat is a point of cancellation, and cancellation is off in the others;
  * none may be left by longjmp or asynchronous cancellation. Cutting the file short while it is mapped ends in SIGBUS. */
 
@@ -73,6 +88,14 @@ typedef int rme_repair(struct rme_seat *dead, uint64_t index, void *data, size_t
  *     and those of open, posix_fallocate, write and linkat */
 int rme_create(const char *path, uint64_t procs, uint64_t cap, uint64_t width, uint64_t data_bytes);
 
+/* The same, with this mode and group. The umask takes nothing of the mode; the group (gid_t)-1 is the one that the system gives.
+ * Whoever may write the file can take part, and can break the lock for all.
+ * Errors:
+ *     EINVAL sizes out of range, or a mode above 0777 or one that is not the owner's to read and write
+ *     EPERM  the group is none that this process may give
+ *     and the others of rme_create */
+int rme_create_as(const char *path, uint64_t procs, uint64_t cap, uint64_t width, uint64_t data_bytes, mode_t mode, gid_t group);
+
 /* Takes the index in the file. The index is this process's (and its children's, until they close the file, call exec or end)
  * until rme_detach or its end. A file that is replaced under its name later is another lock: whoever is attached stays with the
  * old one, and no call can see that. Never replace one that is in use.
@@ -82,6 +105,7 @@ int rme_create(const char *path, uint64_t procs, uint64_t cap, uint64_t width, u
  *     EBADMSG no file of this kind: another magic number, or cut short
  *     EPROTO  of another format, or its sizes do not fit
  *     ESTALE  another file has taken its name meanwhile
+ *     ENOSPC  it is a copy with holes, for which the disk has no room
  *     and those of open, fstat, pread, fcntl and mmap */
 int rme_attach(struct rme_seat *seat, const char *path, uint64_t index);
 
@@ -91,6 +115,14 @@ int rme_attach(struct rme_seat *seat, const char *path, uint64_t index);
  *     ETIMEDOUT a reaper still acts for it
  *     and the others of rme_attach */
 int rme_attach_within(struct rme_seat *seat, const char *path, uint64_t index, uint64_t milliseconds);
+
+/* Takes the index in the file of this descriptor, as rme_attach_within does. The file is opened anew, through /proc: the descriptor
+ * stays the caller's, and whoever else has it has no part in the index.
+ * Errors:
+ *     EBADF  no descriptor
+ *     ENOENT /proc is not mounted
+ *     and those of rme_attach_within but ESTALE */
+int rme_attach_file(struct rme_seat *seat, int file, uint64_t index, uint64_t milliseconds);
 
 /* Gives the index back and closes the file. The seat is not attached any more, but after EINVAL of a null pointer and EBUSY of a
  * call under way. In a child of fork it closes the child's share of the file, and answers EINVAL.
@@ -104,7 +136,8 @@ int rme_detach(struct rme_seat *seat);
  *     EOWNERDEAD      inside, again: an earlier process of this index died inside. Mend, then rme_consistent
  *     ENOTRECOVERABLE the lock is ruined; not inside
  *     EDEADLK         inside already
- *     EOVERFLOW       the numbers are spent; not inside */
+ *     EOVERFLOW       the numbers are spent; not inside
+ *     EINTR           rme_interrupt was called; not inside, and in line */
 int rme_lock(struct rme_seat *seat);
 
 /* The same, for `turns` blocked readings: short ones at first, then sleeps of at most a millisecond.
@@ -113,12 +146,42 @@ int rme_lock(struct rme_seat *seat);
  *     and those of rme_lock */
 int rme_lock_within(struct rme_seat *seat, uint64_t turns);
 
-/* rme_lock that reaps the dead who block it: after `turns` blocked readings, and where it sleeps every 20 milliseconds at the
- * latest, it looks whether the process that blocks it lives. After an error of the reaping it keeps its place, as after ETIMEDOUT.
+/* The same, up to this time of CLOCK_MONOTONIC. A time that has passed: it looks once whether it can enter.
+ * Errors:
+ *     EINVAL    until is null, or no time
+ *     ETIMEDOUT still not inside: it keeps its place in line
+ *     and those of rme_lock */
+int rme_lock_until(struct rme_seat *seat, const struct timespec *until);
+
+/* Enters where nobody is in the way, and waits for nobody.
+ * Errors:
+ *     EAGAIN somebody is in the way, or takes its number just now: not inside, and not in line
+ *     EBUSY  in line since an earlier lock: it keeps its place there
+ *     and those of rme_lock but EINTR */
+int rme_trylock(struct rme_seat *seat);
+
+/* Ends a lock of this seat that waits: it answers EINTR and keeps its place in line, as after ETIMEDOUT. Where none waits, the next
+ * that would wait answers so. A signal handler may call it, and another thread. A lock that sleeps sees it when it wakes: at once
+ * in the thread that the handler has interrupted, in 50 milliseconds elsewhere.
+ * Errors:
+ *     EINVAL the seat is not attached */
+int rme_interrupt(struct rme_seat *seat);
+
+/* rme_lock that reaps the dead who block it: after `turns` blocked readings, and again after as many (50 at least) or after a sleep,
+ * which is 20 milliseconds long at most, it looks whether the process that blocks it lives. After an error of the reaping it keeps its
+ * place, as after ETIMEDOUT.
  * Errors: those of rme_lock, and of fcntl */
 int rme_lock_reaping(struct rme_seat *seat, uint64_t turns, rme_repair *repair, void *context);
 
+/* The same, up to this time of CLOCK_MONOTONIC, or for ever where it is null.
+ * Errors:
+ *     EINVAL    no time
+ *     ETIMEDOUT still not inside: it keeps its place in line
+ *     and those of rme_lock_reaping */
+int rme_lock_reaping_until(struct rme_seat *seat, uint64_t turns, const struct timespec *until, rme_repair *repair, void *context);
+
 /* After ETIMEDOUT: the process that was waited for at last, and whether it lives (or a reaper acts for it). Either may be null.
+ * rme_pid says its pid.
  * Errors:
  *     EINVAL it does not wait
  *     and those of fcntl */
@@ -129,7 +192,8 @@ int rme_blocker(struct rme_seat *seat, uint64_t *index, bool *alive);
  *     EINVAL it does not wait */
 int rme_withdraw(struct rme_seat *seat);
 
-/* Leaves. Without rme_consistent after EOWNERDEAD it ruins the lock for all.
+/* Leaves. What this process has written inside, in plain writes too, the next holder reads. Without rme_consistent after EOWNERDEAD
+ * it ruins the lock for all.
  * Errors:
  *     EPERM not inside */
 int rme_unlock(struct rme_seat *seat);
@@ -191,6 +255,7 @@ void *rme_data(const struct rme_seat *seat, size_t *bytes);
  * Errors:
  *     ESRCH           nothing to do: nobody died here since the last rme_detach or reaping
  *     EBUSY           a living process has this index, or another reaper acts for it
+ *     EINTR           repair said so: the place is left
  *     ENOTRECOVERABLE its place is given up, but the lock is ruined: it was, or repair said so
  *     EBADMSG         no file of this kind, or its words are none that this library leaves
  *     and the others of rme_attach */
@@ -204,8 +269,13 @@ int rme_reap_all(const char *path, rme_repair *repair, void *context, uint64_t *
 bool rme_crashed(const struct rme_seat *seat);
 
 /* Answers where a reaper found an earlier process of this index that had died (RME_FOUND_..), or 0 where none was reaped since
- * the last attach: RME_FOUND_INSIDE says that what it was doing inside was ended or repaired by another. */
+ * the last orderly rme_detach or rme_acknowledge: RME_FOUND_INSIDE says that what it was doing inside was ended or repaired by
+ * another. Where reapers have found several, it is the one that was furthest. A process that dies before it has acknowledged what it
+ * was told leaves it to the next. */
 int rme_reaped(const struct rme_seat *seat);
+
+/* What rme_reaped says is taken notice of: from now on, and after the next attach, it answers 0. */
+int rme_acknowledge(struct rme_seat *seat);
 
 #ifdef __cplusplus
 }

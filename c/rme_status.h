@@ -21,6 +21,8 @@ struct rme_index {
     int found;
     int life;   /* no process is attached; one is; one died and nobody has its place; a reaper acts for it */
     int reaped; /* as rme_reaped answers after the next attach */
+    int64_t pid;             /* of the process that attached last, as it sees itself; 0 none since an orderly end */
+    uint64_t entries, waits; /* how often a process of this index has entered, and how often it had to wait for that */
 };
 
 /* Opens the file for looking: nothing in it is changed, and read permission is enough. Such a seat has no index; it can
@@ -36,6 +38,10 @@ int rme_file_status(const struct rme_seat *seat, struct rme_file *status);
  *     EINVAL no such index
  *     and those of fcntl */
 int rme_index_status(const struct rme_seat *seat, uint64_t index, struct rme_index *status);
+
+/* Answers the pid of the living process that has this index, as that process sees itself; 0 where none has it, or the index is none.
+ * It is what the file says: whoever may write the file can say another. */
+int64_t rme_pid(const struct rme_seat *seat, uint64_t index);
 
 /* Answers how many words it has copied, at most room: the block as rme_content_rule and rmelab's images have it, the lock words
  * of each process and then the data words. They are of one moment only where all processes have stopped. */

@@ -3,6 +3,7 @@
 import os
 import signal
 import tempfile
+import threading
 import time
 import unittest
 
@@ -162,6 +163,125 @@ class Box(unittest.TestCase):
         with self.assertRaises(ZeroDivisionError):
             rme.reap(self.path, 1, lambda index, data: 1 / 0)
         self.assertTrue(rme.inspect(self.path).file_status().ruined)
+
+    def interrupted(self, run, after=0.5):
+        """What `run` raises, or its answer, in a child that gets a Ctrl-C meanwhile: its name and its last words."""
+        ends = os.pipe()
+
+        def child():
+            signal.signal(signal.SIGINT, signal.default_int_handler)
+            try:
+                said = repr(run())
+            except BaseException as raised:
+                said = " ".join([type(raised).__name__, *map(str, raised.args)])
+            os.write(ends[1], said.encode())
+            os._exit(0)
+
+        number = forked(child)
+        for wait in after if isinstance(after, tuple) else (after,):
+            time.sleep(wait)
+            os.kill(number, signal.SIGINT)
+        os.close(ends[1])
+        said = os.read(ends[0], 1000).decode()
+        os.close(ends[0])
+        os.waitpid(number, 0)
+        return said
+
+    def test_interrupted_lock(self):
+        def wait(how):
+            seat = rme.Seat(self.path, 1)
+            try:
+                how(seat)
+            finally:
+                seat.close()  # it is neither inside nor in line
+
+        with rme.Seat(self.path, 0) as first, first.lock():
+            for how in (lambda s: s.lock(), lambda s: s.lock(until=time.monotonic() + 60), lambda s: s.lock_reaping(3)):
+                said = self.interrupted(lambda how=how: wait(how))
+                self.assertEqual(said, "KeyboardInterrupt not inside: the place in line is given up")
+        with rme.Seat(self.path, 2) as seat:
+            seat.lock(0).unlock()
+
+    def test_interrupt_that_a_handler_takes(self):
+        def run():
+            caught = []
+            signal.signal(signal.SIGINT, lambda number, frame: caught.append(number))
+            with rme.Seat(self.path, 1) as seat, seat.lock(until=time.monotonic() + 1.5) as inside:
+                return caught, inside.owner_died
+
+        with rme.Seat(self.path, 0) as first:
+            held, said = first.lock(), []
+            thread = threading.Thread(target=lambda: said.append(self.interrupted(run, 0.3)))
+            thread.start()
+            time.sleep(0.8)
+            held.unlock()
+            thread.join()
+        self.assertEqual(said, ["([2], False)"])
+
+    def test_interrupted_repair(self):
+        for after, reaped, word in ((0.5, True, "the reaping has ended"), ((0.5, 0.3), False, "")):
+            self.die_inside(0)
+
+            def repair(index, data):
+                time.sleep(1.2)
+                data[0] = 7
+
+            said = self.interrupted(lambda: rme.reap(self.path, 0, repair), after)
+            self.assertEqual(said, " ".join(filter(None, ["KeyboardInterrupt", word])))
+            self.assertFalse(rme.inspect(self.path).file_status().ruined)
+            status = rme.inspect(self.path).index_status(0)
+            self.assertEqual(status.life, rme.Life.ABSENT if reaped else rme.Life.DEAD)
+        with rme.Seat(self.path, 1) as seat:
+            with self.assertRaises(SystemExit) as ended, seat.lock_reaping(3, lambda index, data: os.sys.exit(3)):
+                pass
+            self.assertEqual(ended.exception.code, 3)
+            self.assertIn("the place in line is given up", ended.exception.args[-1])
+            self.assertFalse(seat.file_status().ruined)
+            seat.lock_reaping(3, lambda index, data: None).unlock()
+
+    def test_waits_that_end(self):
+        with rme.Seat(self.path, 0) as first, rme.Seat(self.path, 1) as second:
+            with first.lock():
+                self.assertIs(first.inside.owner_died, False)
+                self.assertIsNone(second.try_lock())
+                begin = time.monotonic()
+                for how in (second.lock, lambda until: second.lock_reaping(3, until=until)):
+                    with self.assertRaises(TimeoutError):
+                        how(until=time.monotonic() + 0.2)
+                self.assertGreaterEqual(time.monotonic() - begin, 0.4)
+                self.assertEqual((second.pid(0), second.pid(2)), (os.getpid(), 0))
+                second.withdraw()
+            self.assertIsNone(first.inside)
+            with second.try_lock() as inside:
+                self.assertIs(second.inside, inside)
+            status = first.index_status(1)
+            self.assertEqual((status.pid, status.entries, status.waits), (os.getpid(), 1, 1))
+
+    def test_mode_and_descriptor(self):
+        path = self.path + "-shared"
+        rme.create(path, 2, 4, mode=0o660, group=os.getgid())
+        self.assertEqual(os.stat(path).st_mode & 0o777, 0o660)
+        with open(path, "rb+") as file:
+            os.unlink(path)
+            with rme.Seat(file.fileno(), 0) as seat, rme.Seat(file.fileno(), 1):
+                self.refused(16, rme.Seat, file.fileno(), 0)
+                seat.lock().unlock()
+
+    def test_notice_is_told_until_it_is_acknowledged(self):
+        self.die_inside(0)
+        rme.reap(self.path, 0)
+        for acknowledged in (False, True):
+
+            def run(acknowledged=acknowledged):
+                seat = rme.Seat(self.path, 0)
+                self.assertEqual(seat.reaped, rme.Found.INSIDE)
+                if acknowledged:
+                    seat.acknowledge()
+                killed()
+
+            os.waitpid(forked(run), 0)
+            with rme.Seat(self.path, 1) as seat:
+                self.assertEqual(seat.index_status(0).reaped, rme.Found.NOTHING if acknowledged else rme.Found.INSIDE)
 
     def test_many_that_are_killed(self):
         """Two that count inside, and are killed and started again; a third that reaps where nobody is started again."""

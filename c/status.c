@@ -3,13 +3,6 @@
 
 #include <string.h>
 
-/* A mark that no reaper leaves says nothing. */
-int rme_reaped_of(uint64_t mark)
-{
-    const uint64_t found = mark / RME_REAPED;
-    return found >= RME_FOUND_IDLE && found <= RME_FOUND_INSIDE ? (int)found : 0;
-}
-
 int rme_inspect(struct rme_seat *s, const char *path)
 {
     WITHOUT_CANCELLATION;
@@ -18,7 +11,7 @@ int rme_inspect(struct rme_seat *s, const char *path)
 
 int rme_file_status(const struct rme_seat *s, struct rme_file *status)
 {
-    if (!s || !s->header || !status)
+    if (!is_open(s) || !status)
         return EINVAL;
     *status = (struct rme_file){
         .procs = s->machine.procs, .cap = s->machine.cap, .width = s->machine.width, .limit = s->machine.limit,
@@ -38,22 +31,44 @@ static int row_of(uint64_t choosing, uint64_t number, uint64_t inside)
     return number ? RME_FOUND_WAITING : choosing ? RME_FOUND_DOORWAY : RME_FOUND_IDLE;
 }
 
+/* A mark that no reaper leaves says nothing. */
+static int found_of(uint64_t number) { return number >= RME_FOUND_IDLE && number <= RME_FOUND_INSIDE ? (int)number : 0; }
+
+/* The furthest that reapers have found and given up the place of. What one has begun with counts where the words have passed it. */
+int rme_reaped_of(const struct rme_seat *s, uint64_t index)
+{
+    const uint64_t mark = load(&s->header->marks[index]), *line = line_of(s, index);
+    const int done = found_of(mark / RME_REAPED % 256), begun = found_of(mark / RME_BEGUN);
+    const int stands = row_of(load(line), load(line + 1), load(line + 2));
+    const bool passed = begun == RME_FOUND_INSIDE ? stands != RME_FOUND_INSIDE : stands == RME_FOUND_IDLE || stands == RME_FOUND_LEFT;
+    return passed && begun > done ? begun : done;
+}
+
 int rme_index_status(const struct rme_seat *s, uint64_t index, struct rme_index *status)
 {
-    if (!s || !s->header || !status || index >= s->machine.procs)
+    if (!is_open(s) || !status || index >= s->machine.procs)
         return EINVAL;
     const uint64_t *line = s->lines + index * LINE, mark = load(&s->header->marks[index]);
     int life = RME_ALIVE, error = s->state && index == s->machine.index ? 0 : rme_life_of(s, index, &life);
     *status = (struct rme_index){.choosing = load(line), .number = load(line + 1), .inside = load(line + 2)};
     status->found = row_of(status->choosing, status->number, status->inside);
     status->life = life == RME_ABSENT && mark & RME_ATTACHED ? RME_DEAD : life;
-    status->reaped = rme_reaped_of(mark);
+    status->reaped = rme_reaped_of(s, index);
+    status->pid = (int64_t)load(line + PID);
+    status->entries = load(line + ENTRIES);
+    status->waits = load(line + WAITS);
     return error;
+}
+
+int64_t rme_pid(const struct rme_seat *s, uint64_t index)
+{
+    struct rme_index status;
+    return rme_index_status(s, index, &status) == 0 && status.life == RME_ALIVE ? status.pid : 0;
 }
 
 uint64_t rme_copy_words(const struct rme_seat *s, uint64_t *words, uint64_t room)
 {
-    if (!s || !s->header || !words)
+    if (!is_open(s) || !words)
         return 0;
     const uint64_t locks = 3 * s->machine.procs, count = room < s->count ? room : s->count;
     for (uint64_t i = 0; i < count; i++)
@@ -64,10 +79,22 @@ uint64_t rme_copy_words(const struct rme_seat *s, uint64_t *words, uint64_t room
 bool rme_crashed(const struct rme_seat *s) { return s && s->crashed; }
 int rme_reaped(const struct rme_seat *s) { return s ? s->reaped : 0; }
 
+int rme_acknowledge(struct rme_seat *s)
+{
+    const int error = rme_begin_call(s);
+    if (error)
+        return error;
+    if (s->machine.index >= s->machine.procs || s->machine.procs > MOST_PROCS)
+        return rme_end_call(s, EINVAL);
+    store(&s->header->marks[s->machine.index], RME_ATTACHED);
+    s->reaped = 0;
+    return rme_end_call(s, 0);
+}
+
 /* Count first, then entries below it: they never change once count has passed them. */
 uint64_t rme_read_from(const struct rme_seat *s, uint64_t place, struct rme_message *messages, uint64_t room)
 {
-    if (!s || !s->header || !messages)
+    if (!is_open(s) || !messages)
         return 0;
     const struct rme_process *m = &s->machine;
     uint64_t count = load(s->words + 2), copied = 0;
@@ -82,7 +109,7 @@ uint64_t rme_read_from(const struct rme_seat *s, uint64_t place, struct rme_mess
 
 void *rme_data(const struct rme_seat *s, size_t *bytes)
 {
-    bool some = s && s->header && s->data_bytes;
+    bool some = is_open(s) && s->data_bytes;
     if (bytes)
         *bytes = some ? s->data_bytes : 0;
     return some ? (char *)s->header + data_offset(s->count, s->machine.procs) : NULL;
@@ -112,6 +139,9 @@ const char *rme_strerror(int error)
     case ETIMEDOUT: return "still blocked";
     case EDEADLK: return "inside already";
     case EPERM: return "not inside";
+    case EAGAIN: return "somebody is in the way";
+    case EINTR: return "interrupted";
+    case EBADF: return "the descriptor is closed, or another file's";
     case EBUSY: return "another process has the index, or another call the seat";
     case EALREADY: return "it is stored, or closed, already";
     case EPIPE: return "the mailbox is closed";

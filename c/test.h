@@ -21,18 +21,18 @@ static void expect_at(int line, const char *what, long got, long wanted)
 {
     if (got == wanted)
         return;
-    fprintf(stderr, "faults_test.c:%d: %s: %ld (%s), wanted %ld\n", line, what, got, got > 0 ? strerror((int)got) : "", wanted);
+    fprintf(stderr, "%s:%d: %s: %ld (%s), wanted %ld\n", __BASE_FILE__, line, what, got, got > 0 ? strerror((int)got) : "", wanted);
     _exit(1);
 }
 #define EXPECT(call, wanted) expect_at(__LINE__, #call, (long)(call), (long)(wanted))
 
-static void nap(double seconds)
+static inline void nap(double seconds)
 {
     struct timespec time = {(time_t)seconds, (long)((seconds - (double)(time_t)seconds) * 1e9)};
     nanosleep(&time, NULL);
 }
 
-static void make(uint64_t procs, uint64_t cap)
+static inline void make(uint64_t procs, uint64_t cap)
 {
     unlink(path);
     EXPECT(rme_create(path, procs, cap, 1, 0), 0);
@@ -40,7 +40,7 @@ static void make(uint64_t procs, uint64_t cap)
 
 /* A process of this index that gets so far and is killed. */
 enum stand { INSIDE, IN_LINE };
-static void die(uint64_t index, enum stand stand)
+static inline void die(uint64_t index, enum stand stand)
 {
     pid_t child = fork();
     if (child == 0) {
@@ -58,7 +58,7 @@ static void die(uint64_t index, enum stand stand)
 static struct rme_seat shared;
 static volatile int thread_told = -1;
 
-static void *lock_and_unlock(void *argument)
+static inline void *lock_and_unlock(void *argument)
 {
     thread_told = rme_lock(&shared);
     if (thread_told == 0)
@@ -88,7 +88,7 @@ static int run_tests(int count, char **word, const struct test *tests, size_t al
         int status = 0;
         pid_t child = fork();
         if (child == 0) {
-            alarm(60);
+            alarm(20);
             tests[i].test();
             fflush(NULL);
             _exit(0);

@@ -3,6 +3,7 @@
 #include "tool_log.h"
 
 #include <errno.h>
+#include <grp.h>
 #include <inttypes.h>
 #include <stdbool.h>
 #include <stdio.h>
@@ -16,8 +17,8 @@ static const char USAGE[] =
     "Makes, shows and mends a file through which processes share the lock and the mailbox of librme, or a log of such files.\n"
     "\n"
     "Commands:\n"
-    "  create FILE PROCS CAP WIDTH [BYTES]  make FILE for PROCS processes and CAP messages of WIDTH words, and BYTES of data\n"
-    "  status FILE                          show where each process stands and who waits for whom; changes no word\n"
+    "  create [--mode MODE] [--group GROUP] FILE PROCS CAP WIDTH [BYTES]  make FILE for PROCS processes and CAP messages of WIDTH words, and BYTES of data\n"
+    "  status FILE                          show where each process stands, who waits for whom, and what it counts; changes no word\n"
     "  dump FILE                            show the messages: the place, the sender, the number and the words of each\n"
     "  image FILE                           show the words as an image for rmelab replay --image\n"
     "  reap [--no-repair] FILE [INDEX]      give up the places of dead processes, or of the one with this index\n"
@@ -29,6 +30,8 @@ static const char USAGE[] =
     "  log forget FOLDER READER             take away a named reader\n"
     "\n"
     "Options:\n"
+    "  --mode MODE    of the file, in octal: 600 where nothing is said\n"
+    "  --group GROUP  of the file, by its name or number\n"
     "  --no-repair    reap those too who died inside: the data that the lock guards need no repair\n"
     "  --once         show the messages that there are, and wait for no more\n"
     "  -h, --help     show this text\n"
@@ -134,7 +137,11 @@ static bool is_in_the_way(const struct view *v, uint64_t q)
 
 static void show_index(const struct view *v, uint64_t p)
 {
-    printf("process %" PRIu64 ": %s, %s", p, LIVES[v->index[p].life], stands(v->index[p].found));
+    const struct rme_index *i = &v->index[p];
+    printf("process %" PRIu64 ": %s", p, LIVES[i->life]);
+    if (i->life == RME_ALIVE && i->pid > 0)
+        printf(", pid %" PRId64, i->pid);
+    printf(", %s", stands(i->found));
     const char *between = "; waits for ";
     for (uint64_t q = 0; q < v->file.procs; q++) {
         if (waits_for(v, p, q)) {
@@ -142,7 +149,10 @@ static void show_index(const struct view *v, uint64_t p)
             between = ", ";
         }
     }
-    printf("%s\n", is_in_the_way(v, p) ? "; in the way: start it again, or reap it" : "");
+    printf("%s", is_in_the_way(v, p) ? "; in the way: start it again, or reap it" : "");
+    if (i->entries || i->waits)
+        printf("; entries %" PRIu64 ", waits %" PRIu64, i->entries, i->waits);
+    putchar('\n');
 }
 
 static int show_status(const char *path)
@@ -251,12 +261,6 @@ static int reap(const char *path, const uint64_t *index, bool no_repair)
     return error ? refuse(path, error) : left;
 }
 
-static int create(const char *path, const uint64_t *size, int sizes)
-{
-    int error = rme_create(path, size[0], size[1], size[2], sizes > 3 ? size[3] : 0);
-    return error ? refuse(path, error) : 0;
-}
-
 /* ---- the words of the command line ---- */
 
 static int wrong_words(void)
@@ -280,16 +284,53 @@ static bool read_numbers(char **word, int count, uint64_t *number)
     return true;
 }
 
+/* The group of this name, or number. */
+static bool read_group(char *word, gid_t *group)
+{
+    uint64_t number = 0;
+    const struct group *named = getgrnam(word);
+    if (!named && (!read_numbers(&word, 1, &number) || number >= UINT32_MAX))
+        return false;
+    *group = named ? named->gr_gid : (gid_t)number;
+    return true;
+}
+
+static bool read_mode(const char *word, mode_t *mode)
+{
+    char *end;
+    const unsigned long number = strtoul(word, &end, 8);
+    *mode = (mode_t)number;
+    return *word >= '0' && *word <= '7' && !*end && number <= 0777;
+}
+
+static int create(int count, char **word)
+{
+    uint64_t size[4] = {0};
+    mode_t mode = 0600;
+    gid_t group = (gid_t)-1;
+    for (; count > 2 && word[0][0] == '-'; count -= 2, word += 2) {
+        const bool right = strcmp(word[0], "--mode") == 0    ? read_mode(word[1], &mode)
+                           : strcmp(word[0], "--group") == 0 ? read_group(word[1], &group)
+                                                             : false;
+        if (!right)
+            return wrong_words();
+    }
+    if ((count != 4 && count != 5) || word[0][0] == '-' || !read_numbers(word + 1, count - 1, size))
+        return wrong_words();
+    const int error = rme_create_as(word[0], size[0], size[1], size[2], size[3], mode, group);
+    return error ? refuse(word[0], error) : 0;
+}
+
 static int obey(const char *command, int count, char **word)
 {
     uint64_t number[4];
+    if (strcmp(command, "create") == 0)
+        return create(count, word);
     bool no_repair = count > 0 && strcmp(word[0], "--no-repair") == 0 && strcmp(command, "reap") == 0;
     count -= no_repair;
     word += no_repair;
     if (count < 1 || word[0][0] == '-' || !read_numbers(word + 1, count - 1, number))
         return wrong_words();
-    if (strcmp(command, "create") == 0 && (count == 4 || count == 5))
-        return create(word[0], number, count - 1);
     if (strcmp(command, "status") == 0 && count == 1)
         return show_status(word[0]);
     if (strcmp(command, "dump") == 0 && count == 1)

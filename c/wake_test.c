@@ -4,7 +4,7 @@
  *
  * Waiters are traced from system call to system call: what ended their sleeps in the futex is what the kernel answers them. A
  * store that comes before the sleep, or after the end of the nap, says nothing, so each case is tried until three tries say that
- * all were woken, at most 20 times. */
+ * all were woken, at most 20 times. Last, one is killed between its store and its waking: the nap ends then. */
 #define _GNU_SOURCE
 #include "rme.h"
 
@@ -211,6 +211,56 @@ static int try_case(const struct wake_case *tried, int waiters)
     return woken;
 }
 
+/* ---- one that is killed between its store and its waking ---- */
+
+/* An unlock that is stopped where it would wake, and killed there. */
+static void unlock_and_die(struct rme_seat *seat)
+{
+    struct __ptrace_syscall_info info;
+    int status = 0;
+    const pid_t child = fork();
+    if (child == 0) {
+        expect("attach of one who dies", rme_attach(seat, path, 0), 0);
+        expect("lock of one who dies", rme_lock(seat), 0);
+        if (ptrace(PTRACE_TRACEME, 0, NULL, NULL))
+            fail("trace", errno);
+        kill(getpid(), SIGSTOP);
+        nap(100); /* those who wait come to sleep */
+        rme_unlock(seat);
+        _exit(1);
+    }
+    if (child < 0 || waitpid(child, &status, 0) != child || !WIFSTOPPED(status))
+        fail("fork", errno);
+    if (ptrace(PTRACE_SETOPTIONS, child, NULL, PTRACE_O_TRACESYSGOOD | PTRACE_O_EXITKILL))
+        fail("options of the trace", errno);
+    const pid_t waiter = fork();
+    if (waiter == 0) {
+        struct rme_seat own;
+        alarm(10);
+        expect("attach of a waiter", rme_attach(&own, path, 1), 0);
+        expect("lock of a waiter", rme_lock(&own), 0);
+        expect("unlock of a waiter", rme_unlock(&own), 0);
+        _exit(rme_detach(&own));
+    }
+    do {
+        if (!next_call(child, &info))
+            fail("an unlock wakes nobody who sleeps", 0);
+    } while (info.op != PTRACE_SYSCALL_INFO_ENTRY || info.entry.nr != SYS_futex || (info.entry.args[1] & 127) != FUTEX_WAKE);
+    kill(child, SIGKILL);
+    waitpid(child, NULL, 0);
+    if (waitpid(waiter, &status, 0) != waiter || status)
+        fail("a waiter whose waker was killed sleeps for ever, status", status);
+}
+
+static void killed_before_it_wakes(void)
+{
+    static struct rme_seat seat;
+    unlink(path);
+    expect("create", rme_create(path, PROCS, 1, 1, 0), 0);
+    unlock_and_die(&seat);
+    printf("wake_test killed before it wakes: the waiter came in\n");
+}
+
 int main(int argc, char **argv)
 {
     if (argc != 2)
@@ -225,6 +275,7 @@ int main(int argc, char **argv)
             fail(cases[which].name, woken);
         printf("wake_test %s: woken in %d tries of %d\n", cases[which].name, woken, tries);
     }
+    killed_before_it_wakes();
     unlink(path);
     return 0;
 }

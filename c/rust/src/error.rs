@@ -14,8 +14,13 @@ pub enum LockError {
     NotRecoverable,
     /// This process is inside already.
     AlreadyInside,
-    /// The readings that it was given were all blocked. The seat keeps its place: the next lock waits on there.
+    /// The readings that it was given were all blocked, or its time has passed. The seat keeps its place: the next lock waits on
+    /// there.
     TimedOut,
+    /// An [`Interrupter`](crate::Interrupter) has ended the wait. The seat keeps its place.
+    Interrupted,
+    /// Somebody is in the way of a [`try_lock`](crate::Seat::try_lock), which is not in line.
+    Blocked,
     /// Another call of this seat is under way: a lock that has timed out, which waits on or is withdrawn.
     Busy,
     /// All numbers of this lock are spent.
@@ -52,6 +57,8 @@ impl LockError {
             ffi::ETIMEDOUT => LockError::TimedOut,
             ffi::EBUSY => LockError::Busy,
             ffi::EOVERFLOW => LockError::NumbersSpent,
+            ffi::EINTR => LockError::Interrupted,
+            ffi::EAGAIN => LockError::Blocked,
             other => LockError::Other(other),
         }
     }
@@ -75,6 +82,8 @@ impl fmt::Display for LockError {
             LockError::NotRecoverable => out.write_str("the lock is not recoverable"),
             LockError::AlreadyInside => out.write_str("this process is inside already"),
             LockError::TimedOut => out.write_str("timed out; the place in the line is kept"),
+            LockError::Interrupted => out.write_str("interrupted; the place in the line is kept"),
+            LockError::Blocked => out.write_str("somebody is in the way"),
             LockError::Busy => out.write_str("another call of this seat is under way"),
             LockError::NumbersSpent => out.write_str("the numbers of this lock are spent"),
             LockError::NotWaiting => out.write_str("this process does not wait in line"),

@@ -1,12 +1,14 @@
 //! Room for a seat of C, that stays where it is, and what can be read of any seat.
 
+use std::cell::UnsafeCell;
 use std::ffi::{c_char, c_int, CString};
 use std::io;
 use std::marker::PhantomData;
 use std::os::unix::ffi::OsStrExt;
 use std::path::Path;
+use std::sync::{Arc, Mutex, PoisonError};
 
-use crate::error::io_result;
+use crate::error::{io_result, LockError};
 use crate::ffi::{self, RmeFile, RmeIndex, RmeMessage, RmeSeat};
 use crate::status::{FileStatus, IndexStatus};
 
@@ -16,9 +18,50 @@ struct Line {
     _bytes: [u8; 64],
 }
 
+/// The room of a seat, which stays where it is, and whether the seat is attached.
+struct Room {
+    lines: UnsafeCell<Box<[Line]>>,
+    attached: Mutex<bool>,
+}
+
+// SAFETY: one handle alone uses the seat, and beside it interrupters, by the one call that C allows while another is under way. A seat
+// that is detached is used no more: both hold the mutex.
+unsafe impl Send for Room {}
+unsafe impl Sync for Room {}
+
+impl Room {
+    fn seat(&self) -> *mut RmeSeat {
+        // SAFETY: the box itself is never replaced, and its lines are C's.
+        unsafe { (*self.lines.get()).as_mut_ptr().cast() }
+    }
+}
+
+/// Ends a lock of a [`Seat`](crate::Seat) that waits, from another thread.
+#[derive(Clone)]
+pub struct Interrupter {
+    room: Arc<Room>,
+}
+
+impl Interrupter {
+    /// The lock that waits answers [`Interrupted`](LockError::Interrupted), and keeps its place in line. Where none waits, the next
+    /// that would wait answers so.
+    ///
+    /// # Errors
+    ///
+    /// [`Other`](LockError::Other) where the seat is dropped.
+    pub fn interrupt(&self) -> Result<(), LockError> {
+        let attached = self.room.attached.lock().unwrap_or_else(PoisonError::into_inner);
+        // SAFETY: the seat is attached, and is not detached before the mutex is left.
+        match attached.then(|| unsafe { ffi::rme_interrupt(self.room.seat()) }) {
+            Some(0) => Ok(()),
+            answer => Err(LockError::of(answer.unwrap_or(ffi::EINVAL))),
+        }
+    }
+}
+
 /// A seat of C that is attached, or that looks at a file. It may be sent to another thread, but not shared.
 pub(crate) struct Handle {
-    room: Box<[Line]>,
+    room: Arc<Room>,
     width: usize,
     _not_shared: PhantomData<*mut ()>,
 }
@@ -30,21 +73,30 @@ impl Handle {
     /// Has C open the file into room that is all zeros, and so not attached.
     pub(crate) fn open(path: &Path, open: impl FnOnce(*mut RmeSeat, *const c_char) -> c_int) -> io::Result<Handle> {
         let path = c_path(path)?;
+        Handle::open_by(|seat| open(seat, path.as_ptr()))
+    }
+
+    pub(crate) fn open_by(open: impl FnOnce(*mut RmeSeat) -> c_int) -> io::Result<Handle> {
         // SAFETY: rme_seat_size has no premise.
         let lines = unsafe { ffi::rme_seat_size() }.div_ceil(64);
-        let room = vec![Line { _bytes: [0; 64] }; lines].into_boxed_slice();
+        let lines = UnsafeCell::new(vec![Line { _bytes: [0; 64] }; lines].into_boxed_slice());
+        let room = Arc::new(Room { lines, attached: Mutex::new(true) });
         let mut handle = Handle { room, width: 0, _not_shared: PhantomData };
-        io_result(open(handle.seat(), path.as_ptr()))?;
+        io_result(open(handle.seat()))?;
         handle.width = handle.file_status()?.width as usize;
         Ok(handle)
     }
 
     pub(crate) fn seat(&mut self) -> *mut RmeSeat {
-        self.room.as_mut_ptr().cast()
+        self.room.seat()
     }
 
     pub(crate) fn shown(&self) -> *const RmeSeat {
-        self.room.as_ptr().cast()
+        self.room.seat()
+    }
+
+    pub(crate) fn interrupter(&self) -> Interrupter {
+        Interrupter { room: self.room.clone() }
     }
 
     pub(crate) fn width(&self) -> usize {
@@ -71,8 +123,10 @@ impl Handle {
 
     /// Closes the file; the number of an error says that the process was inside or in line.
     pub(crate) fn detach(&mut self) -> c_int {
+        let mut attached = self.room.attached.lock().unwrap_or_else(PoisonError::into_inner);
+        *attached = false;
         // SAFETY: the room is a seat's; a second detach finds it not attached.
-        unsafe { ffi::rme_detach(self.seat()) }
+        unsafe { ffi::rme_detach(self.room.seat()) }
     }
 }
 

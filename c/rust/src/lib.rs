@@ -70,12 +70,12 @@ mod status;
 
 pub use error::{LockError, MailError};
 pub use guard::{Appended, Data, Guard};
-pub use handle::{Message, Messages};
+pub use handle::{Interrupter, Message, Messages};
 pub use log::{
     create_log, drop_segments, forget_reader, log_status, was_overtaken, Cursor, Log, LogMessage, LogReader, LogStatus,
 };
 pub use reap::{reap, reap_all, Dead, Repair};
-pub use seat::{create, Recovery, Seat};
+pub use seat::{create, create_as, Recovery, Seat};
 pub use status::{FileStatus, Found, IndexStatus, Inspection, Life};
 
 /// The version of the library for C.

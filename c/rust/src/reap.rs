@@ -22,6 +22,9 @@ pub enum Repair {
     Done,
     /// They are lost, and the lock is ruined for all.
     Lost,
+    /// They are not repaired now: the place is left to the next reaper, and the reaping answers
+    /// [`Interrupted`](io::ErrorKind::Interrupted).
+    Later,
 }
 
 /// A process that died inside, for which a repair acts, inside. A repair may be killed itself and called again by the next
@@ -132,6 +135,7 @@ impl<F: FnMut(&mut Dead<'_>) -> Repair> Repairing<F> {
         match panic::catch_unwind(AssertUnwindSafe(|| (self.repair)(dead))) {
             Ok(Repair::Done) => 0,
             Ok(Repair::Lost) => 1,
+            Ok(Repair::Later) => ffi::EINTR,
             Err(panic) => {
                 self.panic = Some(panic);
                 1

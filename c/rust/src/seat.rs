@@ -2,13 +2,15 @@
 
 use std::ffi::c_int;
 use std::io;
+use std::os::fd::{AsFd, AsRawFd};
 use std::path::Path;
-use std::time::Duration;
+use std::ptr;
+use std::time::{Duration, Instant};
 
 use crate::error::{io_result, LockError};
-use crate::ffi::{self, RmeSeat};
+use crate::ffi::{self, RmeSeat, Timespec};
 use crate::guard::Guard;
-use crate::handle::{c_path, Handle, Messages};
+use crate::handle::{c_path, Handle, Interrupter, Messages};
 use crate::reap::{Dead, Repair, Repairing};
 use crate::status::{FileStatus, Found, IndexStatus};
 
@@ -20,9 +22,40 @@ use crate::status::{FileStatus, Found, IndexStatus};
 /// [`AlreadyExists`](io::ErrorKind::AlreadyExists) where there is such a name, and nothing is changed;
 /// [`InvalidInput`](io::ErrorKind::InvalidInput) where the sizes are out of range; and those of the system.
 pub fn create(path: impl AsRef<Path>, procs: u64, cap: u64, width: u64, data_bytes: u64) -> io::Result<()> {
+    create_as(path, procs, cap, width, data_bytes, 0o600, None)
+}
+
+/// The same, with this mode, of which the umask takes nothing, and this group. Whoever may write the file can take part, and can
+/// break the lock for all.
+///
+/// # Errors
+///
+/// Those of [`create`]; [`InvalidInput`](io::ErrorKind::InvalidInput) of a mode above 0o777, or one that is not the owner's to read
+/// and write; [`PermissionDenied`](io::ErrorKind::PermissionDenied) of a group that this process may not give.
+pub fn create_as(
+    path: impl AsRef<Path>,
+    procs: u64,
+    cap: u64,
+    width: u64,
+    data_bytes: u64,
+    mode: u32,
+    group: Option<u32>,
+) -> io::Result<()> {
     let path = c_path(path.as_ref())?;
+    let group = group.unwrap_or(u32::MAX);
     // SAFETY: the path ends with a zero.
-    io_result(unsafe { ffi::rme_create(path.as_ptr(), procs, cap, width, data_bytes) })
+    io_result(unsafe { ffi::rme_create_as(path.as_ptr(), procs, cap, width, data_bytes, mode, group) })
+}
+
+/// This instant, as a time of CLOCK_MONOTONIC.
+fn time_of(until: Instant) -> Timespec {
+    let left = until.saturating_duration_since(Instant::now());
+    let mut time = Timespec::default();
+    // SAFETY: the time is written within its bounds.
+    unsafe { ffi::clock_gettime(ffi::CLOCK_MONOTONIC, &mut time) };
+    let nanoseconds = time.nanoseconds + i64::from(left.subsec_nanos());
+    let seconds = i64::try_from(left.as_secs()).unwrap_or(i64::MAX).saturating_add(time.seconds);
+    Timespec { seconds: seconds.saturating_add(nanoseconds / 1_000_000_000), nanoseconds: nanoseconds % 1_000_000_000 }
 }
 
 /// One living process at its index of a file. Dropping it gives the index back; where it is inside or in line then, this
@@ -62,6 +95,19 @@ impl Seat {
         Ok(Seat { handle: Handle::open(path.as_ref(), open)? })
     }
 
+    /// Takes the index in the file of an open descriptor, which stays the caller's: the file is opened anew, through /proc.
+    ///
+    /// # Errors
+    ///
+    /// Those of [`attach_within`](Seat::attach_within).
+    pub fn attach_file(file: impl AsFd, index: u64, most: Duration) -> io::Result<Seat> {
+        let milliseconds = u64::try_from(most.as_millis()).unwrap_or(u64::MAX);
+        let number = file.as_fd().as_raw_fd();
+        // SAFETY: the handle's room is a seat's.
+        let open = |seat| unsafe { ffi::rme_attach_file(seat, number, index, milliseconds) };
+        Ok(Seat { handle: Handle::open_by(open)? })
+    }
+
     /// Gives the index back.
     ///
     /// # Errors
@@ -84,12 +130,36 @@ impl Seat {
         Found::of(unsafe { ffi::rme_reaped(self.handle.shown()) })
     }
 
+    /// What [`reaped`](Seat::reaped) says is taken notice of: no later attach is told of it.
+    ///
+    /// # Errors
+    ///
+    /// [`Busy`](LockError::Busy) in line.
+    pub fn acknowledge(&mut self) -> Result<(), LockError> {
+        // SAFETY: as above.
+        match unsafe { ffi::rme_acknowledge(self.handle.seat()) } {
+            0 => Ok(()),
+            other => Err(LockError::of(other)),
+        }
+    }
+
+    /// The pid of the living process that has this index, as that process sees itself.
+    pub fn pid(&self, index: u64) -> Option<i64> {
+        // SAFETY: as above.
+        Some(unsafe { ffi::rme_pid(self.handle.shown(), index) }).filter(|pid| *pid > 0)
+    }
+
+    /// What ends a lock of this seat that waits, from another thread.
+    pub fn interrupter(&self) -> Interrupter {
+        self.handle.interrupter()
+    }
+
     /// Waits for its turn and enters.
     ///
     /// # Errors
     ///
     /// [`NotRecoverable`](LockError::NotRecoverable), [`AlreadyInside`](LockError::AlreadyInside),
-    /// [`NumbersSpent`](LockError::NumbersSpent).
+    /// [`NumbersSpent`](LockError::NumbersSpent), [`Interrupted`](LockError::Interrupted).
     pub fn lock(&mut self) -> Result<Guard<'_>, LockError> {
         // SAFETY: the room is a seat's.
         self.enter(|seat| unsafe { ffi::rme_lock(seat) })
@@ -106,6 +176,28 @@ impl Seat {
         self.enter(|seat| unsafe { ffi::rme_lock_within(seat, turns) })
     }
 
+    /// The same, up to this instant.
+    ///
+    /// # Errors
+    ///
+    /// Those of [`lock_within`](Seat::lock_within).
+    pub fn lock_until(&mut self, until: Instant) -> Result<Guard<'_>, LockError> {
+        let time = time_of(until);
+        // SAFETY: as above, and the time lives until the call is over.
+        self.enter(|seat| unsafe { ffi::rme_lock_until(seat, &time) })
+    }
+
+    /// Enters where nobody is in the way, and waits for nobody.
+    ///
+    /// # Errors
+    ///
+    /// [`Blocked`](LockError::Blocked): not inside, and not in line. [`Busy`](LockError::Busy): in line since an earlier lock. And
+    /// those of [`lock`](Seat::lock).
+    pub fn try_lock(&mut self) -> Result<Guard<'_>, LockError> {
+        // SAFETY: as above.
+        self.enter(|seat| unsafe { ffi::rme_trylock(seat) })
+    }
+
     /// A [`lock`](Seat::lock) that looks after `turns` blocked readings whether the process that blocks it lives, and gives up
     /// its place where it does not, as [`reap`](crate::reap()) does.
     ///
@@ -113,10 +205,34 @@ impl Seat {
     ///
     /// Those of [`lock`](Seat::lock), and [`Other`](LockError::Other).
     pub fn lock_reaping(&mut self, turns: u64, repair: impl FnMut(&mut Dead<'_>) -> Repair) -> Result<Guard<'_>, LockError> {
+        self.reaping(turns, None, repair)
+    }
+
+    /// The same, up to this instant.
+    ///
+    /// # Errors
+    ///
+    /// Those of [`lock_reaping`](Seat::lock_reaping), and [`TimedOut`](LockError::TimedOut).
+    pub fn lock_reaping_until(
+        &mut self,
+        turns: u64,
+        until: Instant,
+        repair: impl FnMut(&mut Dead<'_>) -> Repair,
+    ) -> Result<Guard<'_>, LockError> {
+        self.reaping(turns, Some(time_of(until)), repair)
+    }
+
+    fn reaping(
+        &mut self,
+        turns: u64,
+        until: Option<Timespec>,
+        repair: impl FnMut(&mut Dead<'_>) -> Repair,
+    ) -> Result<Guard<'_>, LockError> {
         let mut repairing = Repairing::new(repair);
         let (call, context) = repairing.for_c();
-        // SAFETY: the room is a seat's, and the context lives until the call is over.
-        let error = unsafe { ffi::rme_lock_reaping(self.handle.seat(), turns, Some(call), context) };
+        let time = until.as_ref().map_or(ptr::null(), ptr::from_ref);
+        // SAFETY: the room is a seat's, and the time and the context live until the call is over.
+        let error = unsafe { ffi::rme_lock_reaping_until(self.handle.seat(), turns, time, Some(call), context) };
         let entered = self.entered(error);
         repairing.end();
         entered

@@ -76,8 +76,14 @@ pub struct IndexStatus {
     pub life: Life,
     /// Where its lock words say that it stands; none where the words are none that this library leaves.
     pub stands: Option<Found>,
-    /// Where a reaper found the last process of this index that died, since an attach.
+    /// Where a reaper found the last process of this index that died, since an orderly detach.
     pub reaped: Option<Found>,
+    /// The pid of the process that attached last, as it sees itself; 0 none since an orderly detach.
+    pub pid: i64,
+    /// How often a process of this index has entered.
+    pub entries: u64,
+    /// How often it had to wait for that.
+    pub waits: u64,
 }
 
 impl FileStatus {
@@ -102,7 +108,14 @@ impl IndexStatus {
             3 => Life::InReaping,
             _ => Life::Absent,
         };
-        IndexStatus { life, stands: Found::of(status.found), reaped: Found::of(status.reaped) }
+        IndexStatus {
+            life,
+            stands: Found::of(status.found),
+            reaped: Found::of(status.reaped),
+            pid: status.pid,
+            entries: status.entries,
+            waits: status.waits,
+        }
     }
 }
 

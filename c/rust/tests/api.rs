@@ -5,6 +5,7 @@ use std::mem;
 use std::panic::{self, AssertUnwindSafe};
 use std::path::PathBuf;
 use std::sync::atomic::{AtomicU32, Ordering};
+use std::time::{Duration, Instant};
 
 use rme::{Appended, Found, Inspection, Life, LockError, MailError, Repair, Seat};
 
@@ -245,6 +246,80 @@ fn a_seat_goes_to_another_thread() {
     .join()
     .unwrap();
     seat.detach().unwrap();
+}
+
+#[test]
+fn a_lock_that_is_tried_waits_for_nobody() {
+    let room = Room::new();
+    let (mut first, mut second) = (room.seat(0), room.seat(1));
+    let guard = first.lock().unwrap();
+    assert_eq!(second.try_lock().err(), Some(LockError::Blocked));
+    assert_eq!(second.withdraw(), Err(LockError::NotWaiting));
+    drop(guard);
+    drop(second.try_lock().unwrap());
+}
+
+#[test]
+fn a_lock_ends_at_its_time() {
+    let room = Room::new();
+    let (mut first, mut second) = (room.seat(0), room.seat(1));
+    let guard = first.lock().unwrap();
+    let begin = Instant::now();
+    let soon = begin + Duration::from_millis(200);
+    assert_eq!(second.lock_until(soon).err(), Some(LockError::TimedOut));
+    assert!(begin.elapsed() >= Duration::from_millis(200));
+    assert_eq!(second.lock_reaping_until(3, soon, |_| Repair::Done).err(), Some(LockError::TimedOut));
+    drop(guard);
+    drop(second.lock_until(soon).unwrap());
+}
+
+#[test]
+fn another_thread_ends_a_lock_that_waits() {
+    let room = Room::new();
+    let (mut first, mut second) = (room.seat(0), room.seat(1));
+    let guard = first.lock().unwrap();
+    let interrupter = second.interrupter();
+    std::thread::scope(|scope| {
+        let waits = scope.spawn(|| second.lock().err());
+        std::thread::sleep(Duration::from_millis(100));
+        interrupter.interrupt().unwrap();
+        assert_eq!(waits.join().unwrap(), Some(LockError::Interrupted));
+    });
+    second.withdraw().unwrap();
+    drop(second);
+    assert!(interrupter.interrupt().is_err());
+    drop(guard);
+}
+
+#[test]
+fn a_repair_may_leave_it_to_the_next() {
+    let room = Room::new();
+    room.die_inside(0);
+    let error = rme::reap(room.path(), 0, |_| Repair::Later).unwrap_err();
+    assert_eq!(error.kind(), ErrorKind::Interrupted);
+    let look = Inspection::open(room.path()).unwrap();
+    assert_eq!(look.index_status(0).unwrap().life, Life::Dead);
+    rme::reap(room.path(), 0, |_| Repair::Done).unwrap();
+    let mut seat = room.seat(0);
+    assert_eq!(seat.reaped(), Some(Found::Inside));
+    seat.acknowledge().unwrap();
+    assert_eq!(seat.reaped(), None);
+}
+
+#[test]
+fn a_file_has_a_mode_and_a_descriptor() {
+    use std::os::unix::fs::PermissionsExt;
+    let room = Room::new();
+    let path = room.0.join("shared");
+    rme::create_as(&path, 2, 2, 2, 0, 0o640, None).unwrap();
+    assert_eq!(std::fs::metadata(&path).unwrap().permissions().mode() & 0o777, 0o640);
+    assert_eq!(rme::create_as(&room.0.join("o"), 2, 2, 2, 0, 0o40, None).unwrap_err().kind(), ErrorKind::InvalidInput);
+    let file = std::fs::OpenOptions::new().read(true).write(true).open(&path).unwrap();
+    let mut seat = Seat::attach_file(&file, 0, Duration::ZERO).unwrap();
+    assert_eq!(Seat::attach_file(&file, 0, Duration::ZERO).err().unwrap().raw_os_error(), Some(16));
+    drop(seat.lock().unwrap());
+    assert_eq!((seat.pid(0), seat.pid(1)), (Some(std::process::id().into()), None));
+    assert_eq!(seat.index_status(0).unwrap().entries, 1);
 }
 
 #[test]

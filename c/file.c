@@ -32,7 +32,8 @@ static int open_unnamed(const char *path, char name[PATH_MAX])
 }
 
 /* The bytes, who may use it, and last its name, unless there is such a name. */
-static int fill(int file, const char *name, const char *path, const struct rme_header *header, mode_t mode, gid_t group)
+static int fill(int file, const char *name, const char *path, const struct rme_header *header, const void *data, mode_t mode,
+                gid_t group)
 {
     char descriptor[32];
     snprintf(descriptor, sizeof descriptor, "/proc/self/fd/%d", file);
@@ -41,12 +42,15 @@ static int fill(int file, const char *name, const char *path, const struct rme_h
         return error;
     if (pwrite(file, header, sizeof *header, 0) != (ssize_t)sizeof *header)
         return EIO;
+    if (data && pwrite(file, data, header->data_bytes, (off_t)data_offset(header->words, header->procs)) != (ssize_t)header->data_bytes)
+        return EIO;
     if ((group != (gid_t)-1 && fchown(file, (uid_t)-1, group)) || fchmod(file, mode))
         return errno;
     return linkat(AT_FDCWD, *name ? name : descriptor, AT_FDCWD, path, AT_SYMLINK_FOLLOW) ? errno : 0;
 }
 
-int rme_create_as(const char *path, uint64_t procs, uint64_t cap, uint64_t width, uint64_t data_bytes, mode_t mode, gid_t group)
+int rme_create_with(const char *path, uint64_t procs, uint64_t cap, uint64_t width, const void *data, uint64_t data_bytes, mode_t mode,
+                    gid_t group)
 {
     WITHOUT_CANCELLATION;
     const struct rme_header header = {
@@ -64,11 +68,16 @@ int rme_create_as(const char *path, uint64_t procs, uint64_t cap, uint64_t width
     int file = open_unnamed(path, name);
     if (file < 0)
         return errno;
-    int error = fill(file, name, path, &header, mode, group);
+    int error = fill(file, name, path, &header, data, mode, group);
     if (*name)
         unlink(name);
     close(file);
     return error;
+}
+
+int rme_create_as(const char *path, uint64_t procs, uint64_t cap, uint64_t width, uint64_t data_bytes, mode_t mode, gid_t group)
+{
+    return rme_create_with(path, procs, cap, width, NULL, data_bytes, mode, group);
 }
 
 int rme_create(const char *path, uint64_t procs, uint64_t cap, uint64_t width, uint64_t data_bytes)

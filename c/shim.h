@@ -74,9 +74,12 @@ int rme_end_lock(struct rme_seat *s, uint64_t told);
 uint64_t rme_make_call(struct rme_seat *s, const struct rme_call *asked, struct patience may_wait, struct rme_access *access);
 int64_t rme_time_left(const struct timespec *until);
 
-/* file.c: a seat without an index; whether its descriptor is still the file's; the bytes of an index's lease (F_WRLCK, F_UNLCK), by
- * an open file; what others have of them. status.c: what reapers left for the next process of an index. */
+/* file.c: rme_create_as with the caller's own data (null: all 0); a seat without an index; whether its descriptor is still the file's;
+ * the bytes of an index's lease (F_WRLCK, F_UNLCK), by an open file; what others have of them. status.c: what reapers left for the next
+ * process of an index. */
 enum { REAPERS_BYTE = 1, BOTH_BYTES = 2 };
+int rme_create_with(const char *path, uint64_t procs, uint64_t cap, uint64_t width, const void *data, uint64_t data_bytes, mode_t mode,
+                    gid_t group);
 int rme_open_seat(struct rme_seat *s, const char *path, int access);
 void rme_close_seat(struct rme_seat *s);
 int rme_check_file(const struct rme_seat *s);

@@ -1,5 +1,6 @@
 /* The tool rme: makes a file, shows what stands in it, and gives up the places of the dead. USAGE says how. */
 #include "rme.h"
+#include "tool_log.h"
 
 #include <errno.h>
 #include <grp.h>
@@ -13,7 +14,7 @@
 static const char USAGE[] =
     "Usage: rme COMMAND [OPTION] FILE [NUMBER]...\n"
     "\n"
-    "Makes, shows and mends a file through which processes share the lock and the mailbox of librme.\n"
+    "Makes, shows and mends a file through which processes share the lock and the mailbox of librme, or a log of such files.\n"
     "\n"
     "Commands:\n"
     "  create [--mode MODE] [--group GROUP] FILE PROCS CAP WIDTH [BYTES]  make FILE for PROCS processes and CAP messages of WIDTH words, and BYTES of data\n"
@@ -21,11 +22,18 @@ static const char USAGE[] =
     "  dump FILE                            show the messages: the place, the sender, the number and the words of each\n"
     "  image FILE                           show the words as an image for rmelab replay --image\n"
     "  reap [--no-repair] FILE [INDEX]      give up the places of dead processes, or of the one with this index\n"
+    "  log create FOLDER PROCS CAP WIDTH    make a log for PROCS processes, with segments of CAP messages of WIDTH words\n"
+    "  log append FOLDER INDEX NUMBER WORD..  append a message as process INDEX, once; NUMBER may be the word next\n"
+    "  log follow [--once] FOLDER [READER]  show the messages as they come, and keep how far READER has read\n"
+    "  log status FOLDER                    show the segments, the messages of each process, and what named readers have not read\n"
+    "  log drop FOLDER [BEFORE]             take away the segments before this one that all named readers have passed\n"
+    "  log forget FOLDER READER             take away a named reader\n"
     "\n"
     "Options:\n"
     "  --mode MODE    of the file, in octal: 600 where nothing is said\n"
     "  --group GROUP  of the file, by its name or number\n"
     "  --no-repair    reap those too who died inside: the data that the lock guards need no repair\n"
+    "  --once         show the messages that there are, and wait for no more\n"
     "  -h, --help     show this text\n"
     "  -V, --version  show the version\n"
     "\n"
@@ -346,6 +354,8 @@ int main(int count, char **word)
         fputs(USAGE, stdout);
     else if (count == 2 && is_one_of(word[1], "-V", "--version"))
         printf("rme %s\n", rme_version());
+    else if (count > 1 && strcmp(word[1], "log") == 0)
+        status = (status = log_command(count - 2, word + 2)) < 0 ? wrong_words() : status;
     else
         status = count < 2 ? wrong_words() : obey(word[1], count - 2, word + 2);
     if (fflush(stdout)) {

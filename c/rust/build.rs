@@ -25,8 +25,9 @@ fn made() -> Option<PathBuf> {
         return None;
     }
     let shim = ["Makefile", "rme.c", "file.c", "reap.c", "status.c", "shim.h", "rme.h", "rme_status.h", "rme_machine.h"];
+    let log = ["log.c", "log_files.c", "log_segments.c", "log_read.c", "log_event.c", "log_status.c", "log.h", "rme_log.h"];
     let machine = ["librme_machine.a", "../crates/rme_c/out/librme_c.a"];
-    for name in shim.iter().chain(&machine) {
+    for name in shim.iter().chain(&log).chain(&machine) {
         let path = sources.join(name);
         if path.exists() {
             println!("cargo:rerun-if-changed={}", path.display());

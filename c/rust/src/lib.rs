@@ -62,6 +62,8 @@ mod error;
 mod ffi;
 mod guard;
 mod handle;
+mod log;
+mod log_ffi;
 mod reap;
 mod seat;
 mod status;
@@ -69,6 +71,9 @@ mod status;
 pub use error::{LockError, MailError};
 pub use guard::{Appended, Data, Guard};
 pub use handle::{Interrupter, Message, Messages};
+pub use log::{
+    create_log, drop_segments, forget_reader, log_status, was_overtaken, Cursor, Log, LogMessage, LogReader, LogStatus,
+};
 pub use reap::{reap, reap_all, Dead, Repair};
 pub use seat::{create, create_as, Recovery, Seat};
 pub use status::{FileStatus, Found, IndexStatus, Inspection, Life};

@@ -32,6 +32,8 @@ void folder_clear(struct log_files *files);
  * no call of the log asks for, are left out. */
 struct snapshot folder_snapshot(const struct log_files *files, bool apart);
 void folder_restore(struct log_files *files, const struct snapshot *snapshot);
+/* Whether a word of a file counts or shows something, and the lock does not ask for it. */
+bool folder_is_count(uint64_t k);
 bool folder_same(const struct snapshot *a, const struct snapshot *b);
 
 /* What stands in a segment. */

@@ -52,6 +52,14 @@ int log_open(struct rme_seat *seat, const char *path, uint64_t index, uint64_t m
     return error == EACCES || error == EROFS || error == EPERM ? rme_open_seat(seat, path, O_RDONLY) : error;
 }
 
+void log_close(struct rme_seat *seat, uint64_t index)
+{
+    if (index == LOG_ANY)
+        rme_close_seat(seat);
+    else
+        rme_detach(seat);
+}
+
 static const size_t bytes_of[] = {
     [LOG_HEAD] = sizeof(struct log_head), [LOG_SEGMENT] = sizeof(struct log_segment), [LOG_READER] = sizeof(struct log_reader),
 };
@@ -77,7 +85,7 @@ int log_open_head(struct rme_seat *seat, const char *folder)
         return error;
     error = log_check(seat, LOG_HEAD, NULL);
     if (error)
-        rme_detach(seat);
+        log_close(seat, LOG_ANY);
     return error;
 }
 

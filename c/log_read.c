@@ -62,7 +62,7 @@ int rme_log_reader_open(struct rme_log_reader *r, const char *folder, const char
     r->cursor = (struct rme_cursor){load(&head_of(&r->head)->first), 0};
     error = name ? open_named(r, name) : 0;
     if (error)
-        rme_detach(&r->head);
+        log_close(&r->head, LOG_ANY);
     return error;
 }
 
@@ -74,10 +74,11 @@ int rme_log_reader_close(struct rme_log_reader *r)
     log_end_watcher(r);
     for (int i = 0; i < 2; i++)
         if (r->segments[i].header)
-            rme_detach(&r->segments[i]);
+            log_close(&r->segments[i], LOG_ANY);
     if (r->own.header)
         rme_detach(&r->own);
-    return rme_detach(&r->head);
+    log_close(&r->head, LOG_ANY);
+    return 0;
 }
 
 /* ---- reading ---- */
@@ -93,11 +94,11 @@ static int face(struct rme_log_reader *r)
     if (error)
         return error;
     if (had->header && number == r->number + 1 && load(closed_word(had)) && !log_follows(had, next)) {
-        rme_detach(next);
+        log_close(next, LOG_ANY);
         return EPROTO;
     }
     if (had->header)
-        rme_detach(had);
+        log_close(had, LOG_ANY);
     r->at = 1 - r->at;
     r->number = number;
     return 0;

@@ -35,7 +35,7 @@ int log_open_segment(struct rme_seat *seat, const struct rme_seat *head, const c
     if (number < load(&head_of(head)->first))
         error = ENODATA;
     if (error && opened)
-        rme_detach(seat);
+        log_close(seat, index);
     return error;
 }
 

@@ -30,7 +30,7 @@ static int open_reader(struct rme_seat *seat, const struct rme_seat *head, const
         return error;
     error = log_check(seat, LOG_READER, head_of(head));
     if (error)
-        rme_detach(seat);
+        log_close(seat, index);
     return error;
 }
 
@@ -42,7 +42,7 @@ static int before_segment(const struct rme_seat *head, const char *folder, uint6
     if (error)
         return error;
     *before = segment_of(&seat)->before;
-    rme_detach(&seat);
+    log_close(&seat, LOG_ANY);
     return 0;
 }
 
@@ -55,7 +55,7 @@ static int reader_state(const struct rme_seat *head, const char *folder, const c
         return error;
     const uint64_t cursor = load(&reader_of(&seat)->cursor);
     error = rme_index_status(&seat, 0, &index);
-    rme_detach(&seat);
+    log_close(&seat, LOG_ANY);
     *state = (struct rme_log_reader_state){.cursor = {cursor / LOG_PLACES, cursor % LOG_PLACES}, .alive = index.life == RME_ALIVE};
     snprintf(state->name, sizeof state->name, "%s", name);
     return error;
@@ -180,7 +180,7 @@ int rme_log_drop(const char *folder, uint64_t before, uint64_t *first)
         *first = load(&head_of(&head)->first);
     if (held >= 0)
         close(held);
-    rme_detach(&head);
+    log_close(&head, LOG_ANY);
     return error;
 }
 
@@ -215,7 +215,7 @@ int rme_log_forget(const char *folder, const char *name)
     error = held < 0 ? errno : forget_held(&head, whole, name);
     if (held >= 0)
         close(held);
-    rme_detach(&head);
+    log_close(&head, LOG_ANY);
     return error;
 }
 
@@ -230,8 +230,8 @@ static int open_last(struct rme_seat *seat, const struct rme_seat *head, const c
         error = log_open_segment(seat, head, folder, *number = log_last_made(head), LOG_ANY);
     while (error == ENODATA);
     while (!error && load(closed_word(seat)) && log_open_segment(&next, head, folder, *number + 1, LOG_ANY) == 0) {
-        rme_detach(&next);
-        rme_detach(seat);
+        log_close(&next, LOG_ANY);
+        log_close(seat, LOG_ANY);
         error = log_open_segment(seat, head, folder, *number += 1, LOG_ANY);
     }
     return error;
@@ -250,7 +250,7 @@ static int state_of(const struct rme_seat *head, const char *folder, struct rme_
     state->messages = segment_of(&last)->before + load(count_word(&last));
     for (uint64_t q = 0; q < state->procs; q++)
         state->numbers[q] = segment_of(&last)->base[q] + load(last_word(&last, q));
-    rme_detach(&last);
+    log_close(&last, LOG_ANY);
     return before_segment(head, folder, state->first, &state->dropped);
 }
 
@@ -267,7 +267,7 @@ int rme_log_status(const char *folder, struct rme_log_state *state)
     if (error)
         return error;
     error = state_of(&head, whole, state);
-    rme_detach(&head);
+    log_close(&head, LOG_ANY);
     return error;
 }
 
@@ -308,7 +308,7 @@ int rme_log_readers(const char *folder, int (*visit)(const struct rme_log_reader
     struct visiting v = {&head, whole, state.messages, visit, context};
     if (!error)
         error = each_reader(whole, visit_reader, &v);
-    rme_detach(&head);
+    log_close(&head, LOG_ANY);
     return error;
 }
 

@@ -400,7 +400,7 @@ static void attach_by_descriptor(void)
     EXPECT(rme_detach(&other), 0);
 }
 
-/* What a reaper has found is told until an orderly detach, or until it is acknowledged. */
+/* What a reaper has found lasts until an orderly detach, or until it is acknowledged. */
 static void notice_of_a_reaping(void)
 {
     struct rme_seat seat;

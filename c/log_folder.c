@@ -129,7 +129,7 @@ static uint64_t own_data(const uint64_t *words, uint64_t bytes)
 /* Of a process's line the first four words are the lock's. */
 bool folder_is_count(uint64_t k) { return k >= RME_HEADER / 8 && k < 2 * RME_HEADER / 8 && k % 8 >= 4; }
 
-/* A word of a file, by which states are told apart: not the identity of the log, and not what a reaper has found, which no call of the log
+/* A word of a file, by which states are distinguished: not the identity of the log, and not what a reaper has found, which no call of the log
  * asks for. */
 static uint64_t word_apart(const struct log_file *f, uint64_t identity, uint64_t k)
 {

@@ -28,7 +28,7 @@ bool folder_look(struct log_files *files);
 /* False: no name has come or gone since this was asked last. */
 bool folder_may_differ(void);
 void folder_clear(struct log_files *files);
-/* With `apart` it is only that by which states are told apart: the identity of the log, which is drawn, and what a reaper has found, which
+/* With `apart` it is only that by which states are distinguished: the identity of the log, which is drawn, and what a reaper has found, which
  * no call of the log asks for, are left out. */
 struct snapshot folder_snapshot(const struct log_files *files, bool apart);
 void folder_restore(struct log_files *files, const struct snapshot *snapshot);

@@ -7,7 +7,7 @@
 
 enum { SENDERS = 2 };
 
-/* What the callers have been told, which no kill takes back. */
+/* What the callers have been answered, which no kill takes back. */
 struct log_duty {
     uint64_t created, stored[SENDERS]; /* stored: the number of the last append that was answered */
     uint64_t dealt, kept;              /* by the named reader: how many messages it has dealt with, and has kept that it has */

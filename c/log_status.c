@@ -61,7 +61,7 @@ static int reader_state(const struct rme_seat *head, const char *folder, const c
     return error;
 }
 
-/* Adds what a reader has not passed, of so many messages. */
+/* Adds what a reader has not passed, of this many messages. */
 static int count_unread(const struct rme_seat *head, const char *folder, uint64_t messages, struct rme_log_reader_state *state)
 {
     uint64_t before = 0;

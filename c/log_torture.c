@@ -149,7 +149,7 @@ static pid_t begin(uint64_t p)
     _exit(0);
 }
 
-/* Until so many messages more are sent, or, where none are, for a twentieth of a second. */
+/* Until this many messages more are sent, or, where none are, for a twentieth of a second. */
 static void await(uint64_t more)
 {
     const uint64_t before = tally->sent;

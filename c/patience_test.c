@@ -163,7 +163,7 @@ static void lock_reaping_until_a_time(void)
     EXPECT(passed_since(from) < 20, true);
 }
 
-/* Behind one who lives it sleeps between two looks, even where it is to look at once. */
+/* After one who lives it sleeps between two looks, even where it is to look at once. */
 static void lock_reaping_sleeps(void)
 {
     static const uint64_t turns[] = {0, 1, 100};

@@ -271,7 +271,7 @@ bool rme_crashed(const struct rme_seat *seat);
 /* Answers where a reaper found an earlier process of this index that had died (RME_FOUND_..), or 0 where none was reaped since
  * the last orderly rme_detach or rme_acknowledge: RME_FOUND_INSIDE says that what it was doing inside was ended or repaired by
  * another. Where reapers have found several, it is the one that was furthest. A process that dies before it has acknowledged what it
- * was told leaves it to the next. */
+ * was notified leaves it to the next. */
 int rme_reaped(const struct rme_seat *seat);
 
 /* What rme_reaped says is taken notice of: from now on, and after the next attach, it answers 0. */

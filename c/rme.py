@@ -332,7 +332,7 @@ class Seat(_Open):
         return Found(_rme.rme_reaped(self._at))
 
     def acknowledge(self):
-        """What `reaped` says is taken notice of: no later attach is told of it."""
+        """What `reaped` says is taken notice of: no later attach says it."""
         _check(_rme.rme_acknowledge(self._at))
 
     def _entered(self, error):

@@ -37,7 +37,7 @@ def main(folder):
         for message in reader:
             last[message.sender] += 1
             assert (message.number, message.value) == (last[message.sender], (100 * message.sender + message.number,))
-            reader.keep()  # what it stands for is done
+            reader.keep()  # its work is done
     print(f"read {last[0]} messages of service 0 and {last[1]} of service 1")
     print(f"segments are dropped before {rme_log.drop(folder)}")
 

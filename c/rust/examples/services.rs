@@ -50,7 +50,7 @@ fn main() -> Result<(), Box<dyn Error>> {
             (message.number, message.value()),
             (last[message.sender as usize], &[100 * message.sender + message.number][..])
         );
-        reader.keep()?; // what it stands for is done
+        reader.keep()?; // its work is done
     }
     println!("read {} messages of service 0 and {} of service 1", last[0], last[1]);
     println!("segments are dropped before {}", rme::drop_segments(folder, u64::MAX)?);

@@ -130,7 +130,7 @@ impl Seat {
         Found::of(unsafe { ffi::rme_reaped(self.handle.shown()) })
     }
 
-    /// What [`reaped`](Seat::reaped) says is taken notice of: no later attach is told of it.
+    /// What [`reaped`](Seat::reaped) says is taken notice of: no later attach says it.
     ///
     /// # Errors
     ///

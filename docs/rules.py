@@ -2,6 +2,7 @@
 
 They read files alone: no program has to be built. docs/check runs them."""
 
+import functools
 import os
 import re
 import subprocess
@@ -146,6 +147,7 @@ def text_of(name):
         return file.read()
 
 
+@functools.cache
 def repository_files():
     listed = subprocess.run(["git", "-C", TOP, "ls-files"], capture_output=True, text=True, check=True).stdout.split("\n")
     return [name for name in listed if name and os.path.isfile(os.path.join(TOP, name))]

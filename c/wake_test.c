@@ -213,8 +213,8 @@ static int try_case(const struct wake_case *tried, int waiters)
 
 /* ---- one that is killed between its store and its waking ---- */
 
-/* An unlock that is stopped where it would wake, and killed there. */
-static void unlock_and_die(struct rme_seat *seat)
+/* An unlock that is stopped where it would wake, and killed there: then its waiter has to come in. False: it found nobody asleep. */
+static bool unlock_and_die(struct rme_seat *seat)
 {
     struct __ptrace_syscall_info info;
     int status = 0;
@@ -227,7 +227,7 @@ static void unlock_and_die(struct rme_seat *seat)
         kill(getpid(), SIGSTOP);
         nap(100); /* those who wait come to sleep */
         rme_unlock(seat);
-        _exit(1);
+        _exit(0);
     }
     if (child < 0 || waitpid(child, &status, 0) != child || !WIFSTOPPED(status))
         fail("fork", errno);
@@ -242,22 +242,28 @@ static void unlock_and_die(struct rme_seat *seat)
         expect("unlock of a waiter", rme_unlock(&own), 0);
         _exit(rme_detach(&own));
     }
-    do {
-        if (!next_call(child, &info))
-            fail("an unlock wakes nobody who sleeps", 0);
-    } while (info.op != PTRACE_SYSCALL_INFO_ENTRY || info.entry.nr != SYS_futex || (info.entry.args[1] & 127) != FUTEX_WAKE);
-    kill(child, SIGKILL);
-    waitpid(child, NULL, 0);
+    bool wakes = false, runs = true;
+    while (!wakes && (runs = next_call(child, &info)))
+        wakes = info.op == PTRACE_SYSCALL_INFO_ENTRY && info.entry.nr == SYS_futex && (info.entry.args[1] & 127) == FUTEX_WAKE;
+    if (runs) {
+        kill(child, SIGKILL);
+        waitpid(child, NULL, 0);
+    }
     if (waitpid(waiter, &status, 0) != waiter || status)
         fail("a waiter whose waker was killed sleeps for ever, status", status);
+    return wakes;
 }
 
 static void killed_before_it_wakes(void)
 {
     static struct rme_seat seat;
-    unlink(path);
-    expect("create", rme_create(path, PROCS, 1, 1, 0), 0);
-    unlock_and_die(&seat);
+    int tries = 0;
+    do {
+        if (tries++ == TRIES)
+            fail("an unlock wakes nobody who sleeps", tries);
+        unlink(path);
+        expect("create", rme_create(path, PROCS, 1, 1, 0), 0);
+    } while (!unlock_and_die(&seat));
     printf("wake_test killed before it wakes: the waiter came in\n");
 }
 

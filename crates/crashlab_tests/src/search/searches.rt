@@ -94,10 +94,7 @@ fn answer_by(
     most_moves: u64,
     most_states: u64,
 ) -> Result<SearchOutcome<Pour>, SearchFault> {
-    let mut jobs = Vec::new(alloc);
-    for _ in 0..threads.min(64) {
-        jobs.push(empty(wanted))?;
-    }
+    let jobs = vec![in alloc; empty(wanted); threads.min(64)]?;
     let start = empty(wanted);
     search_in_parallel(
         rt,

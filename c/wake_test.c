@@ -213,10 +213,9 @@ static int try_case(const struct wake_case *tried, int waiters)
 
 /* ---- one that is killed between its store and its waking ---- */
 
-/* An unlock that is stopped where it would wake, and killed there: then its waiter has to come in. False: it found nobody asleep. */
-static bool unlock_and_die(struct rme_seat *seat)
+/* Begins one that holds the lock, and unlocks when it is let go. */
+static pid_t begin_holder(struct rme_seat *seat)
 {
-    struct __ptrace_syscall_info info;
     int status = 0;
     const pid_t child = fork();
     if (child == 0) {
@@ -225,7 +224,6 @@ static bool unlock_and_die(struct rme_seat *seat)
         if (ptrace(PTRACE_TRACEME, 0, NULL, NULL))
             fail("trace", errno);
         kill(getpid(), SIGSTOP);
-        nap(100); /* those who wait come to sleep */
         rme_unlock(seat);
         _exit(0);
     }
@@ -233,37 +231,27 @@ static bool unlock_and_die(struct rme_seat *seat)
         fail("fork", errno);
     if (ptrace(PTRACE_SETOPTIONS, child, NULL, PTRACE_O_TRACESYSGOOD | PTRACE_O_EXITKILL))
         fail("options of the trace", errno);
-    const pid_t waiter = fork();
-    if (waiter == 0) {
-        struct rme_seat own;
-        alarm(10);
-        expect("attach of a waiter", rme_attach(&own, path, 1), 0);
-        expect("lock of a waiter", rme_lock(&own), 0);
-        expect("unlock of a waiter", rme_unlock(&own), 0);
-        _exit(rme_detach(&own));
-    }
-    bool wakes = false, runs = true;
-    while (!wakes && (runs = next_call(child, &info)))
-        wakes = info.op == PTRACE_SYSCALL_INFO_ENTRY && info.entry.nr == SYS_futex && (info.entry.args[1] & 127) == FUTEX_WAKE;
-    if (runs) {
-        kill(child, SIGKILL);
-        waitpid(child, NULL, 0);
-    }
-    if (waitpid(waiter, &status, 0) != waiter || status)
-        fail("a waiter whose waker was killed sleeps for ever, status", status);
-    return wakes;
+    return child;
 }
 
+/* An unlock is stopped where it would wake, and killed there. The waiter's nap ends, and it comes in. */
 static void killed_before_it_wakes(void)
 {
     static struct rme_seat seat;
-    int tries = 0;
+    struct __ptrace_syscall_info info;
+    unlink(path);
+    expect("create", rme_create(path, PROCS, 1, 1, 0), 0);
+    const pid_t holder = begin_holder(&seat), waiter = begin_waiter(1);
+    run_to_sleep(waiter, 8);
+    let_sleep(waiter);
     do {
-        if (tries++ == TRIES)
-            fail("an unlock wakes nobody who sleeps", tries);
-        unlink(path);
-        expect("create", rme_create(path, PROCS, 1, 1, 0), 0);
-    } while (!unlock_and_die(&seat));
+        if (!next_call(holder, &info))
+            fail("an unlock wakes nobody who sleeps", 0);
+    } while (info.op != PTRACE_SYSCALL_INFO_ENTRY || info.entry.nr != SYS_futex || (info.entry.args[1] & 127) != FUTEX_WAKE);
+    kill(holder, SIGKILL);
+    waitpid(holder, NULL, 0);
+    if (end_of_sleep(waiter) == 0)
+        fail("a waiter was woken by one that was killed before that", 0);
     printf("wake_test killed before it wakes: the waiter came in\n");
 }
 

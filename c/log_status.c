@@ -49,14 +49,14 @@ static int before_segment(const struct rme_seat *head, const char *folder, uint6
 static int reader_state(const struct rme_seat *head, const char *folder, const char *name, struct rme_log_reader_state *state)
 {
     struct rme_seat seat;
-    struct rme_index index;
+    int life = RME_ABSENT;
     int error = open_reader(&seat, head, folder, name, LOG_ANY);
     if (error)
         return error;
     const uint64_t cursor = load(&reader_of(&seat)->cursor);
-    error = rme_index_status(&seat, 0, &index);
+    error = rme_life_of(&seat, 0, &life);
     log_close(&seat, LOG_ANY);
-    *state = (struct rme_log_reader_state){.cursor = {cursor / LOG_PLACES, cursor % LOG_PLACES}, .alive = index.life == RME_ALIVE};
+    *state = (struct rme_log_reader_state){.cursor = {cursor / LOG_PLACES, cursor % LOG_PLACES}, .alive = life == RME_ALIVE};
     snprintf(state->name, sizeof state->name, "%s", name);
     return error;
 }

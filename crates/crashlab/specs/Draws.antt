@@ -1,4 +1,4 @@
--- The move that a hunt makes of a drawn word (the specification's drawing rule of the hunt), given what is seen of the
+-- The move that a hunt makes of a drawn word (the hunt's drawing rule of docs/dev/surface.md), given what is seen of the
 -- processes in the round so far: the calls that they started, the answers of these, and the crashes.
 use Rattle.std.specs.Prelude.{ℕ, ◌+◌, ◌/◌, ◌%◌, ◌^◌, ◌-◌, Bool, true, false, ◌==◌, if◌then◌else◌, min, List, [], ◌∷◌, Option, Some, None}
 use Rattle.redomail.specs.declared.reply.Reply.TheVariants.{Mended, Stored, Already}

@@ -1,4 +1,4 @@
--- What a move of a hunt ends in (the specification's drawing rule of the hunt).
+-- What a move of a hunt ends in (the hunt's drawing rule of docs/dev/surface.md).
 use Rattle.crashlab.specs.declared.moves.MoveOutcome.{MoveOutcome}
 use Rattle.crashlab.specs.declared.moves.MoveOutcome.TheVariants.{On, Caught}
 use Rattle.crashlab.specs.declared.variant.Variant.{Variant}

@@ -1,5 +1,5 @@
--- What a hunt answers: the schedule of the first round, by number, in which the judge refuses a deed (the specification's
--- drawing rule of the hunt).
+-- What a hunt answers: the schedule of the first round, by number, in which the judge refuses a deed (the
+-- hunt's drawing rule of docs/dev/surface.md).
 use Rattle.std.specs.Prelude.{ℕ, zero, suc, ◌+◌, ◌*◌, Bool, if◌then◌else◌, List, [], ◌∷◌, ◌++◌, map, is_err, Option, Some, None}
 use Rattle.rand_core.specs.Pcg32Seed.{pcg32_seed}
 use Rattle.rand_core.specs.Steps.{first_words}

@@ -1,5 +1,4 @@
--- What a hunt finds: a schedule whose deeds, on a new world of the variant, are legal but for the last
--- (the specification's Definitions met).
+-- What a hunt finds: a schedule whose deeds, on a new world of the variant, are legal but for the last.
 use Rattle.std.specs.Prelude.{◌≡◌, ℕ, zero, suc, Bool, true, false, if◌then◌else◌, List, [], ◌∷◌, ◌++◌, None, is_some, Err}
 use Rattle.rmecore.specs.declared.fault.Fault.{Fault}
 use Rattle.redomail.specs.declared.deed.Deed.{Deed}
@@ -15,7 +14,7 @@ use Rattle.schedule.specs.Schedules.{Scheduled}
 use Rattle.crashlab.specs.declared.variant.Variant.{Variant}
 use Rattle.crashlab.specs.VariantWorlds.{VariantState, new_world, start_refusal, started, advance_refusal, stepped, advanced, crash_refusal, crash_deed, crashed}
 
--- the sizes of a hunt's world (the specification's drawing rule of the hunt)
+-- the sizes of a hunt's world (the hunt's drawing rule of docs/dev/surface.md)
 abbrev pub hunt_layout : Layout
 hunt_layout = record { procs = 3; cap = 64; width = 1 }
 

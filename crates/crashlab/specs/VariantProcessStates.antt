@@ -1,4 +1,4 @@
--- The process state of a process of a variant, which follows from its own events alone (the specification's Place, with what
+-- The process state of a process of a variant, which follows from its own events alone (Place of docs/theory/model.md, with what
 -- the variant adds).
 use Rattle.std.specs.Prelude.{ℕ, Bool, true, false, Option, Some, None}
 use Rattle.rmecore.specs.Place.{Place}

@@ -1,4 +1,4 @@
--- Runs of a world of a variant: starts, steps and crashes, one after the other, from a new world (the specification's Run).
+-- Runs of a world of a variant: starts, steps and crashes, one after the other, from a new world (Run of docs/theory/model.md).
 use Rattle.std.specs.Prelude.{◌≡◌, ℕ, List, [], ◌∷◌}
 use Rattle.rmecore.specs.Machine.{kind_of, word_of, carried}
 use Rattle.rmecore.specs.declared.access.Access.{Access}

@@ -1,4 +1,4 @@
--- What the wrong variants change of the repair (the specification's Variants: CountUp and LastSkipped).
+-- What the wrong variants change of the repair (Variants of docs/dev/surface.md: CountUp and LastSkipped).
 use Rattle.std.specs.Prelude.{ℕ, ◌+◌, ◌==◌, if◌then◌else◌}
 use Rattle.redomail.specs.declared.layout.Layout.{Layout}
 use Rattle.redomail.specs.declared.reply.Reply.{Reply}

@@ -1,5 +1,5 @@
--- A world of a variant as a machine: why its calls are refused, what they answer, and what they leave (the specification's
--- Variants). The memory is the world's.
+-- A world of a variant as a machine: why its calls are refused, what they answer, and what they leave
+-- (Variants of docs/dev/surface.md). The memory is the world's.
 use Rattle.std.specs.Prelude.{◌≡◌, ℕ, zero, suc, ◌+◌, ◌<◌, nat_lt, if◌then◌else◌, List, [], ◌∷◌, length, replicate, slice_index_or, slice_set, Option, Some, None}
 use Rattle.rmecore.specs.Machine.{kind_of, word_of, carried}
 use Rattle.rmecore.specs.Simulated.{zeros, own_at}
@@ -71,7 +71,7 @@ new_world variant l limit =
       processes = at_rest_from variant l limit 0 l.procs;
     }
 
--- why a start is refused (the specification's refusals of `start`)
+-- why a start is refused (the refusals of `start` of docs/dev/surface.md)
 abbrev pub start_refusal : VariantState → ℕ → Call → Option Refusal
 start_refusal s p call =
     if nat_lt p s.layout.procs then process_state_refusal s.layout (process_state_of (machine_state_at s.processes p).machine_state) call else Some NoSuchProcess

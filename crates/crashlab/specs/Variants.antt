@@ -1,4 +1,4 @@
--- The wrong variants of the lock (the specification's Variants): the rows of its definition that each of them changes.
+-- The wrong variants of the lock (Variants of docs/dev/surface.md): the rows of its definition that each of them changes.
 -- Right changes none.
 use Rattle.std.specs.Prelude.{ℕ, zero, suc, Bool, ◌&&◌, ◌||◌, ◌==◌, if◌then◌else◌, [], ◌∷◌, Option, Some, None}
 use Rattle.rmecore.specs.Place.{Place, Reread, Door, Wait, Unmarking, has, without, others, is_before, only, next}

@@ -1,4 +1,4 @@
--- The events of a run: each step with the word that it reads or writes, and each crash (the specification's Run).
+-- The events of a run: each step with the word that it reads or writes, and each crash (Run of docs/theory/model.md).
 use Rattle.std.specs.Prelude.{ℕ, zero, suc, List, [], ◌∷◌, ◌++◌, is_some, if◌then◌else◌}
 use Rattle.std.specs.List.{flat_map}
 use Rattle.redomail.specs.declared.deed.Deed.{Deed}

@@ -10,7 +10,7 @@ use Rattle.redomail.specs.declared.layout.Layout.{Layout}
 use Rattle.diagram.specs.declared.act.Act.{Act}
 use Rattle.diagram.specs.declared.act.Act.TheVariants.{Silent, Telling, Fell}
 
--- the name of a kind of step (the specification's step kinds)
+-- the name of a kind of step (step kinds of docs/theory/model.md)
 abbrev pub name_of : Kind → List ℕ
 name_of kinds.Open = codes "open"
 name_of kinds.Peek = codes "peek"
@@ -76,7 +76,7 @@ data_word l i =
     else if i == 5 then codes "rec_seq"
     else recorded_word l (i - 6)
 
--- the name of a word, as p writes it (the specification's Shared words)
+-- the name of a word, as p writes it (Shared words of docs/theory/model.md)
 abbrev pub word_sign : Layout → ℕ → Word → List ℕ
 word_sign l p (words.Choosing j) = lock_word (codes "choosing") p j
 word_sign l p (words.Number j) = lock_word (codes "number") p j

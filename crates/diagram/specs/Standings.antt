@@ -30,7 +30,7 @@ row_with_number own =
     else if not (own.inside == 0) then codes "0,k,1 inside"
     else codes "0,k,0 waiting"
 
--- the row of the restart table that the words are (the specification's Restart table)
+-- the row of the restart table that the words are (Restart table of docs/theory/model.md)
 abbrev pub restart_row : Own → List ℕ
 restart_row own = if own.number == 0 then row_without_number own else row_with_number own
 

@@ -1,4 +1,4 @@
--- The laboratory: the sizes that it refuses (the specification's limits), what its workers send, and its result.
+-- The laboratory: the sizes that it refuses (limits of docs/theory/model.md), what its workers send, and its result.
 use Rattle.std.specs.Prelude.{◌≡◌, ◌≢◌, ℕ, zero, suc, ◌+◌, ◌*◌, ◌<◌, ◌^◌, ◌⊎◌, List, [], ◌∷◌, ◌++◌, length, filter}
 use Rattle.redomail.specs.declared.message.Message.{Message}
 use Rattle.redomail.specs.Mailbox.{message, is_by}

@@ -1,6 +1,7 @@
 pub mod Common
 pub mod Potentials
 pub mod Short
+pub mod Movers
 pub mod Sums
 pub mod Falls
 pub mod OwnFalls
@@ -14,3 +15,4 @@ pub mod Takes
 pub mod Unspent
 pub mod FullPieces
 pub mod WorldWaiting
+pub mod ThreadWaiting

@@ -5,8 +5,8 @@ use Rattle.progress.proofs.Common.{and_parts, false_from_ne_true, cases_eq, With
 use Rattle.progress.proofs.Common.{Event, Starts, Crashes, Steps, process, moved, World, May, after, Run, stored, deeds, deed, entries, NeverWithdraws, count}
 use Rattle.progress.specs.UnspentNumbers.{ReadsUpTo, NumbersUpTo, is_withdraw, is_spent, NumbersAreUnspent}
 use Rattle.rmecore.proofs.Accesses.{passed}
-use Rattle.rmecore.proofs.Invariant.{Fits, put_same, put_other}
-use Rattle.rmecore.proofs.Runs.{kept}
+use Rattle.rmecore.proofs.Invariant.{Fits}
+use Rattle.progress.proofs.Movers.{goes, place_of_mover, same_place, same_words}
 use Rattle.progress.proofs.Potentials.{one}
 use Rattle.progress.proofs.Short.{Kept, kept_after}
 use Rattle.progress.proofs.Sums.{total, total_changed, total_bound, total_least}
@@ -60,11 +60,8 @@ module _ (n limit k p : ℕ) (low : p < n) (held : 0 < k) where
       omega arith
 
   module _ (w : World) (h : Kept n w) (line : In n limit k p low held w) (greatest : ℕ) (upto : NumbersUpTo greatest n w) where
-    abbrev goes : Event → Place
-    goes e = unwrap_or (moved n limit (w.places (process e)) e) (w.places (process e))
-
     other : (e : Event) → May n limit w e → process e ≢ p
-        → Taken k p (process e) greatest (takes (is_before (w.words (process e)).number (process e) k p) (w.words (process e)) (w.places (process e))) (is_withdraw (w.places (process e)) e) (stored w.words e (process e)) (goes e)
+        → Taken k p (process e) greatest (takes (is_before (w.words (process e)).number (process e) k p) (w.words (process e)) (w.places (process e))) (is_withdraw (w.places (process e)) e) (stored w.words e (process e)) (goes n limit w e)
     other (Starts q call) may ne = Takes.starts n limit k p q greatest may.0 low ne held w line.number upto (w.places q) call may.1
     other (Crashes q) may ne = Takes.crashes n limit k p q greatest may.0 low ne held w line.number upto (w.places q) (h.sound.tied.fits q may.0)
     other (Steps q kind word v) may ne =
@@ -74,20 +71,11 @@ module _ (n limit k p : ℕ) (low : p < n) (held : 0 < k) where
       abbrev new : World
       new = after n limit w e
 
-      place : new.places (process e) ≡ goes e
-      place = put_same w.places (process e) (goes e)
-
-      word : (q : ℕ) → q ≢ process e → new.words q ≡ w.words q
-      word = (kept n limit w h.sound.lock e may h.sound.tied).2
-
-      there : (q : ℕ) → q ≢ process e → new.places q ≡ w.places q
-      there q ne = put_other w.places (process e) (goes e) q ne
-
       same_share : (q : ℕ) → q ≢ process e → share new q ≡ share w q
-      same_share q ne = ap (λ x. if q == p then 0 else takes (is_before x.number q k p) x (new.places q)) (word q ne) ∙ ap (λ s. if q == p then 0 else takes (is_before (w.words q).number q k p) (w.words q) s) (there q ne)
+      same_share q ne = ap (λ x. if q == p then 0 else takes (is_before x.number q k p) x (new.places q)) (same_words n limit w e h may q ne) ∙ ap (λ s. if q == p then 0 else takes (is_before (w.words q).number q k p) (w.words q) s) (same_place n limit w e q ne)
 
       same_upto : (q : ℕ) → q < n → q ≢ process e → ((new.words q).number ≤ greatest) × ReadsUpTo greatest (new.places q)
-      same_upto q below ne = (subst (λ x. x.number ≤ greatest) (sym (word q ne)) (upto q below).0, subst (ReadsUpTo greatest) (sym (there q ne)) (upto q below).1)
+      same_upto q below ne = (subst (λ x. x.number ≤ greatest) (sym (same_words n limit w e h may q ne)) (upto q below).0, subst (ReadsUpTo greatest) (sym (same_place n limit w e q ne)) (upto q below).1)
 
       -- nobody is refused
       granted : (greatest + left w) ≤ limit → is_spent (w.places (process e)) e ≡ false
@@ -140,13 +128,13 @@ module _ (n limit k p : ℕ) (low : p < n) (held : 0 < k) where
                 let t = total_changed n (share new) (share w) (process e) may.0 (λ q below ne. same_share q ne) in
                 let a = share_other w (process e) ne in
                 let b = share_other new (process e) ne in
-                let c : takes (is_before (new.words (process e)).number (process e) k p) (new.words (process e)) (new.places (process e)) ≡ takes (is_before (new.words (process e)).number (process e) k p) (new.words (process e)) (goes e) =
-                ap (takes (is_before (new.words (process e)).number (process e) k p) (new.words (process e))) place in
+                let c : takes (is_before (new.words (process e)).number (process e) k p) (new.words (process e)) (new.places (process e)) ≡ takes (is_before (new.words (process e)).number (process e) k p) (new.words (process e)) (goes n limit w e) =
+                ap (takes (is_before (new.words (process e)).number (process e) k p) (new.words (process e))) (place_of_mover n limit w e) in
                 let f = o.falls in
                 omega arith
                 ),
             λ q below. elim (cases_eq q (process e)) [
-              | inl same ↦ subst (λ r. ((new.words r).number ≤ greatest + o.rise) × ReadsUpTo (greatest + o.rise) (new.places r)) (sym same) (o.number, subst (ReadsUpTo (greatest + o.rise)) (sym place) o.read)
+              | inl same ↦ subst (λ r. ((new.words r).number ≤ greatest + o.rise) × ReadsUpTo (greatest + o.rise) (new.places r)) (sym same) (o.number, subst (ReadsUpTo (greatest + o.rise)) (sym (place_of_mover n limit w e)) o.read)
               | inr far ↦ let u = same_upto q below far in (omega (arith, u.0), more o.rise (new.places q) u.1)
             ],
           )

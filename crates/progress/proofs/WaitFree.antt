@@ -155,6 +155,11 @@ module _ (n limit p : ℕ) (below : p < n) where
   glances s Glances word v e some = ap (λ o. unwrap_or o s) (glanced s word v some)
   glances s _ word v e some = absurd (cc)
 
+-- so it does in each part of them
+falls_in : (n limit p : ℕ) → p < n → {Part : Place → Type 0} → ((s : Place) → Part s → Busy s) → (s : Place) (kind : Kind) (word : Word) (v : ℕ) → Part s → IsSome (next n limit p s kind word v)
+    → is_glance kind ≡ false → Part (unwrap_or (next n limit p s kind word v) s) → steps_left n (unwrap_or (next n limit p s kind word v) s) + 1 ≤ steps_left n s
+falls_in n limit p below busy s kind word v h some counts there = falls n limit p below s kind word v (busy s h) some counts
+
 -- a part of a call, and a measure that falls with each step in it
 pub record Measure (n limit p : ℕ) (Part : Place → Type 0) (left : Place → ℕ) : Type 0 where
   pub alive : Part Dead → ⊥
@@ -214,7 +219,7 @@ module _ (n limit p : ℕ) (below : p < n) {Part : Place → Type 0} {left : Pla
 
 module _ (n limit p : ℕ) (below : p < n) where
   pub before_line : Measure n limit p IsBeforeLine (steps_left n)
-  before_line = record { alive = λ h. h; unstarted = unstarted; some_left = some_left; fewer = fewer }
+  before_line = record { alive = λ h. h; unstarted = unstarted; some_left = some_left; fewer = falls_in n limit p below busy }
     where
       unstarted : (s : Place) (call : CoreCall) → IsBeforeLine s → IsSome (started s call) → ⊥
       unstarted (Reread Lock seen) call h some = cc
@@ -242,12 +247,8 @@ module _ (n limit p : ℕ) (below : p < n) where
       busy (Shutting Lock k) h = tt
       busy _ h = absurd h
 
-      fewer : (s : Place) (kind : Kind) (word : Word) (v : ℕ) → IsBeforeLine s → IsSome (next n limit p s kind word v) → is_glance kind ≡ false → IsBeforeLine (unwrap_or (next n limit p s kind word v) s)
-          → steps_left n (unwrap_or (next n limit p s kind word v) s) + 1 ≤ steps_left n s
-      fewer s kind word v h some not there = falls n limit p below s kind word v (busy s h) some not
-
   pub leaving : Measure n limit p IsLeaving (steps_left n)
-  leaving = record { alive = λ h. h; unstarted = unstarted; some_left = some_left; fewer = fewer }
+  leaving = record { alive = λ h. h; unstarted = unstarted; some_left = some_left; fewer = falls_in n limit p below busy }
     where
       unstarted : (s : Place) (call : CoreCall) → IsLeaving s → IsSome (started s call) → ⊥
       unstarted Leaving call h some = cc
@@ -264,12 +265,8 @@ module _ (n limit p : ℕ) (below : p < n) where
       busy (Unmarking Unlock) h = tt
       busy _ h = absurd h
 
-      fewer : (s : Place) (kind : Kind) (word : Word) (v : ℕ) → IsLeaving s → IsSome (next n limit p s kind word v) → is_glance kind ≡ false → IsLeaving (unwrap_or (next n limit p s kind word v) s)
-          → steps_left n (unwrap_or (next n limit p s kind word v) s) + 1 ≤ steps_left n s
-      fewer s kind word v h some not there = falls n limit p below s kind word v (busy s h) some not
-
   pub recovering : Measure n limit p IsRecovering (steps_left n)
-  recovering = record { alive = λ h. h; unstarted = unstarted; some_left = some_left; fewer = fewer }
+  recovering = record { alive = λ h. h; unstarted = unstarted; some_left = some_left; fewer = falls_in n limit p below busy }
     where
       unstarted : (s : Place) (call : CoreCall) → IsRecovering s → IsSome (started s call) → ⊥
       unstarted (Reread Recover seen) call h some = cc
@@ -290,10 +287,6 @@ module _ (n limit p : ℕ) (below : p < n) where
       busy (Shutting Recover k) h = tt
       busy (Unmarking Recover) h = tt
       busy _ h = absurd h
-
-      fewer : (s : Place) (kind : Kind) (word : Word) (v : ℕ) → IsRecovering s → IsSome (next n limit p s kind word v) → is_glance kind ≡ false → IsRecovering (unwrap_or (next n limit p s kind word v) s)
-          → steps_left n (unwrap_or (next n limit p s kind word v) s) + 1 ≤ steps_left n s
-      fewer s kind word v h some not there = falls n limit p below s kind word v (busy s h) some not
 
   pub rereading : Measure n limit p IsRereading rereads_left
   rereading = record { alive = λ h. h; unstarted = unstarted; some_left = some_left; fewer = fewer }

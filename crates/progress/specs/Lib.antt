@@ -5,3 +5,4 @@ pub mod Bypass
 pub mod WaitFree
 pub mod UnspentNumbers
 pub mod WorldWaiting
+pub mod ThreadWaiting

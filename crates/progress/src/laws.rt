@@ -14,13 +14,17 @@ ghost use Rattle.rmeworld.specs.ProcessState.{WorldEvent};
 ghost use Rattle.rmeworld.specs.Reached.{crashed_global_state};
 ghost use Rattle.rmeworld.specs.World.{at_first, Execution, last_global_state};
 ghost use Rattle.rmeworld.specs.WorldState.{global_state_of, image_world};
+ghost use Rattle.execution.specs.Runs.{IsRun};
 ghost use Rattle.progress.specs.BoundedWaiting.{WorkIsBounded, WaitingIsBounded};
 ghost use Rattle.progress.specs.Bypass.{EntersOnce, EntersOnceWhileReady, IsInDoorway, LaterWaitsForDoorway};
 ghost use Rattle.progress.specs.Pieces.{HasFullPiece};
 ghost use Rattle.progress.specs.WaitFree.{LeavesWithin, IsBeforeLine, IsRereading, IsLeaving, IsRecovering};
 ghost use Rattle.progress.specs.UnspentNumbers.{NumbersAreUnspent};
+ghost use Rattle.progress.specs.ThreadWaiting.{ThreadWaitingIsBounded};
 ghost use Rattle.progress.specs.WorldWaiting.{WorldWaitingIsBounded};
 
+use execution::Setup;
+use execution::entry::TakenStep;
 use redomail::Layout;
 use rmeworld::image::Image;
 
@@ -55,6 +59,14 @@ pub fn waiting_in_a_world_is_bounded()
     ensures image { (i : Image) (p : ℕ) (execution : List WorldEvent) → IsLawfulImage i → p < (layout_of i).procs
         → let first = global_state_of (image_world i) in Execution (layout_of i) i.limit first execution
         → WorldWaitingIsBounded (layout_of i) i.limit (last_global_state (layout_of i) i.limit first execution) p }
+{}
+
+/// Bounded waiting of threads. Whatever steps the members of an arena have taken, one that is in line enters within as many
+/// pieces of the steps that follow, in each of which each member that owes a step of the lock takes one. That a thread runs is
+/// up to its scheduler.
+pub fn waiting_of_threads_is_bounded()
+    ensures { (s : Setup) (steps : List TakenStep) (p : ℕ) → p < s.layout.procs → IsRun s steps
+        → ThreadWaitingIsBounded s steps p }
 {}
 
 /// Bounded overtaking in line. While a process is in line, each other process enters once at most, whatever crashes and gives

@@ -1,4 +1,4 @@
-//! The specification's worked rows of replays and traces, as whole invocations of the program over a folder, an input and
+//! The worked rows of replays and traces (docs/dev/rows.md), as whole invocations of the program over a folder, an input and
 //! two outputs in memory; and each request for memory is refused in turn. Each names public functions of `commands` and of the
 //! crates below it.
 

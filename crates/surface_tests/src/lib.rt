@@ -6,6 +6,7 @@ pub mod of_crashlab;
 pub mod of_judge;
 pub mod of_one_lock;
 pub mod of_program;
+pub mod of_progress;
 pub mod of_redomail;
 pub mod of_rmecore;
 pub mod of_rmeworld;

@@ -38,7 +38,7 @@ pub fn body_in(deed: Deed) -> Option<Body> {
     }
 }
 
-/// The faults and their numbers, as the specification has them.
+/// The faults and their numbers, as docs/use/errors.md has them.
 pub fn number_specified(fault: Fault) -> u64 {
     match fault {
         Fault::OutOfPlace => 1,

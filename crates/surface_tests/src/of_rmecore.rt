@@ -3,7 +3,7 @@
 ghost use Rattle.std.specs.Prelude.{◌≡◌};
 ghost use Rattle.rmecore.specs.Refused.{number_of};
 
-use rmecore::{Body, Core, CoreDone, Found, Happened, Kind, Outer, Own, Refusal, Word};
+use rmecore::{Body, Core, CoreDone, Found, Happened, Kind, Outer, Own, Refusal, Word, laws};
 use std::alloc::Global;
 
 pub fn new_core(alloc: Global, procs: u64, limit: u64) -> Result<Core, Refusal> {
@@ -92,7 +92,7 @@ pub fn process_of(outer: Outer) -> u64 {
     }
 }
 
-/// The refusals and their numbers, as the specification has them. `number` answers the same.
+/// The refusals and their numbers, as docs/use/errors.md has them. `number` answers the same.
 pub fn number_specified(refusal: Refusal) -> Option<u64>
     ensures { result ≡ number_of refusal }
 {
@@ -134,4 +134,8 @@ pub fn word(body: Body, j: u64) -> Result<u64, Refusal> {
 
 pub fn all_words(body: &Body) -> &[u64] {
     body.as_slice()
+}
+
+pub fn cite_the_laws() {
+    laws::every_process_can_enter();
 }

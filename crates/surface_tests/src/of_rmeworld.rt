@@ -4,8 +4,8 @@ use judge::{Deed, Start};
 use redomail::Reply;
 use rmecore::{Found, Happened, Own, Refusal};
 use rmeworld::{
-    Answer, Call, DataWords, Image, Machine, Owns, Stepped, World, first_rule, laws, read_image,
-    start_of, widen, write_image,
+    Answer, Call, DataWords, Image, Machine, Owns, Stepped, World, first_rule, image, laws,
+    read_image, start_of, widen, write_image,
 };
 use std::alloc::Global;
 
@@ -158,4 +158,6 @@ pub fn cite_the_laws() {
     laws::histories_are_legal();
     laws::process_states_are_own();
     laws::executions_grow();
+    laws::every_process_can_enter();
+    image::laws::images_have_starts();
 }

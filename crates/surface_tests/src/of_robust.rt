@@ -173,7 +173,7 @@ pub fn is_clean(entry: Entry) -> bool {
     }
 }
 
-/// The faults of a member and their numbers, as the specification has them.
+/// The faults of a member and their numbers, as docs/use/errors.md has them.
 pub fn number_specified(fault: LockFault) -> u64 {
     match fault {
         LockFault::Crashed => 1,

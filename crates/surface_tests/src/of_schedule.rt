@@ -8,7 +8,7 @@ use schedule::replays::replaying::close;
 use schedule::{
     Count, FromReader, Line, OutOfMemory, Page, ReplayFault, Schedule, Sink, Source, Text,
     TextFault, ToWriter, Trace, Verdict, judge_trace, put_verdict, read_schedule, read_trace,
-    replay, replay_on, write_schedule,
+    replay, replay_on, replay_to_writer, write_schedule,
 };
 use std::alloc::{AllocError, Global};
 use std::io;
@@ -173,4 +173,16 @@ pub fn replayed_to_writer<W: io::Write + Drop>(
         &mut Text::new(text, piece),
         &mut ToWriter::new(writer),
     )
+}
+
+pub fn replayed_to<R: io::Read + Drop, W: io::Write>(
+    alloc: Global,
+    reader: R,
+    writer: W,
+) -> (Result<Verdict, ReplayFault>, W) {
+    replay_to_writer(alloc, reader, writer)
+}
+
+pub fn writer_of<W: io::Write>(sink: ToWriter<W>) -> W {
+    sink.into_inner()
 }

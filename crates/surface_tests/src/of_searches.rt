@@ -5,7 +5,7 @@ use diagram::{
     Drawing, LifelinePhase, Reply, Session, Style, draw, follow, follow_as_lines,
     put_verdict_object, write_drawing, write_page,
 };
-use explorer::{MoveVerdict, SearchFault, SearchOutcome, Space, Unwatched, Watch, search};
+use explorer::{MoveVerdict, SearchFault, SearchOutcome, Space, Unwatched, Watch, laws, search};
 use judge::Judge;
 use lock_explorer::{Bounds, ExploreFault, Move, Variables, shortest_schedule};
 use redomail::Layout;
@@ -137,4 +137,8 @@ pub fn ends_at(alloc: Global, schedule: Schedule, line: &[u8]) -> Result<bool, A
     let mut page = Vec::new(alloc);
     session.put_state(&mut page)?;
     Ok(session.answer(alloc, line, &mut page)? == Reply::Quits)
+}
+
+pub fn cite_the_laws<S: Space>() {
+    laws::answers_are_one::<S>();
 }

@@ -1,4 +1,4 @@
-//! A machine with the four methods of the specification alone. The fifth method of the trait has a default body.
+//! A machine with the four methods that its trait requires. The fifth has a default body.
 
 ghost use Rattle.std.specs.Prelude.{◌≡◌};
 

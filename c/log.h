@@ -41,7 +41,7 @@ int log_reader_path(char path[RME_LOG_PATH], const char *folder, const char *nam
 int log_open(struct rme_seat *seat, const char *path, uint64_t index, uint64_t milliseconds);
 void log_close(struct rme_seat *seat, uint64_t index); /* what log_open has opened */
 int log_check(const struct rme_seat *seat, enum log_kind kind, const struct log_head *head);
-int log_open_head(struct rme_seat *seat, const char *folder);
+int log_open_head(struct rme_seat *seat, char folder[RME_LOG_PATH], const char *name);
 int log_hold(const char *folder, int how); /* flock of the folder; answers a descriptor, or -1 */
 
 static inline struct log_head *head_of(const struct rme_seat *seat) { return rme_data(seat, NULL); }

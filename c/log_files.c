@@ -11,7 +11,7 @@
 
 _Static_assert(sizeof(struct log_segment) == 2 * 64 + 8 * MOST_PROCS, "the head and the waiters have a cache line each");
 
-/* It is whole, so that a change of the working folder does no harm. */
+/* The absolute path, so that the working folder may change. */
 int log_folder(char folder[RME_LOG_PATH], const char *name)
 {
     char *whole = realpath(name, NULL);
@@ -74,11 +74,13 @@ int log_check(const struct rme_seat *seat, enum log_kind kind, const struct log_
     return data->format != LOG_FORMAT || (head && data->identity != head->data.identity) ? EPROTO : 0;
 }
 
-/* Opens the file `log`, without an index. */
-int log_open_head(struct rme_seat *seat, const char *folder)
+/* Opens the file `log` of the folder with this name, without an index. */
+int log_open_head(struct rme_seat *seat, char folder[RME_LOG_PATH], const char *name)
 {
     char path[RME_LOG_PATH];
-    int error = log_path(path, folder, "log");
+    int error = log_folder(folder, name);
+    if (!error)
+        error = log_path(path, folder, "log");
     if (!error)
         error = log_open(seat, path, LOG_ANY, 0);
     if (error)

@@ -54,9 +54,7 @@ int rme_log_reader_open(struct rme_log_reader *r, const char *folder, const char
     if (!r || !folder)
         return EINVAL;
     memset(r, 0, sizeof *r);
-    int error = log_folder(r->folder, folder);
-    if (!error)
-        error = log_open_head(&r->head, r->folder);
+    int error = log_open_head(&r->head, r->folder, folder);
     if (error)
         return error;
     r->cursor = (struct rme_cursor){load(&head_of(&r->head)->first), 0};
@@ -210,8 +208,8 @@ static int sleep_on(struct rme_seat *seat, uint64_t place, uint64_t most)
     const uint32_t seen = place < seat->machine.cap ? (uint32_t)place : 0;
     const struct timespec time = {0, (long)most * 1000000};
     __atomic_fetch_add(&segment_of(seat)->waiters, 1, __ATOMIC_SEQ_CST);
-    const long told = syscall(SYS_futex, (uint32_t *)word + (__BYTE_ORDER__ == __ORDER_BIG_ENDIAN__), FUTEX_WAIT, seen, &time, NULL, 0);
-    const int error = told ? errno : 0;
+    const long answer = syscall(SYS_futex, (uint32_t *)word + (__BYTE_ORDER__ == __ORDER_BIG_ENDIAN__), FUTEX_WAIT, seen, &time, NULL, 0);
+    const int error = answer ? errno : 0;
     __atomic_fetch_sub(&segment_of(seat)->waiters, 1, __ATOMIC_SEQ_CST);
     return error == EINTR ? EINTR : 0;
 }

@@ -76,14 +76,14 @@ static int each_reader(const char *folder, int (*visit)(const char *name, void *
 {
     struct dirent **entry = NULL;
     const int count = scandir(folder, &entry, is_readers, alphasort);
-    int told = count < 0 ? errno : 0;
+    int answer = count < 0 ? errno : 0;
     for (int i = 0; i < count; i++) {
-        if (!told)
-            told = visit(entry[i]->d_name + sizeof reader_prefix - 1, context);
+        if (!answer)
+            answer = visit(entry[i]->d_name + sizeof reader_prefix - 1, context);
         free(entry[i]);
     }
     free(entry);
-    return told;
+    return answer;
 }
 
 /* ---- dropping ---- */
@@ -169,9 +169,7 @@ int rme_log_drop(const char *folder, uint64_t before, uint64_t *first)
     char whole[RME_LOG_PATH];
     if (!folder)
         return EINVAL;
-    int error = log_folder(whole, folder);
-    if (!error)
-        error = log_open_head(&head, whole);
+    int error = log_open_head(&head, whole, folder);
     if (error)
         return error;
     const int held = (fcntl(head.file, F_GETFL) & O_ACCMODE) == O_RDWR ? log_hold(whole, LOCK_EX) : (errno = EACCES, -1);
@@ -206,9 +204,7 @@ int rme_log_forget(const char *folder, const char *name)
     char whole[RME_LOG_PATH];
     if (!folder || !name)
         return EINVAL;
-    int error = log_folder(whole, folder);
-    if (!error)
-        error = log_open_head(&head, whole);
+    int error = log_open_head(&head, whole, folder);
     if (error)
         return error;
     const int held = log_hold(whole, LOCK_EX);
@@ -261,9 +257,7 @@ int rme_log_status(const char *folder, struct rme_log_state *state)
     char whole[RME_LOG_PATH];
     if (!folder || !state)
         return EINVAL;
-    int error = log_folder(whole, folder);
-    if (!error)
-        error = log_open_head(&head, whole);
+    int error = log_open_head(&head, whole, folder);
     if (error)
         return error;
     error = state_of(&head, whole, state);
@@ -299,9 +293,7 @@ int rme_log_readers(const char *folder, int (*visit)(const struct rme_log_reader
     char whole[RME_LOG_PATH];
     if (!folder || !visit)
         return EINVAL;
-    int error = log_folder(whole, folder);
-    if (!error)
-        error = log_open_head(&head, whole);
+    int error = log_open_head(&head, whole, folder);
     if (error)
         return error;
     error = state_of(&head, whole, &state);

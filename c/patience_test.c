@@ -231,15 +231,15 @@ static void *lock_and_say(void *argument)
 
 static void interrupt_by_a_thread(void)
 {
-    volatile int told = -1;
+    volatile int answer = -1;
     pthread_t thread;
     begin(true);
-    EXPECT(pthread_create(&thread, NULL, lock_and_say, (void *)&told), 0);
+    EXPECT(pthread_create(&thread, NULL, lock_and_say, (void *)&answer), 0);
     nap(0.2);
-    EXPECT(told, -1);
+    EXPECT(answer, -1);
     EXPECT(rme_interrupt(&waiter), 0);
     EXPECT(pthread_join(thread, NULL), 0);
-    EXPECT(told, EINTR);
+    EXPECT(answer, EINTR);
     EXPECT(rme_withdraw(&waiter), 0);
 }
 

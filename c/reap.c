@@ -211,13 +211,13 @@ int rme_lock_reaping_until(struct rme_seat *s, uint64_t turns, const struct time
     WITHOUT_CANCELLATION;
     struct patience may_wait = {.turns = turns, .longest = 20, .until = until, .once = true};
     struct rme_access blocked;
-    uint64_t told;
+    uint64_t answer;
     if (until && !is_time(until))
         return EINVAL;
     int error = rme_begin_call(s);
     if (error)
         return error;
-    while ((told = rme_make_call(s, &(struct rme_call){.code = RME_LOCK}, may_wait, &blocked)) == RME_BLOCKED) {
+    while ((answer = rme_make_call(s, &(struct rme_call){.code = RME_LOCK}, may_wait, &blocked)) == RME_BLOCKED) {
         if (load(&s->interrupted))
             break;
         error = reap(s, NULL, blocked.place / 3, repair, context);
@@ -229,7 +229,7 @@ int rme_lock_reaping_until(struct rme_seat *s, uint64_t turns, const struct time
             break;
         may_wait.turns = is_alive(error) && turns < LEAST_TURNS ? LEAST_TURNS : turns;
     }
-    return rme_end_lock(s, told);
+    return rme_end_lock(s, answer);
 }
 
 int rme_lock_reaping(struct rme_seat *s, uint64_t turns, rme_repair *repair, void *context)

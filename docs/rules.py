@@ -118,10 +118,7 @@ REFUSED = re.compile(rf"\b(?:{GROUPS})\b", re.I)
 # Where one of these words is right all the same: the file, the exact words, and why. One that nothing needs is a finding.
 ALLOWED: list[tuple[str, str, str]] = []
 # Files whose comments still have such words.
-READ_LATER = (
-    "c/faults_test.c c/kill_roles.c c/kill_roles.h c/kill_test.c c/monitor.h c/reap_test.c c/rme.c "
-    "c/send.c c/torture.c c/wake_test.c crates/cli/src/explain/texts.rt"
-).split()
+READ_LATER = ["crates/cli/src/explain/texts.rt"]
 
 # Names that were replaced, as types and modules. Found, Seat, Seen and Words have a second meaning that stays.
 RETIRED_NAMES = (

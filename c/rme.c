@@ -19,7 +19,7 @@ static __attribute__((noinline)) void futex(uint64_t *word, int operation, uint3
     syscall(SYS_futex, (uint32_t *)word + (__BYTE_ORDER__ == __ORDER_BIG_ENDIAN__), operation, value, most, NULL, 0);
 }
 
-/* How many accesses are made, and what the last one read (0 for a store); those before it read 0. */
+/* How many accesses were made, and what the last one read (0 for a store). Those before it read 0. */
 struct made { uint64_t count, seen; };
 
 static inline bool reads_zero(const uint64_t *word, struct made *made)
@@ -28,7 +28,7 @@ static inline bool reads_zero(const uint64_t *word, struct made *made)
     return (made->seen = load(word)) == 0;
 }
 
-/* Stores lock word k of a line. All waiting is for lock words to become 0: who sleeps on one is woken then. */
+/* Stores lock word k of a line. Processes wait only for lock words to become 0: a store of 0 wakes those who sleep on the word. */
 static inline void put(uint64_t *line, uint64_t k, uint64_t value, struct made *made)
 {
     store(line + k, value);
@@ -37,8 +37,8 @@ static inline void put(uint64_t *line, uint64_t k, uint64_t value, struct made *
         futex(line + k, FUTEX_WAKE, MOST_PROCS, NULL);
 }
 
-/* The access that the machine has named. A word that the block does not have reads 0, and no store goes there: only words that no
- * call leaves lead the machine to it. */
+/* Makes the access that the machine has named. A place outside the block reads 0 and is never stored to: only a corrupt file leads the
+ * machine there. */
 static inline void take(struct rme_seat *s, const struct rme_access *access, struct made *made)
 {
     const uint64_t locks = 3 * s->machine.procs, place = access->place;
@@ -53,7 +53,7 @@ static inline void take(struct rme_seat *s, const struct rme_access *access, str
     made->count = 1;
 }
 
-/* The rest of a scan, from a line on: of each other process word k to number, up to the first that is not 0. */
+/* The rest of a scan, from a line on: loads words k to `number` of each other process, up to the first that is not 0. */
 static inline bool scan(const uint64_t *own, const uint64_t *line, const uint64_t *end, const uint64_t k, struct made *made)
 {
     for (; line < end; line += LINE)
@@ -99,7 +99,7 @@ static INLINED void run(const struct rme_seat *s, uint64_t answer, uint64_t numb
 
 enum { LEAST_PAUSES = 16, MOST_PAUSES = 2000, YIELDS = 100, AT_ONCE = 3000 /* ticks: about a microsecond */ };
 
-/* The nanoseconds up to this time; without one, more than any sleep. */
+/* The nanoseconds until this time; without a time, longer than any sleep. */
 int64_t rme_time_left(const struct timespec *until)
 {
     enum { BILLION = 1000000000 };
@@ -112,9 +112,9 @@ int64_t rme_time_left(const struct timespec *until)
     return left > 0 ? left : 0;
 }
 
-/* After a blocked reading: for each process it pauses at first, then lets others run, then sleeps. A yield that comes back at
- * once says that a processor is free: then more pauses cost nothing. Who stores 0 sees the sleeper's bit, or else the kernel sees
- * the 0 here and does not sleep. The time is for those who die between their store and their waking. */
+/* After a blocked reading: for each process that blocks, it pauses at first, then yields, then sleeps. A yield that returns at once
+ * shows that a processor is free: then more pauses cost nothing. Whoever stores 0 sees the sleeper's bit, or else the kernel sees the 0
+ * here and does not sleep. Sleeps are bounded, since a process may die between its store and its wake. */
 static __attribute__((noinline)) void rest(struct rme_seat *s, uint64_t place, uint64_t seen, struct patience *may_wait)
 {
     uint64_t *sleepers = sleepers_on(s, place);
@@ -143,7 +143,7 @@ static __attribute__((noinline)) void rest(struct rme_seat *s, uint64_t place, u
     }
 }
 
-/* Takes the call to its answer, or as long as it may wait, from what the machine has answered and the last access has read on. */
+/* Goes on with the call until its answer, or for as long as it may wait, from the machine's answer and what the last access read. */
 static uint64_t finish(struct rme_seat *s, uint64_t answer, struct made made, struct rme_access *access, struct patience may_wait)
 {
     while (answer == 0 || answer >= RME_LOAD || (answer == RME_BLOCKED && may_wait.turns-- > 0)) {
@@ -190,7 +190,7 @@ int rme_end_call(struct rme_seat *s, int error)
     return error;
 }
 
-/* The end of a call of RME_LOCK. */
+/* Ends a call of RME_LOCK. */
 int rme_end_lock(struct rme_seat *s, uint64_t answer)
 {
     int error = error_of(answer);
@@ -201,8 +201,7 @@ int rme_end_lock(struct rme_seat *s, uint64_t answer)
     return rme_end_call(s, error);
 }
 
-/* An append, by one feed of the words that it loads first. Its stores are those of data words; as in `take`, none goes to a word that
- * the block does not have. */
+/* An append, by one feed of the words that it loads first. It stores data words only; as in `take`, none outside the block. */
 static uint64_t append(struct rme_seat *s, struct rme_access *access)
 {
     uint64_t *const words = s->words;
@@ -219,8 +218,8 @@ static uint64_t append(struct rme_seat *s, struct rme_access *access)
     return stores.answer;
 }
 
-/* Takes the call to its answer, or as long as it may wait. Mostly a lock is one run, and so is an unlock. A lock that was left
- * after ETIMEDOUT is under way still: it goes on where it waited. */
+/* Makes the call until its answer, or for as long as it may wait. Mostly a lock is one run, and so is an unlock. A lock that was left
+ * after ETIMEDOUT is still under way: it goes on where it waited. */
 INLINED uint64_t rme_make_call(struct rme_seat *s, const struct rme_call *asked, struct patience may_wait, struct rme_access *access)
 {
     struct made made = {0, 0};
@@ -238,7 +237,7 @@ INLINED uint64_t rme_make_call(struct rme_seat *s, const struct rme_call *asked,
     return answer > RME_BLOCKED && answer < RME_LOAD ? answer : finish(s, answer, made, access, may_wait);
 }
 
-/* Where it has succeeded, *got (may be null) is the board word that it has read, or else what the machine answered. */
+/* Where it succeeds, *got (may be null) is the board word that it has read, or else the machine's answer. */
 static INLINED int call(struct rme_seat *s, const struct rme_call *asked, struct patience may_wait, uint64_t *got)
 {
     struct rme_access access;
@@ -252,7 +251,7 @@ static INLINED int call(struct rme_seat *s, const struct rme_call *asked, struct
     return error;
 }
 
-/* All but lock are never blocked. */
+/* No call but a lock is ever blocked. */
 static const struct patience at_once = {0};
 static const struct rme_call lock_call = {.code = RME_LOCK}, unlock_call = {.code = RME_UNLOCK};
 
@@ -273,7 +272,7 @@ int rme_lock_until(struct rme_seat *s, const struct timespec *until)
     return lock(s, (struct patience){.turns = UINT64_MAX, .longest = 50, .until = until});
 }
 
-/* A place in line that an earlier lock has kept is not given up here. */
+/* It does not give up a place in line that an earlier lock has kept. */
 int rme_trylock(struct rme_seat *s)
 {
     static const struct rme_call withdraw_call = {.code = RME_WITHDRAW};

@@ -195,8 +195,8 @@ COMMENTS = {
 }
 KINDS = {".h": ".c", ".rs": ".c"}
 BEGINS = ("//", "/*", "--", "#", '"""')
-# The program's own texts are strings.
-PRINTED = "crates/cli/src/"
+# What programs print are strings: those of these folders are read too.
+PRINTED = ("crates/cli/src/", "c/")
 
 
 def kind_of(name: str, text: str) -> str:

@@ -31,12 +31,6 @@ static struct timespec after(double seconds)
     return (struct timespec){time.tv_sec + whole, nanoseconds - whole * 1000000000};
 }
 
-static double passed_since(struct timespec from)
-{
-    const struct timespec now = after(0);
-    return (double)(now.tv_sec - from.tv_sec) + (double)(now.tv_nsec - from.tv_nsec) * 1e-9;
-}
-
 static void begin(bool inside)
 {
     make(3, 4);
@@ -100,14 +94,15 @@ static void trylock_after_a_death(void)
 static void lock_until_a_time(void)
 {
     begin(true);
-    const struct timespec past = {0, 0}, from = after(0), soon = after(0.6);
+    const double from = now();
+    const struct timespec past = {0, 0}, soon = after(0.6);
     EXPECT(rme_lock_until(&waiter, &past), ETIMEDOUT);
     EXPECT(rme_lock_until(&waiter, NULL), EINVAL);
     EXPECT(rme_lock_until(&waiter, &(struct timespec){0, -1}), EINVAL);
     EXPECT(rme_lock_until(&waiter, &(struct timespec){0, 1000000000}), EINVAL);
     EXPECT(rme_lock_until(&waiter, &soon), ETIMEDOUT);
-    EXPECT(passed_since(from) >= 0.6, true);
-    EXPECT(passed_since(from) < 10, true);
+    EXPECT(now() - from >= 0.6, true);
+    EXPECT(now() - from < 10, true);
     EXPECT(index_of(1).found, RME_FOUND_WAITING);
     EXPECT(rme_unlock(&holder), 0);
     EXPECT(rme_lock_until(&waiter, &past), 0);
@@ -131,10 +126,11 @@ static void lock_until_sleeps(void)
     pid_t child = fork();
     if (child == 0) {
         struct rme_seat own;
-        const struct timespec from = after(0), late = after(30);
+        const double from = now();
+        const struct timespec late = after(30);
         EXPECT(rme_attach(&own, path, 2), 0);
         EXPECT(rme_lock_until(&own, &late), 0);
-        EXPECT(passed_since(from) < 20, true);
+        EXPECT(now() - from < 20, true);
         EXPECT(processor_time() < 0.3, true);
         EXPECT(rme_unlock(&own), 0);
         _exit(rme_detach(&own));
@@ -151,16 +147,17 @@ static void lock_until_sleeps(void)
 static void lock_reaping_until_a_time(void)
 {
     begin(true);
-    const struct timespec past = {0, 0}, soon = after(0.1), from = after(0), late = after(30);
+    const double from = now();
+    const struct timespec past = {0, 0}, soon = after(0.1), late = after(30);
     EXPECT(rme_lock_reaping_until(&waiter, 0, &past, NULL, NULL), ETIMEDOUT);
     EXPECT(rme_lock_reaping_until(&waiter, 0, &(struct timespec){0, -1}, NULL, NULL), EINVAL);
     EXPECT(rme_lock_reaping_until(&waiter, 0, &soon, NULL, NULL), ETIMEDOUT);
-    EXPECT(passed_since(from) >= 0.1, true);
+    EXPECT(now() - from >= 0.1, true);
     EXPECT(rme_lock_reaping_until(&waiter, 1000000, &soon, NULL, NULL), ETIMEDOUT);
     EXPECT(index_of(1).found, RME_FOUND_WAITING);
     EXPECT(rme_detach(&holder), EBUSY); /* it has died inside */
     EXPECT(rme_lock_reaping_until(&waiter, 3, &late, NULL, NULL), 0);
-    EXPECT(passed_since(from) < 20, true);
+    EXPECT(now() - from < 20, true);
 }
 
 /* After one who lives it sleeps between two looks, even where it is to look at once. */
@@ -212,11 +209,11 @@ static void interrupt_by_a_signal(void)
     for (int k = 0; k < 24; k++) {
         const struct sigaction action = {.sa_handler = interrupt_in_the_handler, .sa_flags = k % 2 ? SA_RESTART : 0};
         const useconds_t microseconds = k < 8 ? 20 : k < 16 ? 2000 : 60000;
-        const struct timespec from = after(0);
+        const double from = now();
         EXPECT(sigaction(SIGALRM, &action, NULL), 0);
         ualarm(microseconds, 0);
         EXPECT(k % 3 ? rme_lock(&waiter) : rme_lock_reaping(&waiter, 3, NULL, NULL), EINTR);
-        EXPECT(passed_since(from) < 5, true);
+        EXPECT(now() - from < 5, true);
         EXPECT(index_of(1).found, RME_FOUND_WAITING);
     }
     EXPECT(rme_unlock(&holder), 0);
@@ -250,9 +247,10 @@ static void signal_alone(void)
     begin(true);
     signal(SIGALRM, ignore);
     ualarm(20000, 20000);
-    const struct timespec soon = after(0.3), from = after(0);
+    const double from = now();
+    const struct timespec soon = after(0.3);
     EXPECT(rme_lock_until(&waiter, &soon), ETIMEDOUT);
-    EXPECT(passed_since(from) >= 0.3, true);
+    EXPECT(now() - from >= 0.3, true);
     ualarm(0, 0);
 }
 

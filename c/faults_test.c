@@ -12,13 +12,6 @@
 #include <sys/syscall.h>
 #include <sys/time.h>
 
-static double now(void)
-{
-    struct timespec time;
-    clock_gettime(CLOCK_MONOTONIC, &time);
-    return (double)time.tv_sec + (double)time.tv_nsec * 1e-9;
-}
-
 static void write_word(uint64_t place, uint64_t word) /* a data word of the file */
 {
     int file = open(path, O_WRONLY);
@@ -288,15 +281,15 @@ static void cancel_a_thread_that_waits(void)
     EXPECT(rme_unlock(&holder), 0);
     EXPECT(pthread_join(thread, &ended), 0);
     EXPECT(ended == PTHREAD_CANCELED, true);
-    EXPECT(thread_told, 0);
+    EXPECT(thread_answer, 0);
     EXPECT(rme_lock_within(&holder, 3), 0);
 }
 
 static void *attach_while_cancelled(void *argument)
 {
     pthread_cancel(pthread_self());
-    thread_told = rme_attach(&shared, path, 1);
-    thread_told += rme_detach(&shared);
+    thread_answer = rme_attach(&shared, path, 1);
+    thread_answer += rme_detach(&shared);
     pthread_testcancel();
     return argument;
 }
@@ -309,7 +302,7 @@ static void cancel_a_thread_that_attaches(void)
     EXPECT(pthread_create(&thread, NULL, attach_while_cancelled, NULL), 0);
     EXPECT(pthread_join(thread, &ended), 0);
     EXPECT(ended == PTHREAD_CANCELED, true);
-    EXPECT(thread_told, 0);
+    EXPECT(thread_answer, 0);
 }
 
 /* ---- words of no lawful file ---- */
@@ -382,8 +375,8 @@ static void attach_to_a_file_that_is_replaced(void)
 
 /* ---- waiting ---- */
 
-/* Behind a long holder a process sleeps, and is woken by the unlock and not by the end of its sleep. */
-static void waiting_behind_a_long_holder(void)
+/* A process that waits for a long holder sleeps, and is woken by the unlock and not by the end of its sleep. */
+static void waiting_for_a_long_holder(void)
 {
     struct rme_seat holder;
     double late = 0;
@@ -426,7 +419,7 @@ static const struct test tests[] = {
     TEST(create_without_proc), TEST(repair_that_calls_consistent), TEST(repair_that_is_interrupted),
     TEST(lock_in_a_signal_handler), TEST(cancel_a_thread_that_waits), TEST(cancel_a_thread_that_attaches),
     TEST(count_above_cap), TEST(record_past_the_end), TEST(attach_to_a_file_that_is_replaced),
-    TEST(waiting_behind_a_long_holder),
+    TEST(waiting_for_a_long_holder),
 };
 
 int main(int count, char **word) { return run_tests(count, word, tests, sizeof tests / sizeof *tests); }

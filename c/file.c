@@ -1,4 +1,4 @@
-/* The file that processes share: making and opening it, and who has which index of it. */
+/* The file that processes share: making and opening it, and which process holds which index. */
 #include "shim.h"
 
 #include <limits.h>
@@ -12,11 +12,11 @@ _Static_assert(sizeof(struct rme_header) <= PAGE && 64 * LINE * 8 <= PAGE, "the 
 
 /* ---- making it ---- */
 
-/* Whether a file without a name can get one: by the name that /proc has for it. */
+/* Whether a file without a name can get one: that goes through /proc. */
 static bool can_be_named(void) { return access("/proc/self/fd", X_OK) == 0; }
 
-/* A file in the path's folder that has no name yet; or, where the file system has none without or /proc is not mounted, under
- * the name that is left. */
+/* Opens a new file in the path's folder, without a name; or, where the file system can't do that or /proc is not mounted, under the
+ * temporary name that `name` gets. */
 static int open_unnamed(const char *path, char name[PATH_MAX])
 {
     const char *slash = strrchr(path, '/');
@@ -31,7 +31,7 @@ static int open_unnamed(const char *path, char name[PATH_MAX])
     return mkostemp(name, O_CLOEXEC);
 }
 
-/* The bytes, who may use it, and last its name, unless there is such a name. */
+/* Writes the file, then sets its mode and group, and last links it to its name, unless that exists. */
 static int fill(int file, const char *name, const char *path, const struct rme_header *header, const void *data, mode_t mode,
                 gid_t group)
 {
@@ -87,7 +87,7 @@ int rme_create(const char *path, uint64_t procs, uint64_t cap, uint64_t width, u
 
 /* ---- opening it ---- */
 
-/* Whether the first page is one that this library has made, of a file that is whole. */
+/* Whether the header is one of this library, and the file has the length that it says. */
 static int check(const struct rme_header *h, uint64_t length)
 {
     if (length < sizeof *h || h->magic != RME_MAGIC)
@@ -98,7 +98,7 @@ static int check(const struct rme_header *h, uint64_t length)
     return fits ? 0 : EPROTO;
 }
 
-/* A copy may have holes, which a full disk has no room for: what is touched there would end in SIGBUS. */
+/* A copy may have holes: on a full disk an access there would end in SIGBUS. */
 static int fill_holes(const struct rme_seat *s, const struct stat *status, int protection)
 {
     if ((uint64_t)status->st_blocks * 512 >= s->length)
@@ -129,7 +129,7 @@ static int map(struct rme_seat *s, const struct stat *status, int protection)
     return error ? error : rme_init(&s->machine, h.procs, h.cap, h.width, h.limit, 0) ? EPROTO : 0;
 }
 
-/* A page of the seat's own that reads 0 in a child of fork. */
+/* Maps a page of the seat's own, which reads 0 in a child of fork. */
 static int wiped_on_fork(struct rme_seat *s)
 {
     void *page = mmap(NULL, PAGE, PROT_READ | PROT_WRITE, MAP_PRIVATE | MAP_ANONYMOUS, -1, 0);
@@ -139,7 +139,7 @@ static int wiped_on_fork(struct rme_seat *s)
     return madvise(page, PAGE, MADV_WIPEONFORK) ? errno : 0;
 }
 
-/* First it is not attached, for a handler that calls rme_interrupt. */
+/* The seat is cleared first, for a signal handler that calls rme_interrupt. */
 void rme_close_seat(struct rme_seat *s)
 {
     const struct rme_seat was = *s;
@@ -175,15 +175,15 @@ int rme_open_seat(struct rme_seat *s, const char *path, int access)
 
 /* ---- who has an index ---- */
 
-/* Locks of the open file on two bytes for each index. They end with the last process that has this open file, however that ends. A
- * living process has both bytes of its index, a reaper the first of them. */
+/* Locks of the open file, on two bytes for each index. The system releases them when the last process that shares the open file ends,
+ * however it ends. A living process has both bytes of its index, a reaper the first of them. */
 static struct flock lease_of(uint64_t index, short type, int bytes)
 {
     return (struct flock){.l_type = type, .l_whence = SEEK_SET, .l_start = (off_t)(2 * index), .l_len = bytes};
 }
 
-/* A program may have closed the descriptor, and its number may be another file's since, or the same file's by another open: of that
- * one the seat's own lease is another's. */
+/* A program may have closed the descriptor, and its number may belong to another file now, or to the same file opened again: then the
+ * seat's own lease shows as that of another open file. */
 int rme_check_file(const struct rme_seat *s)
 {
     struct flock own = lease_of(s->machine.index, F_WRLCK, BOTH_BYTES);
@@ -216,7 +216,7 @@ int rme_life_of(const struct rme_seat *s, uint64_t index, int *life)
     return 0;
 }
 
-/* Takes the lease, after a reaper that acts for the index. */
+/* Takes the lease, and waits for a reaper that acts for the index. */
 static int lease_within(const struct rme_seat *s, uint64_t index, uint64_t milliseconds)
 {
     const struct timespec nap = {0, 1000000};
@@ -244,7 +244,7 @@ void rme_become(struct rme_seat *s, uint64_t index, bool crashed)
         __atomic_fetch_and(sleepers_on(s, place), ~own_bit(s), __ATOMIC_SEQ_CST);
 }
 
-/* The index in the file that has this name now. */
+/* Takes the index, if the file still has this name. */
 static int take(struct rme_seat *s, const char *path, uint64_t index, uint64_t milliseconds)
 {
     struct stat named;
@@ -280,7 +280,7 @@ int rme_attach_within(struct rme_seat *s, const char *path, uint64_t index, uint
 
 int rme_attach(struct rme_seat *s, const char *path, uint64_t index) { return rme_attach_within(s, path, index, 0); }
 
-/* By the name that /proc has for it, so that the open file and with it the lease are the seat's own. */
+/* It is opened anew through /proc, so that the open file, and with it the lease, is the seat's own. */
 int rme_attach_file(struct rme_seat *s, int file, uint64_t index, uint64_t milliseconds)
 {
     char name[32];
@@ -288,7 +288,7 @@ int rme_attach_file(struct rme_seat *s, int file, uint64_t index, uint64_t milli
     return fcntl(file, F_GETFD) < 0 ? EBADF : rme_attach_within(s, name, index, milliseconds);
 }
 
-/* At rest the index is given back; otherwise this is a crash, as any other end of the process is. */
+/* At rest the index is given back. Otherwise this counts as a crash, like any other end of the process. */
 int rme_detach(struct rme_seat *s)
 {
     WITHOUT_CANCELLATION;

@@ -1,4 +1,4 @@
-/* Every call on files that are none of the library's, on words that break its rules, and with arguments that make no sense.
+/* Every call on files that are not of the library, on words that break its rules, and with arguments that make no sense.
  *
  *     hostile_test FOLDER ROUNDS SEED [--no-mount]
  *

@@ -127,7 +127,7 @@ static int repair(struct rme_seat *dead, uint64_t index, void *own_data, size_t 
     return 0;
 }
 
-/* Inside: whoever comes here finds nothing half done, unless it was told so. */
+/* Inside: whoever comes here finds nothing half done, unless its lock answered so. */
 static void work(struct rme_seat *seat, uint64_t index)
 {
     struct duty *duty = &shared->duty[index];

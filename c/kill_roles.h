@@ -1,17 +1,18 @@
 /* What the processes of kill_test do, and what has to hold of the file whenever one of them is killed. */
 #ifndef KILL_ROLES_H
 #define KILL_ROLES_H
+#include "expect.h"
 #include "monitor.h"
 
 enum { PROCS = 3, CAP = 5, TURNS = 2, VICTIMS = 2 };
 
-/* What the callers of an index have been told, which no kill takes back. */
+/* What the callers of an index have been answered, which no kill takes back. */
 struct duty {
     uint64_t attached; /* attach has answered 0, and no detach or reaping after it */
     uint64_t inside;   /* a lock has let it in, and it has not begun to unlock; nobody has repaired its data */
     uint64_t stored;   /* the number of the last append that was answered */
     uint64_t closed;   /* a close was answered */
-    uint64_t notice;   /* a reaping of one who died inside was answered or told, and no orderly detach after it; not of a pair */
+    uint64_t notice;   /* a reaping of one who died inside was answered or notified, and no orderly detach after it; not of a pair */
     uint64_t reaped;   /* a reaping was answered, and no attach after it */
     uint64_t found;    /* a reaper began where it stood inside, and no attach after it; of a pair it is not asked */
 };
@@ -50,8 +51,5 @@ void examine_words(void);
 void examine_end(enum role, uint64_t index, bool began_idle, bool began_inside);
 /* Makes the file, with a message of index 1. */
 void begin_file(const char *name);
-
-_Noreturn void fail(const char *what, int64_t number);
-void expect(const char *what, int got, int wanted);
 
 #endif

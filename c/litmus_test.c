@@ -6,6 +6,7 @@
  * doorways meet, which a store that is still on its way to memory would get through. No word may have lost an addition. Then they
  * go on without waiting for one another. Where no processor is free it takes longer, a minute at most. */
 #define _GNU_SOURCE
+#include "clock.h"
 #include "rme.h"
 
 #include <inttypes.h>
@@ -37,13 +38,6 @@ static _Noreturn void fail(const char *what, uint64_t number)
 {
     fprintf(stderr, "litmus_test: %s: %" PRIu64 "\n", what, number);
     exit(1);
-}
-
-static double now(void)
-{
-    struct timespec time;
-    clock_gettime(CLOCK_MONOTONIC, &time);
-    return (double)time.tv_sec + (double)time.tv_nsec * 1e-9;
 }
 
 static void meet(uint64_t round)

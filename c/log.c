@@ -24,7 +24,7 @@ int rme_log_create(const char *folder, uint64_t procs, uint64_t cap, uint64_t wi
 
 static struct rme_seat *segment(struct rme_log *log) { return &log->segments[log->at]; }
 
-/* Takes the place of the sender in this segment, and gives up the one that it had. */
+/* Attaches the sender to this segment, and detaches it from the one before. */
 static int enter(struct rme_log *log, uint64_t number)
 {
     struct rme_seat *had = segment(log), *next = &log->segments[1 - log->at];
@@ -43,7 +43,7 @@ static int enter(struct rme_log *log, uint64_t number)
     return 0;
 }
 
-/* The same, and makes it where it is not made; or, where it is dropped, enters the first that is not. */
+/* The same, and makes the segment if it is not made. If it is dropped, enters one that is not. */
 static int enter_or_make(struct rme_log *log, uint64_t number, const struct rme_seat *closed)
 {
     int error = enter(log, number);
@@ -100,7 +100,7 @@ static int come_in(struct rme_seat *seat)
     return error;
 }
 
-/* In this segment alone. The segment is asked before it is closed, and also where it is: it may have the message.
+/* Appends in this segment. It is tried before the segment is closed, and also where it is closed: the message may be there.
  * Errors: EPIPE it is closed, and has no such message. */
 static int append_here(struct rme_seat *seat, uint64_t number, const uint64_t *value)
 {
@@ -115,7 +115,7 @@ static int append_here(struct rme_seat *seat, uint64_t number, const uint64_t *v
         rme_close(seat);
         error = EPIPE;
     } else if (error == EINVAL && load(closed_word(seat))) {
-        error = EPIPE; /* a number that comes later has its place later */
+        error = EPIPE; /* a later number belongs to a later segment */
     }
     log_wake(seat);
     int left = rme_unlock(seat);
@@ -138,7 +138,7 @@ int rme_log_append(struct rme_log *log, uint64_t number, const uint64_t *value)
     return rme_end_call(&log->seat, error);
 }
 
-/* What an earlier process of this index has left half done is ended first. */
+/* Finishes first what an earlier process of this index has left half done. */
 static int next_here(struct rme_seat *seat, uint64_t *number, bool *closed)
 {
     int error = come_in(seat);

@@ -11,8 +11,8 @@
 enum log_kind { LOG_HEAD = 0, LOG_SEGMENT, LOG_READER }; /* added to the magic number */
 enum { LOG_SEGMENTS = 99999999, LOG_CAP = 65536, LOG_PLACES = 1 << 20 /* above LOG_CAP */, LOG_ANY = MOST_PROCS /* no index: it reads */ };
 
-/* The caller's own data of the log's files. All of them are written before the file has its name, but for `first` and `last`, which only
- * rise, `waiters` and `cursor`. */
+/* The caller's own data in the log's files. They are written before the file gets its name, except `first` and `last`, which only rise,
+ * `waiters` and `cursor`. */
 struct log_data {
     uint64_t magic, format, identity, spare;
 };
@@ -22,8 +22,8 @@ struct log_head {
 };
 struct log_segment {
     struct log_data data;
-    uint64_t number, before, spare[2]; /* before: how many messages stand in all segments before */
-    uint64_t waiters, spare_line[7];   /* how many readers sleep; one that is killed asleep is counted until the segment's end */
+    uint64_t number, before, spare[2]; /* before: the number of messages in all segments before */
+    uint64_t waiters, spare_line[7];   /* the number of sleeping readers; one that is killed asleep stays counted */
     uint64_t base[MOST_PROCS];
 };
 struct log_reader {
@@ -41,7 +41,7 @@ int log_reader_path(char path[RME_LOG_PATH], const char *folder, const char *nam
 int log_open(struct rme_seat *seat, const char *path, uint64_t index, uint64_t milliseconds);
 void log_close(struct rme_seat *seat, uint64_t index); /* what log_open has opened */
 int log_check(const struct rme_seat *seat, enum log_kind kind, const struct log_head *head);
-int log_open_head(struct rme_seat *seat, const char *folder);
+int log_open_head(struct rme_seat *seat, char folder[RME_LOG_PATH], const char *name);
 int log_hold(const char *folder, int how); /* flock of the folder; answers a descriptor, or -1 */
 
 static inline struct log_head *head_of(const struct rme_seat *seat) { return rme_data(seat, NULL); }

@@ -1,4 +1,4 @@
-/* An eventfd for a reader: a thread sleeps at the end of the log, and writes whenever that has moved. */
+/* An eventfd for a reader: a thread waits at the end of the log, and writes when messages have come. */
 #include "log.h"
 
 #include <signal.h>
@@ -6,7 +6,7 @@
 #include <string.h>
 #include <sys/eventfd.h>
 
-/* `owner`: in a child of fork there is no thread to end. */
+/* `owner`: the process that has the thread; a child of fork has none. */
 struct watcher {
     struct rme_log_reader reader;
     pthread_t thread;
@@ -23,14 +23,14 @@ static void *watch(void *argument)
         if (error == ETIMEDOUT)
             continue;
         if (error)
-            nanosleep(&(struct timespec){0, LONGEST * 1000000}, NULL); /* the reader itself meets it */
+            nanosleep(&(struct timespec){0, LONGEST * 1000000}, NULL); /* the reader's own next call answers it */
         rme_log_seek_end(&w->reader);
         eventfd_write(w->file, 1);
     }
     return NULL;
 }
 
-/* With no signal of the caller's. */
+/* The thread takes none of the caller's signals. */
 static int begin_thread(struct watcher *w)
 {
     sigset_t all, before;

@@ -1,5 +1,5 @@
-/* The files of a log: their names, and whether one is what its name says. Each is a file of the library, with the log's data as the
- * caller's. */
+/* The files of a log: their names, and the check that each is what its name says. Each is a file of the library, with the log's data
+ * in the place of the caller's. */
 #include "log.h"
 
 #include <inttypes.h>
@@ -11,7 +11,7 @@
 
 _Static_assert(sizeof(struct log_segment) == 2 * 64 + 8 * MOST_PROCS, "the head and the waiters have a cache line each");
 
-/* It is whole, so that a change of the working folder does no harm. */
+/* The absolute path, so that the working folder may change. */
 int log_folder(char folder[RME_LOG_PATH], const char *name)
 {
     char *whole = realpath(name, NULL);
@@ -43,7 +43,7 @@ int log_reader_path(char path[RME_LOG_PATH], const char *folder, const char *nam
     return snprintf(path, RME_LOG_PATH, "%s/reader-%s", folder, name) < RME_LOG_PATH ? 0 : ENAMETOOLONG;
 }
 
-/* Takes the index; or, with LOG_ANY, opens the file to read it, and to count a reader that sleeps where that is allowed. */
+/* Takes the index; or, with LOG_ANY, opens the file for reading, and for counting a sleeping reader if permitted. */
 int log_open(struct rme_seat *seat, const char *path, uint64_t index, uint64_t milliseconds)
 {
     if (index != LOG_ANY)
@@ -64,7 +64,7 @@ static const size_t bytes_of[] = {
     [LOG_HEAD] = sizeof(struct log_head), [LOG_SEGMENT] = sizeof(struct log_segment), [LOG_READER] = sizeof(struct log_reader),
 };
 
-/* `head`: of the log to which it has to belong; null for a head itself. */
+/* `head`: the head of the log that the file has to belong to; null for a head itself. */
 int log_check(const struct rme_seat *seat, enum log_kind kind, const struct log_head *head)
 {
     size_t bytes = 0;
@@ -74,11 +74,13 @@ int log_check(const struct rme_seat *seat, enum log_kind kind, const struct log_
     return data->format != LOG_FORMAT || (head && data->identity != head->data.identity) ? EPROTO : 0;
 }
 
-/* Opens the file `log`, without an index. */
-int log_open_head(struct rme_seat *seat, const char *folder)
+/* Opens the file `log` of the folder with this name, without an index. */
+int log_open_head(struct rme_seat *seat, char folder[RME_LOG_PATH], const char *name)
 {
     char path[RME_LOG_PATH];
-    int error = log_path(path, folder, "log");
+    int error = log_folder(folder, name);
+    if (!error)
+        error = log_path(path, folder, "log");
     if (!error)
         error = log_open(seat, path, LOG_ANY, 0);
     if (error)
@@ -89,7 +91,7 @@ int log_open_head(struct rme_seat *seat, const char *folder)
     return error;
 }
 
-/* Readers that begin under a name share the folder, whoever drops has it for itself. It ends with the process. */
+/* Named readers that open lock the folder shared; a dropper locks it exclusively. The lock ends with the process. */
 int log_hold(const char *folder, int how)
 {
     const int held = open(folder, O_RDONLY | O_DIRECTORY | O_CLOEXEC);

@@ -2,6 +2,7 @@
 #ifndef LOG_FOLDER_H
 #define LOG_FOLDER_H
 
+#include "expect.h"
 #include "rme_log.h"
 
 enum { MOST_FILES = 12, MOST_NAME = 32 };
@@ -60,8 +61,5 @@ bool log_stands(const struct log_view *view, uint64_t from, uint64_t sender);
 
 /* Whether an append was cut in two after its commit. */
 bool log_is_half_done(const struct log_view *view);
-
-/* The test's own answer to what is wrong. */
-_Noreturn void fail(const char *what, int64_t number);
 
 #endif

@@ -10,7 +10,7 @@ static struct rme_seat *segment(struct rme_log_reader *r) { return &r->segments[
 
 /* ---- opening ---- */
 
-/* The file of the named reader, which is made where there is none: nobody drops meanwhile. */
+/* Opens the file of the named reader, and makes it if there is none. Called with the folder locked: nobody drops meanwhile. */
 static int open_own(struct rme_log_reader *r, const char *path)
 {
     const struct log_head *h = head_of(&r->head);
@@ -54,9 +54,7 @@ int rme_log_reader_open(struct rme_log_reader *r, const char *folder, const char
     if (!r || !folder)
         return EINVAL;
     memset(r, 0, sizeof *r);
-    int error = log_folder(r->folder, folder);
-    if (!error)
-        error = log_open_head(&r->head, r->folder);
+    int error = log_open_head(&r->head, r->folder, folder);
     if (error)
         return error;
     r->cursor = (struct rme_cursor){load(&head_of(&r->head)->first), 0};
@@ -104,7 +102,7 @@ static int face(struct rme_log_reader *r)
     return 0;
 }
 
-/* Whether there are messages at the cursor, which goes on over a seam. *there gets how many stand in the segment from it on. */
+/* Moves the cursor over a seam, and counts the messages from it on in its segment: *there. */
 static int look(struct rme_log_reader *r, uint64_t *there)
 {
     for (;;) {
@@ -128,7 +126,7 @@ static int look(struct rme_log_reader *r, uint64_t *there)
     }
 }
 
-/* Messages of the segment of the cursor, by their numbers in the log. */
+/* Copies messages from the segment of the cursor, with their numbers in the log. */
 static uint64_t copy(struct rme_log_reader *r, struct rme_message *messages, uint64_t room)
 {
     const struct rme_seat *from = segment(r);
@@ -150,7 +148,7 @@ int rme_log_read(struct rme_log_reader *r, struct rme_message *messages, uint64_
     *count = 0;
     while (*count < room && !(error = look(r, &there)) && there > 0)
         *count += copy(r, messages + *count, room - *count);
-    return *count > 0 ? 0 : error; /* the next call has the error again */
+    return *count > 0 ? 0 : error; /* the next call answers the error again */
 }
 
 int rme_log_seek(struct rme_log_reader *r, struct rme_cursor cursor)
@@ -186,7 +184,7 @@ int rme_log_keep(struct rme_log_reader *r)
     int error = rme_begin_call(&r->own);
     if (error)
         return error;
-    look(r, &there); /* one at the end of a closed segment has passed it */
+    look(r, &there); /* at the end of a closed segment the cursor moves to the next */
     store(&reader_of(&r->own)->cursor, r->cursor.segment * LOG_PLACES + r->cursor.place);
     return rme_end_call(&r->own, 0);
 }
@@ -202,21 +200,21 @@ static uint64_t now_in_milliseconds(void)
     return (uint64_t)now.tv_sec * 1000 + (uint64_t)now.tv_nsec / 1000000;
 }
 
-/* Sleeps on the count, or where the segment is full until it is closed. Who stores there after this one is counted wakes it. The time
- * is for those who die between their store and their waking. */
+/* Sleeps until the count changes; in a full segment, until it is closed. Whoever stores there after this reader is counted wakes it.
+ * Sleeps are bounded, since a sender may die between its store and its wake. */
 static int sleep_on(struct rme_seat *seat, uint64_t place, uint64_t most)
 {
     uint64_t *const word = place < seat->machine.cap ? count_word(seat) : closed_word(seat);
     const uint32_t seen = place < seat->machine.cap ? (uint32_t)place : 0;
     const struct timespec time = {0, (long)most * 1000000};
     __atomic_fetch_add(&segment_of(seat)->waiters, 1, __ATOMIC_SEQ_CST);
-    const long told = syscall(SYS_futex, (uint32_t *)word + (__BYTE_ORDER__ == __ORDER_BIG_ENDIAN__), FUTEX_WAIT, seen, &time, NULL, 0);
-    const int error = told ? errno : 0;
+    const long answer = syscall(SYS_futex, (uint32_t *)word + (__BYTE_ORDER__ == __ORDER_BIG_ENDIAN__), FUTEX_WAIT, seen, &time, NULL, 0);
+    const int error = answer ? errno : 0;
     __atomic_fetch_sub(&segment_of(seat)->waiters, 1, __ATOMIC_SEQ_CST);
     return error == EINTR ? EINTR : 0;
 }
 
-/* Where there is no word to sleep on: no segment yet, none after a closed one, or no leave to be counted. */
+/* Where there is no word to sleep on: no segment yet, none after a closed one, or no permission to be counted. */
 static int take_nap(long *nap)
 {
     const struct timespec time = {0, *nap};

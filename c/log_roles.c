@@ -69,8 +69,8 @@ static void append(struct rme_log *log, uint64_t sender, uint64_t number)
     const struct log_view before = view_now();
     const uint64_t value[8] = {value_of(sender, number, 0)};
     const bool mended = log_is_half_done(&before) && number == before.numbers[sender] + 1; /* by its own lock */
-    const int told = TRACED(rme_log_append(log, number, value));
-    expect("append", told, number <= before.numbers[sender] || (mended && told == EALREADY) ? EALREADY : 0);
+    const int answer = TRACED(rme_log_append(log, number, value));
+    expect("append", answer, number <= before.numbers[sender] || (mended && answer == EALREADY) ? EALREADY : 0);
     if (view_now().numbers[sender] < number)
         fail("an append that was answered is not there", (int64_t)number);
     if (log_shared->duty.stored[sender] < number)
@@ -85,7 +85,7 @@ static void send(uint64_t sender, bool asks)
     if (asks) {
         expect("next", TRACED(rme_log_next(&log, &number)), 0);
         if (number != view_now().numbers[sender] + 1 || number <= log_shared->duty.stored[sender])
-            fail("another number is told", (int64_t)number);
+            fail("the log answers another number", (int64_t)number);
     }
     for (; number <= messages; number++)
         append(&log, sender, number);
@@ -146,7 +146,7 @@ static void come_by(void)
     expect("open of one who comes by", rme_log_open(&log, log_folder_name, 1, 1000), 0);
     expect("next of one who comes by", rme_log_next(&log, &number), 0);
     if (number != view_now().numbers[1] + 1)
-        fail("another number is told to one who comes by", (int64_t)number);
+        fail("the log answers another number to one who comes by", (int64_t)number);
     for (uint64_t i = 0; i <= cap; i++) {
         const uint64_t value[8] = {value_of(1, number + i, 0)};
         expect("append of one who comes by", rme_log_append(&log, number + i, value), 0);

@@ -35,6 +35,4 @@ void log_examine_end(enum log_role role);
 enum log_visitor { SENDS, READS, DROPS, PASSES, LOG_VISITORS };
 void log_visit(enum log_visitor visitor);
 
-void expect(const char *what, int got, int wanted);
-
 #endif

@@ -16,8 +16,8 @@ static int check_segment(const struct rme_seat *seat, const struct rme_seat *hea
     return fits ? 0 : EPROTO;
 }
 
-/* Opens segment `number` at this index, or with LOG_ANY for reading. Whether it is dropped is asked last: the number of the first one
- * rises before a name goes. Whether it was made is asked first: whoever appends to a segment has said before that it is made.
+/* Opens segment `number` at this index, or with LOG_ANY for reading. Whether it is dropped is checked last: the number of the first segment
+ * rises before a name is removed. Whether it was made is read first: `last` rises before anything is appended to a segment.
  * Errors: ENODATA it is dropped, ENOLINK it is missing, ENOENT it is not made. */
 int log_open_segment(struct rme_seat *seat, const struct rme_seat *head, const char *folder, uint64_t number, uint64_t index)
 {
@@ -39,8 +39,8 @@ int log_open_segment(struct rme_seat *seat, const struct rme_seat *head, const c
     return error;
 }
 
-/* Makes the segment that follows a closed one, or the first (`closed` is null). One that is made while another one makes it, it dies, or
- * drops it, is the same. A maker that was stopped for so long that its segment was dropped meanwhile takes it away again.
+/* Makes the segment that follows a closed one, or the first (`closed` is null). Whoever makes it, and however often, makes the same. A
+ * maker that was stopped for so long that its segment was dropped meanwhile removes it again.
  * Errors: ENODATA it is dropped, EOVERFLOW there are no more. */
 int log_make_segment(const struct rme_seat *head, const char *folder, uint64_t number, const struct rme_seat *closed)
 {
@@ -73,7 +73,7 @@ bool log_follows(const struct rme_seat *closed, const struct rme_seat *next)
     return same;
 }
 
-/* The greatest segment that is known to be made, or the first that there may be. */
+/* The last segment that is known to be made; if none is, the first that is not dropped. */
 uint64_t log_last_made(const struct rme_seat *head)
 {
     const uint64_t last = load(&head_of(head)->last), first = load(&head_of(head)->first);
@@ -92,7 +92,7 @@ static void wake_on(uint64_t *word)
     syscall(SYS_futex, (uint32_t *)word + (__BYTE_ORDER__ == __ORDER_BIG_ENDIAN__), FUTEX_WAKE, INT_MAX, NULL, NULL, 0);
 }
 
-/* After an append and a closing. Who sleeps is counted before it looks at the word for the last time. */
+/* After an append and a close. A sleeper is counted before it reads the word for the last time. */
 void log_wake(const struct rme_seat *segment)
 {
     if (!load(&segment_of(segment)->waiters))

@@ -1,4 +1,4 @@
-/* Dropping segments; and how a log stands. */
+/* Dropping segments; and the state of a log. */
 #include "log.h"
 
 #include <dirent.h>
@@ -12,7 +12,7 @@ static const char reader_prefix[] = "reader-";
 
 /* ---- named readers ---- */
 
-/* With a dot it is one that is made, or was when its maker died, in a file system that has no files without a name. */
+/* A name with a dot is a temporary one, in a file system that has no files without a name; its maker may have died. */
 static int is_readers(const struct dirent *entry)
 {
     return strncmp(entry->d_name, reader_prefix, sizeof reader_prefix - 1) == 0 && !strchr(entry->d_name, '.');
@@ -24,7 +24,7 @@ static int open_reader(struct rme_seat *seat, const struct rme_seat *head, const
     char path[RME_LOG_PATH];
     int error = log_reader_path(path, folder, name);
     if (error)
-        return error == EINVAL ? EBADMSG : error; /* no reader's name, under a name of the log's */
+        return error == EINVAL ? EBADMSG : error; /* the name of a file of the log, but not of a reader */
     error = log_open(seat, path, index, 0);
     if (error)
         return error;
@@ -34,7 +34,7 @@ static int open_reader(struct rme_seat *seat, const struct rme_seat *head, const
     return error;
 }
 
-/* How many messages stand before this segment. */
+/* The number of messages before this segment. */
 static int before_segment(const struct rme_seat *head, const char *folder, uint64_t number, uint64_t *before)
 {
     struct rme_seat seat;
@@ -61,7 +61,7 @@ static int reader_state(const struct rme_seat *head, const char *folder, const c
     return error;
 }
 
-/* Adds what a reader has not passed, of this many messages. */
+/* Adds how many of these messages the reader has not passed. */
 static int count_unread(const struct rme_seat *head, const char *folder, uint64_t messages, struct rme_log_reader_state *state)
 {
     uint64_t before = 0;
@@ -71,19 +71,19 @@ static int count_unread(const struct rme_seat *head, const char *folder, uint64_
     return error == ENODATA || error == ENOENT ? 0 : error;
 }
 
-/* Visits each name of a reader in the folder, until a visit answers another number than 0. */
+/* Visits each name of a reader in the folder, until a visit answers a number other than 0. */
 static int each_reader(const char *folder, int (*visit)(const char *name, void *context), void *context)
 {
     struct dirent **entry = NULL;
     const int count = scandir(folder, &entry, is_readers, alphasort);
-    int told = count < 0 ? errno : 0;
+    int answer = count < 0 ? errno : 0;
     for (int i = 0; i < count; i++) {
-        if (!told)
-            told = visit(entry[i]->d_name + sizeof reader_prefix - 1, context);
+        if (!answer)
+            answer = visit(entry[i]->d_name + sizeof reader_prefix - 1, context);
         free(entry[i]);
     }
     free(entry);
-    return told;
+    return answer;
 }
 
 /* ---- dropping ---- */
@@ -104,8 +104,7 @@ static int keep_for(const char *name, void *context)
     return error;
 }
 
-/* The number of a segment's name; or of one that it had, or was to have, while it was made in a file system that has none without a
- * name. */
+/* The number in a segment's name; or in the temporary name of one, in a file system that has no files without a name. */
 static uint64_t number_of(const char *name, bool *unfinished)
 {
     const size_t digits = strspn(name, "0123456789");
@@ -113,7 +112,7 @@ static uint64_t number_of(const char *name, bool *unfinished)
     return digits == 8 && (name[digits] == 0 || *unfinished) ? strtoull(name, NULL, 10) : 0;
 }
 
-/* Takes away a segment that is dropped, or what one who died making it has left; nothing else under such a name. */
+/* Removes a dropped segment, or what a maker that died has left of it; nothing else with such a name. */
 static int drop_name(const struct dropping *d, const char *name)
 {
     char path[RME_LOG_PATH];
@@ -133,7 +132,7 @@ static int drop_name(const struct dropping *d, const char *name)
     return error ? error : unlink(path) && errno != ENOENT ? errno : 0;
 }
 
-/* All segments before the first one; those too that one who died has left. */
+/* Removes all segments before the first, also those that a dropper that died has left. */
 static int drop_names(const struct dropping *d)
 {
     struct dirent **entry = NULL;
@@ -148,7 +147,7 @@ static int drop_names(const struct dropping *d)
     return first;
 }
 
-/* With the folder for itself. All segments before the last are closed, and have a successor. */
+/* Called with the folder locked. All segments before the last are closed, and have a successor. */
 static int drop_held(const struct rme_seat *head, const char *folder, uint64_t before)
 {
     struct log_head *h = head_of(head);
@@ -169,9 +168,7 @@ int rme_log_drop(const char *folder, uint64_t before, uint64_t *first)
     char whole[RME_LOG_PATH];
     if (!folder)
         return EINVAL;
-    int error = log_folder(whole, folder);
-    if (!error)
-        error = log_open_head(&head, whole);
+    int error = log_open_head(&head, whole, folder);
     if (error)
         return error;
     const int held = (fcntl(head.file, F_GETFL) & O_ACCMODE) == O_RDWR ? log_hold(whole, LOCK_EX) : (errno = EACCES, -1);
@@ -184,7 +181,7 @@ int rme_log_drop(const char *folder, uint64_t before, uint64_t *first)
     return error;
 }
 
-/* Its process dies, or it is taken away first. */
+/* Called with the folder locked. It takes the reader's index first, so the reader is not in use. */
 static int forget_held(const struct rme_seat *head, const char *folder, const char *name)
 {
     char path[RME_LOG_PATH];
@@ -206,9 +203,7 @@ int rme_log_forget(const char *folder, const char *name)
     char whole[RME_LOG_PATH];
     if (!folder || !name)
         return EINVAL;
-    int error = log_folder(whole, folder);
-    if (!error)
-        error = log_open_head(&head, whole);
+    int error = log_open_head(&head, whole, folder);
     if (error)
         return error;
     const int held = log_hold(whole, LOCK_EX);
@@ -219,9 +214,9 @@ int rme_log_forget(const char *folder, const char *name)
     return error;
 }
 
-/* ---- how it stands ---- */
+/* ---- the state of a log ---- */
 
-/* The last segment that is made, from one that is known to be on. */
+/* Opens the last segment that is made, beginning at one that is known to be made. */
 static int open_last(struct rme_seat *seat, const struct rme_seat *head, const char *folder, uint64_t *number)
 {
     struct rme_seat next;
@@ -261,9 +256,7 @@ int rme_log_status(const char *folder, struct rme_log_state *state)
     char whole[RME_LOG_PATH];
     if (!folder || !state)
         return EINVAL;
-    int error = log_folder(whole, folder);
-    if (!error)
-        error = log_open_head(&head, whole);
+    int error = log_open_head(&head, whole, folder);
     if (error)
         return error;
     error = state_of(&head, whole, state);
@@ -299,9 +292,7 @@ int rme_log_readers(const char *folder, int (*visit)(const struct rme_log_reader
     char whole[RME_LOG_PATH];
     if (!folder || !visit)
         return EINVAL;
-    int error = log_folder(whole, folder);
-    if (!error)
-        error = log_open_head(&head, whole);
+    int error = log_open_head(&head, whole, folder);
     if (error)
         return error;
     error = state_of(&head, whole, &state);

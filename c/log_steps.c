@@ -27,17 +27,17 @@ void in_library(void)
 {
     if (!is_traced())
         return;
-    log_steps->quiet = 0;
+    log_steps->silent = 0;
     __asm__ volatile("int3" ::: "memory");
 }
 
 void in_test(void)
 {
     if (log_steps)
-        log_steps->quiet = 1;
+        log_steps->silent = 1;
 }
 
-static uint64_t in_library_again(uint64_t told) { return in_library(), told; }
+static uint64_t in_library_again(uint64_t answer) { return in_library(), answer; }
 
 uint64_t __wrap_rme_start_run(struct rme_process *p, const struct rme_call *call, struct rme_access *access)
 {
@@ -73,16 +73,16 @@ uint64_t __wrap_rme_feed_append(struct rme_process *p, uint64_t closed, uint64_t
 /* The stores that are none of the machine's, and follow one another without a call of the system between them. */
 int __wrap_rme_attach_within(struct rme_seat *seat, const char *path, uint64_t index, uint64_t milliseconds)
 {
-    const int told = __real_rme_attach_within(seat, path, index, milliseconds);
+    const int answer = __real_rme_attach_within(seat, path, index, milliseconds);
     in_library();
-    return told;
+    return answer;
 }
 
 int __wrap_rme_detach(struct rme_seat *seat)
 {
-    const int told = __real_rme_detach(seat);
+    const int answer = __real_rme_detach(seat);
     in_library();
-    return told;
+    return answer;
 }
 
 void __wrap_log_raise(uint64_t *word, uint64_t to)

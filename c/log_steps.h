@@ -11,7 +11,7 @@
 /* In memory that tracer and process share. */
 struct log_steps {
     uint64_t traced, singly; /* whether there is a tracer; whether it stops at accesses alone */
-    uint64_t quiet;          /* the test's own code, or the machine's */
+    uint64_t silent;          /* the test's own code, or the machine's */
 };
 extern struct log_steps *log_steps;
 

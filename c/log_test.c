@@ -6,6 +6,11 @@
 #include <sched.h>
 #include <sys/mount.h>
 
+/* As calls_test.c says of the library's other structs. */
+_Static_assert(sizeof(struct rme_log) == 5000 && sizeof(struct rme_log_reader) == 5320 && sizeof(struct rme_log_state) == 568 &&
+                   sizeof(struct rme_log_reader_state) == 96,
+               "the structs of version 2");
+
 static void change(const char *path, uint64_t word, uint64_t to)
 {
     const int file = open(path, O_WRONLY | O_CLOEXEC);

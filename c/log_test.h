@@ -2,6 +2,7 @@
 #ifndef LOG_TEST_H
 #define LOG_TEST_H
 
+#include "clock.h"
 #include "rme_log.h"
 
 #include <errno.h>

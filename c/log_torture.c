@@ -9,25 +9,19 @@
  * log-judge. */
 #define _GNU_SOURCE
 #include "rme_log.h"
+#include "torment.h"
 
 #include <errno.h>
-#include <inttypes.h>
 #include <poll.h>
-#include <signal.h>
 #include <stdatomic.h>
-#include <stdio.h>
-#include <stdlib.h>
 #include <string.h>
 #include <sys/mman.h>
-#include <sys/wait.h>
-#include <time.h>
-#include <unistd.h>
 
 enum { MOST = 64, READERS = 2, BATCH = 64 };
 
 /* What a reader has seen: the last number of each sender. It outlives a kill, as the reader's own effects would. */
 struct seen {
-    _Atomic uint64_t last[MOST], all, again;
+    _Atomic uint64_t last[MOST], again;
 };
 struct tally {
     struct seen seen[READERS];
@@ -36,6 +30,7 @@ struct tally {
 
 static const char *folder;
 static uint64_t senders, messages;
+static double messages_per_kill;
 static struct tally *tally;
 
 /* In a process that is started again: a status of its own. */
@@ -45,12 +40,6 @@ static void expect(const char *what, int got, int wanted, int status)
         return;
     fprintf(stderr, "log_torture: %s: %s, wanted %s\n", what, rme_log_strerror(got), rme_log_strerror(wanted));
     _exit(status);
-}
-
-static void nap(double seconds)
-{
-    struct timespec time = {(time_t)seconds, (long)((seconds - (double)(time_t)seconds) * 1e9)};
-    nanosleep(&time, NULL);
 }
 
 static uint64_t value_of(uint64_t sender, uint64_t number, uint64_t j) { return sender * 1000003 + number * 7 + j + 1; }
@@ -72,19 +61,26 @@ static void send(uint64_t sender)
     expect("close", rme_log_close(&log), 0, 5);
 }
 
-static void check(struct seen *seen, const struct rme_message *m, bool behind)
+static void check(struct seen *seen, const struct rme_message *m, bool may_repeat)
 {
     const bool right = m->sender < senders && m->value[0] == value_of(m->sender, m->number, 0) &&
                        m->value[1] == value_of(m->sender, m->number, 1);
     const uint64_t last = right ? seen->last[m->sender] : 0;
-    if (!right || m->number > last + 1 || (m->number <= last && !behind)) {
+    if (!right || m->number > last + 1 || (m->number <= last && !may_repeat)) {
         fprintf(stderr, "log_torture: message %" PRIu64 " of %" PRIu64 " after %" PRIu64 "\n", m->number, m->sender, last);
         _exit(6);
     }
     seen->again += m->number <= last;
-    seen->all += m->number > last;
     if (m->number > last)
         seen->last[m->sender] = m->number;
+}
+
+static uint64_t messages_seen(uint64_t r)
+{
+    uint64_t all = 0;
+    for (uint64_t p = 0; p < senders; p++)
+        all += tally->seen[r].last[p];
+    return all;
 }
 
 /* The first reader sleeps by rme_log_wait, the second by poll. */
@@ -100,38 +96,51 @@ static void wait_for(struct rme_log_reader *reader, int event)
     }
 }
 
+static const char *const names[READERS] = {"one", "two"};
+
+/* The log knows the readers before anybody drops: one that comes later begins at what is left. */
+static void make_readers(void)
+{
+    static struct rme_log_reader reader;
+    for (int r = 0; r < READERS; r++) {
+        expect("first open of a reader", rme_log_reader_open(&reader, folder, names[r]), 0, 1);
+        expect("first close of a reader", rme_log_reader_close(&reader), 0, 1);
+    }
+}
+
 static void read_all(uint64_t r)
 {
     static struct rme_log_reader reader;
     static struct rme_message m[BATCH];
-    const char *names[READERS] = {"one", "two"};
-    struct seen *seen = &tally->seen[r];
     uint64_t count = 0;
     int event = -1;
     expect("open of a reader", rme_log_reader_open(&reader, folder, names[r]), 0, 8);
     if (r > 0)
         expect("event", rme_log_event(&reader, &event), 0, 9);
-    for (bool behind = true; seen->all < senders * messages;) {
+    for (bool may_repeat = true;; may_repeat = false) { /* the batch that was not kept may come again */
         expect("read", rme_log_read(&reader, m, BATCH, &count), 0, 10);
         for (uint64_t i = 0; i < count; i++)
-            check(seen, &m[i], behind);
+            check(&tally->seen[r], &m[i], may_repeat);
         if (count > 0)
             expect("keep", rme_log_keep(&reader), 0, 11);
-        else
+        else if (messages_seen(r) < senders * messages)
             wait_for(&reader, event);
-        behind = behind && seen->all < senders * messages && count > 0; /* a batch that was not kept, at most */
+        else
+            break;
     }
     expect("close of a reader", rme_log_reader_close(&reader), 0, 12);
 }
 
+/* Until only the last segment is left, and both readers have passed all before it. */
 static void drop(void)
 {
-    while (tally->seen[0].all < senders * messages || tally->seen[1].all < senders * messages) {
-        expect("drop", rme_log_drop(folder, UINT64_MAX, NULL), 0, 13);
-        tally->drops++;
+    struct rme_log_state state = {0};
+    do {
         nap(0.002);
-    }
-    expect("drop", rme_log_drop(folder, UINT64_MAX, NULL), 0, 13);
+        expect("drop", rme_log_drop(folder, UINT64_MAX, NULL), 0, 13);
+        expect("status", rme_log_status(folder, &state), 0, 14);
+        tally->drops++;
+    } while (state.messages < senders * messages || state.first < state.last);
 }
 
 static pid_t begin(uint64_t p)
@@ -149,44 +158,12 @@ static pid_t begin(uint64_t p)
     _exit(0);
 }
 
-/* Until this many messages more are sent, or, where none are, for a twentieth of a second. */
-static void await(uint64_t more)
+/* Until some messages more are sent, or, where none are, for a twentieth of a second. */
+static void pause_between_kills(void)
 {
-    const uint64_t before = tally->sent;
+    const uint64_t more = (uint64_t)(drand48() * 2 * messages_per_kill), before = tally->sent;
     for (int times = 0; tally->sent - before < more && times < 200; times++)
         nap(0.00025);
-}
-
-/* Answers how many were killed. */
-static uint64_t torment(uint64_t all, double messages_per_kill)
-{
-    pid_t child[MOST + READERS + 1] = {0};
-    uint64_t kills = 0, live = all;
-    for (uint64_t p = 0; p < all; p++)
-        child[p] = begin(p);
-    while (live > 0) {
-        await((uint64_t)(drand48() * 2 * messages_per_kill));
-        const uint64_t p = (uint64_t)(drand48() * (double)all);
-        if (child[p] > 0)
-            kill(child[p], SIGKILL);
-        int status;
-        for (pid_t dead; (dead = waitpid(-1, &status, WNOHANG)) > 0;) {
-            uint64_t q = 0;
-            while (child[q] != dead)
-                q++;
-            if (WIFSIGNALED(status) && WTERMSIG(status) == SIGKILL) {
-                kills++;
-                child[q] = begin(q);
-            } else if (WIFEXITED(status) && WEXITSTATUS(status) == 0) {
-                child[q] = 0;
-                live--;
-            } else {
-                fprintf(stderr, "log_torture: process %" PRIu64 ": status %d\n", q, status);
-                exit(1);
-            }
-        }
-    }
-    return kills;
 }
 
 int main(int count, char **word)
@@ -196,23 +173,27 @@ int main(int count, char **word)
     folder = word[1];
     senders = strtoull(word[2], NULL, 10);
     messages = strtoull(word[3], NULL, 10);
+    messages_per_kill = atof(word[5]);
     srand48(atol(word[6]));
     const bool drops = count > 7 && strcmp(word[7], "drop") == 0;
     tally = mmap(NULL, sizeof *tally, PROT_READ | PROT_WRITE, MAP_SHARED | MAP_ANONYMOUS, -1, 0);
     if (senders < 1 || senders > MOST || messages < 1 || tally == MAP_FAILED)
         return 2;
     expect("create", rme_log_create(folder, senders, strtoull(word[4], NULL, 10), 2), 0, 1);
+    make_readers();
     struct timespec begun, ended;
     clock_gettime(CLOCK_MONOTONIC, &begun);
-    const uint64_t kills = torment(senders + READERS + drops, atof(word[5]));
+    struct torment t = {.program = "log_torture", .begin = begin, .all = senders + READERS + drops};
+    torment_begins(&t);
+    torment_ends(&t, pause_between_kills);
     clock_gettime(CLOCK_MONOTONIC, &ended);
     struct rme_log_state state;
     expect("status", rme_log_status(folder, &state), 0, 1);
     printf("log_torture senders %" PRIu64 " messages %" PRIu64 " segments %" PRIu64 "..%" PRIu64 " kills %" PRIu64 " already %" PRIu64
            " read again %" PRIu64 " drops %" PRIu64 " events %" PRIu64 " seconds %.1f\n",
-           senders, state.messages, state.first, state.last, kills, (uint64_t)tally->already,
+           senders, state.messages, state.first, state.last, t.kills, (uint64_t)tally->already,
            (uint64_t)(tally->seen[0].again + tally->seen[1].again), (uint64_t)tally->drops, (uint64_t)tally->polls,
            (double)(ended.tv_sec - begun.tv_sec) + (double)(ended.tv_nsec - begun.tv_nsec) / 1e9);
-    const bool whole = state.messages == senders * messages && tally->seen[0].all == state.messages && tally->seen[1].all == state.messages;
+    const bool whole = state.messages == senders * messages && messages_seen(0) == state.messages && messages_seen(1) == state.messages;
     return !whole || (drops && state.first != state.last);
 }

@@ -43,7 +43,7 @@ void in_library(void)
 {
     if (!monitor || !monitor->traced)
         return;
-    monitor->quiet = 0;
+    monitor->silent = 0;
     __asm__ volatile("int3" ::: "memory");
 }
 
@@ -71,10 +71,10 @@ static void name_scan(struct named *slot, const struct rme_process *p, uint64_t 
 }
 
 /* The accesses of a run, as rme_machine.h says. */
-static void name_run(struct named *slot, const struct rme_process *p, uint64_t told, uint64_t number)
+static void name_run(struct named *slot, const struct rme_process *p, uint64_t answer, uint64_t number)
 {
     const uint64_t own = 3 * p->index;
-    switch (told) {
+    switch (answer) {
     case RME_LOCKS:
         for (uint64_t k = 0; k < 3; k++)
             name(slot, 0, own + k, 0);
@@ -83,14 +83,14 @@ static void name_run(struct named *slot, const struct rme_process *p, uint64_t t
     case RME_OPENS:
         name(slot, 1, own, 1);
         name_scan(slot, p, 0, 0);
-        if (told == RME_OPENS)
+        if (answer == RME_OPENS)
             break;
         /* fallthrough */
     case RME_TAKES:
         name(slot, 1, own + 1, number);
         name(slot, 1, own, 0);
         name_scan(slot, p, 0, 1);
-        if (told == RME_TAKES)
+        if (answer == RME_TAKES)
             break;
         /* fallthrough */
     case RME_MARKS:
@@ -102,10 +102,10 @@ static void name_run(struct named *slot, const struct rme_process *p, uint64_t t
         name(slot, 1, own + 2, 0);
         break;
     default:
-        if (told < RME_LOOKS)
-            name_scan(slot, p, told - RME_PEEKS, 0);
+        if (answer < RME_LOOKS)
+            name_scan(slot, p, answer - RME_PEEKS, 0);
         else
-            name_scan(slot, p, told - RME_LOOKS, 1);
+            name_scan(slot, p, answer - RME_LOOKS, 1);
     }
 }
 
@@ -122,16 +122,16 @@ static struct named *named_anew(const struct rme_process *process)
 
 /* What the machine has answered: 0 or RME_BLOCKED, the access is shown; RME_LOAD or more, a load of that place; RME_RUN or more, a
  * run; else none. */
-static void note(const struct rme_process *process, uint64_t told, const struct rme_access *access)
+static void note(const struct rme_process *process, uint64_t answer, const struct rme_access *access)
 {
     if (!monitor || !monitor->file)
         return;
     struct named *slot = named_anew(process);
-    if (told >= RME_RUN)
-        name_run(slot, process, told, access->value);
-    else if (told >= RME_LOAD)
-        name(slot, 0, told - RME_LOAD, 0);
-    else if (told == 0 || told == RME_BLOCKED)
+    if (answer >= RME_RUN)
+        name_run(slot, process, answer, access->value);
+    else if (answer >= RME_LOAD)
+        name(slot, 0, answer - RME_LOAD, 0);
+    else if (answer == 0 || answer == RME_BLOCKED)
         name(slot, access->store, access->place, access->value);
 }
 
@@ -173,7 +173,7 @@ void in_test(void)
 {
     if (!monitor)
         return;
-    monitor->quiet = 1;
+    monitor->silent = 1;
     const struct rme_process *owed = monitor->owed;
     monitor->owed = NULL;
     if (owed && slot_of(owed)->count > 0)
@@ -186,13 +186,13 @@ static bool by_accesses(void) { return monitor && monitor->traced && !monitor->s
 uint64_t __wrap_rme_leave(struct rme_process *p, struct rme_access *access)
 {
     in_test();
-    const uint64_t told = by_accesses() ? 0 : __real_rme_leave(p, access);
-    if (told && monitor && monitor->file) {
+    const uint64_t answer = by_accesses() ? 0 : __real_rme_leave(p, access);
+    if (answer && monitor && monitor->file) {
         note(p, RME_LEAVES, access);
         monitor->owed = p;
     }
     in_library();
-    return told;
+    return answer;
 }
 
 /* The words that an append has loaded are those of these data words. */
@@ -214,7 +214,7 @@ uint64_t __wrap_rme_feed_append(struct rme_process *p, uint64_t closed, uint64_t
     const uint64_t done = by_accesses() ? 0 : __real_rme_feed_append(p, closed, count, last, stores, access);
     if (done && monitor && monitor->file) {
         compare_loaded(p, (const uint64_t[]){closed, count, last});
-        note(p, stores->told, access);
+        note(p, stores->answer, access);
         struct named *slot = stores->count > 0 ? named_anew(p) : NULL;
         for (uint64_t k = 0; k < stores->count; k++)
             name(slot, stores->each[k].store, stores->each[k].place, stores->each[k].value);
@@ -227,21 +227,21 @@ uint64_t __wrap_rme_feed_append(struct rme_process *p, uint64_t closed, uint64_t
 uint64_t __wrap_rme_start_run(struct rme_process *p, const struct rme_call *call, struct rme_access *access)
 {
     in_test();
-    const uint64_t told = __real_rme_start_run(p, call, access);
-    if (told == 0 || told >= RME_RUN)
-        note(p, told, access);
+    const uint64_t answer = __real_rme_start_run(p, call, access);
+    if (answer == 0 || answer >= RME_RUN)
+        note(p, answer, access);
     in_library();
-    return told;
+    return answer;
 }
 
 uint64_t __wrap_rme_feed_run(struct rme_process *p, uint64_t zeros, uint64_t value, struct rme_access *access)
 {
     in_test();
     compare(p, zeros, value);
-    const uint64_t told = __real_rme_feed_run(p, zeros, value, access);
-    note(p, told, access);
+    const uint64_t answer = __real_rme_feed_run(p, zeros, value, access);
+    note(p, answer, access);
     in_library();
-    return told;
+    return answer;
 }
 
 uint64_t __wrap_rme_start(struct rme_process *p, const struct rme_call *call, struct rme_access *access)
@@ -268,8 +268,8 @@ uint64_t __wrap_rme_feed(struct rme_process *p, uint64_t value, struct rme_acces
 {
     in_test();
     compare(p, 0, value);
-    const uint64_t told = __real_rme_feed(p, value, access);
-    note(p, told, access);
+    const uint64_t answer = __real_rme_feed(p, value, access);
+    note(p, answer, access);
     in_library();
-    return told;
+    return answer;
 }

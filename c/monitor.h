@@ -26,7 +26,7 @@ struct monitor {
     const struct rme_process *owed; /* whose named stores are fed, and still to be made */
     uint64_t last, compared;
     uint64_t stepped; /* whether a tracer goes on by single steps at all */
-    uint64_t traced, quiet; /* whether a tracer goes on by single steps, but where this is quiet */
+    uint64_t traced, silent; /* whether a tracer goes on by single steps, but where this is silent */
 };
 
 extern struct monitor *monitor;
@@ -39,7 +39,7 @@ _Noreturn void monitor_refuses(const char *what, const struct rme_access *named,
 void monitor_begins(void);
 
 /* Around each call of the library: a tracer goes on by single instructions from in_library on, and lets run what in_test says is
- * the test's own. The machine's calls are quiet too: none is handed anything that leads to the file. */
+ * the test's own. The machine's calls are silent too: none is handed anything that leads to the file. */
 void in_library(void);
 void in_test(void);
 static inline int in_test_again(int answer) { return in_test(), answer; }

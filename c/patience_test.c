@@ -4,12 +4,13 @@
 #define _GNU_SOURCE
 #include "test.h"
 
+#include <linux/futex.h>
 #include <stdarg.h>
 #include <sys/resource.h>
 #include <sys/syscall.h>
 
 static struct rme_seat holder, waiter;
-static unsigned looks;
+static unsigned looks, sleeps;
 
 /* In place of the C library's: counts how often a lease is asked for. */
 int fcntl(int file, int command, ...)
@@ -22,6 +23,21 @@ int fcntl(int file, int command, ...)
     return (int)syscall(SYS_fcntl, file, command, argument);
 }
 
+/* In place of the C library's (linked with -Wl,--wrap=syscall): counts how often the shim goes to sleep. */
+long __real_syscall(long number, ...);
+long __wrap_syscall(long number, ...);
+long __wrap_syscall(long number, ...)
+{
+    long word[6];
+    va_list rest;
+    va_start(rest, number);
+    for (int i = 0; i < 6; i++)
+        word[i] = va_arg(rest, long);
+    va_end(rest);
+    sleeps += number == SYS_futex && (int)word[1] == FUTEX_WAIT;
+    return __real_syscall(number, word[0], word[1], word[2], word[3], word[4], word[5]);
+}
+
 static struct timespec after(double seconds)
 {
     struct timespec time;
@@ -29,12 +45,6 @@ static struct timespec after(double seconds)
     const long nanoseconds = time.tv_nsec + (long)(seconds * 1e9);
     const long whole = nanoseconds / 1000000000 - (nanoseconds % 1000000000 < 0);
     return (struct timespec){time.tv_sec + whole, nanoseconds - whole * 1000000000};
-}
-
-static double passed_since(struct timespec from)
-{
-    const struct timespec now = after(0);
-    return (double)(now.tv_sec - from.tv_sec) + (double)(now.tv_nsec - from.tv_nsec) * 1e-9;
 }
 
 static void begin(bool inside)
@@ -100,14 +110,15 @@ static void trylock_after_a_death(void)
 static void lock_until_a_time(void)
 {
     begin(true);
-    const struct timespec past = {0, 0}, from = after(0), soon = after(0.6);
+    const double from = now();
+    const struct timespec past = {0, 0}, soon = after(0.6);
     EXPECT(rme_lock_until(&waiter, &past), ETIMEDOUT);
     EXPECT(rme_lock_until(&waiter, NULL), EINVAL);
     EXPECT(rme_lock_until(&waiter, &(struct timespec){0, -1}), EINVAL);
     EXPECT(rme_lock_until(&waiter, &(struct timespec){0, 1000000000}), EINVAL);
     EXPECT(rme_lock_until(&waiter, &soon), ETIMEDOUT);
-    EXPECT(passed_since(from) >= 0.6, true);
-    EXPECT(passed_since(from) < 10, true);
+    EXPECT(now() - from >= 0.6, true);
+    EXPECT(now() - from < 10, true);
     EXPECT(index_of(1).found, RME_FOUND_WAITING);
     EXPECT(rme_unlock(&holder), 0);
     EXPECT(rme_lock_until(&waiter, &past), 0);
@@ -123,6 +134,16 @@ static double processor_time(void)
     return (double)(usage.ru_utime.tv_sec + usage.ru_stime.tv_sec) + (double)(usage.ru_utime.tv_usec + usage.ru_stime.tv_usec) * 1e-6;
 }
 
+/* Waits until process 2 sleeps on a word of this process; for four seconds at most, since on a machine that has much else to do it may
+ * still yield. */
+static void await_sleeper(uint64_t index)
+{
+    const uint64_t *sleepers = holder.lines + 8 * index + 3;
+    const double end = now() + 4;
+    while (!(__atomic_load_n(sleepers, __ATOMIC_SEQ_CST) & UINT64_C(1) << 2) && now() < end)
+        nap(0.001);
+}
+
 /* It sleeps meanwhile, on one number after the other, and is woken. */
 static void lock_until_sleeps(void)
 {
@@ -131,16 +152,20 @@ static void lock_until_sleeps(void)
     pid_t child = fork();
     if (child == 0) {
         struct rme_seat own;
-        const struct timespec from = after(0), late = after(30);
+        const double from = now();
+        const struct timespec late = after(30);
         EXPECT(rme_attach(&own, path, 2), 0);
         EXPECT(rme_lock_until(&own, &late), 0);
-        EXPECT(passed_since(from) < 20, true);
+        EXPECT(now() - from < 20, true);
+        EXPECT(sleeps < 50 + 40 * (now() - from), true); /* a sleep that nobody ends takes 50 milliseconds */
         EXPECT(processor_time() < 0.3, true);
         EXPECT(rme_unlock(&own), 0);
         _exit(rme_detach(&own));
     }
+    await_sleeper(0);
     nap(0.5);
     EXPECT(rme_unlock(&holder), 0);
+    await_sleeper(1);
     nap(0.7);
     EXPECT(rme_withdraw(&waiter), 0);
     int status = 0;
@@ -151,16 +176,17 @@ static void lock_until_sleeps(void)
 static void lock_reaping_until_a_time(void)
 {
     begin(true);
-    const struct timespec past = {0, 0}, soon = after(0.1), from = after(0), late = after(30);
+    const double from = now();
+    const struct timespec past = {0, 0}, soon = after(0.1), late = after(30);
     EXPECT(rme_lock_reaping_until(&waiter, 0, &past, NULL, NULL), ETIMEDOUT);
     EXPECT(rme_lock_reaping_until(&waiter, 0, &(struct timespec){0, -1}, NULL, NULL), EINVAL);
     EXPECT(rme_lock_reaping_until(&waiter, 0, &soon, NULL, NULL), ETIMEDOUT);
-    EXPECT(passed_since(from) >= 0.1, true);
+    EXPECT(now() - from >= 0.1, true);
     EXPECT(rme_lock_reaping_until(&waiter, 1000000, &soon, NULL, NULL), ETIMEDOUT);
     EXPECT(index_of(1).found, RME_FOUND_WAITING);
     EXPECT(rme_detach(&holder), EBUSY); /* it has died inside */
     EXPECT(rme_lock_reaping_until(&waiter, 3, &late, NULL, NULL), 0);
-    EXPECT(passed_since(from) < 20, true);
+    EXPECT(now() - from < 20, true);
 }
 
 /* After one who lives it sleeps between two looks, even where it is to look at once. */
@@ -212,11 +238,11 @@ static void interrupt_by_a_signal(void)
     for (int k = 0; k < 24; k++) {
         const struct sigaction action = {.sa_handler = interrupt_in_the_handler, .sa_flags = k % 2 ? SA_RESTART : 0};
         const useconds_t microseconds = k < 8 ? 20 : k < 16 ? 2000 : 60000;
-        const struct timespec from = after(0);
+        const double from = now();
         EXPECT(sigaction(SIGALRM, &action, NULL), 0);
         ualarm(microseconds, 0);
         EXPECT(k % 3 ? rme_lock(&waiter) : rme_lock_reaping(&waiter, 3, NULL, NULL), EINTR);
-        EXPECT(passed_since(from) < 5, true);
+        EXPECT(now() - from < 5, true);
         EXPECT(index_of(1).found, RME_FOUND_WAITING);
     }
     EXPECT(rme_unlock(&holder), 0);
@@ -231,15 +257,15 @@ static void *lock_and_say(void *argument)
 
 static void interrupt_by_a_thread(void)
 {
-    volatile int told = -1;
+    volatile int answer = -1;
     pthread_t thread;
     begin(true);
-    EXPECT(pthread_create(&thread, NULL, lock_and_say, (void *)&told), 0);
+    EXPECT(pthread_create(&thread, NULL, lock_and_say, (void *)&answer), 0);
     nap(0.2);
-    EXPECT(told, -1);
+    EXPECT(answer, -1);
     EXPECT(rme_interrupt(&waiter), 0);
     EXPECT(pthread_join(thread, NULL), 0);
-    EXPECT(told, EINTR);
+    EXPECT(answer, EINTR);
     EXPECT(rme_withdraw(&waiter), 0);
 }
 
@@ -250,9 +276,10 @@ static void signal_alone(void)
     begin(true);
     signal(SIGALRM, ignore);
     ualarm(20000, 20000);
-    const struct timespec soon = after(0.3), from = after(0);
+    const double from = now();
+    const struct timespec soon = after(0.3);
     EXPECT(rme_lock_until(&waiter, &soon), ETIMEDOUT);
-    EXPECT(passed_since(from) >= 0.3, true);
+    EXPECT(now() - from >= 0.3, true);
     ualarm(0, 0);
 }
 

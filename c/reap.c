@@ -1,5 +1,5 @@
-/* Recovery on behalf of the dead: the place of a process that nobody starts again is given up by another one, which acts as it by
- * the calls of its seat. */
+/* Recovery on behalf of the dead: a living process releases the place of one that nobody starts again, by calls with a seat at the dead
+ * one's index. */
 #include "shim.h"
 
 #include <poll.h>
@@ -9,8 +9,8 @@
 
 /* ---- a reaper's lease ---- */
 
-/* It is one of an open file of its own, which is not mapped: a child of fork closes it, and so can't keep it when the reaper ends.
- * Each descriptor and one, while it is a lease; 0 is room. */
+/* A reaper's lease is held by a descriptor of its own, which a child of fork closes, so that no child keeps it after the reaper's end.
+ * Each entry is such a descriptor plus one, or 0 where it is free. */
 static _Atomic int leases[MOST_PROCS];
 static _Thread_local int ends[2]; /* of a pipe, by which a child says that it has closed all */
 
@@ -30,7 +30,7 @@ static void close_ends(void)
             close(ends[i]);
 }
 
-/* Whoever is killed after its fork has a child without its leases. */
+/* After a fork the parent waits until the child has closed them: then a parent that is killed leaves no lease. */
 static void wait_for_child(void)
 {
     struct pollfd said = {.fd = ends[0], .events = POLLIN};
@@ -53,7 +53,7 @@ static void close_in_child(void)
 
 static void close_at_fork(void) { pthread_atfork(before_fork, wait_for_child, close_in_child); }
 
-/* Whether it was there, and is another now. */
+/* Replaces an entry. Answers whether it was there. */
 static bool note_lease(int was, int now)
 {
     static pthread_once_t once = PTHREAD_ONCE_INIT;
@@ -66,7 +66,7 @@ static bool note_lease(int was, int now)
     return false;
 }
 
-/* The file, opened anew; or the seat's own descriptor, where it can't be. */
+/* Opens the file anew; where that is not possible, *file is the seat's own descriptor. */
 static int open_anew(const struct rme_seat *own, const char *path, int *file)
 {
     char name[32];
@@ -86,7 +86,7 @@ static int open_anew(const struct rme_seat *own, const char *path, int *file)
 
 /* ---- acting for the dead ---- */
 
-/* Leaves the place that was found. */
+/* Releases the place that was found. */
 static int give_up(struct rme_seat *dead, int found, rme_repair *repair, void *context)
 {
     size_t bytes;
@@ -107,7 +107,7 @@ static int give_up(struct rme_seat *dead, int found, rme_repair *repair, void *c
     return error == EOVERFLOW ? 0 : error; /* no number was left to take: it is out of the line */
 }
 
-/* With the lease of the dead. Whoever is killed in here leaves the mark RME_ATTACHED, and with it what was found. */
+/* Called with the dead one's lease. A reaper that is killed in here leaves the mark RME_ATTACHED, and beside it what was found. */
 static int act_for(struct rme_seat *dead, rme_repair *repair, void *context)
 {
     const uint64_t index = dead->machine.index;
@@ -128,7 +128,7 @@ static int act_for(struct rme_seat *dead, rme_repair *repair, void *context)
     return error;
 }
 
-/* With an open file, which has no lease of the index yet. */
+/* Takes the lease of the index by this open file, and reaps. */
 static int reap_by(int file, const struct rme_seat *own, uint64_t index, rme_repair *repair, void *context)
 {
     struct rme_seat dead = *own;
@@ -200,10 +200,10 @@ int rme_reap_all(const char *path, rme_repair *repair, void *context, uint64_t *
     return first;
 }
 
-/* Whether an error of the reaping says that the one who blocks lives, or that another acts for it. */
+/* Whether an error of the reaping means that the process that blocks lives, or that another reaper acts for it. */
 static bool is_alive(int error) { return error == EBUSY || error == ESRCH; }
 
-/* After a look that has found a living process, the least number of readings before the next, so that they come to sleep soon. */
+/* The least number of readings between two checks of a living process, so that the process soon comes to sleep. */
 enum { LEAST_TURNS = 50 };
 
 int rme_lock_reaping_until(struct rme_seat *s, uint64_t turns, const struct timespec *until, rme_repair *repair, void *context)
@@ -211,13 +211,13 @@ int rme_lock_reaping_until(struct rme_seat *s, uint64_t turns, const struct time
     WITHOUT_CANCELLATION;
     struct patience may_wait = {.turns = turns, .longest = 20, .until = until, .once = true};
     struct rme_access blocked;
-    uint64_t told;
+    uint64_t answer;
     if (until && !is_time(until))
         return EINVAL;
     int error = rme_begin_call(s);
     if (error)
         return error;
-    while ((told = rme_make_call(s, &(struct rme_call){.code = RME_LOCK}, may_wait, &blocked)) == RME_BLOCKED) {
+    while ((answer = rme_make_call(s, &(struct rme_call){.code = RME_LOCK}, may_wait, &blocked)) == RME_BLOCKED) {
         if (load(&s->interrupted))
             break;
         error = reap(s, NULL, blocked.place / 3, repair, context);
@@ -229,7 +229,7 @@ int rme_lock_reaping_until(struct rme_seat *s, uint64_t turns, const struct time
             break;
         may_wait.turns = is_alive(error) && turns < LEAST_TURNS ? LEAST_TURNS : turns;
     }
-    return rme_end_lock(s, told);
+    return rme_end_lock(s, answer);
 }
 
 int rme_lock_reaping(struct rme_seat *s, uint64_t turns, rme_repair *repair, void *context)

@@ -7,6 +7,7 @@
  * many as are drawn, at most all: those that are left send all their messages, each stands once and in its sender's order, no two
  * were inside, and what those who died inside left half done in the caller's data was repaired. */
 #define _GNU_SOURCE
+#include "clock.h"
 #include "rme.h"
 
 #include <errno.h>
@@ -46,19 +47,6 @@ static void expect_at(int line, const char *what, uint64_t got, uint64_t wanted)
     exit(1);
 }
 #define EXPECT(call, wanted) expect_at(__LINE__, #call, (uint64_t)(call), (uint64_t)(wanted))
-
-static void nap(double seconds)
-{
-    struct timespec time = {(time_t)seconds, (long)((seconds - (double)(time_t)seconds) * 1e9)};
-    nanosleep(&time, NULL);
-}
-
-static double now(void)
-{
-    struct timespec time;
-    clock_gettime(CLOCK_MONOTONIC, &time);
-    return (double)time.tv_sec + (double)time.tv_nsec * 1e-9;
-}
 
 static void make(uint64_t procs, uint64_t cap)
 {
@@ -110,27 +98,27 @@ static void expect_ended(pid_t child)
     EXPECT(status, 0);
 }
 
-/* ---- one that dies after so many accesses ---- */
+/* ---- one that dies after a number of accesses ---- */
 
 static bool walk(struct rme_seat *seat, enum rme_code code, uint64_t *accesses)
 {
     const struct rme_call call = {.code = code, .number = 1};
     struct rme_access next;
-    uint64_t told = rme_start(&seat->machine, &call, &next);
-    for (; told == 0 || told == RME_BLOCKED || told >= RME_LOAD; (*accesses)--) {
+    uint64_t answer = rme_start(&seat->machine, &call, &next);
+    for (; answer == 0 || answer == RME_BLOCKED || answer >= RME_LOAD; (*accesses)--) {
         if (*accesses == 0)
             kill(getpid(), SIGKILL);
-        if (told >= RME_LOAD)
-            next = (struct rme_access){.place = told - RME_LOAD};
+        if (answer >= RME_LOAD)
+            next = (struct rme_access){.place = answer - RME_LOAD};
         const uint64_t locks = 3 * senders;
         uint64_t *plain = next.place < locks ? seat->lines + next.place / 3 * 8 + next.place % 3 : seat->words + (next.place - locks);
         _Atomic uint64_t *word = (_Atomic uint64_t *)plain;
         uint64_t read = next.store ? 0 : atomic_load(word);
         if (next.store)
             atomic_store(word, next.value);
-        told = rme_feed(&seat->machine, read, &next);
+        answer = rme_feed(&seat->machine, read, &next);
     }
-    return told == RME_CLEAN || told == RME_STORED || told == RME_UNLOCKED;
+    return answer == RME_CLEAN || answer == RME_STORED || answer == RME_UNLOCKED;
 }
 
 /* Whether it was killed: after more accesses than there are it ends. */
@@ -251,12 +239,11 @@ static void answers(void)
     EXPECT(rme_detach(&seat), 0);
 }
 
-/* One that is stopped inside lives: nobody takes its place. */
-static void stopped_inside(void)
+/* Makes a file for two, in which process 0 is stopped inside. */
+static pid_t stop_inside(void)
 {
-    struct rme_seat seat;
     make(2, 4);
-    pid_t child = fork();
+    const pid_t child = fork();
     if (child == 0) {
         static struct rme_seat own;
         EXPECT(rme_attach(&own, path, 0), 0);
@@ -266,15 +253,30 @@ static void stopped_inside(void)
         _exit(rme_detach(&own));
     }
     waitpid(child, NULL, WUNTRACED);
-    EXPECT(rme_attach(&seat, path, 1), 0);
-    pid_t waiter = fork();
-    if (waiter == 0) {
-        rme_detach(&seat);
-        EXPECT(rme_attach_within(&seat, path, 1, 10), EBUSY);
-        nap(0.5);
-        kill(child, SIGCONT);
+    return child;
+}
+
+/* Begins one that sends a signal to another process after some seconds. */
+static pid_t begin_signaller(pid_t to, double seconds, int signal, struct rme_seat *parents)
+{
+    const pid_t child = fork();
+    if (child == 0) {
+        rme_detach(parents);
+        EXPECT(rme_attach_within(parents, path, 1, 10), EBUSY);
+        nap(seconds);
+        kill(to, signal);
         _exit(0);
     }
+    return child;
+}
+
+/* One that is stopped inside lives: nobody takes its place. */
+static void stopped_inside(void)
+{
+    struct rme_seat seat;
+    const pid_t child = stop_inside();
+    EXPECT(rme_attach(&seat, path, 1), 0);
+    const pid_t waiter = begin_signaller(child, 0.5, SIGCONT, &seat);
     double from = now();
     EXPECT(rme_lock_reaping(&seat, 10, repair, NULL), 0);
     EXPECT(now() - from > 0.4, true);
@@ -289,24 +291,9 @@ static void stopped_inside(void)
 static void killed_while_another_sleeps(void)
 {
     struct rme_seat seat;
-    make(2, 4);
-    pid_t child = fork();
-    if (child == 0) {
-        static struct rme_seat own;
-        EXPECT(rme_attach(&own, path, 0), 0);
-        EXPECT(rme_lock(&own), 0);
-        raise(SIGSTOP);
-        _exit(1);
-    }
-    waitpid(child, NULL, WUNTRACED);
+    const pid_t child = stop_inside();
     EXPECT(rme_attach(&seat, path, 1), 0);
-    pid_t killer = fork();
-    if (killer == 0) {
-        rme_detach(&seat);
-        nap(0.3);
-        kill(child, SIGKILL);
-        _exit(0);
-    }
+    const pid_t killer = begin_signaller(child, 0.3, SIGKILL, &seat);
     double from = now();
     EXPECT(rme_lock_reaping(&seat, 1000, repair, NULL), 0);
     EXPECT(now() - from < 3, true);
@@ -345,7 +332,7 @@ static void killed_in_repair(bool in_lock)
         EXPECT(rme_reap(path, 1, repair, NULL), 0);
 }
 
-/* Reapers are killed at any instant; the last one, or a restart, is told at the end what the first had found. */
+/* Reapers are killed at any instant; the last one, or a restart, learns at the end what the first had found. */
 static void killed_anywhere(void)
 {
     unsigned reaped_by_killed = 0;

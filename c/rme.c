@@ -19,7 +19,7 @@ static __attribute__((noinline)) void futex(uint64_t *word, int operation, uint3
     syscall(SYS_futex, (uint32_t *)word + (__BYTE_ORDER__ == __ORDER_BIG_ENDIAN__), operation, value, most, NULL, 0);
 }
 
-/* How many accesses are made, and what the last one read (0 for a store); those before it read 0. */
+/* How many accesses were made, and what the last one read (0 for a store). Those before it read 0. */
 struct made { uint64_t count, seen; };
 
 static inline bool reads_zero(const uint64_t *word, struct made *made)
@@ -28,7 +28,7 @@ static inline bool reads_zero(const uint64_t *word, struct made *made)
     return (made->seen = load(word)) == 0;
 }
 
-/* Stores lock word k of a line. All waiting is for lock words to become 0: who sleeps on one is woken then. */
+/* Stores lock word k of a line. Processes wait only for lock words to become 0: a store of 0 wakes those who sleep on the word. */
 static inline void put(uint64_t *line, uint64_t k, uint64_t value, struct made *made)
 {
     store(line + k, value);
@@ -37,8 +37,8 @@ static inline void put(uint64_t *line, uint64_t k, uint64_t value, struct made *
         futex(line + k, FUTEX_WAKE, MOST_PROCS, NULL);
 }
 
-/* The access that the machine has named. A word that the block does not have reads 0, and no store goes there: only words that no
- * call leaves lead the machine to it. */
+/* Makes the access that the machine has named. A place outside the block reads 0 and is never stored to: only a corrupt file leads the
+ * machine there. */
 static inline void take(struct rme_seat *s, const struct rme_access *access, struct made *made)
 {
     const uint64_t locks = 3 * s->machine.procs, place = access->place;
@@ -53,7 +53,7 @@ static inline void take(struct rme_seat *s, const struct rme_access *access, str
     made->count = 1;
 }
 
-/* The rest of a scan, from a line on: of each other process word k to number, up to the first that is not 0. */
+/* The rest of a scan, from a line on: loads words k to `number` of each other process, up to the first that is not 0. */
 static inline bool scan(const uint64_t *own, const uint64_t *line, const uint64_t *end, const uint64_t k, struct made *made)
 {
     for (; line < end; line += LINE)
@@ -63,23 +63,23 @@ static inline bool scan(const uint64_t *own, const uint64_t *line, const uint64_
 }
 
 /* Makes the accesses of a run (rme_machine.h) up to the first word that is not 0. */
-static INLINED void run(const struct rme_seat *s, uint64_t told, uint64_t number, struct made *made)
+static INLINED void run(const struct rme_seat *s, uint64_t answer, uint64_t number, struct made *made)
 {
     uint64_t *lines = s->lines, *own = lines + s->machine.index * LINE, *end = lines + s->machine.procs * LINE;
-    switch (told) {
+    switch (answer) {
     case RME_LOCKS:
         if (!reads_zero(own, made) || !reads_zero(own + 1, made) || !reads_zero(own + 2, made))
             return;
         /* fallthrough */
     case RME_OPENS:
         put(own, 0, 1, made);
-        if (!scan(own, lines, end, 1, made) || told == RME_OPENS)
+        if (!scan(own, lines, end, 1, made) || answer == RME_OPENS)
             return;
         /* fallthrough */
     case RME_TAKES:
         put(own, 1, number, made);
         put(own, 0, 0, made);
-        if (!scan(own, lines, end, 0, made) || told == RME_TAKES)
+        if (!scan(own, lines, end, 0, made) || answer == RME_TAKES)
             return;
         /* fallthrough */
     case RME_MARKS:
@@ -91,7 +91,7 @@ static INLINED void run(const struct rme_seat *s, uint64_t told, uint64_t number
         put(own, 2, 0, made);
         return;
     default:
-        scan(own, lines + told % MOST_PROCS * LINE, end, told < RME_LOOKS, made);
+        scan(own, lines + answer % MOST_PROCS * LINE, end, answer < RME_LOOKS, made);
     }
 }
 
@@ -99,7 +99,7 @@ static INLINED void run(const struct rme_seat *s, uint64_t told, uint64_t number
 
 enum { LEAST_PAUSES = 16, MOST_PAUSES = 2000, YIELDS = 100, AT_ONCE = 3000 /* ticks: about a microsecond */ };
 
-/* The nanoseconds up to this time; without one, more than any sleep. */
+/* The nanoseconds until this time; without a time, longer than any sleep. */
 int64_t rme_time_left(const struct timespec *until)
 {
     enum { BILLION = 1000000000 };
@@ -112,9 +112,9 @@ int64_t rme_time_left(const struct timespec *until)
     return left > 0 ? left : 0;
 }
 
-/* After a blocked reading: for each process it pauses at first, then lets others run, then sleeps. A yield that comes back at
- * once says that a processor is free: then more pauses cost nothing. Who stores 0 sees the sleeper's bit, or else the kernel sees
- * the 0 here and does not sleep. The time is for those who die between their store and their waking. */
+/* After a blocked reading: for each process that blocks, it pauses at first, then yields, then sleeps. A yield that returns at once
+ * shows that a processor is free: then more pauses cost nothing. Whoever stores 0 sees the sleeper's bit, or else the kernel sees the 0
+ * here and does not sleep. Sleeps are bounded, since a process may die between its store and its wake. */
 static __attribute__((noinline)) void rest(struct rme_seat *s, uint64_t place, uint64_t seen, struct patience *may_wait)
 {
     uint64_t *sleepers = sleepers_on(s, place);
@@ -143,25 +143,25 @@ static __attribute__((noinline)) void rest(struct rme_seat *s, uint64_t place, u
     }
 }
 
-/* Takes the call to its answer, or as long as it may wait, from what the machine has told and the last access has read on. */
-static uint64_t finish(struct rme_seat *s, uint64_t told, struct made made, struct rme_access *access, struct patience may_wait)
+/* Goes on with the call until its answer, or for as long as it may wait, from the machine's answer and what the last access read. */
+static uint64_t finish(struct rme_seat *s, uint64_t answer, struct made made, struct rme_access *access, struct patience may_wait)
 {
-    while (told == 0 || told >= RME_LOAD || (told == RME_BLOCKED && may_wait.turns-- > 0)) {
-        if (told == RME_BLOCKED)
+    while (answer == 0 || answer >= RME_LOAD || (answer == RME_BLOCKED && may_wait.turns-- > 0)) {
+        if (answer == RME_BLOCKED)
             rest(s, access->place, made.seen, &may_wait);
         made = (struct made){0, 0};
-        if (told >= RME_RUN)
-            run(s, told, told == RME_LOCKS ? 1 : access->value, &made);
-        else if (told >= RME_LOAD)
-            reads_zero(lock_word(s, told - RME_LOAD), &made);
+        if (answer >= RME_RUN)
+            run(s, answer, answer == RME_LOCKS ? 1 : access->value, &made);
+        else if (answer >= RME_LOAD)
+            reads_zero(lock_word(s, answer - RME_LOAD), &made);
         else
             take(s, access, &made);
-        told = rme_feed_run(&s->machine, made.count - 1, made.seen, access);
+        answer = rme_feed_run(&s->machine, made.count - 1, made.seen, access);
     }
-    return told;
+    return answer;
 }
 
-static int error_of(uint64_t told)
+static int error_of(uint64_t answer)
 {
     static const int errors[RME_DONE + 1] = {
         [RME_CALL_UNDER_WAY] = EBUSY, [RME_NOT_OWNER] = EPERM, [RME_ALREADY_IN] = EDEADLK, [RME_UNMENDED] = EOWNERDEAD,
@@ -169,7 +169,7 @@ static int error_of(uint64_t told)
         [RME_NOT_RECOVERABLE] = ENOTRECOVERABLE, [RME_ALREADY] = EALREADY, [RME_OUT_OF_ORDER] = EINVAL, [RME_FULL] = ENOSPC,
         [RME_CLOSED] = EPIPE, [RME_ALREADY_CLOSED] = EALREADY,
     };
-    return told > RME_DONE || (told < RME_BLOCKED && errors[told] == 0) ? EINVAL : errors[told]; /* the other refusals */
+    return answer > RME_DONE || (answer < RME_BLOCKED && errors[answer] == 0) ? EINVAL : errors[answer]; /* the other refusals */
 }
 
 /* ---- calls ---- */
@@ -190,19 +190,18 @@ int rme_end_call(struct rme_seat *s, int error)
     return error;
 }
 
-/* The end of a call of RME_LOCK. */
-int rme_end_lock(struct rme_seat *s, uint64_t told)
+/* Ends a call of RME_LOCK. */
+int rme_end_lock(struct rme_seat *s, uint64_t answer)
 {
-    int error = error_of(told);
-    if (told == RME_CLEAN || told == RME_OWNER_DIED)
+    int error = error_of(answer);
+    if (answer == RME_CLEAN || answer == RME_OWNER_DIED)
         tally(s, ENTRIES);
-    else if (told == RME_BLOCKED && __atomic_exchange_n(&s->interrupted, 0, __ATOMIC_SEQ_CST))
+    else if (answer == RME_BLOCKED && __atomic_exchange_n(&s->interrupted, 0, __ATOMIC_SEQ_CST))
         error = EINTR;
     return rme_end_call(s, error);
 }
 
-/* An append, by one feed of the words that it loads first. Its stores are those of data words; as in `take`, none goes to a word that
- * the block does not have. */
+/* An append, by one feed of the words that it loads first. It stores data words only; as in `take`, none outside the block. */
 static uint64_t append(struct rme_seat *s, struct rme_access *access)
 {
     uint64_t *const words = s->words;
@@ -216,43 +215,43 @@ static uint64_t append(struct rme_seat *s, struct rme_access *access)
             store(words + (each->place - locks), each->value);
         else
             s->astray = true;
-    return stores.told;
+    return stores.answer;
 }
 
-/* Takes the call to its answer, or as long as it may wait. Mostly a lock is one run, and so is an unlock. A lock that was left
- * after ETIMEDOUT is under way still: it goes on where it waited. */
+/* Makes the call until its answer, or for as long as it may wait. Mostly a lock is one run, and so is an unlock. A lock that was left
+ * after ETIMEDOUT is still under way: it goes on where it waited. */
 INLINED uint64_t rme_make_call(struct rme_seat *s, const struct rme_call *asked, struct patience may_wait, struct rme_access *access)
 {
     struct made made = {0, 0};
     if (asked->code == RME_UNLOCK && rme_leave(&s->machine, access) == RME_UNLOCKED)
         return run(s, RME_LEAVES, 0, &made), RME_UNLOCKED;
-    uint64_t told = rme_start_run(&s->machine, asked, access);
-    if (asked->code == RME_LOCK && told == RME_LOCKS) {
+    uint64_t answer = rme_start_run(&s->machine, asked, access);
+    if (asked->code == RME_LOCK && answer == RME_LOCKS) {
         s->blocked_at = NULL;
         run(s, RME_LOCKS, 1, &made);
-        told = rme_feed_run(&s->machine, made.count - 1, made.seen, access);
-    } else if (asked->code == RME_LOCK && told == RME_CALL_UNDER_WAY)
-        told = rme_next(&s->machine, access);
-    else if (asked->code == RME_APPEND && told == 0)
-        told = append(s, access);
-    return told > RME_BLOCKED && told < RME_LOAD ? told : finish(s, told, made, access, may_wait);
+        answer = rme_feed_run(&s->machine, made.count - 1, made.seen, access);
+    } else if (asked->code == RME_LOCK && answer == RME_CALL_UNDER_WAY)
+        answer = rme_next(&s->machine, access);
+    else if (asked->code == RME_APPEND && answer == 0)
+        answer = append(s, access);
+    return answer > RME_BLOCKED && answer < RME_LOAD ? answer : finish(s, answer, made, access, may_wait);
 }
 
-/* Where it has succeeded, *got (may be null) is the board word that it has read, or else what the machine told. */
+/* Where it succeeds, *got (may be null) is the board word that it has read, or else the machine's answer. */
 static INLINED int call(struct rme_seat *s, const struct rme_call *asked, struct patience may_wait, uint64_t *got)
 {
     struct rme_access access;
     int error = rme_begin_call(s);
     if (error)
         return error;
-    uint64_t told = rme_make_call(s, asked, may_wait, &access);
-    error = rme_end_call(s, error_of(told));
+    uint64_t answer = rme_make_call(s, asked, may_wait, &access);
+    error = rme_end_call(s, error_of(answer));
     if (got && !error)
-        *got = told == RME_WORD ? access.value : told;
+        *got = answer == RME_WORD ? access.value : answer;
     return error;
 }
 
-/* All but lock are never blocked. */
+/* No call but a lock is ever blocked. */
 static const struct patience at_once = {0};
 static const struct rme_call lock_call = {.code = RME_LOCK}, unlock_call = {.code = RME_UNLOCK};
 
@@ -273,7 +272,7 @@ int rme_lock_until(struct rme_seat *s, const struct timespec *until)
     return lock(s, (struct patience){.turns = UINT64_MAX, .longest = 50, .until = until});
 }
 
-/* A place in line that an earlier lock has kept is not given up here. */
+/* It does not give up a place in line that an earlier lock has kept. */
 int rme_trylock(struct rme_seat *s)
 {
     static const struct rme_call withdraw_call = {.code = RME_WITHDRAW};
@@ -283,9 +282,9 @@ int rme_trylock(struct rme_seat *s)
         return error;
     if (rme_next(&s->machine, &access) == 0)
         return rme_end_call(s, EBUSY);
-    const uint64_t told = rme_make_call(s, &lock_call, at_once, &access);
-    if (told != RME_BLOCKED)
-        return rme_end_lock(s, told);
+    const uint64_t answer = rme_make_call(s, &lock_call, at_once, &access);
+    if (answer != RME_BLOCKED)
+        return rme_end_lock(s, answer);
     error = error_of(rme_make_call(s, &withdraw_call, at_once, &access));
     return rme_end_call(s, error ? error : EAGAIN);
 }
@@ -305,10 +304,10 @@ int rme_close(struct rme_seat *s) { return call(s, &(struct rme_call){.code = RM
 
 int rme_recover(struct rme_seat *s, int *found)
 {
-    uint64_t told = 0;
-    int error = call(s, &(struct rme_call){.code = RME_RECOVER}, at_once, &told);
+    uint64_t answer = 0;
+    int error = call(s, &(struct rme_call){.code = RME_RECOVER}, at_once, &answer);
     if (found && !error)
-        *found = (int)told;
+        *found = (int)answer;
     return error;
 }
 

@@ -116,9 +116,9 @@ _CALLS = {
 
 def _library():
     here = os.path.dirname(os.path.realpath(__file__))
-    beside = [os.path.join(here, *above, "librme.so.1") for above in [(), ("out",), ("..", ".."), ("..", "..", "..")]]
+    beside = [os.path.join(here, *above, "librme.so.2") for above in [(), ("out",), ("..", ".."), ("..", "..", "..")]]
     named = os.environ.get("RME_LIBRARY") or next((path for path in beside if os.path.exists(path)), None)
-    library = ctypes.CDLL(named or ctypes.util.find_library("rme") or "librme.so.1")
+    library = ctypes.CDLL(named or ctypes.util.find_library("rme") or "librme.so.2")
     for name, (answer, arguments) in _CALLS.items():
         call = getattr(library, name)
         call.restype, call.argtypes = answer, arguments
@@ -209,13 +209,13 @@ def _reap(path, repair, reap):
 
 
 def reap(path, index, repair=None):
-    """Gives up the place of the dead process with this index. Where it died inside, `repair(index, data)` is called first; where
+    """Releases the place of the dead process with this index. Where it died inside, `repair(index, data)` is called first; where
     that answers False or raises an Exception, the lock is ruined. ProcessLookupError: there is no dead one."""
     _reap(path, repair, lambda call: _rme.rme_reap(os.fsencode(path), index, call, None))
 
 
 def reap_all(path, repair=None):
-    """The same for each index; answers how many places were given up."""
+    """The same for each index; answers how many places were released."""
     reaped = _WORD()
     _reap(path, repair, lambda call: _rme.rme_reap_all(os.fsencode(path), call, None, ctypes.byref(reaped)))
     return reaped.value
@@ -230,7 +230,7 @@ def _until(seconds):
 
 
 class _Open:
-    """A file that is open, as a process at its index or to be looked at."""
+    """A file that is open, as a process at its index or to be read."""
 
     def __init__(self, opening):
         self._seat = ctypes.create_string_buffer(_rme.rme_seat_size() + 64)
@@ -277,14 +277,14 @@ class _Open:
         return _rme.rme_data(self._at, ctypes.byref(length)), length.value
 
     def file_status(self):
-        """How the file stands."""
+        """The state of the file."""
         status = _File()
         _check(_rme.rme_file_status(self._at, status))
         *sizes, closed, ruined = (getattr(status, name) for name in FileStatus._fields)
         return FileStatus(*sizes, closed != 0, ruined != 0)
 
     def index_status(self, index):
-        """How an index stands: its lock words, where they stand, and whether a process has it."""
+        """The state of an index: its lock words, what they say of it, and whether a process has it."""
         s = _Index()
         _check(_rme.rme_index_status(self._at, index, s))
         return IndexStatus(
@@ -297,7 +297,7 @@ class _Open:
 
 
 def inspect(path):
-    """Opens the file to look at it: `messages`, `file_status`, `index_status`. Nothing in it is changed."""
+    """Opens the file to read it: `messages`, `file_status`, `index_status`. Nothing in it is changed."""
     return _Open(lambda at: _check(_rme.rme_inspect(at, os.fsencode(path)), path))
 
 
@@ -323,7 +323,7 @@ class Seat(_Open):
 
     @property
     def crashed(self):
-        """Whether an earlier process of this index died, and nobody has given up its place."""
+        """Whether an earlier process of this index died, and nobody has released its place."""
         return _rme.rme_crashed(self._at)
 
     @property
@@ -332,7 +332,7 @@ class Seat(_Open):
         return Found(_rme.rme_reaped(self._at))
 
     def acknowledge(self):
-        """What `reaped` says is taken notice of: no later attach says it."""
+        """Acknowledges what `reaped` answers: from now on, and after the next attach, that is NOTHING."""
         _check(_rme.rme_acknowledge(self._at))
 
     def _entered(self, error):
@@ -382,7 +382,7 @@ class Seat(_Open):
         return None if error == errno.EAGAIN else self._entered(error)
 
     def lock_reaping(self, turns, repair=None, until=None):
-        """`lock` that gives up the places of the dead who block it, as `reap` does."""
+        """`lock` that releases the places of the dead who block it, as `reap` does."""
         raised = []
 
         def call(held, time):
@@ -391,7 +391,7 @@ class Seat(_Open):
         return self._enter(call, float("inf") if until is None else until, raised)
 
     def blocker(self):
-        """After TimeoutError: the index that was waited for at last, and whether its process lives."""
+        """After TimeoutError: the index that it last waited for, and whether its process lives."""
         index, alive = _WORD(), ctypes.c_bool()
         _check(_rme.rme_blocker(self._at, ctypes.byref(index), ctypes.byref(alive)))
         return index.value, alive.value
@@ -408,7 +408,7 @@ class Seat(_Open):
 
 
 class Inside:
-    """A lock that is held: by `with` it is left at the end."""
+    """A lock that is held; a `with` block leaves it at its end."""
 
     def __init__(self, seat, owner_died):
         self._seat, self._at = seat, seat._at
@@ -421,7 +421,7 @@ class Inside:
         self.unlock()
 
     def mended(self):
-        """After owner_died: what the dead one left half done in the mailbox is ended, and the lock counts as mended."""
+        """After owner_died: finishes what the dead process left half done in the mailbox, and marks the lock as repaired."""
         _check(_rme.rme_consistent(self._at))
 
     def append(self, number, *value):

@@ -1,17 +1,17 @@
-/* A log of messages that does not fill, over files of the library: senders that may die at any instant, readers that keep cursors. It
+/* A log of messages that does not fill, built of files of the library: senders that may die at any instant, readers that keep cursors. It
  * needs rme.h, and is tested as the shim is, not proved. docs/use/c.md has an example.
  *
  * A log is a folder. Its file `log` has the sizes, the number of the first segment that is not dropped, and that of the last; a
- * sender has its index there for as long as it lives. The segments `00000001`, `00000002` .. have the messages. An append that finds
+ * sender has its index there for as long as it lives. The segments `00000001`, `00000002` .. hold the messages. An append that finds
  * its segment full closes it, and goes on in the next. Nothing is appended after closing, so the words of a closed segment do not
- * change any more; whoever finds one without a successor makes it: a whole file without a name, which is then linked to its own. It
- * begins with the base numbers, of each sender the last number in all segments before. They follow from the closed segment
- * alone, so two makers make the same. In a segment a sender's numbers begin at 1: its number in the log is the base number and that.
- * A named reader has a file `reader-NAME` with its cursor. Each of these is a file of the library, made whole; other names in the
- * folder are nobody's.
+ * change any more. Whoever finds one without a successor makes it: a complete file without a name, which is then linked to its name. It
+ * begins with the base numbers: for each sender the last number in all segments before. They follow from the closed segment
+ * alone, so two makers make the same file. In a segment a sender's numbers begin at 1: its number in the log is the base number plus that.
+ * A named reader has a file `reader-NAME` with its cursor. Each of these is a file of the library, made in one step. Other names in the
+ * folder are ignored.
  *
- * A log outlives its processes, not the machine's: nothing is forced to the disk. It needs no supervisor: whoever waits for a dead sender
- * gives up its place. */
+ * A log survives its processes, not a crash of the machine: nothing is forced to the disk. It needs no supervisor: whoever waits for a
+ * dead sender releases its place. */
 #ifndef RME_LOG_H
 #define RME_LOG_H
 
@@ -28,9 +28,9 @@ struct rme_cursor {
     uint64_t segment, place;
 };
 
-/* One living sender. A program only makes room for it, as for a seat. */
+/* One living sender. A program allocates it, as a seat. */
 struct rme_log {
-    struct rme_seat seat, segments[2]; /* in the file `log`, and where it appends: in segments[at], and of the other nothing */
+    struct rme_seat seat, segments[2]; /* in the file `log`; where it appends: segments[at], and the other is not attached */
     uint64_t number, at;               /* number: of this segment */
     char folder[RME_LOG_PATH];
 };
@@ -46,19 +46,19 @@ struct rme_log_reader {
 
 /* Each call answers 0 or one of its errors, unless it says `Answers`. Each call with a log or a reader, and rme_log_drop,
  * rme_log_forget and rme_log_status, have these errors too:
- *     EINVAL  a pointer that is needed is null; the log or reader is not open; in a child of fork: with a log, and for rme_log_keep
+ *     EINVAL  a required pointer is null; the log or reader is not open; in a child of fork: with a log, and for rme_log_keep
  *     EBUSY   a call with this log is under way in another thread, or in the one that this signal handler has interrupted
  *     ENOENT  no such folder, or no log in it
- *     EBADMSG under a name of the log's is a file that is none of this library's, or none of a log's
- *     EPROTO  under a name of the log's is a file of other sizes, of another log or of another place in this one
+ *     EBADMSG a name of the log belongs to a file that is not this library's, or not a log's
+ *     EPROTO  a name of the log belongs to a file of other sizes, of another log or of another place in this one
  *     ENOLINK a segment is missing: it was there, and is not dropped
  *     ENOSPC  the disk is full
  *     and those of open, fcntl, mmap, posix_fallocate, write, linkat and flock
- * After an error nothing that was stored is lost, and the same call may be made again. A log or reader is used by one thread at a
+ * After an error nothing that was stored is lost, and the same call may be repeated. A log or reader is used by one thread at a
  * time. No call here is a point of cancellation. */
 
 /* Makes the folder, where there is none, and a log in it: for procs senders (1 to 64), and messages of width words (1 to 8), cap of them
- * (1 to 65,536) in each segment. One that was killed may be called again.
+ * (1 to 65,536) in each segment. A call that was killed may be repeated.
  * Errors:
  *     EEXIST       there is a log already; nothing is changed
  *     EINVAL       sizes out of range
@@ -76,7 +76,7 @@ int rme_log_create(const char *folder, uint64_t procs, uint64_t cap, uint64_t wi
 int rme_log_open(struct rme_log *log, const char *folder, uint64_t index, uint64_t milliseconds);
 
 /* Stores a message, of width words at value, as this sender's next. The numbers of a sender go 1, 2, 3 .. through all segments. It waits
- * for its turn, and gives up the places of the dead who block it. One that was killed may be called again with the same number: the
+ * for its turn, and releases the places of the dead who block it. A call that was killed may be repeated with the same number: the
  * message is stored once.
  * Errors:
  *     EALREADY        the message with this number is there already, or was and is dropped
@@ -85,7 +85,7 @@ int rme_log_open(struct rme_log *log, const char *folder, uint64_t index, uint64
  *     ENOTRECOVERABLE the lock of a segment is ruined, which no call here does */
 int rme_log_append(struct rme_log *log, uint64_t number, const uint64_t *value);
 
-/* Says which number this sender's next message has: *number gets one more than that of the last that is stored.
+/* Finds the number of this sender's next message: *number gets one more than that of the last that is stored.
  * Errors: the others of rme_log_append */
 int rme_log_next(struct rme_log *log, uint64_t *number);
 
@@ -93,11 +93,11 @@ int rme_log_next(struct rme_log *log, uint64_t *number);
 int rme_log_close(struct rme_log *log);
 
 /* Opens a log for reading. Without a name (null) the reader stands at the first message that is not dropped. With one, of letters, digits,
- * `_` and `-`, it stands where the reader with this name was at its last rme_log_keep; or at the first message, and from now on nothing
- * that it has not passed is dropped. To read without a name, read permission is enough.
+ * `_` and `-`, it stands where the reader with this name was at its last rme_log_keep; if there was none, at the first message. From now
+ * on nothing that it has not passed is dropped. To read without a name, read permission is enough.
  * Errors:
  *     EBUSY        a living process reads under this name
- *     EINVAL       no name that a reader can have
+ *     EINVAL       a reader can't have this name
  *     ENAMETOOLONG the name is too long */
 int rme_log_reader_open(struct rme_log_reader *reader, const char *folder, const char *name);
 
@@ -117,8 +117,8 @@ int rme_log_seek(struct rme_log_reader *reader, struct rme_cursor cursor);
  * Errors: those of rme_log_read */
 int rme_log_seek_end(struct rme_log_reader *reader);
 
-/* Keeps the cursor of a named reader, in one store: what it has read so far has been dealt with. One that is killed before begins at the
- * cursor that was kept last, so each message is dealt with once or, where a kill comes between, once more.
+/* Keeps the cursor of a named reader, in one store: what it has read so far has been processed. A reader that is killed before that begins
+ * at the cursor that was kept last, so it meets the messages since then once more.
  * Errors:
  *     EINVAL the reader has no name */
 int rme_log_keep(struct rme_log_reader *reader);
@@ -130,8 +130,8 @@ int rme_log_keep(struct rme_log_reader *reader);
  *     and those of rme_log_read */
 int rme_log_wait(struct rme_log_reader *reader, uint64_t milliseconds);
 
-/* Makes an eventfd for poll, select and epoll: *file can be read whenever messages have come since it was read last, and at first where
- * there are some. Read it, then rme_log_read until there are none. A thread of the library sleeps for it; rme_log_reader_close ends both.
+/* Makes an eventfd for poll, select and epoll: *file is readable when messages have come since it was read last, or were there at first.
+ * Read it, then rme_log_read until there are none. A thread of the library waits for messages; rme_log_reader_close ends both.
  * Errors:
  *     EALREADY the reader has one
  *     and those of eventfd and pthread_create */
@@ -140,29 +140,29 @@ int rme_log_event(struct rme_log_reader *reader, int *file);
 /* Closes the reader. A cursor that was not kept is lost. */
 int rme_log_reader_close(struct rme_log_reader *reader);
 
-/* Takes away the segments before this one, but for those that a named reader has not passed, and the last one. *first (may be null) gets
- * the number of the first segment that is left. One that was killed may be called again.
+/* Removes the segments before this one, but for those that a named reader has not passed, and the last one. *first (may be null) gets
+ * the number of the first segment that is left. A call that was killed may be repeated.
  * Errors: those of opendir and unlink */
 int rme_log_drop(const char *folder, uint64_t before, uint64_t *first);
 
-/* Takes away a named reader, so that it keeps nothing from being dropped.
+/* Removes a named reader, so that it no longer keeps segments from being dropped.
  * Errors:
  *     EBUSY  a living process reads under this name
  *     ENOENT no such reader */
 int rme_log_forget(const char *folder, const char *name);
 
-/* How a log stands, each number read by itself: the first segment and the last; how many messages were ever stored, and how many of them
- * stand before the first segment; of each sender the number of its last message. */
+/* The state of a log, each number read by itself: the first segment and the last; how many messages were ever stored, and how many of them
+ * were in segments that are dropped; for each sender the number of its last message. */
 struct rme_log_state {
     uint64_t procs, cap, width, first, last, messages, dropped;
     uint64_t numbers[64];
 };
 
-/* How a log stands. Read permission is enough. */
+/* Reads the state of a log. Read permission is enough. */
 int rme_log_status(const char *folder, struct rme_log_state *state);
 
 /* A named reader: its cursor; how many messages it has not passed; whether a living process reads under its name; whether it was overtaken,
- * which only a change by another hand does. */
+ * which happens only where another program changes the folder. */
 struct rme_log_reader_state {
     char name[RME_LOG_NAME];
     struct rme_cursor cursor;
@@ -170,7 +170,7 @@ struct rme_log_reader_state {
     bool alive, overtaken;
 };
 
-/* Visits each named reader of the log, by rising name. Where `visit` answers another number than 0, that is the end and the answer.
+/* Visits each named reader of the log, in the order of their names. It stops where `visit` answers a number other than 0, and answers it.
  * Errors: those of opendir */
 int rme_log_readers(const char *folder, int (*visit)(const struct rme_log_reader_state *state, void *context), void *context);
 

@@ -32,7 +32,7 @@ inline void create_log(const std::string &folder, uint64_t procs, uint64_t cap, 
     check(rme_log_create(folder.c_str(), procs, cap, width));
 }
 
-/* Takes away what all named readers have passed; answers the number of the first segment that is left. */
+/* Removes the segments that all named readers have passed; answers the number of the first segment that is left. */
 inline uint64_t drop(const std::string &folder, uint64_t before = UINT64_MAX)
 {
     uint64_t first = 0;
@@ -101,7 +101,7 @@ public:
         return count == 1;
     }
 
-    /* Sleeps until there is a message, at most so long: false where there is none yet. */
+    /* Sleeps until there is a message, at most this long: false where there is none yet. */
     bool wait(uint64_t milliseconds)
     {
         const int error = rme_log_wait(raw_.get(), milliseconds);

@@ -87,19 +87,19 @@ def create(folder, procs, cap, width=1):
 
 
 def drop(folder, before=None):
-    """Takes away the segments before this one that all named readers have passed; answers the first that is left."""
+    """Removes the segments before this one that all named readers have passed; answers the first that is left."""
     first = _WORD()
     _check(_rme.rme_log_drop(os.fsencode(folder), 2**64 - 1 if before is None else before, ctypes.byref(first)), folder)
     return first.value
 
 
 def forget(folder, name):
-    """Takes away a named reader."""
+    """Removes a named reader."""
     _check(_rme.rme_log_forget(os.fsencode(folder), name.encode()), folder)
 
 
 def status(folder):
-    """How the log stands."""
+    """The state of the log."""
     state = _State()
     _check(_rme.rme_log_status(os.fsencode(folder), state), folder)
     return LogStatus(*(getattr(state, name) for name in LogStatus._fields[:-1]), tuple(state.numbers[: state.procs]))
@@ -200,7 +200,7 @@ class Reader(_Open):
         _check(_rme.rme_log_seek_end(self._at))
 
     def keep(self):
-        """Keeps the cursor of a named reader: what it has read so far has been dealt with."""
+        """Keeps the cursor of a named reader: what it has read so far has been processed."""
         _check(_rme.rme_log_keep(self._at))
 
     def read(self):
@@ -213,7 +213,7 @@ class Reader(_Open):
         return Message(segment, place - 1, room.sender, room.number, tuple(room.value[: self._width]))
 
     def wait(self, seconds):
-        """Sleeps until there is a message, at most so long: False where there is none yet. Ctrl-C ends it."""
+        """Sleeps until there is a message, at most this long: False where there is none yet. Ctrl-C ends it."""
         end = time.monotonic() + seconds
         while True:
             left = end - time.monotonic()
@@ -230,7 +230,7 @@ class Reader(_Open):
             yield message
 
     def follow(self, seconds=None):
-        """The messages as they come: it sleeps until more do, or ends where none has come for so long."""
+        """The messages as they come: it sleeps until more do, or ends where none has come for this long."""
         while True:
             yield from self
             if not self.wait(3600 if seconds is None else seconds) and seconds is not None:

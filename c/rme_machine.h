@@ -1,5 +1,5 @@
-/* The machine of one process: which shared word it loads or stores next, and what that was. It is proved (crates/rme_c) and
- * stands in librme. Its structs are plain numbers, which C keeps and hands back. */
+/* The machine of one process: it names the shared word that the process loads or stores next, and says what that access was. It is
+ * proved (crates/rme_c) and part of librme. Its structs are plain numbers, which C keeps and hands back. */
 #ifndef RME_MACHINE_H
 #define RME_MACHINE_H
 
@@ -10,8 +10,8 @@
 extern "C" {
 #endif
 
-/* The private memory of a process. Its fields are the machine's own: whatever numbers stand here, no call of the machine
- * goes wrong, and numbers that no call has left are those of a process that has crashed. */
+/* The private memory of a process. Its fields are the machine's own: with any numbers here each call of the machine is safe and
+ * answers, and numbers that no call has left are those of a process that has crashed. */
 struct rme_process {
     uint64_t procs, cap, width, limit, index;
     uint64_t position[4];
@@ -73,7 +73,7 @@ enum rme_run {
 
 /* What rme_feed_append hands out: what rme_feed would answer, and the stores of the append in order, of which `count` are named. */
 struct rme_stores {
-    uint64_t told, count;
+    uint64_t answer, count;
     struct rme_access each[24];
 };
 

@@ -1,4 +1,4 @@
-/* How a file stands, for supervisors and tools; and texts. It comes with rme.h. No call here changes a word. */
+/* The state of a file, for supervisors and tools; and texts. It comes with rme.h. No call here changes a word. */
 #ifndef RME_STATUS_H
 #define RME_STATUS_H
 
@@ -8,32 +8,32 @@
 extern "C" {
 #endif
 
-/* How a file stands, each number read by itself: they are of one moment only where all processes have stopped. */
+/* The state of a file. Each number is read by itself: they are of one moment only where all processes have stopped. */
 struct rme_file {
     uint64_t procs, cap, width, limit, words, data_bytes;
     uint64_t count, closed, ruined;
 };
 
-/* How an index stands: its lock words, and what rme_recover would find of them (RME_FOUND_.., 0 none of them). */
+/* The state of an index: its lock words, and what rme_recover would find in them (RME_FOUND_.., or 0 where they are corrupt). */
 enum rme_life { RME_ABSENT = 0, RME_ALIVE, RME_DEAD, RME_IN_REAPING };
 struct rme_index {
     uint64_t choosing, number, inside;
     int found;
-    int life;   /* no process is attached; one is; one died and nobody has its place; a reaper acts for it */
+    int life;   /* no process is attached; one is; one died and its place is not released; a reaper acts for it */
     int reaped; /* as rme_reaped answers after the next attach */
     int64_t pid;             /* of the process that attached last, as it sees itself; 0 none since an orderly end */
     uint64_t entries, waits; /* how often a process of this index has entered, and how often it had to wait for that */
 };
 
-/* Opens the file for looking: nothing in it is changed, and read permission is enough. Such a seat has no index; it can
- * rme_read_from, rme_data (which must not be written), rme_file_status, rme_index_status, rme_copy_words and rme_detach.
+/* Opens the file to read it: nothing in it is changed, and read permission is enough. Such a seat has no index. It may be used
+ * with rme_read_from, rme_data (which must not be written), rme_file_status, rme_index_status, rme_copy_words and rme_detach.
  * Errors: those of rme_attach but EBUSY */
 int rme_inspect(struct rme_seat *seat, const char *path);
 
-/* How the file stands. */
+/* Reads the state of the file. */
 int rme_file_status(const struct rme_seat *seat, struct rme_file *status);
 
-/* How an index stands: its lease says who is alive, and is not taken for that.
+/* Reads the state of an index. Its lease shows who is alive, and is not taken for that.
  * Errors:
  *     EINVAL no such index
  *     and those of fcntl */

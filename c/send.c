@@ -1,4 +1,4 @@
-/* Appends messages to a file that processes share, one a second inside the section, and says what it is told.
+/* Appends messages to a file that processes share, one a second inside the section, and prints what it is answered.
  *
  *     send FILE PROCS INDEX MESSAGES [SECONDS] */
 #include "rme.h"

@@ -70,7 +70,7 @@ static inline int disable_cancellation(void)
 struct patience { uint64_t turns, longest; const struct timespec *until; bool once; };
 int rme_begin_call(struct rme_seat *s);
 int rme_end_call(struct rme_seat *s, int error);
-int rme_end_lock(struct rme_seat *s, uint64_t told);
+int rme_end_lock(struct rme_seat *s, uint64_t answer);
 uint64_t rme_make_call(struct rme_seat *s, const struct rme_call *asked, struct patience may_wait, struct rme_access *access);
 int64_t rme_time_left(const struct timespec *until);
 

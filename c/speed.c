@@ -158,7 +158,7 @@ int main(int count, char **word)
     double taken = (double)(to.tv_sec - from.tv_sec) + (double)(to.tv_nsec - from.tv_nsec) * 1e-9;
     double processor = seconds_of(used.ru_utime) + seconds_of(used.ru_stime), entries = (double)rounds * (double)processes;
     if (holds)
-        printf("%s %s processes behind one for %ld s: %ld wake-ups, %.3f s of processor time\n", word[1], word[2], rounds,
+        printf("%s %s processes that wait for one for %ld s: %ld wake-ups, %.3f s of processor time\n", word[1], word[2], rounds,
                used.ru_nvcsw, processor);
     else
         printf("%s %s processes: %.1f ns an entry, %.1f ns of processor time, changed hands at %.2f\n", word[1], word[2],

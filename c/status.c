@@ -1,4 +1,4 @@
-/* How a file stands, and texts: no call here changes a word, and no process needs one to go on. */
+/* The state of a file, and texts. No call here changes a word, and no process needs one to go on. */
 #include "shim.h"
 
 #include <string.h>
@@ -31,10 +31,10 @@ static int row_of(uint64_t choosing, uint64_t number, uint64_t inside)
     return number ? RME_FOUND_WAITING : choosing ? RME_FOUND_DOORWAY : RME_FOUND_IDLE;
 }
 
-/* A mark that no reaper leaves says nothing. */
+/* Marks that no reaper leaves count as none. */
 static int found_of(uint64_t number) { return number >= RME_FOUND_IDLE && number <= RME_FOUND_INSIDE ? (int)number : 0; }
 
-/* The furthest that reapers have found and given up the place of. What one has begun with counts where the words have passed it. */
+/* The furthest place that reapers have found and released. One that a reaper has only begun counts once the words are past it. */
 int rme_reaped_of(const struct rme_seat *s, uint64_t index)
 {
     const uint64_t mark = load(&s->header->marks[index]), *line = line_of(s, index);
@@ -91,7 +91,7 @@ int rme_acknowledge(struct rme_seat *s)
     return rme_end_call(s, 0);
 }
 
-/* Count first, then entries below it: they never change once count has passed them. */
+/* The count first, then the entries below it: these no longer change. */
 uint64_t rme_read_from(const struct rme_seat *s, uint64_t place, struct rme_message *messages, uint64_t room)
 {
     if (!is_open(s) || !messages)

@@ -2,6 +2,7 @@
 #ifndef RME_TEST_H
 #define RME_TEST_H
 
+#include "clock.h"
 #include "rme.h"
 
 #include <errno.h>
@@ -25,12 +26,6 @@ static void expect_at(int line, const char *what, long got, long wanted)
     _exit(1);
 }
 #define EXPECT(call, wanted) expect_at(__LINE__, #call, (long)(call), (long)(wanted))
-
-static inline void nap(double seconds)
-{
-    struct timespec time = {(time_t)seconds, (long)((seconds - (double)(time_t)seconds) * 1e9)};
-    nanosleep(&time, NULL);
-}
 
 static inline void make(uint64_t procs, uint64_t cap)
 {
@@ -56,12 +51,12 @@ static inline void die(uint64_t index, enum stand stand)
 
 /* Locks and unlocks a seat that is shared, in a thread. */
 static struct rme_seat shared;
-static volatile int thread_told = -1;
+static volatile int thread_answer = -1;
 
 static inline void *lock_and_unlock(void *argument)
 {
-    thread_told = rme_lock(&shared);
-    if (thread_told == 0)
+    thread_answer = rme_lock(&shared);
+    if (thread_answer == 0)
         rme_unlock(&shared);
     pthread_testcancel();
     return argument;

@@ -1,4 +1,4 @@
-/* The tool rme: makes a file, shows what stands in it, and gives up the places of the dead. USAGE says how. */
+/* The tool rme: makes a file, shows what stands in it, and releases the places of the dead. USAGE says how. */
 #include "rme.h"
 #include "tool_log.h"
 
@@ -21,16 +21,16 @@ static const char USAGE[] =
     "  status FILE                          show where each process stands, who waits for whom, and what it counts; changes no word\n"
     "  dump FILE                            show the messages: the place, the sender, the number and the words of each\n"
     "  image FILE                           show the words as an image for rmelab replay --image\n"
-    "  reap [--no-repair] FILE [INDEX]      give up the places of dead processes, or of the one with this index\n"
+    "  reap [--no-repair] FILE [INDEX]      release the places of dead processes, or of the one with this index\n"
     "  log create FOLDER PROCS CAP WIDTH    make a log for PROCS processes, with segments of CAP messages of WIDTH words\n"
     "  log append FOLDER INDEX NUMBER WORD..  append a message as process INDEX, once; NUMBER may be the word next\n"
     "  log follow [--once] FOLDER [READER]  show the messages as they come, and keep how far READER has read\n"
     "  log status FOLDER                    show the segments, the messages of each process, and what named readers have not read\n"
-    "  log drop FOLDER [BEFORE]             take away the segments before this one that all named readers have passed\n"
-    "  log forget FOLDER READER             take away a named reader\n"
+    "  log drop FOLDER [BEFORE]             remove the segments before this one that all named readers have passed\n"
+    "  log forget FOLDER READER             remove a named reader\n"
     "\n"
     "Options:\n"
-    "  --mode MODE    of the file, in octal: 600 where nothing is said\n"
+    "  --mode MODE    of the file, in octal; 600 by default\n"
     "  --group GROUP  of the file, by its name or number\n"
     "  --no-repair    reap those too who died inside: the data that the lock guards need no repair\n"
     "  --once         show the messages that there are, and wait for no more\n"
@@ -123,7 +123,7 @@ static bool waits_for(const struct view *v, uint64_t p, uint64_t q)
 
 static const char *stands(int found)
 {
-    return found < RME_FOUND_IDLE || found > RME_FOUND_INSIDE ? "its words are none" : STANDS[found];
+    return found < RME_FOUND_IDLE || found > RME_FOUND_INSIDE ? "its words are corrupt" : STANDS[found];
 }
 
 /* Who is dead and waited for, or stands inside. */

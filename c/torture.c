@@ -2,29 +2,24 @@
  *
  *     torture FOLDER SENDERS MESSAGES KILLS-PER-SECOND SEED
  *
- * In turn: files that are none of ours; an rme_create that is killed; senders that are killed by SIGKILL and started again,
+ * In turn: files that are not ours; an rme_create that is killed; senders that are killed by SIGKILL and started again,
  * and one that is stopped inside for a second. Each sender goes on with nothing but the file. At the end every message has
  * to stand once and in its sender's order, and no two may have been inside. FOLDER/image gets the words as an image for
  * rmelab, FOLDER/list the messages as rmelab writes them. */
 #define _GNU_SOURCE
+#include "expect.h"
 #include "rme.h"
+#include "torment.h"
 
 #include <errno.h>
 #include <fcntl.h>
-#include <inttypes.h>
-#include <signal.h>
 #include <stdatomic.h>
-#include <stdio.h>
-#include <stdlib.h>
 #include <string.h>
 #include <sys/mman.h>
-#include <sys/wait.h>
-#include <time.h>
-#include <unistd.h>
 
 enum { WIDTH = 2, MOST = 64 };
 
-/* Beside the file, and no part of the lock. `first` and `second` are counted one behind the other, by whoever is inside:
+/* Beside the file, and no part of the lock. `first` and `second` are counted one after the other, by whoever is inside:
  * one who finds them apart has met another, unless it died between them itself. */
 struct tally {
     volatile uint64_t first, second;
@@ -33,26 +28,13 @@ struct tally {
 
 static char path[4096];
 static uint64_t senders, messages;
+static double kills_per_second;
 static struct tally *tally;
 
-static void fail(const char *what, int error)
+_Noreturn void fail(const char *what, int64_t error)
 {
-    fprintf(stderr, "torture: %s: %s\n", what, error ? strerror(error) : "wrong");
+    fprintf(stderr, "torture: %s: %s\n", what, error ? strerror((int)error) : "wrong");
     exit(1);
-}
-
-static void expect(const char *what, int got, int wanted)
-{
-    if (got != wanted) {
-        fprintf(stderr, "torture: %s: %s, wanted %s\n", what, strerror(got), strerror(wanted));
-        exit(1);
-    }
-}
-
-static void nap(double seconds)
-{
-    struct timespec time = {(time_t)seconds, (long)((seconds - (double)(time_t)seconds) * 1e9)};
-    nanosleep(&time, NULL);
 }
 
 static uint64_t value_of(uint64_t sender, uint64_t number, uint64_t j) { return sender * 1000003 + number * 7 + j; }
@@ -83,7 +65,7 @@ static void files(void)
     expect("lock twice", rme_lock(&seat), EDEADLK);
     expect("nothing to mend", rme_consistent(&seat), EINVAL);
     expect("detach inside", rme_detach(&seat), EBUSY);
-    expect("attach behind a crash", rme_attach(&seat, path, 0), 0);
+    expect("attach after a crash", rme_attach(&seat, path, 0), 0);
     if (!seat.crashed)
         fail("the crash was not seen", 0);
     expect("lock", rme_lock(&seat), EOWNERDEAD);
@@ -151,7 +133,7 @@ static void creates(unsigned rounds)
         struct rme_seat seat;
         int error = rme_attach(&seat, path, i % 4);
         if (error && error != ENOENT)
-            fail("attach behind a create that was killed", error);
+            fail("attach after a create that was killed", error);
         if (!error) {
             expect("lock", rme_lock(&seat), 0);
             expect("unlock", rme_unlock(&seat), 0);
@@ -197,8 +179,8 @@ static int slow_append(struct rme_seat *seat, uint64_t number, const uint64_t *v
 {
     const struct rme_call call = {.code = RME_APPEND, .number = number, .value = {value[0], value[1]}};
     struct rme_access next;
-    uint64_t told = rme_start(&seat->machine, &call, &next);
-    while (told == 0) {
+    uint64_t answer = rme_start(&seat->machine, &call, &next);
+    while (answer == 0) {
         uint64_t read = 0;
         nap(0.0002);
         if (next.place < 3 * senders || next.place >= seat->count)
@@ -208,9 +190,9 @@ static int slow_append(struct rme_seat *seat, uint64_t number, const uint64_t *v
             atomic_store(word, next.value);
         else
             read = atomic_load(word);
-        told = rme_feed(&seat->machine, read, &next);
+        answer = rme_feed(&seat->machine, read, &next);
     }
-    return told == RME_STORED ? 0 : told == RME_ALREADY ? EALREADY : EINVAL;
+    return answer == RME_STORED ? 0 : answer == RME_ALREADY ? EALREADY : EINVAL;
 }
 
 static void sender(uint64_t p)
@@ -272,36 +254,16 @@ static void stop_inside(pid_t child, uint64_t p)
     kill(child, SIGCONT);
 }
 
-static uint64_t torment(double rate)
+static void pause_between_kills(void) { nap(drand48() * 2 / kills_per_second); }
+
+/* Answers how many were killed. */
+static uint64_t torment_senders(void)
 {
-    pid_t child[MOST] = {0};
-    uint64_t kills = 0, live = senders;
-    for (uint64_t p = 0; p < senders; p++)
-        child[p] = begin(p);
-    stop_inside(child[senders - 1], senders - 1);
-    while (live > 0) {
-        nap(drand48() * 2 / rate);
-        uint64_t p = (uint64_t)(drand48() * (double)senders);
-        if (child[p])
-            kill(child[p], SIGKILL);
-        int status;
-        for (pid_t dead; (dead = waitpid(-1, &status, WNOHANG)) > 0;) {
-            uint64_t q = 0;
-            while (child[q] != dead)
-                q++;
-            if (WIFSIGNALED(status) && WTERMSIG(status) == SIGKILL) {
-                kills++;
-                child[q] = begin(q);
-            } else if (WIFEXITED(status) && WEXITSTATUS(status) == 0) {
-                child[q] = 0;
-                live--;
-            } else {
-                fprintf(stderr, "torture: sender %" PRIu64 ": status %d\n", q, status);
-                exit(1);
-            }
-        }
-    }
-    return kills;
+    struct torment t = {.program = "torture", .begin = begin, .all = senders};
+    torment_begins(&t);
+    stop_inside(t.child[senders - 1], senders - 1);
+    torment_ends(&t, pause_between_kills);
+    return t.kills;
 }
 
 /* ---- the end ---- */
@@ -339,7 +301,7 @@ static void write_image(const uint64_t *words, uint64_t count, const char *folde
     fclose(image);
 }
 
-/* The words are an image's, and words that are none's are told from them. */
+/* rme_content_rule accepts the words, and refuses other ones. */
 static void judge(uint64_t *words, uint64_t count)
 {
     const uint64_t cap = senders * messages;
@@ -378,6 +340,7 @@ int main(int count, char **word)
     snprintf(path, sizeof path, "%s/words", word[1]);
     senders = strtoull(word[2], NULL, 10);
     messages = strtoull(word[3], NULL, 10);
+    kills_per_second = atof(word[4]);
     srand48(atol(word[5]));
     if (senders < 1 || senders > MOST || messages < 1)
         return 2;
@@ -387,7 +350,7 @@ int main(int count, char **word)
     files();
     creates(200);
     expect("create", rme_create(path, senders, senders * messages, WIDTH, 0), 0);
-    uint64_t kills = torment(atof(word[4]));
+    const uint64_t kills = torment_senders();
     struct rme_seat seat;
     expect("attach at the end", rme_attach(&seat, path, 0), 0);
     uint64_t wrong = check_list(&seat, word[1]);

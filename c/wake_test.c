@@ -6,6 +6,8 @@
  * store that comes before the sleep, or after the end of the nap, says nothing, so each case is tried until three tries say that
  * all were woken, at most 20 times. Last, one is killed between its store and its waking: the nap ends then. */
 #define _GNU_SOURCE
+#include "clock.h"
+#include "expect.h"
 #include "rme.h"
 
 #include <errno.h>
@@ -18,56 +20,34 @@
 #include <sys/ptrace.h>
 #include <sys/syscall.h>
 #include <sys/wait.h>
-#include <time.h>
 #include <unistd.h>
 
 enum { PROCS = 4, TRIES = 20, WOKEN = 3 };
 
 static const char *path;
 
-static _Noreturn void fail(const char *what, int64_t number)
+_Noreturn void fail(const char *what, int64_t number)
 {
     fprintf(stderr, "wake_test: %s: %" PRId64 "\n", what, number);
     exit(1);
-}
-
-static void expect(const char *what, int got, int wanted)
-{
-    if (got != wanted) {
-        fprintf(stderr, "wake_test: %s: %s, wanted %s\n", what, strerror(got), strerror(wanted));
-        exit(1);
-    }
-}
-
-static void nap(long milliseconds)
-{
-    const struct timespec time = {0, milliseconds * 1000000};
-    nanosleep(&time, NULL);
 }
 
 /* ---- waiters ---- */
 
 static pid_t begin_waiter(uint64_t index)
 {
-    int status = 0;
     const pid_t child = fork();
     if (child == 0) {
         struct rme_seat seat;
         alarm(60);
         expect("attach of a waiter", rme_attach(&seat, path, index), 0);
-        if (ptrace(PTRACE_TRACEME, 0, NULL, NULL))
-            fail("trace", errno);
-        kill(getpid(), SIGSTOP);
+        be_traced();
         expect("lock of a waiter", rme_lock(&seat), 0);
         expect("unlock of a waiter", rme_unlock(&seat), 0);
         expect("detach of a waiter", rme_detach(&seat), 0);
         _exit(0);
     }
-    if (child < 0 || waitpid(child, &status, 0) != child || !WIFSTOPPED(status))
-        fail("fork", errno);
-    if (ptrace(PTRACE_SETOPTIONS, child, NULL, PTRACE_O_TRACESYSGOOD | PTRACE_O_EXITKILL))
-        fail("options of the trace", errno);
-    return child;
+    return trace_from_stop(child, PTRACE_O_TRACESYSGOOD | PTRACE_O_EXITKILL);
 }
 
 /* The system call at which the waiter has stopped. */
@@ -188,7 +168,7 @@ static const struct wake_case cases[] = {
     {"a doorway", doorway_blocks, doorway_goes}, {"a reaping", dead_blocks, dead_goes},
 };
 
-/* One try with so many waiters: how many of them were woken. */
+/* One try with this number of waiters: how many of them were woken. */
 static int try_case(const struct wake_case *tried, int waiters)
 {
     struct rme_seat seat;
@@ -204,7 +184,7 @@ static int try_case(const struct wake_case *tried, int waiters)
     }
     for (int k = 0; k < waiters; k++)
         let_sleep(child[k]);
-    nap(2);
+    nap(0.002);
     tried->goes(&seat);
     for (int k = 0; k < waiters; k++)
         woken += end_of_sleep(child[k]) == 0;
@@ -216,22 +196,15 @@ static int try_case(const struct wake_case *tried, int waiters)
 /* Begins one that holds the lock, and unlocks when it is let go. */
 static pid_t begin_holder(struct rme_seat *seat)
 {
-    int status = 0;
     const pid_t child = fork();
     if (child == 0) {
         expect("attach of one who dies", rme_attach(seat, path, 0), 0);
         expect("lock of one who dies", rme_lock(seat), 0);
-        if (ptrace(PTRACE_TRACEME, 0, NULL, NULL))
-            fail("trace", errno);
-        kill(getpid(), SIGSTOP);
+        be_traced();
         rme_unlock(seat);
         _exit(0);
     }
-    if (child < 0 || waitpid(child, &status, 0) != child || !WIFSTOPPED(status))
-        fail("fork", errno);
-    if (ptrace(PTRACE_SETOPTIONS, child, NULL, PTRACE_O_TRACESYSGOOD | PTRACE_O_EXITKILL))
-        fail("options of the trace", errno);
-    return child;
+    return trace_from_stop(child, PTRACE_O_TRACESYSGOOD | PTRACE_O_EXITKILL);
 }
 
 /* An unlock is stopped where it would wake, and killed there. The waiter's nap ends, and it comes in. */

@@ -118,10 +118,7 @@ REFUSED = re.compile(rf"\b(?:{GROUPS})\b", re.I)
 # Where one of these words is right all the same: the file, the exact words, and why. One that nothing needs is a finding.
 ALLOWED: list[tuple[str, str, str]] = []
 # Files whose comments still have such words.
-READ_LATER = (
-    "c/faults_test.c c/kill_roles.c c/kill_roles.h c/kill_test.c c/monitor.h c/reap_test.c c/rme.c "
-    "c/send.c c/torture.c c/wake_test.c crates/cli/src/explain/texts.rt"
-).split()
+READ_LATER = ["crates/cli/src/explain/texts.rt"]
 
 # Names that were replaced, as types and modules. Found, Seat, Seen and Words have a second meaning that stays.
 RETIRED_NAMES = (
@@ -198,8 +195,8 @@ COMMENTS = {
 }
 KINDS = {".h": ".c", ".rs": ".c"}
 BEGINS = ("//", "/*", "--", "#", '"""')
-# The program's own texts are strings.
-PRINTED = "crates/cli/src/"
+# What programs print are strings: those of these folders are read too.
+PRINTED = ("crates/cli/src/", "c/")
 
 
 def kind_of(name: str, text: str) -> str:
@@ -497,18 +494,33 @@ def anchors_of(text):
     return found
 
 
+def links_of(page: str) -> Iterator[tuple[str, str | None, int]]:
+    """Of each link to a file or a folder: its path from the top, the part that it names, and its line."""
+    text = text_of(page)
+    for link in LINK.finditer(blanked(text, FENCE)):
+        if "://" not in link[1]:
+            target = os.path.normpath(os.path.join(os.path.dirname(page), link[1])) if link[1] else page
+            yield target, link[2], line_at(text, link.start())
+
+
 def links_that_lead_nowhere():
     for page in pages():
-        text = text_of(page)
-        for link in LINK.finditer(blanked(text, FENCE)):
-            path, anchor = link[1], link[2]
-            if "://" in path:
-                continue
-            target = os.path.normpath(os.path.join(os.path.dirname(page), path)) if path else page
+        for target, anchor, line in links_of(page):
             if not os.path.exists(os.path.join(TOP, target)):
-                yield f"{page}:{line_at(text, link.start())}: no file {path}"
+                yield f"{page}:{line}: no file {target}"
             elif anchor and target.endswith(".md") and anchor not in anchors_of(text_of(target)):
-                yield f"{page}:{line_at(text, link.start())}: {target} has no part #{anchor}"
+                yield f"{page}:{line}: {target} has no part #{anchor}"
+
+
+def released_files() -> list[str]:
+    """What c/release packs: the library for C with its page, the examples, and whatever the pages among them lead to."""
+    released: set[str] = set()
+    new = {name for name in repository_files() if name.startswith(("c/", "examples/")) or name == "docs/use/c.md"}
+    while new:
+        released |= new
+        led = {target for page in new if page.endswith(".md") for target, _, _ in links_of(page)}
+        new = {name for name in repository_files() if name in led or any(name.startswith(f"{target}/") for target in led)} - released
+    return sorted(released)
 
 
 def mentions_of_no_page():

@@ -46,7 +46,7 @@ int main(int count, char **word)
     for (const rme_message &message : reader) {
         if (message.number != ++last[message.sender] || message.value[0] != 100 * message.sender + message.number)
             return 1;
-        reader.keep(); /* what it stands for is done */
+        reader.keep(); /* its effects are done */
     }
     std::cout << "read " << last[0] << " messages of service 0 and " << last[1] << " of service 1" << std::endl;
     std::cout << "segments are dropped before " << rme::drop(folder) << std::endl;

@@ -10,24 +10,23 @@ use crate::ffi;
 #[derive(Clone, Copy, Debug, PartialEq, Eq)]
 #[non_exhaustive]
 pub enum LockError {
-    /// A holder whose owner had died left without [`mended`](crate::Guard::mended): the lock is of no use any more.
+    /// The lock is ruined: after a death inside, somebody left without [`mended`](crate::Guard::mended).
     NotRecoverable,
     /// This process is inside already.
     AlreadyInside,
-    /// The readings that it was given were all blocked, or its time has passed. The seat keeps its place: the next lock waits on
-    /// there.
+    /// All of its readings were blocked, or its time has passed. The seat keeps its place: the next lock goes on waiting there.
     TimedOut,
     /// An [`Interrupter`](crate::Interrupter) has ended the wait. The seat keeps its place.
     Interrupted,
     /// Somebody is in the way of a [`try_lock`](crate::Seat::try_lock), which is not in line.
     Blocked,
-    /// Another call of this seat is under way: a lock that has timed out, which waits on or is withdrawn.
+    /// Another call of this seat is under way: a lock that has timed out, which has to go on or be withdrawn.
     Busy,
     /// All numbers of this lock are spent.
     NumbersSpent,
     /// It does not wait in line.
     NotWaiting,
-    /// The owner had not died, or it is mended already.
+    /// The owner had not died, or the lock is repaired already.
     NothingToMend,
     /// The error number of another cause.
     Other(i32),

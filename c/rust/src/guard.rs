@@ -8,9 +8,8 @@ use crate::ffi::{self, RmeSeat};
 use crate::handle::Messages;
 use crate::seat::Seat;
 
-/// A lock that is held. Dropping it leaves, but for a thread that panics: what it did inside may be half done then, so it
-/// stays inside until the [`Seat`] is dropped, and that counts as a death inside. Whoever attaches next under this index, or
-/// reaps it, learns of it.
+/// A lock that is held. Dropping it leaves the lock, except in a thread that panics: what it did inside may be half done then, so it
+/// stays inside until the [`Seat`] is dropped, and that counts as a death inside, which the next attach or a reaper reports.
 #[must_use = "a guard that is dropped leaves the lock"]
 pub struct Guard<'a> {
     seat: &'a mut Seat,
@@ -37,13 +36,13 @@ impl<'a> Guard<'a> {
     }
 
     /// Whether an earlier process of this index died inside. Then what the lock guards may be half done: end it, or undo it,
-    /// and call [`mended`](Guard::mended). A guard that is dropped before ruins the lock for all, as with POSIX.
+    /// and call [`mended`](Guard::mended). A guard that is dropped without it ruins the lock for all, as with POSIX.
     pub fn owner_died(&self) -> bool {
         self.owner_died
     }
 
-    /// After [`owner_died`](Guard::owner_died): the append that the dead one left half done is ended, and the lock counts as
-    /// mended.
+    /// After [`owner_died`](Guard::owner_died): finishes the append that the dead process left half done, and marks the lock as
+    /// repaired.
     ///
     /// # Errors
     ///

@@ -1,9 +1,9 @@
 //! A recoverable first-come first-served lock with a mailbox, between processes that may die at any instant.
 //!
 //! Processes share a file. Each [`attach`](Seat::attach)es to it under an index of its own. Whoever has its number before
-//! another asks for one enters first. Where one dies inside, nobody enters before it has: the lock of the process that is started again
-//! under its index says so, and it repairs what was left half done, and goes on. Where nobody is started again, a living process gives up
-//! its place: [`reap`](reap()) and [`Seat::lock_reaping`]. A mailbox under the lock stores each message once, even where a
+//! another asks for one enters first. Where one dies inside, nobody enters before it has entered again: it is started again under its
+//! index, its lock reports that the owner died ([`Guard::owner_died`]), and it repairs what was left half done. Where nobody starts it
+//! again, a living process releases its place: [`reap`](reap()) and [`Seat::lock_reaping`]. A mailbox under the lock stores each message once, even where a
 //! death cuts an append in two.
 //!
 //! ```
@@ -45,7 +45,7 @@
 //!     dead.data().write(0, &[0; 64]);
 //!     Repair::Done
 //! })?;
-//! assert!(!guard.owner_died()); // the dead one's place is given up, and this lock is its own
+//! assert!(!guard.owner_died()); // the dead one's place is released, and this lock is this process's own
 //! drop(guard);
 //! assert_eq!(Seat::attach(&path, 0)?.reaped(), Some(rme::Found::Inside));
 //! # std::fs::remove_dir_all(&folder)?;

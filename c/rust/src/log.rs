@@ -117,7 +117,7 @@ impl Log {
         Log::open_within(folder, index, Duration::ZERO)
     }
 
-    /// The same, and waits at most so long for a process that acts for an earlier one of this index.
+    /// The same, and waits at most this long for a process that acts for an earlier one of this index.
     ///
     /// # Errors
     ///
@@ -263,7 +263,7 @@ impl LogReader {
         self.call(log_ffi::rme_log_seek_end)
     }
 
-    /// Keeps the cursor of a named reader: what it has read so far has been dealt with.
+    /// Keeps the cursor of a named reader: what it has read so far has been processed.
     ///
     /// # Errors
     ///
@@ -272,7 +272,7 @@ impl LogReader {
         self.call(log_ffi::rme_log_keep)
     }
 
-    /// Sleeps until there is a message, at most so long: whether there is one.
+    /// Sleeps until there is a message, at most this long. Answers whether there is one.
     ///
     /// # Errors
     ///

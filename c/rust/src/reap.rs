@@ -14,11 +14,11 @@ use crate::ffi::{self, RmeRepair, RmeSeat};
 use crate::guard::Data;
 use crate::handle::c_path;
 
-/// What has become of the data that the lock guards, after a process died inside.
+/// The result of a repair of the data that the lock guards, after a process died inside.
 #[derive(Clone, Copy, Debug, PartialEq, Eq)]
 #[must_use]
 pub enum Repair {
-    /// They are as they should be.
+    /// They are repaired.
     Done,
     /// They are lost, and the lock is ruined for all.
     Lost,
@@ -28,7 +28,7 @@ pub enum Repair {
 }
 
 /// A process that died inside, for which a repair acts, inside. A repair may be killed itself and called again by the next
-/// reaper, so it must be able to start anew.
+/// reaper, so it must be idempotent.
 pub struct Dead<'a> {
     seat: *mut RmeSeat,
     index: u64,
@@ -74,14 +74,14 @@ impl Dead<'_> {
     }
 }
 
-/// Gives up the place of a process that died and is not started again, as that process would: where it died inside, `repair`
-/// is called, the mailbox is mended, and it leaves; else it gives up its place in line. It waits for nobody, and whoever is
-/// killed in here leaves the place to the next. A `repair` that panics ruins the lock, as one that answers [`Repair::Lost`].
+/// Releases the place of a process that died and is not started again. Where it died inside, `repair`
+/// is called, the mailbox is repaired, and the lock is left; else its place in line is given up. It waits for nobody. A reaper that
+/// is killed leaves the place to the next. A `repair` that panics ruins the lock, as one that answers [`Repair::Lost`].
 ///
 /// # Errors
 ///
 /// Of [`raw_os_error`](io::Error::raw_os_error) ESRCH where nobody died here, EBUSY where a living process has the index or
-/// another reaper acts for it, ENOTRECOVERABLE where its place is given up but the lock is ruined; and those of an attach.
+/// another reaper acts for it, ENOTRECOVERABLE where its place is released but the lock is ruined; and those of an attach.
 pub fn reap(path: impl AsRef<Path>, index: u64, repair: impl FnMut(&mut Dead<'_>) -> Repair) -> io::Result<()> {
     let path = c_path(path.as_ref())?;
     let mut repairing = Repairing::new(repair);

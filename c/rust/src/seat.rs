@@ -14,7 +14,7 @@ use crate::handle::{c_path, Handle, Interrupter, Messages};
 use crate::reap::{Dead, Repair, Repairing};
 use crate::status::{FileStatus, Found, IndexStatus};
 
-/// Makes the file, for `procs` processes (1 to 64), `cap` messages (1 to 65,536, which nothing ever takes out again) of `width`
+/// Makes the file, for `procs` processes (1 to 64), `cap` messages (1 to 65,536, which nothing ever removes) of `width`
 /// words (1 to 8), and `data_bytes` bytes of the caller's own, all 0. Its mode is 0600.
 ///
 /// # Errors
@@ -25,7 +25,7 @@ pub fn create(path: impl AsRef<Path>, procs: u64, cap: u64, width: u64, data_byt
     create_as(path, procs, cap, width, data_bytes, 0o600, None)
 }
 
-/// The same, with this mode, of which the umask takes nothing, and this group. Whoever may write the file can take part, and can
+/// The same, with this mode, which the umask does not change, and this group. Whoever may write the file can take part, and can
 /// break the lock for all.
 ///
 /// # Errors
@@ -83,7 +83,7 @@ impl Seat {
         Seat::attach_within(path, index, Duration::ZERO)
     }
 
-    /// The same, and waits at most so long for a reaper that acts for the index.
+    /// The same, and waits at most this long for a reaper that acts for the index.
     ///
     /// # Errors
     ///
@@ -118,7 +118,7 @@ impl Seat {
         io_result(self.handle.detach())
     }
 
-    /// Whether an earlier process of this index died, and nobody has given up its place.
+    /// Whether an earlier process of this index died, and nobody has released its place.
     pub fn crashed(&self) -> bool {
         // SAFETY: the room is a seat's.
         unsafe { ffi::rme_crashed(self.handle.shown()) }
@@ -130,7 +130,7 @@ impl Seat {
         Found::of(unsafe { ffi::rme_reaped(self.handle.shown()) })
     }
 
-    /// What [`reaped`](Seat::reaped) says is taken notice of: no later attach says it.
+    /// Acknowledges what [`reaped`](Seat::reaped) answers: from now on, and after the next attach, that is `None`.
     ///
     /// # Errors
     ///
@@ -165,7 +165,8 @@ impl Seat {
         self.enter(|seat| unsafe { ffi::rme_lock(seat) })
     }
 
-    /// The same, for `turns` blocked readings: short ones at first, then sleeps of at most a millisecond.
+    /// The same, for at most `turns` readings of words that block it: it pauses between them, and later sleeps for at most a
+    /// millisecond.
     ///
     /// # Errors
     ///
@@ -198,8 +199,8 @@ impl Seat {
         self.enter(|seat| unsafe { ffi::rme_trylock(seat) })
     }
 
-    /// A [`lock`](Seat::lock) that looks after `turns` blocked readings whether the process that blocks it lives, and gives up
-    /// its place where it does not, as [`reap`](crate::reap()) does.
+    /// A [`lock`](Seat::lock) that checks after `turns` blocked readings whether the process that blocks it lives, and releases a
+    /// dead process's place, as [`reap`](crate::reap()) does.
     ///
     /// # Errors
     ///
@@ -251,7 +252,7 @@ impl Seat {
         }
     }
 
-    /// After [`TimedOut`](LockError::TimedOut): the index that was waited for at last, and whether its process lives.
+    /// After [`TimedOut`](LockError::TimedOut): the index that it last waited for, and whether its process lives.
     ///
     /// # Errors
     ///

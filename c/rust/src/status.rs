@@ -42,13 +42,13 @@ pub enum Life {
     Absent,
     /// A living process is.
     Alive,
-    /// One died, and nobody has its place.
+    /// One died, and its place is not released.
     Dead,
     /// One died, and a reaper acts for it.
     InReaping,
 }
 
-/// How a file stands, each number read by itself.
+/// The state of a file, each number read by itself.
 #[derive(Clone, Copy, Debug, PartialEq, Eq)]
 #[non_exhaustive]
 pub struct FileStatus {
@@ -64,17 +64,17 @@ pub struct FileStatus {
     pub count: u64,
     /// Whether nothing is appended any more.
     pub closed: bool,
-    /// Whether the lock is of no use any more.
+    /// Whether the lock is ruined for good.
     pub ruined: bool,
 }
 
-/// How an index stands.
+/// The state of an index.
 #[derive(Clone, Copy, Debug, PartialEq, Eq)]
 #[non_exhaustive]
 pub struct IndexStatus {
     /// Whether a process has the index.
     pub life: Life,
-    /// Where its lock words say that it stands; none where the words are none that this library leaves.
+    /// Where its lock words say that it stands; `None` where they are corrupt.
     pub stands: Option<Found>,
     /// Where a reaper found the last process of this index that died, since an orderly detach.
     pub reaped: Option<Found>,
@@ -119,7 +119,7 @@ impl IndexStatus {
     }
 }
 
-/// A file that is looked at: nothing in it is changed, and leave to read it is enough.
+/// A file that is only read: nothing in it is changed, and read permission is enough.
 pub struct Inspection {
     handle: Handle,
 }
@@ -132,12 +132,12 @@ impl Inspection {
         Ok(Inspection { handle })
     }
 
-    /// How the file stands.
+    /// The state of the file.
     pub fn file_status(&self) -> io::Result<FileStatus> {
         self.handle.file_status()
     }
 
-    /// How an index stands. Its lease says whether a process lives.
+    /// The state of an index. Its lease shows whether a process lives.
     pub fn index_status(&self, index: u64) -> io::Result<IndexStatus> {
         self.handle.index_status(index)
     }

@@ -13,7 +13,7 @@ use Rattle.rmeworld.specs.declared.call.Call.TheVariants.{Lock, Append}
 use Rattle.execution.specs.declared.lock_fault.LockFault.{LockFault}
 use Rattle.one_lock.specs.Answers.{IsAnswered, IsReply, EndsAtLock, entry_by}
 use Rattle.one_lock.specs.Whole.{Mends, Replies, Follows, Whole}
-use Rattle.one_lock.specs.Member.{stands_entered}
+use Rattle.one_lock.specs.Member.{Trail, stands_entered}
 use Rattle.one_lock.specs.LabEndings.{WasRuined}
 use Rattle.rmeworld.specs.declared.answer.Answer.{Answer}
 use Rattle.rmeworld.specs.declared.call.Call.{Call}
@@ -65,27 +65,27 @@ mapped_from f None e is = absurd (let none : Option WorkerEnd = None in let same
 mapped_from f (Some d) e is = (d, refl, (let same : Some (f d) ≡ Some e = is in cc))
 
 -- workers that were handed back, by the states of the members of a new arena
-pub each_may : {D : Type 0} (named : Option Setup) (s : Spec) (f : D → WorkerEnd) (g : D → Seat) (l : Layout) (n : ℕ) (ds looked : List D) → looked ≡ ds → All (λ d. MayEnd named s (g d).process (f d)) ds → map (λ d. place_of (g d)) ds ≡ map place_of (new_seats l n) → EachMay named s (map f looked)
-each_may {D = D} named s f g l n ds looked is may places p e at =
+pub each_may : {D : Type 0} (named : Option Setup) (s : Spec) (f : D → WorkerEnd) (g : D → Seat) (l : Layout) (limit n : ℕ) (ds looked : List D) → looked ≡ ds → All (λ d. MayEnd named s (g d).process (f d)) ds → map (λ d. place_of (g d)) ds ≡ map place_of (new_seats l limit n) → EachMay named s (map f looked)
+each_may {D = D} named s f g l limit n ds looked is may places p e at =
     let P : D → Type 0 = λ d. MayEnd named s (g d).process (f d) in
     let place : D → ℕ × Layout = λ d. place_of (g d) in
     let here : slice_get (map f ds) p ≡ Some e = subst (λ (xs : List D). slice_get (map f xs) p ≡ Some e) is at in
     let one = mapped_from f (slice_get ds p) e (sym (slice_get-map f ds p) ∙ here) in
     let d = one.0 in
     let within : p < length ds = slice_get_within ds p d one.1 in
-    let count : length ds ≡ n = sym (length-map ds place) ∙ ap length places ∙ length-map (new_seats l n) place_of ∙ new_count l n in
+    let count : length ds ≡ n = sym (length-map ds place) ∙ ap length places ∙ length-map (new_seats l limit n) place_of ∙ new_count l limit n in
     let got : get_or ds p d ≡ d = get_or_from_slice_get ds p d d one.1 in
-    let stands : place_of (g d) ≡ (p, l) = sym (ap place got) ∙ sym (get_or-map place ds p d (place d) within) ∙ ap (λ (xs : List (ℕ × Layout)). get_or xs p (place d)) places ∙ number_at l n p (place d) (subst (λ (k : ℕ). p < k) count within) in
+    let stands : place_of (g d) ≡ (p, l) = sym (ap place got) ∙ sym (get_or-map place ds p d (place d) within) ∙ ap (λ (xs : List (ℕ × Layout)). get_or xs p (place d)) places ∙ number_at l limit n p (place d) (subst (λ (k : ℕ). p < k) count within) in
     let it : P d = subst P got (All-get_or P ds p d within may) in
     subst (MayEnd named s p) one.2 (subst (λ (k : ℕ). MayEnd named s k (f d)) (ap (λ (x : ℕ × Layout). x.0) stands) it)
 
 -- the workers of a lab that were handed back have ended in one of their ways
-pub lab_ended : {D : Type 0} (named : Option Setup) (s : Spec) (f : D → WorkerEnd) (g : D → Seat) (ds looked : List D) → named ≡ Some (setup_of s) → looked ≡ ds → All (λ d. MayEnd named s (g d).process (f d)) ds → map (λ d. place_of (g d)) ds ≡ map place_of (new_seats (setup_of s).layout s.procs)
+pub lab_ended : {D : Type 0} (named : Option Setup) (s : Spec) (f : D → WorkerEnd) (g : D → Seat) (ds looked : List D) → named ≡ Some (setup_of s) → looked ≡ ds → All (λ d. MayEnd named s (g d).process (f d)) ds → map (λ d. place_of (g d)) ds ≡ map place_of (new_seats (setup_of s).layout s.limit s.procs)
     → (length (map f looked) ≡ s.procs) × EachMay (Some (setup_of s)) s (map f looked)
 lab_ended named s f g ds looked is same may places =
     let l = (setup_of s).layout in
-    let count : length ds ≡ s.procs = sym (length-map ds (λ d. place_of (g d))) ∙ ap length places ∙ length-map (new_seats l s.procs) place_of ∙ new_count l s.procs in
-    (length-map looked f ∙ ap length same ∙ count, subst (λ (z : Option Setup). EachMay z s (map f looked)) is (each_may named s f g l s.procs ds looked same may places))
+    let count : length ds ≡ s.procs = sym (length-map ds (λ d. place_of (g d))) ∙ ap length places ∙ length-map (new_seats l s.limit s.procs) place_of ∙ new_count l s.limit s.procs in
+    (length-map looked f ∙ ap length same ∙ count, subst (λ (z : Option Setup). EachMay z s (map f looked)) is (each_may named s f g l s.limit s.procs ds looked same may places))
 
 abbrev failed : LockFault → Result ReplyOf LockFault
 failed e = Err e
@@ -94,7 +94,7 @@ same_fault : (d e : LockFault) → failed d ≡ failed e → e ≡ d
 same_fault d e is = cc
 
 -- a mending that found the lock ruined
-told_mending : (named : Option Setup) (p : ℕ) (kind : Entry) (from to : ℕ) (mended : Result Bool LockFault) → Mends named p (stands_entered (Ok kind)) from to mended → mended ≡ Err NotRecoverable → WasRuined named p
+told_mending : (named : Option Setup) (p : ℕ) (kind : Entry) (from to : Trail) (mended : Result Bool LockFault) → Mends named p (stands_entered (Ok kind)) from to mended → mended ≡ Err NotRecoverable → WasRuined named p
 told_mending named p CleanEntry from to mended (same, fine) ruin = absurd (let none : Result Bool LockFault = Ok false in let e : none ≡ Err NotRecoverable = sym fine ∙ ruin in cc)
 told_mending named p OwnerDiedEntry from to mended (a, is, told) ruin =
     record {
@@ -104,14 +104,14 @@ told_mending named p OwnerDiedEntry from to mended (a, is, told) ruin =
       told = inr (is, sym told ∙ ruin);
     }
 
-told_inside : (named : Option Setup) (p : ℕ) (task : Call) (kind : Entry) (from at replied : ℕ) (mended : Result Bool LockFault) → Mends named p (stands_entered (Ok kind)) from at mended → Replies named p task mended at replied (Err NotRecoverable) → WasRuined named p
+told_inside : (named : Option Setup) (p : ℕ) (task : Call) (kind : Entry) (from at replied : Trail) (mended : Result Bool LockFault) → Mends named p (stands_entered (Ok kind)) from at mended → Replies named p task mended at replied (Err NotRecoverable) → WasRuined named p
 told_inside named p task kind from at replied (Ok repaired) mends replies = absurd replies
 told_inside named p task kind from at replied (Err fault) mends (same, e) =
     let f : fault ≡ NotRecoverable = same_fault NotRecoverable fault e in
     told_mending named p kind from at (Err fault) mends (ap Err f)
 
 -- a lock that found it, or what came after the lock
-told_after : (named : Option Setup) (p : ℕ) (s : MemberState) (from at to : ℕ) (task : Call) (a : Option Answer) (entry : Result Entry LockFault) → IsAnswered named p s Lock None from at a → entry ≡ entry_by a → Follows named p task entry at to (Err NotRecoverable) → WasRuined named p
+told_after : (named : Option Setup) (p : ℕ) (s : MemberState) (from at to : Trail) (task : Call) (a : Option Answer) (entry : Result Entry LockFault) → IsAnswered named p s Lock None from at a → entry ≡ entry_by a → Follows named p task entry at to (Err NotRecoverable) → WasRuined named p
 told_after named p s from at to task a (Ok kind) is told works = told_inside named p task kind at works.mended_at works.replied_at works.mended works.mends works.replies
 told_after named p s from at to task a (Err fault) is told (same, e) =
     let f : fault ≡ NotRecoverable = same_fault NotRecoverable fault e in
@@ -126,12 +126,12 @@ told_after named p s from at to task a (Err fault) is told (same, e) =
 was_ruined : (named : Option Setup) (m new : Seat) (task : Call) → Whole named m task None new (Err NotRecoverable) → WasRuined named m.process
 was_ruined named m new task (inl crash) = absurd (let f : NotRecoverable ≡ Crashed = sym (same_fault NotRecoverable Crashed crash) in cc)
 was_ruined named m new task (inr (inl memory)) = absurd (let f : NotRecoverable ≡ OutOfMemory = sym (same_fault NotRecoverable OutOfMemory memory) in cc)
-was_ruined named m new task (inr (inr whole)) = told_after named m.process m.standing m.steps whole.locked_at new.steps task whole.locked (entry_by whole.locked) whole.locks refl whole.follows
+was_ruined named m new task (inr (inr whole)) = told_after named m.process m.standing m.trail whole.locked_at new.trail task whole.locked (entry_by whole.locked) whole.locks refl whole.follows
 
 -- how a call may end a worker that a crash does not end
-pub ended_by : (named : Option Setup) (m new : Seat) (to : ℕ) (task : Call) (e : LockFault) → Goes m new → of_wait e ≡ true → (e ≡ Crashed → ⊥) → EndsAtLock named m None to e → Whole named m task None new (Err e) → (s : Spec) → MayEnd named s new.process (Fault e)
+pub ended_by : (named : Option Setup) (m new : Seat) (to : Trail) (task : Call) (e : LockFault) → Goes m new → of_wait e ≡ true → (e ≡ Crashed → ⊥) → EndsAtLock named m None to e → Whole named m task None new (Err e) → (s : Spec) → MayEnd named s new.process (Fault e)
 ended_by named m new to task NumbersSpent goes wait crash spent whole s =
-    inl (refl, record { standing = m.standing; from = m.steps; to = to; answered = subst (λ (p : ℕ). IsAnswered named p m.standing Lock None m.steps to (Some SpentAnswer)) (sym goes.0) spent })
+    inl (refl, record { standing = m.standing; from = m.trail; to = to; answered = subst (λ (p : ℕ). IsAnswered named p m.standing Lock None m.trail to (Some SpentAnswer)) (sym goes.0) spent })
 ended_by named m new to task NotRecoverable goes wait crash told whole s = inr (inl (refl, subst (WasRuined named) (sym goes.0) (was_ruined named m new task whole)))
 ended_by named m new to task OutOfMemory goes wait crash told whole s = inr (inr refl)
 ended_by named m new to task Crashed goes wait crash told whole s = absurd (crash refl)

@@ -13,5 +13,5 @@ pub use Rattle.one_lock.specs.declared.lab.spec.Spec.{Spec}
 pub use Rattle.one_lock.specs.Endings.{fault_by}
 pub use Rattle.one_lock.specs.LabEndings.{HaveAllSent, WantedMemory, IsOfLeast, IsReplyTo, WasSent, WereSent, MayEnd, HaveSentBelow, MayEndLab, WasRefused}
 pub use Rattle.one_lock.specs.Lab.{setup_of, words_sent}
-pub use Rattle.one_lock.specs.Member.{Seat, Goes, of_wait, new_seats, steps_taken}
+pub use Rattle.one_lock.specs.Member.{Seat, Goes, of_wait, new_seat, new_seats, steps_taken}
 pub use Rattle.one_lock.specs.Shown.{place_of, CanSend, AreShown}

@@ -2,6 +2,10 @@ pub mod Common
 pub mod Executions
 pub mod Steps
 pub mod Seats
+pub mod Turns
+pub mod OwnSteps
+pub mod UnderWay
+pub mod Events
 pub mod Answered
 pub mod Concluded
 pub mod Whole

@@ -1,5 +1,5 @@
--- What a member's call answers: what the world under the mutex answers its process.
-use Rattle.std.specs.Prelude.{◌≡◌, ◌≢◌, ◌↔◌, ◌+◌, ◌≤◌, ℕ, zero, suc, Bool, true, false, ◌⊎◌, Option, Some, None, IsNone, IsTrue, List, [], ◌∷◌, length, Result, Ok, Err}
+-- What a member's call answers: what the world under the mutex and the machine of its process answer.
+use Rattle.std.specs.Prelude.{◌≡◌, ◌≢◌, ◌↔◌, ◌≤◌, ℕ, zero, suc, Bool, true, false, ◌⊎◌, Option, Some, None, IsNone, IfSome, IsTrue, List, [], ◌∷◌, ◌++◌, Result, Ok, Err}
 use Rattle.rmecore.specs.Simulated.{tally_at}
 use Rattle.rmecore.specs.declared.refusal.Refusal.{Refusal}
 use Rattle.rmecore.specs.declared.refusal.Refusal.TheVariants.{OutOfMemory as WantsMemory}
@@ -11,18 +11,24 @@ use Rattle.rmeworld.specs.declared.call.Call.{Call}
 use Rattle.rmeworld.specs.declared.call.Call.TheVariants.{Lock}
 use Rattle.rmeworld.specs.declared.answer.Answer.{Answer}
 use Rattle.rmeworld.specs.declared.answer.Answer.TheVariants.{Clean, OwnerDied, NumbersSpent, Found as FoundOut, Mail}
+use Rattle.rmeworld.specs.declared.outcome.Outcome.{Outcome}
+use Rattle.rmeworld.specs.MachineState.{MachineState}
+use Rattle.rmeworld.specs.ReplyEvents.{HasEvents}
 use Rattle.rmeworld.specs.Replayed.{stepped, advanced, started, crashed, start_refusal, advance_refusal, crash_refusal}
 use Rattle.rmeworld.specs.WorldState.{WorldState}
+use Rattle.execution.specs.Under.{Fits}
 use Rattle.execution.specs.declared.entry_kind.Entry.{Entry}
 use Rattle.execution.specs.declared.entry_kind.Entry.TheVariants.{Clean as CleanEntry, OwnerDied as OwnerDiedEntry}
 use Rattle.execution.specs.declared.lock_fault.LockFault.{LockFault}
 use Rattle.execution.specs.declared.lock_fault.LockFault.TheVariants.{Crashed, NotYet, NumbersSpent as SpentFault, NotRecoverable as RuinFault, OutOfMemory}
+use Rattle.execution.specs.declared.setup.Setup.{Setup}
 use Rattle.one_lock.specs.declared.opening.Opening.{Opening}
+use Rattle.one_lock.specs.declared.turn.Turn.{Turn}
 use Rattle.one_lock.specs.declared.member_state.MemberState.{MemberState}
 use Rattle.one_lock.specs.declared.member_state.MemberState.TheVariants.{Mended}
-use Rattle.one_lock.specs.Member.{Seat, is_lost}
-use Rattle.execution.specs.declared.setup.Setup.{Setup}
 use Rattle.one_lock.specs.Execution.{IsTold, AreSizes}
+use Rattle.one_lock.specs.Member.{Seat, Trail, is_lost}
+use Rattle.one_lock.specs.Trails.{crashed_if, opened_machine, Accepts, IsEventOf, moved_machine, answer_with, is_blocked_with, first_of, further, opening_after, machine_after, blocked_along, events_along, grown}
 
 -- the world after the crash of p, if there is one
 abbrev pub crash_by : Bool → ℕ → WorldState → WorldState
@@ -67,40 +73,40 @@ abbrev pub IsBlocked : ℕ → WorldState → Type 0
 IsBlocked p s = (tally_at (advanced s p).tallies p).blocked ≢ (tally_at s.tallies p).blocked
 
 -- Some run from all words 0 ends in a world with the sizes that are named. A step of p with this opening isn't refused
--- there, gives this answer, and is blocked or not.
-pub record Gives (named : Option Setup) (p : ℕ) (o : Opening) (answer : Option Answer) (blocked : Bool) : Type 0 where
+-- there, and this turn is its report.
+pub record Reports (named : Option Setup) (p : ℕ) (o : Opening) (turn : Turn) : Type 0 where
   pub world : WorldState
   pub steps : ℕ
   pub told : IsTold world steps
   pub sizes : AreSizes named world.layout world.limit
   pub opens : Opens p o world
   pub accepted : advance_refusal (opened o p world) p ≡ None
-  pub given : (stepped (opened o p world) p).answer ≡ answer
-  pub held : IsTrue blocked ↔ IsBlocked p (opened o p world)
+  pub happened : (stepped (opened o p world) p).happened ≡ turn.happened
+  pub given : (stepped (opened o p world) p).answer ≡ turn.answer
+  pub held : IsTrue turn.blocked ↔ IsBlocked p (opened o p world)
 
--- the opening of a call's first step, and of its later ones
-abbrev pub first_of : MemberState → Call → Opening
-first_of standing call = record { crash = is_lost standing; call = Some call }
+-- A machine has taken the step that a world reports: the same event, with the same answer, blocked or not.
+pub record Mirrors (o : Opening) (turn : Turn) (s : MachineState) : Type 0 where
+  pub accepts : Accepts o.call (crashed_if o.crash s)
+  pub event : IsEventOf (opened_machine o s) turn.happened
+  pub answer : turn.answer ≡ answer_with o s turn.happened.value
+  pub blocked : turn.blocked ≡ is_blocked_with o s turn.happened.value
 
--- the opening of a later step: no crash and no start
-abbrev pub further : Opening
-further = record { crash = false; call = None }
+-- A step of p's machine with this opening and value is one that some world reports.
+pub record Gives (named : Option Setup) (p : ℕ) (o : Opening) (s : MachineState) (v : ℕ) : Type 0 where
+  pub turn : Turn
+  pub reports : Reports named p o turn
+  pub mirrors : Mirrors o turn s
+  pub value : turn.happened.value ≡ v
 
--- the opening of the step after these, each given by whether it was blocked
-abbrev pub opening_after : Opening → List Bool → Opening
-opening_after first [] = first
-opening_after first (b ∷ bs) = further
+-- what the trail says of one more step of p
+abbrev pub TrailGrows : Option Setup → ℕ → Opening → Trail → Outcome → Trail → Type 0
+TrailGrows named p o old outcome new = (v : ℕ) × (new ≡ grown o old v) × Gives named p o old.machine v × (outcome.answer ≡ answer_with o old.machine v) × (outcome.progress.blocked ≡ is_blocked_with o old.machine v)
 
--- p took these steps of a call, the last one first, and none of them had an answer
-abbrev pub HasTaken : Option Setup → ℕ → Opening → List Bool → Type 0
-HasTaken named p first [] = Unit {0}
-HasTaken named p first (b ∷ bs) = HasTaken named p first bs × Gives named p (opening_after first bs) None b
-
--- the number of blocked steps
-abbrev pub count_blocked : List Bool → ℕ
-count_blocked [] = 0
-count_blocked (true ∷ bs) = suc (count_blocked bs)
-count_blocked (false ∷ bs) = count_blocked bs
+-- p's machine took steps of a call with these values, and none of them had an answer
+abbrev pub HasTaken : Option Setup → ℕ → Opening → MachineState → List ℕ → Type 0
+HasTaken named p first s [] = Unit {0}
+HasTaken named p first s (v ∷ vs) = Gives named p first s v × (answer_with first s v ≡ None) × HasTaken named p further (moved_machine first s v) vs
 
 -- the turns are enough for k blocked steps; without a limit they always are
 abbrev pub Suffice : Option ℕ → ℕ → Type 0
@@ -113,21 +119,28 @@ spent None = None
 spent (Some zero) = Some zero
 spent (Some (suc turns)) = Some turns
 
--- A call of p took a member's own steps from one count to another. Its last step gave this answer, the steps before it gave
--- none, and no more of them were blocked than the call had turns. Without an answer exactly as many were blocked, and the
--- last step too.
-pub record IsAnswered (named : Option Setup) (p : ℕ) (standing : MemberState) (call : Call) (turns : Option ℕ) (from to : ℕ) (answer : Option Answer) : Type 0 where
-  pub before : List Bool
-  pub blocked : Bool
-  pub taken : HasTaken named p (first_of standing call) before
-  pub given : Gives named p (opening_after (first_of standing call) before) answer blocked
-  pub counted : to ≡ from + suc (length before)
-  pub few : Suffice turns (count_blocked before)
-  pub gives_up : IsNone answer → (blocked ≡ true) × (turns ≡ Some (count_blocked before))
+-- A call of p took its trail from one to another. Its last step gave this answer, which fits the call and has the events that
+-- the table of replies asks for. The steps before it gave none, and no more of them were blocked than the call had turns. Without an answer exactly as many were blocked, and
+-- the last step too.
+pub record IsAnswered (named : Option Setup) (p : ℕ) (standing : MemberState) (call : Call) (turns : Option ℕ) (from to : Trail) (answer : Option Answer) : Type 0 where
+  pub index : from.machine.index ≡ p
+  pub sizes : AreSizes named from.machine.layout from.machine.limit
+  pub before : List ℕ
+  pub last : ℕ
+  pub taken : HasTaken named p (first_of standing call) from.machine before
+  pub given : Gives named p (opening_after (first_of standing call) before) (machine_after (first_of standing call) from.machine before) last
+  pub answered : answer_with (opening_after (first_of standing call) before) (machine_after (first_of standing call) from.machine before) last ≡ answer
+  pub fits : IfSome answer (Fits call)
+  pub events : IfSome answer (λ a. HasEvents from.machine.layout from.machine.limit p (crashed_if (is_lost standing) from.machine).mended call a (events_along (first_of standing call) from.machine (before ++ last ∷ [])))
+  pub values : to.values ≡ from.values ++ (before ++ last ∷ [])
+  pub machine : to.machine ≡ machine_after (first_of standing call) from.machine (before ++ last ∷ [])
+  pub few : Suffice turns (blocked_along (first_of standing call) from.machine before)
+  pub gives_up : IsNone answer
+      → (is_blocked_with (opening_after (first_of standing call) before) (machine_after (first_of standing call) from.machine before) last ≡ true) × (turns ≡ Some (blocked_along (first_of standing call) from.machine before))
 
 -- The result of a member's call is the one of its process's answer, or the call was cut off.
 pub record Answered {T : Type 0} (named : Option Setup) (by : Option Answer → Result T LockFault) (old : Seat) (call : Call) (turns : Option ℕ) (new : Seat) (result : Result T LockFault) : Type 0 where
-  pub told : (result ≡ Err Crashed) ⊎ ((result ≡ Err OutOfMemory) ⊎ ((answer : Option Answer) × (IsAnswered named old.process old.standing call turns old.steps new.steps answer × (result ≡ by answer))))
+  pub told : (result ≡ Err Crashed) ⊎ ((result ≡ Err OutOfMemory) ⊎ ((answer : Option Answer) × (IsAnswered named old.process old.standing call turns old.trail new.trail answer × (result ≡ by answer))))
 
 -- the results of a lock (without an answer it has used up its turns), a recovery, a mending, a reading of the board, a call
 -- without a result, and a task, by the answer of the process
@@ -161,13 +174,13 @@ reply_by _ = Done
 -- A task of a process that is in and has mended was given an answer, and this is its reply.
 pub record IsReply (named : Option Setup) (p : ℕ) (call : Call) (reply : Reply) : Type 0 where
   pub answer : Answer
-  pub from : ℕ
-  pub to : ℕ
+  pub from : Trail
+  pub to : Trail
   pub answered : IsAnswered named p Mended call None from to (Some answer)
   pub is : reply ≡ reply_by (Some answer)
 
--- A whole mailbox call that ends with what its lock was answered, after the lock's steps alone, up to this count.
-abbrev pub EndsAtLock : Option Setup → Seat → Option ℕ → ℕ → LockFault → Type 0
-EndsAtLock named old turns to NotYet = IsAnswered named old.process old.standing Lock turns old.steps to None
-EndsAtLock named old turns to SpentFault = IsAnswered named old.process old.standing Lock turns old.steps to (Some NumbersSpent)
+-- A whole mailbox call that ends with what its lock was answered, after the lock's steps alone.
+abbrev pub EndsAtLock : Option Setup → Seat → Option ℕ → Trail → LockFault → Type 0
+EndsAtLock named old turns to NotYet = IsAnswered named old.process old.standing Lock turns old.trail to None
+EndsAtLock named old turns to SpentFault = IsAnswered named old.process old.standing Lock turns old.trail to (Some NumbersSpent)
 EndsAtLock named old turns to _ = Unit {0}

@@ -16,6 +16,7 @@ use Rattle.one_lock.specs.declared.member_state.MemberState.{MemberState}
 use Rattle.one_lock.specs.declared.member_state.MemberState.TheVariants.{Unmended}
 use Rattle.one_lock.specs.Answers.{IsAnswered, IsReply, entry_by, mended_by}
 use Rattle.one_lock.specs.Endings.{fault_by}
+use Rattle.one_lock.specs.Member.{Trail}
 use Rattle.one_lock.specs.Lab.{setup_of, words_sent}
 
 -- each worker has sent all its messages
@@ -38,20 +39,20 @@ pub record IsOfLeast (endings : List WorkerEnd) (fault : LabFault) : Type 0 wher
 -- with the sizes that are named.
 pub record WasSpent (named : Option Setup) (p : ℕ) : Type 0 where
   pub standing : MemberState
-  pub from : ℕ
-  pub to : ℕ
+  pub from : Trail
+  pub to : Trail
   pub answered : IsAnswered named p standing Lock None from to (Some SpentAnswer)
 
 -- the answer of a lock of p, without a limit of turns, or of a mending of p shows that the lock is ruined
-abbrev pub IsRuin : Option Setup → ℕ → ℕ → ℕ → Option Answer → Type 0
+abbrev pub IsRuin : Option Setup → ℕ → Trail → Trail → Option Answer → Type 0
 IsRuin named p from to answer =
     ((standing : MemberState) × IsAnswered named p standing Lock None from to answer × (entry_by answer ≡ Err NotRecoverable))
     ⊎ (IsAnswered named p Unmended Consistent None from to answer × (mended_by answer ≡ Err NotRecoverable))
 
 -- p has found the lock ruined, in a world with the sizes that are named
 pub record WasRuined (named : Option Setup) (p : ℕ) : Type 0 where
-  pub from : ℕ
-  pub to : ℕ
+  pub from : Trail
+  pub to : Trail
   pub answer : Option Answer
   pub told : IsRuin named p from to answer
 

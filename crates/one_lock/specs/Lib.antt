@@ -2,6 +2,7 @@ pub mod Lab
 pub mod Endings
 pub mod Execution
 pub mod Member
+pub mod Trails
 pub mod Answers
 pub mod Whole
 pub mod LabEndings

@@ -5,6 +5,7 @@ use Rattle.crash_plans.specs.Plans.{Askings}
 use Rattle.rmecore.specs.declared.found.Found.{Found}
 use Rattle.rmecore.specs.declared.found.Found.TheVariants.{Inside as FoundInside}
 use Rattle.redomail.specs.declared.layout.Layout.{Layout}
+use Rattle.rmeworld.specs.MachineState.{MachineState, resting}
 use Rattle.rmeworld.specs.declared.call.Call.{Call}
 use Rattle.rmeworld.specs.declared.call.Call.TheVariants.{Lock, Recover, Consistent, Append, Close, Withdraw}
 use Rattle.execution.specs.declared.lock_fault.LockFault.{LockFault}
@@ -14,19 +15,29 @@ use Rattle.execution.specs.declared.entry_kind.Entry.TheVariants.{Clean, OwnerDi
 use Rattle.one_lock.specs.declared.member_state.MemberState.{MemberState}
 use Rattle.one_lock.specs.declared.member_state.MemberState.TheVariants.{Out, Lost, Mended, Unmended}
 
+-- the machine of a process, which is its private memory, and the values that its own steps have read or written, in order
+pub record Trail : Type 0 where
+  pub machine : MachineState
+  pub values : List ℕ
+
 -- a member: its process, the sizes of its arena, its state between its calls, its own steps so far (its share of the
--- ledger), and those of the last call that was started, at most the greatest u64
+-- ledger), those of the last call that was started, at most the greatest u64, and its trail
 pub record Seat : Type 0 where
   pub process : ℕ
   pub layout : Layout
   pub standing : MemberState
   pub steps : ℕ
   pub counted : ℕ
+  pub trail : Trail
 
--- the members of a new arena, all at rest, from process 0 on
-abbrev pub new_seats : Layout → ℕ → List Seat
-new_seats l zero = []
-new_seats l (suc n) = new_seats l n ++ record { process = n; layout = l; standing = Out; steps = 0; counted = 0 } ∷ []
+-- process n of a new arena, at rest
+abbrev pub new_seat : Layout → ℕ → ℕ → Seat
+new_seat l limit n = record { process = n; layout = l; standing = Out; steps = 0; counted = 0; trail = record { machine = resting l limit n; values = [] } }
+
+-- the members of a new arena, from process 0 on
+abbrev pub new_seats : Layout → ℕ → ℕ → List Seat
+new_seats l limit zero = []
+new_seats l limit (suc n) = new_seats l limit n ++ new_seat l limit n ∷ []
 
 -- the member is in the section
 abbrev pub is_in : MemberState → Bool

@@ -2,6 +2,7 @@
 
 ghost use Rattle.std.specs.Prelude.{◌≡◌, ◌≤◌, IfOk, IfErr, OnOk, None, All};
 ghost use Rattle.rmecore.specs.Simulated.{cause};
+ghost use Rattle.rmeworld.specs.MachineState.{IsSize};
 ghost use Rattle.rmeworld.specs.WorldState.{new_refusal};
 ghost use Rattle.one_lock.specs.Member.{new_seats, AreAll};
 ghost use Rattle.one_lock.specs.Execution.{AreSizes};
@@ -36,7 +37,8 @@ impl Arena {
         requires each { blank.parts ≡ procs }
         ensures accepted { OnOk result (new_refusal (record { procs = procs; cap = cap; width = width }) limit ≡ None) }
         ensures refused { IfErr result (λ e. new_refusal (record { procs = procs; cap = cap; width = width }) limit ≡ cause e) }
-        ensures ok { IfOk result (λ members. members.items ≡ new_seats (record { procs = procs; cap = cap; width = width }) procs) }
+        ensures ok { IfOk result
+            (λ members. members.items ≡ new_seats (record { procs = procs; cap = cap; width = width }) limit procs) }
         ensures arena { IfOk result (λ members. All (λ m. m.layout.procs ≡ L.parts) members.items) }
         ensures all { IfOk result (λ members. AreAll L.parts members.items) }
     {
@@ -58,7 +60,8 @@ impl Arena {
         requires each { blank.parts ≡ procs }
         ensures accepted { OnOk result (new_refusal (record { procs = procs; cap = cap; width = width }) limit ≡ None) }
         ensures refused { IfErr result (λ e. new_refusal (record { procs = procs; cap = cap; width = width }) limit ≡ cause e) }
-        ensures ok { IfOk result (λ members. members.items ≡ new_seats (record { procs = procs; cap = cap; width = width }) procs) }
+        ensures ok { IfOk result
+            (λ members. members.items ≡ new_seats (record { procs = procs; cap = cap; width = width }) limit procs) }
         ensures arena { IfOk result (λ members. All (λ m. m.layout.procs ≡ L.parts) members.items) }
         ensures all { IfOk result (λ members. AreAll L.parts members.items) }
     {
@@ -66,7 +69,7 @@ impl Arena {
         let layout = Layout { procs, cap, width };
         let (book, all) = blank.open::<L>();
         let shared = Arc::new(alloc, Mutex::new(Shared::new(world, book)))?;
-        members_of(alloc, layout, shared, all)
+        members_of(alloc, layout, limit, shared, all)
     }
 }
 
@@ -74,20 +77,24 @@ impl Arena {
 fn members_of<L: Ledger, S: Sizes>(
     alloc: Global,
     layout: Layout,
+    limit: u64,
     shared: Arc<Mutex<Shared<L, S>>>,
     mut all: Share<L>,
 ) -> Result<Vec<Member<L, S>>, Refusal>
+    requires size { IsSize layout }
+    requires limited { 1 ≤ limit }
+    requires sizes { AreSizes S.named layout limit }
     requires few { layout.procs ≤ 64 }
     requires parts { all.parts ≡ layout.procs }
     requires none { all.amount ≡ 0 }
     ensures memory { IfErr result (λ e. e ≡ Refusal.OutOfMemory) }
-    ensures ok { IfOk result (λ members. members.items ≡ new_seats layout layout.procs) }
+    ensures ok { IfOk result (λ members. members.items ≡ new_seats layout limit layout.procs) }
 {
     let mut members = Vec::new(alloc);
     for process in 0..layout.procs {
         let share = all.split_off(1, 0);
         let shared = Arc::try_clone(&shared)?;
-        members.push(Member::new(process, layout, shared, share))?;
+        members.push(Member::new(process, layout, limit, shared, share))?;
     }
     Ok(members)
 }

@@ -14,8 +14,10 @@ mod mailing;
 pub mod member;
 pub mod member_state;
 mod opening;
+mod own_process;
 mod shared;
 pub mod sizes;
+mod turn;
 
 pub use arena::Arena;
 pub use execution::Entry;

@@ -54,7 +54,7 @@ impl<L: Ledger, S: Sizes> Member<L, S> {
             → length value ≡ self.old.layout.width → self.new.standing ≡ stands_out result }
         ensures faults { is_in self.old.standing ≡ false
             → length value ≡ self.old.layout.width → IfErr result (λ e. of_lock e ≡ true) }
-        ensures at_lock { IfErr result (EndsAtLock S.named self.old (Some turns) self.new.steps) }
+        ensures at_lock { IfErr result (EndsAtLock S.named self.old (Some turns) self.new.trail) }
         ensures whole { is_in self.old.standing ≡ false → length value ≡ self.old.layout.width
             → Whole S.named self.old (Call.Append seq value) (Some turns) self.new result }
         ensures answered { IfOk result (λ reply. IsReply S.named self.old.process (Call.Append seq value) reply) }
@@ -86,7 +86,7 @@ impl<L: Ledger, S: Sizes> Member<L, S> {
             → length value ≡ self.old.layout.width → self.new.standing ≡ stands_out result }
         ensures faults { is_in self.old.standing ≡ false
             → length value ≡ self.old.layout.width → IfErr result (λ e. of_wait e ≡ true) }
-        ensures at_lock { IfErr result (EndsAtLock S.named self.old None self.new.steps) }
+        ensures at_lock { IfErr result (EndsAtLock S.named self.old None self.new.trail) }
         ensures whole { is_in self.old.standing ≡ false → length value ≡ self.old.layout.width
             → Whole S.named self.old (Call.Append seq value) None self.new result }
         ensures answered { IfOk result (λ reply. IsReply S.named self.old.process (Call.Append seq value) reply) }
@@ -119,7 +119,7 @@ impl<L: Ledger, S: Sizes> Member<L, S> {
             → length value ≡ self.old.layout.width → self.new.standing ≡ stands_out result }
         ensures faults { is_in self.old.standing ≡ false
             → length value ≡ self.old.layout.width → IfErr result (λ e. of_lock e ≡ true) }
-        ensures at_lock { IfErr result (EndsAtLock S.named self.old turns self.new.steps) }
+        ensures at_lock { IfErr result (EndsAtLock S.named self.old turns self.new.trail) }
         ensures whole { is_in self.old.standing ≡ false → length value ≡ self.old.layout.width
             → Whole S.named self.old (Call.Append seq value) turns self.new result }
         ensures answered { IfOk result (λ reply. IsReply S.named self.old.process (Call.Append seq value) reply) }
@@ -146,7 +146,7 @@ impl<L: Ledger, S: Sizes> Member<L, S> {
         ensures goes { Goes self.old self.new }
         ensures stands { is_in self.old.standing ≡ false → self.new.standing ≡ stands_out result }
         ensures faults { is_in self.old.standing ≡ false → IfErr result (λ e. of_lock e ≡ true) }
-        ensures at_lock { IfErr result (EndsAtLock S.named self.old (Some turns) self.new.steps) }
+        ensures at_lock { IfErr result (EndsAtLock S.named self.old (Some turns) self.new.trail) }
         ensures whole { is_in self.old.standing ≡ false → Whole S.named self.old Call.Close (Some turns) self.new result }
         ensures answered { IfOk result (λ reply. IsReply S.named self.old.process Call.Close reply) }
     {
@@ -164,7 +164,7 @@ impl<L: Ledger, S: Sizes> Member<L, S> {
         ensures goes { Goes self.old self.new }
         ensures stands { is_in self.old.standing ≡ false → self.new.standing ≡ stands_out result }
         ensures faults { is_in self.old.standing ≡ false → IfErr result (λ e. of_wait e ≡ true) }
-        ensures at_lock { IfErr result (EndsAtLock S.named self.old None self.new.steps) }
+        ensures at_lock { IfErr result (EndsAtLock S.named self.old None self.new.trail) }
         ensures whole { is_in self.old.standing ≡ false → Whole S.named self.old Call.Close None self.new result }
         ensures answered { IfOk result (λ reply. IsReply S.named self.old.process Call.Close reply) }
     {
@@ -191,7 +191,7 @@ impl<L: Ledger, S: Sizes> Member<L, S> {
         ensures goes { Goes self.old self.new }
         ensures stands { is_in self.old.standing ≡ false → self.new.standing ≡ stands_out result }
         ensures faults { is_in self.old.standing ≡ false → IfErr result (λ e. of_lock e ≡ true) }
-        ensures at_lock { IfErr result (EndsAtLock S.named self.old turns self.new.steps) }
+        ensures at_lock { IfErr result (EndsAtLock S.named self.old turns self.new.trail) }
         ensures whole { is_in self.old.standing ≡ false → Whole S.named self.old call turns self.new result }
         ensures answered { IfOk result (λ reply. IsReply S.named self.old.process call reply) }
     {
@@ -230,7 +230,7 @@ impl<L: Ledger, S: Sizes> Member<L, S> {
         ensures lost { OnErr result (self.new.standing ≡ MemberState.Lost) }
         ensures only { IfErr result (λ e. (e ≡ LockFault.Crashed) ⊎ (e ≡ LockFault.OutOfMemory)) }
         ensures works { IfOk result
-            (λ reply. Works S.named self.old.process call self.old.standing self.old.steps self.new.steps reply) }
+            (λ reply. Works S.named self.old.process call self.old.standing self.old.trail self.new.trail reply) }
         ensures answered { IfOk result (λ answer. IfOk answer (λ reply. IsReply S.named self.old.process call reply)) }
     {
         let mended = self.mend(rt, plan)?;
@@ -257,7 +257,7 @@ impl<L: Ledger, S: Sizes> Member<L, S> {
         ensures fallen { (P.askings plan.new).fallen ≡ falls_by result (P.askings plan.old).fallen }
         ensures stands { IfOk result (λ mended. self.new.standing ≡ stands_mended mended) }
         ensures mends { IfOk result
-            (λ mended. Mends S.named self.old.process self.old.standing self.old.steps self.new.steps mended) }
+            (λ mended. Mends S.named self.old.process self.old.standing self.old.trail self.new.trail mended) }
         ensures faults { IfOk result (λ mended. IfErr mended (λ e. e ≡ LockFault.NotRecoverable)) }
         ensures lost { OnErr result (self.new.standing ≡ MemberState.Lost) }
         ensures only { IfErr result (λ e. (e ≡ LockFault.Crashed) ⊎ (e ≡ LockFault.OutOfMemory)) }

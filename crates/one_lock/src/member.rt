@@ -2,24 +2,30 @@
 
 ghost use Rattle.std.specs.Prelude.{◌≡◌, ℕ, ◌<◌, ◌≤◌, ◌+◌, ◌↔◌, IfOk, IfErr, OnOk, OnErr, Some, IsNone, IsSome, IsTrue, true, false};
 ghost use Rattle.rmecore.specs.Simulated.{one_more};
-ghost use Rattle.one_lock.specs.Member.{Goes, AskedEach, AskedOnceMore, Counts, CountsOn, falls_by, may_start};
-ghost use Rattle.one_lock.specs.Answers.{Gives, IsAnswered, spent};
+ghost use Rattle.one_lock.specs.Member.{Goes, AskedEach, AskedOnceMore, Counts, CountsOn, falls_by, may_start, new_seat};
+ghost use Rattle.rmeworld.specs.MachineState.{IsSize};
+ghost use Rattle.rmeworld.specs.WorldState.{HasConfiguration};
+ghost use Rattle.one_lock.specs.Answers.{Mirrors, TrailGrows, IsAnswered, spent};
+ghost use Rattle.one_lock.specs.Execution.{AreSizes};
+ghost use Rattle.one_lock.specs.Trails.{IsOwnTrail, grown, answer_with, is_blocked_with};
 
 use crate::member_state::MemberState;
 use crate::opening::Opening;
-use crate::shared::{Shared, Turn};
+use crate::own_process::OwnProcess;
+use crate::shared::Shared;
 use crate::sizes::{AnySizes, Sizes};
+use crate::turn::Turn;
 use crash_plans::CrashPlan;
 use crossbeam_utils::Backoff;
 use execution::LockFault;
 use redomail::Layout;
-use rmeworld::{Answer, Call};
+use rmeworld::{Answer, Call, Outcome};
 use std::marker::Model;
 use std::sync::ledger::{Ledger, Share};
 use std::sync::{Arc, Mutex, Wait};
 
 /// The access of one process to the world. It may move to a thread. Its share of the ledger counts its own steps and takes
-/// no bytes. The steps of its last call are a number of their own.
+/// no bytes. The steps of its last call are a number of their own. It steps its process's machine beside the world's.
 #[derive(Drop)]
 pub struct Member<L: Ledger, S: Sizes = AnySizes> {
     pub(super) process: u64,
@@ -28,17 +34,43 @@ pub struct Member<L: Ledger, S: Sizes = AnySizes> {
     pub(super) shared: Arc<Mutex<Shared<L, S>>>,
     pub(super) share: Share<L>,
     pub(super) counted: u64,
+    pub(super) own: OwnProcess,
 }
 
 impl<L: Ledger, S: Sizes> Model for Member<L, S> {
     ghost use Rattle.std.specs.Prelude.{◌≡◌, ◌<◌};
     ghost use Rattle.one_lock.specs.Member.{Seat};
+    ghost use Rattle.one_lock.specs.Trails.{IsOwnTrail};
 
     ghost Value = { Seat };
 
-    ghost view = { λ m. record { process = m.process; layout = m.layout; standing = m.standing; steps = m.share.amount; counted = m.counted } };
+    ghost view = { λ m. record { process = m.process; layout = m.layout; standing = m.standing; steps = m.share.amount; counted = m.counted; trail = m.own } };
 
-    ghost invariant = { λ m. (m.share.parts ≡ 1) × (m.process < 64) };
+    ghost invariant = { λ m. (m.share.parts ≡ 1) × (m.process < 64) × IsOwnTrail S.named (record { process = m.process; layout = m.layout; standing = m.standing; steps = m.share.amount; counted = m.counted; trail = m.own }) };
+}
+
+/// Waits for ever.
+fn never_return<R: Wait>(rt: &R)
+    ensures { ⊥ }
+{
+    for _ in rt.forever() {}
+    unreachable!()
+}
+
+/// Takes the step that the world has taken. The world has one member for each process, so it takes the step that the member's
+/// machine is at. No contract says so of a world under a mutex: where it did not, the call would not return.
+fn follow<R: Wait>(rt: &R, own: &mut OwnProcess, opening: Opening, turn: Turn) -> Outcome
+    ensures mirrors { Mirrors opening turn own.old.machine }
+    ensures trail { own.new ≡ grown opening own.old turn.happened.value }
+    ensures outcome { (result.answer ≡ answer_with opening own.old.machine turn.happened.value)
+        × (result.progress.blocked ≡ is_blocked_with opening own.old.machine turn.happened.value) }
+    ensures sizes { HasConfiguration own.old.machine.layout own.old.machine.limit own.old.machine.index own.new.machine }
+{
+    let Some(outcome) = own.follow(opening, turn) else {
+        never_return(rt);
+        unreachable!()
+    };
+    outcome
 }
 
 /// Takes one of the turns that are left. True: there was none. With no limit of turns it is never true.
@@ -61,12 +93,18 @@ impl<L: Ledger, S: Sizes> Member<L, S> {
     pub(super) fn new(
         process: u64,
         layout: Layout,
+        limit: u64,
         shared: Arc<Mutex<Shared<L, S>>>,
         share: Share<L>,
     ) -> Member<L, S>
+        requires size { IsSize layout }
+        requires limited { 1 ≤ limit }
+        requires sizes { AreSizes S.named layout limit }
+        requires below { process < layout.procs }
+        requires few { layout.procs ≤ 64 }
         requires part { share.parts ≡ 1 }
-        requires few { process < 64 }
-        ensures { result ≡ record { process = process; layout = layout; standing = MemberState.Out; steps = share.amount; counted = 0 } }
+        requires none { share.amount ≡ 0 }
+        ensures { result ≡ new_seat layout limit process }
     {
         Member {
             process,
@@ -75,6 +113,7 @@ impl<L: Ledger, S: Sizes> Member<L, S> {
             shared,
             share,
             counted: 0,
+            own: OwnProcess::new(layout, limit, process),
         }
     }
 
@@ -82,6 +121,7 @@ impl<L: Ledger, S: Sizes> Member<L, S> {
     pub fn process(&self) -> u64
         ensures value { result ≡ self.now.process }
         ensures few { result < 64 }
+        ensures trail { IsOwnTrail S.named self.now }
     {
         self.process
     }
@@ -133,29 +173,32 @@ impl<L: Ledger, S: Sizes> Member<L, S> {
         rt: &R,
         plan: &mut P,
         opening: Opening,
-    ) -> Result<Turn, LockFault>
+    ) -> Result<Outcome, LockFault>
         ensures asked { (P.askings plan.new).asked ≡ one_more (P.askings plan.old).asked }
         ensures fallen { (P.askings plan.new).fallen ≡ falls_by result (P.askings plan.old).fallen }
-        ensures ok { OnOk result (self.new ≡ record self.old { steps = self.old.steps + 1; counted = one_more self.old.counted }) }
+        ensures ok { OnOk result (self.new ≡ record self.old {
+          steps = self.old.steps + 1;
+          counted = one_more self.old.counted;
+          trail = self.new.trail;
+        }) }
+        ensures grows { IfOk result
+            (λ outcome. TrailGrows S.named self.old.process opening self.old.trail outcome self.new.trail) }
         ensures err { OnErr result (self.new ≡ record self.old { standing = MemberState.Lost }) }
         ensures only { IfErr result (λ e. (e ≡ LockFault.Crashed) ⊎ (e ≡ LockFault.OutOfMemory)) }
-        ensures gives { IfOk result (λ turn. Gives S.named self.old.process opening turn.answer turn.blocked) }
     {
         self.ask(plan)?;
-        let turn = self
+        // A copy, since the world takes it too.
+        let own_opening = opening;
+        let taken = self
             .shared
             .lock(rt)
             .step(&mut self.share, self.process, opening);
-        match turn {
-            Ok(turn) => {
-                self.counted = self.counted.saturating_add(1);
-                Ok(turn)
-            }
-            Err(_) => {
-                self.standing = MemberState::Lost;
-                Err(LockFault::OutOfMemory)
-            }
-        }
+        let Ok(turn) = taken else {
+            self.standing = MemberState::Lost;
+            return Err(LockFault::OutOfMemory);
+        };
+        self.counted = self.counted.saturating_add(1);
+        Ok(follow(rt, &mut self.own, own_opening, turn))
     }
 
     /// Starts a call and takes its steps, as `pursue` does. Its own steps are counted from 0.
@@ -178,7 +221,7 @@ impl<L: Ledger, S: Sizes> Member<L, S> {
         ensures patient { IsNone turns → IfOk result (λ answer. IsSome answer) }
         ensures answered { IfOk result
             (λ answer.
-            IsAnswered S.named self.old.process self.old.standing call turns self.old.steps self.new.steps answer) }
+            IsAnswered S.named self.old.process self.old.standing call turns self.old.trail self.new.trail answer) }
     {
         self.counted = 0;
         self.pursue(rt, plan, call, turns)
@@ -207,7 +250,7 @@ impl<L: Ledger, S: Sizes> Member<L, S> {
         ensures patient { IsNone turns → IfOk result (λ answer. IsSome answer) }
         ensures answered { IfOk result
             (λ answer.
-            IsAnswered S.named self.old.process self.old.standing call turns self.old.steps self.new.steps answer) }
+            IsAnswered S.named self.old.process self.old.standing call turns self.old.trail self.new.trail answer) }
     {
         let mut left = turns;
         let mut opening = Opening {
@@ -216,15 +259,15 @@ impl<L: Ledger, S: Sizes> Member<L, S> {
         };
         let backoff = Backoff::new();
         for _ in rt.forever() {
-            let turn = self.step(rt, plan, opening)?;
-            if turn.answer.is_some() {
-                return Ok(turn.answer);
+            let outcome = self.step(rt, plan, opening)?;
+            if outcome.answer.is_some() {
+                return Ok(outcome.answer);
             }
             opening = Opening {
                 crash: false,
                 call: None,
             };
-            if turn.blocked {
+            if outcome.progress.blocked {
                 if is_spent(&mut left) {
                     return Ok(None);
                 }

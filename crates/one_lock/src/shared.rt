@@ -5,13 +5,14 @@ ghost use Rattle.rmecore.specs.Simulated.{tally_at};
 ghost use Rattle.rmeworld.specs.Replayed.{advanced, stepped, started, crashed, start_refusal, advance_refusal, crash_refusal, image_of};
 ghost use Rattle.rmeworld.specs.ImageRules.{IsLawfulImage};
 ghost use Rattle.rmeworld.specs.WorldState.{new_world};
-ghost use Rattle.one_lock.specs.Answers.{crash_by, opened, Opens, Gives, Refuses, RefusesToOpen};
+ghost use Rattle.one_lock.specs.Answers.{crash_by, opened, Opens, Reports, Refuses, RefusesToOpen};
 ghost use Rattle.one_lock.specs.Execution.{AreSizes};
 
 use crate::opening::Opening;
 use crate::sizes::Sizes;
+use crate::turn::Turn;
 use rmecore::Refusal;
-use rmeworld::{Answer, Call, Image, World};
+use rmeworld::{Call, Image, World};
 use std::marker::{Model, PhantomData};
 use std::sync::ledger::{Book, Ledger, Share};
 
@@ -31,15 +32,6 @@ impl<L: Ledger, S: Sizes> Model for Shared<L, S> {
     ghost view = { λ s. record { world = s.world; total = s.book.total } };
 
     ghost invariant = { λ s. IsTold s.world s.book.total × AreSizes S.named s.world.layout s.world.limit };
-}
-
-/// The result of a step, for the member that took it.
-#[derive(Clone, Copy, Debug)]
-pub struct Turn {
-    /// The answer of the call, if the step ended it.
-    pub answer: Option<Answer>,
-    /// Whether it was a look or a weigh that has to be taken again.
-    pub blocked: bool,
 }
 
 impl<L: Ledger, S: Sizes> Shared<L, S> {
@@ -71,7 +63,7 @@ impl<L: Ledger, S: Sizes> Shared<L, S> {
         ensures share { OnOk result (share.new.amount ≡ share.old.amount + 1) }
         ensures uncounted { OnErr result ((self.new.total ≡ self.old.total) × (share.new.amount ≡ share.old.amount)) }
         ensures parts { share.new.parts ≡ share.old.parts }
-        ensures gives { IfOk result (λ turn. Gives S.named p opening turn.answer turn.blocked) }
+        ensures reports { IfOk result (Reports S.named p opening) }
         ensures refused { IfErr result (Refuses p opening self.old.world) }
     {
         self.told();
@@ -111,6 +103,7 @@ impl<L: Ledger, S: Sizes> Shared<L, S> {
         requires { 0 < share.old.parts }
         ensures accepted { OnOk result (advance_refusal self.old.world p ≡ None) }
         ensures world { OnOk result (self.new.world ≡ advanced self.old.world p) }
+        ensures happened { IfOk result (λ turn. turn.happened ≡ (stepped self.old.world p).happened) }
         ensures answer { IfOk result (λ turn. turn.answer ≡ (stepped self.old.world p).answer) }
         ensures blocked { IfOk result (λ turn. IsTrue turn.blocked
             ↔ ((tally_at self.new.world.tallies p).blocked ≢ (tally_at self.old.world.tallies p).blocked)) }
@@ -129,6 +122,7 @@ impl<L: Ledger, S: Sizes> Shared<L, S> {
             Err(_) => false,
         };
         Ok(Turn {
+            happened: step.happened,
             answer: step.answer,
             blocked,
         })

@@ -33,12 +33,13 @@ use std::thread::{PromisedHandle, Scope, Threads};
 
 /// Runs a worker for each process of a new arena, all at the same time, each on a thread of its own. Worker p appends its
 /// messages with the numbers from 1 on. It calls again after each crash of its gate's plan, and reports each answer to its
-/// gate. It returns when all workers have ended, with the messages in the mailbox then: of each worker its own, once and in
-/// order, and no others.
+/// gate. It returns when all workers have ended. The messages are those that are shown by some run in which the workers start
+/// no other calls: of each worker its own, once and in order, and no others.
 ///
 /// `BadSpec`: a size is outside its limits, or the number of gates isn't that of the processes. `OutOfMemory`: memory or a
-/// thread was refused. `Member` and `Reply`: that worker ended early, with this fault or this reply, and each worker with a
-/// lower number has sent all its messages.
+/// thread was refused. `Member`: a lock of that worker was answered `NumbersSpent`. `Reply`: the mailbox was full when one of
+/// its messages was to be stored, and has less room than there are messages. It is the worker with the least number of those
+/// that ended early: some such run shows all messages of each worker with a lower number.
 pub fn run_lab<G: Gate + Send + Drop, R: Threads + Wait + Sync>(
     rt: &R,
     alloc: Global,

@@ -9,4 +9,4 @@ returns-then-not-is_crash-clause-ends g c =
     let ready = c.loop.invariant.ready in
     let e = c.in-Err.ensures in
     let crash : c.in-Err.fault ≡ Crashed → ⊥ = search rules in
-    ended_by g.S.Sizes.named c.loop.member c.append.new.self c.append.new.self.steps (Append c.args.seq c.args.value) c.in-Err.fault e.goes (e.faults ready.0 (sym ready.1)) crash e.at_lock (e.whole ready.0 (sym ready.1))
+    ended_by g.S.Sizes.named c.loop.member c.append.new.self c.append.new.self.trail (Append c.args.seq c.args.value) c.in-Err.fault e.goes (e.faults ready.0 (sym ready.1)) crash e.at_lock (e.whole ready.0 (sym ready.1))

@@ -1,5 +1,5 @@
-use Rattle.std.proofs.Common.{◌≡◌, ◌∙◌, ◌++◌, map, All, ap, sym, subst, arith}
-use Rattle.one_lock.proofs.LabCommon.{All-tail, All-push, into_iter_items, place_of, CanSend}
+use Rattle.std.proofs.Common.{rules, ◌≡◌, ◌∙◌, ◌++◌, map, All, ap, sym, subst, arith}
+use Rattle.one_lock.proofs.LabCommon.{All-head, All-tail, All-push, into_iter_items, place_of, CanSend}
 use Rattle.one_lock.proofs.Seats.{moved_on}
 use Rattle.one_lock.proofs.lab.crew.start_all.Goals as goal
 
@@ -15,3 +15,8 @@ loop-member-preserved g c =
       spec = subst (All (λ h. h.promise.1 ≡ c.args.spec)) (sym items) (All-push (λ h. h.promise.1 ≡ c.args.spec) c.loop-member.threads.items c.in-Ok.thread i.spec (λ k. (c.in-Ok.ensures.ok k).1));
       ready = All-tail (CanSend c.args.spec.width) c.in-Some.member left (subst (All (CanSend c.args.spec.width)) e.0 i.ready);
     }
+
+pub spawn_with-requires-clause-runs : goal.spawn_with-requires-clause-runs
+spawn_with-requires-clause-runs g c κs within =
+    let ready = All-head (CanSend c.args.spec.width) c.in-Some.member (into_iter_items c.next.new.self) (subst (All (CanSend c.args.spec.width)) c.in-Some.ensures.steps.0 c.loop-member.invariant.ready) in
+    search (rules, ready)

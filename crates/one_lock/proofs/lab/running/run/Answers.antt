@@ -14,7 +14,7 @@ use Rattle.one_lock.proofs.lab.running.run.Goals as goal
 pub work_all-requires-clause-ready : goal.work_all-requires-clause-ready
 work_all-requires-clause-ready g c =
     let l : Layout = record { procs = c.args.spec.procs; cap = c.args.spec.cap; width = c.args.spec.width } in
-    λ lifetimes lives. subst (All (CanSend c.args.spec.width)) (sym c.in-Ok.ensures.ok) (new_ready l c.args.spec.procs)
+    λ lifetimes lives. subst (All (CanSend c.args.spec.width)) (sym c.in-Ok.ensures.ok) (new_ready l c.args.spec.limit c.args.spec.procs)
 
 pub returns-in-Some-clause-ends : goal.returns-in-Some-clause-ends
 returns-in-Some-clause-ends g c =

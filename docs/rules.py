@@ -120,7 +120,7 @@ ALLOWED: list[tuple[str, str, str]] = []
 # Files whose comments still have such words.
 READ_LATER = (
     "c/faults_test.c c/kill_roles.c c/kill_roles.h c/kill_test.c c/monitor.h c/reap_test.c c/rme.c "
-    "c/send.c c/torture.c c/wake_test.c crates/cli/src/explain/texts.rt"
+    "c/send.c c/torture.c c/wake_test.c"
 ).split()
 
 # Names that were replaced, as types and modules. Found, Seat, Seen and Words have a second meaning that stays.
@@ -198,8 +198,8 @@ COMMENTS = {
 }
 KINDS = {".h": ".c", ".rs": ".c"}
 BEGINS = ("//", "/*", "--", "#", '"""')
-# The program's own texts are strings.
-PRINTED = "crates/cli/src/"
+# The texts that programs print are strings. Those of tests are what is expected of them.
+PRINTED = re.compile(r"crates/(?!\w+_tests/|test_support/)\w+/src/(?!(?:.*/)?tests\b)")
 
 
 def kind_of(name: str, text: str) -> str:
@@ -208,10 +208,10 @@ def kind_of(name: str, text: str) -> str:
 
 
 def comments_of(name: str, text: str) -> str:
-    """Only the comments, and the strings that the program prints, everything else blank."""
+    """Only the comments, and the strings that programs print, everything else blank."""
     lines, at = [], 0
     for match in COMMENTS[kind_of(name, text)].finditer(text):
-        if match[0].startswith(BEGINS) or (name.startswith(PRINTED) and '"' in match[0][:4]):
+        if match[0].startswith(BEGINS) or (PRINTED.match(name) and '"' in match[0][:4]):
             lines.append(re.sub(r"[^\n]", " ", text[at : match.start()]))
             lines.append(re.sub(r"^(//[/!]?|--)", lambda mark: " " * len(mark[0]), match[0]))
             at = match.end()

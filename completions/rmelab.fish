@@ -1,7 +1,7 @@
 # Made by docs/from-help of what rmelab --help prints.
 complete -c rmelab -f
 complete -c rmelab -n __fish_use_subcommand -a replay -d 'Runs a schedule of steps and crashes, and prints its report'
-complete -c rmelab -n __fish_use_subcommand -a run -d 'Runs senders on threads, with drawn crashes, and counts what came through'
+complete -c rmelab -n __fish_use_subcommand -a run -d 'Runs senders on threads, with drawn crashes, and counts their messages'
 complete -c rmelab -n __fish_use_subcommand -a hunt -d 'Draws schedules until a variant of the lock, or an algorithm, goes wrong'
 complete -c rmelab -n __fish_use_subcommand -a explore -d 'Tries all schedules up to a bound, for the shortest that goes wrong'
 complete -c rmelab -n __fish_use_subcommand -a judge -d 'Judges a trace of deeds, and prints the verdict'
@@ -13,7 +13,7 @@ complete -c rmelab -n __fish_use_subcommand -a help -d 'Print this message or th
 complete -c rmelab -n '__fish_use_subcommand' -s h -l help -d 'Print help'
 complete -c rmelab -n '__fish_use_subcommand' -s V -l version -d 'Print version'
 complete -c rmelab -n '__fish_seen_subcommand_from replay' -l json -d 'Print one JSON object of the report\'s lines; with --each an object for each step'
-complete -c rmelab -n '__fish_seen_subcommand_from replay' -l each -d 'Tell each step, with its word and where its process stands'
+complete -c rmelab -n '__fish_seen_subcommand_from replay' -l each -d 'Print each step, with its word and the state of its process'
 complete -c rmelab -n '__fish_seen_subcommand_from replay' -l variant -x -a 'right no-look no-ties renumber exit-on-crash count-up last-skipped' -d 'right, no-look, no-ties, renumber, exit-on-crash, count-up or last-skipped'
 complete -c rmelab -n '__fish_seen_subcommand_from replay' -l algorithm -r -F -d 'Run this algorithm, a text, in place of a variant'
 complete -c rmelab -n '__fish_seen_subcommand_from replay' -l image -r -F -d 'Begin with the words of this image, every process crashed'

@@ -144,12 +144,12 @@ def page_differs(browser, program, page, words):
         browser.press("Home")
         for at, step in enumerate(steps, 1):
             browser.slide(at) if move == "slider" else browser.press("ArrowRight")
-            if browser.text("told") != step:
-                yield f"shows another step {at} by the {move}: {browser.text('told')!r}, not {step!r}"
+            if browser.text("event") != step:
+                yield f"shows another step {at} by the {move}: {browser.text('event')!r}, not {step!r}"
     if end and end_shown(browser) != end:
         yield f"ends otherwise: {end_shown(browser)}, not {end}"
     browser.press("ArrowLeft")
-    if len(steps) > 1 and browser.text("told") != steps[-2]:
+    if len(steps) > 1 and browser.text("event") != steps[-2]:
         yield "does not go back"
 
 

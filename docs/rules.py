@@ -117,8 +117,6 @@ REFUSED = re.compile(rf"\b(?:{GROUPS})\b", re.I)
 
 # Where one of these words is right all the same: the file, the exact words, and why. One that nothing needs is a finding.
 ALLOWED: list[tuple[str, str, str]] = []
-# Files whose comments still have such words.
-READ_LATER = ["crates/cli/src/explain/texts.rt"]
 
 # Names that were replaced, as types and modules. Found, Seat, Seen and Words have a second meaning that stays.
 RETIRED_NAMES = (
@@ -195,8 +193,8 @@ COMMENTS = {
 }
 KINDS = {".h": ".c", ".rs": ".c"}
 BEGINS = ("//", "/*", "--", "#", '"""')
-# What programs print are strings: those of these folders are read too.
-PRINTED = ("crates/cli/src/", "c/")
+# The texts that programs print are strings. Those of the tests in Rattle are what is expected of them.
+PRINTED = re.compile(r"c/|crates/(?!\w+_tests/|test_support/)\w+/src/(?!(?:.*/)?tests\b)")
 
 
 def kind_of(name: str, text: str) -> str:
@@ -205,10 +203,10 @@ def kind_of(name: str, text: str) -> str:
 
 
 def comments_of(name: str, text: str) -> str:
-    """Only the comments, and the strings that the program prints, everything else blank."""
+    """Only the comments, and the strings that programs print, everything else blank."""
     lines, at = [], 0
     for match in COMMENTS[kind_of(name, text)].finditer(text):
-        if match[0].startswith(BEGINS) or (name.startswith(PRINTED) and '"' in match[0][:4]):
+        if match[0].startswith(BEGINS) or (PRINTED.match(name) and '"' in match[0][:4]):
             lines.append(re.sub(r"[^\n]", " ", text[at : match.start()]))
             lines.append(re.sub(r"^(//[/!]?|--)", lambda mark: " " * len(mark[0]), match[0]))
             at = match.end()
@@ -219,7 +217,7 @@ def refused_words() -> Iterator[str]:
     used = set()
     for name in repository_files():
         end = os.path.splitext(name)[1]
-        if name in READ_LATER or end not in ("", ".md", ".rt", ".antt", ".c", ".h", ".rs", ".py") or name == "docs/rules.py":
+        if end not in ("", ".md", ".rt", ".antt", ".c", ".h", ".rs", ".py") or name == "docs/rules.py":
             continue
         text = text_of(name)
         if end != ".md" and kind_of(name, text) not in COMMENTS:

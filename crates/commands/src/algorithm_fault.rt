@@ -53,7 +53,7 @@ pub fn sentence_of(fault: LineFault) -> &'static str
         LineFault::Endless => "lines can go round without a step",
         LineFault::NoStep => "this can come before the first step of the call",
         LineFault::FallsOff => "the call can go past its last line",
-        LineFault::BadDeed => "the deed does not fit the promises or the line",
+        LineFault::BadDeed => "a deed does not fit, or `enter` or `leave` is missing",
         LineFault::TooBig => "a limit is passed",
         LineFault::BadCall => "the calls do not fit together",
         LineFault::NeverReached => "no run comes to this line",

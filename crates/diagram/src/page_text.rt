@@ -14,7 +14,7 @@ body{margin:0;display:flex;flex-wrap:wrap;height:100vh;font:14px sans-serif;colo
 #drawing{flex:1 1 30em;height:100%;margin:0;overflow:auto}
 #step{flex:0 1 36em;height:100%;box-sizing:border-box;padding:0 1em;overflow:auto;border-left:1px solid #777}
 #place{width:100%}
-#told{min-height:4.5em;margin:.5em 0;padding:.5em;font:bold 15px monospace;border:1px solid #777}
+#event{min-height:4.5em;margin:.5em 0;padding:.5em;font:bold 15px monospace;border:1px solid #777}
 #kind{min-height:3.5em}
 table{border-collapse:collapse;margin:.3em 0 1em}
 caption{text-align:left;font-weight:bold}
@@ -33,7 +33,7 @@ pub const PAGE_STEP: &str = r#"</figure>
 <h1 id='title'>Before the first step</h1>
 <input id='place' type='range' min='0' value='0' aria-label='the step that is shown'>
 <p><button id='back'>&larr; back</button> <button id='on'>on &rarr;</button> or the keys &larr; &rarr; Home End</p>
-<pre id='told' aria-live='polite'></pre>
+<pre id='event' aria-live='polite'></pre>
 <p id='kind'></p>
 <table><caption>Words of the processes</caption>
 <thead><tr><th>process<th>phase<th>choosing<th>number<th>inside</thead><tbody id='words'></tbody></table>
@@ -61,18 +61,18 @@ const procs = start.lock.length;
 const width = Number(start.width);
 
 const KINDS = {
-  open: 'Stores choosing := 1. The doorway begins, and with it the deed Begin.',
-  peek: 'Loads the number of another process in the doorway. The greatest one that is read counts.',
-  take: 'Stores number := the greatest number read and one more. The doorway is finished, and the process stands in the line: the deed Ready.',
-  shut: 'Stores choosing := 0, so that others need not wait for a number. Where none was taken, since the limit is reached, it is the deed Quit.',
-  look: 'Loads choosing of another process, to pass it. Where it is 1 the step is blocked, and the next one reads the same word.',
-  weigh: 'Loads the number of another process, to pass it. Where that one comes first the step is blocked, and the next one reads the same word.',
-  mark: 'Stores inside := 1, which is the deed Enter, or inside := 0, the end of an exit. The one comes when all others are passed, the other after a drop.',
+  open: 'Stores choosing := 1. The doorway begins, and with it comes the deed Begin.',
+  peek: 'Loads the number of another process in the doorway. The greatest number that is read counts.',
+  take: 'Stores number := the greatest number read, plus one. The doorway is complete, and the process is in the line: the deed Ready.',
+  shut: 'Stores choosing := 0, so that others need not wait for a number. If none was taken, since the limit is reached, it is the deed Quit.',
+  look: 'Loads choosing of another process, to pass it. If it is 1 the step is blocked, and the next one reads the same word.',
+  weigh: 'Loads the number of another process, to pass it. If that process comes first the step is blocked, and the next one reads the same word.',
+  mark: 'Stores inside := 1, which is the deed Enter, or inside := 0, the end of an exit. The first comes when all others are passed, the second after a drop.',
   drop: 'Stores number := 0. That is the deed Leave, or in a withdraw the deed Quit.',
-  reread: 'Loads one of the own words at the start of a lock or a recover: choosing, number, inside. The restart table says what comes after the third.',
+  reread: 'Loads one of the process\'s own words at the start of a lock or a recover: choosing, number, inside. The restart table says what comes after the third.',
   get: 'Loads a data word while inside. The task that is under way names the word.',
   put: 'Stores a data word while inside. The task that is under way names the word and its value.',
-  glance: 'Loads one word, outside the section too. It changes neither a word nor where its process stands.',
+  glance: 'Loads one word, also outside the section. It changes no word and no state of its process.',
 };
 
 const RESTART = [
@@ -127,7 +127,7 @@ function dataAfter(k) {
 }
 
 // The lines of the run step by step, as `rmelab replay --each` prints them.
-function toldBy(step) {
+function eventOf(step) {
   const own = step.access && step.word.replace(/^(choosing|number|inside)\[(\d+)\]$/, (word, name, p) => p == step.process ? name : word);
   const access = !step.access ? '' : step.access === 'store' ? ' w ' + own + '=' + step.value : ' r ' + own + ' ' + step.value;
   return ['at ' + step.process + ' ' + step.phase + access, step.deed, step.answer].filter(line => line !== null).join('\n');
@@ -168,7 +168,7 @@ function showMail(data) {
 function showStep(k) {
   const step = steps[k - 1];
   by('title').textContent = step ? 'Step ' + k + ' of ' + steps.length : 'Before the first of ' + steps.length + ' steps';
-  by('told').textContent = step ? toldBy(step) : '';
+  by('event').textContent = step ? eventOf(step) : '';
   by('kind').textContent = !step ? '' : step.kind === 'crash' ? 'A crash: the process loses its private memory. No word changes.'
     : step.kind + ': ' + KINDS[step.kind];
   const over = k === steps.length;

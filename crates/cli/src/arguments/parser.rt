@@ -12,23 +12,26 @@ const STATUSES: &str =
 input, 3 a fault of a device, of memory or of a member, or too many states in `explore`.";
 
 const REPLAY_HELP: &str =
-    "In: a schedule, as `rme 1 procs 2 limit 10 cap 1`, then lines such as `lock 0`, `step 0 5`, \
-`crash 0`, each ended by a line feed. With --algorithm the algorithm's text is read first: docs/use/algorithms.md.\nOut: its report: the deeds and answers of each step, the last words, the mailbox and \
-the verdict; with --each --json an object for each step, between the images before and after them, and the verdict.\nExit status: 0 where the verdict is fine, 1 where it is against, 2 after a fault of the words, the schedule, the algorithm or the image, 3 \
-after one of a device or of memory.\n\nExample: rmelab replay examples/tie.rme";
+    "In: a schedule: a header such as `rme 1 procs 2 limit 10 cap 1`, then lines such as `lock 0`, `step 0 5`, `crash \
+0`, each ended by a line feed. With --algorithm the algorithm's text is read first: docs/use/algorithms.md.\nOut: its \
+report: the deeds and answers of each step, the last words, the mailbox and the verdict; with --each --json an object \
+for each step, between the images before and after them, and the verdict.\nExit status: 0 if the verdict is fine, 1 if \
+it is against, 2 after a fault of the words, the schedule, the algorithm or the image, 3 after a fault of a device or \
+of memory.\n\nExample: rmelab replay examples/tie.rme";
 
 const RUN_HELP: &str =
     "In: nothing. Each sender sends its messages through one running lock, on a thread of its own, and sends a message \
-again after each crash.\nOut: what stands in the mailbox of each sender, as `sender 0 messages 50 twice 0 order yes`, and the \
-total.\nExit status: 0 where each message stands once and in its order, 1 where not, 2 after a fault of the words, 3 after one of a \
-device, of memory or of a sender.\n\nExample: rmelab run --procs 4 --messages 50 --crash 20 --seed 7";
+again after each crash.\nOut: the messages of each sender in the mailbox, as `sender 0 messages 50 twice 0 order yes`, \
+and the total.\nExit status: 0 if each message is there once and in order, 1 if not, 2 after a fault of the words, 3 \
+after a fault of a device, of memory or of a sender.\n\nExample: rmelab run --procs 4 --messages 50 --crash 20 --seed 7";
 
 const HUNT_HELP: &str =
-    "In: nothing; with --algorithm the algorithm's text: docs/use/algorithms.md. An algorithm is hunted by one thread.\nOut: the \
-schedule found, which `rmelab replay` with the same --variant or --algorithm replays to its fault, or `nothing \
-found`.\nShown: of a variant, on standard error, where that is a terminal, the rounds, the moves and the moves a second, once a \
-second while it works.\nExit status: 0 where nothing was found, 1 where a schedule was, 2 after a fault of the words or the algorithm, 3 \
-after one of a device or of memory.\n\nExample: rmelab hunt --variant no-look --seed 1 --rounds 10000 --steps 1000";
+    "In: nothing; with --algorithm the algorithm's text: docs/use/algorithms.md. An algorithm is hunted by one \
+thread.\nOut: the schedule found, which `rmelab replay` with the same --variant or --algorithm replays to its fault, \
+or `nothing found`.\nShown: of a variant, on standard error, if that is a terminal, the rounds, the moves and the \
+moves a second, once a second while it works.\nExit status: 0 if nothing was found, 1 if a schedule was, 2 after a \
+fault of the words or the algorithm, 3 after a fault of a device or of memory.\n\nExample: rmelab hunt --variant \
+no-look --seed 1 --rounds 10000 --steps 1000";
 
 const EXPLORE_HELP: &str =
     "In: nothing; with --algorithm the algorithm's text: docs/use/algorithms.md. All schedules are tried whose moves are the start \
@@ -44,38 +47,38 @@ states a second, once a second while it works.\nExit status: 0 where nothing was
 one of a device or of memory, or where there are more states than --states.\n\nExample: rmelab explore --variant no-look --procs 2";
 
 const JUDGE_HELP: &str =
-    "In: a trace, as `trace 1 procs 2 cap 1`, then deeds such as `begin 0`, `ready 0`, `enter 0`.\nOut: the verdict \
-line; with --json an object.\nExit status: 0 where the verdict is fine, 1 where it is against, 2 after a fault of the words or the trace, 3 after one of a \
-device or of memory.\n\nExample: rmelab judge examples/overtaken.trace";
+    "In: a trace: a header such as `trace 1 procs 2 cap 1`, then deeds such as `begin 0`, `ready 0`, `enter 0`.\nOut: \
+the verdict line; with --json an object.\nExit status: 0 if the verdict is fine, 1 if it is against, 2 after a fault \
+of the words or the trace, 3 after a fault of a device or of memory.\n\nExample: rmelab judge examples/overtaken.trace";
 
 const DRAW_HELP: &str =
-    "In: a schedule, as `rme 1 procs 2 limit 10 cap 1`, then lines such as `lock 0`, `step 0 5`, \
-`crash 0`, each ended by a line feed. With --algorithm the algorithm's text is read first: docs/use/algorithms.md.\nOut: its run, \
-time downward: a column for each process, a row for each step or crash, \
-and what it tells at the right; with --svg a picture of this, and \
-with --html a page for a browser with the picture and each step.\nExit status: 0 where the verdict is fine, 1 where it is against, 2 after \
-a fault of the words, the schedule, the algorithm or the image, 3 after one of a device or of memory.\n\nExample: rmelab draw examples/tie.rme";
+    "In: a schedule: a header such as `rme 1 procs 2 limit 10 cap 1`, then lines such as `lock 0`, `step 0 5`, `crash \
+0`, each ended by a line feed. With --algorithm the algorithm's text is read first: docs/use/algorithms.md.\nOut: its \
+run, time downward: a column for each process, a row for each step or crash, and at the right what it does; with --svg \
+a picture of this, and with --html a page for a browser with the picture and each step.\nExit status: 0 if the verdict \
+is fine, 1 if it is against, 2 after a fault of the words, the schedule, the algorithm or the image, 3 after a fault \
+of a device or of memory.\n\nExample: rmelab draw examples/tie.rme";
 
 const SHRINK_HELP: &str =
-    "In: a schedule, as `rme 1 procs 2 limit 10 cap 1`, then lines such as `lock 0`, `step 0 5`, \
-`crash 0`, each ended by a line feed. With --algorithm the algorithm's text is read first: docs/use/algorithms.md.\nOut: where its \
-verdict on the variant or the algorithm is against, a least schedule with a verdict against the same \
-number: no line can be left out and no count of steps lowered by one. Else the verdict line.\nExit status: 0 where the verdict is \
-fine, 1 where it is against, 2 after a fault of the words, the schedule or the algorithm, 3 after one of a device or of memory.\n\nExample: rmelab \
-shrink --variant no-look examples/two-in-the-doorway.rme";
+    "In: a schedule: a header such as `rme 1 procs 2 limit 10 cap 1`, then lines such as `lock 0`, `step 0 5`, `crash \
+0`, each ended by a line feed. With --algorithm the algorithm's text is read first: docs/use/algorithms.md.\nOut: if \
+its verdict on the variant or the algorithm is against, a 1-minimal schedule with a verdict against the same number: \
+no line can be left out and no count of steps lowered by one. Otherwise the verdict line.\nExit status: 0 if the \
+verdict is fine, 1 if it is against, 2 after a fault of the words, the schedule or the algorithm, 3 after a fault of a \
+device or of memory.\n\nExample: rmelab shrink --variant no-look examples/two-in-the-doorway.rme";
 
 const EXPLAIN_HELP: &str =
-    "In: nothing.\nOut: what the words name, in two sentences, and the page that defines it; without words the names of \
-all that is explained, one a line.\nExit status: 0 where the words are a name, 2 where they are none, 3 after a fault of a device or \
-of memory.\n\nExample: rmelab explain fault 5";
+    "In: nothing.\nOut: what the words name, in two sentences, and the page that defines it; without words all names, \
+one a line.\nExit status: 0 if the words are a name, 2 if they are not, 3 after a fault of a device or of \
+memory.\n\nExample: rmelab explain fault 5";
 
 const STEP_HELP: &str =
-    "In: lines of a schedule, and undo, redo, to answer P, save FILE, help and quit, each answered at once. Without FILE the first \
-line is a header. With --algorithm the algorithm's text is read first, and there is no FILE: docs/use/algorithms.md.\nOut: for a \
-line of a schedule each of its steps, as replay --each tells them; then the words of each process, \
-the row of the restart table that they are, where it stands, and who is inside. A line that is refused or can't be read has its \
-fault, and changes nothing.\nExit status: 0 at the end of the session, 2 if it can't begin, 3 after a fault of a device or of \
-memory.\n\nExample: rmelab step examples/tie.rme";
+    "In: lines of a schedule, and undo, redo, to answer P, save FILE, help and quit, each answered at once. Without \
+FILE the first line is a header. With --algorithm the algorithm's text is read first, and there is no FILE: \
+docs/use/algorithms.md.\nOut: for a line of a schedule each of its steps, as replay --each prints them; then the words \
+of each process, their row of the restart table, its state, and who is inside. A line that is refused or can't be read \
+gets its fault, and changes nothing.\nExit status: 0 at the end of the session, 2 if it can't begin, 3 after a fault \
+of a device or of memory.\n\nExample: rmelab step examples/tie.rme";
 
 /// What `--version` prints.
 const VERSION: &str = "0.1.0";
@@ -108,7 +111,7 @@ fn replay<'a>(alloc: Global) -> Result<Parser<'a>, AllocError>
         ),
         Argument::flag(
             "each",
-            "Tell each step, with its word and where its process stands",
+            "Print each step, with its word and the state of its process",
         ),
         Argument::variant(),
         Argument::algorithm(),
@@ -122,7 +125,7 @@ fn replay<'a>(alloc: Global) -> Result<Parser<'a>, AllocError>
 fn run<'a>(alloc: Global) -> Result<Parser<'a>, AllocError>
     ensures { IfOk result (IsParser (alone run)) }
 {
-    let about = "Runs senders on threads, with drawn crashes, and counts what came through";
+    let about = "Runs senders on threads, with drawn crashes, and counts their messages";
     let arguments = [
         Argument::number("procs", "N", "1 to 16 senders").required(),
         Argument::number("messages", "M", "1 to 4096 messages of each").required(),

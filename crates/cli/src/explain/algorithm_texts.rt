@@ -11,80 +11,82 @@ use algorithms::LineFault;
 use rmecore::Refusal;
 
 const NO_HEADER: &str =
-    "The text is empty, its first line is no header, or its second names no promises. It begins as `algorithm NAME for 2 \
-processes` and `promises exclusion`.";
+    "The text is empty, its first line is no header, or its second line has no promises. It begins with `algorithm \
+NAME for 2 processes` and `promises exclusion`.";
 
 const BAD_CHARACTER: &str =
-    "A byte is no printable ASCII, as a tab, or a character is in no word, number or sign of the format. Comments may have \
-any printable character.";
+    "A byte is not printable ASCII, such as a tab, or a character belongs to no word, number or sign of the format. \
+Comments may have any printable character.";
 
 const NO_NEWLINE: &str =
-    "The last line is not ended by a line feed. Each line of an algorithm ends with one, the last one too.";
+    "The last line does not end with a line feed. Each line of an algorithm has to end with one.";
 
 const BAD_FORM: &str =
-    "The line has none of the forms, or a part of it is not what is expected there. An access, an assignment, a condition and \
-each other line has one form.";
+    "The line has none of the forms, or a part of it is not what is expected there. Each kind of line, such as an \
+access, an assignment or a condition, has one form.";
 
 const NAME_TAKEN: &str =
-    "The name is declared already, or is a word of the format. A label stands once in its call, and a loop in a loop has \
-another name.";
+    "The name is declared already, or is a word of the format. In one call each label is there once, and a loop within \
+a loop has another name.";
 
 const UNKNOWN_NAME: &str =
-    "No such shared word is declared, or the call never sets this name. A loop's name is known within its loop alone.";
+    "No such shared word is declared, or the call never sets this name. The name of a loop is known within the loop \
+alone.";
 
 const TWO_ACCESSES: &str =
-    "A shared word stands within a value, a condition or an index, or is stored into another. One line is one access: read \
-the word into a private name in a line of its own.";
+    "A shared word is part of a value, a condition or an index, or is stored into another. One line makes one access: \
+read the word into a private name in a line of its own.";
 
 const NOT_ASSIGNABLE: &str =
-    "This can't be set here: `me`, `procs`, `limit`, the name of a loop, or a shared word where a private name is wanted, as \
-after `await` or `for`. A private name can.";
+    "This can't be set here: `me`, `procs`, `limit`, the name of a loop, or a shared word where a private name is \
+required, as after `await` or `for`. A private name can be set.";
 
 const BAD_BLOCK: &str =
-    "An `end` is missing or one too many, an `else` has no `if`, or a call begins within a block. Each `if` of several lines \
-and each `for` has its own `end`.";
+    "An `end` is missing or one too many, an `else` has no `if`, or a call begins within a block. Each `if` of several \
+lines and each `for` has an `end` of its own.";
 
 const BAD_LABEL: &str =
-    "The call has no such label, or the label is within a block that the goto is not in. A goto leads out of blocks, never \
-into one.";
+    "The call has no such label, or the label is in a block that the `goto` is not in. A `goto` leads out of blocks, \
+never into one.";
 
 const UNSET: &str =
-    "A name may be read here before it is set. On each way to this line it has to be set, which an `if` or a loop that may \
-have no round does not do.";
+    "A name may be read here before it is set. Every path to this line has to set it, also one that skips an `if` or a \
+loop that may have no round.";
 
 const ENDLESS: &str =
-    "Local lines can go round without a step. Each way back has to come by an access, as an `await` or a load.";
+    "Local lines can repeat without a step. Each way back has to make an access, such as an `await` or a load.";
 
 const NO_STEP: &str =
-    "A `done` or a deed can come before the first step of the call. Its first access has to come first.";
+    "A `done` or a deed can come before the first step of the call. The first access of the call has to come first.";
 
 const FALLS_OFF: &str =
-    "A run can pass the last line of the call, or the call has no lines. Each way ends with `done` or goes back.";
+    "A run can go past the last line of the call, or the call has no lines. Each path ends with `done` or goes back.";
 
 const BAD_DEED: &str =
-    "The deed does not fit the promises, or comes after a line that takes no step. Without order there are `enter` and \
-`leave` alone; `reenter` needs order and re-entry.";
+    "The deed does not fit the promises, or comes after a line that takes no step; or the lock has no `enter`, or the \
+unlock no `leave`. Without order the only deeds are `enter` and `leave`; `reenter` needs order and re-entry.";
 
 const TOO_BIG: &str =
-    "A number is greater than 18446744073709551615, or a limit of the format is passed. The limits are on lines, their length, \
-names, words, depth and processes.";
+    "A number is greater than 18446744073709551615, or a limit of the format is exceeded. There are limits on lines, \
+their length, names, words, nesting and processes.";
 
 const BAD_CALL: &str =
-    "There is no lock or no unlock, or a call stands twice. `may withdraw` is for lines of the lock, and goes with a `call \
-withdraw`.";
+    "There is no lock or no unlock, or a call is there twice. `may withdraw` is for lines of the lock, and requires a \
+`call withdraw`.";
 
 const NEVER_REACHED: &str =
-    "No run comes to this line. A `goto` or a `done` before it leads elsewhere, and no label leads here.";
+    "No run reaches this line. A `goto` or a `done` before it leads elsewhere, and no `goto` leads here.";
 
 const OUT_OF_RANGE: &str =
-    "A value leaves 0 to 18446744073709551615, a division is by 0, an index is no process, a store is above its bound, or a \
-deed is the fourth of its step. The start or the step is refused, and nothing changes.";
+    "A value is not 0 to 18446744073709551615, a division is by 0, an index is no process, a store is above its bound, \
+or a deed is the fourth of its step. The start or the step is refused, and nothing changes.";
 
 const NO_SUCH_CALL: &str =
-    "The text of the algorithm has no such call. The calls of the mailbox and its board are in no text.";
+    "The text of the algorithm has no such call. No text has the calls of the mailbox and its board.";
 
 const MALFORMED: &str =
-    "The algorithm is wrong at a line: one that is not there, or local lines that go round. No text that was read has this.";
+    "The algorithm is wrong at a line: there is no such line, or local lines repeat for ever. No text that was read \
+has this fault.";
 
 fn of_text(name: &'static str, text: &'static str) -> Meaning
     ensures { result.name.now ≡ name.now }

@@ -9,48 +9,48 @@ use redomail::Reply;
 use rmecore::Found;
 use rmeworld::Answer;
 
-const CLEAN: &str = "The process is inside, by the line. Nothing is left to be mended.";
+const CLEAN: &str = "The process waited in the line, and is inside. There is nothing to mend.";
 
 const OWNER_DIED: &str =
-    "The process is inside again, where it had crashed. It has to mend by `consistent` before it leaves, else the lock is \
-ruined.";
+    "The process is inside again, where it had crashed. It has to mend by `consistent` before it leaves, or the lock \
+is ruined.";
 
 const NUMBERS_SPENT: &str =
-    "A number in the line is the limit, so no greater one can be taken. The process has left the doorway, and is at rest.";
+    "A number in the line is the limit, so no greater one can be taken. The process has left the doorway, and is at \
+rest.";
 
 const NOT_RECOVERABLE: &str =
-    "The lock is ruined, since someone left it without mending. After `lock` the process is outside again; after \
+    "The lock is ruined, since a process left it without mending. After `lock` the process is outside again; after \
 `consistent` it is still inside.";
 
 const UNLOCKED: &str =
-    "The process has left the section. Where it had to mend and has not, it has ruined the lock.";
+    "The process has left the section. If it had to mend and has not, it has ruined the lock.";
 
 const WITHDRAWN: &str = "The process has given up its place in the line. It is at rest.";
 
 const IDLE: &str =
-    "`recover` read the words 0,0,0: the process was neither inside nor on its way. It is at rest.";
+    "`recover` read the words 0,0,0: the process was neither inside nor on its way in. It is at rest.";
 
 const LEFT: &str =
-    "`recover` read the words 0,0,1: the process had crashed on its way out. It has made its exit whole, and is at rest.";
+    "`recover` read the words 0,0,1: the process had crashed on its way out. It has completed its exit, and is at rest.";
 
 const DOORWAY: &str =
     "`recover` read the words 1,0,0: the process had crashed in the doorway, without a number. Its next lock goes \
 through the doorway from its first reading.";
 
 const WAITING: &str =
-    "`recover` read a number and not inside: the process has its place in the line. Its next lock waits on with the same \
-number.";
+    "`recover` read a number and not inside: the process has its place in the line. Its next lock goes on waiting with \
+the same number.";
 
 const INSIDE: &str =
     "`recover` read a number and inside: the process had crashed inside, and is inside again. It has to mend by \
-`consistent` before it leaves, else the lock is ruined.";
+`consistent` before it leaves, or the lock is ruined.";
 
-const STORED: &str =
-    "The message is committed and shown. It stands at the next place of the mailbox.";
+const STORED: &str = "The message is committed and shown. It is at the next place of the mailbox.";
 
 const ALREADY: &str =
-    "The sender's message with this number is there. Nothing was written, so an append that a crash cut off can be \
-made again.";
+    "The mailbox has the sender's message with this number. Nothing was written, so an append that a crash cut off can \
+be made again.";
 
 const OUT_OF_ORDER: &str =
     "The number is 0, or greater than the sender's next one. Nothing was written.";
@@ -71,19 +71,19 @@ const WORD: &str =
 const DONE: &str = "A word of the board was written. The messages stay as they are.";
 
 const MENDED: &str =
-    "A message was committed by the one that crashed, and all that was left of its append is done now. The process \
-holds the lock as any other from here on.";
+    "The process that crashed had committed a message, and the rest of its append is done now. From here on the \
+process holds the lock as any other.";
 
 const NOTHING_TO_MEND: &str =
-    "No message was committed and left. The process holds the lock as any other from here on.";
+    "No committed message was left unfinished. From here on the process holds the lock as any other.";
 
 const RUINED: &str =
     "The task Check read that the lock is ruined. Only programs get this answer: in a report the lock answers \
 `not-recoverable`.";
 
 const NOT_RUINED: &str =
-    "The task Check read that the lock is not ruined. Only programs get this answer: in a report the lock answers `clean` \
-or `owner-died`.";
+    "The task Check read that the lock is not ruined. Only programs get this answer: in a report the lock answers \
+`clean` or `owner-died`.";
 
 fn of_lock(name: &'static str, text: &'static str) -> Meaning
     ensures { result.name.now ≡ name.now }

@@ -8,36 +8,35 @@ use crate::explain::meaning::Meaning;
 use rmecore::Refusal;
 
 const BAD_PROCS: &str =
-    "The number of processes is not 1 to 64, or not one that the algorithm is for. It stands as `procs` in the first line.";
+    "The number of processes is not 1 to 64, or the algorithm is for another number. The first line has it as `procs`.";
 
 const BAD_LIMIT: &str =
-    "The limit of the lock's numbers is not 1 to 4611686018427387904. It stands as `limit` in the first line.";
+    "The limit of the lock's numbers is not 1 to 4611686018427387904. The first line has it as `limit`.";
 
 const NO_SUCH_PROCESS: &str =
     "There is no process with this number. Processes count from 0, so the last is one less than `procs`.";
 
 const CALL_UNDER_WAY: &str =
-    "A call of the process is under way. Its steps come first, up to its answer, or the process has to crash.";
+    "A call of the process is under way. First the process has to take its steps up to its answer, or to crash.";
 
 const NOT_OWNER: &str =
-    "The process is not in the section. So it can neither leave it nor use what it guards; POSIX says EPERM.";
+    "The process is not in the section. It can neither leave the section nor use what it guards; POSIX says EPERM.";
 
 const ALREADY_IN: &str =
-    "The process is in the section already. It may lock or recover once it has left or crashed.";
+    "The process is in the section already. It may lock or recover after it has left or crashed.";
 
 const NOTHING_TO_DO: &str =
-    "No call of the process is under way, so it has no step to take. A line that starts one, such as `lock P`, has to \
-come first.";
+    "No call of the process is under way, so it has no step to take. First a line has to start one, such as `lock P`.";
 
 const BAD_CAP: &str =
-    "The capacity of the mailbox is not 1 to 65536. It stands as `cap` in the first line.";
+    "The capacity of the mailbox is not 1 to 65536. The first line has it as `cap`.";
 
 const BAD_IMAGE: &str =
-    "The first line doesn't fit the image: its processes, limit and capacity have to be the image's, and its width not \
-below. For an image that is wrong in itself the refusal is the rule that it breaks.";
+    "The first line does not fit the image: it has to have the image's processes, limit and capacity, and at least its \
+width. If the image itself is wrong, the refusal names the rule that it breaks.";
 
 const NOT_INCONSISTENT: &str =
-    "The process holds nothing that it has to mend: it came in by the line, or has mended already. POSIX says EINVAL.";
+    "The process has nothing to mend: it waited in the line, or has mended already. POSIX says EINVAL.";
 
 const BAD_SHAPE: &str =
     "The words are not those of a mailbox, or no judge can begin from such a start. Only programs get this refusal: a \
@@ -55,11 +54,11 @@ const NOT_WAITING: &str =
 doorway and inside there is nothing to give up.";
 
 const BAD_WIDTH: &str =
-    "The number of words is not one that is allowed here. A message has 1 to 8, and as many as all messages of its \
-world.";
+    "The number of words is not allowed here. A message has 1 to 8, and all messages of a world have the same number.";
 
 const OUT_OF_MEMORY: &str =
-    "A request for memory was refused. It counts only where no other cause holds, and the call may be made again.";
+    "A request for memory was refused. This is the answer only if there is no other cause, and the call may be made \
+again.";
 
 fn of_call(name: &'static str, text: &'static str) -> Meaning
     ensures { result.name.now ≡ name.now }

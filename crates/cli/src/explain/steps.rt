@@ -7,36 +7,36 @@ ghost use Rattle.cli.specs.Names.{name_of};
 use crate::explain::meaning::Meaning;
 use rmecore::Kind;
 
-const OPEN: &str = "Stores choosing := 1. The doorway begins, and with it the deed Begin.";
+const OPEN: &str = "Stores choosing := 1. The doorway begins, and with it comes the deed Begin.";
 
 const PEEK: &str =
-    "Loads the number of another process in the doorway. The greatest one that is read counts.";
+    "Loads the number of another process in the doorway. The greatest number that is read counts.";
 
 const TAKE: &str =
-    "Stores number := the greatest number read and one more. The doorway is finished, and the process stands in the line: \
-the deed Ready.";
+    "Stores number := the greatest number read, plus one. The doorway is complete, and the process is in the line: the \
+deed Ready.";
 
 const SHUT: &str =
-    "Stores choosing := 0, so that others need not wait for a number. Where none was taken, since the limit is reached, \
+    "Stores choosing := 0, so that others need not wait for a number. If none was taken, since the limit is reached, \
 it is the deed Quit.";
 
 const LOOK: &str =
-    "Loads choosing of another process, to pass it. Where it is 1 the step is blocked, and the next one reads the same \
+    "Loads choosing of another process, to pass it. If it is 1 the step is blocked, and the next one reads the same \
 word.";
 
 const WEIGH: &str =
-    "Loads the number of another process, to pass it. Where that one comes first the step is blocked, and the next one \
-reads the same word.";
+    "Loads the number of another process, to pass it. If that process comes first the step is blocked, and the next \
+one reads the same word.";
 
 const MARK: &str =
-    "Stores inside := 1, which is the deed Enter, or inside := 0, the end of an exit. The one comes when all others are \
-passed, the other after a drop.";
+    "Stores inside := 1, which is the deed Enter, or inside := 0, the end of an exit. The first comes when all others \
+are passed, the second after a drop.";
 
 const DROP: &str = "Stores number := 0. That is the deed Leave, or in a withdraw the deed Quit.";
 
 const REREAD: &str =
-    "Loads one of the own words at the start of a lock or a recover: choosing, number, inside. The restart table says \
-what comes after the third.";
+    "Loads one of the process's own words at the start of a lock or a recover: choosing, number, inside. The restart \
+table says what comes after the third.";
 
 const GET: &str = "Loads a data word while inside. The task that is under way names the word.";
 
@@ -44,7 +44,7 @@ const PUT: &str =
     "Stores a data word while inside. The task that is under way names the word and its value.";
 
 const GLANCE: &str =
-    "Loads one word, outside the section too. It changes neither a word nor where its process stands.";
+    "Loads one word, also outside the section. It changes no word and no state of its process.";
 
 fn of_step(name: &'static str, text: &'static str) -> Meaning
     ensures { result.name.now ≡ name.now }

@@ -10,49 +10,49 @@ use rmecore::Fault;
 use schedule::LineFault;
 
 const NO_HEADER: &str =
-    "The first line is no header, or there is no line at all. A schedule begins with `rme 1 procs N limit L cap C` and a \
-trace with `trace 1 procs N cap C`; where it reads 2 in place of 1, `width W` follows.";
+    "There is no line, or the first line is no header. A schedule begins with `rme 1 procs N limit L cap C` and a \
+trace with `trace 1 procs N cap C`; with 2 in place of 1, `width W` follows.";
 
 const BAD_WORD: &str =
-    "The first word of the line is no command of a schedule, or no deed of a trace. An empty line has an empty first \
-word.";
+    "The first word of the line is no command of a schedule, or no deed of a trace. The first word of an empty line is \
+empty.";
 
 const BAD_NUMBER: &str =
-    "Where a number has to stand there is none, or it has a sign, a leading zero or another byte that is no digit. A \
-number of steps or a width that is written out is at least 2.";
+    "A number is missing, or it has a sign, a leading zero or another byte that is no digit. A number of steps or a \
+width that is written out is at least 2.";
 
 const TOO_BIG: &str =
-    "The number is greater than any that may stand there. A number of steps is at most 1000000, the width of a header \
-at most 8, and any other number at most 18446744073709551615.";
+    "The number is greater than is allowed here. A number of steps is at most 1000000, the width of a header at most \
+8, and any other number at most 18446744073709551615.";
 
 const NO_NEWLINE: &str =
-    "The last line is not ended by a line feed. Each line of a schedule or a trace ends with one, the last one too.";
+    "The last line does not end with a line feed. Each line of a schedule or a trace has to end with one.";
 
 const TRAILING_TEXT: &str =
-    "Behind the last word that the line can have stands a space. There may be a value too many for the width of the \
-header, or a space at the end of the line.";
+    "There is a space after the last word that the line may have. The line has too many values for the width of the \
+header, or ends with a space.";
 
 const FORM: &str =
-    "The text is JSON, one object of the five members `cap`, `data`, `limit`, `lock` and `version`, with `width` or without. \
-Each number in it is whole, at most 18446744073709551615, and written without point or exponent.";
+    "The text is one JSON object with the members `cap`, `data`, `limit`, `lock` and `version`, and with `width` or \
+without it. Each number in it is an integer, at most 18446744073709551615, and written without point or exponent.";
 
 const VERSION: &str =
-    "The version is 1 without `width`, or 2 with it. An image of version 1 has width 1.";
+    "The version is 1 without `width`, and 2 with it. An image of version 1 has width 1.";
 
 const SIZES: &str =
-    "The sizes are in their ranges. `lock` has 1 to 64 processes, `limit` is 1 to 4611686018427387904, `cap` 1 to \
-65536 and `width` 1 to 8.";
+    "The sizes are within their limits. `lock` has 1 to 64 processes, `limit` is 1 to 4611686018427387904, `cap` is 1 \
+to 65536 and `width` is 1 to 8.";
 
 const LENGTH: &str =
-    "`data` has as many words as the other sizes ask for. With n processes and width W these are 10 + W + n and \
-another 2 + W for each place of `cap`.";
+    "`data` has as many words as the other sizes require. With n processes and width W these are 10 + W + n, and 2 + W \
+more for each place of `cap`.";
 
 const ROWS: &str =
-    "The three words of each process are a row of the restart table, and its number is at most the limit. That table \
-stands in docs/theory/model.md.";
+    "The three words of each process are a row of the restart table, and its number is at most the limit. The table is \
+in docs/theory/model.md.";
 
 const INSIDE: &str =
-    "At most one process is inside, which the words 0, a number and 1 tell. It is the first in the line: its pair of \
+    "At most one process is inside, that is, has the words 0, a number and 1. It is the first in the line: its pair of \
 number and process is the least of all whose number is not 0.";
 
 const HEADS: &str =
@@ -60,38 +60,38 @@ const HEADS: &str =
 both 1.";
 
 const LIST: &str =
-    "Where no record is armed, the entries are messages of processes, and each process has numbered its own 1, 2, 3 and \
-so on. The word `last` of each process is how many are its own.";
+    "If no record is armed, the entries are messages of processes, and the messages of each process are numbered 1, 2, \
+3 and so on. The word `last` of each process is the number of its messages.";
 
 const RECORD: &str =
-    "Where a record is armed, the process inside can have written it, and its entry is not begun, under way or \
-whole. In a ruined lock any process can have written it.";
+    "If a record is armed, the process inside can have written it, and its entry is not begun, written in part, or \
+complete. In a ruined lock any process can have written it.";
 
 const OUT_OF_PLACE: &str =
-    "The deed can't follow from where its process stands, or there is no such process. A begin comes from outside the \
-line, a ready from the doorway, an enter from the line, a re-entry after a crash inside, a leave from inside, and a quit from \
-the doorway or the line.";
+    "The process is not in a state that this deed can follow, or there is no such process. A begin comes from outside \
+the line, a ready from the doorway, an enter from the line, a re-entry after a crash inside, a leave from inside, and \
+a quit from the doorway or the line.";
 
 const TWO_INSIDE: &str =
-    "A process entered while another one was inside. Mutual exclusion is broken.";
+    "A process entered while another was inside. Mutual exclusion is violated.";
 
 const NOT_REENTERED: &str =
-    "A process entered while one that had crashed inside was still to come back. Nobody enters before that one has \
-entered again.";
+    "A process entered after another had crashed inside and before that one entered again. Until that one has entered \
+again, no other may.";
 
 const OVERTAKEN: &str =
     "`by Q of P`: process Q entered, though P was ready before Q began, and P has neither entered since nor given up \
-its place. First come, first served is broken.";
+its place. First come, first served is violated.";
 
 const NOT_INSIDE: &str =
-    "A process that is not inside wrote to the mailbox. Commit, show, close and ruin are deeds of the one inside.";
+    "A process that is not inside wrote to the mailbox. Commit, show, close and ruin are deeds of the process inside.";
 
 const MAIL_ORDER: &str =
-    "The mailbox is in no state for the deed. A message is pending or none is, the place or the number is not the next \
-one, there is no place left, or the lock is ruined.";
+    "The state of the mailbox does not allow the deed. A message is pending or none is, the place or the number is not \
+the next one, there is no place left, or the lock is ruined.";
 
 const AFTER_CLOSE: &str =
-    "The mailbox was closed before. After a close nothing is committed, and it is not closed again.";
+    "The mailbox was closed before. After a close no message is committed, and the mailbox is not closed again.";
 
 fn of_text(name: &'static str, text: &'static str) -> Meaning
     ensures { result.name.now ≡ name.now }

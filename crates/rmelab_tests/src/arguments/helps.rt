@@ -11,7 +11,7 @@ Usage: rmelab <COMMAND>
 
 Commands:
   replay   Runs a schedule of steps and crashes, and prints its report
-  run      Runs senders on threads, with drawn crashes, and counts what came through
+  run      Runs senders on threads, with drawn crashes, and counts their messages
   hunt     Draws schedules until a variant of the lock, or an algorithm, goes wrong
   explore  Tries all schedules up to a bound, for the shortest that goes wrong
   judge    Judges a trace of deeds, and prints the verdict
@@ -38,9 +38,9 @@ Options:
       --json  Print the verdict as a JSON object
   -h, --help  Print help
 
-In: a trace, as `trace 1 procs 2 cap 1`, then deeds such as `begin 0`, `ready 0`, `enter 0`.
+In: a trace: a header such as `trace 1 procs 2 cap 1`, then deeds such as `begin 0`, `ready 0`, `enter 0`.
 Out: the verdict line; with --json an object.
-Exit status: 0 where the verdict is fine, 1 where it is against, 2 after a fault of the words or the trace, 3 after one of a device or of memory.
+Exit status: 0 if the verdict is fine, 1 if it is against, 2 after a fault of the words or the trace, 3 after a fault of a device or of memory.
 
 Example: rmelab judge examples/overtaken.trace
 ";
@@ -57,20 +57,20 @@ Arguments:
 
 Options:
       --json              Print one JSON object of the report's lines; with --each an object for each step
-      --each              Tell each step, with its word and where its process stands
+      --each              Print each step, with its word and the state of its process
       --variant <V>       right, no-look, no-ties, renumber, exit-on-crash, count-up or last-skipped
       --algorithm <FILE>  Run this algorithm, a text, in place of a variant
       --image <FILE>      Begin with the words of this image, every process crashed
       --save <FILE>       Write the last image to this file
   -h, --help              Print help
 
-In: a schedule, as `rme 1 procs 2 limit 10 cap 1`, then lines such as `lock 0`, `step 0 5`, `crash 0`, each ended by a line feed. With --algorithm the algorithm's text is read first: docs/use/algorithms.md.
+In: a schedule: a header such as `rme 1 procs 2 limit 10 cap 1`, then lines such as `lock 0`, `step 0 5`, `crash 0`, each ended by a line feed. With --algorithm the algorithm's text is read first: docs/use/algorithms.md.
 Out: its report: the deeds and answers of each step, the last words, the mailbox and the verdict; with --each --json an object for each step, between the images before and after them, and the verdict.
-Exit status: 0 where the verdict is fine, 1 where it is against, 2 after a fault of the words, the schedule, the algorithm or the image, 3 after one of a device or of memory.
+Exit status: 0 if the verdict is fine, 1 if it is against, 2 after a fault of the words, the schedule, the algorithm or the image, 3 after a fault of a device or of memory.
 
 Example: rmelab replay examples/tie.rme
 @row rmelab run --help @out
-Runs senders on threads, with drawn crashes, and counts what came through
+Runs senders on threads, with drawn crashes, and counts their messages
 
 Usage: rmelab run [OPTIONS] --procs <N> --messages <M> --crash <C> --seed <S>
 
@@ -83,8 +83,8 @@ Options:
   -h, --help          Print help
 
 In: nothing. Each sender sends its messages through one running lock, on a thread of its own, and sends a message again after each crash.
-Out: what stands in the mailbox of each sender, as `sender 0 messages 50 twice 0 order yes`, and the total.
-Exit status: 0 where each message stands once and in its order, 1 where not, 2 after a fault of the words, 3 after one of a device, of memory or of a sender.
+Out: the messages of each sender in the mailbox, as `sender 0 messages 50 twice 0 order yes`, and the total.
+Exit status: 0 if each message is there once and in order, 1 if not, 2 after a fault of the words, 3 after a fault of a device, of memory or of a sender.
 
 Example: rmelab run --procs 4 --messages 50 --crash 20 --seed 7
 @row rmelab hunt --help @out
@@ -106,8 +106,8 @@ Options:
 
 In: nothing; with --algorithm the algorithm's text: docs/use/algorithms.md. An algorithm is hunted by one thread.
 Out: the schedule found, which `rmelab replay` with the same --variant or --algorithm replays to its fault, or `nothing found`.
-Shown: of a variant, on standard error, where that is a terminal, the rounds, the moves and the moves a second, once a second while it works.
-Exit status: 0 where nothing was found, 1 where a schedule was, 2 after a fault of the words or the algorithm, 3 after one of a device or of memory.
+Shown: of a variant, on standard error, if that is a terminal, the rounds, the moves and the moves a second, once a second while it works.
+Exit status: 0 if nothing was found, 1 if a schedule was, 2 after a fault of the words or the algorithm, 3 after a fault of a device or of memory.
 
 Example: rmelab hunt --variant no-look --seed 1 --rounds 10000 --steps 1000
 @row rmelab explore --help @out
@@ -154,9 +154,9 @@ Options:
       --html              Write a page that shows the run step by step; not with --algorithm
   -h, --help              Print help
 
-In: a schedule, as `rme 1 procs 2 limit 10 cap 1`, then lines such as `lock 0`, `step 0 5`, `crash 0`, each ended by a line feed. With --algorithm the algorithm's text is read first: docs/use/algorithms.md.
-Out: its run, time downward: a column for each process, a row for each step or crash, and what it tells at the right; with --svg a picture of this, and with --html a page for a browser with the picture and each step.
-Exit status: 0 where the verdict is fine, 1 where it is against, 2 after a fault of the words, the schedule, the algorithm or the image, 3 after one of a device or of memory.
+In: a schedule: a header such as `rme 1 procs 2 limit 10 cap 1`, then lines such as `lock 0`, `step 0 5`, `crash 0`, each ended by a line feed. With --algorithm the algorithm's text is read first: docs/use/algorithms.md.
+Out: its run, time downward: a column for each process, a row for each step or crash, and at the right what it does; with --svg a picture of this, and with --html a page for a browser with the picture and each step.
+Exit status: 0 if the verdict is fine, 1 if it is against, 2 after a fault of the words, the schedule, the algorithm or the image, 3 after a fault of a device or of memory.
 
 Example: rmelab draw examples/tie.rme
 @row rmelab shrink --help @out
@@ -172,9 +172,9 @@ Options:
       --algorithm <FILE>  Run this algorithm, a text, in place of a variant
   -h, --help              Print help
 
-In: a schedule, as `rme 1 procs 2 limit 10 cap 1`, then lines such as `lock 0`, `step 0 5`, `crash 0`, each ended by a line feed. With --algorithm the algorithm's text is read first: docs/use/algorithms.md.
-Out: where its verdict on the variant or the algorithm is against, a least schedule with a verdict against the same number: no line can be left out and no count of steps lowered by one. Else the verdict line.
-Exit status: 0 where the verdict is fine, 1 where it is against, 2 after a fault of the words, the schedule or the algorithm, 3 after one of a device or of memory.
+In: a schedule: a header such as `rme 1 procs 2 limit 10 cap 1`, then lines such as `lock 0`, `step 0 5`, `crash 0`, each ended by a line feed. With --algorithm the algorithm's text is read first: docs/use/algorithms.md.
+Out: if its verdict on the variant or the algorithm is against, a 1-minimal schedule with a verdict against the same number: no line can be left out and no count of steps lowered by one. Otherwise the verdict line.
+Exit status: 0 if the verdict is fine, 1 if it is against, 2 after a fault of the words, the schedule or the algorithm, 3 after a fault of a device or of memory.
 
 Example: rmelab shrink --variant no-look examples/two-in-the-doorway.rme
 @row rmelab step --help @out
@@ -190,7 +190,7 @@ Options:
   -h, --help              Print help
 
 In: lines of a schedule, and undo, redo, to answer P, save FILE, help and quit, each answered at once. Without FILE the first line is a header. With --algorithm the algorithm's text is read first, and there is no FILE: docs/use/algorithms.md.
-Out: for a line of a schedule each of its steps, as replay --each tells them; then the words of each process, the row of the restart table that they are, where it stands, and who is inside. A line that is refused or can't be read has its fault, and changes nothing.
+Out: for a line of a schedule each of its steps, as replay --each prints them; then the words of each process, their row of the restart table, its state, and who is inside. A line that is refused or can't be read gets its fault, and changes nothing.
 Exit status: 0 at the end of the session, 2 if it can't begin, 3 after a fault of a device or of memory.
 
 Example: rmelab step examples/tie.rme
@@ -206,8 +206,8 @@ Options:
   -h, --help  Print help
 
 In: nothing.
-Out: what the words name, in two sentences, and the page that defines it; without words the names of all that is explained, one a line.
-Exit status: 0 where the words are a name, 2 where they are none, 3 after a fault of a device or of memory.
+Out: what the words name, in two sentences, and the page that defines it; without words all names, one a line.
+Exit status: 0 if the words are a name, 2 if they are not, 3 after a fault of a device or of memory.
 
 Example: rmelab explain fault 5
 @row rmelab help @out HELP

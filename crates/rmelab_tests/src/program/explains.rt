@@ -6,7 +6,7 @@ use std::test::Fail;
 /// An entry, and what is printed for words that name no entry.
 pub const TEXTS: &str = "
 @text NO_NEWLINE
-fault 5: The last line is not ended by a line feed. Each line of a schedule or a trace ends with one, the last one too.
+fault 5: The last line does not end with a line feed. Each line of a schedule or a trace has to end with one.
 See docs/dev/texts.md, Faults of the text.
 @text NO_NAME
 error: 'fault 7' names nothing that is explained
@@ -118,31 +118,31 @@ algorithm fault 18
 refused 12: The process came back after a crash inside, and has not mended what it found. First `consistent P` has to be answered.
 See docs/dev/surface.md, Rules for all calls.
 @row rmelab explain out of memory @out
-out of memory: A request for memory was refused. It counts only where no other cause holds, and the call may be made again.
+out of memory: A request for memory was refused. This is the answer only if there is no other cause, and the call may be made again.
 See docs/dev/surface.md, Rules for all calls.
 @row rmelab explain rule 7 @out
 rule 7: The words ruined, closed and armed are at most 1, and count is at most the capacity. Closed and armed are not both 1.
 See docs/dev/texts.md, Image.
 @row rmelab explain against 4 @out
-against 4: `by Q of P`: process Q entered, though P was ready before Q began, and P has neither entered since nor given up its place. First come, first served is broken.
+against 4: `by Q of P`: process Q entered, though P was ready before Q began, and P has neither entered since nor given up its place. First come, first served is violated.
 See docs/theory/judge.md, The judge table.
 @row rmelab explain answer clean @out
-answer clean: The process is inside, by the line. Nothing is left to be mended.
+answer clean: The process waited in the line, and is inside. There is nothing to mend.
 See docs/theory/model.md, Calls as rows of steps.
 @row rmelab explain answer found left @out
-answer found left: `recover` read the words 0,0,1: the process had crashed on its way out. It has made its exit whole, and is at rest.
+answer found left: `recover` read the words 0,0,1: the process had crashed on its way out. It has completed its exit, and is at rest.
 See docs/theory/model.md, Restart table.
 @row rmelab explain answer already @out
-answer already: The sender's message with this number is there. Nothing was written, so an append that a crash cut off can be made again.
+answer already: The mailbox has the sender's message with this number. Nothing was written, so an append that a crash cut off can be made again.
 See docs/theory/mailbox.md, Tasks.
 @row rmelab explain step look @out
-step look: Loads choosing of another process, to pass it. Where it is 1 the step is blocked, and the next one reads the same word.
+step look: Loads choosing of another process, to pass it. If it is 1 the step is blocked, and the next one reads the same word.
 See docs/theory/model.md, Step.
 @row rmelab explain refused 16 @out
-refused 16: A value leaves 0 to 18446744073709551615, a division is by 0, an index is no process, a store is above its bound, or a deed is the fourth of its step. The start or the step is refused, and nothing changes.
+refused 16: A value is not 0 to 18446744073709551615, a division is by 0, an index is no process, a store is above its bound, or a deed is the fourth of its step. The start or the step is refused, and nothing changes.
 See docs/use/algorithms.md, Meaning.
 @row rmelab explain algorithm fault 7 @out
-algorithm fault 7: A shared word stands within a value, a condition or an index, or is stored into another. One line is one access: read the word into a private name in a line of its own.
+algorithm fault 7: A shared word is part of a value, a condition or an index, or is stored into another. One line makes one access: read the word into a private name in a line of its own.
 See docs/use/algorithms.md, Faults of a text.
 @row rmelab explain fault 7 @ends 2 @err NO_NAME
 @row rmelab explain  @ends 2 @err

@@ -1,7 +1,7 @@
 //! A text for each fault, with its line and its number, and some texts that have none.
 
 use crate::cases::{Kind, compare_cases};
-use algorithms::read_algorithm;
+use algorithm_texts::read_algorithm;
 use std::alloc::Global;
 use std::fmt::Write;
 use std::test::Fail;

@@ -7,7 +7,7 @@ use crate::cases::{Kind, compare_cases};
 use crate::drawings::{bakeries as bakery_drawings, others as other_drawings};
 use crate::support::{put_fault, put_page, text_named};
 use algorithm_lab::AlgorithmReplayFault;
-use algorithms::read_algorithm;
+use algorithm_texts::read_algorithm;
 use diagram::{Style, draw_algorithm};
 use schedule::{Page, Verdict, read_schedule};
 use std::alloc::{AllocError, Global};

@@ -3,7 +3,8 @@
 use crate::bad_texts;
 use crate::cases::{Kind, compare_cases};
 use crate::support::number;
-use algorithms::{AlgorithmFault, read_algorithm};
+use algorithm_texts::read_algorithm;
+use algorithms::AlgorithmFault;
 use std::alloc::{AllocError, Global};
 use std::test::Fail;
 

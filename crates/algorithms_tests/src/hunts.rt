@@ -3,7 +3,7 @@
 use crate::cases::{Kind, compare_cases};
 use crate::support::{number, put_schedule, text_named};
 use algorithm_explorer::{AlgorithmHuntFault, hunt_algorithm_schedule};
-use algorithms::read_algorithm;
+use algorithm_texts::read_algorithm;
 use schedule::Schedule;
 use std::alloc::Global;
 use std::fmt::Write;

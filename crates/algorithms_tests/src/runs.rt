@@ -4,9 +4,8 @@ use crate::cases::{Kind, compare_cases, words};
 use crate::replays::{bakeries as bakery_replays, others as other_replays};
 use crate::support::{number, text_named};
 use crate::texts::bakeries;
-use algorithms::{
-    Algorithm, AlgorithmRefusal, Call, Deed, NAMES, Noted, Place, Taken, World, read_algorithm,
-};
+use algorithm_texts::read_algorithm;
+use algorithms::{Algorithm, AlgorithmRefusal, Call, Deed, NAMES, Noted, Place, Taken, World};
 use std::alloc::{AllocError, Global};
 use std::fmt::Write;
 use std::test::Fail;

@@ -4,7 +4,7 @@ use crate::cases::{Kind, compare_cases};
 use crate::reports::{bakeries, constructs, others, refusals, variants};
 use crate::support::{put_fault, put_page, text_named};
 use algorithm_lab::{AlgorithmReplayFault, replay_algorithm};
-use algorithms::read_algorithm;
+use algorithm_texts::read_algorithm;
 use schedule::{Page, Verdict, read_schedule};
 use std::alloc::Global;
 use std::test::Fail;

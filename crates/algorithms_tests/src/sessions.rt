@@ -3,7 +3,7 @@
 use crate::cases::{Kind, compare_cases};
 use crate::support::{put_page, text_named};
 use algorithm_lab::Monitor;
-use algorithms::read_algorithm;
+use algorithm_texts::read_algorithm;
 use diagram::Session;
 use schedule::read_schedule;
 use std::alloc::{AllocError, Global};

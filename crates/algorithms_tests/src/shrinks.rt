@@ -4,7 +4,7 @@
 use crate::cases::{Kind, compare_cases};
 use crate::support::{put_fault, put_schedule, text_named};
 use algorithm_explorer::shrink_algorithm_schedule;
-use algorithms::read_algorithm;
+use algorithm_texts::read_algorithm;
 use schedule::read_schedule;
 use std::alloc::Global;
 use std::test::Fail;

@@ -2,7 +2,9 @@
 
 use crate::cases::{Kind, compare_cases};
 use crate::support::text_named;
-use algorithms::{Algorithm, read_algorithm};
+use algorithm_texts::laws::{a_line_says_one_thing, tokens_say_one_part};
+use algorithm_texts::read_algorithm;
+use algorithms::Algorithm;
 use std::alloc::{AllocError, Global};
 use std::fmt::Write;
 use std::test::Fail;
@@ -150,5 +152,7 @@ fn spaces_part_the_words_of_an_answer(rt: HostRuntime) -> Result<(), Fail> {
 
 #[test]
 fn the_text_spells_the_bakery(rt: HostRuntime) -> Result<(), Fail> {
+    a_line_says_one_thing();
+    tokens_say_one_part();
     compare_cases(rt.alloc(), Kind::Spelling, BAKERY)
 }

@@ -11,7 +11,8 @@ use crate::schedules::ending::{Ending, status_after_verdict};
 use crate::schedules::fault::CommandFault;
 use crate::schedules::setting::schedule_read;
 use algorithm_lab::{AlgorithmReplayFault, replay_algorithm};
-use algorithms::{Algorithm, AlgorithmFault, read_algorithm};
+use algorithm_texts::read_algorithm;
+use algorithms::{Algorithm, AlgorithmFault};
 use schedule::{Schedule, Sink, Source};
 use std::alloc::Global;
 

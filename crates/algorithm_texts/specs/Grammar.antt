@@ -1,0 +1,132 @@
+-- The grammar of values and conditions: what their tokens say, as a tree that keeps each bracket.
+use Rattle.std.specs.Prelude.{◌≡◌, ℕ, ◌+◌, ◌≤◌, max, nat_lt, Bool, ◌||◌, List, [], ◌∷◌, ◌++◌, length, Option, Some, None, if◌then◌else◌, codes, bytes_eq, position}
+use Rattle.std.specs.List.{list_any}
+use Rattle.algorithms.specs.declared.expression.Operator.{Operator}
+use Rattle.algorithms.specs.declared.expression.Operator.TheVariants.{Sum, Difference, Product, Quotient, Remainder, Maximum, Minimum}
+use Rattle.algorithm_texts.specs.declared.tokens.Sign.TheVariants.{Open, Close, Comma, Operator as OperatorSign, Comparison as ComparisonSign}
+use Rattle.algorithm_texts.specs.declared.tokens.Token.{Token}
+use Rattle.algorithm_texts.specs.declared.tokens.Token.TheVariants.{Number as NumberToken, Word, Sign}
+use Rattle.algorithm_texts.specs.declared.operands.Bracket.{Bracket}
+use Rattle.algorithm_texts.specs.declared.operands.Bracket.TheVariants.{Plain, Not, Max, Min}
+use Rattle.algorithm_texts.specs.declared.operands.Joint.{Joint}
+use Rattle.algorithm_texts.specs.declared.operands.Joint.TheVariants.{Operator as ByOperator, Comparison as ByComparison, And, Or}
+use Rattle.algorithm_texts.specs.Parts.{Term, Number, Private, Me, Procs, Limit, Part, Value, joined, enclosed, enclosed_two, ◌>>=◌}
+
+-- ---- trees and their tokens
+
+-- a number, a word, one or two parts in brackets after the word before them, or two parts with an operator between them
+pub data Tree : Type 0 where
+  Numeral : ℕ → Tree
+  Name : List ℕ → Tree
+  One : Bracket → Tree → Tree
+  Two : Bracket → Tree → Tree → Tree
+  Between : Joint → Tree → Tree → Tree
+
+-- the word before a bracket, if there is one
+abbrev pub head_tokens : Bracket → List Token
+head_tokens Plain = []
+head_tokens Not = Word (codes "not") ∷ []
+head_tokens Max = Word (codes "max") ∷ []
+head_tokens Min = Word (codes "min") ∷ []
+
+-- what is written between two parts
+abbrev pub joint_token : Joint → Token
+joint_token (ByOperator o) = Sign (OperatorSign o)
+joint_token (ByComparison c) = Sign (ComparisonSign c)
+joint_token And = Word (codes "and")
+joint_token Or = Word (codes "or")
+
+-- the tokens of a tree
+abbrev pub written : Tree → List Token
+written (Numeral n) = NumberToken n ∷ []
+written (Name word) = Word word ∷ []
+written (One head tree) = head_tokens head ++ (Sign Open ∷ (written tree ++ (Sign Close ∷ [])))
+written (Two head a b) = head_tokens head ++ (Sign Open ∷ (written a ++ (Sign Comma ∷ (written b ++ (Sign Close ∷ [])))))
+written (Between joint a b) = written a ++ (joint_token joint ∷ written b)
+
+-- ---- which trees are meant: stronger operators bind first, and equal ones from the left
+
+abbrev pub operator_strength : Operator → ℕ
+operator_strength Sum = 4
+operator_strength Difference = 4
+operator_strength Product = 5
+operator_strength Quotient = 5
+operator_strength Remainder = 5
+operator_strength Maximum = 5
+operator_strength Minimum = 5
+
+abbrev pub strength : Joint → ℕ
+strength Or = 1
+strength And = 2
+strength (ByComparison c) = 3
+strength (ByOperator o) = operator_strength o
+
+-- each operator outside of brackets is at least this strong, and its parts are bound by stronger ones, or the left one by equal
+-- ones
+abbrev pub Binds : ℕ → Tree → Type 0
+Binds least (Numeral n) = Unit {0}
+Binds least (Name word) = Unit {0}
+Binds least (One head tree) = Binds 1 tree
+Binds least (Two head a b) = Binds 1 a × Binds 1 b
+Binds least (Between joint a b) = (least ≤ strength joint) × Binds (strength joint) a × Binds (strength joint + 1) b
+
+-- how deep brackets stand in one another
+abbrev pub depth : Tree → ℕ
+depth (Numeral n) = 0
+depth (Name word) = 0
+depth (One head tree) = depth tree + 1
+depth (Two head a b) = max (depth a) (depth b) + 1
+depth (Between joint a b) = max (depth a) (depth b)
+
+-- ---- what trees mean
+
+-- the names that a text knows: the words of the format, the shared words that are declared, and how many private names there
+-- may be
+pub record Scope : Type 0 where
+  pub reserved : List (List ℕ)
+  pub declared : List (List ℕ)
+  pub most : ℕ
+
+abbrev pub is_among : List (List ℕ) → List ℕ → Bool
+is_among names word = list_any (λ name. bytes_eq name word) names
+
+-- a private name: the place where it stands, else a new one at the end
+abbrev pub placed : ℕ → List (List ℕ) → List ℕ → Option ℕ → Option (Part × List (List ℕ))
+placed most names word (Some k) = Some (Value (Private k), names)
+placed most names word None = if nat_lt (length names) most then Some (Value (Private (length names)), names ++ word ∷ []) else None
+
+-- what a word is as a value, and the private names after it
+abbrev pub word_value : Scope → List (List ℕ) → List ℕ → Option (Part × List (List ℕ))
+word_value scope names word =
+    if bytes_eq word (codes "me") then Some (Value Me, names)
+    else if bytes_eq word (codes "procs") then Some (Value Procs, names)
+    else if bytes_eq word (codes "limit") then Some (Value Limit, names)
+    else if is_among scope.reserved word || is_among scope.declared word then None
+    else placed scope.most names word (position (λ name. bytes_eq name word) names)
+
+-- what a tree means, and the private names after it. None where a part is not of the kind that is needed there
+abbrev pub meaning : Scope → Tree → List (List ℕ) → Option (Part × List (List ℕ))
+meaning scope (Numeral n) names = Some (Value (Number n), names)
+meaning scope (Name word) names = word_value scope names word
+meaning scope (One head tree) names = do
+  x ← meaning scope tree names
+  part ← enclosed head x.0
+  Some (part, x.1)
+meaning scope (Two head a b) names = do
+  x ← meaning scope a names
+  y ← meaning scope b x.1
+  part ← enclosed_two head x.0 y.0
+  Some (part, y.1)
+meaning scope (Between joint a b) names = do
+  x ← meaning scope a names
+  y ← meaning scope b x.1
+  part ← joined joint x.0 y.0
+  Some (part, y.1)
+
+-- the tokens say this value, pair or condition, with these private names before it and after it
+pub record Says (scope : Scope) (names : List (List ℕ)) (tokens : List Token) (part : Part) (after : List (List ℕ)) : Type 0 where
+  pub tree : Tree
+  pub tokens_of : tokens ≡ written tree
+  pub binds : Binds 1 tree
+  pub shallow : depth tree ≤ 16
+  pub means : meaning scope tree names ≡ Some (part, after)

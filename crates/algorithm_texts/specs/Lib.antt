@@ -1,0 +1,6 @@
+pub mod Letters
+pub mod Tokens
+pub mod Parts
+pub mod Grammar
+pub mod Stacks
+pub mod Operands

@@ -1,0 +1,132 @@
+-- Values and conditions without their memory, and what joins them.
+use Rattle.std.specs.Prelude.{ℕ, Option, Some, None, option_and_then}
+use Rattle.algorithms.specs.declared.condition.Comparison.{Comparison}
+use Rattle.algorithms.specs.declared.condition.Condition.{Condition as ConditionOf, Compare as CompareOf, ComparePairs as ComparePairsOf, And' as AndOf, Or' as OrOf, Not' as NotOf}
+use Rattle.algorithms.specs.declared.condition.Pair.{Pair as PairOf}
+use Rattle.algorithms.specs.declared.expression.Expression.{Expression as ValueOf, Number as NumberOf, Private as PrivateOf, Me as MeOf, Procs as ProcsOf, Limit as LimitOf, Joined' as JoinedOf}
+use Rattle.algorithms.specs.declared.expression.Operator.{Operator}
+use Rattle.algorithms.specs.declared.expression.Operator.TheVariants.{Maximum, Minimum}
+use Rattle.algorithm_texts.specs.declared.operands.Bracket.{Bracket}
+use Rattle.algorithm_texts.specs.declared.operands.Bracket.TheVariants.{Plain, Not, Max, Min}
+use Rattle.algorithm_texts.specs.declared.operands.Joint.{Joint}
+use Rattle.algorithm_texts.specs.declared.operands.Joint.TheVariants.{Operator as ByOperator, Comparison as ByComparison, And, Or}
+use Rattle.algorithm_texts.specs.declared.operands.Operand.{Operand}
+use Rattle.algorithm_texts.specs.declared.operands.Operand.TheVariants.{Value as ValueIn, Pair as PairIn, Condition as ConditionIn}
+
+infixl 10 ◌>>=◌
+abbrev pub ◌>>=◌ : {A B : Type 0} → Option A → (A → Option B) → Option B
+o >>= f = option_and_then f o
+
+-- a value
+pub data Term : Type 0 where
+  Number : ℕ → Term
+  Private : ℕ → Term
+  Me : Term
+  Procs : Term
+  Limit : Term
+  Joined : Operator → Term → Term → Term
+
+-- a condition
+pub data Formula : Type 0 where
+  Compare : Comparison → Term → Term → Formula
+  ComparePairs : Comparison → Term → Term → Term → Term → Formula
+  Both : Formula → Formula → Formula
+  Either : Formula → Formula → Formula
+  Negated : Formula → Formula
+
+-- a value, a pair of values, or a condition
+pub data Part : Type 0 where
+  Value : Term → Part
+  Pair : Term → Term → Part
+  Condition : Formula → Part
+
+-- ---- the parts of the program, without their memory
+
+abbrev pub term_of : ValueOf → Term
+term_of (NumberOf n) = Number n
+term_of (PrivateOf k) = Private k
+term_of MeOf = Me
+term_of ProcsOf = Procs
+term_of LimitOf = Limit
+term_of (JoinedOf o p a q b) = Joined o (term_of a) (term_of b)
+
+abbrev pub formula_of : ConditionOf → Formula
+formula_of (CompareOf c a b) = Compare c (term_of a) (term_of b)
+formula_of (ComparePairsOf c a b) = ComparePairs c (term_of a.first) (term_of a.second) (term_of b.first) (term_of b.second)
+formula_of (AndOf p a q b) = Both (formula_of a) (formula_of b)
+formula_of (OrOf p a q b) = Either (formula_of a) (formula_of b)
+formula_of (NotOf p a) = Negated (formula_of a)
+
+abbrev pub part_of : Operand → Part
+part_of (ValueIn v) = Value (term_of v)
+part_of (PairIn p) = Pair (term_of p.first) (term_of p.second)
+part_of (ConditionIn c) = Condition (formula_of c)
+
+-- ---- how parts go together. None where one is not of the kind that is needed
+
+abbrev pub value_in : Part → Option Term
+value_in (Value v) = Some v
+value_in (Pair a b) = None
+value_in (Condition c) = None
+
+abbrev pub condition_in : Part → Option Formula
+condition_in (Value v) = None
+condition_in (Pair a b) = None
+condition_in (Condition c) = Some c
+
+-- values are compared, and pairs
+abbrev pub compared : Comparison → Part → Part → Option Part
+compared c (Value a) (Value b) = Some (Condition (Compare c a b))
+compared c (Pair a b) (Pair x y) = Some (Condition (ComparePairs c a b x y))
+compared c (Value a) (Pair x y) = None
+compared c (Value a) (Condition d) = None
+compared c (Pair a b) (Value x) = None
+compared c (Pair a b) (Condition d) = None
+compared c (Condition d) right = None
+
+abbrev pub operated : Operator → Part → Part → Option Part
+operated o left right = do
+  a ← value_in left
+  b ← value_in right
+  Some (Value (Joined o a b))
+
+-- two parts with what is written between them
+abbrev pub joined : Joint → Part → Part → Option Part
+joined (ByOperator o) left right = operated o left right
+joined (ByComparison c) left right = compared c left right
+joined And left right = do
+  a ← condition_in left
+  b ← condition_in right
+  Some (Condition (Both a b))
+joined Or left right = do
+  a ← condition_in left
+  b ← condition_in right
+  Some (Condition (Either a b))
+
+-- brackets round a value or a condition are that part itself
+abbrev pub plain : Part → Option Part
+plain (Value v) = Some (Value v)
+plain (Pair a b) = None
+plain (Condition c) = Some (Condition c)
+
+-- one part in brackets, after the word before them
+abbrev pub enclosed : Bracket → Part → Option Part
+enclosed Plain part = plain part
+enclosed Not part = do
+  c ← condition_in part
+  Some (Condition (Negated c))
+enclosed Max part = None
+enclosed Min part = None
+
+abbrev pub paired : Part → Part → Option Part
+paired first second = do
+  a ← value_in first
+  b ← value_in second
+  Some (Pair a b)
+
+-- two parts in brackets, with a comma between them
+abbrev pub enclosed_two : Bracket → Part → Part → Option Part
+enclosed_two Plain first second = paired first second
+enclosed_two Not first second = None
+enclosed_two Max first second = operated Maximum first second
+enclosed_two Min first second = operated Minimum first second

@@ -1,0 +1,206 @@
+//! The names of a text.
+
+ghost use Rattle.std.specs.Prelude.{◌≡◌, ◌||◌, IsAscii, position, bytes_eq, if◌then◌else◌, None, length};
+ghost use Rattle.std.specs.List.{list_any};
+ghost use Rattle.algorithm_texts.specs.Grammar.{is_among, placed};
+ghost use Rattle.algorithm_texts.specs.Operands.{MakesName, names_of, declared_of, reserved};
+
+use crate::tokens::{Token, Word};
+use algorithms::algorithm::Algorithm;
+use algorithms::expression::NAMES;
+use algorithms::fault::LineFault;
+use std::alloc::Global;
+
+/// The words of the format. The promises' words are not among them.
+const RESERVED: [&[u8]; 44] = [
+    b"me",
+    b"procs",
+    b"limit",
+    b"begin",
+    b"ready",
+    b"enter",
+    b"reenter",
+    b"leave",
+    b"quit",
+    b"all",
+    b"others",
+    b"lower",
+    b"higher",
+    b"algorithm",
+    b"for",
+    b"to",
+    b"processes",
+    b"promises",
+    b"shared",
+    b"up",
+    b"private",
+    b"call",
+    b"if",
+    b"then",
+    b"else",
+    b"end",
+    b"in",
+    b"await",
+    b"until",
+    b"goto",
+    b"done",
+    b"this",
+    b"is",
+    b"may",
+    b"withdraw",
+    b"and",
+    b"or",
+    b"not",
+    b"max",
+    b"min",
+    b"mod",
+    b"lock",
+    b"unlock",
+    b"recover",
+];
+
+fn is_one_of(words: &[&[u8]], word: &[u8]) -> bool
+    ensures { result ≡ list_any (λ other. bytes_eq other.now word.now) words.now }
+{
+    for other in words {
+        if *other == word {
+            return true;
+        }
+    }
+    false
+}
+
+/// Whether it is a word of the format.
+#[tactic(auto, unfolding(crate::specs::Operands::reserved))]
+fn is_reserved(word: &[u8]) -> bool
+    ensures { result ≡ is_among reserved word.now }
+{
+    is_one_of(&RESERVED, word)
+}
+
+/// Whether a word is one of the format's numbers.
+fn is_constant(word: &[u8]) -> bool {
+    word == b"me".as_slice() || word == b"procs".as_slice() || word == b"limit".as_slice()
+}
+
+/// The declaration of a shared word.
+pub fn declaration_of(algorithm: &Algorithm, word: &[u8]) -> Option<usize>
+    ensures { result ≡ position (λ name. bytes_eq name word.now) (declared_of algorithm.now) }
+{
+    algorithm
+        .declarations
+        .iter()
+        .position(|declared| declared.name.as_bytes() == word)
+}
+
+/// The index of a private name.
+fn index_of(algorithm: &Algorithm, word: &[u8]) -> Option<usize>
+    ensures { result ≡ position (λ name. bytes_eq name word.now) (names_of algorithm.now) }
+{
+    algorithm
+        .names
+        .iter()
+        .position(|name| name.as_bytes() == word)
+}
+
+/// A word as a new name: no word of the format.
+pub fn new_name(token: Option<&Token>) -> Result<Word, LineFault> {
+    match token {
+        Some(Token::Word(word)) => {
+            if is_constant(word.as_bytes()) {
+                Err(LineFault::NotAssignable)
+            } else if is_reserved(word.as_bytes()) {
+                Err(LineFault::NameTaken)
+            } else {
+                Ok(*word)
+            }
+        }
+        _ => Err(LineFault::BadForm),
+    }
+}
+
+/// Whether a shared word of this name is declared.
+fn is_declared(algorithm: &Algorithm, word: &[u8]) -> bool
+    ensures { result ≡ is_among (declared_of algorithm.now) word.now }
+{
+    declaration_of(algorithm, word).is_some()
+}
+
+/// Adds a private name, and answers its index. `TooBig` where there are as many as can be.
+fn add_name(alloc: Global, algorithm: &mut Algorithm, word: &[u8]) -> Result<usize, LineFault>
+    requires { IsAscii word.now }
+    ensures place { MakesName (names_of algorithm.new) result (placed 32 (names_of algorithm.old) word.now None) }
+    ensures kept { algorithm.new ≡ record algorithm.old { names = algorithm.new.names } }
+{
+    let index = algorithm.names.len();
+    if index >= NAMES {
+        return Err(LineFault::TooBig);
+    }
+    algorithm.names.push(String::from_utf8_lossy(alloc, word)?)?;
+    Ok(index)
+}
+
+/// The index of a private name, which is added where it is new.
+fn place_of(alloc: Global, algorithm: &mut Algorithm, word: &[u8]) -> Result<usize, LineFault>
+    requires { IsAscii word.now }
+    ensures place { MakesName (names_of algorithm.new) result
+        (placed 32 (names_of algorithm.old) word.now (position (λ name. bytes_eq name word.now) (names_of algorithm.old))) }
+    ensures kept { algorithm.new ≡ record algorithm.old { names = algorithm.new.names } }
+{
+    match index_of(algorithm, word) {
+        Some(index) => Ok(index),
+        None => add_name(alloc, algorithm, word),
+    }
+}
+
+/// The private name that a line sets.
+pub fn name_set(
+    alloc: Global,
+    algorithm: &mut Algorithm,
+    token: Option<&Token>,
+) -> Result<usize, LineFault> {
+    let word = new_name(token)?;
+    if declaration_of(algorithm, word.as_bytes()).is_some() {
+        return Err(LineFault::NotAssignable);
+    }
+    place_of(alloc, algorithm, word.as_bytes())
+}
+
+/// The private name that a value reads.
+pub fn name_read(alloc: Global, algorithm: &mut Algorithm, word: &[u8]) -> Result<usize, LineFault>
+    requires { IsAscii word.now }
+    ensures place { MakesName (names_of algorithm.new) result
+        (if is_among reserved word.now || is_among (declared_of algorithm.old) word.now then None
+        else placed 32 (names_of algorithm.old) word.now (position (λ name. bytes_eq name word.now) (names_of algorithm.old))) }
+    ensures kept { algorithm.new ≡ record algorithm.old { names = algorithm.new.names } }
+{
+    if is_reserved(word) {
+        return Err(LineFault::BadForm);
+    }
+    if is_declared(algorithm, word) {
+        return Err(LineFault::TwoAccesses);
+    }
+    place_of(alloc, algorithm, word)
+}
+
+/// Declares a private name that stays from call to call.
+pub fn declare_private(
+    alloc: Global,
+    algorithm: &mut Algorithm,
+    token: Option<&Token>,
+) -> Result<(), LineFault> {
+    let word = undeclared(algorithm, token)?;
+    place_of(alloc, algorithm, word.as_bytes())?;
+    algorithm.lasting = algorithm.names.len();
+    Ok(())
+}
+
+/// A name that is not declared yet.
+pub fn undeclared(algorithm: &Algorithm, token: Option<&Token>) -> Result<Word, LineFault> {
+    let word = new_name(token)?;
+    let bytes = word.as_bytes();
+    if declaration_of(algorithm, bytes).is_some() || index_of(algorithm, bytes).is_some() {
+        return Err(LineFault::NameTaken);
+    }
+    Ok(word)
+}

@@ -1,0 +1,169 @@
+//! What waits while a value or a condition is read.
+
+ghost use Rattle.std.specs.Prelude.{◌≡◌, ◌≤◌, ◌∷◌, [], List, ℕ, map, reverse, OnOk, IfErr, MatchOption};
+ghost use Rattle.algorithms.specs.declared.fault.LineFault.TheVariants.{OutOfMemory as NoMemory};
+ghost use Rattle.algorithm_texts.specs.Parts.{part_of};
+ghost use Rattle.algorithm_texts.specs.Stacks.{is_open, brackets, reduced, opened, closes, halves};
+ghost use Rattle.algorithm_texts.specs.Operands.{waits_of, stack_of, Reduces, Turns};
+
+use crate::operands::{Bracket, Joint, Operand, enclose, enclose_two, join};
+use algorithms::fault::LineFault;
+use std::alloc::Global;
+
+/// How deep brackets stand in one another at most.
+const DEEPEST: usize = 16;
+
+/// What waits for the part after it.
+#[derive(Drop)]
+pub enum Waiting {
+    Joint(Operand, Joint),
+    /// An open bracket.
+    Bracket(Bracket),
+    /// An open bracket with its first part and a comma.
+    Half(Bracket, Operand),
+}
+
+/// What comes next.
+#[derive(Drop)]
+pub enum Place {
+    /// A part.
+    Start,
+    /// The bracket after its word.
+    Head(Bracket),
+    /// What follows this part.
+    After(Operand),
+}
+
+/// What waits, the last at the top.
+#[derive(Drop)]
+pub struct Stack {
+    all: Vec<Waiting>,
+}
+
+impl Stack {
+    #[tactic(auto, unfolding(crate::specs::Operands::stack_of))]
+    pub fn new(alloc: Global) -> Stack
+        ensures { stack_of result ≡ [] }
+    {
+        Stack {
+            all: Vec::new(alloc),
+        }
+    }
+
+    #[tactic(auto, unfolding(crate::specs::Operands::stack_of))]
+    pub fn push(&mut self, last: Waiting) -> Result<(), LineFault>
+        ensures ok { OnOk result (stack_of self.new ≡ waits_of last ∷ stack_of self.old) }
+        ensures err { IfErr result (λ fault. fault ≡ NoMemory) }
+    {
+        self.all.push(last)?;
+        Ok(())
+    }
+
+    #[tactic(auto, unfolding(crate::specs::Operands::stack_of))]
+    pub fn pop(&mut self) -> Option<Waiting>
+        ensures { MatchOption result ((stack_of self.old ≡ []) × (stack_of self.new ≡ []))
+            (λ last. stack_of self.old ≡ waits_of last ∷ stack_of self.new) }
+    {
+        self.all.pop()
+    }
+
+    /// How many brackets are open.
+    #[tactic(auto, unfolding(crate::specs::Operands::stack_of))]
+    fn brackets(&self) -> usize
+        ensures { result ≡ brackets (stack_of self.now) }
+    {
+        count_brackets(self.all.as_slice())
+    }
+}
+
+fn is_bracket(waiting: &Waiting) -> bool
+    ensures { result ≡ is_open (waits_of waiting.now) }
+{
+    match waiting {
+        Waiting::Joint(_, _) => false,
+        Waiting::Bracket(_) | Waiting::Half(_, _) => true,
+    }
+}
+
+fn count_brackets(all: &[Waiting]) -> usize
+    ensures { result ≡ brackets (reverse (map waits_of all.now)) }
+{
+    let mut count = 0;
+    for waiting in all {
+        if is_bracket(waiting) {
+            count += 1;
+        }
+    }
+    count
+}
+
+/// Joins a part to what waits, as far as the operators are at least this strong.
+pub fn reduce(
+    alloc: Global,
+    stack: &mut Stack,
+    operand: Operand,
+    least: u8,
+) -> Result<Operand, LineFault>
+    ensures { Reduces (stack_of stack.new) result (reduced least (stack_of stack.old) (part_of operand)) }
+{
+    let mut part = operand;
+    while let Some(last) = stack.pop() {
+        match last {
+            Waiting::Joint(left, joint) => {
+                if joint.strength() < least {
+                    stack.push(Waiting::Joint(left, joint))?;
+                    return Ok(part);
+                }
+                part = join(alloc, joint, left, part)?;
+            }
+            other => {
+                stack.push(other)?;
+                return Ok(part);
+            }
+        }
+    }
+    Ok(part)
+}
+
+/// Ends the innermost bracket, after this part.
+pub fn close(alloc: Global, stack: &mut Stack, part: Operand) -> Result<Place, LineFault>
+    ensures { (names : List (List ℕ)) → Turns names (stack_of stack.new) result
+        (closes names (stack_of stack.old) (part_of part)) }
+{
+    match stack.pop() {
+        Some(Waiting::Bracket(head)) => Ok(Place::After(enclose(alloc, head, part)?)),
+        Some(Waiting::Half(head, first)) => {
+            Ok(Place::After(enclose_two(alloc, head, first, part)?))
+        }
+        _ => Err(LineFault::BadForm),
+    }
+}
+
+/// Reads the comma of the innermost bracket, after this part.
+pub fn comma(stack: &mut Stack, part: Operand) -> Result<Place, LineFault>
+    ensures { (names : List (List ℕ)) → Turns names (stack_of stack.new) result
+        (halves names (stack_of stack.old) (part_of part)) }
+{
+    match stack.pop() {
+        Some(Waiting::Bracket(Bracket::Not)) => Err(LineFault::BadForm),
+        Some(Waiting::Bracket(head)) => {
+            stack.push(Waiting::Half(head, part))?;
+            Ok(Place::Start)
+        }
+        Some(Waiting::Half(_, _)) => Err(LineFault::BadForm),
+        Some(Waiting::Joint(_, _)) => Err(LineFault::BadForm),
+        None => Err(LineFault::BadForm),
+    }
+}
+
+/// Opens a bracket. `TooBig` where they stand too deep.
+pub fn open(stack: &mut Stack, head: Bracket) -> Result<Place, LineFault>
+    ensures { (names : List (List ℕ)) → Turns names (stack_of stack.new) result
+        (opened names (stack_of stack.old) head) }
+{
+    if stack.brackets() >= DEEPEST {
+        return Err(LineFault::TooBig);
+    }
+    stack.push(Waiting::Bracket(head))?;
+    Ok(Place::Start)
+}

@@ -1,0 +1,298 @@
+//! Values and conditions from tokens, by the strength of their operators.
+
+ghost use Rattle.std.specs.Prelude.{◌≡◌, ◌⊎◌, List, ℕ, IsAscii, IfOk, IfErr, Some};
+ghost use Rattle.algorithms.specs.declared.fault.LineFault.TheVariants.{OutOfMemory as NoMemory};
+ghost use Rattle.algorithm_texts.specs.declared.tokens.Sign.TheVariants.{Close as CloseSign, Comma as CommaSign};
+ghost use Rattle.algorithm_texts.specs.declared.tokens.Token.TheVariants.{Word as WordToken, Sign as SignToken};
+ghost use Rattle.algorithm_texts.specs.Parts.{part_of, term_of, formula_of, Value as ValuePart, Condition as ConditionPart};
+ghost use Rattle.algorithm_texts.specs.Grammar.{word_value as word_value_of, Says};
+ghost use Rattle.algorithm_texts.specs.Stacks.{Waits, head_of, worded, begun, headed, joint_of, joining, followed, turned, run, ended, read_part, reading, Begins};
+ghost use Rattle.algorithm_texts.specs.Operands.{stack_of, next_of, Turns, MakesWord, Ends, SayNoValue, SayNoCondition, scope_of, names_of};
+
+use crate::names::name_read;
+use crate::operands::{Bracket, Joint, Operand};
+use crate::stack::{Place, Stack, Waiting, close, comma, open, reduce};
+use crate::tokens::{Sign, Token};
+use algorithms::algorithm::Algorithm;
+use algorithms::condition::Condition;
+use algorithms::expression::Expression;
+use algorithms::fault::LineFault;
+use std::alloc::Global;
+
+/// The bracket that comes next after this word.
+fn bracket_after(word: &[u8]) -> Option<Bracket>
+    ensures { result ≡ head_of word.now }
+{
+    if word == b"not".as_slice() {
+        Some(Bracket::Not)
+    } else if word == b"max".as_slice() {
+        Some(Bracket::Max)
+    } else if word == b"min".as_slice() {
+        Some(Bracket::Min)
+    } else {
+        None
+    }
+}
+
+/// The value that a word is: a number of the format, or a private name.
+fn word_value(
+    alloc: Global,
+    algorithm: &mut Algorithm,
+    word: &[u8],
+) -> Result<Expression, LineFault>
+    requires { IsAscii word.now }
+    ensures value { MakesWord (names_of algorithm.new) result
+        (word_value_of (scope_of algorithm.old) (names_of algorithm.old) word.now) }
+    ensures kept { algorithm.new ≡ record algorithm.old { names = algorithm.new.names } }
+{
+    if word == b"me".as_slice() {
+        Ok(Expression::Me)
+    } else if word == b"procs".as_slice() {
+        Ok(Expression::Procs)
+    } else if word == b"limit".as_slice() {
+        Ok(Expression::Limit)
+    } else {
+        Ok(Expression::Private(name_read(alloc, algorithm, word)?))
+    }
+}
+
+/// Reads a word where a part begins.
+fn first_word(alloc: Global, algorithm: &mut Algorithm, word: &[u8]) -> Result<Place, LineFault>
+    requires { IsAscii word.now }
+    ensures place { (ws : List Waits) → Turns (names_of algorithm.new) ws result
+        (worded (scope_of algorithm.old) (names_of algorithm.old) ws word.now (head_of word.now)) }
+    ensures kept { algorithm.new ≡ record algorithm.old { names = algorithm.new.names } }
+{
+    match bracket_after(word) {
+        Some(head) => Ok(Place::Head(head)),
+        None => Ok(Place::After(Operand::Value(word_value(alloc, algorithm, word)?))),
+    }
+}
+
+/// Reads a token where a part begins.
+fn begin(
+    alloc: Global,
+    algorithm: &mut Algorithm,
+    stack: &mut Stack,
+    token: &Token,
+) -> Result<Place, LineFault>
+    ensures place { Turns (names_of algorithm.new) (stack_of stack.new) result
+        (begun (scope_of algorithm.old) (names_of algorithm.old) (stack_of stack.old) token.now) }
+    ensures kept { algorithm.new ≡ record algorithm.old { names = algorithm.new.names } }
+{
+    match token {
+        Token::Number(number) => Ok(Place::After(Operand::Value(Expression::Number(*number)))),
+        Token::Word(word) => first_word(alloc, algorithm, word.as_bytes()),
+        Token::Sign(Sign::Open) => open(stack, Bracket::Plain),
+        Token::Sign(_) => Err(LineFault::BadForm),
+    }
+}
+
+/// Reads the bracket after its word.
+fn head(stack: &mut Stack, head: Bracket, token: &Token) -> Result<Place, LineFault>
+    ensures { (names : List (List ℕ)) → Turns names (stack_of stack.new) result
+        (headed names (stack_of stack.old) head token.now) }
+{
+    match token {
+        Token::Sign(Sign::Open) => open(stack, head),
+        _ => Err(LineFault::BadForm),
+    }
+}
+
+/// The word between two conditions.
+fn joint_word(word: &[u8]) -> Option<Joint>
+    ensures { result ≡ joint_of (WordToken word.now) }
+{
+    if word == b"and".as_slice() {
+        Some(Joint::And)
+    } else if word == b"or".as_slice() {
+        Some(Joint::Or)
+    } else {
+        None
+    }
+}
+
+/// Reads what stands between two parts, after this one.
+fn join_on(
+    alloc: Global,
+    stack: &mut Stack,
+    part: Operand,
+    joint: Joint,
+) -> Result<Place, LineFault>
+    ensures { (names : List (List ℕ)) → Turns names (stack_of stack.new) result
+        (joining names (stack_of stack.old) (part_of part) (Some joint)) }
+{
+    let left = reduce(alloc, stack, part, joint.strength())?;
+    stack.push(Waiting::Joint(left, joint))?;
+    Ok(Place::Start)
+}
+
+/// Reads a word after a part.
+fn join_by(alloc: Global, stack: &mut Stack, part: Operand, word: &[u8]) -> Result<Place, LineFault>
+    ensures { (names : List (List ℕ)) → Turns names (stack_of stack.new) result
+        (followed names (stack_of stack.old) (part_of part) (WordToken word.now)) }
+{
+    match joint_word(word) {
+        Some(joint) => join_on(alloc, stack, part, joint),
+        None => Err(LineFault::BadForm),
+    }
+}
+
+/// What is wrong with an index after a value: the word before it would be a shared one that is not declared.
+fn index_fault(part: &Operand) -> LineFault {
+    match part {
+        Operand::Value(Expression::Private(_)) => LineFault::UnknownName,
+        _ => LineFault::BadForm,
+    }
+}
+
+/// Ends the innermost bracket.
+fn close_after(alloc: Global, stack: &mut Stack, part: Operand) -> Result<Place, LineFault>
+    ensures { (names : List (List ℕ)) → Turns names (stack_of stack.new) result
+        (followed names (stack_of stack.old) (part_of part) (SignToken CloseSign)) }
+{
+    let whole = reduce(alloc, stack, part, 1)?;
+    close(alloc, stack, whole)
+}
+
+/// Reads the comma of the innermost bracket.
+fn comma_after(alloc: Global, stack: &mut Stack, part: Operand) -> Result<Place, LineFault>
+    ensures { (names : List (List ℕ)) → Turns names (stack_of stack.new) result
+        (followed names (stack_of stack.old) (part_of part) (SignToken CommaSign)) }
+{
+    let whole = reduce(alloc, stack, part, 1)?;
+    comma(stack, whole)
+}
+
+/// Reads a sign after a part.
+fn sign_after(
+    alloc: Global,
+    stack: &mut Stack,
+    part: Operand,
+    sign: Sign,
+) -> Result<Place, LineFault>
+    ensures { (names : List (List ℕ)) → Turns names (stack_of stack.new) result
+        (followed names (stack_of stack.old) (part_of part) (SignToken sign)) }
+{
+    match sign {
+        Sign::Close => close_after(alloc, stack, part),
+        Sign::Comma => comma_after(alloc, stack, part),
+        Sign::Operator(operator) => join_on(alloc, stack, part, Joint::Operator(operator)),
+        Sign::Comparison(comparison) => join_on(alloc, stack, part, Joint::Comparison(comparison)),
+        Sign::OpenIndex => Err(index_fault(&part)),
+        Sign::Assign => Err(LineFault::BadForm),
+        Sign::Colon => Err(LineFault::BadForm),
+        Sign::Open => Err(LineFault::BadForm),
+        Sign::CloseIndex => Err(LineFault::BadForm),
+    }
+}
+
+/// Reads a token after a part.
+fn go_on(alloc: Global, stack: &mut Stack, part: Operand, token: &Token) -> Result<Place, LineFault>
+    ensures { (names : List (List ℕ)) → Turns names (stack_of stack.new) result
+        (followed names (stack_of stack.old) (part_of part) token.now) }
+{
+    match token {
+        Token::Sign(sign) => sign_after(alloc, stack, part, *sign),
+        Token::Word(word) => join_by(alloc, stack, part, word.as_bytes()),
+        Token::Number(_) => Err(LineFault::BadForm),
+    }
+}
+
+/// Reads one more token.
+fn turn(
+    alloc: Global,
+    algorithm: &mut Algorithm,
+    stack: &mut Stack,
+    place: Place,
+    token: &Token,
+) -> Result<Place, LineFault>
+    ensures place { Turns (names_of algorithm.new) (stack_of stack.new) result
+        (turned (scope_of algorithm.old) (names_of algorithm.old) (stack_of stack.old) (next_of place) token.now) }
+    ensures kept { algorithm.new ≡ record algorithm.old { names = algorithm.new.names } }
+{
+    match place {
+        Place::Start => begin(alloc, algorithm, stack, token),
+        Place::Head(bracket) => head(stack, bracket, token),
+        Place::After(part) => go_on(alloc, stack, part, token),
+    }
+}
+
+/// Reads all tokens.
+fn read_tokens(
+    alloc: Global,
+    algorithm: &mut Algorithm,
+    stack: &mut Stack,
+    tokens: &[Token],
+) -> Result<Place, LineFault>
+    ensures place { Turns (names_of algorithm.new) (stack_of stack.new) result
+        (run (scope_of algorithm.old) tokens.now (reading (names_of algorithm.old) (stack_of stack.old) Begins)) }
+    ensures kept { algorithm.new ≡ record algorithm.old { names = algorithm.new.names } }
+{
+    let mut place = Place::Start;
+    for token in tokens {
+        place = turn(alloc, algorithm, stack, place, token)?;
+    }
+    Ok(place)
+}
+
+/// The one part that is left at the end.
+fn end(alloc: Global, stack: &mut Stack, place: Place) -> Result<Operand, LineFault>
+    ensures { (names : List (List ℕ)) → Ends names result (ended names (stack_of stack.old) (next_of place)) }
+{
+    let Place::After(part) = place else {
+        return Err(LineFault::BadForm);
+    };
+    let whole = reduce(alloc, stack, part, 1)?;
+    match stack.pop() {
+        None => Ok(whole),
+        Some(_) => Err(LineFault::BadForm),
+    }
+}
+
+/// What the tokens say, as a whole.
+fn parsed(alloc: Global, algorithm: &mut Algorithm, tokens: &[Token]) -> Result<Operand, LineFault>
+    ensures part { Ends (names_of algorithm.new) result
+        (read_part (scope_of algorithm.old) (names_of algorithm.old) tokens.now) }
+    ensures kept { algorithm.new ≡ record algorithm.old { names = algorithm.new.names } }
+{
+    let mut stack = Stack::new(alloc);
+    let place = read_tokens(alloc, algorithm, &mut stack, tokens)?;
+    end(alloc, &mut stack, place)
+}
+
+/// The value that the tokens say. The private names that are new are added.
+pub fn value(
+    alloc: Global,
+    algorithm: &mut Algorithm,
+    tokens: &[Token],
+) -> Result<Expression, LineFault>
+    ensures ok { IfOk result (λ v. Says
+        (scope_of algorithm.old) (names_of algorithm.old) tokens.now (ValuePart (term_of v)) (names_of algorithm.new)) }
+    ensures err { IfErr result (λ fault. (fault ≡ NoMemory)
+        ⊎ SayNoValue (scope_of algorithm.old) (names_of algorithm.old) tokens.now) }
+    ensures kept { algorithm.new ≡ record algorithm.old { names = algorithm.new.names } }
+{
+    match parsed(alloc, algorithm, tokens) {
+        Ok(operand) => operand.value(),
+        Err(fault) => Err(fault),
+    }
+}
+
+/// The condition that the tokens say. The private names that are new are added.
+pub fn condition(
+    alloc: Global,
+    algorithm: &mut Algorithm,
+    tokens: &[Token],
+) -> Result<Condition, LineFault>
+    ensures ok { IfOk result (λ c. Says
+        (scope_of algorithm.old) (names_of algorithm.old) tokens.now (ConditionPart (formula_of c)) (names_of algorithm.new)) }
+    ensures err { IfErr result (λ fault. (fault ≡ NoMemory)
+        ⊎ SayNoCondition (scope_of algorithm.old) (names_of algorithm.old) tokens.now) }
+    ensures kept { algorithm.new ≡ record algorithm.old { names = algorithm.new.names } }
+{
+    match parsed(alloc, algorithm, tokens) {
+        Ok(operand) => operand.condition(),
+        Err(fault) => Err(fault),
+    }
+}

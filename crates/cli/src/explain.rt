@@ -1,7 +1,7 @@
 //! The meanings of the numbers and names in reports, faults and steps.
 
+mod algorithm_faults;
 pub mod algorithm_refused;
-mod algorithm_texts;
 mod answers;
 pub mod dictionary_entry;
 pub mod meaning;

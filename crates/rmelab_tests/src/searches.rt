@@ -3,7 +3,7 @@
 
 mod algorithm_commands;
 mod algorithm_explores;
-mod algorithm_texts;
+mod algorithm_faults;
 mod explores;
 mod hunts;
 mod jobs;

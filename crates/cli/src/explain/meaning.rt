@@ -3,7 +3,7 @@
 ghost use Rattle.std.specs.Prelude.{◌≡◌};
 ghost use Rattle.cli.specs.Names.{name_of};
 
-use crate::explain::algorithm_texts::{of_algorithm_fault, of_algorithm_refused};
+use crate::explain::algorithm_faults::{of_algorithm_fault, of_algorithm_refused};
 use crate::explain::answers::of_answer;
 use crate::explain::dictionary_entry::DictionaryEntry;
 use crate::explain::refusals::of_refusal;

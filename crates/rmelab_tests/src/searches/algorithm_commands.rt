@@ -1,6 +1,6 @@
 //! Hunts, drawings and least schedules of algorithms: what they write, and what is refused.
 
-use crate::searches::named_texts::algorithm_texts;
+use crate::searches::named_texts::example_algorithms;
 use crate::support::invocation::{all_come_to, output_of, program_comes_to};
 use algorithms_tests::texts::others;
 use std::alloc::Global;
@@ -154,7 +154,7 @@ For more information, try '--help'.
 
 #[test]
 fn commands_on_an_algorithm(rt: HostRuntime) -> Result<(), Fail> {
-    let algorithms = algorithm_texts(rt.alloc())?;
+    let algorithms = example_algorithms(rt.alloc())?;
     all_come_to(
         &rt,
         rt.alloc(),
@@ -191,7 +191,7 @@ rmelab: algorithm line 6: fault 7: a second access in one line
 /// A text at fault, a file that can't be read, and a device that fails.
 #[test]
 fn commands_on_an_algorithm_that_fail(rt: HostRuntime) -> Result<(), Fail> {
-    let algorithms = algorithm_texts(rt.alloc())?;
+    let algorithms = example_algorithms(rt.alloc())?;
     program_comes_to(
         &rt,
         rt.alloc(),

@@ -1,7 +1,7 @@
 //! Searches of algorithms. The schedules and the counts are those of the reference interpreter of the format.
 
 use crate::searches::explores;
-use crate::searches::named_texts::algorithm_texts;
+use crate::searches::named_texts::example_algorithms;
 use crate::support::invocation::{all_come_to, program_comes_to};
 use std::test::Fail;
 
@@ -92,7 +92,7 @@ verdict against 2 at 6
 
 #[test]
 fn searches_of_algorithms(rt: HostRuntime) -> Result<(), Fail> {
-    let algorithms = algorithm_texts(rt.alloc())?;
+    let algorithms = example_algorithms(rt.alloc())?;
     all_come_to(
         &rt,
         rt.alloc(),
@@ -112,7 +112,7 @@ const SEARCHES_OF_ALGORITHMS_WHERE_DEVICES_FAIL: &str = "
 
 #[test]
 fn searches_of_algorithms_where_devices_fail(rt: HostRuntime) -> Result<(), Fail> {
-    let algorithms = algorithm_texts(rt.alloc())?;
+    let algorithms = example_algorithms(rt.alloc())?;
     program_comes_to(
         &rt,
         rt.alloc(),

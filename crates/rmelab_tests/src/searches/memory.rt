@@ -1,6 +1,6 @@
 //! Each request for memory of searches, of schedules that are shrunk, and of commands on algorithms is refused in turn.
 
-use crate::searches::named_texts::algorithm_texts;
+use crate::searches::named_texts::example_algorithms;
 use crate::searches::{algorithm_commands, algorithm_explores, explores, shrinks};
 use crate::support::invocation::all_meet_refusals;
 use std::test::Fail;
@@ -28,7 +28,7 @@ nothing found
 
 #[test]
 fn out_of_memory(rt: HostRuntime) -> Result<(), Fail> {
-    let algorithms = algorithm_texts(rt.alloc())?;
+    let algorithms = example_algorithms(rt.alloc())?;
     all_meet_refusals(
         &rt,
         rt.alloc(),

@@ -34,7 +34,7 @@ const ALGORITHMS: [(&str, &[u8]); 5] = [
 ];
 
 /// A script of the texts of algorithms.
-pub fn algorithm_texts(alloc: Global) -> Result<String, Fail> {
+pub fn example_algorithms(alloc: Global) -> Result<String, Fail> {
     let mut all = String::from_str(alloc, SHARED)?;
     for (name, text) in ALGORITHMS {
         all.push_str("@text ")?;

@@ -1,6 +1,6 @@
 //! Replays of algorithms where a text, a schedule, words or a file are at fault.
 
-use crate::searches::named_texts::algorithm_texts;
+use crate::searches::named_texts::example_algorithms;
 use crate::support::invocation::{all_come_to, program_comes_to};
 use std::alloc::Global;
 use std::test::Fail;
@@ -182,7 +182,7 @@ rmelab: line 3: refused 16
 
 #[test]
 fn texts_that_are_refused(rt: HostRuntime) -> Result<(), Fail> {
-    let algorithms = algorithm_texts(rt.alloc())?;
+    let algorithms = example_algorithms(rt.alloc())?;
     all_come_to(
         &rt,
         rt.alloc(),
@@ -236,7 +236,7 @@ rmelab: line 1: fault 1
 
 #[test]
 fn algorithms_where_devices_fail(rt: HostRuntime) -> Result<(), Fail> {
-    let algorithms = algorithm_texts(rt.alloc())?;
+    let algorithms = example_algorithms(rt.alloc())?;
     program_comes_to(
         &rt,
         rt.alloc(),

@@ -6,11 +6,9 @@ ghost use Rattle.algorithm_texts.specs.Tokens.{SaysOnce};
 /// A line has one list of tokens and one answer, or one first fault.
 pub fn a_line_says_one_thing()
     ensures { SaysOnce }
-{
-}
+{}
 
 /// Tokens say one value, one pair or one condition, or none of them.
 pub fn tokens_say_one_part()
     ensures { SayOnePart }
-{
-}
+{}

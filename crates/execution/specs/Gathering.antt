@@ -32,7 +32,7 @@ procs_of (x ∷ xs) = x.seat_view.setup.layout.procs
 abbrev pub IsMissing : List Seated → Type 0
 IsMissing xs = (xs ≡ []) ⊎ ((p : ℕ) × (p < procs_of xs) × (has_member p xs ≡ false))
 
--- the image of a global state (the specification's "Image"), with the sizes
+-- the image of a global state (Image of docs/dev/texts.md), with the sizes
 abbrev pub image_at : Setup → GlobalState → Image
 image_at s w =
     record {

@@ -30,7 +30,7 @@ use Rattle.execution.specs.Calls.{process_state_before}
 abbrev pub deeds_of : Setup → List TakenStep → List Deed
 deeds_of s es = deeds s.layout s.limit at_first (spelled es)
 
--- the judge's state after them: the specification's "Abstract lock" and "Mailbox list"
+-- the judge's state after them: Abstract lock of docs/theory/judge.md and Mailbox list of mailbox.md
 abbrev pub judged_by : Setup → List TakenStep → State
 judged_by s es = all_after (empty s.layout.procs s.layout.cap) (deeds_of s es)
 
@@ -66,6 +66,6 @@ pub record IsSoundRun (s : Setup) (es : List TakenStep) : Type 0 where
   pub data_words : Sits s.layout (end_of s es).cells (judged_by s es)
   pub answered : AnsweredIsShown s es
 
--- the specification's "lock theorem": every run is sound
+-- the lock theorem of docs/theory/theorem.md: every run is sound
 abbrev pub EveryRunIsSound : Type 0
 EveryRunIsSound = (s : Setup) (es : List TakenStep) → IsLayout s.layout → IsRun s es → IsSoundRun s es

@@ -16,7 +16,7 @@ Within zero (Put i v rest) = ⊥
 Within (suc k) (Get i rest) = (x : ℕ) → Within k (rest x)
 Within (suc k) (Put i v rest) = Within k rest
 
--- The most steps that are left of a lock among n processes, by its place (the specification's "Place"). An entry has three
+-- The most steps that are left of a lock among n processes, by its place (Place of docs/theory/model.md). An entry has three
 -- more: the ruin check, and the two steps of the exit from a ruined lock.
 abbrev pub lock_left : ℕ → Place → ℕ
 lock_left n Rest = 0

@@ -19,7 +19,7 @@ use Rattle.execution.specs.Running.{Seated}
 abbrev pub cells_of : Setup → List TakenStep → Words
 cells_of s es = (end_of s es).cells
 
--- the messages that the mailbox list (the specification's "Mailbox list") shows after the deeds of a run
+-- the messages that the mailbox list (Mailbox list of docs/theory/mailbox.md) shows after the deeds of a run
 abbrev pub AreShown : Setup → List TakenStep → List Message → Type 0
 AreShown s es messages =
     (t : State) × Leads (empty s.layout.procs s.layout.cap) (deeds s.layout s.limit at_first (spelled es)) t × (t.mail.shown ≡ messages)

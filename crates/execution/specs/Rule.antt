@@ -1,4 +1,4 @@
--- The rule of the table (the specification's "Pass"): there is one run, its words are the table's, and each view is a prefix
+-- The rule of the table (Pass of docs/theory/model.md): there is one run, its words are the table's, and each view is a prefix
 -- of it.
 use Rattle.std.specs.Prelude.{◌≡◌, ℕ, zero, suc, ◌<◌, true, false, if◌then◌else◌, ltb, List, [], ◌∷◌, ◌++◌, length, slice_index, All, None}
 use mathlib.Core.Option.{some}

@@ -1,4 +1,4 @@
--- The run of the table (the specification's "Run"): a list of entries. Spelled out, it is an execution of the simulated
+-- The run of the table (Run of docs/theory/model.md): a list of entries. Spelled out, it is an execution of the simulated
 -- world.
 use Rattle.std.specs.Prelude.{◌≡◌, ℕ, ◌+◌, ◌*◌, ◌<◌, ◌≤◌, ◌==◌, ◌||◌, Bool, true, false, List, [], ◌∷◌, ◌++◌, length, slice_index, filter, Option, Some, None, IsSome, unwrap_or}
 use Rattle.rmecore.specs.World.{is_store}

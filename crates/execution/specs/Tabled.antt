@@ -1,4 +1,4 @@
--- The own steps of a member's call, by the specification's table of own steps. The table goes by the lock words of the
+-- The own steps of a member's call, by the table of own steps of docs/theory/model.md. The table goes by the lock words of the
 -- process when the call began, at the end of the caller's view, and by whether there was nothing to mend then.
 use Rattle.std.specs.Prelude.{◌≡◌, ℕ, ◌+◌, ◌<◌, ◌≤◌, List, [], ◌∷◌, length, drop, Option, Some, None}
 use Rattle.rmecore.specs.declared.own.Own.{Own}

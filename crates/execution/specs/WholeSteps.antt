@@ -1,5 +1,5 @@
--- The own steps of several calls in a row, as a whole mailbox call makes them: the sum over the specification's table of own
--- steps.
+-- The own steps of several calls in a row, as a whole mailbox call makes them: the sum over the table of own steps of
+-- docs/theory/model.md.
 use Rattle.std.specs.Prelude.{◌≡◌, ℕ, ◌+◌, ◌*◌, ◌<◌, Bool, true, false, List, [], ◌∷◌, Option, Some, None}
 use Rattle.rmecore.specs.declared.own.Own.{Own}
 use Rattle.redomail.specs.declared.layout.Layout.{Layout}

@@ -241,14 +241,14 @@ cut_off named by m call turns new e (inr memory) = record { told = inr (inl (ap 
 -- a call that is answered, but for its last asking
 pub as_told : {T : Type 0} (named : Option Setup) (by : Option Answer → Result T LockFault) (m mid new : Seat) (kept lost : MemberState) (call : Call) (turns : Option ℕ) (a : Option Answer) (answer result : Result T LockFault) → IsAnswered named m.process m.standing call turns m.trail mid.trail a → answer ≡ by a
     → (((result ≡ answer) × (new ≡ record mid { standing = kept })) ⊎ ((result ≡ Err Crashed) × (new ≡ record mid { standing = lost }))) → Answered named by m call turns new result
-as_told named by m mid new kept fell call turns a answer result is told (inl (same, k)) =
-    record { told = inr (inr (a, (subst (λ (n : Trail). IsAnswered named m.process m.standing call turns m.trail n a) (ap (λ (x : Seat). x.trail) (sym k)) is, same ∙ told))) }
-as_told named by m mid new kept fell call turns a answer result is told (inr (crash, k)) = record { told = inl crash }
+as_told named by m mid new kept fell call turns a answer result fits told (inl (same, k)) =
+    record { told = inr (inr (a, (subst (λ (n : Trail). IsAnswered named m.process m.standing call turns m.trail n a) (ap (λ (x : Seat). x.trail) (sym k)) fits, same ∙ told))) }
+as_told named by m mid new kept fell call turns a answer result fits told (inr (crash, k)) = record { told = inl crash }
 
 -- the answer of a task
 pub replied_by : (named : Option Setup) (p : ℕ) (call : Call) (from to : Trail) (a : Option Answer) (reply : Reply) → IsSome a → IsAnswered named p Mended call None from to a → reply ≡ reply_by a → IsReply named p call reply
-replied_by named p call from to None reply some is told = absurd (true≢false (sym some))
-replied_by named p call from to (Some a) reply some is told = record { answer = a; from = from; to = to; answered = is; is = told }
+replied_by named p call from to None reply some fits told = absurd (true≢false (sym some))
+replied_by named p call from to (Some a) reply some fits told = record { answer = a; from = from; to = to; answered = fits; is = told }
 
 -- a whole call that is cut off says nothing of its lock
 pub cut_at_lock : (named : Option Setup) (m : Seat) (turns : Option ℕ) (to : Trail) (e : LockFault) → ((e ≡ Crashed) ⊎ (e ≡ OutOfMemory)) → EndsAtLock named m turns to e
@@ -269,9 +269,9 @@ ends_at_lock named m turns to (Some Withdrawn) is = tt
 -- a whole call whose lock was answered with a fault, but for its last asking
 pub locked_out : (named : Option Setup) (m mid new : Seat) (kept lost : MemberState) (turns : Option ℕ) (a : Option Answer) (e : LockFault) (entry : Result Entry LockFault) (result : Result Reply LockFault) → IsAnswered named m.process m.standing Lock turns m.trail mid.trail a → entry ≡ entry_by a → entry ≡ Err e
     → (((result ≡ Err e) × (new ≡ record mid { standing = kept })) ⊎ ((result ≡ Err Crashed) × (new ≡ record mid { standing = lost }))) → IfErr result (EndsAtLock named m turns new.trail)
-locked_out named m mid new kept fell turns a e entry result is told fault (inl (same, k)) =
-    subst (λ (r : Result Reply LockFault). IfErr r (EndsAtLock named m turns new.trail)) (sym same) (subst (λ (n : Trail). EndsAtLock named m turns n e) (ap (λ (x : Seat). x.trail) (sym k)) (subst (λ (r : Result Entry LockFault). IfErr r (EndsAtLock named m turns mid.trail)) (sym told ∙ fault) (ends_at_lock named m turns mid.trail a is)))
-locked_out named m mid new kept fell turns a e entry result is told fault (inr (crash, k)) = subst (λ (r : Result Reply LockFault). IfErr r (EndsAtLock named m turns new.trail)) (sym crash) tt
+locked_out named m mid new kept fell turns a e entry result fits told fault (inl (same, k)) =
+    subst (λ (r : Result Reply LockFault). IfErr r (EndsAtLock named m turns new.trail)) (sym same) (subst (λ (n : Trail). EndsAtLock named m turns n e) (ap (λ (x : Seat). x.trail) (sym k)) (subst (λ (r : Result Entry LockFault). IfErr r (EndsAtLock named m turns mid.trail)) (sym told ∙ fault) (ends_at_lock named m turns mid.trail a fits)))
+locked_out named m mid new kept fell turns a e entry result fits told fault (inr (crash, k)) = subst (λ (r : Result Reply LockFault). IfErr r (EndsAtLock named m turns new.trail)) (sym crash) tt
 
 ruined_inside : (named : Option Setup) (m : Seat) (turns : Option ℕ) (to : Trail) (reply : Result Reply LockFault) → IfErr reply (λ (e : LockFault). e ≡ RuinFault) → IfErr reply (EndsAtLock named m turns to)
 ruined_inside named m turns to (Ok reply) ruin = tt

@@ -20,10 +20,10 @@ needs_none named p s from is = subst (λ (x : MemberState). Mends named p x from
 
 -- a member that has to mend
 pub mends_by : (named : Option Setup) (p : ℕ) (s : MemberState) (from to : Trail) (a : Option Answer) (mended : Result Bool LockFault) → is_in s ≡ true → s ≢ Mended → IsAnswered named p s Consistent None from to a → mended ≡ mended_by a → Mends named p s from to mended
-mends_by named p Unmended from to a mended inside other is told = (a, is, told)
-mends_by named p Mended from to a mended inside other is told = absurd (other refl)
-mends_by named p Out from to a mended inside other is told = absurd (true≢false (sym inside))
-mends_by named p Lost from to a mended inside other is told = absurd (true≢false (sym inside))
+mends_by named p Unmended from to a mended inside other fits told = (a, fits, told)
+mends_by named p Mended from to a mended inside other fits told = absurd (other refl)
+mends_by named p Out from to a mended inside other fits told = absurd (true≢false (sym inside))
+mends_by named p Lost from to a mended inside other fits told = absurd (true≢false (sym inside))
 
 -- a member whose task was given a reply, and that has left
 pub works_by : (named : Option Setup) (p q r : ℕ) (task : Call) (s then : MemberState) (from at replied to : Trail) (b : Bool) (mended : Result Bool LockFault) (a left : Option Answer) (reply : Reply) → q ≡ p → r ≡ p → mended ≡ Ok b → Mends named p s from at mended → then ≡ stands_mended mended

@@ -2,13 +2,12 @@
 -- or a disturbance comes, since all other events leave the world as it is.
 use Rattle.std.proofs.Common.{◌≡◌, ◌≢◌, ℕ, zero, suc, ◌<◌, Bool, true, false, not, ◌&&◌, ◌||◌, ◌==◌, if◌then◌else◌, ◌⊎◌, List, [], ◌∷◌, Some, None, IsSome, unwrap_or, refl, sym, ap, ◌∙◌, subst, inl, inr, arith, eqb-true, eq-eqb}
 use Rattle.std.proofs.lemmas.Bool.{or_from, not-true}
-use Rattle.progress.proofs.Common.{and_parts, or_left, or_right, false_from_ne_true, cases_eq, cases_lt, Kind, Look as Looks, Weigh as Weighs, Glance as Glances, Own, Word, Choosing as ChoosingOf, Number as NumberOf, InsideOf, Data as DataAt, is_blocked, is_glance}
+use Rattle.progress.proofs.Common.{and_parts, or_left, or_right, false_from_ne_true, cases_eq, Kind, Look as Looks, Weigh as Weighs, Glance as Glances, Own, Word, Choosing as ChoosingOf, Number as NumberOf, InsideOf, Data as DataAt, is_blocked, is_glance}
 use Rattle.progress.proofs.Common.{put, Place, Reread, Door, Wait, has, next, Event, Starts, Crashes, Steps, without, is_before, process, World, May, after, Run, Reads, stored, write, is_store, IsFirst, IsLess}
 use Rattle.progress.proofs.Common.{is_disturbance, is_effective, work, disturbances, Owes, is_move, moves}
 use Rattle.rmecore.proofs.Accesses.{passed}
-use Rattle.rmecore.proofs.Bounds.{before_test}
 use Rattle.rmecore.proofs.Invariant.{Fits, put_same, put_other}
-use Rattle.rmecore.proofs.Rows.{before_by}
+use Rattle.rmecore.proofs.HomeStates.{one_comes_first, before_is_transitive}
 use Rattle.rmecore.proofs.Runs.{guard}
 use Rattle.rmecore.proofs.SoundWorlds.{Sound, Awaits}
 
@@ -142,23 +141,6 @@ module _ (n limit : ℕ) where
 
 -- the least pair of all that hold a number
 
-earlier : (k p v q : ℕ) → p ≢ q → (is_before k p v q ≡ true) ⊎ (is_before v q k p ≡ true)
-earlier k p v q ne =
-    elim (cases_lt k v) [
-      | inl less ↦ inl (before_test k p v q (inl less))
-      | inr no_less ↦ elim (cases_eq k v) [
-        | inl same ↦ elim (cases_lt p q) [ inl low ↦ inl (before_test k p v q (inr (same, low))) | inr high ↦ inr (before_test v q k p (inr (sym same, omega arith))) ]
-        | inr other ↦ inr (before_test v q k p (inl (omega arith)))
-      ]
-    ]
-
-transitive : (k p v q x r : ℕ) → is_before k p v q ≡ true → is_before v q x r ≡ true → is_before k p x r ≡ true
-transitive k p v q x r h h' =
-    elim (before_by k p v q h) [
-      | inl less ↦ elim (before_by v q x r h') [ inl less' ↦ before_test k p x r (inl (omega arith)) | inr same ↦ before_test k p x r (inl (omega arith)) ]
-      | inr same ↦ elim (before_by v q x r h') [ inl less ↦ before_test k p x r (inl (omega arith)) | inr same' ↦ before_test k p x r (inr (omega arith, omega arith)) ]
-    ]
-
 -- the first of those below m
 record Least (m : ℕ) (w : World) : Type 0 where
   who : ℕ
@@ -181,7 +163,7 @@ least_below w (suc m) =
       ]
       | inr held ↦ elim (least_below w m) [
         | inl none ↦ inr (record { who = m; low = omega arith; holds = omega arith; first = λ q low ne some. absurd (let z = none q (omega arith) in omega arith) })
-        | inr l ↦ elim (earlier (w.words l.who).number l.who (w.words m).number m (λ is. let low = l.low in omega arith)) [
+        | inr l ↦ elim (one_comes_first (w.words l.who).number l.who (w.words m).number m (λ is. let low = l.low in omega arith)) [
           | inl less ↦ inr (record {
             who = l.who;
             low = omega arith;
@@ -194,7 +176,7 @@ least_below w (suc m) =
             holds = omega arith;
             first = λ q low ne some. elim (cases_eq q l.who) [
               | inl is ↦ subst (IsLess w m) (sym is) less
-              | inr far ↦ transitive (w.words m).number m (w.words l.who).number l.who (w.words q).number q less (l.first q (omega arith) far some)
+              | inr far ↦ before_is_transitive (w.words m).number m (w.words l.who).number l.who (w.words q).number q less (l.first q (omega arith) far some)
             ];
           })
         ]

@@ -1,4 +1,4 @@
--- A block of words that was copied, as an image (the specification's "Image").
+-- A block of words that was copied, as an image (Image of docs/dev/texts.md).
 use Rattle.std.specs.Prelude.{ℕ, ◌+◌, ◌*◌, ◌==◌, ◌&&◌, Bool, is_none, List, length, map, drop, slice_index}
 use Rattle.std.specs.List.{range_with_len}
 use Rattle.rmecore.specs.declared.own.Own.{Own}

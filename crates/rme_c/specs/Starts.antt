@@ -1,4 +1,4 @@
--- Which sizes a world has (the specification's "Limits"), which call C has written, and why a start is refused.
+-- Which sizes a world has (Limits of docs/theory/model.md), which call C has written, and why a start is refused.
 use Rattle.std.specs.Prelude.{ℕ, Bool, ◌==◌, ◌&&◌, nat_lt, nat_le, if◌then◌else◌, [], ◌∷◌, Option, Some, None, take, slice_index}
 use Rattle.rmecore.specs.declared.refusal.Refusal.{Refusal}
 use Rattle.rmecore.specs.declared.refusal.Refusal.TheVariants.{BadProcs, BadLimit, NoSuchProcess, BadCap, BadWidth, BadIndex}

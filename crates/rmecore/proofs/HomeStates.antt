@@ -16,8 +16,8 @@ use Rattle.rmecore.proofs.Scans.{without_less}
 
 -- a pair before another, and both orders
 
-either : (k p v q : ℕ) → p ≢ q → (is_before k p v q ≡ true) ⊎ (is_before v q k p ≡ true)
-either k p v q ne =
+pub one_comes_first : (k p v q : ℕ) → p ≢ q → (is_before k p v q ≡ true) ⊎ (is_before v q k p ≡ true)
+one_comes_first k p v q ne =
     elim (cases_lt k v) [
       | inl less ↦ inl (before_test k p v q (inl less))
       | inr no_less ↦ elim (cases_eq k v) [
@@ -26,8 +26,8 @@ either k p v q ne =
       ]
     ]
 
-transitive : (k p v q x r : ℕ) → is_before k p v q ≡ true → is_before v q x r ≡ true → is_before k p x r ≡ true
-transitive k p v q x r h h' =
+pub before_is_transitive : (k p v q x r : ℕ) → is_before k p v q ≡ true → is_before v q x r ≡ true → is_before k p x r ≡ true
+before_is_transitive k p v q x r h h' =
     elim (before_by k p v q h) [
       | inl less ↦ elim (before_by v q x r h') [ inl less' ↦ before_test k p x r (inl (omega arith)) | inr same ↦ before_test k p x r (inl (omega arith)) ]
       | inr same ↦ elim (before_by v q x r h') [ inl less ↦ before_test k p x r (inl (omega arith)) | inr same' ↦ before_test k p x r (inr (omega arith, omega arith)) ]
@@ -90,7 +90,7 @@ least_of (suc m) w h =
           waits = l.waits;
           least = λ q low ne also. elim (cases_eq q m) [ inl is ↦ absurd (not_home w m home (subst (λ r. IsWaiting (w.places r)) is also)) | inr far ↦ l.least q (omega arith) ne also ];
         })
-        | inr waits ↦ elim (either (w.words l.first).number l.first (w.words m).number m (λ is. omega arith)) [
+        | inr waits ↦ elim (one_comes_first (w.words l.first).number l.first (w.words m).number m (λ is. omega arith)) [
           | inl less ↦ inr (record {
             first = l.first;
             low = omega arith;
@@ -101,7 +101,7 @@ least_of (suc m) w h =
             first = m;
             low = omega arith;
             waits = waits;
-            least = λ q low ne also. elim (cases_eq q l.first) [ inl is ↦ subst (IsLess w m) (sym is) less | inr far ↦ transitive (w.words m).number m (w.words l.first).number l.first (w.words q).number q less (l.least q (omega arith) far also) ];
+            least = λ q low ne also. elim (cases_eq q l.first) [ inl is ↦ subst (IsLess w m) (sym is) less | inr far ↦ before_is_transitive (w.words m).number m (w.words l.first).number l.first (w.words q).number q less (l.least q (omega arith) far also) ];
           })
         ]
       ]

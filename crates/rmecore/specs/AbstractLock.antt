@@ -1,4 +1,4 @@
--- "Abstract lock" of the specification (Golab and Ramaraju; Jayanti and Joshi): a phase for each process and, for each
+-- Abstract lock of docs/theory/judge.md (Golab and Ramaraju; Jayanti and Joshi): a phase for each process and, for each
 -- process, the set of those ahead of it. It has no numbers. Its deeds are the rows Begin to Quit of the judge table.
 use Rattle.std.specs.Prelude.{ℕ, Bool, true, false, ◌||◌, nat_lt, List, [], ◌∷◌}
 use Rattle.rmecore.specs.Needs.{AllHold, least, none_below, put}

@@ -15,7 +15,7 @@ pub data Event : Type 0 where
   Crashes : (p : ℕ) → Event
   Steps : (p : ℕ) → (kind : Kind) → (word : Word) → (value : ℕ) → Event
 
--- "Place" of the specification. Sets of processes are lists without order
+-- Place of docs/theory/model.md. Sets of processes are lists without order
 pub data Place : Type 0 where
   Rest Dead : Place
   -- after a start: the own words read so far

@@ -1,6 +1,6 @@
 //! Devices: sources of bytes, and sinks for bytes.
 
-ghost use Rattle.std.specs.Prelude.{◌≡◌, ◌+◌, ◌-◌, ◌^◌, ◌<◌, ◌≤◌, ◌⊎◌, ◌++◌, List, ℕ, true, false, [], length, take, drop, None, Some, OnOk, OnErr, IfOk, IfErr, min};
+ghost use Rattle.std.specs.Prelude.{◌≡◌, ◌+◌, ◌-◌, ◌^◌, ◌<◌, ◌≤◌, ◌⊎◌, ◌++◌, List, ℕ, true, false, [], length, take, drop, None, Some, OnOk, OnErr, IfOk, IfErr, IfSome, min, max};
 ghost use Rattle.std.specs.declared.option.Option.{Option};
 ghost use Rattle.std.specs.Io.KnownBytes.{ReadConsumes};
 ghost use Rattle.schedule.specs.Tapes.{WritesFront, Reading, Tape};
@@ -21,6 +21,9 @@ pub trait Source {
     /// the bytes that it gives from here on, where they are known
     ghost coming: { Self → Option (List ℕ) } = { λ _. None };
 
+    /// the most bytes that one read gives, where that has a bound
+    ghost most: { Self → Option ℕ } = { λ _. None };
+
     /// Reads into the front of the buffer, and answers how many bytes. 0 for a buffer that is not empty is the end.
     fn read(&mut self, buf: &mut [u8]) -> Result<usize, Failed>
         ensures bound { IfOk result (λ n. n ≤ length buf.new) }
@@ -33,6 +36,8 @@ pub trait Source {
         ensures failed { OnErr result ((reading self.new).failures ≡ min ((reading self.old).failures + 1) (2 ^ 64 - 1)) }
         ensures kept { OnErr result ((reading self.new).given ≡ (reading self.old).given) }
         ensures still { OnErr result ((reading self.new).ended ≡ (reading self.old).ended) }
+        ensures most { IfOk result (λ n. IfSome (most self.old) (λ bound. n ≤ bound)) }
+        ensures same_bound { most self.new ≡ most self.old }
         // It gives the bytes that are known to come, in their order, and leaves out none.
         ensures coming { ReadConsumes (coming self.old) (coming self.new) result buf.new }
         // A source has finitely many bytes.
@@ -93,6 +98,8 @@ impl<'a> Source for Text<'a> {
     ghost reading = { λ s. record { given = take s.at s.all.now; ended = s.ended; failures = 0 } };
 
     ghost coming = { λ s. Some (drop s.at s.all.now) };
+
+    ghost most = { λ s. Some (max s.piece 1) };
 
     fn read(&mut self, buf: &mut [u8]) -> Result<usize, Failed> {
         let left = self.all.len() - self.at;

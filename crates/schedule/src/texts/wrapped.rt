@@ -124,13 +124,6 @@ impl<W: io::Write> ToWriter<W> {
         }
     }
 
-    /// The writer.
-    pub fn get_ref(&self) -> &W
-        ensures { AreKnown W.contents → W.contents result.now ≡ Some (⟦<ToWriter<W> as Sink>⟧.tape self.now).taken }
-    {
-        &self.inner
-    }
-
     /// The writer. It holds what was taken.
     pub fn into_inner(self) -> W
         ensures { AreKnown W.contents → W.contents result ≡ Some (⟦<ToWriter<W> as Sink>⟧.tape self).taken }

@@ -1,75 +1,11 @@
 /* Processes that die and are not started again, and others that give up their places.
  *
- *     reap_test FOLDER ROUNDS SEED
+ *     reap_test FOLDER SEED
  *
  * First a process that dies after each number of accesses, in turn, and is reaped. Then reapers that are killed, and restarts beside
- * reapers. Then ROUNDS rounds of four senders of which two are killed for good, and rounds of 2, 16 and 64 of which half are, or as
- * many as are drawn, at most all: those that are left send all their messages, each stands once and in its sender's order, no two
- * were inside, and what those who died inside left half done in the caller's data was repaired. */
+ * reapers. */
 #define _GNU_SOURCE
-#include "clock.h"
-#include "rme.h"
-
-#include <errno.h>
-#include <inttypes.h>
-#include <sched.h>
-#include <signal.h>
-#include <stdatomic.h>
-#include <stdio.h>
-#include <stdlib.h>
-#include <string.h>
-#include <sys/mman.h>
-#include <sys/wait.h>
-#include <time.h>
-#include <unistd.h>
-
-enum { MOST = 64, MESSAGES = 40, MOST_WORDS = 3 * MOST + 13 + MOST + 5 * MOST * MESSAGES };
-
-/* The caller's data: both are counted by whoever is inside, one after the other. */
-struct counted {
-    uint64_t first, second;
-};
-
-/* Beside the file, and no part of it. */
-struct tally {
-    _Atomic uint64_t owner, overlaps, strangers, repairs, answered[MOST];
-};
-
-static char path[4000];
-static struct tally *tally;
-static uint64_t senders;
-
-static void expect_at(int line, const char *what, uint64_t got, uint64_t wanted)
-{
-    if (got == wanted)
-        return;
-    fprintf(stderr, "reap_test.c:%d: %s: %" PRIu64 " (%s), wanted %" PRIu64 "\n", line, what, got, rme_strerror((int)got), wanted);
-    exit(1);
-}
-#define EXPECT(call, wanted) expect_at(__LINE__, #call, (uint64_t)(call), (uint64_t)(wanted))
-
-static void make(uint64_t procs, uint64_t cap)
-{
-    unlink(path);
-    EXPECT(rme_create(path, procs, cap, 3, sizeof(struct counted)), 0);
-    senders = procs;
-    memset((void *)tally, 0, sizeof *tally);
-}
-
-static int repair(struct rme_seat *dead, uint64_t index, void *data, size_t bytes, void *context)
-{
-    struct counted *counted = data;
-    uint64_t owner = tally->owner;
-    (void)dead, (void)context;
-    if (owner != 0 && owner != index + 1)
-        tally->strangers++; /* somebody else is inside */
-    if (bytes != sizeof *counted || drand48() < 0.5)
-        nap(0.0005); /* time to be killed in here */
-    counted->second = counted->first;
-    tally->owner = 0;
-    tally->repairs++;
-    return 0;
-}
+#include "reaping.h"
 
 static int give_up_hope(struct rme_seat *dead, uint64_t index, void *data, size_t bytes, void *context)
 {
@@ -82,20 +18,6 @@ static int sleep_long(struct rme_seat *dead, uint64_t index, void *data, size_t 
     tally->answered[0]++;
     nap(context ? *(double *)context : 60);
     return repair(dead, index, data, bytes, NULL);
-}
-
-static void expect_killed(pid_t child)
-{
-    int status = 0;
-    waitpid(child, &status, 0);
-    EXPECT(WIFSIGNALED(status) && WTERMSIG(status) == SIGKILL, true);
-}
-
-static void expect_ended(pid_t child)
-{
-    int status = 0;
-    EXPECT(waitpid(child, &status, 0), child);
-    EXPECT(status, 0);
 }
 
 /* ---- one that dies after a number of accesses ---- */
@@ -386,130 +308,11 @@ static void restarts_beside_reapers(void)
     EXPECT(crashed && reaped, true);
 }
 
-/* ---- senders of which some die for good ---- */
-
-/* One that is doomed goes in and out after its messages too, until it is killed. */
-static void sender(uint64_t p, bool doomed, long seed)
-{
-    static struct rme_seat seat;
-    srand48(seed);
-    const uint64_t last = doomed ? UINT64_MAX : MESSAGES;
-    alarm(120);
-    EXPECT(rme_attach(&seat, path, p), 0);
-    struct counted *counted = rme_data(&seat, NULL);
-    for (uint64_t number = 1; number <= last; number++) {
-        const uint64_t value[3] = {p * 1000003 + number * 7, p, number};
-        EXPECT(rme_lock_reaping(&seat, 50, repair, NULL), 0);
-        if (atomic_exchange(&tally->owner, p + 1) != 0 || counted->first != counted->second)
-            tally->overlaps++;
-        counted->first++;
-        if (number % 4 == 0)
-            nap(drand48() * 0.0003);
-        if (number <= MESSAGES) {
-            EXPECT(rme_append(&seat, number, value), 0);
-            tally->answered[p] = number;
-        }
-        counted->second++;
-        tally->owner = 0;
-        EXPECT(rme_unlock(&seat), 0);
-    }
-    EXPECT(rme_detach(&seat), 0);
-    _exit(0);
-}
-
-/* Kills the doomed one after the other, mostly inside. */
-static void kill_doomed(const pid_t *child, const bool *doomed)
-{
-    for (uint64_t p = 0; p < senders; p++) {
-        if (!doomed[p])
-            continue;
-        nap(drand48() * 0.002);
-        if (drand48() < 0.7)
-            for (double end = now() + 0.02; tally->owner != p + 1 && now() < end;)
-                sched_yield();
-        kill(child[p], SIGKILL);
-    }
-}
-
-static void check_end(const bool *doomed)
-{
-    struct rme_seat seat;
-    static uint64_t words[MOST_WORDS];
-    uint64_t next[MOST] = {0}, reaped;
-    struct rme_message m;
-    EXPECT(rme_reap_all(path, repair, NULL, &reaped), 0);
-    EXPECT(rme_inspect(&seat, path), 0);
-    for (uint64_t at = 0; rme_read_from(&seat, at, &m, 1) == 1; at++) {
-        EXPECT(m.sender < senders, true);
-        EXPECT(m.number, ++next[m.sender]);
-        EXPECT(m.value[0] == m.sender * 1000003 + m.number * 7 && m.value[1] == m.sender && m.value[2] == m.number, true);
-    }
-    for (uint64_t p = 0; p < senders; p++) {
-        EXPECT(next[p] == tally->answered[p] || next[p] == tally->answered[p] + 1, true);
-        if (!doomed[p])
-            EXPECT(next[p], MESSAGES);
-    }
-    EXPECT(rme_copy_words(&seat, words, MOST_WORDS), seat.count);
-    for (uint64_t i = 0; i < 3 * senders; i++)
-        EXPECT(words[i], 0);
-    EXPECT(rme_content_rule(words, seat.count, senders, senders * MESSAGES, 3, RME_LIMIT), RME_LAWFUL);
-    const struct counted *counted = rme_data(&seat, NULL);
-    EXPECT(counted->first, counted->second);
-    EXPECT(rme_detach(&seat), 0);
-}
-
-static void round_of(uint64_t procs, uint64_t deaths, long seed)
-{
-    pid_t child[MOST];
-    bool doomed[MOST] = {false};
-    make(procs, procs * MESSAGES);
-    while (deaths > 0) {
-        const uint64_t p = (uint64_t)(drand48() * (double)procs);
-        deaths -= !doomed[p];
-        doomed[p] = true;
-    }
-    for (uint64_t p = 0; p < procs; p++) {
-        child[p] = fork();
-        if (child[p] == 0)
-            sender(p, doomed[p], seed + (long)p);
-    }
-    kill_doomed(child, doomed);
-    for (uint64_t p = 0; p < procs; p++) {
-        if (doomed[p])
-            expect_killed(child[p]);
-        else
-            expect_ended(child[p]);
-    }
-    EXPECT(tally->overlaps, 0);
-    EXPECT(tally->strangers, 0);
-    check_end(doomed);
-}
-
-/* Where it is drawn, in each second round another number dies, at most all. */
-static void rounds_of(uint64_t procs, uint64_t deaths, bool drawn, long rounds, long seed)
-{
-    uint64_t repairs = 0, dead = 0;
-    double from = now();
-    for (long round = 0; round < rounds; round++) {
-        const uint64_t some = drawn && round % 2 ? 1 + (uint64_t)(drand48() * (double)procs) : deaths;
-        round_of(procs, some, seed + 100 * round);
-        repairs += tally->repairs;
-        dead += some;
-    }
-    printf("%" PRIu64 " senders%s: %ld rounds, killed for good %" PRIu64 ", repairs %" PRIu64 ", %.1f s\n", procs,
-           drawn ? "" : " of which two die", rounds, dead, repairs, now() - from);
-}
-
 int main(int count, char **word)
 {
-    if (count != 4)
+    if (count != 3)
         return 2;
-    long rounds = atol(word[2]), seed = atol(word[3]);
-    setvbuf(stdout, NULL, _IOLBF, 0);
-    snprintf(path, sizeof path, "%s/file", word[1]);
-    srand48(seed);
-    tally = mmap(NULL, sizeof *tally, PROT_READ | PROT_WRITE, MAP_SHARED | MAP_ANONYMOUS, -1, 0);
-    EXPECT(tally != MAP_FAILED, true);
+    begin_tally(word[1], atol(word[2]));
     deaths_at_each_access(false);
     deaths_at_each_access(true);
     answers();
@@ -519,10 +322,6 @@ int main(int count, char **word)
     killed_in_repair(true);
     killed_anywhere();
     restarts_beside_reapers();
-    rounds_of(4, 2, false, rounds, seed);
-    rounds_of(2, 1, true, rounds, seed);
-    rounds_of(16, 8, true, rounds, seed);
-    rounds_of(64, 32, true, (rounds + 3) / 4, seed);
     unlink(path);
     return 0;
 }

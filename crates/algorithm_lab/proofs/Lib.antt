@@ -2,3 +2,15 @@ pub mod Runs
 pub mod HeardDeeds
 pub mod Replays
 pub mod Restarts
+pub mod BakeryComparisons
+pub mod BakeryLines
+pub mod BakeryLocalRuns
+pub mod BakeryPlaces
+pub mod BakeryLandings
+pub mod BakerySteps
+pub mod BakeryWords
+pub mod BakeryDeeds
+pub mod BakeryStarts
+pub mod BakeryWorlds
+pub mod BakerySizes
+pub mod CoreMoves

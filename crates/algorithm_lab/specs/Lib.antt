@@ -4,3 +4,5 @@ pub mod Monitors
 pub mod Runs
 pub mod Reports
 pub mod Replays
+pub mod Moves
+pub mod Bakery

@@ -3,6 +3,7 @@
 
 mod heard;
 pub mod judging;
+pub mod laws;
 pub mod monitor;
 pub mod playing;
 pub mod replay_fault;

@@ -1,4 +1,4 @@
-//! Tests of algorithms as texts, and a law of one of them.
+//! Tests of algorithms as texts.
 #![tactic(auto)]
 
 #[cfg(test)]
@@ -11,7 +11,6 @@ mod drawings;
 mod hostile_texts;
 #[cfg(test)]
 mod hunts;
-pub mod laws;
 #[cfg(test)]
 mod memory;
 #[cfg(test)]

@@ -1,7 +1,8 @@
-//! What the text of the recoverable Bakery spells: the value of which the law of this crate speaks, line by line.
+//! What the text of the recoverable Bakery spells: the value of which the laws of `algorithm_lab` speak, line by line.
 
 use crate::cases::{Kind, compare_cases};
 use crate::support::text_named;
+use algorithm_lab::laws::{a_core_makes_these_moves, the_text_means_the_lock};
 use algorithm_texts::laws::{a_line_says_one_thing, tokens_say_one_part};
 use algorithm_texts::read_algorithm;
 use algorithms::Algorithm;
@@ -9,7 +10,7 @@ use std::alloc::{AllocError, Global};
 use std::fmt::Write;
 use std::test::Fail;
 
-/// The forms of the lines, in the order of `lines` of Bakery.antt, the answers, in the order of `answer_number` of Runs.antt, and
+/// The forms of the lines, in the order of `lines` of Bakery.antt, the answers, in the order of `answer_number` of Moves.antt, and
 /// all else.
 const BAKERY: &str = "== bakery
 --
@@ -154,5 +155,7 @@ fn spaces_part_the_words_of_an_answer(rt: HostRuntime) -> Result<(), Fail> {
 fn the_text_spells_the_bakery(rt: HostRuntime) -> Result<(), Fail> {
     a_line_says_one_thing();
     tokens_say_one_part();
+    the_text_means_the_lock();
+    a_core_makes_these_moves();
     compare_cases(rt.alloc(), Kind::Spelling, BAKERY)
 }

@@ -15,8 +15,8 @@ ghost use Rattle.algorithms.specs.declared.algorithm.Algorithm.{Algorithm};
 ghost use Rattle.algorithms.specs.declared.algorithm.Call.{Call};
 ghost use Rattle.algorithm_lab.specs.Monitors.{answered, first_monitor};
 ghost use Rattle.algorithm_lab.specs.Refusals.{number_of_world};
-ghost use Rattle.algorithms_tests.specs.Bakery.{IsBakery};
-ghost use Rattle.algorithms_tests.specs.Runs.{Move, Start, Step, Crash, Tells, all_said, left_by, core_call, answer_number, deed_told, refused, lock_move, text_move, SameWords};
+ghost use Rattle.algorithm_lab.specs.Bakery.{IsBakery};
+ghost use Rattle.algorithm_lab.specs.Moves.{Move, Start, Step, Crash, Tells, all_said, left_by, core_call, answer_number, deed_told, refused, lock_move, text_move, SameWords};
 
 /// The text of the recoverable Bakery means the proved lock. For every schedule of starts of lock, unlock, recover and
 /// withdraw, of steps and of crashes, an algorithm with its lines says in the laboratory, move by move, what the lock says:

@@ -1,5 +1,5 @@
-use Rattle.algorithms_tests.proofs.CoreMoves.{core_start, core_refuses_start, core_step, core_refuses_step, core_crash}
-use Rattle.algorithms_tests.proofs.laws.a_core_makes_these_moves.Goals as goal
+use Rattle.algorithm_lab.proofs.CoreMoves.{core_start, core_refuses_start, core_step, core_refuses_step, core_crash}
+use Rattle.algorithm_lab.proofs.laws.a_core_makes_these_moves.Goals as goal
 
 pub returns-clause-start : goal.returns-clause-start
 returns-clause-start c = λ s t p call e takes. core_start s t p call e takes

@@ -28,8 +28,8 @@ use Rattle.rmecore.proofs.Invariant.{put_same, put_other}
 use Rattle.rmecore.proofs.Runs.{guard}
 use Rattle.rmecore.proofs.Scans.{has-span-low, without_has, has-first}
 use Rattle.algorithm_lab.specs.Monitors.{answered}
-use Rattle.algorithms_tests.specs.Runs.{Outcome, Tells, core_call, answer_number, deed_told, refused, unless, stepped, step_by, lock_move}
-use Rattle.algorithms_tests.specs.Runs as Moves
+use Rattle.algorithm_lab.specs.Moves.{Outcome, Tells, core_call, answer_number, deed_told, refused, unless, stepped, step_by, lock_move}
+use Rattle.algorithm_lab.specs.Moves as Moves
 use Rattle.algorithms.specs.declared.algorithm.Call.{Call}
 
 -- a rising list

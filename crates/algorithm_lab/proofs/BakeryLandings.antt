@@ -8,19 +8,19 @@ use Rattle.rmecore.specs.World.{reentry}
 use Rattle.rmecore.specs.declared.core_done.CoreDone.{CoreDone}
 use Rattle.rmecore.specs.declared.outer.Outer.{Outer}
 use Rattle.rmecore.proofs.Scans.{above_first, lined_above, has-first}
-use Rattle.algorithms_tests.specs.Bakery.{IsBakery}
+use Rattle.algorithm_lab.specs.Bakery.{IsBakery}
 use Rattle.algorithms.specs.Arrivals.{Landing}
 use Rattle.algorithms.specs.LocalRuns.{nothing_noted, least_from}
 use Rattle.algorithms.specs.Steps.{process_landed}
-use Rattle.algorithms_tests.specs.Runs.{answer_number}
+use Rattle.algorithm_lab.specs.Moves.{answer_number}
 use Rattle.algorithms.specs.declared.algorithm.Algorithm.{Algorithm}
 use Rattle.algorithms.specs.declared.line.Members.TheVariants.{Others}
 use Rattle.algorithms.specs.declared.local.LocalState.{LocalState}
 use Rattle.algorithms.specs.declared.noted.Noted.{Noted}
-use Rattle.algorithms_tests.proofs.Comparisons.{constants, least_is}
-use Rattle.algorithms_tests.proofs.LocalRuns as runs
-use Rattle.algorithms_tests.proofs.LocalRuns.{names, local, Stops, From}
-use Rattle.algorithms_tests.proofs.Places.{before, IsLoop, Stands, noted_by}
+use Rattle.algorithm_lab.proofs.BakeryComparisons.{constants, least_is}
+use Rattle.algorithm_lab.proofs.BakeryLocalRuns as runs
+use Rattle.algorithm_lab.proofs.BakeryLocalRuns.{names, local, Stops, From}
+use Rattle.algorithm_lab.proofs.BakeryPlaces.{before, IsLoop, Stands, noted_by}
 
 -- a list of processes from a number on, by its first
 pub heads : (n p from j : ℕ) (js : List ℕ) → above n p from ≡ j ∷ js → IsLoop n p j js × (first (above n p from) ≡ Some j)

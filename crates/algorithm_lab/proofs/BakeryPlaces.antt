@@ -10,7 +10,7 @@ use Rattle.algorithms.specs.declared.line.Deed.TheVariants.{Begin, Ready, Enter,
 use Rattle.algorithms.specs.declared.noted.Noted.{Noted}
 use Rattle.algorithms.specs.declared.process.Place.TheVariants as at
 use Rattle.algorithms.specs.declared.process.Process.{Process}
-use Rattle.algorithms_tests.proofs.LocalRuns.{Names, names, one}
+use Rattle.algorithm_lab.proofs.BakeryLocalRuns.{Names, names, one}
 
 -- before the access of a line
 abbrev pub before : ℕ → List ℕ → Process

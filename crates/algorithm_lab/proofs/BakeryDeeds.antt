@@ -11,10 +11,10 @@ use Rattle.rmecore.specs.declared.phase.Phase.TheVariants as phases
 use Rattle.rmecore.proofs.Invariant.{put_same, put_other}
 use Rattle.rmecore.proofs.Rows.{Allowed, after_deed}
 use Rattle.algorithm_lab.specs.Heard.{heard, begun, readied, phase_begun}
-use Rattle.algorithms_tests.specs.Runs.{deed_told}
+use Rattle.algorithm_lab.specs.Moves.{deed_told}
 use Rattle.algorithms.specs.declared.algorithm.Promises.{Promises}
 use Rattle.algorithm_lab.specs.declared.told.Told.TheVariants.{Did}
-use Rattle.algorithms_tests.proofs.Places.{noted_by}
+use Rattle.algorithm_lab.proofs.BakeryPlaces.{noted_by}
 
 abbrev pub promised : Promises
 promised = record { reentry = true; order = true }

@@ -21,9 +21,9 @@ use Rattle.rmecore.proofs.Invariant.{eqb_self}
 use Rattle.rmecore.proofs.Scans.{without-first, has-first}
 use Rattle.algorithms.specs.Accesses.{access_of, index_of, bound_of, value_stored, received, passes}
 use Rattle.algorithms.specs.Arrivals.{Landing, arrives, ◌>>=◌}
-use Rattle.algorithms_tests.specs.Bakery.{IsBakery, may_pass}
+use Rattle.algorithm_lab.specs.Bakery.{IsBakery, may_pass}
 use Rattle.algorithms.specs.LocalRuns.{nothing_noted}
-use Rattle.algorithms_tests.specs.Runs.{answer_number}
+use Rattle.algorithm_lab.specs.Moves.{answer_number}
 use Rattle.algorithms.specs.Steps.{acted, goes_on, stays, landed, value_of, word_at, process_landed}
 use Rattle.algorithms.specs.Values.{evaluated, fitting}
 use Rattle.algorithms.specs.Worlds.{taken_by, under_way, no_names}
@@ -45,13 +45,13 @@ use Rattle.algorithms.specs.declared.line.Form.TheVariants as forms
 use Rattle.algorithms.specs.declared.process.Process.{Process}
 use Rattle.algorithms.specs.declared.refusal.AlgorithmRefusal.{AlgorithmRefusal}
 use Rattle.algorithms.specs.declared.refusal.AlgorithmRefusal.TheVariants.{OutOfRange, Malformed, NothingToDo}
-use Rattle.algorithms_tests.proofs.Lines.{HasForm, has_form, HasBound, has_bound, access_there, sixty, stops, ends}
-use Rattle.algorithms_tests.proofs.Comparisons.{constants, eq_cmp, pair_cmp, or_test}
-use Rattle.algorithms_tests.proofs.LocalRuns as runs
-use Rattle.algorithms_tests.proofs.LocalRuns.{Names, names, local, one, From}
-use Rattle.algorithms_tests.proofs.Places.{before, all_names, IsLoop, Stands, noted_by}
-use Rattle.algorithms_tests.proofs.Landings as lands
-use Rattle.algorithms_tests.proofs.Landings.{Lands, stopped}
+use Rattle.algorithm_lab.proofs.BakeryLines.{HasForm, has_form, HasBound, has_bound, access_there, sixty, stops, ends}
+use Rattle.algorithm_lab.proofs.BakeryComparisons.{constants, eq_cmp, pair_cmp, or_test}
+use Rattle.algorithm_lab.proofs.BakeryLocalRuns as runs
+use Rattle.algorithm_lab.proofs.BakeryLocalRuns.{Names, names, local, one, From}
+use Rattle.algorithm_lab.proofs.BakeryPlaces.{before, all_names, IsLoop, Stands, noted_by}
+use Rattle.algorithm_lab.proofs.BakeryLandings as lands
+use Rattle.algorithm_lab.proofs.BakeryLandings.{Lands, stopped}
 
 -- the address of a lock word, and what an access of the lock stores
 abbrev pub address_of : Word → Address

@@ -12,7 +12,7 @@ use Rattle.rmecore.specs.declared.word.Word.TheVariants.{Choosing as ChoosingOf,
 use Rattle.rmecore.proofs.Invariant.{put_same, put_other}
 use Rattle.algorithms.specs.Steps.{word_at}
 use Rattle.algorithms.specs.Worlds.{stored, stored_in}
-use Rattle.algorithms_tests.proofs.Steps.{address_of}
+use Rattle.algorithm_lab.proofs.BakerySteps.{address_of}
 
 pub set_here : {X : Type 0} (xs : List X) (i : ℕ) (v : X) → i < length xs → slice_get (slice_set xs i v) i ≡ Some v
 set_here [] i v h = absurd (omega arith)

@@ -1,6 +1,6 @@
-use Rattle.algorithms_tests.proofs.Sizes.{same_sizes}
-use Rattle.algorithms_tests.proofs.Worlds.{same_runs}
-use Rattle.algorithms_tests.proofs.laws.the_text_means_the_lock.Goals as goal
+use Rattle.algorithm_lab.proofs.BakerySizes.{same_sizes}
+use Rattle.algorithm_lab.proofs.BakeryWorlds.{same_runs}
+use Rattle.algorithm_lab.proofs.laws.the_text_means_the_lock.Goals as goal
 
 pub returns-clause-said : goal.returns-clause-said
 returns-clause-said c = λ a n limit moves b most high. (same_runs a b n limit most high moves).said

@@ -9,7 +9,7 @@ use Rattle.algorithms.specs.declared.algorithm.Algorithm.{Algorithm}
 use Rattle.algorithms.specs.declared.refusal.AlgorithmRefusal.{AlgorithmRefusal}
 use Rattle.algorithms.specs.declared.refusal.AlgorithmRefusal.TheVariants.{BadProcs, BadLimit}
 use Rattle.algorithm_lab.specs.Refusals.{number_of_world}
-use Rattle.algorithms_tests.specs.Bakery.{IsBakery}
+use Rattle.algorithm_lab.specs.Bakery.{IsBakery}
 
 abbrev refusal_by : Bool → Bool → Option AlgorithmRefusal
 refusal_by fits low = cond fits (cond low None (Some BadLimit)) (Some BadProcs)

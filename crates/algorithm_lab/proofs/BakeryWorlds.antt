@@ -30,11 +30,11 @@ use Rattle.rmecore.proofs.Rows.{after_deed}
 use Rattle.rmecore.proofs.Runs.{kept as keeps, at_first}
 use Rattle.rmecore.proofs.Turns.{turn}
 use Rattle.algorithms.specs.Arrivals.{◌>>=◌}
-use Rattle.algorithms_tests.specs.Bakery.{IsBakery}
+use Rattle.algorithm_lab.specs.Bakery.{IsBakery}
 use Rattle.algorithm_lab.specs.Heard.{Heard, heard, heard_of_crash}
 use Rattle.algorithm_lab.specs.Monitors.{MonitorState, Part, answered, first_monitor, is_idle, is_idle_process, part_of, phase_refusal, start_on, step_on, crash_on, then_in, unless as unless_heard}
 use Rattle.algorithm_lab.specs.Refusals.{number_of as number_of_run}
-use Rattle.algorithms_tests.specs.Runs.{Move, Start, Step, Crash, Tells, Refuses, Outcome, all_said, left_by, core_call, answer_number, deed_told, refused, unless, stepped, step_by, lock_move, begun_by, moved_by, text_move, SameWords}
+use Rattle.algorithm_lab.specs.Moves.{Move, Start, Step, Crash, Tells, Refuses, Outcome, all_said, left_by, core_call, answer_number, deed_told, refused, unless, stepped, step_by, lock_move, begun_by, moved_by, text_move, SameWords}
 use Rattle.algorithms.specs.Worlds.{WorldState, access_at, after_step, begun, entry_of, resting, said as said_of, stored, taken_by, under_way, with_process}
 use Rattle.algorithms.specs.Steps.{acted}
 use Rattle.algorithms.specs.declared.access.Access.{Access}
@@ -48,13 +48,13 @@ use Rattle.algorithms.specs.declared.refusal.AlgorithmRefusal.{AlgorithmRefusal}
 use Rattle.algorithms.specs.declared.refusal.AlgorithmRefusal.TheVariants.{NoSuchProcess, NothingToDo}
 use Rattle.algorithm_lab.specs.declared.run_refusal.RunRefusal.{RunRefusal}
 use Rattle.algorithm_lab.specs.declared.run_refusal.RunRefusal.TheVariants.{Refused}
-use Rattle.algorithms_tests.proofs.Lines.{three}
-use Rattle.algorithms_tests.proofs.Comparisons.{constants}
-use Rattle.algorithms_tests.proofs.Places.{dead, Stands}
-use Rattle.algorithms_tests.proofs.Steps.{address_of, stores_of, access_by, Follows, ValueFits, StepIf, steps_alike}
-use Rattle.algorithms_tests.proofs.Words.{AlikeWords, IsRowOf, told, stores_alike, set_here, set_there, replicated}
-use Rattle.algorithms_tests.proofs.Deeds.{promised, OfStep, of_turn, hears, phase_kept}
-use Rattle.algorithms_tests.proofs.Starts.{by_call, phase_part, PhaseFits, IsRefused, StartIf, starts_alike}
+use Rattle.algorithm_lab.proofs.BakeryLines.{three}
+use Rattle.algorithm_lab.proofs.BakeryComparisons.{constants}
+use Rattle.algorithm_lab.proofs.BakeryPlaces.{dead, Stands}
+use Rattle.algorithm_lab.proofs.BakerySteps.{address_of, stores_of, access_by, Follows, ValueFits, StepIf, steps_alike}
+use Rattle.algorithm_lab.proofs.BakeryWords.{AlikeWords, IsRowOf, told, stores_alike, set_here, set_there, replicated}
+use Rattle.algorithm_lab.proofs.BakeryDeeds.{promised, OfStep, of_turn, hears, phase_kept}
+use Rattle.algorithm_lab.proofs.BakeryStarts.{by_call, phase_part, PhaseFits, IsRefused, StartIf, starts_alike}
 
 -- ---- the lock's side
 

@@ -9,11 +9,11 @@ use Rattle.rmecore.specs.declared.phase.Phase.TheVariants as phases
 use Rattle.rmecore.specs.declared.refusal.Refusal.{Refusal}
 use Rattle.rmecore.specs.declared.refusal.Refusal.TheVariants as refusals
 use Rattle.algorithms.specs.Arrivals.{arrives, ◌>>=◌}
-use Rattle.algorithms_tests.specs.Bakery.{IsBakery}
+use Rattle.algorithm_lab.specs.Bakery.{IsBakery}
 use Rattle.algorithms.specs.LocalRuns.{nothing_noted}
 use Rattle.algorithm_lab.specs.Monitors.{is_idle, phase_refusal}
 use Rattle.algorithm_lab.specs.Refusals.{number_of}
-use Rattle.algorithms_tests.specs.Runs.{core_call}
+use Rattle.algorithm_lab.specs.Moves.{core_call}
 use Rattle.algorithms.specs.Steps.{kept}
 use Rattle.algorithms.specs.Worlds.{begun, begun_at, begun_from, entry_of, may_withdraw, no_names, resting, start_refusal, unless}
 use Rattle.algorithms.specs.declared.algorithm.Algorithm.{Algorithm}
@@ -27,10 +27,10 @@ use Rattle.algorithms.specs.declared.refusal.AlgorithmRefusal.{AlgorithmRefusal}
 use Rattle.algorithms.specs.declared.refusal.AlgorithmRefusal.TheVariants.{NoSuchCall, CallUnderWay, NotWaiting}
 use Rattle.algorithm_lab.specs.declared.run_refusal.RunRefusal.{RunRefusal}
 use Rattle.algorithm_lab.specs.declared.run_refusal.RunRefusal.TheVariants.{Refused, NotOwner, AlreadyIn}
-use Rattle.algorithms_tests.proofs.Lines.{HasForm, has_form, access_there, sixty, stops}
-use Rattle.algorithms_tests.proofs.Comparisons.{constants}
-use Rattle.algorithms_tests.proofs.LocalRuns.{local}
-use Rattle.algorithms_tests.proofs.Places.{before, dead, Stands}
+use Rattle.algorithm_lab.proofs.BakeryLines.{HasForm, has_form, access_there, sixty, stops}
+use Rattle.algorithm_lab.proofs.BakeryComparisons.{constants}
+use Rattle.algorithm_lab.proofs.BakeryLocalRuns.{local}
+use Rattle.algorithm_lab.proofs.BakeryPlaces.{before, dead, Stands}
 
 pub by_call : (P : Call → Type 0) → P Lock → P Unlock → P Recover → P Withdraw → (call : Call) → P call
 by_call P l u r w Lock = l

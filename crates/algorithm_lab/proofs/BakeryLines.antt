@@ -4,7 +4,7 @@ use Rattle.std.specs.Prelude.{slice_get, ok_or}
 use Rattle.algorithms.specs.Arrivals.{GoesOn, arrives, arrives_after, local_step_of, ◌>>=◌}
 use Rattle.algorithms.specs.LocalRuns.{local_line_done}
 use Rattle.algorithms.specs.Worlds.{access_at, access_line}
-use Rattle.algorithms_tests.specs.Bakery.{IsBakery, form_of, bound_of, lines}
+use Rattle.algorithm_lab.specs.Bakery.{IsBakery, form_of, bound_of, lines}
 use Rattle.algorithms.specs.declared.algorithm.Algorithm.{Algorithm}
 use Rattle.algorithms.specs.declared.algorithm.Declaration.{Declaration}
 use Rattle.algorithms.specs.declared.constants.Constants.{Constants}

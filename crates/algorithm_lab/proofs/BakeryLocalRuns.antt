@@ -4,7 +4,7 @@ use Rattle.std.specs.Prelude.{option_and_then, replicate}
 use Rattle.std.proofs.lemmas.Bool.{lt-ltb}
 use Rattle.algorithms.specs.Arrivals.{Landing, arrives}
 use Rattle.algorithms.specs.Values.{fitting, holds}
-use Rattle.algorithms_tests.specs.Bakery.{IsBakery}
+use Rattle.algorithm_lab.specs.Bakery.{IsBakery}
 use Rattle.algorithms.specs.declared.algorithm.Algorithm.{Algorithm}
 use Rattle.algorithms.specs.declared.condition.Condition.{Condition}
 use Rattle.algorithms.specs.declared.constants.Constants.{Constants}
@@ -17,8 +17,8 @@ use Rattle.algorithms.specs.declared.local.LocalState.{LocalState}
 use Rattle.algorithms.specs.declared.noted.Noted.{Noted}
 use Rattle.algorithms.specs.declared.refusal.AlgorithmRefusal.{AlgorithmRefusal}
 use Rattle.algorithms.specs.LocalRuns.{nothing_noted, least_from, round_at, at_place, local_line_done}
-use Rattle.algorithms_tests.proofs.Comparisons.{eq_yes, eq_no, gt_yes}
-use Rattle.algorithms_tests.proofs.Lines.{HasForm, has_form, goes, stops, ends}
+use Rattle.algorithm_lab.proofs.BakeryComparisons.{eq_yes, eq_no, gt_yes}
+use Rattle.algorithm_lab.proofs.BakeryLines.{HasForm, has_form, goes, stops, ends}
 
 -- the private names c, k, i, m, j and v
 pub record Names : Type 0 where

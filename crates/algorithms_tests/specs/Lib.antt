@@ -1,2 +1,0 @@
-pub mod Bakery
-pub mod Runs

@@ -1,6 +1,6 @@
--- What is heard of a deed that the lock allows: the deed itself, and its phase in the abstract lock.
-use Rattle.std.proofs.Common.{◌≡◌, ℕ, true, [], ◌∷◌, ◌++◌, Option, Some, None, refl, sym, ap, ◌∙◌, subst}
-use Rattle.rmecore.specs.AbstractLock.{Abstract, done}
+-- What is heard of a deed that the lock allows: the deed itself, and its phase in the abstract lock. A judge allows it too.
+use Rattle.std.proofs.Common.{◌≡◌, ℕ, true, List, [], ◌∷◌, ◌++◌, Option, Some, None, Ok, refl, sym, ap, ◌∙◌, subst}
+use Rattle.rmecore.specs.AbstractLock.{Abstract, Legal, done}
 use Rattle.rmecore.specs.Needs.{put}
 use Rattle.rmecore.specs.Turn.{Turn, Plain}
 use Rattle.rmecore.specs.Place.{Place}
@@ -9,9 +9,18 @@ use Rattle.rmecore.specs.declared.outer.Outer.TheVariants as outers
 use Rattle.rmecore.specs.declared.phase.Phase.{Phase}
 use Rattle.rmecore.specs.declared.phase.Phase.TheVariants as phases
 use Rattle.rmecore.proofs.Invariant.{put_same, put_other}
+use Rattle.rmecore.proofs.Allowing.{Allows, needs_hold}
 use Rattle.rmecore.proofs.Rows.{Allowed, after_deed}
+use Rattle.redomail.specs.Mailbox.{nothing_shown}
+use Rattle.redomail.specs.declared.deed.Deed.{Deed}
+use Rattle.redomail.specs.declared.deed.Deed.TheVariants.{Outer as OuterDeed}
+use Rattle.judge.specs.Legal.{judged_all}
+use Rattle.judge.specs.Table.{State}
+use Rattle.judge.proofs.Halves.{Allowed-halves, Leads-allowed, MailAllows-outers}
 use Rattle.algorithm_lab.specs.Heard.{heard, begun, readied, phase_begun}
-use Rattle.algorithm_lab.specs.Moves.{deed_told}
+use Rattle.algorithm_lab.specs.Monitors.{answered}
+use Rattle.algorithm_lab.specs.Moves.{Said, Tells, Refuses, deed_told}
+use Rattle.algorithm_lab.specs.Runs.{deeds_of}
 use Rattle.algorithms.specs.declared.algorithm.Promises.{Promises}
 use Rattle.algorithm_lab.specs.declared.told.Told.TheVariants.{Did}
 use Rattle.algorithm_lab.proofs.BakeryPlaces.{noted_by}
@@ -82,3 +91,25 @@ phase_kept a p q (Some (outers.Crash r)) of ne = absurd of
 phase_kept a p q (Some (outers.Reenter r)) of ne = put_other a.phase r _ q (λ e. ne (e ∙ of))
 phase_kept a p q (Some (outers.Leave r)) of ne = put_other a.phase r _ q (λ e. ne (e ∙ of))
 phase_kept a p q (Some (outers.Quit r)) of ne = put_other a.phase r _ q (λ e. ne (e ∙ of))
+
+-- ---- a judge of the lock alone
+
+abbrev pub judge_at : ℕ → Abstract → State
+judge_at n a = record { procs = n; cap = 1; lock = a; mail = nothing_shown }
+
+-- the deeds of a move
+abbrev pub deeds_said : Said → List Deed
+deeds_said (Tells told) = deeds_of told
+deeds_said (Refuses number) = []
+
+one_judged : (n : ℕ) (a : Abstract) (d : Outer) → Allows n a d → judged_all (judge_at n a) (OuterDeed d ∷ []) ≡ Ok (judge_at n (done a d))
+one_judged n a d h =
+    let legal : Legal n a (d ∷ []) = (needs_hold n a d h, tt) in
+    Leads-allowed (judge_at n a) (OuterDeed d ∷ []) (Allowed-halves (judge_at n a) (OuterDeed d ∷ []) legal (MailAllows-outers n 1 a nothing_shown (d ∷ []) refl legal))
+
+-- the deed of a step with its answer
+pub step_judged : (n : ℕ) (a : Abstract) (p : ℕ) (d : Option Outer) (number : Option ℕ) → Allowed n a d → judged_all (judge_at n a) (deeds_of (deed_told d ++ answered p number)) ≡ Ok (judge_at n (after_deed a d))
+step_judged n a p None None h = refl
+step_judged n a p None (Some number) h = refl
+step_judged n a p (Some d) None h = one_judged n a d h
+step_judged n a p (Some d) (Some number) h = one_judged n a d h

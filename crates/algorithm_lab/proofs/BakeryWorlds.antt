@@ -29,13 +29,15 @@ use Rattle.rmecore.proofs.Invariant.{Tied, Fits, phase_of as lock_phase, phase_a
 use Rattle.rmecore.proofs.Rows.{after_deed}
 use Rattle.rmecore.proofs.Runs.{kept as keeps, at_first}
 use Rattle.rmecore.proofs.Turns.{turn}
+use Rattle.rmecore.specs.declared.core_done.CoreDone.{CoreDone}
+use Rattle.judge.specs.Legal.{judged_all}
 use Rattle.algorithms.specs.Arrivals.{◌>>=◌}
 use Rattle.algorithm_lab.specs.Bakery.{IsBakery}
 use Rattle.algorithm_lab.specs.Heard.{Heard, heard, heard_of_crash}
 use Rattle.algorithm_lab.specs.Monitors.{MonitorState, Part, answered, first_monitor, is_idle, is_idle_process, part_of, phase_refusal, start_on, step_on, crash_on, then_in, unless as unless_heard}
 use Rattle.algorithm_lab.specs.Refusals.{number_of as number_of_run}
 use Rattle.algorithm_lab.specs.Moves.{Move, Start, Step, Crash, Tells, Refuses, Outcome, all_said, left_by, core_call, answer_number, deed_told, refused, unless, stepped, step_by, lock_move, begun_by, moved_by, text_move, SameWords}
-use Rattle.algorithms.specs.Worlds.{WorldState, access_at, after_step, begun, entry_of, resting, said as said_of, stored, taken_by, under_way, with_process}
+use Rattle.algorithms.specs.Worlds.{WorldState, access_at, after_step, begun, entry_of, resting, said as said_of, stored, taken_by, with_process}
 use Rattle.algorithms.specs.Steps.{acted}
 use Rattle.algorithms.specs.declared.access.Access.{Access}
 use Rattle.algorithms.specs.declared.access.Advanced.{Advanced}
@@ -53,7 +55,7 @@ use Rattle.algorithm_lab.proofs.BakeryComparisons.{constants}
 use Rattle.algorithm_lab.proofs.BakeryPlaces.{dead, Stands}
 use Rattle.algorithm_lab.proofs.BakerySteps.{address_of, stores_of, access_by, Follows, ValueFits, StepIf, steps_alike}
 use Rattle.algorithm_lab.proofs.BakeryWords.{AlikeWords, IsRowOf, told, stores_alike, set_here, set_there, replicated}
-use Rattle.algorithm_lab.proofs.BakeryDeeds.{promised, OfStep, of_turn, hears, phase_kept}
+use Rattle.algorithm_lab.proofs.BakeryDeeds.{promised, OfStep, of_turn, hears, phase_kept, judge_at, deeds_said, step_judged}
 use Rattle.algorithm_lab.proofs.BakeryStarts.{by_call, phase_part, PhaseFits, IsRefused, StartIf, starts_alike}
 
 -- ---- the lock's side
@@ -159,14 +161,15 @@ module _ (a : Algorithm) (b : IsBakery a) (n limit : ℕ) (most : n ≤ 64) (hig
     pub process : (p : ℕ) → p < n → HasProcess p (w.places p) ts
     pub words : AlikeWords n w.words rows
 
-  -- what a move does on both sides
-  pub record Matches (o : Outcome World) (q : Outcome MonitorState) : Type 0 where
+  -- what a move does on both sides, and a judge allows
+  pub record Matches (from : Abstract) (o : Outcome World) (q : Outcome MonitorState) : Type 0 where
     pub rows : List (List ℕ)
     pub processes : List Process
     pub now : List Phase
     pub lock : Abstract
     pub is : q ≡ record { said = o.said; left = state rows processes now }
     pub alike : Alike o.left lock rows processes now
+    pub judged : judged_all (judge_at n from) (deeds_said o.said) ≡ Ok (judge_at n lock)
 
   process_set : (p : ℕ) (places : ℕ → Place) (s : Place) (ts : List Process) (t : Process) → p < n → length ts ≡ n → ((q : ℕ) → q < n → HasProcess q (places q) ts) → Stands n limit p s t
       → (q : ℕ) → q < n → HasProcess q (put places p s q) (slice_set ts p t)
@@ -194,8 +197,8 @@ module _ (a : Algorithm) (b : IsBakery a) (n limit : ℕ) (most : n ≤ 64) (hig
     abbrev phase_now : ℕ → Phase
     phase_now p = slice_index_or ps p phases.Out
 
-    refuses : (r : Refusal) (number : Option ℕ) → number ≡ lock_number r → Matches (refused w r) (record { said = Refuses number; left = m })
-    refuses r number e = record { rows = rows; processes = ts; now = ps; lock = ab; is = ap (λ k. record { said = Refuses k; left = m }) e; alike = h }
+    refuses : (r : Refusal) (number : Option ℕ) → number ≡ lock_number r → Matches ab (refused w r) (record { said = Refuses number; left = m })
+    refuses r number e = record { rows = rows; processes = ts; now = ps; lock = ab; is = ap (λ k. record { said = Refuses k; left = m }) e; alike = h; judged = refl }
 
     gone : (p : ℕ) → n ≤ p → slice_get ts p ≡ None
     gone p past = slice_get_past ts p (omega (arith, h.long))
@@ -231,16 +234,16 @@ module _ (a : Algorithm) (b : IsBakery a) (n limit : ℕ) (most : n ≤ 64) (hig
 
     started_by : (p : ℕ) (call : Call) (t : Process) (o : Option Refusal) → p < n → slice_get ts p ≡ Some t → lock_refusal (w.places p) (core_call call) ≡ o
         → StartIf a b n limit p t (phase_now p) call (unwrap_or (lock_started (w.places p) (core_call call)) (w.places p)) o
-        → Matches (unless o w (record { said = Tells []; left = after n limit w (Starts p (core_call call)) })) (begun_by m (start_on m p call))
+        → Matches ab (unless o w (record { said = Tells []; left = after n limit w (Starts p (core_call call)) })) (begun_by m (start_on m p call))
     started_by p call t (Some r) own there e s =
         let why : start_on m p call ≡ Err s.refusal = start_there p call t there ∙ refused_by p call t (lock_number r) s in
-        subst (λ x. Matches (refused w r) (begun_by m x)) (sym why) (refuses r (number_of_run s.refusal) s.number_is)
+        subst (λ x. Matches ab (refused w r) (begun_by m x)) (sym why) (refuses r (number_of_run s.refusal) s.number_is)
     started_by p call t None own there e s =
         let event : Event = Starts p (core_call call) in
         let may : May n limit w event = (own, may_start (core_call call) (w.places p) e, tt) in
         let kept = keeps n limit w ab event may h.tied in
         let why : start_on m p call ≡ Ok (state rows (slice_set ts p s.process) ps) = start_there p call t there ∙ ap (λ x. start_by p x (begun a (me p) t call)) s.allowed ∙ ap (start_by p None) s.is in
-        subst (λ x. Matches (record { said = Tells []; left = after n limit w event }) (begun_by m x)) (sym why)
+        subst (λ x. Matches ab (record { said = Tells []; left = after n limit w event }) (begun_by m x)) (sym why)
         (record {
           rows = rows;
           processes = slice_set ts p s.process;
@@ -256,21 +259,22 @@ module _ (a : Algorithm) (b : IsBakery a) (n limit : ℕ) (most : n ≤ 64) (hig
             process = process_set p w.places _ ts s.process own h.long h.process s.stands;
             words = h.words;
           };
+          judged = refl;
         })
 
-    pub start_matches : (p : ℕ) (call : Call) → Matches (lock_move n limit w (Start p call)) (text_move m (Start p call))
+    pub start_matches : (p : ℕ) (call : Call) → Matches ab (lock_move n limit w (Start p call)) (text_move m (Start p call))
     start_matches p call =
         elim (cases_lt p n) [
           | inl own ↦
               let there = h.process p own in
               let fits = phase_fits (w.places p) (w.words p) (phase_now p) (h.tied.fits p own) (h.phase p own ∙ h.tied.phase p own) in
               let o : Outcome World = unless (lock_refusal (w.places p) (core_call call)) w (record { said = Tells []; left = after n limit w (Starts p (core_call call)) }) in
-              subst (λ t. Matches (if t then o else refused w refusals.NoSuchProcess) (text_move m (Start p call))) (sym (lt-ltb p n own))
+              subst (λ t. Matches ab (if t then o else refused w refusals.NoSuchProcess) (text_move m (Start p call))) (sym (lt-ltb p n own))
               (started_by p call there.process _ own there.there refl (starts_alike a b n limit p (w.places p) there.process (phase_now p) there.stands fits call))
           | inr past ↦
               let o : Outcome World = unless (lock_refusal (w.places p) (core_call call)) w (record { said = Tells []; left = after n limit w (Starts p (core_call call)) }) in
-              subst (λ t. Matches (if t then o else refused w refusals.NoSuchProcess) (text_move m (Start p call))) (sym (le-ltb p n past))
-              (subst (λ x. Matches (refused w refusals.NoSuchProcess) (begun_by m x)) (sym (start_gone p call past)) (refuses refusals.NoSuchProcess (Some 3) refl))
+              subst (λ t. Matches ab (if t then o else refused w refusals.NoSuchProcess) (text_move m (Start p call))) (sym (le-ltb p n past))
+              (subst (λ x. Matches ab (refused w refusals.NoSuchProcess) (begun_by m x)) (sym (start_gone p call past)) (refuses refusals.NoSuchProcess (Some 3) refl))
         ]
 
     -- ---- crashes
@@ -284,7 +288,7 @@ module _ (a : Algorithm) (b : IsBakery a) (n limit : ℕ) (most : n ≤ 64) (hig
     crash_gone : (p : ℕ) → n ≤ p → crash_on m p ≡ Err (Refused NoSuchProcess)
     crash_gone p past = ap (crash_from p) (gone p past)
 
-    pub crash_matches : (p : ℕ) → Matches (lock_move n limit w (Crash p)) (text_move m (Crash p))
+    pub crash_matches : (p : ℕ) → Matches ab (lock_move n limit w (Crash p)) (text_move m (Crash p))
     crash_matches p =
         let event : Event = Crashes p in
         let o : Outcome World = record { said = Tells (deed_told (Some (outers.Crash p))); left = after n limit w event } in
@@ -295,8 +299,8 @@ module _ (a : Algorithm) (b : IsBakery a) (n limit : ℕ) (most : n ≤ 64) (hig
               let kept = keeps n limit w ab event may h.tied in
               let lock : Abstract = done ab (outers.Crash p) in
               let phase : crashed (phase_now p) ≡ lock.phase p = ap crashed (h.phase p own) ∙ sym (put_same ab.phase p (crashed (ab.phase p))) in
-              subst (λ t. Matches (if t then o else refused w refusals.NoSuchProcess) (text_move m (Crash p))) (sym (lt-ltb p n own))
-              (subst (λ x. Matches o (moved_by m x)) (sym (crash_there p there.process there.there))
+              subst (λ t. Matches ab (if t then o else refused w refusals.NoSuchProcess) (text_move m (Crash p))) (sym (lt-ltb p n own))
+              (subst (λ x. Matches ab o (moved_by m x)) (sym (crash_there p there.process there.there))
               (record {
                 rows = rows;
                 processes = slice_set ts p dead;
@@ -312,10 +316,11 @@ module _ (a : Algorithm) (b : IsBakery a) (n limit : ℕ) (most : n ≤ 64) (hig
                   process = process_set p w.places Dead ts dead own h.long h.process refl;
                   words = h.words;
                 };
+                judged = step_judged n ab p (Some (outers.Crash p)) None kept.0;
               }))
           | inr past ↦
-              subst (λ t. Matches (if t then o else refused w refusals.NoSuchProcess) (text_move m (Crash p))) (sym (le-ltb p n past))
-              (subst (λ x. Matches (refused w refusals.NoSuchProcess) (moved_by m x)) (sym (crash_gone p past)) (refuses refusals.NoSuchProcess (Some 3) refl))
+              subst (λ t. Matches ab (if t then o else refused w refusals.NoSuchProcess) (text_move m (Crash p))) (sym (le-ltb p n past))
+              (subst (λ x. Matches ab (refused w refusals.NoSuchProcess) (moved_by m x)) (sym (crash_gone p past)) (refuses refusals.NoSuchProcess (Some 3) refl))
         ]
 
     -- ---- steps
@@ -328,7 +333,7 @@ module _ (a : Algorithm) (b : IsBakery a) (n limit : ℕ) (most : n ≤ 64) (hig
     abbrev step_from : ℕ → Option Process → Result Part RunRefusal
     step_from p o = step_done p (ok_or o NoSuchProcess >>= (λ process. taken_by a (me p) rows process))
 
-    step_gone : (p : ℕ) → n ≤ p → step_on m p ≡ Err (Refused NoSuchProcess)
+    pub step_gone : (p : ℕ) → n ≤ p → step_on m p ≡ Err (Refused NoSuchProcess)
     step_gone p past = ap (step_from p) (gone p past)
 
     words_alike : (p : ℕ) (acc : LockAccess) (v : ℕ) → KindFits acc → InLock n (word_of acc)
@@ -338,11 +343,27 @@ module _ (a : Algorithm) (b : IsBakery a) (n limit : ℕ) (most : n ≤ 64) (hig
         subst (λ t. AlikeWords n (if t then write w.words word x else w.words) (stored rows (address_of word) (Some x))) (sym fits) (stores_alike n w.words rows word x most low h.words)
 
     -- what a step reports and leaves
-    abbrev reported : ℕ → Process → Access → Heard → Option ℕ → Outcome MonitorState
-    reported p t acc x done = record { said = Tells (x.told ++ answered p done); left = state (stored rows acc.address acc.stores) (slice_set ts p t) (slice_set ps p x.phase) }
+    abbrev reported : ℕ → Process → Access → Heard → Option ℕ → Part
+    reported p t acc x done = record { told = x.told ++ answered p done; ended = is_some done; left = state (stored rows acc.address acc.stores) (slice_set ts p t) (slice_set ps p x.phase) }
+
+    -- the answer of the lock to a step with this access
+    abbrev pub done_at : ℕ → LockAccess → Option CoreDone
+    done_at p acc = answer (w.places p) (kind_of acc) (carried acc (read w.words (word_of acc)))
+
+    -- a step that is taken on both sides
+    pub record StepsTo (p : ℕ) (acc : LockAccess) : Type 0 where
+      pub part : Part
+      pub is : step_on m p ≡ Ok part
+      pub ended : part.ended ≡ is_some (option_map answer_number (done_at p acc))
+      pub matches : Matches ab (stepped n limit w p acc (carried acc (read w.words (word_of acc)))) (moved_by m (Ok part))
+
+    -- a step, or none
+    abbrev pub StepOf : ℕ → Option LockAccess → Type 0
+    StepOf p None = step_on m p ≡ Err (Refused NothingToDo)
+    StepOf p (Some acc) = StepsTo p acc
 
     moved_to : (p : ℕ) (acc : LockAccess) (own : p < n) (t : Process) → slice_get ts p ≡ Some t → Stands n limit p (w.places p) t → access limit p (w.places p) ≡ Some acc
-        → StepIf a b n limit p own most high rows (w.places p) t (Some acc) → Matches (stepped n limit w p acc (carried acc (read w.words (word_of acc)))) (moved_by m (step_on m p))
+        → StepIf a b n limit p own most high rows (w.places p) t (Some acc) → StepsTo p acc
     moved_to p acc own t there stands e step =
         let place : Place = w.places p in
         let v : ℕ = read w.words (word_of acc) in
@@ -363,54 +384,65 @@ module _ (a : Algorithm) (b : IsBakery a) (n limit : ℕ) (most : n ≤ 64) (hig
         let f : Follows n limit p place acc v taken = s.2 in
         let hear : heard a.promises p (phase_now p) taken.moved.noted ≡ record { told = deed_told deed; phase = lock.phase p } =
         ap (λ y. heard y p (phase_now p) taken.moved.noted) b.promises ∙ ap (heard promised p (phase_now p)) f.noted ∙ hears n ab p (phase_now p) deed (h.phase p own) of kept.0 in
-        let said : moved_by m (step_on m p) ≡ reported p taken.moved.process (access_by acc) (record { told = deed_told deed; phase = lock.phase p }) (option_map answer_number (answer place (kind_of acc) x)) =
-        ap (λ o. moved_by m (step_from p o)) there
-        ∙ ap (λ r. moved_by m (step_done p r)) s.1
-        ∙ ap (λ y. reported p taken.moved.process y (heard a.promises p (phase_now p) taken.moved.noted) taken.moved.answer) f.access
-        ∙ ap (λ y. reported p taken.moved.process (access_by acc) y taken.moved.answer) hear
-        ∙ ap (reported p taken.moved.process (access_by acc) (record { told = deed_told deed; phase = lock.phase p })) f.answer in
+        let number : Option ℕ = option_map answer_number (answer place (kind_of acc) x) in
+        let now : Heard = record { told = deed_told deed; phase = lock.phase p } in
+        let said : step_on m p ≡ Ok (reported p taken.moved.process (access_by acc) now number) =
+        ap (step_from p) there
+        ∙ ap (step_done p) s.1
+        ∙ ap (λ y. Ok (reported p taken.moved.process y (heard a.promises p (phase_now p) taken.moved.noted) taken.moved.answer)) f.access
+        ∙ ap (λ y. Ok (reported p taken.moved.process (access_by acc) y taken.moved.answer)) hear
+        ∙ ap (λ y. Ok (reported p taken.moved.process (access_by acc) now y)) f.answer in
         record {
-          rows = stored rows (address_of (word_of acc)) (stores_of acc);
-          processes = slice_set ts p taken.moved.process;
-          now = slice_set ps p (lock.phase p);
-          lock = lock;
+          part = reported p taken.moved.process (access_by acc) now number;
           is = said;
-          alike = record {
-            tied = kept.1;
-            bounded = final_bounded limit n w (event ∷ []) h.bounded (may, tt);
-            long = length-set ts p taken.moved.process ∙ h.long;
-            phases_long = length-set ps p (lock.phase p) ∙ h.phases_long;
-            phase = phase_set p ab.phase lock.phase ps own h.phases_long h.phase (λ q ne. phase_kept ab p q deed of ne);
-            process = process_set p w.places _ ts taken.moved.process own h.long h.process f.stands;
-            words = words_alike p acc v fits low;
+          ended = refl;
+          matches = record {
+            rows = stored rows (address_of (word_of acc)) (stores_of acc);
+            processes = slice_set ts p taken.moved.process;
+            now = slice_set ps p (lock.phase p);
+            lock = lock;
+            is = refl;
+            alike = record {
+              tied = kept.1;
+              bounded = final_bounded limit n w (event ∷ []) h.bounded (may, tt);
+              long = length-set ts p taken.moved.process ∙ h.long;
+              phases_long = length-set ps p (lock.phase p) ∙ h.phases_long;
+              phase = phase_set p ab.phase lock.phase ps own h.phases_long h.phase (λ q ne. phase_kept ab p q deed of ne);
+              process = process_set p w.places _ ts taken.moved.process own h.long h.process f.stands;
+              words = words_alike p acc v fits low;
+            };
+            judged = step_judged n ab p deed number kept.0;
           };
         }
 
-    stays_idle : (p : ℕ) (own : p < n) (t : Process) → slice_get ts p ≡ Some t → under_way t.place ≡ Err NothingToDo → Matches (refused w refusals.NothingToDo) (moved_by m (step_on m p))
-    stays_idle p own t there e =
-        let why : step_on m p ≡ Err (Refused NothingToDo) = ap (step_from p) there ∙ ap (λ r. step_done p (r >>= (λ at. access_at a at >>= (λ line. acted a (me p) rows at line t.store)))) e in
-        subst (λ x. Matches (refused w refusals.NothingToDo) (moved_by m x))
-        (sym why) (refuses refusals.NothingToDo (Some 7) refl)
+    step_by_access : (p : ℕ) (own : p < n) (t : Process) (o : Option LockAccess) → slice_get ts p ≡ Some t → Stands n limit p (w.places p) t → access limit p (w.places p) ≡ o
+        → StepIf a b n limit p own most high rows (w.places p) t o → StepOf p o
+    step_by_access p own t None there stands e step = ap (step_from p) there ∙ ap (λ r. step_done p (r >>= (λ at. access_at a at >>= (λ line. acted a (me p) rows at line t.store)))) step
+    step_by_access p own t (Some acc) there stands e step = moved_to p acc own t there stands e step
 
-    steps_by : (p : ℕ) (own : p < n) (t : Process) (o : Option LockAccess) → slice_get ts p ≡ Some t → Stands n limit p (w.places p) t → access limit p (w.places p) ≡ o
-        → StepIf a b n limit p own most high rows (w.places p) t o → Matches (step_by n limit w p o) (moved_by m (step_on m p))
-    steps_by p own t None there stands e step = stays_idle p own t there step
-    steps_by p own t (Some acc) there stands e step = moved_to p acc own t there stands e step
+    -- the step of a process that is there
+    pub step_of : (p : ℕ) → p < n → StepOf p (access limit p (w.places p))
+    step_of p own =
+        let there = h.process p own in
+        step_by_access p own there.process _ there.there there.stands refl (steps_alike a b n limit p own most high rows (w.places p) there.process (h.bounded.within p) there.stands)
 
-    pub step_matches : (p : ℕ) → Matches (lock_move n limit w (Step p)) (text_move m (Step p))
+    steps_match : (p : ℕ) (o : Option LockAccess) → StepOf p o → Matches ab (step_by n limit w p o) (moved_by m (step_on m p))
+    steps_match p None step = subst (λ x. Matches ab (refused w refusals.NothingToDo) (moved_by m x)) (sym step) (refuses refusals.NothingToDo (Some 7) refl)
+    steps_match p (Some acc) step = subst (λ x. Matches ab (stepped n limit w p acc (carried acc (read w.words (word_of acc)))) (moved_by m x)) (sym step.is) step.matches
+
+    pub step_matches : (p : ℕ) → Matches ab (lock_move n limit w (Step p)) (text_move m (Step p))
     step_matches p =
         let o : Outcome World = step_by n limit w p (access limit p (w.places p)) in
         elim (cases_lt p n) [
           | inl own ↦
-              let there = h.process p own in
-              subst (λ t. Matches (if t then o else refused w refusals.NoSuchProcess) (text_move m (Step p))) (sym (lt-ltb p n own))
-              (steps_by p own there.process _ there.there there.stands refl (steps_alike a b n limit p own most high rows (w.places p) there.process (h.bounded.within p) there.stands))
+              subst (λ t. Matches ab (if t then o else refused w refusals.NoSuchProcess) (text_move m (Step p))) (sym (lt-ltb p n own))
+              (steps_match p (access limit p (w.places p)) (step_of p own))
           | inr past ↦
-              subst (λ t. Matches (if t then o else refused w refusals.NoSuchProcess) (text_move m (Step p))) (sym (le-ltb p n past))
-              (subst (λ x. Matches (refused w refusals.NoSuchProcess) (moved_by m x)) (sym (step_gone p past)) (refuses refusals.NoSuchProcess (Some 3) refl))
+              subst (λ t. Matches ab (if t then o else refused w refusals.NoSuchProcess) (text_move m (Step p))) (sym (le-ltb p n past))
+              (subst (λ x. Matches ab (refused w refusals.NoSuchProcess) (moved_by m x)) (sym (step_gone p past)) (refuses refusals.NoSuchProcess (Some 3) refl))
         ]
 
-    pub moves_match : (move : Move) → Matches (lock_move n limit w move) (text_move m move)
+    pub moves_match : (move : Move) → Matches ab (lock_move n limit w move) (text_move m move)
     moves_match (Start p call) = start_matches p call
     moves_match (Step p) = step_matches p
     moves_match (Crash p) = crash_matches p

@@ -9,8 +9,13 @@ pub mod BakeryPlaces
 pub mod BakeryLandings
 pub mod BakerySteps
 pub mod BakeryWords
+pub mod BakeryWordLines
 pub mod BakeryDeeds
 pub mod BakeryStarts
 pub mod BakeryWorlds
 pub mod BakerySizes
+pub mod BakeryJudged
+pub mod BakeryRuns
+pub mod LockGoesOn
+pub mod LockLines
 pub mod CoreMoves

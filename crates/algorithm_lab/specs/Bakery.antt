@@ -1,5 +1,5 @@
 -- The recoverable Bakery as lines: what the text examples/algorithms/bakery.lock spells.
-use Rattle.std.specs.Prelude.{◌≡◌, ℕ, true, false, List, [], ◌∷◌, map, Option, Some, Box}
+use Rattle.std.specs.Prelude.{◌≡◌, ℕ, Bool, true, false, List, [], ◌∷◌, map, codes, string_bytes, Option, Some, Box}
 use Rattle.std.specs.declared.alloc.Global.{Global}
 use Rattle.algorithms.specs.declared.algorithm.Algorithm.{Algorithm}
 use Rattle.algorithms.specs.declared.algorithm.Declaration.{Declaration}
@@ -112,20 +112,46 @@ lines b r =
     ∷ Done 9
     ∷ []
 
+abbrev pub name_of : Declaration → List ℕ
+name_of d = string_bytes d.name
+
+abbrev pub each_of : Declaration → Bool
+each_of d = d.each
+
 abbrev pub bound_of : Declaration → Option Expression
 bound_of d = d.bound
 
 abbrev pub form_of : Line → Form
 form_of line = line.form
 
--- an algorithm that the text spells, but for the texts of its names
+-- the texts of the answers, by their numbers in the lines
+abbrev pub answers : List (List ℕ)
+answers =
+    codes "owner-died"
+    ∷ codes "numbers-spent"
+    ∷ codes "clean"
+    ∷ codes "unlocked"
+    ∷ codes "found doorway"
+    ∷ codes "found waiting"
+    ∷ codes "found inside"
+    ∷ codes "found idle"
+    ∷ codes "found left"
+    ∷ codes "withdrawn"
+    ∷ []
+
+-- an algorithm that the text spells
 pub record IsBakery (a : Algorithm) : Type 0 where
   pub lock_boxes : Boxes
   pub recover_boxes : Boxes
+  pub name : string_bytes a.name ≡ codes "bakery"
   pub least : a.least ≡ 1
   pub most : a.most ≡ 64
   pub promises : a.promises ≡ record { reentry = true; order = true }
+  pub declared : map name_of a.declarations.items ≡ codes "choosing" ∷ codes "number" ∷ codes "inside" ∷ []
+  pub each : map each_of a.declarations.items ≡ true ∷ true ∷ true ∷ []
   pub bounds : map bound_of a.declarations.items ≡ Some (Number 1) ∷ Some Limit ∷ Some (Number 1) ∷ []
+  pub names : map string_bytes a.names.items ≡ codes "c" ∷ codes "k" ∷ codes "i" ∷ codes "m" ∷ codes "j" ∷ codes "v" ∷ []
   pub lasting : a.lasting ≡ 0
+  pub answers : map string_bytes a.answers.items ≡ answers
   pub lines : map form_of a.lines.items ≡ lines lock_boxes recover_boxes
   pub entries : a.entries ≡ record { lock = 0; unlock = 36; recover = Some 40; withdraw = Some 57 }

@@ -6,3 +6,4 @@ pub mod Reports
 pub mod Replays
 pub mod Moves
 pub mod Bakery
+pub mod LockLines

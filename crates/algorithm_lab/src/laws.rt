@@ -1,22 +1,35 @@
 //! What the text of the recoverable Bakery means. Each law is the contract of a function with an empty body.
 
-ghost use Rattle.std.specs.Prelude.{◌≡◌, ◌≤◌, ◌^◌, false, ℕ, List, [], ◌++◌, Some, None, option_and_then, option_map};
+ghost use Rattle.std.specs.Prelude.{◌≡◌, ◌<◌, ◌≤◌, ◌^◌, false, ℕ, List, [], ◌++◌, All, Some, None, Result, IfOk, option_and_then, option_map};
 ghost use Rattle.rmecore.specs.Machine.{answer};
 ghost use Rattle.rmecore.specs.Paid.{is_glance};
 ghost use Rattle.rmecore.specs.Place.{Starts, Crashes};
 ghost use Rattle.rmecore.specs.Refused.{number_of};
-ghost use Rattle.rmecore.specs.Simulated.{Simulated, Takes, ChoosesLeast, event_of, place_at, refusal_at, step_refusal, world_of, new_refusal as lock_refusal};
-ghost use Rattle.rmecore.specs.World.{IsReached, at_rest, deed};
+ghost use Rattle.rmecore.specs.Simulated.{Simulated, Takes, ChoosesLeast, event_of, own_at, place_at, refusal_at, step_refusal, world_of, new_refusal as lock_refusal};
+ghost use Rattle.rmecore.specs.World.{World, IsReached, at_rest, deed};
+ghost use Rattle.rmecore.specs.declared.core_done.CoreDone.{CoreDone};
 ghost use Rattle.rmecore.specs.declared.happened.Happened.{Happened};
 ghost use Rattle.rmecore.specs.declared.outer.Outer.{Outer};
 ghost use Rattle.rmecore.specs.declared.refusal.Refusal.{Refusal};
+ghost use Rattle.schedule.specs.Reports.{told_line as lock_line};
+ghost use Rattle.schedule.specs.Runs.{Answered as LockAnswered, run_on as lock_run_on};
+ghost use Rattle.schedule.specs.Tapes.{Tape};
+ghost use Rattle.schedule.specs.declared.lines.line.Line.{Line as LineOf};
+ghost use Rattle.schedule.specs.declared.replays.verdict.Verdict.{Verdict as VerdictOf};
+ghost use Rattle.schedule.specs.declared.replays.verdict.Verdict.TheVariants.{Fine};
 ghost use Rattle.algorithms.specs.Worlds.{new_refusal};
 ghost use Rattle.algorithms.specs.declared.algorithm.Algorithm.{Algorithm};
 ghost use Rattle.algorithms.specs.declared.algorithm.Call.{Call};
 ghost use Rattle.algorithm_lab.specs.Monitors.{answered, first_monitor};
 ghost use Rattle.algorithm_lab.specs.Refusals.{number_of_world};
 ghost use Rattle.algorithm_lab.specs.Bakery.{IsBakery};
+ghost use Rattle.algorithm_lab.specs.LockLines.{IsOfLock, SameRun, answer_of, image_of, lock_behaviour};
 ghost use Rattle.algorithm_lab.specs.Moves.{Move, Start, Step, Crash, Tells, all_said, left_by, core_call, answer_number, deed_told, refused, lock_move, text_move, SameWords};
+ghost use Rattle.algorithm_lab.specs.Replays.{Replays, run_of};
+ghost use Rattle.algorithm_lab.specs.Reports.{told_line, verdict_of};
+ghost use Rattle.algorithm_lab.specs.Runs.{run_on};
+ghost use Rattle.algorithm_lab.specs.declared.replay_fault.AlgorithmReplayFault.{AlgorithmReplayFault};
+ghost use Rattle.algorithm_lab.specs.declared.told.Told.TheVariants.{Answered};
 
 /// The text of the recoverable Bakery means the proved lock. For every schedule of starts of lock, unlock, recover and
 /// withdraw, of steps and of crashes, an algorithm with its lines says in the laboratory, move by move, what the lock says:
@@ -50,4 +63,28 @@ pub fn a_core_makes_these_moves()
     ensures crash { (s t : Simulated) (p : ℕ) (outer : Outer) → deed (place_at s.processes p) (Crashes p) ≡ Some outer
         → Takes s (Crashes p) t
         → lock_move s.procs s.limit (world_of s) (Crash p) ≡ record { said = Tells (deed_told (Some outer)); left = world_of t } }
+{}
+
+/// A schedule on the text of the recoverable Bakery is that schedule on the lock alone, line by line, `step P K` too. For every
+/// list of lines whose calls are lock, unlock, recover and withdraw, both runs report the same deeds and answers, in lines of the
+/// same bytes; the same line is refused, by the same number; and the words left are the same (`lines`). The text's report ends
+/// with a line of them for each declaration, that of the lock with one for each process. Each answer of the lock is one of the
+/// text, in the same words (`answers`). An image of the lock has the words that are left (`image`).
+pub fn the_text_plays_as_the_lock()
+    ensures lines { (a : Algorithm) (n limit first : ℕ) (lines : List LineOf) → IsBakery a → n ≤ 64 → limit ≤ 2 ^ 62
+        → All IsOfLock lines → SameRun a n (run_on first (first_monitor a n limit) lines)
+        (lock_run_on (lock_behaviour n limit) first at_rest lines) }
+    ensures answers { (a : Algorithm) (p : ℕ) (done : CoreDone) → IsBakery a
+        → told_line a (Answered p (answer_number done)) ≡ lock_line (LockAnswered p (answer_of done)) }
+    ensures image { (n limit p : ℕ) (w : World) → p < n → own_at (image_of n limit w).lock p ≡ w.words p }
+{}
+
+/// No replay of the text of the recoverable Bakery is against, whatever its lines are: also where a line is refused, as one with
+/// a call that the text has not. `replayed` says it of what `replay_algorithm` answers.
+pub fn the_text_is_never_found_out()
+    ensures judged { (a : Algorithm) (n limit : ℕ) (lines : List LineOf) → IsBakery a
+        → verdict_of n (run_of a n limit lines).told ≡ Fine }
+    ensures replayed { (a : Algorithm) (n limit : ℕ) (lines : List LineOf) (before now : Tape)
+        (answer : Result VerdictOf AlgorithmReplayFault) → IsBakery a → Replays before now (run_of a n limit lines) answer
+        → IfOk answer (λ verdict. verdict ≡ Fine) }
 {}

@@ -1,0 +1,163 @@
+-- The lines of a schedule on the lock alone, and what its run and the run of its text have in common.
+use Rattle.std.specs.Prelude.{◌≡◌, ℕ, ◌≤◌, nat_lt, if◌then◌else◌, List, [], ◌∷◌, ◌++◌, codes, map, replicate, slice_index_or, Option, Some, None, IsSome, option_map}
+use Rattle.std.specs.List.{range_with_len}
+use Rattle.rmecore.specs.Machine.{access, kind_of, word_of, carried, answer}
+use Rattle.rmecore.specs.Place.{Place, Starts, Crashes, Steps}
+use Rattle.rmecore.specs.Refused.{start_refusal, number_of}
+use Rattle.rmecore.specs.World.{World, read, after, step_deed}
+use Rattle.rmecore.specs.declared.access.Access.{Access}
+use Rattle.rmecore.specs.declared.core_done.CoreDone.{CoreDone}
+use Rattle.rmecore.specs.declared.core_done.CoreDone.TheVariants.{In, InAgain, Spent, Out, Found as Finds, Withdrawn}
+use Rattle.rmecore.specs.declared.found.Found.TheVariants.{Idle, Left, Doorway, Waiting, Inside}
+use Rattle.rmecore.specs.declared.outer.Outer.TheVariants as outers
+use Rattle.rmecore.specs.declared.own.Own.{Own}
+use Rattle.rmecore.specs.declared.refusal.Refusal.{Refusal}
+use Rattle.rmecore.specs.declared.refusal.Refusal.TheVariants.{NoSuchProcess, NothingToDo, BadShape}
+use Rattle.redomail.specs.Layout.{size}
+use Rattle.redomail.specs.declared.deed.Deed.TheVariants.{Outer}
+use Rattle.rmeworld.specs.Behaviours.{Behaviour}
+use Rattle.rmeworld.specs.Replayed.{no_step}
+use Rattle.rmeworld.specs.declared.answer.Answer.{Answer}
+use Rattle.rmeworld.specs.declared.answer.Answer.TheVariants as answers
+use Rattle.rmeworld.specs.declared.image.Image.{Image}
+use Rattle.rmeworld.specs.declared.stepped.Stepped.{Stepped}
+use Rattle.schedule.specs.Reports.{told_text as lock_text}
+use Rattle.schedule.specs.Words.{spaced}
+use Rattle.schedule.specs.Runs.{Part as LockRun, Told as LockTold, Did as LockDid, Answered as LockAnswered}
+use Rattle.schedule.specs.declared.lines.line.Line.{Line}
+use Rattle.schedule.specs.declared.lines.line.Line.TheVariants as lines
+use Rattle.algorithms.specs.declared.algorithm.Algorithm.{Algorithm}
+use Rattle.algorithms.specs.declared.algorithm.Call.{Call as AlgorithmCall}
+use Rattle.algorithm_lab.specs.Moves.{core_call, SameWords}
+use Rattle.algorithm_lab.specs.Refusals.{number_of as number_of_run}
+use Rattle.algorithm_lab.specs.Reports.{told_text, words_text}
+use Rattle.algorithm_lab.specs.Runs.{Run, call_of}
+use Rattle.algorithm_lab.specs.declared.run_refusal.RunRefusal.{RunRefusal}
+use Rattle.algorithm_lab.specs.declared.told.Told.{Told}
+use Rattle.algorithm_lab.specs.declared.told.Told.TheVariants.{Did, Answered}
+
+-- a line of the lock alone: a start of one of its calls, one step or more, or a crash
+abbrev pub IsOfLock : Line → Type 0
+IsOfLock (lines.Start p call) = IsSome (call_of call)
+IsOfLock (lines.Step p steps) = 1 ≤ steps
+IsOfLock (lines.Crash p) = Unit {0}
+
+-- ---- answers
+
+-- what a call of the lock answers
+abbrev pub answer_of : CoreDone → Answer
+answer_of In = answers.Clean
+answer_of InAgain = answers.OwnerDied
+answer_of Spent = answers.NumbersSpent
+answer_of Out = answers.Unlocked
+answer_of (Finds found) = answers.Found found
+answer_of Withdrawn = answers.Withdrawn
+
+-- the answers of the lock, in the order of the text's
+abbrev pub dones : List CoreDone
+dones =
+    InAgain
+    ∷ Spent
+    ∷ In
+    ∷ Out
+    ∷ Finds Doorway
+    ∷ Finds Waiting
+    ∷ Finds Inside
+    ∷ Finds Idle
+    ∷ Finds Left
+    ∷ Withdrawn
+    ∷ []
+
+-- what the lock reports where the text reports this
+abbrev pub lock_told : Told → LockTold
+lock_told (Did outer) = LockDid (Outer outer)
+lock_told (Answered p number) = LockAnswered p (answer_of (slice_index_or dones number Withdrawn))
+
+-- ---- the lock as a machine that plays schedules
+
+-- a call that is not the lock's is refused; by which number is of no concern here
+abbrev pub call_refusal : Place → Option AlgorithmCall → Option Refusal
+call_refusal place None = Some BadShape
+call_refusal place (Some call) = start_refusal place (core_call call)
+
+abbrev pub started : ℕ → ℕ → World → ℕ → Option AlgorithmCall → World
+started n limit w p None = w
+started n limit w p (Some call) = after n limit w (Starts p (core_call call))
+
+-- without an access there is nothing to do
+abbrev pub step_refusal : Option Access → Option Refusal
+step_refusal None = Some NothingToDo
+step_refusal (Some a) = None
+
+-- the value that an access reads or writes
+abbrev pub value_of : World → Access → ℕ
+value_of w a = carried a (read w.words (word_of a))
+
+abbrev pub reported : World → ℕ → Option Access → Stepped
+reported w p None = no_step
+reported w p (Some a) =
+    let outer = step_deed p (w.places p) (kind_of a) (value_of w a) in
+    let done = answer (w.places p) (kind_of a) (value_of w a) in
+    record {
+      happened = record { kind = kind_of a; word = word_of a; value = value_of w a; outer = outer; done = done };
+      deed = option_map Outer outer;
+      answer = option_map answer_of done;
+    }
+
+abbrev pub advanced : ℕ → ℕ → World → ℕ → Option Access → World
+advanced n limit w p None = w
+advanced n limit w p (Some a) = after n limit w (Steps p (kind_of a) (word_of a) (value_of w a))
+
+-- a refusal of a process that is there
+abbrev pub if_there : ℕ → ℕ → Option Refusal → Option Refusal
+if_there n p refusal = if nat_lt p n then refusal else Some NoSuchProcess
+
+-- what f gives of each of n processes
+abbrev pub of_each : {A : Type 0} → ℕ → (ℕ → A) → List A
+of_each n f = map f (range_with_len 0 n)
+
+-- the lock words, beside a mailbox for one message in which there is none
+abbrev pub image_of : ℕ → ℕ → World → Image
+image_of n limit w = record { cap = 1; cells = replicate (size (record { procs = n; cap = 1; width = 1 })) 0; limit = limit; lock = of_each n w.words; version = 2; width = 1 }
+
+-- the lock for n processes: each call is its steps on the lock words, and nothing more. The lock of a whole world also looks
+-- whether it is ruined, so it takes more steps in some calls
+abbrev pub lock_behaviour : ℕ → ℕ → Behaviour World
+lock_behaviour n limit =
+    record {
+      start_refusal = λ w p call. if_there n p (call_refusal (w.places p) (call_of call));
+      started = λ w p call. started n limit w p (call_of call);
+      advance_refusal = λ w p. if_there n p (step_refusal (access limit p (w.places p)));
+      stepped = λ w p. reported w p (access limit p (w.places p));
+      advanced = λ w p. advanced n limit w p (access limit p (w.places p));
+      crash_refusal = λ w p. if_there n p None;
+      crash_deed = λ w p. Outer (outers.Crash p);
+      crashed = λ w p. after n limit w (Crashes p);
+      image_of = image_of n limit;
+    }
+
+-- ---- both runs
+
+-- the line that is refused, and the number of its refusal
+abbrev pub numbered : {R : Type 0} → (R → Option ℕ) → ℕ × R → ℕ × Option ℕ
+numbered number refused = (refused.0, number refused.1)
+
+-- the line `words NAME V..`
+abbrev pub word_line : List ℕ → List ℕ → List ℕ
+word_line name row = codes "words " ++ name ++ spaced row ++ 10 ∷ []
+
+-- the lines of the lock words, a word of all processes in each
+abbrev pub words_lines : ℕ → (ℕ → Own) → List ℕ
+words_lines n words =
+    word_line (codes "choosing") (of_each n (λ p. (words p).choosing))
+    ++ word_line (codes "number") (of_each n (λ p. (words p).number))
+    ++ word_line (codes "inside") (of_each n (λ p. (words p).inside))
+
+-- The run of a text and that of the lock: the same deeds and answers, in lines of the same bytes; the same line is refused, by the
+-- same number; and the shared words left are the lock words left, so the text's report has their lines.
+pub record SameRun (a : Algorithm) (n : ℕ) (text : Run (ℕ × RunRefusal)) (lock : LockRun World (ℕ × Refusal)) : Type 0 where
+  pub told : map lock_told text.told ≡ lock.told
+  pub report : told_text a text.told ≡ lock_text lock.told
+  pub refused : option_map (numbered number_of_run) text.refused ≡ option_map (numbered number_of) lock.refused
+  pub words : SameWords n lock.left text.left
+  pub last_lines : words_text n text.left.world.words 0 a.declarations.items ≡ words_lines n lock.left.words

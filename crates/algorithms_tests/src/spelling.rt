@@ -2,7 +2,11 @@
 
 use crate::cases::{Kind, compare_cases};
 use crate::support::text_named;
-use algorithm_lab::laws::{a_core_makes_these_moves, the_text_means_the_lock};
+use algorithm_explorer::laws::no_search_finds_the_text_out;
+use algorithm_lab::laws::{
+    a_core_makes_these_moves, the_text_is_never_found_out, the_text_means_the_lock,
+    the_text_plays_as_the_lock,
+};
 use algorithm_texts::laws::{a_line_says_one_thing, tokens_say_one_part};
 use algorithm_texts::read_algorithm;
 use algorithms::Algorithm;
@@ -85,6 +89,7 @@ answer found idle
 answer found left
 answer withdrawn
 Entries { lock: 0, unlock: 36, recover: Some(40), withdraw: Some(57) }
+bakery [\"c\", \"k\", \"i\", \"m\", \"j\", \"v\"]
 [Declaration { name: \"choosing\", each: true, bound: Some(Number(1)) }, Declaration { name: \"number\", each: true, bound: Some(Limit) }, Declaration { name: \"inside\", each: true, bound: Some(Number(1)) }]
 Promises { reentry: true, order: true }
 1 to 64 processes, 0 lasting names
@@ -113,6 +118,7 @@ fn put_answers(algorithm: &Algorithm, text: &mut String) -> Result<(), AllocErro
 /// Writes what is neither a line nor an answer.
 fn put_head(algorithm: &Algorithm, text: &mut String) -> Result<(), AllocError> {
     writeln!(text, "{:?}", algorithm.entries)?;
+    writeln!(text, "{} {:?}", algorithm.name, algorithm.names)?;
     writeln!(text, "{:?}", algorithm.declarations)?;
     writeln!(text, "{:?}", algorithm.promises)?;
     let (least, most) = (algorithm.least, algorithm.most);
@@ -156,6 +162,9 @@ fn the_text_spells_the_bakery(rt: HostRuntime) -> Result<(), Fail> {
     a_line_says_one_thing();
     tokens_say_one_part();
     the_text_means_the_lock();
+    the_text_plays_as_the_lock();
+    the_text_is_never_found_out();
     a_core_makes_these_moves();
+    no_search_finds_the_text_out();
     compare_cases(rt.alloc(), Kind::Spelling, BAKERY)
 }

@@ -11,6 +11,8 @@ use Rattle.crashlab.specs.declared.variant.Variant.{Variant}
 use Rattle.crashlab.specs.declared.variant.Variant.TheVariants.{Right, NoLook, NoTies, Renumber, ExitOnCrash, CountUp, LastSkipped}
 use Rattle.cli.specs.declared.arguments.args.Alphabet.{Alphabet}
 use Rattle.cli.specs.declared.arguments.args.AlgorithmCalls.{AlgorithmCalls}
+use Rattle.cli.specs.declared.arguments.args.Cycles.{Cycles}
+use Rattle.cli.specs.declared.arguments.args.Cycles.TheVariants.{Nobody, Any}
 
 abbrev pub Given : Type 0
 Given = List Row
@@ -46,6 +48,18 @@ AsksFor without given variant = word_of_variant variant ≡ unwrap_or (first_of 
 -- there is no such variant
 abbrev pub AsksForNone : Text → Given → Type 0
 AsksForNone without given = (variant : Variant) → AsksFor without given variant → ⊥
+
+abbrev pub word_of_cycles : Cycles → Text
+word_of_cycles Nobody = codes "nobody"
+word_of_cycles Any = codes "any"
+
+-- starvation is looked for in these cycles, or not at all
+abbrev pub AsksForCycles : Given → Option Cycles → Type 0
+AsksForCycles given cycles = option_map word_of_cycles cycles ≡ first_of (codes "starving") given
+
+-- there are no such cycles
+abbrev pub AsksForNoCycles : Given → Type 0
+AsksForNoCycles given = (cycles : Option Cycles) → AsksForCycles given cycles → ⊥
 
 -- the calls that a search starts, by name: `lock,unlock`, where they are left out
 abbrev pub calls_of : Given → List Text

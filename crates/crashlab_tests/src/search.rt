@@ -11,4 +11,6 @@ pub mod spins;
 #[cfg(test)]
 mod starving;
 #[cfg(test)]
+mod starving_worlds;
+#[cfg(test)]
 mod stuck;

@@ -1,13 +1,14 @@
 //! Reads the words of `explore`.
 
-ghost use Rattle.std.specs.Prelude.{◌≡◌, ◌↔◌, ◌==◌, true, map, Some, IfOk, IfErr, IsNone, OnOk, OnErr, IsErrOf, codes};
+ghost use Rattle.std.specs.Prelude.{◌≡◌, ◌↔◌, ◌==◌, ◌≢◌, true, map, Some, IfOk, IfErr, IfSome, IsNone, IsSome, OnOk, OnErr, IsErrOf, codes};
 ghost use Rattle.std.specs.List.{list_all, slice_split};
 ghost use Rattle.clap.specs.Words.{first_of};
-ghost use Rattle.cli.specs.Given.{given_in, is_set, has_call, is_call, alphabet_of, is_algorithm_call, algorithm_calls_of, calls_of};
-ghost use Rattle.cli.specs.ReadWords.{IsAlgorithmSearch, IsFaultOfAlgorithmCalls, IsFaultOfCalls, IsStuckWithin, Reads};
+ghost use Rattle.cli.specs.Given.{given_in, is_set, has_call, is_call, alphabet_of, is_algorithm_call, algorithm_calls_of, calls_of, word_of_cycles, AsksForCycles};
+ghost use Rattle.cli.specs.ReadWords.{IsAlgorithmSearch, IsBadStarving, IsFaultOfAlgorithmCalls, IsFaultOfCalls, IsStuckWithin, Reads};
+ghost use Rattle.cli.specs.declared.arguments.args.Cycles.{Cycles as AnyCycles};
 
 use crate::arguments::args::{
-    AlgorithmCalls, AlgorithmExploreArgs, Alphabet, Command, ExploreArgs,
+    AlgorithmCalls, AlgorithmExploreArgs, Alphabet, Command, Cycles, ExploreArgs,
 };
 use crate::arguments::words::{
     WordsFault, is_given, is_set, number_of, number_or, str_of, variant_of, without_lock,
@@ -91,6 +92,36 @@ fn stuck_of(matches: &ArgMatches<'_>) -> Result<bool, WordsFault>
         return Err(WordsFault::BadSize);
     }
     Ok(stuck)
+}
+
+/// The cycles of this name.
+fn cycles_named(name: &str) -> Option<Cycles>
+    ensures some { IfSome result (λ cycles. word_of_cycles cycles ≡ name.now) }
+    ensures none { IsNone result → (cycles : AnyCycles) → word_of_cycles cycles ≢ name.now }
+{
+    match name {
+        "nobody" => Some(Cycles::Nobody),
+        "any" => Some(Cycles::Any),
+        _ => None,
+    }
+}
+
+/// The cycles in which a search looks for a process that starves. It does so without a bound on moves.
+fn starving_of(matches: &ArgMatches<'_>) -> Result<Option<Cycles>, WordsFault>
+    ensures ok { IfOk result (AsksForCycles (given_in matches.now)) }
+    ensures unbounded { IfOk result (λ cycles. IsSome cycles → IsNone (first_of (codes "moves") (given_in matches.now))) }
+    ensures bad { OnErr result (IsErrOf result WordsFault.BadSize × IsBadStarving (given_in matches.now)) }
+{
+    let Some(name) = str_of(matches, "starving") else {
+        return Ok(None);
+    };
+    if str_of(matches, "moves").is_some() {
+        return Err(WordsFault::BadSize);
+    }
+    match cycles_named(name) {
+        Some(cycles) => Ok(Some(cycles)),
+        None => Err(WordsFault::BadSize),
+    }
 }
 
 /// Whether a search of an algorithm can start this call.
@@ -181,6 +212,7 @@ fn algorithm_words(
         moves: number_or(matches, "moves", u64::MAX),
         states: number_or(matches, "states", 10_000_000),
         limit: number_or(matches, "limit", 4),
+        starving: starving_of(matches)?,
     }))
 }
 
@@ -205,6 +237,7 @@ fn variant_words(alloc: Global, matches: &ArgMatches<'_>) -> Result<Command, Wor
         cap: number_or(matches, "cap", 1),
         width: number_or(matches, "width", 1),
         stuck: stuck_of(matches)?,
+        starving: starving_of(matches)?,
         all_variables: is_set(matches, "all-variables"),
         jobs: number_of(matches, "jobs"),
     }))

@@ -37,12 +37,13 @@ const EXPLORE_HELP: &str =
     "In: nothing; with --algorithm the algorithm's text: docs/use/algorithms.md. All schedules are tried whose moves are the start \
 of a call of --calls, one step, or a crash, of which there are at most --crashes: the shorter before the longer. Two worlds are one \
 state where their words, their processes, the judge and the crashes left are the same. Of a process those variables count that a move \
-may still read; all do with --all-variables or --stuck. An algorithm is searched by one thread.\nOut: the schedule \
+may still read; all do with --all-variables, --stuck or, of a variant, --starving. With --starving the judge counts for nothing. An algorithm is searched by one thread.\nOut: the schedule \
 of fewest moves that goes wrong, which `rmelab replay` with the same --variant or --algorithm replays to its fault; `nothing found \
 within K moves`; or, where all was tried, `nothing found: all N states`. With --stuck, where none goes wrong: the \
 schedule of fewest moves to a state from which no starts and steps bring each process to rest with all lock words 0, which \
-replays to a fine verdict; or `never stuck: all N states`. Nothing is said of a greater size, limit \
-or number of crashes.\nShown: on standard error, where that is a terminal, the states, how many moves deep and the \
+replays to a fine verdict; or `never stuck: all N states`. With --starving, whatever goes wrong: a schedule of fewest moves, and the \
+line `starves P cycle K`: its last K moves come back to the world before them, and process P starves in them; or `never starving: all N \
+states`. With both, both. Nothing is said of a greater size, limit or number of crashes.\nShown: on standard error, where that is a terminal, the states, how many moves deep and the \
 states a second, once a second while it works.\nExit status: 0 where nothing was found, 1 where a schedule was, 2 after a fault of the words or the algorithm, 3 after \
 one of a device or of memory, or where there are more states than --states.\n\nExample: rmelab explore --variant no-look --procs 2";
 
@@ -198,6 +199,7 @@ fn explore<'a>(alloc: Global) -> Result<Parser<'a>, AllocError>
             "stuck",
             "Look for stuck states too; not with --moves or --algorithm",
         ),
+        Argument::starving(),
         Argument::flag(
             "all-variables",
             "Distinguish states by dead variables too; not with --algorithm",

@@ -6,7 +6,7 @@ use crate::support::invocation::{all_come_to, program_comes_to};
 use std::test::Fail;
 
 /// `TWO_AT_ONCE`: both read that nobody holds it before either has stored. `CRASH_INSIDE`: process 0 dies inside, comes back and
-/// gives way, and process 1 enters. `NO_MAILBOX`: the options of a variant's search alone.
+/// gives way, and process 1 enters. `STARVES`: process 1 sees the flag of process 0 each time. `NO_MAILBOX`: the options of a variant's search alone.
 pub const TEXTS: &str = "
 @text CRASH_INSIDE
 rme 1 procs 2 limit 1 cap 1
@@ -31,6 +31,18 @@ lock 1
 step 1
 step 0
 step 1
+@text STARVES
+rme 1 procs 2 limit 1 cap 1
+lock 1
+lock 0
+step 0
+step 0
+step 0
+unlock 0
+step 1
+step 1
+step 0
+starves 1 cycle 8
 @text BAD_SIZE
 rmelab: bad size
 @text UNREAD
@@ -59,6 +71,18 @@ nothing found: all 925 states
 nothing found: all 58 states
 @row rmelab explore --algorithm a.lock --procs 2 --calls recover @file a.lock PETERSON @out
 nothing found: all 1 states
+@row rmelab explore --algorithm a.lock --procs 2 --limit 1 --starving @file a.lock BURNS @out STARVES @ends 1
+@row rmelab explore --algorithm a.lock --procs 2 --limit 1 --starving any --jobs 2 @file a.lock BURNS @out STARVES @ends 1
+@row rmelab explore --algorithm a.lock --procs 2 --limit 1 --starving nobody --states 58 @file a.lock PETERSON @out
+never starving: all 58 states
+@row rmelab explore --algorithm a.lock --procs 2 --limit 3 --starving @file a.lock BAKERY_1974 @out
+never starving: all 269 states
+@row rmelab explore --algorithm a.lock --procs 2 --starving some @ends 2 @err BAD_SIZE
+@row rmelab explore --algorithm a.lock --procs 2 --starving --moves 9 @ends 2 @err BAD_SIZE
+@row rmelab explore --algorithm a.lock --procs 3 --starving @file a.lock PETERSON @ends 2 @err BAD_SIZE
+@row rmelab explore --algorithm a.lock --procs 2 --states 57 --starving @file a.lock PETERSON @ends 3 @err
+rmelab: too many states
+@row rmelab explore --algorithm a.lock --procs 2 --stuck --starving @ends 2 @err NO_MAILBOX
 @row rmelab explore --procs 2 --algorithm a.lock --variant right @ends 2 @err BAD_VARIANT
 @row rmelab explore --procs 2 --variant wrong --algorithm a.lock --stuck @ends 2 @err BAD_VARIANT
 @row rmelab explore --procs 2 --algorithm a.lock --calls lock,append @ends 2 @err BAD_SIZE
@@ -107,6 +131,8 @@ const SEARCHES_OF_ALGORITHMS_WHERE_DEVICES_FAIL: &str = "
 @row rmelab explore --algorithm a.lock --procs 2 @file a.lock PETERSON @fails write @ends 3 @err UNWRITTEN
 @row rmelab explore --algorithm a.lock --procs 2 --moves 3 @file a.lock PETERSON @fails write @ends 3 @err UNWRITTEN
 @row rmelab explore --algorithm a.lock --procs 2 --limit 1 --crashes 1 @file a.lock PETERSON @fails write @ends 3 @err UNWRITTEN
+@row rmelab explore --algorithm a.lock --procs 2 --limit 1 --starving @file a.lock BURNS @fails write @ends 3 @err UNWRITTEN
+@row rmelab explore --algorithm a.lock --procs 2 --limit 1 --starving @file a.lock PETERSON @fails write @ends 3 @err UNWRITTEN
 @row rmelab explore --algorithm a.lock --procs 2 --limit 1 --crashes 1 @file a.lock PETERSON @fails flush @out CRASH_INSIDE @ends 3 @err UNWRITTEN
 ";
 

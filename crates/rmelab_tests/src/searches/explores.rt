@@ -6,7 +6,8 @@ use std::test::Fail;
 
 /// `SHORTEST`: both read the numbers in the doorway and find none. Process 1 enters, and so does 0, which doesn't look whether 1
 /// is choosing. `KEPT`: who locks can't let go of the lock. `NOT_BACK`: who crashed can't come back.
-/// `UNMENDED`: who crashed inside can't mend.
+/// `UNMENDED`: who crashed inside can't mend. `SPENT`: process 0 waits until process 1 has looked for a number, of which none is
+/// left, again and again.
 pub const TEXTS: &str = "
 @text SHORTEST
 rme 1 procs 2 limit 1 cap 1
@@ -68,6 +69,25 @@ step 0
 step 0
 step 0
 crash 0
+@text SPENT
+rme 1 procs 2 limit 1 cap 1
+lock 0
+step 0
+step 0
+step 0
+step 0
+step 0
+step 0
+step 0
+lock 1
+step 1
+step 1
+step 1
+step 1
+step 0
+step 1
+step 1
+starves 0 cycle 8
 @text UNWRITTEN
 rmelab: write failed
 @text TOO_MANY
@@ -134,6 +154,24 @@ step 1
 step 1
 step 1
 @row rmelab explore --variant exit-on-crash --procs 1 --limit 1 --crashes 1 --stuck @out GONE_OUT @ends 1
+@row rmelab explore --variant right --procs 2 --starving @out
+never starving: all 799 states
+@row rmelab explore --variant right --procs 2 --calls lock,unlock,withdraw --limit 2 --starving @out
+never starving: all 458 states
+@row rmelab explore --variant right --procs 2 --limit 1 --starving any @out SPENT @ends 1
+@row rmelab explore --variant right --procs 2 --limit 1 --stuck --starving @out
+never stuck: all 259 states
+never starving: all 211 states
+@row rmelab explore --variant right --procs 2 --limit 1 --calls lock --starving --stuck --states 210 @ends 1 @out
+rme 1 procs 2 limit 1 cap 1
+lock 0
+never starving: all 150 states
+@row rmelab explore --variant right --procs 2 --limit 1 --states 210 --starving @ends 3 @err TOO_MANY
+@row rmelab explore --variant right --procs 2 --limit 1 --states 258 --stuck --starving @ends 3 @err TOO_MANY
+@row rmelab explore --variant right --procs 2 --moves 9 --starving @ends 2 @err BAD_SIZE
+@row rmelab explore --variant right --procs 2 --starving some @ends 2 @err BAD_SIZE
+@row rmelab explore --variant right --procs 65 --starving @ends 2 @err BAD_SIZE
+@row rmelab explore --variant right --procs 2 --limit 1 --starving any @fails write @ends 3 @err UNWRITTEN
 @row rmelab explore --variant right --procs 2 --crashes 1 --limit 1 --states 1540 @ends 3 @err TOO_MANY
 @row rmelab explore --variant right --procs 2 --crashes 1 --limit 1 --states 2108 --all-variables @ends 3 @err TOO_MANY
 @row rmelab explore --variant right --procs 2 --limit 1 --states 258 --stuck @ends 3 @err TOO_MANY

@@ -27,7 +27,7 @@ use Rattle.cli.specs.declared.arguments.words.WordsFault.{WordsFault}
 use Rattle.cli.specs.declared.arguments.words.WordsFault.TheVariants.{Help, Refused, BadVariant, BadSize, Unreadable, OutOfMemory}
 use Rattle.cli.specs.declared.explain.dictionary_entry.DictionaryEntry.{DictionaryEntry}
 use Rattle.cli.specs.CommandLine.{rmelab}
-use Rattle.cli.specs.Given.{Given, AsksFor, AsksForNone, is_set, number_or, calls_of, alphabet_of, is_call, algorithm_calls_of, is_algorithm_call, entry_named, AsksForCycles, AsksForNoCycles}
+use Rattle.cli.specs.Given.{Given, AsksFor, AsksForNone, is_set, number_or, calls_of, alphabet_of, is_call, algorithm_calls_in, are_algorithm_calls, entry_named, AsksForCycles, AsksForNoCycles}
 use Rattle.cli.specs.Names.{name_of}
 use Rattle.cli.specs.Sizes.{RunFits, IsHuntSize}
 
@@ -139,8 +139,8 @@ pub record IsAlgorithmExplore (given : Given) (args : AlgorithmExploreArgs) : Ty
   pub no_variant : IsNone (first_of (codes "variant") given)
   pub search : IsAlgorithmSearch given
   pub procs : args.procs ≡ number_or 0 (codes "procs") given
-  pub calls : args.calls ≡ algorithm_calls_of (calls_of given)
-  pub known : list_all is_algorithm_call (calls_of given) ≡ true
+  pub calls : args.calls ≡ algorithm_calls_in given
+  pub known : are_algorithm_calls given ≡ true
   pub crashes : args.crashes ≡ number_or 0 (codes "crashes") given
   pub moves : args.moves ≡ number_or 18446744073709551615 (codes "moves") given
   pub states : args.states ≡ number_or 10000000 (codes "states") given
@@ -239,7 +239,7 @@ IsBadSearch given =
 
 -- a call of an algorithm's search is none of an algorithm, or the same of its bound and its cycles
 abbrev pub IsBadAlgorithmSearch : Given → Type 0
-IsBadAlgorithmSearch given = IsAlgorithmSearch given × ((list_all is_algorithm_call (calls_of given) ≡ false) ⊎ IsBadStarving given)
+IsBadAlgorithmSearch given = IsAlgorithmSearch given × ((are_algorithm_calls given ≡ false) ⊎ IsBadStarving given)
 
 -- a size of its worlds is given to a hunt
 abbrev pub HasWorldSize : Given → Type 0
@@ -349,7 +349,7 @@ IsFaultOfCalls given fault = fault ≡ OutOfMemory
 
 -- a list of an algorithm's calls is refused
 abbrev pub IsFaultOfAlgorithmCalls : Given → WordsFault → Type 0
-IsFaultOfAlgorithmCalls given BadSize = list_all is_algorithm_call (calls_of given) ≡ false
+IsFaultOfAlgorithmCalls given BadSize = are_algorithm_calls given ≡ false
 IsFaultOfAlgorithmCalls given fault = fault ≡ OutOfMemory
 
 -- an error of `clap` of this kind is answered

@@ -1,7 +1,7 @@
 //! The command `explore` on an algorithm's text.
 
 ghost use Rattle.std.specs.Prelude.{◌≡◌, false, IfErr, IfOk, OnOk};
-ghost use Rattle.commands.specs.AlgorithmExplores.{AlgorithmExploreEnds, ExploresAlgorithm, SearchEnds, calls_of as calls_asked, schedule_of as schedule_by};
+ghost use Rattle.commands.specs.AlgorithmExplores.{AlgorithmExploreEnds, ExploresAlgorithm, SearchEnds, calls_had, calls_of as calls_asked, schedule_of as schedule_by};
 ghost use Rattle.commands.specs.AlgorithmFindings.{line_by, world_call};
 ghost use Rattle.commands.specs.Endings.{FailsToWrite, IsEnded};
 ghost use Rattle.schedule.specs.Schedules.{spelling};
@@ -19,16 +19,36 @@ use crate::schedules::telling::tell_schedule;
 use algorithm_explorer::{
     AlgorithmBounds, AlgorithmExploreFault, Move, SearchOutcome, shortest_algorithm_schedule,
 };
-use algorithms::{Algorithm, Call};
+use algorithms::{Algorithm, Call, Entries};
 use cli::arguments::args::{AlgorithmCalls, AlgorithmExploreArgs};
 use rmeworld::Call as WorldCall;
 use schedule::{Count, Line, Schedule, Sink};
 use std::alloc::{AllocError, Global};
 
-/// The calls that the search starts, always in this order.
-pub(crate) fn calls_of(alloc: Global, asked: AlgorithmCalls) -> Result<Vec<Call>, AllocError>
-    ensures { IfOk result (λ calls. calls.items ≡ calls_asked asked) }
+/// The calls that a text has.
+fn calls_had(entries: &Entries) -> AlgorithmCalls
+    ensures { result ≡ calls_had entries.now }
 {
+    AlgorithmCalls {
+        lock: true,
+        unlock: true,
+        recover: entries.recover.is_some(),
+        withdraw: entries.withdraw.is_some(),
+    }
+}
+
+/// The calls that the search starts, always in this order.
+pub(crate) fn calls_of(
+    alloc: Global,
+    algorithm: &Algorithm,
+    args: &AlgorithmExploreArgs,
+) -> Result<Vec<Call>, AllocError>
+    ensures { IfOk result (λ calls. calls.items ≡ calls_asked algorithm.now args.now) }
+{
+    let asked = match args.calls {
+        Some(asked) => asked,
+        None => calls_had(&algorithm.entries),
+    };
     let mut calls = Vec::new(alloc);
     put_call(&mut calls, asked.lock, Call::Lock)?;
     put_call(&mut calls, asked.unlock, Call::Unlock)?;
@@ -111,7 +131,7 @@ fn tell_shortest<S: Screen, W: Sink>(
         moves: args.moves,
         states: args.states,
     };
-    let calls = calls_of(alloc, args.calls)?;
+    let calls = calls_of(alloc, &algorithm, args)?;
     let mut meter = Meter::new(screen, Work::Search);
     let found = shortest_algorithm_schedule(
         alloc,

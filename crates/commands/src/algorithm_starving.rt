@@ -54,7 +54,7 @@ pub(crate) fn tell_starving<S: Screen, W: Sink>(
     ensures ends { StarvesAlgorithm cycles algorithm args.now (W.tape w.old) (W.tape w.new) result }
     ensures ended { IfOk result (IsEnded false (W.tape w.old).failures (W.tape w.new).failures) }
 {
-    let calls = calls_of(alloc, args.calls)?;
+    let calls = calls_of(alloc, &algorithm, args)?;
     let mut meter = Meter::new(screen, Work::Search);
     let found = starving_algorithm_schedule(
         alloc,

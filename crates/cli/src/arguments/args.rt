@@ -134,7 +134,8 @@ pub struct AlgorithmExploreArgs {
     /// The file of the algorithm's text.
     pub algorithm: String,
     pub procs: u64,
-    pub calls: AlgorithmCalls,
+    /// Without it: the calls that the text has.
+    pub calls: Option<AlgorithmCalls>,
     /// The most crashes of a schedule.
     pub crashes: u64,
     /// The most moves of a schedule.

@@ -40,8 +40,8 @@ state where their words, their processes, the judge and the crashes left are the
 may still read; all do with --all-variables, --stuck or, of a variant, --starving. With --starving the judge counts for nothing. An algorithm is searched by one thread.\nOut: the schedule \
 of fewest moves that goes wrong, which `rmelab replay` with the same --variant or --algorithm replays to its fault; `nothing found \
 within K moves`; or, where all was tried, `nothing found: all N states`. With --stuck, where none goes wrong: the \
-schedule of fewest moves to a state from which no starts and steps bring each process to rest with all lock words 0, which \
-replays to a fine verdict; or `never stuck: all N states`. With --starving, whatever goes wrong: a schedule of fewest moves, and the \
+schedule of fewest moves to a state from which no starts and steps bring each process to rest with all lock words 0, unless \
+by an unlock that ruins the lock; it replays to a fine verdict; or `never stuck: all N states`. With --starving, whatever goes wrong: a schedule of fewest moves, and the \
 line `starves P cycle K`: its last K moves come back to the world before them, and process P starves in them; or `never starving: all N \
 states`. With both, both. Nothing is said of a greater size, limit or number of crashes.\nShown: on standard error, where that is a terminal, the states, how many moves deep and the \
 states a second, once a second while it works.\nExit status: 0 where nothing was found, 1 where a schedule was, 2 after a fault of the words or the algorithm, 3 after \
@@ -175,7 +175,7 @@ fn explore<'a>(alloc: Global) -> Result<Parser<'a>, AllocError>
 {
     let about = "Tries all schedules up to a bound, for the shortest that goes wrong";
     let calls =
-        "lock, unlock, recover, withdraw, and of a variant consistent, append and close, with commas; lock,unlock without it";
+        "lock, unlock, recover, withdraw, and of a variant consistent, append and close, with commas; without it lock,unlock, with --stuck consistent too, and of an algorithm the calls of its text";
     let arguments = [
         Argument::variant(),
         Argument::algorithm(),

@@ -119,7 +119,7 @@ Options:
       --variant <V>       right, no-look, no-ties, renumber, exit-on-crash, count-up or last-skipped
       --algorithm <FILE>  Run this algorithm, a text, in place of a variant
       --procs <N>         1 to 64 processes
-      --calls <LIST>      lock, unlock, recover, withdraw, and of a variant consistent, append and close, with commas; lock,unlock without it
+      --calls <LIST>      lock, unlock, recover, withdraw, and of a variant consistent, append and close, with commas; without it lock,unlock, with --stuck consistent too, and of an algorithm the calls of its text
       --crashes <C>       At most C crashes; 0 without it
       --moves <K>         At most K moves; no bound without it
       --states <S>        At most S states; 10000000 without it
@@ -133,7 +133,7 @@ Options:
   -h, --help              Print help
 
 In: nothing; with --algorithm the algorithm's text: docs/use/algorithms.md. All schedules are tried whose moves are the start of a call of --calls, one step, or a crash, of which there are at most --crashes: the shorter before the longer. Two worlds are one state where their words, their processes, the judge and the crashes left are the same. Of a process those variables count that a move may still read; all do with --all-variables, --stuck or, of a variant, --starving. With --starving the judge counts for nothing. An algorithm is searched by one thread.
-Out: the schedule of fewest moves that goes wrong, which `rmelab replay` with the same --variant or --algorithm replays to its fault; `nothing found within K moves`; or, where all was tried, `nothing found: all N states`. With --stuck, where none goes wrong: the schedule of fewest moves to a state from which no starts and steps bring each process to rest with all lock words 0, which replays to a fine verdict; or `never stuck: all N states`. With --starving, whatever goes wrong: a schedule of fewest moves, and the line `starves P cycle K`: its last K moves come back to the world before them, and process P starves in them; or `never starving: all N states`. With both, both. Nothing is said of a greater size, limit or number of crashes.
+Out: the schedule of fewest moves that goes wrong, which `rmelab replay` with the same --variant or --algorithm replays to its fault; `nothing found within K moves`; or, where all was tried, `nothing found: all N states`. With --stuck, where none goes wrong: the schedule of fewest moves to a state from which no starts and steps bring each process to rest with all lock words 0, unless by an unlock that ruins the lock; it replays to a fine verdict; or `never stuck: all N states`. With --starving, whatever goes wrong: a schedule of fewest moves, and the line `starves P cycle K`: its last K moves come back to the world before them, and process P starves in them; or `never starving: all N states`. With both, both. Nothing is said of a greater size, limit or number of crashes.
 Shown: on standard error, where that is a terminal, the states, how many moves deep and the states a second, once a second while it works.
 Exit status: 0 where nothing was found, 1 where a schedule was, 2 after a fault of the words or the algorithm, 3 after one of a device or of memory, or where there are more states than --states.
 

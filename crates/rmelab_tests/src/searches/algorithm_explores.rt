@@ -65,8 +65,12 @@ const SEARCHES_OF_ALGORITHMS: &str = "
 @row rmelab explore --algorithm a.lock --procs 2 @file a.lock ONE_WORD @out TWO_AT_ONCE @ends 1
 @row rmelab explore --algorithm a.lock --procs 2 --limit 1 --moves 19 @file a.lock NO_LOOK @out
 nothing found within 19 moves
-@row rmelab explore --algorithm a.lock --procs 2 @file a.lock BAKERY_RUIN @out
+@row rmelab explore --algorithm a.lock --procs 2 --calls lock,unlock @file a.lock BAKERY_RUIN @out
 nothing found: all 925 states
+@row rmelab explore --algorithm a.lock --procs 2 @file a.lock BAKERY_RUIN @out
+nothing found: all 1741 states
+@row rmelab explore --algorithm a.lock --procs 2 --calls lock,unlock,recover,withdraw @file a.lock BAKERY_RUIN @out
+nothing found: all 1741 states
 @row rmelab explore --algorithm a.lock --procs 2 --states 58 @file a.lock PETERSON @out
 nothing found: all 58 states
 @row rmelab explore --algorithm a.lock --procs 2 --calls recover @file a.lock PETERSON @out

@@ -113,7 +113,7 @@ nothing found: all 925 states
 nothing found: all 1541 states
 @row rmelab explore --variant right --procs 2 --crashes 1 --limit 1 --all-variables @out
 nothing found: all 2109 states
-@row rmelab explore --variant right --procs 2 --crashes 1 --calls lock,unlock,consistent --stuck @out
+@row rmelab explore --variant right --procs 2 --crashes 1 --stuck @out
 never stuck: all 7913 states
 @row rmelab explore --variant right --procs 2 --crashes 1 --calls lock,unlock,recover,consistent --limit 1 --stuck @out
 never stuck: all 3807 states
@@ -122,7 +122,7 @@ never stuck: all 3807 states
 never stuck: all 2145 states
 @row rmelab explore --variant right --procs 3 --limit 1 --stuck @out
 never stuck: all 9145 states
-@row rmelab explore --variant renumber --procs 2 --crashes 1 --limit 2 --calls lock,unlock,consistent --stuck @out
+@row rmelab explore --variant renumber --procs 2 --crashes 1 --limit 2 --stuck @out
 never stuck: all 4151 states
 @row rmelab explore --variant right --procs 2 --calls lock --limit 1 --stuck @out KEPT @ends 1
 @row rmelab explore --variant right --procs 2 --calls unlock --limit 1 --crashes 1 --stuck @out NOT_BACK @ends 1
@@ -203,9 +203,9 @@ fn explores(rt: HostRuntime) -> Result<(), Fail> {
 }
 
 const EXPLORES_STUCK_AT_LENGTH: &str = "
-@row rmelab explore --variant right --procs 2 --crashes 3 --calls lock,unlock,consistent --stuck @out
+@row rmelab explore --variant right --procs 2 --crashes 3 --stuck @out
 never stuck: all 46219 states
-@row rmelab explore --variant right --procs 3 --crashes 1 --limit 1 --calls lock,unlock,consistent --stuck @out
+@row rmelab explore --variant right --procs 3 --crashes 1 --limit 1 --stuck @out
 never stuck: all 93278 states
 ";
 

@@ -47,6 +47,7 @@ complete -c rmelab -n '__fish_seen_subcommand_from explore' -l limit -x -d 'Numb
 complete -c rmelab -n '__fish_seen_subcommand_from explore' -l cap -x -d 'Room for M messages; 1 without it; not with --algorithm'
 complete -c rmelab -n '__fish_seen_subcommand_from explore' -l width -x -d '1 to 8 words a message; 1 without it; not with --algorithm'
 complete -c rmelab -n '__fish_seen_subcommand_from explore' -l stuck -d 'Look for stuck states too; not with --moves or --algorithm'
+complete -c rmelab -n '__fish_seen_subcommand_from explore' -l starving -x -d 'Look for a process that starves; WHO may give up: nobody, as without it, or any; not with --moves'
 complete -c rmelab -n '__fish_seen_subcommand_from explore' -l all-variables -d 'Distinguish states by dead variables too; not with --algorithm'
 complete -c rmelab -n '__fish_seen_subcommand_from explore' -l jobs -x -d 'N threads at once; without it, or 0, as many as there are processors'
 complete -c rmelab -n '__fish_seen_subcommand_from explore' -s h -l help -d 'Print help'

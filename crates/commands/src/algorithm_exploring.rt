@@ -173,9 +173,9 @@ fn search_algorithm<S: Screen, W: Sink>(
 }
 
 /// Runs `explore --algorithm`: reads the algorithm from its text, searches its schedules in this thread, and writes the schedule
-/// of fewest moves that goes wrong, or with `--starving` in which a process starves, or that there is none. Progress is shown on the screen. `Algorithm`: the text's fault.
-/// `BadSize`: the algorithm is not for this number of processes, or the limit is outside its range. `TooManyStates`: the search
-/// reached more states than it may keep.
+/// of fewest moves that goes wrong, or with `--starving` in which a process starves, or that there is none. Progress is shown on
+/// the screen. `Algorithm`: the text's fault. `BadSize`: the algorithm is not for this number of processes, or the limit is outside
+/// its range. `TooManyStates`: the search reached more states than it may keep.
 #[tactic(auto, using(crate::proofs::AlgorithmTexts::no_algorithm_alone))]
 pub fn algorithm_explore_command<S: Screen, W: Sink>(
     alloc: Global,

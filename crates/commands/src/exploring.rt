@@ -243,8 +243,8 @@ fn tell_shortest<T: Threads + Sync, S: Screen, W: Sink>(
 }
 
 /// Runs `explore`: writes the schedule of fewest moves that was found, or that there is none; with `--stuck` also one to a stuck
-/// state, and with `--starving` one in which a process starves. Progress is shown on the screen. `BadSize`: a size is outside its limits. `TooManyStates`: the search reached more
-/// states than it may keep.
+/// state, and with `--starving` one in which a process starves. Progress is shown on the screen. `BadSize`: a size is outside its
+/// limits. `TooManyStates`: the search reached more states than it may keep.
 pub fn explore_command<T: Threads + Sync, S: Screen, W: Sink>(
     rt: &T,
     alloc: Global,

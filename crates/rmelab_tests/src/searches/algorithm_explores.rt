@@ -6,7 +6,8 @@ use crate::support::invocation::{all_come_to, program_comes_to};
 use std::test::Fail;
 
 /// `TWO_AT_ONCE`: both read that nobody holds it before either has stored. `CRASH_INSIDE`: process 0 dies inside, comes back and
-/// gives way, and process 1 enters. `STARVES`: process 1 sees the flag of process 0 each time. `NO_MAILBOX`: the options of a variant's search alone.
+/// gives way, and process 1 enters. `STARVES`: process 1 sees the flag of process 0 each time. `NO_MAILBOX`: the options of a
+/// variant's search alone.
 pub const TEXTS: &str = "
 @text CRASH_INSIDE
 rme 1 procs 2 limit 1 cap 1
@@ -43,6 +44,22 @@ step 1
 step 1
 step 0
 starves 1 cycle 8
+@text STEM
+rme 1 procs 2 limit 1 cap 1
+lock 1
+@text STEM_AND_CYCLES
+rme 1 procs 2 limit 1 cap 1
+lock 1
+lock 0
+step 0 3
+unlock 0
+step 1 2
+step 0
+lock 0
+step 0 3
+unlock 0
+step 1 2
+step 0
 @text BAD_SIZE
 rmelab: bad size
 @text UNREAD
@@ -57,7 +74,8 @@ error: with '--algorithm <FILE>' there is no '--stuck', no '--all-variables', no
 For more information, try '--help'.
 ";
 
-/// Words that are refused open no file. A schedule that is found replays to its fault.
+/// Words that are refused open no file. A schedule that is found replays to its fault; the cycle of one that starves comes back to
+/// the same words each time.
 const SEARCHES_OF_ALGORITHMS: &str = "
 @row rmelab explore --algorithm a.lock --procs 2 --limit 1 @file a.lock NO_LOOK @out SHORTEST @ends 1
 @row rmelab explore --procs 2 --algorithm a.lock --limit 1 --moves 20 --calls unlock,lock --jobs 4 @file a.lock NO_LOOK @out SHORTEST @ends 1
@@ -105,6 +123,24 @@ rmelab: too many states
 algorithm a for 2 processes
 promises exclusion@err
 rmelab: algorithm line 2: fault 3: the last line is not ended by a line feed
+@row rmelab replay --algorithm a.lock @in STEM @file a.lock BURNS @out
+words flag 0 0
+verdict fine
+@row rmelab replay --algorithm a.lock @in STEM_AND_CYCLES @file a.lock BURNS @out
+begin 0
+ready 0
+enter 0
+answer 0 done
+leave 0
+answer 0 done
+begin 0
+ready 0
+enter 0
+answer 0 done
+leave 0
+answer 0 done
+words flag 0 0
+verdict fine
 @row rmelab replay --algorithm a.lock @in TWO_AT_ONCE @file a.lock ONE_WORD @ends 1 @out
 begin 0
 ready 0

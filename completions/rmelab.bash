@@ -34,6 +34,7 @@ _rmelab() {
         explore:--limit) : && return ;;
         explore:--cap) : && return ;;
         explore:--width) : && return ;;
+        explore:--starving) : && return ;;
         explore:--jobs) : && return ;;
         draw:--variant) mapfile -t COMPREPLY < <(compgen -W "right no-look no-ties renumber exit-on-crash count-up last-skipped" -- "$word") && return ;;
         draw:--algorithm) mapfile -t COMPREPLY < <(compgen -f -- "$word") && return ;;
@@ -46,7 +47,7 @@ _rmelab() {
         replay) mapfile -t COMPREPLY < <(compgen -W "--json --each --variant --algorithm --image --save -h --help" -- "$word"; compgen -f -- "$word") ;;
         run) mapfile -t COMPREPLY < <(compgen -W "--procs --messages --crash --seed --width -h --help" -- "$word") ;;
         hunt) mapfile -t COMPREPLY < <(compgen -W "--variant --algorithm --procs --limit --seed --rounds --steps --shrink --jobs -h --help" -- "$word") ;;
-        explore) mapfile -t COMPREPLY < <(compgen -W "--variant --algorithm --procs --calls --crashes --moves --states --limit --cap --width --stuck --all-variables --jobs -h --help" -- "$word") ;;
+        explore) mapfile -t COMPREPLY < <(compgen -W "--variant --algorithm --procs --calls --crashes --moves --states --limit --cap --width --stuck --starving --all-variables --jobs -h --help" -- "$word") ;;
         judge) mapfile -t COMPREPLY < <(compgen -W "--json -h --help" -- "$word"; compgen -f -- "$word") ;;
         draw) mapfile -t COMPREPLY < <(compgen -W "--variant --algorithm --image --svg --html -h --help" -- "$word"; compgen -f -- "$word") ;;
         shrink) mapfile -t COMPREPLY < <(compgen -W "--variant --algorithm -h --help" -- "$word"; compgen -f -- "$word") ;;

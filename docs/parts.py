@@ -41,15 +41,16 @@ def shared_argument(name: str) -> tuple[str, str]:
     """An argument that several commands have: its spelling and its help."""
     body = re.search(rf"pub fn {name}\(\).*?\n    }}\n", text_of(ARGUMENT), re.S)
     assert body
-    help_text = re.search(rf"let \w+ = {STRING};", body[0])
+    help_text = re.search(rf"let \w+ =\s+{STRING};", body[0])
     value = re.search(rf"Argument::text\({STRING}, {STRING}", body[0])
-    assert help_text and value
-    return f"--{value[1]} {value[2]}", plain(help_text[1])
+    left_out = re.search(rf"Form::Optional\({STRING}\), {STRING}, {STRING}", body[0])
+    assert help_text and (value or left_out)
+    return f"--{value[1]} {value[2]}" if value else f"--{left_out[2]} [{left_out[3]}]", plain(help_text[1])
 
 
 def argument(kind: str, words: list[str], named: dict[str, str]) -> tuple[str, str]:
     """The spelling of an argument, and its help."""
-    if kind in ("variant", "algorithm", "image"):
+    if kind in ("variant", "algorithm", "image", "starving"):
         return shared_argument(kind)
     if kind == "new":
         return "WORDS", named["names"]

@@ -63,6 +63,10 @@ impl VariantProcess {
         self.process.forget();
     }
 
+    pub fn is_mended(&self) -> bool {
+        self.process.mended
+    }
+
     pub fn is_at_rest(&self) -> bool {
         self.process.stage == Stage::Rest
     }

@@ -42,6 +42,10 @@ impl World {
         Deed::Outer(Outer::Crash, p)
     }
 
+    pub fn is_mended(&self, p: u8) -> bool {
+        self.processes[p as usize].is_mended()
+    }
+
     pub fn forget(&mut self) {
         self.processes.iter_mut().for_each(VariantProcess::forget);
     }

@@ -3,7 +3,7 @@
 
 use crate::{
     bad_texts, drawings, hostile_texts, hunts, runs, schedules, searches, sessions, shrinks,
-    spelling,
+    spelling, starving,
 };
 use std::alloc::Global;
 use std::test::Fail;
@@ -31,6 +31,8 @@ pub enum Kind {
     Search,
     Shrink,
     Session,
+    /// A search for a process that starves.
+    Starving,
 }
 
 /// A case: the words of its first line, what is given, and what comes of it.
@@ -85,6 +87,7 @@ fn put_outcome(
         Kind::Search => searches::put_search(alloc, words, text),
         Kind::Shrink => shrinks::put_least(alloc, words, given, text),
         Kind::Session => sessions::put_session(alloc, words, given, text),
+        Kind::Starving => starving::put_starving(alloc, words, text),
     }
 }
 

@@ -32,5 +32,7 @@ mod sinks;
 #[cfg(test)]
 mod spelling;
 #[cfg(test)]
+mod starving;
+#[cfg(test)]
 mod support;
 pub mod texts;

@@ -1,5 +1,5 @@
 -- Words with a bad variant or a bad size are answered with that alone.
-use Rattle.std.proofs.Common.{◌≡◌, ◌⊎◌, ◌∙◌, false, List, [], Option, Some, None, Result, Ok, Err, IfOk, IfErr, IsNone, IsSome, IsSomeAnd, inl, inr, refl, sym, subst, subst₂, codes, unwrap_or}
+use Rattle.std.proofs.Common.{◌≡◌, ◌⊎◌, ◌∙◌, false, List, [], Option, Some, None, Result, Ok, Err, IfOk, IfErr, IsNone, IsSome, IsSomeAnd, inl, inr, refl, sym, subst, subst₂, codes, option_map, unwrap_or}
 use Rattle.std.specs.Str.{bytes_eq}
 use Rattle.std.proofs.lemmas.Bool.{false≢true}
 use Rattle.clap.specs.Words.{Text, first_of, fault_of, subcommand_of, IsAmong}
@@ -8,6 +8,7 @@ use Rattle.clap.specs.declared.error.kind.ErrorKind.{ErrorKind}
 use Rattle.crashlab.specs.declared.variant.Variant.{Variant}
 use Rattle.crashlab.specs.declared.variant.Variant.TheVariants.{Right, NoLook, NoTies, Renumber, ExitOnCrash, CountUp, LastSkipped}
 use Rattle.cli.specs.declared.arguments.args.Command.{Command}
+use Rattle.cli.specs.declared.arguments.args.Cycles.{Cycles}
 use Rattle.cli.specs.declared.arguments.args.HuntArgs.{HuntArgs}
 use Rattle.cli.specs.declared.arguments.args.AlgorithmHuntArgs.{AlgorithmHuntArgs}
 use Rattle.cli.specs.declared.arguments.args.ExploreArgs.{ExploreArgs}
@@ -16,9 +17,9 @@ use Rattle.cli.specs.declared.arguments.args.Command.TheVariants.{Replay, Replay
 use Rattle.cli.specs.declared.arguments.words.WordsFault.{WordsFault}
 use Rattle.cli.specs.declared.arguments.words.WordsFault.TheVariants.{Help, Refused, BadVariant, BadSize, Unreadable, OutOfMemory}
 use Rattle.cli.specs.CommandLine.{rmelab}
-use Rattle.cli.specs.Given.{Given, AsksFor, word_of_variant}
+use Rattle.cli.specs.Given.{Given, AsksFor, AsksForCycles, word_of_cycles, word_of_variant}
 use Rattle.cli.specs.ReadWords.{GoesWithImage, IsAlone, IsBadBesideImage, IsBesideAlgorithm, IsBadVariant, TakesImage, NeedsLock, HasBadVariant}
-use Rattle.cli.specs.ReadWords.{IsHunt, IsAlgorithmHunt, IsBadHunt, IsBadAlgorithmHunt, IsExplore, IsAlgorithmExplore, IsBadSearch, IsBadAlgorithmSearch}
+use Rattle.cli.specs.ReadWords.{IsHunt, IsAlgorithmHunt, IsBadHunt, IsBadAlgorithmHunt, IsExplore, IsAlgorithmExplore, IsBadSearch, IsBadAlgorithmSearch, IsBadStarving}
 use Rattle.cli.specs.ReadWords.{IsOutOfRange, HasBadSize, HasNoLock, HasBadWords, IsCommand, Takes, IsRefusal}
 use Rattle.cli.specs.Sizes.{IsSized, RunFits, IsHuntSize}
 use Rattle.cli.proofs.Texts.{differ}
@@ -125,14 +126,28 @@ good_algorithm_hunt : (given : Given) (args : AlgorithmHuntArgs) → IsAlgorithm
 good_algorithm_hunt given args h sized (inl bad) = no_both (first_of (codes "variant") given) h.no_variant bad.0
 good_algorithm_hunt given args h sized (inr bad) = bad.1 (subst₂ IsHuntSize h.rounds h.steps sized)
 
+-- cycles that are asked for are given
+asked_cycles : (cycles : Option Cycles) (name : Option Text) → option_map word_of_cycles cycles ≡ name → IsSome name → IsSome cycles
+asked_cycles (Some cycles) name same some = refl
+asked_cycles None name same some = subst (λ (o : Option Text). IsSome o) (sym same) some
+
+-- a search without a bound on moves, in cycles that there are
+good_cycles : (given : Given) (cycles : Option Cycles) → AsksForCycles given cycles → (IsSome cycles → IsNone (first_of (codes "moves") given))
+    → IsBadStarving given → ⊥
+good_cycles given cycles asked unbounded (inl none) = none cycles asked
+good_cycles given cycles asked unbounded (inr both) =
+    no_both (first_of (codes "moves") given) (unbounded (asked_cycles cycles (first_of (codes "starving") given) asked both.0)) both.1
+
 good_search : (given : Given) (args : ExploreArgs) → IsExplore given args → IsBadSearch given ⊎ IsBadAlgorithmSearch given → ⊥
 good_search given args h (inl (some, inl calls)) = false≢true (sym calls ∙ h.known)
-good_search given args h (inl (some, inr stuck)) = no_both (first_of (codes "moves") given) (h.unbounded (h.stuck ∙ stuck.0)) stuck.1
+good_search given args h (inl (some, inr (inl stuck))) = no_both (first_of (codes "moves") given) (h.unbounded (h.stuck ∙ stuck.0)) stuck.1
+good_search given args h (inl (some, inr (inr starving))) = good_cycles given args.starving h.starving h.no_bound starving
 good_search given args h (inr bad) = no_both (first_of (codes "algorithm") given) h.no_algorithm bad.0.algorithm
 
 good_algorithm_search : (given : Given) (args : AlgorithmExploreArgs) → IsAlgorithmExplore given args → IsBadSearch given ⊎ IsBadAlgorithmSearch given → ⊥
 good_algorithm_search given args h (inl bad) = no_both (first_of (codes "variant") given) h.no_variant bad.0
-good_algorithm_search given args h (inr bad) = false≢true (sym bad.1 ∙ h.known)
+good_algorithm_search given args h (inr (search, inl bad)) = false≢true (sym bad ∙ h.known)
+good_algorithm_search given args h (inr (search, inr starving)) = good_cycles given args.starving h.starving h.no_bound starving
 
 good_size : (name : Text) (given : Given) (command : Command) → IsSized command → IsCommand name given command → IsOutOfRange name given → ⊥
 good_size name given (Run args) sized h (inl bad) = bad.1 (subst RunFits h.1 sized)

@@ -25,6 +25,10 @@ option name = record (new_rule name) { long = Some name; action = Some Set; valu
 abbrev pub number : Text → Rule
 number name = record (option name) { parser = Some (Unsigned 0 18446744073709551615) }
 
+-- `--name` or `--name VALUE`: without a value it has the value `without`
+abbrev pub optional : Text → Text → Rule
+optional without name = record (option name) { range = Some (record { start_inclusive = 0; end_inclusive = 1 }); missing = without ∷ [] }
+
 -- a word alone
 abbrev pub word : Text → Rule
 word name = record (new_rule name) { action = Some Set }
@@ -42,6 +46,7 @@ abbrev pub action_of_form : Form → ArgAction
 action_of_form forms.Flag = SetTrue
 action_of_form forms.Text = Set
 action_of_form forms.Number = Set
+action_of_form (forms.Optional without) = Set
 action_of_form forms.Word = Set
 action_of_form forms.Words = Append
 
@@ -50,6 +55,7 @@ abbrev pub rule_of_form : Form → Text → Rule
 rule_of_form forms.Flag = flag
 rule_of_form forms.Text = option
 rule_of_form forms.Number = number
+rule_of_form (forms.Optional without) = optional without.now
 rule_of_form forms.Word = word
 rule_of_form forms.Words = words
 
@@ -69,6 +75,9 @@ variant = option (codes "variant")
 abbrev pub algorithm : Rule
 algorithm = option (codes "algorithm")
 
+abbrev pub starving : Rule
+starving = optional (codes "nobody") (codes "starving")
+
 abbrev pub replay : Shape
 replay = part (codes "replay") (flag (codes "json") ∷ flag (codes "each") ∷ variant ∷ algorithm ∷ option (codes "image")
     ∷ option (codes "save") ∷ word (codes "FILE") ∷ [])
@@ -85,7 +94,7 @@ abbrev pub explore : Shape
 explore = part (codes "explore") (
     variant ∷ algorithm ∷ required (number (codes "procs")) ∷ option (codes "calls") ∷ number (codes "crashes")
     ∷ number (codes "moves") ∷ number (codes "states") ∷ number (codes "limit") ∷ number (codes "cap") ∷ number (codes "width")
-    ∷ flag (codes "stuck") ∷ flag (codes "all-variables") ∷ number (codes "jobs") ∷ [])
+    ∷ flag (codes "stuck") ∷ starving ∷ flag (codes "all-variables") ∷ number (codes "jobs") ∷ [])
 
 abbrev pub judge : Shape
 judge = part (codes "judge") (flag (codes "json") ∷ word (codes "FILE") ∷ [])

@@ -1,6 +1,6 @@
 -- What is given to a command: a row for each argument that has values, as `clap` reads the words.
-use Rattle.std.specs.Prelude.{◌≡◌, ◌==◌, ℕ, Bool, false, List, [], ◌∷◌, Option, unwrap_or, option_map, codes, if◌then◌else◌}
-use Rattle.std.specs.List.{join_by, list_any, slice_split}
+use Rattle.std.specs.Prelude.{◌≡◌, ◌==◌, ℕ, Bool, true, false, List, [], ◌∷◌, Option, unwrap_or, option_map, codes, if◌then◌else◌}
+use Rattle.std.specs.List.{join_by, list_all, list_any, slice_split}
 use Rattle.std.specs.Option.{option_map_or}
 use Rattle.std.specs.Str.{bytes_eq}
 use Rattle.std.specs.Str.Parse.{digits_value, without_leading_plus}
@@ -11,6 +11,8 @@ use Rattle.crashlab.specs.declared.variant.Variant.{Variant}
 use Rattle.crashlab.specs.declared.variant.Variant.TheVariants.{Right, NoLook, NoTies, Renumber, ExitOnCrash, CountUp, LastSkipped}
 use Rattle.cli.specs.declared.arguments.args.Alphabet.{Alphabet}
 use Rattle.cli.specs.declared.arguments.args.AlgorithmCalls.{AlgorithmCalls}
+use Rattle.cli.specs.declared.arguments.args.Cycles.{Cycles}
+use Rattle.cli.specs.declared.arguments.args.Cycles.TheVariants.{Nobody, Any}
 
 abbrev pub Given : Type 0
 Given = List Row
@@ -47,9 +49,30 @@ AsksFor without given variant = word_of_variant variant ≡ unwrap_or (first_of 
 abbrev pub AsksForNone : Text → Given → Type 0
 AsksForNone without given = (variant : Variant) → AsksFor without given variant → ⊥
 
--- the calls that a search starts, by name: `lock,unlock`, where they are left out
+abbrev pub word_of_cycles : Cycles → Text
+word_of_cycles Nobody = codes "nobody"
+word_of_cycles Any = codes "any"
+
+-- starvation is looked for in these cycles, or not at all
+abbrev pub AsksForCycles : Given → Option Cycles → Type 0
+AsksForCycles given cycles = option_map word_of_cycles cycles ≡ first_of (codes "starving") given
+
+-- there are no such cycles
+abbrev pub AsksForNoCycles : Given → Type 0
+AsksForNoCycles given = (cycles : Option Cycles) → AsksForCycles given cycles → ⊥
+
+-- the names of a list that has commas between them
+abbrev pub names_in : Text → List Text
+names_in list = slice_split (λ byte. byte == 44) list
+
+-- the calls of a variant's search, where they are left out: the way home of a search for stuck states needs `consistent`
+abbrev pub calls_without : Bool → Text
+calls_without true = codes "lock,unlock,consistent"
+calls_without false = codes "lock,unlock"
+
+-- the calls that a search of a variant starts, by name
 abbrev pub calls_of : Given → List Text
-calls_of given = slice_split (λ byte. byte == 44) (unwrap_or (first_of (codes "calls") given) (codes "lock,unlock"))
+calls_of given = names_in (unwrap_or (first_of (codes "calls") given) (calls_without (is_set (codes "stuck") given)))
 
 abbrev pub has_call : Text → List Text → Bool
 has_call name calls = list_any (λ call. bytes_eq call name) calls
@@ -80,6 +103,14 @@ algorithm_calls_of calls = record {
   recover = has_call (codes "recover") calls;
   withdraw = has_call (codes "withdraw") calls;
 }
+
+-- the calls that a search of an algorithm starts; none, where they are left out
+abbrev pub algorithm_calls_in : Given → Option AlgorithmCalls
+algorithm_calls_in given = option_map (λ list. algorithm_calls_of (names_in list)) (first_of (codes "calls") given)
+
+-- those that are given are calls that a text can have
+abbrev pub are_algorithm_calls : Given → Bool
+are_algorithm_calls given = option_map_or (λ list. list_all is_algorithm_call (names_in list)) (first_of (codes "calls") given) true
 
 -- the name of the entry that is to be explained: its words with a space between two
 abbrev pub entry_named : Given → Option Text

@@ -27,7 +27,7 @@ use Rattle.cli.specs.declared.arguments.words.WordsFault.{WordsFault}
 use Rattle.cli.specs.declared.arguments.words.WordsFault.TheVariants.{Help, Refused, BadVariant, BadSize, Unreadable, OutOfMemory}
 use Rattle.cli.specs.declared.explain.dictionary_entry.DictionaryEntry.{DictionaryEntry}
 use Rattle.cli.specs.CommandLine.{rmelab}
-use Rattle.cli.specs.Given.{Given, AsksFor, AsksForNone, is_set, number_or, calls_of, alphabet_of, is_call, algorithm_calls_of, is_algorithm_call, entry_named}
+use Rattle.cli.specs.Given.{Given, AsksFor, AsksForNone, is_set, number_or, calls_of, alphabet_of, is_call, algorithm_calls_in, are_algorithm_calls, entry_named, AsksForCycles, AsksForNoCycles}
 use Rattle.cli.specs.Names.{name_of}
 use Rattle.cli.specs.Sizes.{RunFits, IsHuntSize}
 
@@ -119,8 +119,10 @@ pub record IsExplore (given : Given) (args : ExploreArgs) : Type 0 where
   pub stuck : args.stuck ≡ is_set (codes "stuck") given
   pub all_variables : args.all_variables ≡ is_set (codes "all-variables") given
   pub jobs : args.jobs ≡ number_or 0 (codes "jobs") given
-  -- a search for stuck states has no bound on moves
+  pub starving : AsksForCycles given args.starving
+  -- a search for stuck states or for starvation has no bound on moves
   pub unbounded : args.stuck ≡ true → IsNone (first_of (codes "moves") given)
+  pub no_bound : IsSome args.starving → IsNone (first_of (codes "moves") given)
   pub no_algorithm : IsNone (first_of (codes "algorithm") given)
 
 -- an algorithm is given to a search, and no option that its search does not have
@@ -137,12 +139,14 @@ pub record IsAlgorithmExplore (given : Given) (args : AlgorithmExploreArgs) : Ty
   pub no_variant : IsNone (first_of (codes "variant") given)
   pub search : IsAlgorithmSearch given
   pub procs : args.procs ≡ number_or 0 (codes "procs") given
-  pub calls : args.calls ≡ algorithm_calls_of (calls_of given)
-  pub known : list_all is_algorithm_call (calls_of given) ≡ true
+  pub calls : args.calls ≡ algorithm_calls_in given
+  pub known : are_algorithm_calls given ≡ true
   pub crashes : args.crashes ≡ number_or 0 (codes "crashes") given
   pub moves : args.moves ≡ number_or 18446744073709551615 (codes "moves") given
   pub states : args.states ≡ number_or 10000000 (codes "states") given
   pub limit : args.limit ≡ number_or 4 (codes "limit") given
+  pub starving : AsksForCycles given args.starving
+  pub no_bound : IsSome args.starving → IsNone (first_of (codes "moves") given)
 
 pub record IsJudge (given : Given) (args : JudgeArgs) : Type 0 where
   pub json : args.json ≡ is_set (codes "json") given
@@ -224,13 +228,18 @@ HasBadVariant name given =
 abbrev pub IsStuckWithin : Given → Type 0
 IsStuckWithin given = (is_set (codes "stuck") given ≡ true) × IsSome (first_of (codes "moves") given)
 
--- a call of a variant's search is none, or its bound on moves is one too many
-abbrev pub IsBadSearch : Given → Type 0
-IsBadSearch given = IsSome (first_of (codes "variant") given) × ((list_all is_call (calls_of given) ≡ false) ⊎ IsStuckWithin given)
+-- a search for starvation is given no name of cycles, or a bound on moves
+abbrev pub IsBadStarving : Given → Type 0
+IsBadStarving given = AsksForNoCycles given ⊎ (IsSome (first_of (codes "starving") given) × IsSome (first_of (codes "moves") given))
 
--- a call of an algorithm's search is none of an algorithm
+-- a call of a variant's search is none, or its bound on moves is one too many, or its cycles have no name
+abbrev pub IsBadSearch : Given → Type 0
+IsBadSearch given =
+    IsSome (first_of (codes "variant") given) × ((list_all is_call (calls_of given) ≡ false) ⊎ (IsStuckWithin given ⊎ IsBadStarving given))
+
+-- a call of an algorithm's search is none of an algorithm, or the same of its bound and its cycles
 abbrev pub IsBadAlgorithmSearch : Given → Type 0
-IsBadAlgorithmSearch given = IsAlgorithmSearch given × (list_all is_algorithm_call (calls_of given) ≡ false)
+IsBadAlgorithmSearch given = IsAlgorithmSearch given × ((are_algorithm_calls given ≡ false) ⊎ IsBadStarving given)
 
 -- a size of its worlds is given to a hunt
 abbrev pub HasWorldSize : Given → Type 0
@@ -340,7 +349,7 @@ IsFaultOfCalls given fault = fault ≡ OutOfMemory
 
 -- a list of an algorithm's calls is refused
 abbrev pub IsFaultOfAlgorithmCalls : Given → WordsFault → Type 0
-IsFaultOfAlgorithmCalls given BadSize = list_all is_algorithm_call (calls_of given) ≡ false
+IsFaultOfAlgorithmCalls given BadSize = are_algorithm_calls given ≡ false
 IsFaultOfAlgorithmCalls given fault = fault ≡ OutOfMemory
 
 -- an error of `clap` of this kind is answered

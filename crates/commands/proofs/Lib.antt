@@ -3,6 +3,7 @@ pub mod AlgorithmHunts
 pub mod AlgorithmPaths
 pub mod AlgorithmSessions
 pub mod AlgorithmShrinks
+pub mod AlgorithmStarving
 pub mod AlgorithmTexts
 pub mod Draws
 pub mod Replays

@@ -1,5 +1,5 @@
 -- How a search of all schedules ends.
-use Rattle.std.specs.Prelude.{◌≡◌, ◌≢◌, ◌⊎◌, ℕ, zero, suc, ◌≤◌, Bool, true, false, List, [], ◌∷◌, ◌++◌, codes, length, map, take, replicate, None, Result, Ok, Err, IsErrAnd}
+use Rattle.std.specs.Prelude.{◌≡◌, ◌≢◌, ◌⊎◌, ℕ, zero, suc, ◌+◌, ◌≤◌, max, Bool, true, false, List, [], ◌∷◌, ◌++◌, codes, length, map, take, replicate, Option, Some, None, Result, Ok, Err, IsErrAnd}
 use Rattle.std.specs.Fmt.{decimal}
 use Rattle.redomail.specs.declared.layout.Layout.{Layout}
 use Rattle.rmeworld.specs.declared.call.Call.{Call}
@@ -9,12 +9,14 @@ use Rattle.schedule.specs.Tapes.{Tape, Writes}
 use Rattle.schedule.specs.Schedules.{Scheduled, spelling}
 use Rattle.schedule.specs.Wholes.{Silent}
 use Rattle.explorer.specs.Paths.{HasMoreStates, HasMoreStatesWithin, IsNumberOfStates}
+use Rattle.explorer.specs.Fairness.{IsLassoOf, IsLeastLasso, IsNeverStarving}
 use Rattle.explorer.specs.Stuck.{LeadsToStuck, IsShortestToStuck, IsNeverStuck}
 use Rattle.schedule.specs.Words.{line_of}
 use Rattle.crashlab.specs.declared.variant.Variant.TheVariants.{Right}
 use Rattle.crashlab.specs.declared.space.moves.Move.{Move}
 use Rattle.crashlab.specs.SearchStateWords.{search_state_words}
 use Rattle.crashlab.specs.Spaces.{first_search_state, line_by, rules}
+use Rattle.crashlab.specs.Starving.{world_rules, fairness}
 use Rattle.lock_explorer.specs.declared.search.variables.Variables.{Variables}
 use Rattle.lock_explorer.specs.declared.search.variables.Variables.TheVariants.{All, Live}
 use Rattle.lock_explorer.specs.Keys.{key_by}
@@ -22,8 +24,10 @@ use Rattle.lock_explorer.specs.Finding.{IsFoundIn, IsLeast, NoneOfAtMost, NoneIs
 use Rattle.commands.specs.declared.schedules.ending.Ending.{Ending}
 use Rattle.commands.specs.declared.schedules.fault.CommandFault.{CommandFault}
 use Rattle.commands.specs.declared.schedules.fault.CommandFault.TheVariants.{BadSize, TooManyStates}
+use Rattle.cli.specs.declared.arguments.args.Cycles.{Cycles}
 use Rattle.cli.specs.declared.arguments.args.ExploreArgs.{ExploreArgs}
 use Rattle.commands.specs.Endings.{FailsToWrite}
+use Rattle.commands.specs.Starving.{starves_line, never_starving_line, is_any}
 use Rattle.commands.specs.Statuses.{outcome}
 
 -- these calls, if they are asked for
@@ -102,7 +106,7 @@ pub record HasTooMany (args : ExploreArgs) (before now : Tape) : Type 0 where
   pub more : HasMoreStatesWithin (rules (key_by (variables_by args.all_variables))) (first_search_state args.variant (layout_of args) args.limit args.crashes (calls_of args)) args.moves args.states
   pub silent : Silent before now
 
--- how `explore` ends without `--stuck`
+-- how `explore` ends without `--stuck` and `--starving`
 abbrev pub ShortestEnds : ExploreArgs → Tape → Tape → Result Ending CommandFault → Type 0
 ShortestEnds args before now end =
     (outcome end ≡ Ok 1) × TellsLeast args before now
@@ -155,11 +159,60 @@ StuckEnds args before now end =
     ⊎ (outcome end ≡ Err TooManyStates) × HasTooManyAtAll args before now
     ⊎ IsErrAnd end (FailsToWrite before now)
 
--- with `--stuck` or without
-abbrev pub EndsBy : Bool → ExploreArgs → Tape → Tape → Result Ending CommandFault → Type 0
-EndsBy true args before now end = StuckEnds args before now end
-EndsBy false args before now end = ShortestEnds args before now end
+-- a schedule of fewest moves to the end of a cycle in which a process starves was written, with the process and the cycle's length
+pub record TellsStarving (args : ExploreArgs) (cycles : Cycles) (before now : Tape) : Type 0 where
+  pub process : ℕ
+  pub stem : List Move
+  pub cycle : List Move
+  pub lasso : IsLassoOf world_rules fairness (is_any cycles) (first_search_state args.variant (layout_of args) args.limit args.crashes (calls_of args)) process stem cycle
+  pub least : IsLeastLasso world_rules fairness (is_any cycles) (first_search_state args.variant (layout_of args) args.limit args.crashes (calls_of args)) (length stem + length cycle)
+  pub text : Writes before now (spelling (schedule_of args (stem ++ cycle)) ++ starves_line process (length cycle))
+
+-- no process starves, and that was written, with the number of worlds
+pub record TellsNeverStarving (args : ExploreArgs) (cycles : Cycles) (before now : Tape) : Type 0 where
+  pub never : IsNeverStarving world_rules fairness (is_any cycles) (first_search_state args.variant (layout_of args) args.limit args.crashes (calls_of args))
+  pub states : ℕ
+  pub number : IsNumberOfStates world_rules (first_search_state args.variant (layout_of args) args.limit args.crashes (calls_of args)) states
+  pub text : Writes before now (never_starving_line states)
+
+-- there are more worlds than may be kept, and nothing was written
+pub record HasTooManyWorlds (args : ExploreArgs) (before now : Tape) : Type 0 where
+  pub more : HasMoreStates world_rules (first_search_state args.variant (layout_of args) args.limit args.crashes (calls_of args)) args.states
+  pub silent : Silent before now
+
+-- how `explore --starving` ends
+abbrev pub StarvingEnds : Cycles → ExploreArgs → Tape → Tape → Result Ending CommandFault → Type 0
+StarvingEnds cycles args before now end =
+    (outcome end ≡ Ok 1) × TellsStarving args cycles before now
+    ⊎ (outcome end ≡ Ok 0) × TellsNeverStarving args cycles before now
+    ⊎ (outcome end ≡ Err BadSize) × IsNoSize args
+    ⊎ (outcome end ≡ Err TooManyStates) × HasTooManyWorlds args before now
+    ⊎ IsErrAnd end (FailsToWrite before now)
+
+-- the status of two answers: 1, where one of them is a schedule
+abbrev pub both_of : Ending → Result Ending CommandFault → Result ℕ CommandFault
+both_of first (Ok second) = Ok (max first.status second.status)
+both_of first (Err fault) = Err fault
+
+-- the search for stuck states has ended so, and without a fault the other then ended so
+abbrev pub GoesOn : Cycles → ExploreArgs → Tape → Tape → Result Ending CommandFault → Result Ending CommandFault → Type 0
+GoesOn cycles args mid now (Err fault) end = (now ≡ mid) × (end ≡ Err fault)
+GoesOn cycles args mid now (Ok first) end = (second : Result Ending CommandFault) × StarvingEnds cycles args mid now second × (outcome end ≡ both_of first second)
+
+-- how `explore --stuck --starving` ends: it writes both answers
+pub record BothEnd (cycles : Cycles) (args : ExploreArgs) (before now : Tape) (end : Result Ending CommandFault) : Type 0 where
+  pub mid : Tape
+  pub first : Result Ending CommandFault
+  pub stuck : StuckEnds args before mid first
+  pub starving : GoesOn cycles args mid now first end
+
+-- with `--stuck` and `--starving`, one of them, or neither
+abbrev pub EndsBy : Bool → Option Cycles → ExploreArgs → Tape → Tape → Result Ending CommandFault → Type 0
+EndsBy true (Some cycles) args before now end = BothEnd cycles args before now end
+EndsBy true None args before now end = StuckEnds args before now end
+EndsBy false (Some cycles) args before now end = StarvingEnds cycles args before now end
+EndsBy false None args before now end = ShortestEnds args before now end
 
 -- how `explore` ends
 abbrev pub ExploreEnds : ExploreArgs → Tape → Tape → Result Ending CommandFault → Type 0
-ExploreEnds args before now end = EndsBy args.stuck args before now end
+ExploreEnds args before now end = EndsBy args.stuck args.starving args before now end

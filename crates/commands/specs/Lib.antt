@@ -14,6 +14,7 @@ pub mod Lines
 pub mod Replays
 pub mod Settings
 pub mod Shrinks
+pub mod Starving
 pub mod Statuses
 pub mod Tellings
 pub mod Commands

@@ -1,12 +1,13 @@
 //! The command `explore` on an algorithm's text.
 
 ghost use Rattle.std.specs.Prelude.{◌≡◌, false, IfErr, IfOk, OnOk};
-ghost use Rattle.commands.specs.AlgorithmExplores.{AlgorithmExploreEnds, ExploresAlgorithm, calls_of as calls_asked, schedule_of as schedule_by};
+ghost use Rattle.commands.specs.AlgorithmExplores.{AlgorithmExploreEnds, ExploresAlgorithm, SearchEnds, calls_had, calls_of as calls_asked, schedule_of as schedule_by};
 ghost use Rattle.commands.specs.AlgorithmFindings.{line_by, world_call};
 ghost use Rattle.commands.specs.Endings.{FailsToWrite, IsEnded};
 ghost use Rattle.schedule.specs.Schedules.{spelling};
 ghost use Rattle.schedule.specs.Tapes.{Writes};
 
+use crate::algorithm_starving::tell_starving;
 use crate::exploring::{put_call, tell_all, tell_within};
 use crate::progress::meter::Meter;
 use crate::progress::screen::Screen;
@@ -18,16 +19,36 @@ use crate::schedules::telling::tell_schedule;
 use algorithm_explorer::{
     AlgorithmBounds, AlgorithmExploreFault, Move, SearchOutcome, shortest_algorithm_schedule,
 };
-use algorithms::{Algorithm, Call};
+use algorithms::{Algorithm, Call, Entries};
 use cli::arguments::args::{AlgorithmCalls, AlgorithmExploreArgs};
 use rmeworld::Call as WorldCall;
 use schedule::{Count, Line, Schedule, Sink};
 use std::alloc::{AllocError, Global};
 
-/// The calls that the search starts, always in this order.
-fn calls_of(alloc: Global, asked: AlgorithmCalls) -> Result<Vec<Call>, AllocError>
-    ensures { IfOk result (λ calls. calls.items ≡ calls_asked asked) }
+/// The calls that a text has.
+fn calls_had(entries: &Entries) -> AlgorithmCalls
+    ensures { result ≡ calls_had entries.now }
 {
+    AlgorithmCalls {
+        lock: true,
+        unlock: true,
+        recover: entries.recover.is_some(),
+        withdraw: entries.withdraw.is_some(),
+    }
+}
+
+/// The calls that the search starts, always in this order.
+pub(crate) fn calls_of(
+    alloc: Global,
+    algorithm: &Algorithm,
+    args: &AlgorithmExploreArgs,
+) -> Result<Vec<Call>, AllocError>
+    ensures { IfOk result (λ calls. calls.items ≡ calls_asked algorithm.now args.now) }
+{
+    let asked = match args.calls {
+        Some(asked) => asked,
+        None => calls_had(&algorithm.entries),
+    };
     let mut calls = Vec::new(alloc);
     put_call(&mut calls, asked.lock, Call::Lock)?;
     put_call(&mut calls, asked.unlock, Call::Unlock)?;
@@ -60,7 +81,7 @@ fn line_of_move(made: &Move) -> Line
 }
 
 /// The moves as a schedule.
-fn schedule_of(
+pub(crate) fn schedule_of(
     alloc: Global,
     args: &AlgorithmExploreArgs,
     path: &[Move],
@@ -110,7 +131,7 @@ fn tell_shortest<S: Screen, W: Sink>(
         moves: args.moves,
         states: args.states,
     };
-    let calls = calls_of(alloc, args.calls)?;
+    let calls = calls_of(alloc, &algorithm, args)?;
     let mut meter = Meter::new(screen, Work::Search);
     let found = shortest_algorithm_schedule(
         alloc,
@@ -133,10 +154,28 @@ fn tell_shortest<S: Screen, W: Sink>(
     }
 }
 
+/// Writes the schedule of fewest moves of the algorithm that goes wrong, or with `--starving` in which a process starves, or that
+/// there is none.
+fn search_algorithm<S: Screen, W: Sink>(
+    alloc: Global,
+    algorithm: Algorithm,
+    args: &AlgorithmExploreArgs,
+    screen: &mut S,
+    w: &mut W,
+) -> Result<Ending, CommandFault>
+    ensures ends { SearchEnds args.now.starving algorithm args.now (W.tape w.old) (W.tape w.new) result }
+    ensures ended { IfOk result (IsEnded false (W.tape w.old).failures (W.tape w.new).failures) }
+{
+    match args.starving {
+        Some(cycles) => tell_starving(alloc, algorithm, args, cycles, screen, w),
+        None => tell_shortest(alloc, algorithm, args, screen, w),
+    }
+}
+
 /// Runs `explore --algorithm`: reads the algorithm from its text, searches its schedules in this thread, and writes the schedule
-/// of fewest moves that goes wrong, or that there is none. Progress is shown on the screen. `Algorithm`: the text's fault.
-/// `BadSize`: the algorithm is not for this number of processes, or the limit is outside its range. `TooManyStates`: the search
-/// reached more states than it may keep.
+/// of fewest moves that goes wrong, or with `--starving` in which a process starves, or that there is none. Progress is shown on
+/// the screen. `Algorithm`: the text's fault. `BadSize`: the algorithm is not for this number of processes, or the limit is outside
+/// its range. `TooManyStates`: the search reached more states than it may keep.
 #[tactic(auto, using(crate::proofs::AlgorithmTexts::no_algorithm_alone))]
 pub fn algorithm_explore_command<S: Screen, W: Sink>(
     alloc: Global,
@@ -149,5 +188,5 @@ pub fn algorithm_explore_command<S: Screen, W: Sink>(
     ensures ended { IfOk result (IsEnded false (W.tape w.old).failures (W.tape w.new).failures) }
 {
     let algorithm = algorithm_read(alloc, text.unwrap_or(&[]))?;
-    tell_shortest(alloc, algorithm, args, screen, w)
+    search_algorithm(alloc, algorithm, args, screen, w)
 }

@@ -16,6 +16,7 @@ use crate::schedules::ending::Ending;
 use crate::schedules::fault::CommandFault;
 use crate::schedules::line::line_around;
 use crate::schedules::telling::tell_schedule;
+use crate::starving::{tell_both, tell_starving};
 use crate::stuck::tell_stuck;
 use cli::arguments::args::ExploreArgs;
 use lock_explorer::{
@@ -103,7 +104,11 @@ fn line_of_move(made: &Move) -> Line
 }
 
 /// The moves as a schedule.
-fn schedule_of(alloc: Global, args: &ExploreArgs, path: &[Move]) -> Result<Schedule, CommandFault>
+pub(crate) fn schedule_of(
+    alloc: Global,
+    args: &ExploreArgs,
+    path: &[Move],
+) -> Result<Schedule, CommandFault>
     ensures schedule { IfOk result (λ schedule. schedule ≡ schedule_by args.now path.now) }
     ensures failed { IfErr result (λ fault. fault ≡ CommandFault.OutOfMemory) }
 {
@@ -238,8 +243,8 @@ fn tell_shortest<T: Threads + Sync, S: Screen, W: Sink>(
 }
 
 /// Runs `explore`: writes the schedule of fewest moves that was found, or that there is none; with `--stuck` also one to a stuck
-/// state. Progress is shown on the screen. `BadSize`: a size is outside its limits. `TooManyStates`: the search reached more
-/// states than it may keep.
+/// state, and with `--starving` one in which a process starves. Progress is shown on the screen. `BadSize`: a size is outside its
+/// limits. `TooManyStates`: the search reached more states than it may keep.
 pub fn explore_command<T: Threads + Sync, S: Screen, W: Sink>(
     rt: &T,
     alloc: Global,
@@ -250,8 +255,10 @@ pub fn explore_command<T: Threads + Sync, S: Screen, W: Sink>(
     ensures ends { ExploreEnds args.now (W.tape w.old) (W.tape w.new) result }
     ensures ended { IfOk result (IsEnded false (W.tape w.old).failures (W.tape w.new).failures) }
 {
-    if args.stuck {
-        return tell_stuck(alloc, args, screen, w);
+    match args.starving {
+        Some(cycles) if args.stuck => tell_both(alloc, args, cycles, screen, w),
+        Some(cycles) => tell_starving(alloc, args, cycles, screen, w),
+        None if args.stuck => tell_stuck(alloc, args, screen, w),
+        None => tell_shortest(rt, alloc, args, screen, w),
     }
-    tell_shortest(rt, alloc, args, screen, w)
 }

@@ -4,6 +4,7 @@
 pub mod algorithm_exploring;
 pub mod algorithm_fault;
 pub mod algorithm_hunting;
+mod algorithm_starving;
 pub mod command;
 pub mod disk;
 pub mod exploring;
@@ -14,6 +15,7 @@ pub mod progress;
 pub mod running;
 pub mod schedules;
 pub mod sessions;
+mod starving;
 mod stuck;
 pub mod tally;
 

@@ -1,1 +1,2 @@
 mod Pours
+mod Movers

@@ -7,5 +7,10 @@ mod scarce_memory;
 mod schedules;
 #[cfg(test)]
 mod searches;
+pub mod spins;
+#[cfg(test)]
+mod starving;
+#[cfg(test)]
+mod starving_worlds;
 #[cfg(test)]
 mod stuck;

@@ -29,6 +29,63 @@ call unlock
   done
 ";
 
+pub const BURNS: &[u8] = br"# Burns and Lynch 1993: one bit a process. A process may starve.
+algorithm burns for 2 to 64 processes
+promises exclusion
+
+shared flag[procs] up to 1
+
+call lock
+start:
+  flag[me] := 0
+  for j in lower
+    f := flag[j]
+    if f = 1 then goto start
+  end
+  flag[me] := 1
+  for j in lower
+    f := flag[j]
+    if f = 1 then goto start
+  end
+  for j in higher
+    await f := flag[j] until f = 0
+  end
+  this is enter
+  done
+
+call unlock
+  flag[me] := 0                         this is leave
+  done
+";
+
+pub const DEKKER: &[u8] = br"# Dekker 1965, for two.
+algorithm dekker for 2 processes
+promises exclusion
+
+shared flag[procs] up to 1
+shared turn up to 1
+
+call lock
+  flag[me] := 1
+again:
+  f := flag[1 - me]
+  if f = 0 then goto in_now
+  t := turn
+  if t = me then goto again
+  flag[me] := 0
+  await t := turn until t = me
+  flag[me] := 1
+  goto again
+in_now:
+  this is enter
+  done
+
+call unlock
+  turn := 1 - me
+  flag[me] := 0                         this is leave
+  done
+";
+
 pub const FORGETFUL_PETERSON: &[u8] =
     br"# recoverable-peterson with one value less: after a crash nothing tells whether turn was given away.
 algorithm forgetful_peterson for 2 processes
@@ -99,6 +156,23 @@ call unlock
   done
 ";
 
+pub const NO_TURN: &[u8] = br"# peterson without the turn: both may wait for each other for ever.
+algorithm no_turn for 2 processes
+promises exclusion
+
+shared flag[procs] up to 1
+
+call lock
+  flag[me] := 1
+  await f := flag[1 - me] until f = 0
+  this is enter
+  done
+
+call unlock
+  flag[me] := 0                         this is leave
+  done
+";
+
 pub const ONE_WORD: &[u8] = br"# Test, and then set: wrong at once.
 algorithm one_word for 1 to 64 processes
 promises exclusion
@@ -115,17 +189,16 @@ call unlock
   done
 ";
 
-pub const PETERSON_ORDER: &[u8] =
-    br"# Peterson 1981, for two, with its doorway: first come, first served, where nobody crashes.
-algorithm peterson_order for 2 processes
-promises exclusion, order
+pub const PETERSON: &[u8] = br"# Peterson 1981, for two. It is not recoverable: a crash shows it.
+algorithm peterson for 2 processes
+promises exclusion, reentry
 
 shared flag[procs] up to 1
 shared turn up to 1
 
 call lock
-  flag[me] := 1                         this is begin
-  turn := 1 - me                        this is ready
+  flag[me] := 1
+  turn := 1 - me
 again:
   f := flag[1 - me]
   if f = 0 then goto in_now
@@ -140,16 +213,17 @@ call unlock
   done
 ";
 
-pub const PETERSON: &[u8] = br"# Peterson 1981, for two. It is not recoverable: a crash shows it.
-algorithm peterson for 2 processes
-promises exclusion, reentry
+pub const PETERSON_ORDER: &[u8] =
+    br"# Peterson 1981, for two, with its doorway: first come, first served, where nobody crashes.
+algorithm peterson_order for 2 processes
+promises exclusion, order
 
 shared flag[procs] up to 1
 shared turn up to 1
 
 call lock
-  flag[me] := 1
-  turn := 1 - me
+  flag[me] := 1                         this is begin
+  turn := 1 - me                        this is ready
 again:
   f := flag[1 - me]
   if f = 0 then goto in_now

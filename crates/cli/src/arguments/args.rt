@@ -85,6 +85,15 @@ pub struct Alphabet {
     pub close: bool,
 }
 
+/// The cycles in which a search looks for a process that starves.
+#[derive(Clone, Copy, Debug, PartialEq, Eq)]
+pub enum Cycles {
+    /// Those in which nobody gives up.
+    Nobody,
+    /// All.
+    Any,
+}
+
 /// `explore`: tries all schedules up to a bound, the shorter before the longer.
 #[derive(Clone, Copy, Debug, PartialEq, Eq)]
 pub struct ExploreArgs {
@@ -102,9 +111,11 @@ pub struct ExploreArgs {
     pub width: u64,
     /// Whether it looks for stuck states, with no bound on the moves.
     pub stuck: bool,
-    /// Whether states are distinguished by dead variables too. A search for stuck states does so anyway.
+    /// The cycles in which it looks for a process that starves, with no bound on the moves.
+    pub starving: Option<Cycles>,
+    /// Whether states are distinguished by dead variables too. A search for stuck states or for starvation does so anyway.
     pub all_variables: bool,
-    /// How many threads expand the states; 0: as many as there are processors. A search for stuck states has one.
+    /// How many threads expand the states; 0: as many as there are processors. A search for stuck states or for starvation has one.
     pub jobs: u64,
 }
 
@@ -123,7 +134,8 @@ pub struct AlgorithmExploreArgs {
     /// The file of the algorithm's text.
     pub algorithm: String,
     pub procs: u64,
-    pub calls: AlgorithmCalls,
+    /// Without it: the calls that the text has.
+    pub calls: Option<AlgorithmCalls>,
     /// The most crashes of a schedule.
     pub crashes: u64,
     /// The most moves of a schedule.
@@ -131,6 +143,8 @@ pub struct AlgorithmExploreArgs {
     /// The most states that are kept.
     pub states: u64,
     pub limit: u64,
+    /// The cycles in which it looks for a process that starves, with no bound on the moves.
+    pub starving: Option<Cycles>,
 }
 
 /// `judge`: judges a trace of deeds.

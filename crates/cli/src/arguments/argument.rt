@@ -2,34 +2,36 @@
 
 ghost use Rattle.std.specs.Prelude.{◌≡◌, false, codes, Some};
 ghost use Rattle.clap.specs.Words.{rule_of};
-ghost use Rattle.cli.specs.CommandLine.{action_of_form, algorithm, flag, option, number, word, variant, required, rule_of_argument, rule_of_form};
+ghost use Rattle.cli.specs.CommandLine.{action_of_form, algorithm, flag, option, number, starving, word, variant, required, rule_of_argument, rule_of_form};
 
 use clap::{Arg, ArgAction, value_parser};
 use std::alloc::Global;
 
 /// How an argument is written.
 #[derive(Clone, Copy)]
-pub enum Form {
+pub enum Form<'a> {
     /// `--name`.
     Flag,
     /// `--name VALUE`, the value a text.
     Text,
     /// `--name VALUE`, the value a number.
     Number,
+    /// `--name` or `--name VALUE`: without a value it has this one.
+    Optional(&'a str),
     /// A word alone.
     Word,
     /// All words that are left.
     Words,
 }
 
-impl Form {
+impl Form<'_> {
     /// What is done with a value.
     fn action(self) -> ArgAction
-        ensures { result ≡ action_of_form self }
+        ensures { result ≡ action_of_form self.entry }
     {
         match self {
             Form::Flag => ArgAction::SetTrue,
-            Form::Text | Form::Number | Form::Word => ArgAction::Set,
+            Form::Text | Form::Number | Form::Optional(_) | Form::Word => ArgAction::Set,
             Form::Words => ArgAction::Append,
         }
     }
@@ -38,7 +40,7 @@ impl Form {
 /// An argument of a command.
 #[derive(Clone, Copy)]
 pub struct Argument<'a> {
-    form: Form,
+    form: Form<'a>,
     name: &'a str,
     /// The name of its value in the help.
     value: &'a str,
@@ -48,8 +50,8 @@ pub struct Argument<'a> {
 
 impl<'a> Argument<'a> {
     /// An argument that can be left out.
-    pub fn new(form: Form, name: &'a str, value: &'a str, help: &'a str) -> Argument<'a>
-        ensures { rule_of_argument result ≡ record (rule_of_form form name.entry.now) { required = false } }
+    pub fn new(form: Form<'a>, name: &'a str, value: &'a str, help: &'a str) -> Argument<'a>
+        ensures { rule_of_argument result ≡ record (rule_of_form form.entry name.entry.now) { required = false } }
     {
         Argument {
             form,
@@ -114,6 +116,15 @@ impl<'a> Argument<'a> {
         Argument::text("algorithm", "FILE", help)
     }
 
+    /// `--starving` or `--starving WHO`: who may give up.
+    pub fn starving() -> Argument<'a>
+        ensures { rule_of_argument result ≡ starving }
+    {
+        let help =
+            "Look for a process that starves; WHO may give up: nobody, as without it, or any; not with --moves";
+        Argument::new(Form::Optional("nobody"), "starving", "WHO", help)
+    }
+
     /// `--image FILE`.
     pub fn image() -> Argument<'a>
         ensures { rule_of_argument result ≡ option (codes "image") }
@@ -131,7 +142,7 @@ impl<'a> Argument<'a> {
     }
 
     /// The `clap` argument, as one that can be left out.
-    fn optional(self, alloc: Global) -> Arg<'a>
+    fn arg_of_form(self, alloc: Global) -> Arg<'a>
         ensures rule { rule_of result ≡ rule_of_form self.entry.form self.entry.name.now }
         ensures local { result.global ≡ false }
     {
@@ -142,6 +153,10 @@ impl<'a> Argument<'a> {
             Form::Flag => arg.long(self.name),
             Form::Text => self.option(arg),
             Form::Number => self.option(arg).value_parser(value_parser!(u64)),
+            Form::Optional(without) => self
+                .option(arg)
+                .num_args(0..=1)
+                .default_missing_value(without),
             Form::Word | Form::Words => arg,
         }
     }
@@ -151,6 +166,6 @@ impl<'a> Argument<'a> {
         ensures rule { rule_of result ≡ rule_of_argument self.entry }
         ensures local { result.global ≡ false }
     {
-        self.optional(alloc).required(self.required)
+        self.arg_of_form(alloc).required(self.required)
     }
 }

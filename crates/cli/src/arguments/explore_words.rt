@@ -1,22 +1,20 @@
 //! Reads the words of `explore`.
 
-ghost use Rattle.std.specs.Prelude.{◌≡◌, ◌↔◌, ◌==◌, true, map, Some, IfOk, IfErr, IsNone, OnOk, OnErr, IsErrOf, codes};
-ghost use Rattle.std.specs.List.{list_all, slice_split};
+ghost use Rattle.std.specs.Prelude.{◌≡◌, ◌↔◌, ◌≢◌, true, map, Some, IfOk, IfErr, IfSome, IsNone, IsSome, OnOk, OnErr, IsErrOf, codes};
+ghost use Rattle.std.specs.List.{list_all};
 ghost use Rattle.clap.specs.Words.{first_of};
-ghost use Rattle.cli.specs.Given.{given_in, is_set, has_call, is_call, alphabet_of, is_algorithm_call, algorithm_calls_of, calls_of};
-ghost use Rattle.cli.specs.ReadWords.{IsAlgorithmSearch, IsFaultOfAlgorithmCalls, IsFaultOfCalls, IsStuckWithin, Reads};
+ghost use Rattle.cli.specs.Given.{given_in, is_set, has_call, is_call, alphabet_of, is_algorithm_call, algorithm_calls_of, algorithm_calls_in as algorithm_calls_asked, are_algorithm_calls, calls_of, calls_without, names_in, word_of_cycles, AsksForCycles};
+ghost use Rattle.cli.specs.ReadWords.{IsAlgorithmSearch, IsBadStarving, IsFaultOfAlgorithmCalls, IsFaultOfCalls, IsStuckWithin, Reads};
+ghost use Rattle.cli.specs.declared.arguments.args.Cycles.{Cycles as AnyCycles};
 
 use crate::arguments::args::{
-    AlgorithmCalls, AlgorithmExploreArgs, Alphabet, Command, ExploreArgs,
+    AlgorithmCalls, AlgorithmExploreArgs, Alphabet, Command, Cycles, ExploreArgs,
 };
 use crate::arguments::words::{
     WordsFault, is_given, is_set, number_of, number_or, str_of, variant_of, without_lock,
 };
 use clap::ArgMatches;
 use std::alloc::{AllocError, Global};
-
-/// The calls that a search starts, where none are given.
-const DEFAULT_CALLS: &str = "lock,unlock";
 
 /// Whether a search can start this call.
 fn is_call(name: &str) -> bool
@@ -47,7 +45,7 @@ fn are_calls(calls: &[&str]) -> bool
 
 /// The calls of this list, which has commas between them.
 fn calls_in(alloc: Global, list: &str) -> Result<Vec<&str>, AllocError>
-    ensures { IfOk result (λ calls. map (λ call. call.now) calls.items ≡ slice_split (λ byte. byte == 44) list.now) }
+    ensures { IfOk result (λ calls. map (λ call. call.now) calls.items ≡ names_in list.now) }
 {
     list.split(',').collect(alloc)
 }
@@ -67,13 +65,25 @@ fn alphabet_in(calls: &[&str]) -> Alphabet
     }
 }
 
+/// The calls that a search of a variant starts, where none are given.
+fn calls_without(stuck: bool) -> &'static str
+    ensures { result.now ≡ calls_without stuck }
+{
+    if stuck {
+        "lock,unlock,consistent"
+    } else {
+        "lock,unlock"
+    }
+}
+
 #[tactic(auto, using(crate::proofs::Reading::all_calls))]
 fn alphabet_of(alloc: Global, matches: &ArgMatches<'_>) -> Result<Alphabet, WordsFault>
     ensures ok { IfOk result (λ calls. calls ≡ alphabet_of (calls_of (given_in matches.now))) }
     ensures known { OnOk result (list_all is_call (calls_of (given_in matches.now)) ≡ true) }
     ensures bad { IfErr result (IsFaultOfCalls (given_in matches.now)) }
 {
-    let calls = calls_in(alloc, str_of(matches, "calls").unwrap_or(DEFAULT_CALLS))?;
+    let without = calls_without(is_set(matches, "stuck"));
+    let calls = calls_in(alloc, str_of(matches, "calls").unwrap_or(without))?;
     if !are_calls(&calls) {
         return Err(WordsFault::BadSize);
     }
@@ -91,6 +101,36 @@ fn stuck_of(matches: &ArgMatches<'_>) -> Result<bool, WordsFault>
         return Err(WordsFault::BadSize);
     }
     Ok(stuck)
+}
+
+/// The cycles of this name.
+fn cycles_named(name: &str) -> Option<Cycles>
+    ensures some { IfSome result (λ cycles. word_of_cycles cycles ≡ name.now) }
+    ensures none { IsNone result → (cycles : AnyCycles) → word_of_cycles cycles ≢ name.now }
+{
+    match name {
+        "nobody" => Some(Cycles::Nobody),
+        "any" => Some(Cycles::Any),
+        _ => None,
+    }
+}
+
+/// The cycles in which a search looks for a process that starves. It does so without a bound on moves.
+fn starving_of(matches: &ArgMatches<'_>) -> Result<Option<Cycles>, WordsFault>
+    ensures ok { IfOk result (AsksForCycles (given_in matches.now)) }
+    ensures unbounded { IfOk result (λ cycles. IsSome cycles → IsNone (first_of (codes "moves") (given_in matches.now))) }
+    ensures bad { OnErr result (IsErrOf result WordsFault.BadSize × IsBadStarving (given_in matches.now)) }
+{
+    let Some(name) = str_of(matches, "starving") else {
+        return Ok(None);
+    };
+    if str_of(matches, "moves").is_some() {
+        return Err(WordsFault::BadSize);
+    }
+    match cycles_named(name) {
+        Some(cycles) => Ok(Some(cycles)),
+        None => Err(WordsFault::BadSize),
+    }
 }
 
 /// Whether a search of an algorithm can start this call.
@@ -123,17 +163,24 @@ fn algorithm_calls_in(calls: &[&str]) -> AlgorithmCalls
     }
 }
 
+/// The calls of an algorithm that a search starts, where they are given.
 #[tactic(auto, using(crate::proofs::Reading::all_algorithm_calls))]
-fn algorithm_calls_of(alloc: Global, matches: &ArgMatches<'_>) -> Result<AlgorithmCalls, WordsFault>
-    ensures ok { IfOk result (λ calls. calls ≡ algorithm_calls_of (calls_of (given_in matches.now))) }
-    ensures known { OnOk result (list_all is_algorithm_call (calls_of (given_in matches.now)) ≡ true) }
+fn algorithm_calls_of(
+    alloc: Global,
+    matches: &ArgMatches<'_>,
+) -> Result<Option<AlgorithmCalls>, WordsFault>
+    ensures ok { IfOk result (λ calls. calls ≡ algorithm_calls_asked (given_in matches.now)) }
+    ensures known { OnOk result (are_algorithm_calls (given_in matches.now) ≡ true) }
     ensures bad { IfErr result (IsFaultOfAlgorithmCalls (given_in matches.now)) }
 {
-    let calls = calls_in(alloc, str_of(matches, "calls").unwrap_or(DEFAULT_CALLS))?;
+    let Some(list) = str_of(matches, "calls") else {
+        return Ok(None);
+    };
+    let calls = calls_in(alloc, list)?;
     if !are_algorithm_calls(&calls) {
         return Err(WordsFault::BadSize);
     }
-    Ok(algorithm_calls_in(&calls))
+    Ok(Some(algorithm_calls_in(&calls)))
 }
 
 /// The error text for an option that a search of an algorithm does not have.
@@ -181,6 +228,7 @@ fn algorithm_words(
         moves: number_or(matches, "moves", u64::MAX),
         states: number_or(matches, "states", 10_000_000),
         limit: number_or(matches, "limit", 4),
+        starving: starving_of(matches)?,
     }))
 }
 
@@ -205,6 +253,7 @@ fn variant_words(alloc: Global, matches: &ArgMatches<'_>) -> Result<Command, Wor
         cap: number_or(matches, "cap", 1),
         width: number_or(matches, "width", 1),
         stuck: stuck_of(matches)?,
+        starving: starving_of(matches)?,
         all_variables: is_set(matches, "all-variables"),
         jobs: number_of(matches, "jobs"),
     }))

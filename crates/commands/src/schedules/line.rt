@@ -4,6 +4,7 @@ ghost use Rattle.std.specs.Prelude.{◌≡◌, ◌+◌, ◌≤◌, ◌++◌, ◌
 ghost use Rattle.std.specs.Fmt.{decimal};
 ghost use Rattle.commands.specs.AlgorithmFaults.{number_of_text_fault, sentence_of};
 ghost use Rattle.commands.specs.Lines.{fault_line, IsTold};
+ghost use Rattle.commands.specs.Starving.{starves_line as starves_line_by};
 ghost use Rattle.commands.specs.Statuses.{status_of};
 
 use crate::algorithm_fault::{number_of_text_fault, sentence_of};
@@ -58,6 +59,17 @@ pub fn line_around(before: &str, number: u64, after: &str) -> ArrayString<128>
     let mut line = ArrayString::new();
     put(&mut line, before, number);
     line.push_str(after);
+    line
+}
+
+/// The line that tells whose call starves, and how many moves of the schedule before it are the cycle.
+pub(crate) fn starves_line(process: u64, cycle: u64) -> ArrayString<128>
+    ensures { result.bytes ≡ starves_line_by process cycle }
+{
+    let mut line = ArrayString::new();
+    put(&mut line, "starves ", process);
+    put(&mut line, " cycle ", cycle);
+    line.push_str("\n");
     line
 }
 

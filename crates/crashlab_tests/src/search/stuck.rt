@@ -99,7 +99,7 @@ fn lock_answers(
 #[test]
 fn the_lock_is_never_stuck(rt: HostRuntime) {
     let alloc = rt.alloc();
-    let calls = [Call::Lock, Call::Unlock];
+    let calls = [Call::Lock, Call::Unlock, Call::Consistent];
     let sizes = |states| Sizes {
         procs: 2,
         limit: 4,
@@ -109,40 +109,46 @@ fn the_lock_is_never_stuck(rt: HostRuntime) {
     assert!(rt;
         lock_answers(
             alloc,
-            sizes(7_729),
+            sizes(7_913),
             &calls,
-            Ok(StuckOutcome::NeverStuck(7_729))
+            Ok(StuckOutcome::NeverStuck(7_913))
         )
     );
     assert!(rt;
         lock_answers(
             alloc,
-            sizes(7_728),
+            sizes(7_912),
             &calls,
             Err(ExploreFault::TooManyStates)
         )
     );
 }
 
-/// Without `unlock` the process that has the lock can't let go of it.
-#[test]
-fn without_unlock_the_lock_is_stuck(rt: HostRuntime) {
+/// Whether a search of one process, with these calls and at most this many crashes, finds these moves to a stuck state.
+fn is_stuck_after(alloc: Global, crashes: u64, calls: &[Call], moves: &[Move]) -> bool {
     let sizes = Sizes {
         procs: 1,
         limit: 1,
-        crashes: 0,
+        crashes,
         states: 1_000,
     };
-    let is_so = match Vec::from_slice(rt.alloc(), &[Move::Start(0, Call::Lock)]) {
-        Ok(path) => {
-            lock_answers(
-                rt.alloc(),
-                sizes,
-                &[Call::Lock],
-                Ok(StuckOutcome::Stuck(path)),
-            )
-        }
+    match Vec::from_slice(alloc, moves) {
+        Ok(path) => lock_answers(alloc, sizes, calls, Ok(StuckOutcome::Stuck(path))),
         Err(_) => false,
-    };
-    assert!(rt; is_so);
+    }
+}
+
+/// Without `unlock` the process that has the lock can't let go of it.
+#[test]
+fn without_unlock_the_lock_is_stuck(rt: HostRuntime) {
+    assert!(rt; is_stuck_after(rt.alloc(), 0, &[Call::Lock], &[Move::Start(0, Call::Lock)]));
+}
+
+/// Without `consistent` a process that crashed inside can go home only by an unlock that ruins the lock.
+#[test]
+fn without_consistent_the_lock_is_stuck(rt: HostRuntime) {
+    let mut moves = [Move::Step(0); 9];
+    moves[0] = Move::Start(0, Call::Lock);
+    moves[8] = Move::Crash(0);
+    assert!(rt; is_stuck_after(rt.alloc(), 1, &[Call::Lock, Call::Unlock], &moves));
 }

@@ -119,7 +119,7 @@ Options:
       --variant <V>       right, no-look, no-ties, renumber, exit-on-crash, count-up or last-skipped
       --algorithm <FILE>  Run this algorithm, a text, in place of a variant
       --procs <N>         1 to 64 processes
-      --calls <LIST>      lock, unlock, recover, withdraw, and of a variant consistent, append and close, with commas; lock,unlock without it
+      --calls <LIST>      lock, unlock, recover, withdraw, and of a variant consistent, append and close, with commas; without it lock,unlock, with --stuck consistent too, and of an algorithm the calls of its text
       --crashes <C>       At most C crashes; 0 without it
       --moves <K>         At most K moves; no bound without it
       --states <S>        At most S states; 10000000 without it
@@ -127,14 +127,15 @@ Options:
       --cap <M>           Room for M messages; 1 without it; not with --algorithm
       --width <W>         1 to 8 words a message; 1 without it; not with --algorithm
       --stuck             Look for stuck states too; not with --moves or --algorithm
+      --starving [<WHO>]  Look for a process that starves; WHO may give up: nobody, as without it, or any; not with --moves
       --all-variables     Distinguish states by dead variables too; not with --algorithm
       --jobs <N>          N threads at once; without it, or 0, as many as there are processors
   -h, --help              Print help
 
-In: nothing; with --algorithm the algorithm's text: docs/use/algorithms.md. All schedules are tried whose moves are the start of a call of --calls, one step, or a crash, of which there are at most --crashes: the shorter before the longer. Two worlds are one state where their words, their processes, the judge and the crashes left are the same. Of a process those variables count that a move may still read; all do with --all-variables or --stuck. An algorithm is searched by one thread.
-Out: the schedule of fewest moves that goes wrong, which `rmelab replay` with the same --variant or --algorithm replays to its fault; `nothing found within K moves`; or, where all was tried, `nothing found: all N states`. With --stuck, where none goes wrong: the schedule of fewest moves to a state from which no starts and steps bring each process to rest with all lock words 0, which replays to a fine verdict; or `never stuck: all N states`. Nothing is said of a greater size, limit or number of crashes.
-Shown: on standard error, where that is a terminal, the states, how many moves deep and the states a second, once a second while it works.
-Exit status: 0 where nothing was found, 1 where a schedule was, 2 after a fault of the words or the algorithm, 3 after one of a device or of memory, or where there are more states than --states.
+In: nothing; with --algorithm the algorithm's text: docs/use/algorithms.md. All schedules are tried whose moves are the start of a call of --calls, one step, or a crash, of which there are at most --crashes: the shorter before the longer. Two worlds are one state if their words, their processes, the judge and the crashes left are the same; with --starving the judge is left out. Of a process those variables count that a move may still read; all do with --all-variables, --stuck or, of a variant, --starving. An algorithm is searched by one thread.
+Out: the schedule of fewest moves that goes wrong, which `rmelab replay` with the same --variant or --algorithm replays to its fault; `nothing found within K moves`; or, if all was tried, `nothing found: all N states`; of an algorithm with moves to values out of range `nothing found: all N states, M moves left out from line L`. With --stuck, if none goes wrong: the schedule of fewest moves to a state from which no starts and steps bring each process to rest with all lock words 0, unless by an unlock that ruins the lock; it replays to a fine verdict; or `never stuck: all N states`. With --starving, whatever goes wrong: a schedule of fewest moves that ends with a cycle in which a process starves, and the line `starves P cycle K`: process P, in the last K moves; or `never starving: all N states`. With --stuck and --starving: both. Nothing is said of a greater size, limit or number of crashes.
+Shown: on standard error, if that is a terminal, the states, how many moves deep and the states a second, once a second while it works.
+Exit status: 0 if nothing was found, 1 if a schedule was, 2 after a fault of the words or the algorithm, 3 after one of a device or of memory, or if there are more states than --states.
 
 Example: rmelab explore --variant no-look --procs 2
 @row rmelab judge --help @out JUDGE

@@ -12,15 +12,54 @@ step 0 8
 {"cap":2,"data":[0,0,0,1,0,1,77,0,0,0,0,0,0,0,0,0,0,0],"limit":10,"lock":[[0,1,1]],"version":2,"width":1}
 @text WIDE_TORN_IMAGE
 {"cap":1,"data":[0,0,0,1,0,1,7,8,9,0,0,0,0,0,0,0,0,0,0],"limit":10,"lock":[[0,1,1]],"version":2,"width":3}
+@text STEM
+rme 1 procs 2 limit 1 cap 1
+lock 0
+step 0 7
+@text STEM_AND_CYCLES
+rme 1 procs 2 limit 1 cap 1
+lock 0
+step 0 7
+lock 1
+step 1 4
+step 0
+step 1 2
+lock 1
+step 1 4
+step 0
+step 1 2
+@text STEM_IMAGE
+{"cap":1,"data":[0,0,0,0,0,0,0,0,0,0,0,0,0,0,0,0],"limit":1,"lock":[[0,1,0],[0,0,0]],"version":2,"width":1}
 @text REFUSED_9
 rmelab: line 1: refused 9
 @text RULE_1
 rmelab: image: rule 1
 "#;
 
+/// The stem of a search's lasso leaves the image that it leaves with the cycle twice after it: process 0 starves.
 /// The header has to name the image's sizes. A greater width widens the image. A broken image is refused with its rule.
 /// A line that is refused leaves no part of an object.
 const IMAGES: &str = r#"
+@row rmelab replay --save a.json @in STEM @saves a.json STEM_IMAGE @out
+begin 0
+ready 0
+words 0 0 1 0
+words 1 0 0 0
+mail 0 closed 0 ruined 0
+verdict fine
+@row rmelab replay --save a.json @in STEM_AND_CYCLES @saves a.json STEM_IMAGE @out
+begin 0
+ready 0
+begin 1
+quit 1
+answer 1 numbers-spent
+begin 1
+quit 1
+answer 1 numbers-spent
+words 0 0 1 0
+words 1 0 0 0
+mail 0 closed 0 ruined 0
+verdict fine
 @row rmelab replay --save a.json @in SMALLEST @out
 begin 0
 ready 0

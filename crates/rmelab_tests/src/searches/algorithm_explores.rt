@@ -6,7 +6,8 @@ use crate::support::invocation::{all_come_to, program_comes_to};
 use std::test::Fail;
 
 /// `TWO_AT_ONCE`: both read that nobody holds it before either has stored. `CRASH_INSIDE`: process 0 dies inside, comes back and
-/// gives way, and process 1 enters. `NO_MAILBOX`: the options of a variant's search alone.
+/// gives way, and process 1 enters. `STARVES`: process 1 sees the flag of process 0 each time. `NO_MAILBOX`: the options of a
+/// variant's search alone.
 pub const TEXTS: &str = "
 @text CRASH_INSIDE
 rme 1 procs 2 limit 1 cap 1
@@ -31,6 +32,34 @@ lock 1
 step 1
 step 0
 step 1
+@text STARVES
+rme 1 procs 2 limit 1 cap 1
+lock 1
+lock 0
+step 0
+step 0
+step 0
+unlock 0
+step 1
+step 1
+step 0
+starves 1 cycle 8
+@text STEM
+rme 1 procs 2 limit 1 cap 1
+lock 1
+@text STEM_AND_CYCLES
+rme 1 procs 2 limit 1 cap 1
+lock 1
+lock 0
+step 0 3
+unlock 0
+step 1 2
+step 0
+lock 0
+step 0 3
+unlock 0
+step 1 2
+step 0
 @text BAD_SIZE
 rmelab: bad size
 @text UNREAD
@@ -45,7 +74,8 @@ error: with '--algorithm <FILE>' there is no '--stuck', no '--all-variables', no
 For more information, try '--help'.
 ";
 
-/// Words that are refused open no file. A schedule that is found replays to its fault.
+/// Words that are refused open no file. A schedule that is found replays to its fault; the cycle of one that starves comes back to
+/// the same words each time.
 const SEARCHES_OF_ALGORITHMS: &str = "
 @row rmelab explore --algorithm a.lock --procs 2 --limit 1 @file a.lock NO_LOOK @out SHORTEST @ends 1
 @row rmelab explore --procs 2 --algorithm a.lock --limit 1 --moves 20 --calls unlock,lock --jobs 4 @file a.lock NO_LOOK @out SHORTEST @ends 1
@@ -53,12 +83,28 @@ const SEARCHES_OF_ALGORITHMS: &str = "
 @row rmelab explore --algorithm a.lock --procs 2 @file a.lock ONE_WORD @out TWO_AT_ONCE @ends 1
 @row rmelab explore --algorithm a.lock --procs 2 --limit 1 --moves 19 @file a.lock NO_LOOK @out
 nothing found within 19 moves
-@row rmelab explore --algorithm a.lock --procs 2 @file a.lock BAKERY_RUIN @out
+@row rmelab explore --algorithm a.lock --procs 2 --calls lock,unlock @file a.lock BAKERY_RUIN @out
 nothing found: all 925 states
+@row rmelab explore --algorithm a.lock --procs 2 @file a.lock BAKERY_RUIN @out
+nothing found: all 1741 states
+@row rmelab explore --algorithm a.lock --procs 2 --calls lock,unlock,recover,withdraw @file a.lock BAKERY_RUIN @out
+nothing found: all 1741 states
 @row rmelab explore --algorithm a.lock --procs 2 --states 58 @file a.lock PETERSON @out
 nothing found: all 58 states
 @row rmelab explore --algorithm a.lock --procs 2 --calls recover @file a.lock PETERSON @out
 nothing found: all 1 states
+@row rmelab explore --algorithm a.lock --procs 2 --limit 1 --starving @file a.lock BURNS @out STARVES @ends 1
+@row rmelab explore --algorithm a.lock --procs 2 --limit 1 --starving any --jobs 2 @file a.lock BURNS @out STARVES @ends 1
+@row rmelab explore --algorithm a.lock --procs 2 --limit 1 --starving nobody --states 58 @file a.lock PETERSON @out
+never starving: all 58 states
+@row rmelab explore --algorithm a.lock --procs 2 --limit 3 --starving @file a.lock BAKERY_1974 @out
+never starving: all 269 states
+@row rmelab explore --algorithm a.lock --procs 2 --starving some @ends 2 @err BAD_SIZE
+@row rmelab explore --algorithm a.lock --procs 2 --starving --moves 9 @ends 2 @err BAD_SIZE
+@row rmelab explore --algorithm a.lock --procs 3 --starving @file a.lock PETERSON @ends 2 @err BAD_SIZE
+@row rmelab explore --algorithm a.lock --procs 2 --states 57 --starving @file a.lock PETERSON @ends 3 @err
+rmelab: too many states
+@row rmelab explore --algorithm a.lock --procs 2 --stuck --starving @ends 2 @err NO_MAILBOX
 @row rmelab explore --procs 2 --algorithm a.lock --variant right @ends 2 @err BAD_VARIANT
 @row rmelab explore --procs 2 --variant wrong --algorithm a.lock --stuck @ends 2 @err BAD_VARIANT
 @row rmelab explore --procs 2 --algorithm a.lock --calls lock,append @ends 2 @err BAD_SIZE
@@ -77,6 +123,24 @@ rmelab: too many states
 algorithm a for 2 processes
 promises exclusion@err
 rmelab: algorithm line 2: fault 3: the last line is not ended by a line feed
+@row rmelab replay --algorithm a.lock @in STEM @file a.lock BURNS @out
+words flag 0 0
+verdict fine
+@row rmelab replay --algorithm a.lock @in STEM_AND_CYCLES @file a.lock BURNS @out
+begin 0
+ready 0
+enter 0
+answer 0 done
+leave 0
+answer 0 done
+begin 0
+ready 0
+enter 0
+answer 0 done
+leave 0
+answer 0 done
+words flag 0 0
+verdict fine
 @row rmelab replay --algorithm a.lock @in TWO_AT_ONCE @file a.lock ONE_WORD @ends 1 @out
 begin 0
 ready 0
@@ -107,6 +171,8 @@ const SEARCHES_OF_ALGORITHMS_WHERE_DEVICES_FAIL: &str = "
 @row rmelab explore --algorithm a.lock --procs 2 @file a.lock PETERSON @fails write @ends 3 @err UNWRITTEN
 @row rmelab explore --algorithm a.lock --procs 2 --moves 3 @file a.lock PETERSON @fails write @ends 3 @err UNWRITTEN
 @row rmelab explore --algorithm a.lock --procs 2 --limit 1 --crashes 1 @file a.lock PETERSON @fails write @ends 3 @err UNWRITTEN
+@row rmelab explore --algorithm a.lock --procs 2 --limit 1 --starving @file a.lock BURNS @fails write @ends 3 @err UNWRITTEN
+@row rmelab explore --algorithm a.lock --procs 2 --limit 1 --starving @file a.lock PETERSON @fails write @ends 3 @err UNWRITTEN
 @row rmelab explore --algorithm a.lock --procs 2 --limit 1 --crashes 1 @file a.lock PETERSON @fails flush @out CRASH_INSIDE @ends 3 @err UNWRITTEN
 ";
 

@@ -25,12 +25,13 @@ error: there is neither '--variant <V>' nor '--algorithm <FILE>'
 For more information, try '--help'.
 ";
 
-const ALGORITHMS: [(&str, &[u8]); 5] = [
+const ALGORITHMS: [(&str, &[u8]); 6] = [
     ("PETERSON", others::PETERSON),
     ("ONE_WORD", others::ONE_WORD),
     ("NO_LOOK", bakeries::NO_LOOK),
     ("BAKERY_RUIN", bakeries::BAKERY_RUIN),
     ("BAKERY_1974", others::BAKERY_1974),
+    ("BURNS", others::BURNS),
 ];
 
 /// A script of the texts of algorithms.

@@ -1,0 +1,122 @@
+//! Searches for a process that starves, against the numbers of the reference program: the process, how many moves the stem and the
+//! cycle have, or how many worlds there are. After the text a case has the sizes, the crashes, the calls beside lock and unlock, and
+//! `any` where anybody may give up.
+
+use crate::cases::{Kind, compare_cases};
+use crate::support::{number, text_named};
+use algorithm_explorer::{StarvingOutcome, Unwatched, starving_algorithm_schedule};
+use algorithms::{Call, read_algorithm};
+use std::alloc::Global;
+use std::fmt::Write;
+use std::test::Fail;
+
+const NOBODY: &str = "\
+== peterson 2 1 0 none\n--\n58 worlds\n\
+== recoverable_peterson 2 1 0 none\n--\n116 worlds\n\
+== dekker 2 1 0 none\n--\n134 worlds\n\
+== szymanski 2 1 0 none\n--\n86 worlds\n\
+== szymanski 3 1 0 none\n--\n1791 worlds\n\
+== bakery 2 3 0 none\n--\n527 worlds\n\
+== bakery_1974 2 3 0 none\n--\n269 worlds\n\
+== no_look 2 3 0 none\n--\n547 worlds\n\
+== peterson 2 1 1 none\n--\n266 worlds\n\
+== recoverable_peterson 2 1 1 none\n--\n432 worlds\n\
+== recoverable_peterson 2 1 2 withdraw\n--\n1194 worlds\n\
+== dekker 2 1 1 none\n--\n382 worlds\n\
+== szymanski 2 1 1 none\n--\n360 worlds\n\
+== bakery 2 3 1 none\n--\n2790 worlds\n\
+== bakery_1974 2 3 1 none\n--\n1253 worlds\n\
+";
+
+const SOMEBODY: &str = "\
+== burns 2 1 0 none\n--\n1 starves, stem 1, cycle 8\n\
+== burns 3 1 0 none\n--\n1 starves, stem 1, cycle 9\n\
+== no_turn 2 1 0 none\n--\n0 starves, stem 4, cycle 2\n\
+== lamport_fast 2 1 0 none\n--\n0 starves, stem 1, cycle 14\n\
+== one_word 2 1 0 none\n--\n0 starves, stem 1, cycle 6\n\
+== burns 2 1 1 none\n--\n1 starves, stem 1, cycle 8\n\
+== no_turn 2 1 1 none\n--\n0 starves, stem 4, cycle 2\n\
+== lamport_fast 2 1 1 none\n--\n0 starves, stem 11, cycle 1\n\
+== one_word 2 1 1 none\n--\n0 starves, stem 5, cycle 1\n\
+";
+
+/// Of the Bakery a process starves only where another gives up: it is out of numbers, or it withdraws or recovers.
+const QUITTERS: &str = "\
+== bakery 2 1 0 none\n--\n193 worlds\n\
+== bakery 2 1 0 none any\n--\n0 starves, stem 8, cycle 8\n\
+== bakery 2 3 0 none any\n--\n0 starves, stem 36, cycle 8\n\
+== bakery 2 2 0 withdraw\n--\n415 worlds\n\
+== bakery 2 2 0 withdraw any\n--\n0 starves, stem 8, cycle 11\n\
+== peterson 2 1 0 none any\n--\n58 worlds\n\
+";
+
+const AT_LENGTH: &str = "\
+== bakery 2 4 1 recover\n--\n7048 worlds\n\
+== bakery 2 4 1 recover any\n--\n0 starves, stem 15, cycle 5\n\
+== bakery 3 2 0 none\n--\n11071 worlds\n\
+== bakery 3 2 0 none any\n--\n1 starves, stem 18, cycle 10\n\
+";
+
+const CALLS: [Call; 3] = [Call::Lock, Call::Unlock, Call::Recover];
+
+const WITHDRAWS: [Call; 3] = [Call::Lock, Call::Unlock, Call::Withdraw];
+
+/// The calls of a case: lock and unlock, and another.
+fn calls_named(name: &str) -> &'static [Call] {
+    match name {
+        "recover" => &CALLS,
+        "withdraw" => &WITHDRAWS,
+        _ => &CALLS[..2],
+    }
+}
+
+/// A search, as a case: the text, the sizes, the crashes, the calls, and who may give up.
+pub fn put_starving(alloc: Global, words: &[&str; 8], text: &mut String) -> Result<(), Fail> {
+    let [name, procs, limit, crashes, calls, any, ..] = words;
+    let algorithm = read_algorithm(alloc, text_named(name))?;
+    let found = starving_algorithm_schedule(
+        alloc,
+        algorithm,
+        number(procs),
+        number(limit),
+        Some(number(crashes)),
+        calls_named(calls),
+        *any == "any",
+        100_000,
+        &mut Unwatched,
+    );
+    let written = match &found {
+        Ok(StarvingOutcome::Fault(moves)) => writeln!(text, "fault after {} moves", moves.len()),
+        Ok(StarvingOutcome::Starving(lasso)) => writeln!(
+            text,
+            "{} starves, stem {}, cycle {}",
+            lasso.process,
+            lasso.stem.len(),
+            lasso.cycle.len()
+        ),
+        Ok(StarvingOutcome::NeverStarving(states)) => writeln!(text, "{states} worlds"),
+        Err(fault) => writeln!(text, "{fault}"),
+    };
+    drop(found);
+    Ok(written?)
+}
+
+#[test]
+fn nobody_starves(rt: HostRuntime) -> Result<(), Fail> {
+    compare_cases(rt.alloc(), Kind::Starving, NOBODY)
+}
+
+#[test]
+fn somebody_starves(rt: HostRuntime) -> Result<(), Fail> {
+    compare_cases(rt.alloc(), Kind::Starving, SOMEBODY)
+}
+
+#[test]
+fn starving_beside_quitters(rt: HostRuntime) -> Result<(), Fail> {
+    compare_cases(rt.alloc(), Kind::Starving, QUITTERS)
+}
+
+#[test]
+fn starving_at_length(rt: HostRuntime) -> Result<(), Fail> {
+    compare_cases(rt.alloc(), Kind::Starving, AT_LENGTH)
+}

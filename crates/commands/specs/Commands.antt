@@ -13,7 +13,7 @@ use Rattle.schedule.specs.Words.{parts_of}
 use Rattle.schedule.specs.Tapes.{Tape, Writes, Reading}
 use Rattle.schedule.specs.Reports.{verdict_line}
 use Rattle.schedule.specs.TraceJudges.{trace_answer}
-use Rattle.schedule.specs.Wholes.{WasRead}
+use Rattle.schedule.specs.Wholes.{Silent, WasRead}
 use Rattle.schedule.specs.declared.replays.replay_fault.ReplayFault.{ReplayFault}
 use Rattle.schedule.specs.declared.replays.verdict.Verdict.{Verdict}
 use Rattle.crashlab.specs.Shrunk.{Shrinks}
@@ -34,11 +34,11 @@ use Rattle.commands.specs.AlgorithmReplays.{AlgorithmReplayEnds}
 use Rattle.commands.specs.AlgorithmSessions.{AlgorithmSessionEnds}
 use Rattle.commands.specs.AlgorithmShrinks.{AlgorithmShrinkEnds}
 use Rattle.commands.specs.Draws.{DrawEnds}
-use Rattle.commands.specs.Endings.{IsBroken, TellsReads}
+use Rattle.commands.specs.Endings.{Prints, ReadsNothing, RunsOut, TellsReads}
 use Rattle.commands.specs.Folders.{Used}
 use Rattle.commands.specs.Replays.{ReplayEnds}
 use Rattle.commands.specs.Shrinks.{ShrinkEnds}
-use Rattle.commands.specs.Statuses.{outcome, outcome_told, status_ended}
+use Rattle.commands.specs.Statuses.{fault_of_replay, outcome, status_after, status_ended}
 use Rattle.commands.specs.Explores.{ExploreEnds, nothing_line}
 
 -- a verdict as a line, or as a JSON object
@@ -46,43 +46,43 @@ abbrev pub verdict_told : Bool → Verdict → List ℕ
 verdict_told false verdict = verdict_line verdict
 verdict_told true verdict = verdict_object verdict
 
--- what is printed for a trace: its verdict, or nothing after a fault
-abbrev pub line_told : Bool → Result Verdict ReplayFault → List ℕ
-line_told json (Ok verdict) = verdict_told json verdict
-line_told json (Err fault) = []
+-- the line of a trace's verdict is written, or its fault is answered and nothing is written
+abbrev pub TellsVerdict : Bool → Result Verdict ReplayFault → Tape → Tape → Result Ending CommandFault → Type 0
+TellsVerdict json (Ok verdict) before now end = Prints (status_after verdict) (verdict_told json verdict) before now end
+TellsVerdict json (Err fault) before now end = (end ≡ Err (fault_of_replay fault)) × Silent before now
 
--- a trace was read to its end: the result is that of its text, whose line was written
+-- a trace was read to its end: the result is that of its text
 pub record TellsTrace (json : Bool) (old new : Reading) (before now : Tape) (end : Result Ending CommandFault) : Type 0 where
   pub text : List ℕ
   pub read : WasRead old new text
-  pub outcome_is : outcome end ≡ outcome_told (trace_answer (parts_of text))
-  pub line : Writes before now (line_told json (trace_answer (parts_of text)))
+  pub told : TellsVerdict json (trace_answer (parts_of text)) before now end
 
 -- how `judge` ends
 abbrev pub JudgeEnds : Bool → Reading → Reading → Tape → Tape → Result Ending CommandFault → Type 0
-JudgeEnds json old new before now end = (IsBroken end ⊎ TellsTrace json old new before now end) × TellsReads old new end
+JudgeEnds json old new before now end = ReadsNothing old new before now end ⊎ TellsTrace json old new before now end
 
 -- the schedule that was found is written, or a shrunk one
-abbrev pub TellsFound : Bool → Variant → Scheduled → Tape → Tape → Type 0
-TellsFound false variant found before now = Writes before now (spelling found)
-TellsFound true variant found before now = (least : Scheduled) × Shrinks variant found (Some least) × Writes before now (spelling least)
+abbrev pub TellsFound : Bool → Variant → Scheduled → Tape → Tape → Result Ending CommandFault → Type 0
+TellsFound false variant found before now end = Prints 1 (spelling found) before now end
+TellsFound true variant found before now end =
+    ((least : Scheduled) × Shrinks variant found (Some least) × Prints 1 (spelling least) before now end) ⊎ RunsOut before now end
 
--- a wrong variant fails on a schedule with at most the moves asked for, and the schedule was written
-pub record TellsFind (args : HuntArgs) (before now : Tape) : Type 0 where
+-- a wrong variant fails on a schedule with at most the moves asked for, and the schedule is written
+pub record TellsFind (args : HuntArgs) (before now : Tape) (end : Result Ending CommandFault) : Type 0 where
   pub wrong : args.variant ≢ Right
   pub schedule : Scheduled
   pub few : length schedule.lines ≤ args.steps
   pub found : IsFound args.variant schedule
   pub exact : Some schedule ≡ hunted args.variant args.seed args.rounds args.steps
-  pub text : TellsFound args.shrink args.variant schedule before now
+  pub text : TellsFound args.shrink args.variant schedule before now end
 
--- how `hunt` ends: nothing found, a schedule found, sizes out of their ranges, or a failure
+-- how `hunt` ends: nothing found, a schedule found, sizes out of their ranges, or out of memory before either is known
 abbrev pub HuntEnds : HuntArgs → Tape → Tape → Result Ending CommandFault → Type 0
 HuntEnds args before now end =
-    (outcome end ≡ Ok 0) × (None ≡ hunted args.variant args.seed args.rounds args.steps) × Writes before now nothing_line
-    ⊎ (outcome end ≡ Ok 1) × TellsFind args before now
-    ⊎ (outcome end ≡ Err BadSize) × (HuntFits args → ⊥)
-    ⊎ IsBroken end
+    (None ≡ hunted args.variant args.seed args.rounds args.steps) × Prints 0 nothing_line before now end
+    ⊎ TellsFind args before now end
+    ⊎ (end ≡ Err BadSize) × (HuntFits args → ⊥) × Silent before now
+    ⊎ RunsOut before now end
 
 -- the sizes of a run's lab: room for each message, and the greatest limit of numbers
 abbrev pub lab_for : RunArgs → Spec

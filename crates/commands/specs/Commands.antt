@@ -1,5 +1,5 @@
 -- How a command ends: what its exit status, or its fault, says of what was read, written and is to be saved.
-use Rattle.std.specs.Prelude.{◌≡◌, ◌≢◌, ◌⊎◌, ℕ, ◌+◌, ◌-◌, ◌*◌, ◌^◌, ◌≤◌, min, Bool, true, false, List, [], length, Option, Some, None, Result, Ok, Err}
+use Rattle.std.specs.Prelude.{◌≡◌, ◌≢◌, ◌⊎◌, ◌↔◌, ℕ, ◌+◌, ◌-◌, ◌*◌, ◌^◌, ◌<◌, ◌≤◌, min, Bool, true, false, List, [], All, length, Option, Some, None, Result, Ok, Err, IsErrAnd}
 use Rattle.crashlab.specs.declared.variant.Variant.{Variant}
 use Rattle.crashlab.specs.declared.variant.Variant.TheVariants.{Right}
 use Rattle.crashlab.specs.Hunted.{hunted}
@@ -25,7 +25,7 @@ use Rattle.cli.specs.declared.arguments.args.RunArgs.{RunArgs}
 use Rattle.cli.specs.Sizes.{HuntFits, RunFits}
 use Rattle.commands.specs.declared.schedules.ending.Ending.{Ending}
 use Rattle.commands.specs.declared.schedules.fault.CommandFault.{CommandFault}
-use Rattle.commands.specs.declared.schedules.fault.CommandFault.TheVariants.{BadSize, Write}
+use Rattle.commands.specs.declared.schedules.fault.CommandFault.TheVariants.{BadSize, Member, OutOfMemory, Write}
 use Rattle.commands.specs.Conversations.{SessionEnds}
 use Rattle.commands.specs.AlgorithmDraws.{AlgorithmDrawEnds}
 use Rattle.commands.specs.AlgorithmExplores.{AlgorithmExploreEnds}
@@ -38,7 +38,9 @@ use Rattle.commands.specs.Endings.{Prints, ReadsNothing, RunsOut, TellsReads}
 use Rattle.commands.specs.Folders.{Used}
 use Rattle.commands.specs.Replays.{ReplayEnds}
 use Rattle.commands.specs.Shrinks.{ShrinkEnds}
-use Rattle.commands.specs.Statuses.{fault_of_replay, outcome, status_after, status_ended}
+use Rattle.commands.specs.Statuses.{fault_of_replay, outcome, status_after}
+use Rattle.commands.specs.Tallies.{IsFine, tallies_text}
+use Rattle.commands.specs.declared.tally.SenderTally.{SenderTally}
 use Rattle.commands.specs.Explores.{ExploreEnds, nothing_line}
 
 -- a verdict as a line, or as a JSON object
@@ -95,9 +97,25 @@ lab_for args =
       width = args.width;
     }
 
--- status 2 means sizes outside their ranges
-abbrev pub RunEnds : RunArgs → Result Ending CommandFault → Type 0
-RunEnds args end = status_ended end ≡ 2 → RunFits args → ⊥
+-- the lines of the tallies are written, and the status is 0 if each message came once and in order
+pub record TellsTallies (before now : Tape) (end : Result Ending CommandFault) : Type 0 where
+  pub tallies : List (ℕ × SenderTally)
+  pub status : ℕ
+  pub few : (status ≡ 0) ⊎ (status ≡ 1)
+  pub fine : (status ≡ 0) ↔ All (λ e. IsFine e.1) tallies
+  pub prints : Prints status (tallies_text tallies) before now end
+
+-- why a run has no tallies: a size is outside its range, a sender could not go on, or memory has run out
+abbrev pub HasNoTallies : RunArgs → CommandFault → Type 0
+HasNoTallies args BadSize = RunFits args → ⊥
+HasNoTallies args (Member p) = p < args.procs
+HasNoTallies args OutOfMemory = Unit {0}
+HasNoTallies args fault = ⊥
+
+-- how `run` ends
+abbrev pub RunEnds : RunArgs → Tape → Tape → Result Ending CommandFault → Type 0
+RunEnds args before now end =
+    TellsTallies before now end ⊎ IsErrAnd end (λ fault. HasNoTallies args fault × Silent before now)
 
 -- the meaning of an entry was written, or the names of all entries
 abbrev pub Explains : Option DictionaryEntry → Tape → Tape → Type 0
@@ -118,7 +136,7 @@ SessionEndsOf command image old new before now blank written end = ⊥
 abbrev pub CommandEnds : Command → Option (List ℕ) → Reading → Reading → Tape → Tape → Result Ending CommandFault → Type 0
 CommandEnds (Replay args) image old new before now end = ReplayEnds args image old new before now end
 CommandEnds (ReplayAlgorithm args) image old new before now end = AlgorithmReplayEnds old new before now end
-CommandEnds (Run args) image old new before now end = RunEnds args end
+CommandEnds (Run args) image old new before now end = RunEnds args before now end
 CommandEnds (Hunt args) image old new before now end = HuntEnds args before now end
 CommandEnds (HuntAlgorithm args) image old new before now end = (new ≡ old) × AlgorithmHuntEnds args before now end
 CommandEnds (Explore args) image old new before now end = ExploreEnds args before now end

@@ -1,33 +1,14 @@
--- How a hunt on an algorithm ends, from what it has found.
-use Rattle.std.proofs.Common.{◌≡◌, ◌⊎◌, ◌↔◌, ℕ, ◌<◌, ◌≤◌, Option, Some, None, Result, Ok, Err, IsErrOf, IfOk, OnOk, IfErr, inl, inr, refl, ap, arith}
+-- How a hunt on an algorithm ends that has found nothing.
+use Rattle.std.proofs.Common.{◌≡◌, ◌⊎◌, ◌↔◌, ℕ, ◌<◌, ◌≤◌, Option, Some, None, Result, Err, IsErrOf, inl, inr, refl, arith}
 use Rattle.algorithms.specs.Worlds.{new_refusal}
 use Rattle.algorithms.specs.declared.algorithm.Algorithm.{Algorithm}
 use Rattle.algorithms.specs.declared.refusal.AlgorithmRefusal.{AlgorithmRefusal}
-use Rattle.algorithm_explorer.specs.Hunted.{hunted, IsFound}
 use Rattle.algorithm_explorer.specs.declared.hunt_fault.AlgorithmHuntFault.{AlgorithmHuntFault}
 use Rattle.algorithm_explorer.specs.declared.hunt_fault.AlgorithmHuntFault.TheVariants.{BadRounds, BadSteps, Refused, OutOfMemory}
-use Rattle.schedule.specs.Schedules.{Scheduled, spelling}
-use Rattle.schedule.specs.Tapes.{Tape, Writes}
+use Rattle.schedule.specs.Tapes.{Tape}
 use Rattle.cli.specs.Sizes.{IsHuntSize}
 use Rattle.cli.specs.declared.arguments.args.AlgorithmHuntArgs.{AlgorithmHuntArgs}
-use Rattle.commands.specs.declared.schedules.ending.Ending.{Ending}
-use Rattle.commands.specs.declared.schedules.fault.CommandFault.{CommandFault}
 use Rattle.commands.specs.AlgorithmHunts.{HuntsAlgorithm, fault_of_hunt}
-use Rattle.commands.specs.Endings.{FailsToWrite}
-use Rattle.commands.specs.Explores.{nothing_line}
-
-pub hunted_told : (a : Algorithm) (args : AlgorithmHuntArgs) (before now : Tape) (schedule : Scheduled) (r : Result Ending CommandFault)
-    → IsFound a args.procs args.limit args.steps schedule → Some schedule ≡ hunted a args.procs args.limit args.seed args.rounds args.steps
-    → OnOk r (Writes before now (spelling schedule)) → IfOk r (λ e. e.status ≡ 1) → IfErr r (FailsToWrite before now) → HuntsAlgorithm a args before now r
-hunted_told a args before now schedule (Ok e) found exact told status failed =
-    inl (ap Ok status, record { schedule = schedule; found = found; exact = exact; text = told })
-hunted_told a args before now schedule (Err f) found exact told status failed = inr (inr (inr failed))
-
-pub nothing_told : (a : Algorithm) (args : AlgorithmHuntArgs) (before now : Tape) (r : Result Ending CommandFault) → new_refusal a args.procs args.limit ≡ None
-    → None ≡ hunted a args.procs args.limit args.seed args.rounds args.steps
-    → OnOk r (Writes before now nothing_line) → IfOk r (λ e. e.status ≡ 0) → IfErr r (FailsToWrite before now) → HuntsAlgorithm a args before now r
-nothing_told a args before now (Ok e) sizes none told status failed = inr (inl (ap Ok status, record { sizes = sizes; none = none; text = told }))
-nothing_told a args before now (Err f) sizes none told status failed = inr (inr (inr failed))
 
 no_rounds : (rounds steps : ℕ) → (rounds ≡ 0) ⊎ (10000 < rounds) → IsHuntSize rounds steps → ⊥
 no_rounds rounds steps (inl none) fits = omega (arith, none, fits.0.0)
@@ -53,4 +34,4 @@ not_hunted a args now found BadSteps is rounds steps refused =
     inr (inr (inl (refl, record { sizes = inl (no_steps args.rounds args.steps (steps.0 is).2); silent = record { taken = refl; fine = refl } })))
 not_hunted a args now found (Refused e) is rounds steps refused =
     inr (inr (inl (refl, record { sizes = inr (no_world (new_refusal a args.procs args.limit) e (refused e is)); silent = record { taken = refl; fine = refl } })))
-not_hunted a args now found OutOfMemory is rounds steps refused = inr (inr (inr (record { taken = refl; fine = refl })))
+not_hunted a args now found OutOfMemory is rounds steps refused = inr (inr (inr (refl, record { taken = refl; fine = refl })))

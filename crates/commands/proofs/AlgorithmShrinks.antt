@@ -1,25 +1,22 @@
 -- How shrinking on an algorithm ends, from what it has answered.
-use Rattle.std.proofs.Common.{◌≡◌, Option, Result, Ok, Err, IfOk, OnOk, IfErr, inl, inr, refl, ap}
+use Rattle.std.proofs.Common.{Option, Result, Err, inl, inr, refl}
 use Rattle.algorithms.specs.declared.algorithm.Algorithm.{Algorithm}
 use Rattle.algorithm_explorer.specs.Shrunk.{IsReason, Shrinks}
 use Rattle.algorithm_lab.specs.declared.replay_fault.AlgorithmReplayFault.{AlgorithmReplayFault}
 use Rattle.algorithm_lab.specs.declared.replay_fault.AlgorithmReplayFault.TheVariants.{Refused, Write, OutOfMemory}
 use Rattle.schedule.specs.Schedules.{Scheduled}
-use Rattle.schedule.specs.Tapes.{Tape, Writes}
+use Rattle.schedule.specs.Tapes.{Tape}
 use Rattle.commands.specs.declared.schedules.ending.Ending.{Ending}
 use Rattle.commands.specs.declared.schedules.fault.CommandFault.{CommandFault}
 use Rattle.commands.specs.AlgorithmReplays.{fault_of_run}
 use Rattle.commands.specs.AlgorithmShrinks.{ShrinksAlgorithm}
-use Rattle.commands.specs.Endings.{FailsToWrite}
+use Rattle.commands.specs.Endings.{Prints}
 use Rattle.commands.specs.Shrinks.{shrunk_text, shrunk_status}
 
 -- what shrinking answers was written
-pub shrunk_told : (a : Algorithm) (schedule : Scheduled) (answer : Option Scheduled) (before now : Tape) (r : Result Ending CommandFault) → Shrinks a schedule answer
-    → OnOk r (Writes before now (shrunk_text answer)) → IfOk r (λ e. e.status ≡ shrunk_status answer) → IfErr r (FailsToWrite before now)
-    → ShrinksAlgorithm a schedule before now r
-shrunk_told a schedule answer before now (Ok e) shrinks told status failed =
-    inl (record { answer = answer; shrinks = shrinks; written = told; status = ap Ok status })
-shrunk_told a schedule answer before now (Err f) shrinks told status failed = inr (inr failed)
+pub shrunk_told : (a : Algorithm) (schedule : Scheduled) (answer : Option Scheduled) (before now : Tape) (end : Result Ending CommandFault) → Shrinks a schedule answer
+    → Prints (shrunk_status answer) (shrunk_text answer) before now end → ShrinksAlgorithm a schedule before now end
+shrunk_told a schedule answer before now end shrinks prints = inl (record { answer = answer; shrinks = shrinks; prints = prints })
 
 -- why it answers nothing
 pub not_shrunk : (a : Algorithm) (schedule : Scheduled) (now : Tape) (fault : AlgorithmReplayFault) → IsReason a schedule fault
@@ -27,4 +24,4 @@ pub not_shrunk : (a : Algorithm) (schedule : Scheduled) (now : Tape) (fault : Al
 not_shrunk a schedule now (Refused line refusal) reason =
     inr (inl (record { line = line; refusal = refusal; refused = reason; fault = refl; silent = record { taken = refl; fine = refl } }))
 not_shrunk a schedule now Write reason = absurd reason
-not_shrunk a schedule now OutOfMemory reason = inr (inr (record { taken = refl; fine = refl }))
+not_shrunk a schedule now OutOfMemory reason = inr (inr (refl, record { taken = refl; fine = refl }))

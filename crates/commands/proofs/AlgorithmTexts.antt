@@ -13,9 +13,8 @@ use Rattle.commands.specs.declared.schedules.ending.Ending.{Ending}
 use Rattle.commands.specs.declared.schedules.fault.CommandFault.{CommandFault}
 use Rattle.commands.specs.declared.schedules.fault.CommandFault.TheVariants as faults
 use Rattle.commands.specs.AlgorithmTexts.{EndsOnAlgorithm, EndsOnBoth, IsAlgorithmFault, IsUnreadAlgorithm, TellsFault}
-use Rattle.commands.specs.Endings.{TellsReads}
+use Rattle.commands.specs.Endings.{FailsToRead, TellsReads}
 use Rattle.commands.specs.Settings.{IsWrongText}
-use Rattle.commands.specs.Statuses.{status_of}
 use Rattle.commands.specs.Tellings.{Refuses}
 
 -- the command answers the fault of this line that has this number
@@ -43,7 +42,7 @@ pub no_algorithm : {B : Type 0} (old : Reading) (now : Tape) (fault : CommandFau
 no_algorithm old now fault is = (inl (record { taken = refl; fine = refl }, (fault, refl, inl is)), inl refl)
 
 -- the schedule's text is at fault: nothing was written
-pub no_schedule : {B : Type 0} (old new : Reading) (now : Tape) (fault : CommandFault) → (status_of fault ≡ 3) ⊎ IsWrongText old new fault
+pub no_schedule : {B : Type 0} (old new : Reading) (now : Tape) (fault : CommandFault) → FailsToRead old new fault ⊎ IsWrongText old new fault
     → TellsReads old new (Err fault) → (Refuses now now (IsUnreadAlgorithm old new) (Err fault) ⊎ B) × TellsReads old new (Err fault)
 no_schedule old new now fault wrong reads = (inl (record { taken = refl; fine = refl }, (fault, refl, inr wrong)), reads)
 

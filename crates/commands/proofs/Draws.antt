@@ -5,16 +5,17 @@ use Rattle.commands.specs.declared.schedules.fault.CommandFault.{CommandFault}
 use Rattle.schedule.specs.Tapes.{Tape, Reading}
 use Rattle.cli.specs.declared.arguments.args.DrawArgs.{DrawArgs}
 use Rattle.commands.specs.Draws.{DrawEnds, drawn}
+use Rattle.commands.specs.Endings.{FailsToRead}
 use Rattle.commands.specs.Settings.{IsWrongText}
 use Rattle.commands.specs.Statuses.{status_of}
 use Rattle.commands.specs.Tellings.{Manner, TellsRead}
 
 pub untold : (variant : Variant) (manner : Manner) (image : Option (List ℕ)) (old new : Reading) (now : Tape) (fault : CommandFault)
-    → (status_of fault ≡ 3) ⊎ IsWrongText old new fault → TellsRead variant manner image old new now now (Err fault)
-untold variant manner image old new now fault (inl three) = inl (record { taken = refl; fine = refl }, (fault, refl, inl three))
+    → FailsToRead old new fault ⊎ IsWrongText old new fault → TellsRead variant manner image old new now now (Err fault)
+untold variant manner image old new now fault (inl fails) = inl (record { taken = refl; fine = refl }, (fault, refl, inl fails))
 untold variant manner image old new now fault (inr wrong) = inl (record { taken = refl; fine = refl }, (fault, refl, inr (inr wrong)))
 
 pub unread : (args : DrawArgs) (image : Option (List ℕ)) (old new : Reading) (now : Tape) (fault : CommandFault) → 2 ≤ status_of fault
-    → (status_of fault ≡ 3) ⊎ IsWrongText old new fault → DrawEnds args image old new now now (Err fault)
+    → FailsToRead old new fault ⊎ IsWrongText old new fault → DrawEnds args image old new now now (Err fault)
 unread args image old new now fault least purpose =
     (λ one right. omega (arith, one, least), untold args.variant (drawn args) image old new now fault purpose)

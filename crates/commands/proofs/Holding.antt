@@ -1,11 +1,13 @@
 -- The lines of a session that were answered so far.
-use Rattle.std.proofs.Common.{◌≡◌, ◌↔◌, ◌+◌, ◌-◌, ◌^◌, min, Bool, true, false, Option, Some, None, IfSome, IfNone, Vec, Result, Ok, Err, ℕ, List, [], ◌∷◌, ◌++◌, refl, sym, ap, subst, ◌∙◌, append_assoc, inl, inr, length, eqb, arith}
+use Rattle.std.proofs.Common.{◌≡◌, ◌⊎◌, ◌↔◌, ◌+◌, ◌-◌, ◌^◌, min, Bool, true, false, Option, Some, None, IfSome, IfNone, Vec, Result, Ok, Err, ℕ, List, [], ◌∷◌, ◌++◌, refl, sym, ap, subst, ◌∙◌, append_assoc, inl, inr, length, eqb, codes, arith}
+use Rattle.std.specs.Prelude.{◌==◌}
 use Rattle.std.proofs.lemmas.Bool.{false≢true}
 use Rattle.std.specs.declared.alloc.Global.{Global}
 use Rattle.std.proofs.lemmas.List.{append-nil}
 use Rattle.std.proofs.lemmas.List.Splits.{length-slice_split}
 use Rattle.schedule.proofs.Cutting.{parts_of-pieces}
-use Rattle.schedule.specs.Tapes.{Tape, Reading, Writes}
+use Rattle.schedule.specs.Schedules.{spelling}
+use Rattle.schedule.specs.Tapes.{Tape, Reading, Begins, Writes}
 use Rattle.schedule.specs.Words.{parts_of}
 use Rattle.schedule.specs.declared.lines.fault.LineFault.{LineFault}
 use Rattle.diagram.specs.declared.session.opened.Reply.{Reply}
@@ -14,11 +16,10 @@ use Rattle.diagram.specs.declared.session.request.Request.{Request}
 use Rattle.diagram.specs.declared.session.request.Request.TheVariants as requests
 use Rattle.diagram.specs.declared.session.opened.Reply.TheVariants as replies
 use Rattle.diagram.specs.Semantics.{Semantics}
-use Rattle.diagram.specs.Sessions.{SessionState, after_request, reply_to, request_in, text_of_request}
+use Rattle.diagram.specs.Sessions.{SessionState, after_request, fault_text, next_number, reply_to, request_in, text_of_request}
 use Rattle.schedule.specs.declared.replays.replay_fault.ReplayFault.{ReplayFault}
 use Rattle.schedule.specs.declared.replays.replay_fault.ReplayFault.TheVariants as faults
-use Rattle.commands.specs.Statuses.{fault_of_replay, status_of}
-use Rattle.commands.specs.Conversations.{AreAnswers, HoldsSession, IsAnswer, IsAnswerBy, IsKept, WritesFile, WritesOr, after_line, last_text}
+use Rattle.commands.specs.Conversations.{AreAnswers, BreaksOffIn, FailsBy, HoldsSession, IsAnswer, IsAnswerBy, IsBegun, IsBegunBy, IsKept, WritesFile, WritesOr, after_line, file_in, last_text}
 use Rattle.commands.specs.Folders.{Used}
 
 -- ---- pieces of a text
@@ -224,36 +225,168 @@ module _ {S : Type 0} (b : Semantics S) where
         ),
       )
 
-  -- a fault of a session is of a device or of memory
-  pub held_fault : (first : SessionState S) (start : List ℕ) (old now : Reading) (before used : Used) (blank written : Tape) (fault : ReplayFault)
-      → HoldsSession b first start old now before used blank written (Err fault) → status_of (fault_of_replay fault) ≡ 3
-  held_fault first start old now before used blank written faults.Read h = refl
-  held_fault first start old now before used blank written faults.Write h = refl
-  held_fault first start old now before used blank written faults.OutOfMemory h = refl
-  held_fault first start old now before used blank written _ h = absurd h
-
   -- a request to save changes no schedule, and is answered by what comes of it
   pub saves_only : (s : SessionState S) (r : Result Request LineFault) → reply_to r ≡ replies.Saves → (after_request b s r ≡ s) × (text_of_request b s r ≡ [])
   saves_only s (Ok requests.Save) e = (refl, refl)
   saves_only s _ e = cc
 
-  -- where reading fails
-  pub read_fails : (first s : SessionState S) (start buffer : List ℕ) (old now after : Reading) (before mid used : Used) (blank written last : Tape)
-      → Going first start old now before mid blank written s buffer → after.failures ≡ min (now.failures + 1) (2 ^ 64 - 1)
-      → HoldsSession b first start old after before used blank last (Err faults.Read)
-  read_fails first s start buffer old now after before mid used blank written last h failed = rw (← h.fine) failed
+  -- ---- where it breaks off
 
-  -- where writing fails
-  pub write_fails : (first s : SessionState S) (start buffer : List ℕ) (old now after : Reading) (before mid used : Used) (blank written last : Tape)
-      → Going first start old now before mid blank written s buffer → last.failures ≡ min (written.failures + 1) (2 ^ 64 - 1)
-      → HoldsSession b first start old after before used blank last (Err faults.Write)
-  write_fails first s start buffer old now after before mid used blank written last h failed = rw (← h.writes.fine) failed
+  -- after the lines that were answered
+  stops : (first s : SessionState S) (start buffer : List ℕ) (old now after : Reading) (before mid : Used) (blank written last : Tape) (more : List ℕ)
+      → Going first start old now before mid blank written s buffer → after.given ≡ now.given ++ more → last.taken ≡ written.taken
+      → BreaksOffIn b first start old after before mid blank last
+  stops first s start buffer old now after before mid blank written last more h given taken = (
+    h.more ++ more,
+    given ∙ ap (λ (xs : List ℕ). xs ++ more) h.given ∙ append_assoc old.given h.more more,
+    record {
+      lines = h.lines;
+      more = parts_of (buffer ++ more);
+      parts = ap parts_of (sym (append_assoc start h.more more)) ∙ parts_further (start ++ h.more) buffer more h.lines h.parts;
+      after = s;
+      used = mid;
+      answers = h.answers;
+      answered = h.answered;
+      text = [];
+      due = inl (refl, refl);
+      beginning = ([], record { front = []; written = taken ∙ h.writes.taken ∙ sym (append-nil (blank.taken ++ h.answers)); left = refl });
+    },
+  )
 
-  -- where there is no memory
-  pub wants_memory : (first s : SessionState S) (start buffer : List ℕ) (old now after : Reading) (before mid used : Used) (blank written last : Tape)
-      → Going first start old now before mid blank written s buffer → after.failures ≡ now.failures → last.failures ≡ written.failures
-      → HoldsSession b first start old after before used blank last (Err faults.OutOfMemory)
-  wants_memory first s start buffer old now after before mid used blank written last h read wrote = (read ∙ h.fine, wrote ∙ h.writes.fine)
+  -- a write that fails counts from where the session began
+  failed_once : (blank written last : Tape) → written.failures ≡ blank.failures → last.failures ≡ min (written.failures + 1) (2 ^ 64 - 1)
+      → last.failures ≡ min (blank.failures + 1) (2 ^ 64 - 1)
+  failed_once blank written last fine failed = subst (λ (n : ℕ). last.failures ≡ min (n + 1) (2 ^ 64 - 1)) fine failed
+
+  -- a flush fails
+  pub flush_breaks : (first s : SessionState S) (start buffer : List ℕ) (old now : Reading) (before mid : Used) (blank written last : Tape)
+      → Going first start old now before mid blank written s buffer → last.taken ≡ written.taken → last.failures ≡ min (written.failures + 1) (2 ^ 64 - 1)
+      → HoldsSession b first start old now before mid blank last (Err faults.Write)
+  flush_breaks first s start buffer old now before mid blank written last h taken failed = (
+    (h.fine, failed_once blank written last h.writes.fine failed),
+    stops first s start buffer old now now before mid blank written last [] h (sym (append-nil now.given)) taken,
+  )
+
+  -- memory has run out after the lines that were answered
+  pub memory_breaks : (first s : SessionState S) (start buffer : List ℕ) (old now : Reading) (before mid : Used) (blank written : Tape)
+      → Going first start old now before mid blank written s buffer → HoldsSession b first start old now before mid blank written (Err faults.OutOfMemory)
+  memory_breaks first s start buffer old now before mid blank written h =
+      ((h.fine, h.writes.fine), stops first s start buffer old now now before mid blank written written [] h (sym (append-nil now.given)) refl)
+
+  -- why no line was read
+  abbrev pub FailsLine : ReplayFault → Reading → Reading → Type 0
+  FailsLine fault now after =
+      (fault ≡ faults.Read) × (after.failures ≡ min (now.failures + 1) (2 ^ 64 - 1)) ⊎ (fault ≡ faults.OutOfMemory) × (after.failures ≡ now.failures)
+
+  line_fails : (fault : ReplayFault) (old now after : Reading) (blank written tape : Tape) → now.failures ≡ old.failures → written.failures ≡ blank.failures
+      → tape.failures ≡ written.failures → FailsLine fault now after → FailsBy fault old after blank tape
+  line_fails fault old now after blank written tape read wrote fine (inl (is, failed)) =
+      subst (λ (f : ReplayFault). FailsBy f old after blank tape) (sym is)
+      (subst (λ (n : ℕ). after.failures ≡ min (n + 1) (2 ^ 64 - 1)) read failed, fine ∙ wrote)
+  line_fails fault old now after blank written tape read wrote fine (inr (is, same)) =
+      subst (λ (f : ReplayFault). FailsBy f old after blank tape) (sym is) (same ∙ read, fine ∙ wrote)
+
+  pub read_breaks : (first s : SessionState S) (start buffer : List ℕ) (old now after : Reading) (before mid : Used) (blank written tape : Tape) (fault : ReplayFault)
+      → Going first start old now before mid blank written s buffer → tape.taken ≡ written.taken → tape.failures ≡ written.failures
+      → ((more : List ℕ) × (after.given ≡ now.given ++ more)) → FailsLine fault now after → HoldsSession b first start old after before mid blank tape (Err fault)
+  read_breaks first s start buffer old now after before mid blank written tape fault h taken fine (more, given) fails = (
+    line_fails fault old now after blank written tape h.fine h.writes.fine fine fails,
+    stops first s start buffer old now after before mid blank written tape more h given taken,
+  )
+
+  -- memory has run out before the line was answered
+  pub line_breaks : (first s : SessionState S) (start line buffer : List ℕ) (old now : Reading) (before mid used : Used) (blank written : Tape)
+      → Got first start old now before mid blank written s line buffer → IsBegun b s line mid used
+      → HoldsSession b first start old now before used blank written (Err faults.OutOfMemory)
+  line_breaks first s start line buffer old now before mid used blank written h begun = (
+    (h.fine, h.writes.fine),
+    (
+      h.more,
+      h.given,
+      record {
+        lines = h.lines;
+        more = line ∷ parts_of buffer;
+        parts = h.parts;
+        after = s;
+        used = mid;
+        answers = h.answers;
+        answered = h.answered;
+        text = [];
+        due = inr (line, parts_of buffer, refl, inl (begun, refl));
+        beginning = ([], record { front = []; written = h.writes.taken ∙ sym (append-nil (blank.taken ++ h.answers)); left = refl });
+      },
+    ),
+  )
+
+  -- what was written of a text after the answers
+  goes_further : (blank written last : Tape) (answers text : List ℕ) → written.taken ≡ blank.taken ++ answers → Begins written.taken last.taken text
+      → Begins (blank.taken ++ answers) last.taken text
+  goes_further blank written last answers text taken front = subst (λ (xs : List ℕ). Begins xs last.taken text) taken front
+
+  -- the answer to the line was not written whole
+  pub answer_breaks : (first s : SessionState S) (start line buffer page : List ℕ) (old now : Reading) (before mid used : Used) (blank written last : Tape)
+      → Got first start old now before mid blank written s line buffer → IsAnswer b s line mid used page → Begins written.taken last.taken page
+      → last.failures ≡ min (written.failures + 1) (2 ^ 64 - 1) → HoldsSession b first start old now before used blank last (Err faults.Write)
+  answer_breaks first s start line buffer page old now before mid used blank written last h is front failed = (
+    (h.fine, failed_once blank written last h.writes.fine failed),
+    (
+      h.more,
+      h.given,
+      record {
+        lines = h.lines;
+        more = line ∷ parts_of buffer;
+        parts = h.parts;
+        after = s;
+        used = mid;
+        answers = h.answers;
+        answered = h.answered;
+        text = page;
+        due = inr (line, parts_of buffer, refl, inr (inl is));
+        beginning = goes_further blank written last h.answers page h.writes.taken front;
+      },
+    ),
+  )
+
+  -- the fault of an unfinished last line was not written whole
+  end_breaks : (first s : SessionState S) (start buffer rest : List ℕ) (old now after : Reading) (before mid : Used) (blank written last : Tape) (more : List ℕ)
+      → Going first start old now before mid blank written s buffer → after.given ≡ now.given ++ more → rest ≡ buffer ++ more
+      → parts_of rest ≡ rest ∷ [] → Begins written.taken last.taken (last_text s rest) → BreaksOffIn b first start old after before mid blank last
+  end_breaks first s start buffer rest old now after before mid blank written last more h given is one front = (
+    h.more ++ more,
+    given ∙ ap (λ (xs : List ℕ). xs ++ more) h.given ∙ append_assoc old.given h.more more,
+    record {
+      lines = h.lines;
+      more = rest ∷ [];
+      parts =
+          ap parts_of (sym (append_assoc start h.more more)) ∙ parts_further (start ++ h.more) buffer more h.lines h.parts
+          ∙ ap (λ (ps : List (List ℕ)). h.lines ++ ps) (ap parts_of (sym is) ∙ one);
+      after = s;
+      used = mid;
+      answers = h.answers;
+      answered = h.answered;
+      text = last_text s rest;
+      due = inr (rest, [], refl, inr (inr (refl, refl, refl)));
+      beginning = goes_further blank written last h.answers (last_text s rest) h.writes.taken front;
+    },
+  )
+
+  -- nothing of a text was written
+  none_of : (written last : Tape) (text : List ℕ) → last.taken ≡ written.taken → Begins written.taken last.taken text
+  none_of written last text same = (text, record { front = []; written = same ∙ sym (append-nil written.taken); left = refl })
+
+  -- ---- what a line has begun
+
+  pub nothing_begun : (reply : Reply) (s : SessionState S) (line : List ℕ) (used : Used) → IsBegunBy b reply s line used used
+  nothing_begun replies.Saves s line used = inl refl
+  nothing_begun replies.Goes s line used = refl
+  nothing_begun Quits s line used = refl
+
+  -- a request to save changes no schedule
+  pub saving_begun : (r : Result Request LineFault) (s t : SessionState S) (line : List ℕ) (before now : Used) → reply_to r ≡ replies.Saves
+      → t ≡ after_request b s r → (now ≡ before) ⊎ WritesFile before now (file_in line) (spelling t.schedule) → IsBegunBy b (reply_to r) s line before now
+  saving_begun (Ok requests.Save) s t line before now e same is =
+      subst (λ (x : SessionState S). (now ≡ before) ⊎ WritesFile before now (file_in line) (spelling x.schedule)) same is
+  saving_begun _ s t line before now e same is = cc
 
   -- ---- what the calls of the loop say
 
@@ -284,10 +417,18 @@ module _ {S : Type 0} (b : Semantics S) where
       input_ends first s start buffer rest old now after before mid blank tape last is.0 (flushed first s start buffer old now before mid blank written tape h taken fine) is.1 same ended
       is.3.0 is.3.1 wrote
   got_none first s start buffer rest old now after before mid blank written tape last None (Err faults.Write) none h taken fine is ended same wrote =
-      write_fails first s start buffer old now after before mid mid blank tape last (flushed first s start buffer old now before mid blank written tape h taken fine) wrote
+      let so_far = flushed first s start buffer old now before mid blank written tape h taken fine in (
+        (same ∙ so_far.fine, failed_once blank tape last so_far.writes.fine wrote.1),
+        end_breaks first s start buffer rest old now after before mid blank tape last is.0 so_far is.1 is.3.0 is.3.1 wrote.0,
+      )
   got_none first s start buffer rest old now after before mid blank written tape last None (Err faults.OutOfMemory) none h taken fine is ended same wrote =
-      wants_memory first s start buffer old now after before mid mid blank tape last (flushed first s start buffer old now before mid blank written tape h taken fine) same wrote
-  got_none first s start buffer rest old now after before mid blank written tape last None (Err _) none h taken fine is ended same wrote = absurd wrote
+      let so_far = flushed first s start buffer old now before mid blank written tape h taken fine in (
+        (same ∙ so_far.fine, wrote.fine ∙ so_far.writes.fine),
+        end_breaks first s start buffer rest old now after before mid blank tape last is.0 so_far is.1 is.3.0 is.3.1 (none_of tape last (last_text s rest) wrote.taken),
+      )
+  got_none first s start buffer rest old now after before mid blank written tape last None (Err faults.Read) none h taken fine is ended same wrote = absurd wrote
+  got_none first s start buffer rest old now after before mid blank written tape last None (Err (faults.Text line number)) none h taken fine is ended same wrote = absurd wrote
+  got_none first s start buffer rest old now after before mid blank written tape last None (Err (faults.Refused line number)) none h taken fine is ended same wrote = absurd wrote
 
 -- the line does not end the session
 pub goes_by : (ends : Bool) (P : Type 0) → (ends ≡ true ↔ P) → ends ≡ false → P → ⊥
@@ -301,3 +442,19 @@ wrote_page written after bytes page is taken fine = record { taken = taken ∙ a
 pub kept_by : (before now : Used) (file text : List ℕ) (done : Bool) → WritesFile before now file text → IsKept before now file text done
 kept_by before now file text true h = h
 kept_by before now file text false h = inr h
+
+-- and so was its file, if it names one
+pub kept_begun : (before now : Used) (file text : List ℕ) (done : Bool) → IsKept before now file text done → (now ≡ before) ⊎ WritesFile before now file text
+kept_begun before now file text true h = inr h
+kept_begun before now file text false h = h
+
+-- what was read before is the beginning of what was read
+pub given_more : (old mid new more piece : List ℕ) → new ≡ mid ++ piece → mid ≡ old ++ more → (x : List ℕ) × (new ≡ old ++ x)
+given_more old mid new more piece is was = (more ++ piece, is ∙ ap (λ (xs : List ℕ). xs ++ piece) was ∙ append_assoc old more piece)
+
+-- the fault of an unfinished last line was not written whole
+pub last_breaks : {S : Type 0} (s : SessionState S) (rest page : List ℕ) (before now : Tape) → (length rest == 0) ≡ false
+    → page ≡ fault_text (next_number s) (codes "fault ") 5 → Begins before.taken now.taken page → now.failures ≡ min (before.failures + 1) (2 ^ 64 - 1)
+    → WritesOr before now (last_text s rest) (Err faults.Write)
+last_breaks s [] page before now some is front failed = cc
+last_breaks s (x ∷ rest) page before now some is front failed = (subst (λ (text : List ℕ). Begins before.taken now.taken text) is front, failed)

@@ -7,8 +7,9 @@ pub mod AlgorithmStarving
 pub mod AlgorithmTexts
 pub mod Draws
 pub mod Replays
+pub mod Finishing
 pub mod Gates
-pub mod Leasts
+pub mod Judging
 pub mod Pictures
 pub mod Runs
 pub mod Tapes

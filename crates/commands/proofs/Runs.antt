@@ -1,10 +1,14 @@
--- The sizes of a run in range are those of a lab.
-use Rattle.std.proofs.Common.{◌≡◌, ℕ, ◌-◌, ◌*◌, ◌^◌, ◌≤◌, min, refl, inl, inr, arith}
+-- The sizes of a run in range are those of a lab, and why a run has no tallies.
+use Rattle.std.proofs.Common.{◌≡◌, ◌⊎◌, ℕ, ◌-◌, ◌*◌, ◌^◌, ◌≤◌, min, refl, inl, inr, arith}
 use Rattle.std.proofs.Math.Nat.{min-eq_left, one-le-mul}
 use Rattle.std.proofs.lemmas.Nat.{mul-le}
 use Rattle.one_lock.specs.Lab.{IsBadSpec}
+use Rattle.one_lock.specs.LabEndings.{MayEndLab}
+use Rattle.one_lock.specs.declared.lab.lab_fault.LabFault.{LabFault}
+use Rattle.one_lock.specs.declared.lab.lab_fault.LabFault.TheVariants as of_lab
 use Rattle.cli.specs.declared.arguments.args.RunArgs.{RunArgs}
-use Rattle.commands.specs.Commands.{lab_for}
+use Rattle.commands.specs.Commands.{HasNoTallies, lab_for}
+use Rattle.commands.specs.Faults.{fault_of_lab}
 use Rattle.cli.specs.Sizes.{RunFits}
 
 -- room for each message isn't more than a mailbox may have
@@ -31,3 +35,13 @@ fits_lab args fits (inr (inr (inr (inl (inr more))))) = omega (arith, fits.4, mo
 fits_lab args fits (inr (inr (inr (inr (inl (inl none)))))) = omega (arith, fits.1.0, none)
 fits_lab args fits (inr (inr (inr (inr (inl (inr more)))))) = omega (arith, fits.1.1, more)
 fits_lab args fits (inr (inr (inr (inr (inr other))))) = other refl
+
+-- the fault of a lab that has a gate for each sender
+pub lab_fails : (args : RunArgs) (fault : LabFault) → (fault ≡ of_lab.BadSpec → IsBadSpec (lab_for args) args.procs)
+    → (fault ≡ of_lab.BadSpec) ⊎ MayEndLab (lab_for args) fault → HasNoTallies args (fault_of_lab fault)
+lab_fails args of_lab.BadSpec bad why = λ fits. fits_lab args fits (bad refl)
+lab_fails args of_lab.OutOfMemory bad why = tt
+lab_fails args (of_lab.Member p fault) bad (inl is) = cc
+lab_fails args (of_lab.Member p fault) bad (inr may) = may.0
+lab_fails args (of_lab.Reply p reply) bad (inl is) = cc
+lab_fails args (of_lab.Reply p reply) bad (inr may) = may.0

@@ -1,12 +1,12 @@
 -- How a hunt on an algorithm ends.
-use Rattle.std.specs.Prelude.{◌≡◌, ◌⊎◌, None, Some, Result, Ok, Err, IsErrAnd}
+use Rattle.std.specs.Prelude.{◌≡◌, ◌⊎◌, None, Some, Result, Err}
 use Rattle.algorithms.specs.Worlds.{new_refusal}
 use Rattle.algorithms.specs.declared.algorithm.Algorithm.{Algorithm}
 use Rattle.algorithm_explorer.specs.Hunted.{hunted, IsFound}
 use Rattle.algorithm_explorer.specs.declared.hunt_fault.AlgorithmHuntFault.{AlgorithmHuntFault}
 use Rattle.algorithm_explorer.specs.declared.hunt_fault.AlgorithmHuntFault.TheVariants as of_hunt
 use Rattle.schedule.specs.Schedules.{Scheduled, spelling}
-use Rattle.schedule.specs.Tapes.{Tape, Writes}
+use Rattle.schedule.specs.Tapes.{Tape}
 use Rattle.schedule.specs.Wholes.{Silent}
 use Rattle.cli.specs.Sizes.{IsHuntSize}
 use Rattle.cli.specs.declared.arguments.args.AlgorithmHuntArgs.{AlgorithmHuntArgs}
@@ -14,40 +14,39 @@ use Rattle.commands.specs.declared.schedules.ending.Ending.{Ending}
 use Rattle.commands.specs.declared.schedules.fault.CommandFault.{CommandFault}
 use Rattle.commands.specs.declared.schedules.fault.CommandFault.TheVariants as faults
 use Rattle.commands.specs.AlgorithmTexts.{EndsOnAlgorithm}
-use Rattle.commands.specs.Endings.{FailsToWrite}
+use Rattle.commands.specs.Endings.{Prints, RunsOut}
 use Rattle.commands.specs.Explores.{nothing_line}
-use Rattle.commands.specs.Statuses.{outcome}
 
 -- the command's fault for a fault of a hunt
 abbrev pub fault_of_hunt : AlgorithmHuntFault → CommandFault
 fault_of_hunt of_hunt.OutOfMemory = faults.OutOfMemory
 fault_of_hunt fault = faults.BadSize
 
--- the schedule that the hunt finds was written. It has at most the moves asked for, and its verdict is against
-pub record TellsHunted (algorithm : Algorithm) (args : AlgorithmHuntArgs) (before now : Tape) : Type 0 where
+-- the schedule that the hunt finds is written. It has at most the moves asked for, and its verdict is against
+pub record TellsHunted (algorithm : Algorithm) (args : AlgorithmHuntArgs) (before now : Tape) (end : Result Ending CommandFault) : Type 0 where
   pub schedule : Scheduled
   pub found : IsFound algorithm args.procs args.limit args.steps schedule
   pub exact : Some schedule ≡ hunted algorithm args.procs args.limit args.seed args.rounds args.steps
-  pub text : Writes before now (spelling schedule)
+  pub prints : Prints 1 (spelling schedule) before now end
 
--- the hunt finds nothing on worlds of these sizes, and that was written
-pub record TellsNothing (algorithm : Algorithm) (args : AlgorithmHuntArgs) (before now : Tape) : Type 0 where
+-- the hunt finds nothing on worlds of these sizes, and that is written
+pub record TellsNothing (algorithm : Algorithm) (args : AlgorithmHuntArgs) (before now : Tape) (end : Result Ending CommandFault) : Type 0 where
   pub sizes : new_refusal algorithm args.procs args.limit ≡ None
   pub none : None ≡ hunted algorithm args.procs args.limit args.seed args.rounds args.steps
-  pub text : Writes before now nothing_line
+  pub prints : Prints 0 nothing_line before now end
 
 -- the rounds or their moves are outside their ranges, or the algorithm has no world of these sizes, and nothing was written
 pub record HasNoHunt (algorithm : Algorithm) (args : AlgorithmHuntArgs) (before now : Tape) : Type 0 where
   pub sizes : (IsHuntSize args.rounds args.steps → ⊥) ⊎ (new_refusal algorithm args.procs args.limit ≡ None → ⊥)
   pub silent : Silent before now
 
--- how a hunt on this algorithm ends
+-- how a hunt on this algorithm ends: memory may run out before it is known what it finds
 abbrev pub HuntsAlgorithm : Algorithm → AlgorithmHuntArgs → Tape → Tape → Result Ending CommandFault → Type 0
 HuntsAlgorithm algorithm args before now end =
-    (outcome end ≡ Ok 1) × TellsHunted algorithm args before now
-    ⊎ (outcome end ≡ Ok 0) × TellsNothing algorithm args before now
-    ⊎ (outcome end ≡ Err faults.BadSize) × HasNoHunt algorithm args before now
-    ⊎ IsErrAnd end (FailsToWrite before now)
+    TellsHunted algorithm args before now end
+    ⊎ TellsNothing algorithm args before now end
+    ⊎ (end ≡ Err faults.BadSize) × HasNoHunt algorithm args before now
+    ⊎ RunsOut before now end
 
 -- how `hunt --algorithm` ends
 abbrev pub AlgorithmHuntEnds : AlgorithmHuntArgs → Tape → Tape → Result Ending CommandFault → Type 0

@@ -14,10 +14,10 @@ use Rattle.commands.specs.declared.schedules.ending.Ending.{Ending}
 use Rattle.commands.specs.declared.schedules.fault.CommandFault.{CommandFault}
 use Rattle.commands.specs.AlgorithmReplays.{refused_at}
 use Rattle.commands.specs.AlgorithmTexts.{HoldsOfAlgorithm, IsAlgorithmFault}
-use Rattle.commands.specs.Conversations.{BeginsWith, HoldsSession, Opens}
+use Rattle.commands.specs.Conversations.{BeginsWith, BreaksAfter, HoldsSession, Opens}
+use Rattle.commands.specs.Endings.{FailsToRead}
 use Rattle.commands.specs.Folders.{Used}
 use Rattle.commands.specs.Settings.{IsNoSchedule}
-use Rattle.commands.specs.Statuses.{status_of}
 use Rattle.commands.specs.Tellings.{Refuses}
 
 -- the first line of the input is no header
@@ -45,12 +45,22 @@ pub record IsHeldOn (a : Algorithm) (old new : Reading) (before now : Used) (bla
   pub first : Writes blank opening (standing_text algorithm_semantics (algorithm_session a schedule))
   pub holds : HoldsSession algorithm_semantics (algorithm_session a schedule) buffer opened new before now opening written (Ok tt)
 
--- how a session on this algorithm ends: at its end with status 0; or it can't begin, and nothing was written; or a device or
--- memory has failed
+-- it began with this header, and has broken off
+pub record IsCutOffOn (a : Algorithm) (old new : Reading) (before now : Used) (blank written : Tape) (fault : CommandFault) : Type 0 where
+  pub schedule : Scheduled
+  pub opened : Reading
+  pub buffer : List ℕ
+  pub opens : Opens None old opened buffer schedule
+  pub accepted : new_refusal a schedule.procs schedule.limit ≡ None
+  pub breaks : BreaksAfter algorithm_semantics (algorithm_session a schedule) buffer opened new before now blank written fault
+
+-- how a session on this algorithm ends: at its end with status 0; or it can't begin, or a read or memory has failed, and nothing was
+-- written; or it has broken off
 abbrev pub SessionOn : Algorithm → Reading → Reading → Used → Used → Tape → Tape → Result Ending CommandFault → Type 0
 SessionOn a old new before now blank written (Ok ending) = (ending.status ≡ 0) × IsHeldOn a old new before now blank written
 SessionOn a old new before now blank written (Err fault) =
-    (status_of fault ≡ 3) ⊎ (CantBeginOn a old new fault × Silent blank written × (now ≡ before))
+    (FailsToRead old new fault ⊎ CantBeginOn a old new fault) × Silent blank written × (now ≡ before)
+    ⊎ IsCutOffOn a old new before now blank written fault
 
 -- the algorithm's text is at fault: nothing was read, kept or written
 abbrev pub RefusesText : Reading → Reading → Used → Used → Tape → Tape → Result Ending CommandFault → Type 0

@@ -1,26 +1,24 @@
 -- How shrinking a schedule on an algorithm's text ends.
-use Rattle.std.specs.Prelude.{◌≡◌, ◌⊎◌, ℕ, Option, Some, Result, Ok, Err, IsErrAnd}
+use Rattle.std.specs.Prelude.{◌≡◌, ◌⊎◌, ℕ, Option, Some, Result, Err}
 use Rattle.algorithms.specs.declared.algorithm.Algorithm.{Algorithm}
 use Rattle.algorithm_explorer.specs.Shrunk.{Shrinks, schedule_run}
 use Rattle.algorithm_lab.specs.Refusals.{number_of}
 use Rattle.algorithm_lab.specs.declared.run_refusal.RunRefusal.{RunRefusal}
 use Rattle.schedule.specs.Schedules.{Scheduled}
-use Rattle.schedule.specs.Tapes.{Tape, Writes, Reading}
+use Rattle.schedule.specs.Tapes.{Tape, Reading}
 use Rattle.schedule.specs.Wholes.{Silent}
 use Rattle.commands.specs.declared.schedules.ending.Ending.{Ending}
 use Rattle.commands.specs.declared.schedules.fault.CommandFault.{CommandFault}
 use Rattle.commands.specs.AlgorithmReplays.{refused_at}
 use Rattle.commands.specs.AlgorithmTexts.{EndsOnBoth}
-use Rattle.commands.specs.Endings.{FailsToWrite}
+use Rattle.commands.specs.Endings.{Prints, RunsOut}
 use Rattle.commands.specs.Shrinks.{shrunk_text, shrunk_status}
-use Rattle.commands.specs.Statuses.{outcome}
 
--- what shrinking answers was written
+-- what shrinking answers is written
 pub record TellsShrunk (algorithm : Algorithm) (schedule : Scheduled) (before now : Tape) (end : Result Ending CommandFault) : Type 0 where
   pub answer : Option Scheduled
   pub shrinks : Shrinks algorithm schedule answer
-  pub written : Writes before now (shrunk_text answer)
-  pub status : outcome end ≡ Ok (shrunk_status answer)
+  pub prints : Prints (shrunk_status answer) (shrunk_text answer) before now end
 
 -- the fault is the line that the run refuses, or the header, and nothing is written
 pub record TellsRefused (algorithm : Algorithm) (schedule : Scheduled) (before now : Tape) (end : Result Ending CommandFault) : Type 0 where
@@ -30,11 +28,11 @@ pub record TellsRefused (algorithm : Algorithm) (schedule : Scheduled) (before n
   pub fault : end ≡ Err (refused_at line (number_of refusal))
   pub silent : Silent before now
 
--- the schedule is shrunk, a line of it is refused, or a device or memory has failed
+-- the schedule is shrunk, a line of it is refused, or memory has run out before either is known
 abbrev pub ShrinksAlgorithm : Algorithm → Scheduled → Tape → Tape → Result Ending CommandFault → Type 0
 ShrinksAlgorithm algorithm schedule before now end =
     TellsShrunk algorithm schedule before now end
-    ⊎ (TellsRefused algorithm schedule before now end ⊎ IsErrAnd end (FailsToWrite before now))
+    ⊎ (TellsRefused algorithm schedule before now end ⊎ RunsOut before now end)
 
 -- how `shrink --algorithm` ends
 abbrev pub AlgorithmShrinkEnds : Reading → Reading → Tape → Tape → Result Ending CommandFault → Type 0

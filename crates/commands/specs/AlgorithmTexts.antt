@@ -12,9 +12,8 @@ use Rattle.schedule.specs.Wholes.{WasRead}
 use Rattle.commands.specs.declared.schedules.ending.Ending.{Ending}
 use Rattle.commands.specs.declared.schedules.fault.CommandFault.{CommandFault}
 use Rattle.commands.specs.declared.schedules.fault.CommandFault.TheVariants as faults
-use Rattle.commands.specs.Endings.{TellsReads}
+use Rattle.commands.specs.Endings.{FailsToRead, TellsReads}
 use Rattle.commands.specs.Settings.{IsWrongText}
-use Rattle.commands.specs.Statuses.{status_of}
 use Rattle.commands.specs.Tellings.{Refuses}
 
 -- the algorithm's text is at fault, or there is no memory
@@ -54,7 +53,7 @@ pub record HoldsOfBoth (Holds : Algorithm → Scheduled → Type 0) (old new : R
 
 -- what is wrong with what was read: the algorithm's text or the schedule's; or a device or memory has failed
 abbrev pub IsUnreadAlgorithm : Reading → Reading → CommandFault → Type 0
-IsUnreadAlgorithm old new fault = IsAlgorithmFault fault ⊎ ((status_of fault ≡ 3) ⊎ IsWrongText old new fault)
+IsUnreadAlgorithm old new fault = IsAlgorithmFault fault ⊎ (FailsToRead old new fault ⊎ IsWrongText old new fault)
 
 -- this holds of the algorithm and the schedule that were read, or the fault of what was to be read is answered and nothing is
 -- written. A failed read isn't taken for the end of the schedule

@@ -1,5 +1,5 @@
 -- How a command ends: what its exit status, or its fault, says of what was read, written and is to be saved.
-use Rattle.std.specs.Prelude.{◌≡◌, ◌≢◌, ◌⊎◌, ℕ, ◌+◌, ◌-◌, ◌*◌, ◌^◌, ◌≤◌, min, Bool, true, false, List, [], length, Option, Some, None, Result, Ok, Err}
+use Rattle.std.specs.Prelude.{◌≡◌, ◌≢◌, ◌⊎◌, ◌↔◌, ℕ, ◌+◌, ◌-◌, ◌*◌, ◌^◌, ◌<◌, ◌≤◌, min, Bool, true, false, List, [], All, length, Option, Some, None, Result, Ok, Err, IsErrAnd}
 use Rattle.crashlab.specs.declared.variant.Variant.{Variant}
 use Rattle.crashlab.specs.declared.variant.Variant.TheVariants.{Right}
 use Rattle.crashlab.specs.Hunted.{hunted}
@@ -13,7 +13,7 @@ use Rattle.schedule.specs.Words.{parts_of}
 use Rattle.schedule.specs.Tapes.{Tape, Writes, Reading}
 use Rattle.schedule.specs.Reports.{verdict_line}
 use Rattle.schedule.specs.TraceJudges.{trace_answer}
-use Rattle.schedule.specs.Wholes.{WasRead}
+use Rattle.schedule.specs.Wholes.{Silent, WasRead}
 use Rattle.schedule.specs.declared.replays.replay_fault.ReplayFault.{ReplayFault}
 use Rattle.schedule.specs.declared.replays.verdict.Verdict.{Verdict}
 use Rattle.crashlab.specs.Shrunk.{Shrinks}
@@ -25,7 +25,7 @@ use Rattle.cli.specs.declared.arguments.args.RunArgs.{RunArgs}
 use Rattle.cli.specs.Sizes.{HuntFits, RunFits}
 use Rattle.commands.specs.declared.schedules.ending.Ending.{Ending}
 use Rattle.commands.specs.declared.schedules.fault.CommandFault.{CommandFault}
-use Rattle.commands.specs.declared.schedules.fault.CommandFault.TheVariants.{BadSize, Write}
+use Rattle.commands.specs.declared.schedules.fault.CommandFault.TheVariants.{BadSize, Member, OutOfMemory, Write}
 use Rattle.commands.specs.Conversations.{SessionEnds}
 use Rattle.commands.specs.AlgorithmDraws.{AlgorithmDrawEnds}
 use Rattle.commands.specs.AlgorithmExplores.{AlgorithmExploreEnds}
@@ -34,11 +34,13 @@ use Rattle.commands.specs.AlgorithmReplays.{AlgorithmReplayEnds}
 use Rattle.commands.specs.AlgorithmSessions.{AlgorithmSessionEnds}
 use Rattle.commands.specs.AlgorithmShrinks.{AlgorithmShrinkEnds}
 use Rattle.commands.specs.Draws.{DrawEnds}
-use Rattle.commands.specs.Endings.{IsBroken, TellsReads}
+use Rattle.commands.specs.Endings.{Prints, ReadsNothing, RunsOut, TellsReads}
 use Rattle.commands.specs.Folders.{Used}
 use Rattle.commands.specs.Replays.{ReplayEnds}
 use Rattle.commands.specs.Shrinks.{ShrinkEnds}
-use Rattle.commands.specs.Statuses.{outcome, outcome_told, status_ended}
+use Rattle.commands.specs.Statuses.{fault_of_replay, outcome, status_after}
+use Rattle.commands.specs.Tallies.{IsFine, tallies_text}
+use Rattle.commands.specs.declared.tally.SenderTally.{SenderTally}
 use Rattle.commands.specs.Explores.{ExploreEnds, nothing_line}
 
 -- a verdict as a line, or as a JSON object
@@ -46,43 +48,43 @@ abbrev pub verdict_told : Bool → Verdict → List ℕ
 verdict_told false verdict = verdict_line verdict
 verdict_told true verdict = verdict_object verdict
 
--- what is printed for a trace: its verdict, or nothing after a fault
-abbrev pub line_told : Bool → Result Verdict ReplayFault → List ℕ
-line_told json (Ok verdict) = verdict_told json verdict
-line_told json (Err fault) = []
+-- the line of a trace's verdict is written, or its fault is answered and nothing is written
+abbrev pub TellsVerdict : Bool → Result Verdict ReplayFault → Tape → Tape → Result Ending CommandFault → Type 0
+TellsVerdict json (Ok verdict) before now end = Prints (status_after verdict) (verdict_told json verdict) before now end
+TellsVerdict json (Err fault) before now end = (end ≡ Err (fault_of_replay fault)) × Silent before now
 
--- a trace was read to its end: the result is that of its text, whose line was written
+-- a trace was read to its end: the result is that of its text
 pub record TellsTrace (json : Bool) (old new : Reading) (before now : Tape) (end : Result Ending CommandFault) : Type 0 where
   pub text : List ℕ
   pub read : WasRead old new text
-  pub outcome_is : outcome end ≡ outcome_told (trace_answer (parts_of text))
-  pub line : Writes before now (line_told json (trace_answer (parts_of text)))
+  pub told : TellsVerdict json (trace_answer (parts_of text)) before now end
 
 -- how `judge` ends
 abbrev pub JudgeEnds : Bool → Reading → Reading → Tape → Tape → Result Ending CommandFault → Type 0
-JudgeEnds json old new before now end = (IsBroken end ⊎ TellsTrace json old new before now end) × TellsReads old new end
+JudgeEnds json old new before now end = ReadsNothing old new before now end ⊎ TellsTrace json old new before now end
 
 -- the schedule that was found is written, or a shrunk one
-abbrev pub TellsFound : Bool → Variant → Scheduled → Tape → Tape → Type 0
-TellsFound false variant found before now = Writes before now (spelling found)
-TellsFound true variant found before now = (least : Scheduled) × Shrinks variant found (Some least) × Writes before now (spelling least)
+abbrev pub TellsFound : Bool → Variant → Scheduled → Tape → Tape → Result Ending CommandFault → Type 0
+TellsFound false variant found before now end = Prints 1 (spelling found) before now end
+TellsFound true variant found before now end =
+    ((least : Scheduled) × Shrinks variant found (Some least) × Prints 1 (spelling least) before now end) ⊎ RunsOut before now end
 
--- a wrong variant fails on a schedule with at most the moves asked for, and the schedule was written
-pub record TellsFind (args : HuntArgs) (before now : Tape) : Type 0 where
+-- a wrong variant fails on a schedule with at most the moves asked for, and the schedule is written
+pub record TellsFind (args : HuntArgs) (before now : Tape) (end : Result Ending CommandFault) : Type 0 where
   pub wrong : args.variant ≢ Right
   pub schedule : Scheduled
   pub few : length schedule.lines ≤ args.steps
   pub found : IsFound args.variant schedule
   pub exact : Some schedule ≡ hunted args.variant args.seed args.rounds args.steps
-  pub text : TellsFound args.shrink args.variant schedule before now
+  pub text : TellsFound args.shrink args.variant schedule before now end
 
--- how `hunt` ends: nothing found, a schedule found, sizes out of their ranges, or a failure
+-- how `hunt` ends: nothing found, a schedule found, sizes out of their ranges, or out of memory before either is known
 abbrev pub HuntEnds : HuntArgs → Tape → Tape → Result Ending CommandFault → Type 0
 HuntEnds args before now end =
-    (outcome end ≡ Ok 0) × (None ≡ hunted args.variant args.seed args.rounds args.steps) × Writes before now nothing_line
-    ⊎ (outcome end ≡ Ok 1) × TellsFind args before now
-    ⊎ (outcome end ≡ Err BadSize) × (HuntFits args → ⊥)
-    ⊎ IsBroken end
+    (None ≡ hunted args.variant args.seed args.rounds args.steps) × Prints 0 nothing_line before now end
+    ⊎ TellsFind args before now end
+    ⊎ (end ≡ Err BadSize) × (HuntFits args → ⊥) × Silent before now
+    ⊎ RunsOut before now end
 
 -- the sizes of a run's lab: room for each message, and the greatest limit of numbers
 abbrev pub lab_for : RunArgs → Spec
@@ -95,9 +97,25 @@ lab_for args =
       width = args.width;
     }
 
--- status 2 means sizes outside their ranges
-abbrev pub RunEnds : RunArgs → Result Ending CommandFault → Type 0
-RunEnds args end = status_ended end ≡ 2 → RunFits args → ⊥
+-- the lines of the tallies are written, and the status is 0 if each message came once and in order
+pub record TellsTallies (before now : Tape) (end : Result Ending CommandFault) : Type 0 where
+  pub tallies : List (ℕ × SenderTally)
+  pub status : ℕ
+  pub few : (status ≡ 0) ⊎ (status ≡ 1)
+  pub fine : (status ≡ 0) ↔ All (λ e. IsFine e.1) tallies
+  pub prints : Prints status (tallies_text tallies) before now end
+
+-- why a run has no tallies: a size is outside its range, a sender could not go on, or memory has run out
+abbrev pub HasNoTallies : RunArgs → CommandFault → Type 0
+HasNoTallies args BadSize = RunFits args → ⊥
+HasNoTallies args (Member p) = p < args.procs
+HasNoTallies args OutOfMemory = Unit {0}
+HasNoTallies args fault = ⊥
+
+-- how `run` ends
+abbrev pub RunEnds : RunArgs → Tape → Tape → Result Ending CommandFault → Type 0
+RunEnds args before now end =
+    TellsTallies before now end ⊎ IsErrAnd end (λ fault. HasNoTallies args fault × Silent before now)
 
 -- the meaning of an entry was written, or the names of all entries
 abbrev pub Explains : Option DictionaryEntry → Tape → Tape → Type 0
@@ -118,7 +136,7 @@ SessionEndsOf command image old new before now blank written end = ⊥
 abbrev pub CommandEnds : Command → Option (List ℕ) → Reading → Reading → Tape → Tape → Result Ending CommandFault → Type 0
 CommandEnds (Replay args) image old new before now end = ReplayEnds args image old new before now end
 CommandEnds (ReplayAlgorithm args) image old new before now end = AlgorithmReplayEnds old new before now end
-CommandEnds (Run args) image old new before now end = RunEnds args end
+CommandEnds (Run args) image old new before now end = RunEnds args before now end
 CommandEnds (Hunt args) image old new before now end = HuntEnds args before now end
 CommandEnds (HuntAlgorithm args) image old new before now end = (new ≡ old) × AlgorithmHuntEnds args before now end
 CommandEnds (Explore args) image old new before now end = ExploreEnds args before now end

@@ -4,12 +4,13 @@ use Rattle.std.specs.declared.alloc.Global.{Global}
 use Rattle.schedule.specs.declared.replays.replay_fault.ReplayFault.{ReplayFault}
 use Rattle.schedule.specs.declared.replays.replay_fault.ReplayFault.TheVariants.{Read, Write, OutOfMemory}
 use Rattle.schedule.specs.Schedules.{Scheduled, schedule_at, spelling}
-use Rattle.schedule.specs.Tapes.{Tape, Reading, Writes}
+use Rattle.schedule.specs.Tapes.{Tape, Reading, Begins, Writes}
 use Rattle.schedule.specs.Words.{parts_of, words_of}
 use Rattle.diagram.specs.declared.session.opened.Reply.{Reply}
 use Rattle.diagram.specs.declared.session.opened.Reply.TheVariants as replies
 use Rattle.commands.specs.Folders.{Used}
-use Rattle.commands.specs.Statuses.{status_of}
+use Rattle.commands.specs.Endings.{FailsIn, FailsToRead}
+use Rattle.commands.specs.Statuses.{fault_of_replay}
 use Rattle.commands.specs.declared.schedules.ending.Ending.{Ending}
 use Rattle.commands.specs.declared.schedules.fault.CommandFault.{CommandFault}
 use Rattle.commands.specs.declared.schedules.fault.CommandFault.TheVariants.{Refused}
@@ -50,12 +51,17 @@ abbrev pub last_text : {S : Type 0} → SessionState S → List ℕ → List ℕ
 last_text session [] = []
 last_text session rest = fault_text (next_number session) (codes "fault ") 5
 
--- the text was written, or a device or memory has failed
+-- the text was written; or a write has failed after a beginning of it; or memory has run out, and nothing was written
 abbrev pub WritesOr : Tape → Tape → List ℕ → Result (Unit {0}) ReplayFault → Type 0
 WritesOr before now text (Ok x) = Writes before now text
-WritesOr before now text (Err Write) = now.failures ≡ min (before.failures + 1) (2 ^ 64 - 1)
-WritesOr before now text (Err OutOfMemory) = now.failures ≡ before.failures
-WritesOr before now text (Err fault) = ⊥
+WritesOr before now text (Err fault) = FailsIn text before now (fault_of_replay fault)
+
+-- what has failed: a read, a write, or memory
+abbrev pub FailsBy : ReplayFault → Reading → Reading → Tape → Tape → Type 0
+FailsBy Read old new blank written = (new.failures ≡ min (old.failures + 1) (2 ^ 64 - 1)) × (written.failures ≡ blank.failures)
+FailsBy Write old new blank written = (new.failures ≡ old.failures) × (written.failures ≡ min (blank.failures + 1) (2 ^ 64 - 1))
+FailsBy OutOfMemory old new blank written = (new.failures ≡ old.failures) × (written.failures ≡ blank.failures)
+FailsBy fault old new blank written = ⊥
 
 module _ {S : Type 0} (b : Semantics S) where
   -- the answer to one line, by what is to be done
@@ -90,15 +96,52 @@ module _ {S : Type 0} (b : Semantics S) where
     pub ends : ((reply_to (request_in after last) ≡ replies.Quits) × (said ≡ answers))
         ⊎ ((more ≡ []) × (ended ≡ true) × (said ≡ answers ++ last_text after last))
 
+  -- the files that a line that was read, and not answered, has written: where it saves, perhaps its file
+  abbrev pub IsBegunBy : Reply → SessionState S → List ℕ → Used → Used → Type 0
+  IsBegunBy replies.Saves session line before now = (now ≡ before) ⊎ WritesFile before now (file_in line) (spelling session.schedule)
+  IsBegunBy reply session line before now = now ≡ before
+
+  abbrev pub IsBegun : SessionState S → List ℕ → Used → Used → Type 0
+  IsBegun session line before now = IsBegunBy (reply_to (request_in session line)) session line before now
+
+  -- what is due of this line, with these after it: nothing yet; its answer; or the fault of an unfinished last line
+  abbrev pub IsDueOf : SessionState S → List ℕ → List (List ℕ) → Used → Used → List ℕ → Type 0
+  IsDueOf session line rest before now text =
+      IsBegun session line before now × (text ≡ [])
+      ⊎ (IsAnswer session line before now text ⊎ (rest ≡ []) × (now ≡ before) × (text ≡ last_text session line))
+
+  -- what is due after the lines that were answered: nothing, or something of the next
+  abbrev pub IsDue : SessionState S → List (List ℕ) → Used → Used → List ℕ → Type 0
+  IsDue session more before now text =
+      (now ≡ before) × (text ≡ [])
+      ⊎ ((line : List ℕ) × (rest : List (List ℕ)) × (more ≡ line ∷ rest) × IsDueOf session line rest before now text)
+
+  -- the session has broken off: these lines were answered, each file that they name was written, and of what is due after them a beginning
+  -- was written
+  pub record BreaksOff (session : SessionState S) (input : List ℕ) (before now : Used) (blank written : Tape) : Type 0 where
+    pub lines : List (List ℕ)
+    pub more : List (List ℕ)
+    pub parts : parts_of input ≡ lines ++ more
+    pub after : SessionState S
+    pub used : Used
+    pub answers : List ℕ
+    pub answered : AreAnswers session lines before used after answers
+    pub text : List ℕ
+    pub due : IsDue after more used now text
+    pub beginning : Begins (blank.taken ++ answers) written.taken text
+
+  -- in the text that was read
+  abbrev pub BreaksOffIn : SessionState S → List ℕ → Reading → Reading → Used → Used → Tape → Tape → Type 0
+  BreaksOffIn session buffer old new before now blank written =
+      (text : List ℕ) × (new.given ≡ old.given ++ text) × BreaksOff session (buffer ++ text) before now blank written
+
   -- what was read, kept and written of the lines of a session
   abbrev pub HoldsSession : SessionState S → List ℕ → Reading → Reading → Used → Used → Tape → Tape → Result (Unit {0}) ReplayFault → Type 0
   HoldsSession session buffer old new before now blank written (Ok x) =
       (text : List ℕ) × (new.given ≡ old.given ++ text) × (new.failures ≡ old.failures)
       × ((said : List ℕ) × Converses session (buffer ++ text) new.ended before now said × Writes blank written said)
-  HoldsSession session buffer old new before now blank written (Err Read) = new.failures ≡ min (old.failures + 1) (2 ^ 64 - 1)
-  HoldsSession session buffer old new before now blank written (Err Write) = written.failures ≡ min (blank.failures + 1) (2 ^ 64 - 1)
-  HoldsSession session buffer old new before now blank written (Err OutOfMemory) = (new.failures ≡ old.failures) × (written.failures ≡ blank.failures)
-  HoldsSession session buffer old new before now blank written (Err fault) = ⊥
+  HoldsSession session buffer old new before now blank written (Err fault) =
+      FailsBy fault old new blank written × BreaksOffIn session buffer old new before now blank written
 
 -- ---- the whole
 
@@ -149,8 +192,27 @@ pub record IsHeld (start : Option (List ℕ)) (old new : Reading) (before now : 
   pub first : Writes blank opening (standing_text lock_semantics (lock_session schedule))
   pub holds : HoldsSession lock_semantics (lock_session schedule) buffer opened new before now opening written (Ok tt)
 
--- how a session ends: at its end with status 0; or it can't begin, and nothing was written; or a device or memory has failed
+-- a session has broken off over this simulation, after this schedule and buffer were read: the state at its begin was not written, or
+-- what follows it
+abbrev pub BreaksAfter : {S : Type 0} → Semantics S → SessionState S → List ℕ → Reading → Reading → Used → Used → Tape → Tape → CommandFault → Type 0
+BreaksAfter b session buffer opened new before now blank written fault =
+    (new ≡ opened) × (now ≡ before) × FailsIn (standing_text b session) blank written fault
+    ⊎ ((opening : Tape) × Writes blank opening (standing_text b session) × ((broke : ReplayFault) × (fault ≡ fault_of_replay broke)
+    × HoldsSession b session buffer opened new before now opening written (Err broke)))
+
+-- it began with this schedule, and has broken off
+pub record IsCutOff (start : Option (List ℕ)) (old new : Reading) (before now : Used) (blank written : Tape) (fault : CommandFault) : Type 0 where
+  pub schedule : Scheduled
+  pub opened : Reading
+  pub buffer : List ℕ
+  pub opens : Opens start old opened buffer schedule
+  pub accepted : (world_run schedule).refused ≡ None
+  pub breaks : BreaksAfter lock_semantics (lock_session schedule) buffer opened new before now blank written fault
+
+-- how a session ends: at its end with status 0; or it can't begin, or a read or memory has failed, and nothing was written; or it has
+-- broken off
 abbrev pub SessionEnds : Option (List ℕ) → Reading → Reading → Used → Used → Tape → Tape → Result Ending CommandFault → Type 0
 SessionEnds start old new before now blank written (Ok ending) = (ending.status ≡ 0) × IsHeld start old new before now blank written
 SessionEnds start old new before now blank written (Err fault) =
-    (status_of fault ≡ 3) ⊎ (CantBegin start old new fault × Silent blank written × (now ≡ before))
+    (FailsToRead old new fault ⊎ CantBegin start old new fault) × Silent blank written × (now ≡ before)
+    ⊎ IsCutOff start old new before now blank written fault

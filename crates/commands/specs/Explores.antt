@@ -8,12 +8,14 @@ use Rattle.rmeworld.specs.WorldState.{new_refusal}
 use Rattle.schedule.specs.Tapes.{Tape, Writes}
 use Rattle.schedule.specs.Schedules.{Scheduled, spelling}
 use Rattle.schedule.specs.Wholes.{Silent}
-use Rattle.explorer.specs.Paths.{HasMoreStates, HasMoreStatesWithin, IsNumberOfStates}
+use Rattle.explorer.specs.BreadthFirst.{EndsOnMany}
 use Rattle.explorer.specs.Fairness.{IsLassoOf, IsLeastLasso, IsNeverStarving}
+use Rattle.explorer.specs.Paths.{HasMoreStates, IsNumberOfStates}
 use Rattle.explorer.specs.Stuck.{LeadsToStuck, IsShortestToStuck, IsNeverStuck}
 use Rattle.schedule.specs.Words.{line_of}
 use Rattle.crashlab.specs.declared.variant.Variant.TheVariants.{Right}
 use Rattle.crashlab.specs.declared.space.moves.Move.{Move}
+use Rattle.crashlab.specs.Numbered.{numbered}
 use Rattle.crashlab.specs.SearchStateWords.{search_state_words}
 use Rattle.crashlab.specs.Spaces.{first_search_state, line_by, rules}
 use Rattle.crashlab.specs.Starving.{world_rules, fairness}
@@ -101,9 +103,9 @@ pub record TellsNone (args : ExploreArgs) (before now : Tape) : Type 0 where
 abbrev pub IsNoSize : ExploreArgs → Type 0
 IsNoSize args = (new_refusal (layout_of args) args.limit ≡ None → ⊥) ⊎ ((1 ≤ args.width) × (args.width ≤ 8) → ⊥)
 
--- within the bound of moves there are more states than may be kept, and nothing was written
+-- breadth-first search within the bound of moves comes to more states than may be kept, before one with a fault, and nothing was written
 pub record HasTooMany (args : ExploreArgs) (before now : Tape) : Type 0 where
-  pub more : HasMoreStatesWithin (rules (key_by (variables_by args.all_variables))) (first_search_state args.variant (layout_of args) args.limit args.crashes (calls_of args)) args.moves args.states
+  pub more : EndsOnMany (numbered (key_by (variables_by args.all_variables))) (first_search_state args.variant (layout_of args) args.limit args.crashes (calls_of args)) args.moves args.states
   pub silent : Silent before now
 
 -- how `explore` ends without `--stuck` and `--starving`

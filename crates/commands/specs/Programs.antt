@@ -1,20 +1,21 @@
 -- What the program does with files, and when it writes to standard error.
-use Rattle.std.specs.Prelude.{◌≡◌, ◌≤◌, ◌⊎◌, ℕ, List, ◌++◌, [], true, false, String, string_bytes, Vec, Option, None, is_some, option_to_list, Result, Ok, Err, IfOk, OnOk}
+use Rattle.std.specs.Prelude.{◌≡◌, ◌≤◌, ◌⊎◌, ℕ, ◌+◌, ◌-◌, ◌^◌, min, List, ◌++◌, [], true, false, String, string_bytes, Vec, Option, None, is_some, option_to_list, Result, Ok, Err, IfOk, OnOk}
 use Rattle.std.specs.declared.alloc.Global.{Global}
 use Rattle.commands.specs.declared.schedules.ending.Ending.{Ending}
 use Rattle.commands.specs.declared.schedules.fault.CommandFault.{CommandFault}
-use Rattle.commands.specs.declared.schedules.fault.CommandFault.TheVariants.{BadVariant, BadSize, Write, OutOfMemory}
+use Rattle.commands.specs.declared.schedules.fault.CommandFault.TheVariants.{BadVariant, BadSize, Read, Write, OutOfMemory}
 use Rattle.schedule.specs.Tapes.{Tape, Writes, Reading}
 use Rattle.cli.specs.declared.arguments.args.Command.{Command}
 use Rattle.cli.specs.declared.arguments.words.WordsFault.{WordsFault}
 use Rattle.cli.specs.declared.arguments.words.WordsFault.TheVariants as words
 use Rattle.commands.specs.Commands.{CommandEnds, SessionEndsOf}
-use Rattle.commands.specs.Endings.{IsBroken, IsEnded}
+use Rattle.commands.specs.Endings.{IsEnded}
 pub use Rattle.commands.specs.Folders.{Used, is_session}
 use Rattle.cli.specs.FilesNamed.{image_of, input_of, save_of}
 use Rattle.commands.specs.Lines.{fault_line, IsTold}
 use Rattle.cli.specs.Sizes.{IsSized}
-use Rattle.commands.specs.Statuses.{save_ended, status_ended, status_of}
+use Rattle.cli.specs.ReadWords.{IsCommand, IsRefusal, Takes, texts_of}
+use Rattle.commands.specs.Statuses.{save_ended, status_ended}
 
 -- ---- files
 
@@ -40,12 +41,6 @@ pub record SavesNone (before now : Used) : Type 0 where
   pub names : now.saved ≡ before.saved
   pub texts : now.texts ≡ before.texts
 
--- after a fault nothing was saved, unless saving itself has failed; then no write and no flush had failed before
-abbrev pub Saves : Command → Used → Used → Tape → Tape → Result Ending CommandFault → Type 0
-Saves command before now blank written (Ok ending) = SavesAll command before now ending.save
-Saves command before now blank written (Err fault) =
-    SavesNone before now ⊎ (status_of fault ≡ 3) × (now.saved ≡ saves_all command before.saved) × (written.failures ≡ blank.failures)
-
 -- ---- what is read and written
 
 -- the command ends like this, with the text of an image if the command names one
@@ -53,19 +48,27 @@ abbrev pub EndsBeside : Command → Reading → Reading → Tape → Tape → Re
 EndsBeside command old new before now end =
     (image : Option (List ℕ)) × (is_some image ≡ is_some (image_of command)) × CommandEnds command image old new before now end
 
--- a device or memory may fail as well
+-- a file that the command names can't be read, and nothing was written
+pub record CantOpen (before now : Tape) (end : Result Ending CommandFault) : Type 0 where
+  pub fault : (end ≡ Err Read) ⊎ (end ≡ Err OutOfMemory)
+  pub unwritten : now ≡ before
+
+-- nothing was read before
+abbrev pub unread : Reading
+unread = record { given = []; ended = false; failures = 0 }
+
+-- on standard input. The image is read first
 abbrev pub EndsOnInput : Command → Reading → Reading → Tape → Tape → Result Ending CommandFault → Type 0
-EndsOnInput command old new before now end = IsBroken end ⊎ EndsBeside command old new before now end
+EndsOnInput command old new before now end = CantOpen before now end × (new ≡ old) ⊎ EndsBeside command old new before now end
 
 -- the contract on a file is the one on standard input
 abbrev pub EndsOnFile : Command → Tape → Tape → Result Ending CommandFault → Type 0
-EndsOnFile command before now end =
-    IsBroken end ⊎ ((last : Reading) × EndsBeside command (record { given = []; ended = false; failures = 0 }) last before now end)
+EndsOnFile command before now end = CantOpen before now end ⊎ ((last : Reading) × EndsBeside command unread last before now end)
 
--- a session on standard input, which begins where nothing was written to any file. A device or memory may fail as well
+-- a session on standard input, which begins where nothing was written to any file
 abbrev pub SessionEndsIn : Command → Used → Used → Reading → Reading → Tape → Tape → Result Ending CommandFault → Type 0
 SessionEndsIn command before now old new blank written end =
-    IsBroken end
+    CantOpen blank written end × (new ≡ old) × SavesNone before now
     ⊎ ((image : Option (List ℕ)) × (is_some image ≡ is_some (image_of command)) × (first : Used) × SavesNone before first
     × SessionEndsOf command image old new first now blank written end)
 
@@ -74,16 +77,49 @@ abbrev pub IsWhole : Tape → Tape → Result Ending CommandFault → Type 0
 IsWhole before now (Ok ending) = (ending.status ≤ 1) × (now.failures ≡ before.failures)
 IsWhole before now (Err fault) = Unit {0}
 
+-- ---- the end of a command: its output is flushed, then its image is saved
+
+-- the output could not be flushed: that is the fault, and nothing is saved
+pub record CantFlush (before now : Used) (output written : Tape) (end : Result Ending CommandFault) : Type 0 where
+  pub taken : written.taken ≡ output.taken
+  pub failed : written.failures ≡ min (output.failures + 1) (2 ^ 64 - 1)
+  pub fault : end ≡ Err Write
+  pub unsaved : SavesNone before now
+
+-- the command has a fault, and nothing is saved
+pub record KeepsFault (before now : Used) (ended end : Result Ending CommandFault) : Type 0 where
+  pub fault : CommandFault
+  pub is : ended ≡ Err fault
+  pub same : end ≡ Err fault
+  pub unsaved : SavesNone before now
+
+-- the image that is to be saved was saved, or that has failed
+pub record SavesLast (command : Command) (before now : Used) (ended end : Result Ending CommandFault) : Type 0 where
+  pub ending : Ending
+  pub is : ended ≡ Ok ending
+  pub saves : SavesAll command before now ending.save
+  pub ends : (end ≡ Ok ending) ⊎ (is_some (save_of command) ≡ true) × ((end ≡ Err Write) ⊎ (end ≡ Err OutOfMemory))
+
+abbrev pub Finishes : Command → Used → Used → Tape → Tape → Result Ending CommandFault → Result Ending CommandFault → Type 0
+Finishes command before now output written ended end =
+    CantFlush before now output written end
+    ⊎ (written ≡ output) × (KeepsFault before now ended end ⊎ SavesLast command before now ended end)
+
 -- what is done for a command: standard input is read if and only if no file is named
 pub record Does (command : Command) (before now : Used) (old new : Reading) (blank written : Tape) (end : Result Ending CommandFault) : Type 0 where
+  -- how it ended before its output was flushed, and what was kept and written by then
+  pub used : Used
+  pub output : Tape
+  pub ended : Result Ending CommandFault
   pub opens_all : OnOk end (now.opened ≡ opens_all command before.opened)
   pub opens_some : OpensSome command before.opened now.opened
-  pub saves : is_session command ≡ false → Saves command before now blank written end
-  pub session : is_session command ≡ true → SessionEndsIn command before now old new blank written end
+  pub unsaved : is_session command ≡ false → SavesNone before used
+  pub session : is_session command ≡ true → SessionEndsIn command before used old new blank output ended
   pub whole : IsWhole blank written end
   pub apart : is_some (input_of command) ≡ true → new ≡ old
-  pub on_input : input_of command ≡ None → EndsOnInput command old new blank written end
-  pub on_file : is_some (input_of command) ≡ true → EndsOnFile command blank written end
+  pub on_input : input_of command ≡ None → EndsOnInput command old new blank output ended
+  pub on_file : is_some (input_of command) ≡ true → EndsOnFile command blank output ended
+  pub finishes : Finishes command used now output written ended end
 
 -- the line of a fault, or nothing
 abbrev pub Tells : Tape → Tape → Result Ending CommandFault → Type 0
@@ -128,8 +164,49 @@ Answers words.BadVariant blank written said says status = IsTold said says (faul
 Answers words.BadSize blank written said says status = IsTold said says (fault_line BadSize) × (status ≡ 2)
 Answers words.OutOfMemory blank written said says status = IsTold said says (fault_line OutOfMemory) × (status ≡ 3)
 
--- a command is carried out, or only the fault of the words is reported
-abbrev pub IsProgram : Used → Used → Reading → Reading → Tape → Tape → Tape → Tape → ℕ → Type 0
-IsProgram before now old new blank written said says status =
-    ((command : Command) × IsSized command × Obeys command before now old new blank written said says status)
-    ⊎ ((fault : WordsFault) × Answers fault blank written said says status × (now ≡ before) × (new ≡ old))
+-- the words of a command line, or why they can't be read
+abbrev pub GivenWords : Type 0
+GivenWords = Result (Vec (String Global) Global) WordsFault
+
+-- the words spell this command
+abbrev pub IsAsked : GivenWords → Command → Type 0
+IsAsked (Ok words) command = Takes (texts_of words.items) (λ name given. IsCommand name given command) × IsSized command
+IsAsked (Err fault) command = ⊥
+
+-- why the words spell no command
+abbrev pub IsUnasked : GivenWords → WordsFault → Type 0
+IsUnasked (Ok words) fault = IsRefusal (texts_of words.items) fault
+IsUnasked (Err unread) fault = fault ≡ unread
+
+-- the command that the words spell is carried out, or only the fault of the words is reported
+abbrev pub IsProgram : GivenWords → Used → Used → Reading → Reading → Tape → Tape → Tape → Tape → ℕ → Type 0
+IsProgram words before now old new blank written said says status =
+    ((command : Command) × IsAsked words command × Obeys command before now old new blank written said says status)
+    ⊎ ((fault : WordsFault) × IsUnasked words fault × Answers fault blank written said says status × (now ≡ before) × (new ≡ old))
+
+-- ---- a process
+
+-- the program over the input and the outputs of a process, of which nothing was read before
+pub record RunsWords (words : GivenWords) (before now : Used) (status : ℕ) : Type 0 where
+  pub new : Reading
+  pub blank : Tape
+  pub written : Tape
+  pub said : Tape
+  pub says : Tape
+  pub is : IsProgram words before now unread new blank written said says status
+
+-- there is no memory to buffer the output: nothing is done
+pub record CantBuffer (before now : Used) (status : ℕ) : Type 0 where
+  pub same : now ≡ before
+  pub status_is : status ≡ 3
+  pub said : Tape
+  pub says : Tape
+  pub told : IsTold said says (fault_line OutOfMemory)
+
+-- the exit status of a process that runs the program
+abbrev pub RunsProgram : GivenWords → Used → Used → ℕ → Type 0
+RunsProgram words before now status = RunsWords words before now status ⊎ CantBuffer before now status
+
+-- no file was opened or written before
+abbrev pub unused : Used
+unused = record { opened = []; saved = []; texts = [] }

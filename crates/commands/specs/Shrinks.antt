@@ -3,7 +3,7 @@ use Rattle.std.specs.Prelude.{◌≡◌, ◌⊎◌, ℕ, List, Option, Some, Non
 use Rattle.crashlab.specs.declared.variant.Variant.{Variant}
 use Rattle.schedule.specs.declared.replays.replay_fault.ReplayFault.TheVariants as faults_of_replay
 use Rattle.schedule.specs.declared.replays.verdict.Verdict.TheVariants.{Fine}
-use Rattle.schedule.specs.Tapes.{Tape, Writes, Reading}
+use Rattle.schedule.specs.Tapes.{Tape, Reading}
 use Rattle.schedule.specs.Reports.{verdict_line}
 use Rattle.schedule.specs.Schedules.{Scheduled, schedule_at, spelling}
 use Rattle.schedule.specs.Wholes.{Silent, WasRead}
@@ -13,7 +13,7 @@ use Rattle.commands.specs.declared.schedules.fault.CommandFault.{CommandFault}
 use Rattle.commands.specs.declared.schedules.fault.CommandFault.TheVariants.{Refused}
 use Rattle.cli.specs.declared.arguments.args.ShrinkArgs.{ShrinkArgs}
 use Rattle.commands.specs.Settings.{IsWrongText}
-use Rattle.commands.specs.Statuses.{outcome, status_ended}
+use Rattle.commands.specs.Endings.{Prints, ReadsNothing, RunsOut}
 
 -- the text that is written: the shrunk schedule, or the line of a fine verdict
 abbrev pub shrunk_text : Option Scheduled → List ℕ
@@ -25,12 +25,11 @@ abbrev pub shrunk_status : Option Scheduled → ℕ
 shrunk_status (Some least) = 1
 shrunk_status None = 0
 
--- what shrinking answers was written
+-- what shrinking answers is written
 pub record TellsShrunk (variant : Variant) (schedule : Scheduled) (before now : Tape) (end : Result Ending CommandFault) : Type 0 where
   pub answer : Option Scheduled
   pub shrinks : Shrinks variant schedule answer
-  pub written : Writes before now (shrunk_text answer)
-  pub status : outcome end ≡ Ok (shrunk_status answer)
+  pub prints : Prints (shrunk_status answer) (shrunk_text answer) before now end
 
 -- the fault is the line that the variant's world refuses, and nothing is written
 pub record TellsRefused (variant : Variant) (schedule : Scheduled) (before now : Tape) (end : Result Ending CommandFault) : Type 0 where
@@ -40,10 +39,10 @@ pub record TellsRefused (variant : Variant) (schedule : Scheduled) (before now :
   pub told : end ≡ Err (Refused line number)
   pub silent : Silent before now
 
--- the schedule is shrunk, a line of it is refused, or a device or memory has failed
+-- the schedule is shrunk, a line of it is refused, or memory has run out before either is known
 abbrev pub ShrinksSchedule : Variant → Scheduled → Tape → Tape → Result Ending CommandFault → Type 0
 ShrinksSchedule variant schedule before now end =
-    TellsShrunk variant schedule before now end ⊎ (TellsRefused variant schedule before now end ⊎ (status_ended end ≡ 3))
+    TellsShrunk variant schedule before now end ⊎ (TellsRefused variant schedule before now end ⊎ RunsOut before now end)
 
 -- the schedule that was read is shrunk
 pub record ShrinksText (variant : Variant) (old new : Reading) (before now : Tape) (end : Result Ending CommandFault) : Type 0 where
@@ -63,4 +62,4 @@ pub record TellsText (old new : Reading) (before now : Tape) (end : Result Endin
 -- how `shrink` ends
 abbrev pub ShrinkEnds : ShrinkArgs → Reading → Reading → Tape → Tape → Result Ending CommandFault → Type 0
 ShrinkEnds args old new before now end =
-    ShrinksText args.variant old new before now end ⊎ (TellsText old new before now end ⊎ (status_ended end ≡ 3))
+    ShrinksText args.variant old new before now end ⊎ (TellsText old new before now end ⊎ ReadsNothing old new before now end)

@@ -37,7 +37,8 @@ use Rattle.commands.specs.declared.schedules.ending.Ending.{Ending}
 use Rattle.commands.specs.declared.schedules.fault.CommandFault.{CommandFault}
 use Rattle.commands.specs.declared.schedules.fault.CommandFault.TheVariants as faults
 use Rattle.commands.specs.Settings.{IsFitting, IsMadeFit, IsMisfit, IsPicture, IsUnmade, IsWrongImage, IsWrongText}
-use Rattle.commands.specs.Statuses.{outcome, outcome_told, status_after, status_of}
+use Rattle.commands.specs.Endings.{FailsToRead}
+use Rattle.commands.specs.Statuses.{outcome, outcome_told, status_after}
 use Rattle.schedule.specs.Wholes.{Silent, WasRead, layout_of}
 
 -- ---- one run
@@ -167,7 +168,7 @@ pub record TellsText (variant : Variant) (manner : Manner) (image : Option (List
 -- what is wrong with what was read: the image or the text; or a device or memory has failed
 abbrev pub IsUnread : Option (List ℕ) → Reading → Reading → CommandFault → Type 0
 IsUnread image old new fault =
-    (status_of fault ≡ 3) ⊎ (IsWrongImage image fault ⊎ IsWrongText old new fault)
+    FailsToRead old new fault ⊎ (IsWrongImage image fault ⊎ IsWrongText old new fault)
 
 -- the run is written, or the fault of what was to be read is answered
 abbrev pub TellsRead : Variant → Manner → Option (List ℕ) → Reading → Reading → Tape → Tape → Result Ending CommandFault → Type 0

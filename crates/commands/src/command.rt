@@ -1,13 +1,13 @@
 //! The commands, over a reader and two writers.
 
-ghost use Rattle.std.specs.Prelude.{◌≡◌, IfErr, IfOk, OnOk, is_some, option_copied, true, false};
+ghost use Rattle.std.specs.Prelude.{◌≡◌, IfOk, is_some, option_copied, true, false};
 ghost use Rattle.crashlab.specs.Hunts.{IsFound};
 ghost use Rattle.commands.specs.Commands.{CommandEnds, ExplainEnds, HuntEnds, JudgeEnds, SessionEndsOf, TellsFound, verdict_told};
-ghost use Rattle.commands.specs.Endings.{IsEnded};
+ghost use Rattle.commands.specs.Endings.{IsEnded, Prints};
 ghost use Rattle.cli.specs.FilesNamed.{save_of};
 ghost use Rattle.commands.specs.Programs.{CarriesOut};
 ghost use Rattle.commands.specs.Folders.{is_session};
-ghost use Rattle.commands.specs.Statuses.{status_of};
+ghost use Rattle.commands.specs.Statuses.{status_after};
 
 use crate::algorithm_exploring::algorithm_explore_command;
 use crate::algorithm_hunting::algorithm_hunt_command;
@@ -27,7 +27,7 @@ use crate::schedules::fault::CommandFault;
 use crate::schedules::line::told;
 use crate::schedules::replaying::replay_command;
 use crate::schedules::shrunk::shrink_command;
-use crate::schedules::telling::{tell_nothing, write_lines};
+use crate::schedules::telling::{tell_nothing, tell_schedule};
 use crate::sessions::algorithm::algorithm_session_command;
 use crate::sessions::holding::session_command;
 use cli::arguments::args::{Command, HuntArgs};
@@ -53,6 +53,26 @@ fn verdict_line(alloc: Global, json: bool, verdict: Verdict) -> Result<Vec<u8>, 
     Ok(line)
 }
 
+/// Writes a verdict.
+fn tell_verdict<W: Sink>(
+    alloc: Global,
+    json: bool,
+    verdict: Verdict,
+    w: &mut W,
+) -> Result<Ending, CommandFault>
+    ensures told { Prints (status_after verdict) (verdict_told json verdict) (W.tape w.old) (W.tape w.new) result }
+    ensures ended { IfOk result (IsEnded false (W.tape w.old).failures (W.tape w.new).failures) }
+{
+    let line = verdict_line(alloc, json, verdict)?;
+    if write_all(w, &line).is_err() {
+        return Err(CommandFault::Write);
+    }
+    Ok(Ending {
+        status: status_after_verdict(verdict),
+        save: None,
+    })
+}
+
 /// Writes the verdict of a trace, as a line or as a JSON object.
 fn judge_command<R: Source, W: Sink>(
     alloc: Global,
@@ -64,46 +84,39 @@ fn judge_command<R: Source, W: Sink>(
     ensures ended { IfOk result (IsEnded false (W.tape w.old).failures (W.tape w.new).failures) }
 {
     let verdict = judge_trace(alloc, r)?;
-    let line = verdict_line(alloc, json, verdict)?;
-    if write_all(w, &line).is_err() {
-        return Err(CommandFault::Write);
-    }
-    Ok(Ending {
-        status: status_after_verdict(verdict),
-        save: None,
-    })
+    tell_verdict(alloc, json, verdict, w)
 }
 
 /// Shrinks the schedule that a hunt has found, and writes it.
-fn write_least<W: Sink>(
+fn tell_least<W: Sink>(
     alloc: Global,
     variant: Variant,
     found: &Schedule,
     w: &mut W,
-) -> Result<(), CommandFault>
+) -> Result<Ending, CommandFault>
     requires { IsFound variant found.now }
-    ensures written { OnOk result (TellsFound true variant found.now (W.tape w.old) (W.tape w.new)) }
-    ensures failed { IfErr result (λ fault. status_of fault ≡ 3) }
+    ensures told { TellsFound true variant found.now (W.tape w.old) (W.tape w.new) result }
+    ensures ended { IfOk result (IsEnded false (W.tape w.old).failures (W.tape w.new).failures) }
 {
     let least = shrink_found(alloc, variant, found)?;
-    write_lines(alloc, &least, w)
+    tell_schedule(alloc, &least, w)
 }
 
 /// Writes the schedule that a hunt has found, shrunk if that is asked for.
-fn write_found<W: Sink>(
+fn tell_found<W: Sink>(
     alloc: Global,
     args: &HuntArgs,
     found: &Schedule,
     w: &mut W,
-) -> Result<(), CommandFault>
+) -> Result<Ending, CommandFault>
     requires { IsFound args.now.variant found.now }
-    ensures written { OnOk result (TellsFound args.now.shrink args.now.variant found.now (W.tape w.old) (W.tape w.new)) }
-    ensures failed { IfErr result (λ fault. status_of fault ≡ 3) }
+    ensures told { TellsFound args.now.shrink args.now.variant found.now (W.tape w.old) (W.tape w.new) result }
+    ensures ended { IfOk result (IsEnded false (W.tape w.old).failures (W.tape w.new).failures) }
 {
     if args.shrink {
-        write_least(alloc, args.variant, found, w)
+        tell_least(alloc, args.variant, found, w)
     } else {
-        write_lines(alloc, found, w)
+        tell_schedule(alloc, found, w)
     }
 }
 
@@ -132,13 +145,7 @@ pub fn hunt_command<T: Threads + Sync, S: Screen, W: Sink>(
     );
     meter.end();
     match found {
-        Ok(Some(schedule)) => {
-            write_found(alloc, args, &schedule, w)?;
-            Ok(Ending {
-                status: 1,
-                save: None,
-            })
-        }
+        Ok(Some(schedule)) => tell_found(alloc, args, &schedule, w),
         Ok(None) => tell_nothing(w),
         Err(HuntFault::BadRounds | HuntFault::BadSteps) => Err(CommandFault::BadSize),
         Err(HuntFault::OutOfMemory) => Err(CommandFault::OutOfMemory),

@@ -1,16 +1,14 @@
 //! The whole program, over its words, a folder of files, its input and its two outputs.
 
-ghost use Rattle.std.specs.Prelude.{◌≡◌, ◌⊎◌, ◌++◌, ◌∷◌, [], true, false, None, is_some, option_to_list, IfErr, IfOk, OnOk};
+ghost use Rattle.std.specs.Prelude.{◌≡◌, ◌⊎◌, ◌+◌, ◌-◌, ◌^◌, ◌++◌, ◌∷◌, [], min, true, false, None, is_some, option_to_list, IfErr, IfOk, OnErr, OnOk};
 ghost use Rattle.commands.specs.Endings.{IsEnded};
 ghost use Rattle.schedule.specs.Tapes.{Writes};
 ghost use Rattle.cli.specs.FilesNamed.{image_of, input_of, save_of};
 ghost use Rattle.commands.specs.Lines.{IsTold};
-ghost use Rattle.commands.specs.declared.schedules.fault.CommandFault.TheVariants.{Write as WriteFault};
 ghost use Rattle.commands.specs.Folders.{is_session};
-ghost use Rattle.commands.specs.Programs.{Answers, Closes, Does, EndsOnFile, EndsOnInput, PrintsHelp, IsProgram, Obeys, opens_all, OpensSome, SavesAll, SessionEndsIn, PrintsUsageError};
-ghost use Rattle.cli.specs.Sizes.{IsSized};
+ghost use Rattle.commands.specs.Programs.{Answers, Closes, Does, EndsOnFile, EndsOnInput, Finishes, IsAsked, IsProgram, IsUnasked, Obeys, opens_all, OpensSome, PrintsHelp, PrintsUsageError, RunsProgram, SavesAll, SessionEndsIn};
 ghost use Rattle.commands.specs.Faults.{fault_of_opening, fault_of_saving};
-ghost use Rattle.commands.specs.Statuses.{status_of};
+ghost use Rattle.std.specs.Process.{exit_status};
 
 use crate::command::ended;
 use crate::folder::{FileFault, Folder};
@@ -32,7 +30,7 @@ use std::thread::Threads;
 /// The command's fault for a file that wasn't opened.
 fn unopened(fault: FileFault) -> CommandFault
     ensures told { result ≡ fault_of_opening fault }
-    ensures status { status_of result ≡ 3 }
+    ensures device { (result ≡ CommandFault.Read) ⊎ (result ≡ CommandFault.OutOfMemory) }
 {
     match fault {
         FileFault::Failed => CommandFault::Read,
@@ -43,7 +41,7 @@ fn unopened(fault: FileFault) -> CommandFault
 /// The command's fault for a file that wasn't written.
 fn unsaved(fault: FileFault) -> CommandFault
     ensures told { result ≡ fault_of_saving fault }
-    ensures status { status_of result ≡ 3 }
+    ensures device { (result ≡ CommandFault.Write) ⊎ (result ≡ CommandFault.OutOfMemory) }
 {
     match fault {
         FileFault::Failed => CommandFault::Write,
@@ -60,7 +58,7 @@ fn file_text<F: Folder>(
     ensures opened { (F.used folder.new).opened ≡ (F.used folder.old).opened ++ name.now ∷ [] }
     ensures saved { (F.used folder.new).saved ≡ (F.used folder.old).saved }
     ensures texts { (F.used folder.new).texts ≡ (F.used folder.old).texts }
-    ensures failed { IfErr result (λ fault. status_of fault ≡ 3) }
+    ensures failed { IfErr result (λ fault. (fault ≡ CommandFault.Read) ⊎ (fault ≡ CommandFault.OutOfMemory)) }
 {
     let mut file = folder.open(name).map_err(unopened)?;
     Ok(read_all(alloc, &mut file)?)
@@ -76,7 +74,7 @@ fn image_text<F: Folder>(
     ensures saved { (F.used folder.new).saved ≡ (F.used folder.old).saved }
     ensures texts { (F.used folder.new).texts ≡ (F.used folder.old).texts }
     ensures named { IfOk result (λ text. is_some text ≡ is_some (image_of command.now)) }
-    ensures failed { IfErr result (λ fault. status_of fault ≡ 3) }
+    ensures failed { IfErr result (λ fault. (fault ≡ CommandFault.Read) ⊎ (fault ≡ CommandFault.OutOfMemory)) }
 {
     match command.image_file() {
         Some(name) => Ok(Some(file_text(alloc, folder, name)?)),
@@ -159,7 +157,8 @@ fn save<F: Folder>(folder: &mut F, command: &Command, ending: &Ending) -> Result
     ensures opened { (F.used folder.new).opened ≡ (F.used folder.old).opened }
     ensures saved { SavesAll command.now (F.used folder.old) (F.used folder.new) ending.now.save }
     ensures unsaved { save_of command.now ≡ None → F.used folder.new ≡ F.used folder.old }
-    ensures failed { IfErr result (λ fault. status_of fault ≡ 3) }
+    ensures failed { IfErr result (λ fault. (fault ≡ CommandFault.Write) ⊎ (fault ≡ CommandFault.OutOfMemory)) }
+    ensures named { OnErr result (is_some (save_of command.now) ≡ true) }
 {
     match (command.save_file(), &ending.save) {
         (Some(name), Some(text)) => folder.save(name, text).map_err(unsaved),
@@ -171,7 +170,9 @@ fn save<F: Folder>(folder: &mut F, command: &Command, ending: &Ending) -> Result
 #[tactic(auto, using(crate::proofs::Tapes::same_tape))]
 fn flush_output<W: Sink>(out: &mut W) -> Result<(), CommandFault>
     ensures same { OnOk result (W.tape out.new ≡ W.tape out.old) }
-    ensures failed { IfErr result (λ fault. fault ≡ WriteFault) }
+    ensures taken { (W.tape out.new).taken ≡ (W.tape out.old).taken }
+    ensures failed { IfErr result (λ fault. fault ≡ CommandFault.Write) }
+    ensures broken { OnErr result ((W.tape out.new).failures ≡ min ((W.tape out.old).failures + 1) (2 ^ 64 - 1)) }
 {
     if out.flush().is_err() {
         return Err(CommandFault::Write);
@@ -179,7 +180,24 @@ fn flush_output<W: Sink>(out: &mut W) -> Result<(), CommandFault>
     Ok(())
 }
 
-/// Carries out the command, flushes the output, and then saves the image. If the flush fails, that is the fault.
+/// Flushes the output of a command that has ended so, and then saves its image. If the flush fails, that is the fault.
+fn finish<F: Folder, W: Sink>(
+    command: &Command,
+    ended: Result<Ending, CommandFault>,
+    folder: &mut F,
+    out: &mut W,
+) -> Result<Ending, CommandFault>
+    requires { IfOk ended (λ ending. is_some ending.save ≡ is_some (save_of command.now)) }
+    ensures finishes { Finishes command.now (F.used folder.old) (F.used folder.new) (W.tape out.old) (W.tape out.new) ended result }
+    ensures opened { (F.used folder.new).opened ≡ (F.used folder.old).opened }
+{
+    flush_output(out)?;
+    let ending = ended?;
+    save(folder, command, &ending)?;
+    Ok(ending)
+}
+
+/// Carries out the command, flushes the output, and then saves the image.
 fn execute_and_save<T: Threads + Wait + Sync, F: Folder, S: Screen, R: Source, W: Sink>(
     rt: &T,
     alloc: Global,
@@ -193,10 +211,7 @@ fn execute_and_save<T: Threads + Wait + Sync, F: Folder, S: Screen, R: Source, W
         (W.tape out.old) (W.tape out.new) result }
 {
     let ended = execute(rt, alloc, command, folder, screen, input, out);
-    flush_output(out)?;
-    let ending = ended?;
-    save(folder, command, &ending)?;
-    Ok(ending)
+    finish(command, ended, folder, out)
 }
 
 /// The exit status of this result. The one line of a fault is written to `err`.
@@ -274,7 +289,8 @@ fn answered<W: Sink, E: Sink>(fault: &WordsFault, out: &mut W, err: &mut E) -> u
 
 /// The command that the words spell.
 fn parse_words(alloc: Global, words: Result<Vec<String>, WordsFault>) -> Result<Command, WordsFault>
-    ensures { IfOk result IsSized }
+    ensures asked { IfOk result (IsAsked words) }
+    ensures unasked { IfErr result (IsUnasked words) }
 {
     let words = words?;
     read_words(alloc, &words)
@@ -291,12 +307,45 @@ pub fn program<T: Threads + Wait + Sync, F: Folder, S: Screen, R: Source, W: Sin
     out: &mut W,
     err: &mut E,
 ) -> u8
-    ensures { IsProgram (F.used folder.old) (F.used folder.new) (R.reading input.old) (R.reading input.new) (W.tape out.old)
+    ensures { IsProgram words (F.used folder.old) (F.used folder.new) (R.reading input.old) (R.reading input.new) (W.tape out.old)
         (W.tape out.new) (E.tape err.old) (E.tape err.new) result }
 {
     match parse_words(alloc, words) {
         Ok(command) => obey(rt, alloc, &command, folder, screen, input, out, err),
         Err(fault) => answered(&fault, out, err),
+    }
+}
+
+/// The exit status of the whole program over an input and two outputs.
+fn status_over<
+    T: Threads + Wait + Sync,
+    F: Folder,
+    S: Screen,
+    R: Read + Drop,
+    W: Write + Drop,
+    E: Write + Drop,
+>(
+    rt: &T,
+    alloc: Global,
+    words: Result<Vec<String>, WordsFault>,
+    folder: &mut F,
+    screen: &mut S,
+    input: R,
+    output: W,
+    errors: E,
+) -> u8
+    ensures { RunsProgram words (F.used folder.old) (F.used folder.new) result }
+{
+    let mut input = FromReader::new(input);
+    let mut err = ToWriter::new(errors);
+    match BufWriter::new(alloc, output) {
+        Ok(buffer) => {
+            let mut out = ToWriter::new(buffer);
+            program(
+                rt, alloc, words, folder, screen, &mut input, &mut out, &mut err,
+            )
+        }
+        Err(_) => told(CommandFault::OutOfMemory, &mut err),
     }
 }
 
@@ -310,17 +359,9 @@ pub fn run_program<T: Threads + Wait + Sync, F: Folder, S: Screen>(
     input: impl Read + Drop,
     output: impl Write + Drop,
     errors: impl Write + Drop,
-) -> ExitCode {
-    let mut input = FromReader::new(input);
-    let mut err = ToWriter::new(errors);
-    let status = match BufWriter::new(alloc, output) {
-        Ok(buffer) => {
-            let mut out = ToWriter::new(buffer);
-            program(
-                rt, alloc, words, folder, screen, &mut input, &mut out, &mut err,
-            )
-        }
-        Err(_) => told(CommandFault::OutOfMemory, &mut err),
-    };
+) -> ExitCode
+    ensures { RunsProgram words (F.used folder.old) (F.used folder.new) (exit_status result) }
+{
+    let status = status_over(rt, alloc, words, folder, screen, input, output, errors);
     ExitCode::from(status)
 }

@@ -1,13 +1,12 @@
 //! The command `run`.
 
-ghost use Rattle.std.specs.Prelude.{◌≡◌, ◌⊎◌, ◌↔◌, All, false, IfErr, IfOk, OnOk, vec_len};
-ghost use Rattle.commands.specs.Endings.{IsEnded};
-ghost use Rattle.commands.specs.Commands.{lab_for, RunEnds};
+ghost use Rattle.std.specs.Prelude.{◌≡◌, ◌⊎◌, ◌↔◌, All, false, IfErr, IfOk, OnOk, string_bytes, vec_len};
+ghost use Rattle.schedule.specs.Tapes.{Writes};
+ghost use Rattle.commands.specs.Endings.{FailsIn, IsEnded};
+ghost use Rattle.commands.specs.Commands.{HasNoTallies, lab_for, RunEnds, TellsTallies};
 ghost use Rattle.commands.specs.Faults.{fault_of_lab};
 ghost use Rattle.commands.specs.Gates.{gates_for};
-ghost use Rattle.cli.specs.Sizes.{RunFits};
-ghost use Rattle.commands.specs.Statuses.{status_of};
-ghost use Rattle.commands.specs.Tallies.{IsFine};
+ghost use Rattle.commands.specs.Tallies.{IsFine, order_word, sender_line, tallies_text, total_line};
 
 use crate::schedules::ending::Ending;
 use crate::schedules::fault::CommandFault;
@@ -15,7 +14,7 @@ use crate::tally::{SenderTally, tallied};
 use cli::arguments::args::RunArgs;
 use crashlab::Seeded;
 use indexmap::IndexMap;
-use robust::{LabFault, Spec, run_lab};
+use robust::{LabFault, LabResult, Spec, run_lab};
 use schedule::Sink;
 use schedule::texts::device::write_all;
 use std::alloc::{AllocError, Global};
@@ -51,20 +50,43 @@ pub fn gates_of(alloc: Global, args: &RunArgs) -> Result<Vec<Seeded>, AllocError
     Ok(gates)
 }
 
+/// Whether the numbers of a sender never fell, as a word.
+fn order_of(ordered: bool) -> &'static str
+    ensures { result.now ≡ order_word ordered }
+{
+    if ordered { "yes" } else { "no" }
+}
+
+/// The line of a sender.
+fn line_of_sender(alloc: Global, sender: u64, tally: &SenderTally) -> Result<String, AllocError>
+    ensures { IfOk result (λ line. string_bytes line ≡ sender_line (sender, tally.now)) }
+{
+    let order = order_of(tally.ordered);
+    format!(in alloc;
+        "sender {sender} messages {} twice {} order {order}\n",
+        tally.messages, tally.twice
+    )
+}
+
+/// The last line.
+fn line_of_total(alloc: Global, total: u64) -> Result<String, AllocError>
+    ensures { IfOk result (λ line. string_bytes line ≡ total_line total) }
+{
+    format!(in alloc; "total {total}\n")
+}
+
 /// One line for each sender, and a last line with the total. `AllocError`: out of memory.
-pub fn lines_of(alloc: Global, tallies: &IndexMap<u64, SenderTally>) -> Result<String, AllocError> {
+pub fn lines_of(alloc: Global, tallies: &IndexMap<u64, SenderTally>) -> Result<String, AllocError>
+    ensures { IfOk result (λ text. string_bytes text ≡ tallies_text tallies.now.entries) }
+{
     let mut text = String::new(alloc);
     let mut total = 0u64;
     for (sender, tally) in tallies {
-        let order = if tally.ordered { "yes" } else { "no" };
-        let line = format!(in alloc;
-            "sender {sender} messages {} twice {} order {order}\n",
-            tally.messages, tally.twice
-        )?;
+        let line = line_of_sender(alloc, *sender, tally)?;
         text.push_str(&line)?;
         total = total.saturating_add(tally.messages);
     }
-    let line = format!(in alloc; "total {total}\n")?;
+    let line = line_of_total(alloc, total)?;
     text.push_str(&line)?;
     Ok(text)
 }
@@ -93,17 +115,32 @@ fn unrun(fault: LabFault) -> CommandFault
     }
 }
 
-/// Runs the lab, in which each sender sends its messages on a thread of its own, and counts the messages in the mailbox.
-#[tactic(auto, using(crate::proofs::Runs::fits_lab))]
+/// Runs the lab, in which each sender sends its messages on a thread of its own.
+fn ran<T: Threads + Wait + Sync>(
+    rt: &T,
+    alloc: Global,
+    args: &RunArgs,
+    gates: Vec<Seeded>,
+) -> Result<LabResult, CommandFault>
+    requires { vec_len gates ≡ args.now.procs }
+    ensures { IfErr result (HasNoTallies args.now) }
+{
+    match run_lab(rt, alloc, spec_of(args), gates) {
+        Ok(result) => Ok(result),
+        Err(fault) => Err(unrun(fault)),
+    }
+}
+
+/// Runs the lab, and counts the messages in the mailbox.
 fn counted<T: Threads + Wait + Sync>(
     rt: &T,
     alloc: Global,
     args: &RunArgs,
 ) -> Result<IndexMap<u64, SenderTally>, CommandFault>
-    ensures { IfErr result (λ fault. status_of fault ≡ 2 → RunFits args.now → ⊥) }
+    ensures { IfErr result (HasNoTallies args.now) }
 {
     let gates = gates_of(alloc, args)?;
-    let result = run_lab(rt, alloc, spec_of(args), gates).map_err(unrun)?;
+    let result = ran(rt, alloc, args, gates)?;
     Ok(tallied(alloc, args.procs, &result.messages)?)
 }
 
@@ -113,14 +150,28 @@ fn write_lines<W: Sink>(
     tallies: &IndexMap<u64, SenderTally>,
     w: &mut W,
 ) -> Result<(), CommandFault>
-    ensures failed { IfErr result (λ fault. status_of fault ≡ 3) }
-    ensures whole { OnOk result ((W.tape w.new).failures ≡ (W.tape w.old).failures) }
+    ensures written { OnOk result (Writes (W.tape w.old) (W.tape w.new) (tallies_text tallies.now.entries)) }
+    ensures unwritten { IfErr result (FailsIn (tallies_text tallies.now.entries) (W.tape w.old) (W.tape w.new)) }
 {
     let text = lines_of(alloc, tallies)?;
     if write_all(w, text.as_bytes()).is_err() {
         return Err(CommandFault::Write);
     }
     Ok(())
+}
+
+/// Writes the tallies.
+fn tell_tallies<W: Sink>(
+    alloc: Global,
+    tallies: &IndexMap<u64, SenderTally>,
+    w: &mut W,
+) -> Result<Ending, CommandFault>
+    ensures told { TellsTallies (W.tape w.old) (W.tape w.new) result }
+    ensures ended { IfOk result (IsEnded false (W.tape w.old).failures (W.tape w.new).failures) }
+{
+    let status = status_of_tallies(tallies);
+    write_lines(alloc, tallies, w)?;
+    Ok(Ending { status, save: None })
 }
 
 /// Runs `run`: the messages in the mailbox are counted, and the counts written. `BadSize`: a number is outside its range.
@@ -131,13 +182,9 @@ pub fn run_command<T: Threads + Wait + Sync, W: Sink>(
     args: &RunArgs,
     w: &mut W,
 ) -> Result<Ending, CommandFault>
-    ensures ends { RunEnds args.now result }
+    ensures ends { RunEnds args.now (W.tape w.old) (W.tape w.new) result }
     ensures ended { IfOk result (IsEnded false (W.tape w.old).failures (W.tape w.new).failures) }
 {
     let tallies = counted(rt, alloc, args)?;
-    write_lines(alloc, &tallies, w)?;
-    Ok(Ending {
-        status: status_of_tallies(&tallies),
-        save: None,
-    })
+    tell_tallies(alloc, &tallies, w)
 }

@@ -11,6 +11,7 @@ ghost use Rattle.rmeworld.specs.ImageWiden.{IsWider};
 ghost use Rattle.rmeworld.specs.WorldState.{image_world as world_of_image, new_refusal, new_world as world_of_sizes};
 ghost use Rattle.crashlab.specs.VariantWorlds.{new_world as world_of_variant};
 ghost use Rattle.schedule.specs.Schedules.{schedule_at};
+ghost use Rattle.commands.specs.Endings.{FailsToRead};
 ghost use Rattle.commands.specs.Settings.{CanFit, IsFitting, IsMadeFit, IsMisfit, IsPicture, IsUnmade, IsWrongText, IsWrongImage};
 ghost use Rattle.commands.specs.Statuses.{fault_of_header, fault_of_image, status_of};
 ghost use Rattle.schedule.specs.Wholes.{WasRead, layout_of};
@@ -72,7 +73,8 @@ pub fn schedule_read<R: Source>(alloc: Global, r: &mut R) -> Result<Schedule, Co
         × (schedule_at text ≡ Ok schedule)) }
     ensures unread { IfErr result (λ fault. ((R.reading r.new).failures ≡ (R.reading r.old).failures)
         ⊎ (fault ≡ CommandFault.Read)) }
-    ensures wrong { IfErr result (λ fault. (status_of fault ≡ 3) ⊎ IsWrongText (R.reading r.old) (R.reading r.new) fault) }
+    ensures wrong { IfErr result (λ fault. FailsToRead (R.reading r.old) (R.reading r.new) fault
+        ⊎ IsWrongText (R.reading r.old) (R.reading r.new) fault) }
     ensures status { IfErr result (λ fault. 2 ≤ status_of fault) }
 {
     let text = read_all(alloc, r)?;

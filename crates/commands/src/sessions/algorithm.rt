@@ -5,8 +5,7 @@ ghost use Rattle.algorithms.specs.Worlds.{new_refusal};
 ghost use Rattle.algorithm_lab.specs.Monitors.{first_monitor};
 ghost use Rattle.commands.specs.AlgorithmSessions.{AlgorithmSessionEnds, HasNoHeader, HasNoWorld, SessionOn};
 ghost use Rattle.commands.specs.Conversations.{Opens};
-ghost use Rattle.commands.specs.Endings.{IsEnded};
-ghost use Rattle.commands.specs.Statuses.{status_of};
+ghost use Rattle.commands.specs.Endings.{FailsToRead, IsEnded};
 
 use crate::folder::Folder;
 use crate::schedules::algorithm::{algorithm_read, unplayed};
@@ -28,7 +27,8 @@ fn header_read<R: Source>(
 ) -> Result<Schedule, CommandFault>
     requires { buffer.old.items ≡ [] }
     ensures opens { IfOk result (Opens None (R.reading r.old) (R.reading r.new) buffer.new.items) }
-    ensures unread { IfErr result (λ fault. (status_of fault ≡ 3) ⊎ HasNoHeader (R.reading r.old) (R.reading r.new) fault) }
+    ensures unread { IfErr result (λ fault. FailsToRead (R.reading r.old) (R.reading r.new) fault
+        ⊎ HasNoHeader (R.reading r.old) (R.reading r.new) fault) }
 {
     let text = header_text(alloc, r, buffer)?;
     schedule_of(alloc, &text)

@@ -1,11 +1,11 @@
 //! A session over its input, a line at a time.
 
-ghost use Rattle.std.specs.Prelude.{◌≡◌, ◌⊎◌, ◌↔◌, ◌++◌, ◌∷◌, ℕ, Bool, ◌+◌, ◌-◌, ◌^◌, List, IfErr, IfOk, IfSome, IfNone, OnOk, [], min, true};
+ghost use Rattle.std.specs.Prelude.{◌≡◌, ◌⊎◌, ◌↔◌, ◌++◌, ◌∷◌, ℕ, Bool, ◌+◌, ◌-◌, ◌^◌, List, IfErr, IfOk, IfSome, IfNone, OnErr, OnOk, [], codes, min, true};
 ghost use Rattle.schedule.specs.Schedules.{spelling};
 ghost use Rattle.schedule.specs.Words.{parts_of};
 ghost use Rattle.diagram.specs.declared.session.opened.Reply.TheVariants.{Quits as ReplyQuits};
-ghost use Rattle.commands.specs.Conversations.{after_line, file_in, HoldsSession, IsAnswer, IsKept, last_text, saved_text, WritesOr};
-ghost use Rattle.diagram.specs.Sessions.{reply_to, request_in};
+ghost use Rattle.commands.specs.Conversations.{after_line, file_in, HoldsSession, IsAnswer, IsBegun, IsKept, last_text, saved_text, WritesFile, WritesOr};
+ghost use Rattle.diagram.specs.Sessions.{fault_text, next_number, reply_to, request_in};
 
 use crate::folder::Folder;
 use diagram::session::saying::put_fault;
@@ -41,6 +41,7 @@ pub fn next_line<S: Source>(
     ensures given { IfOk result (λ line. (more : List ℕ) × ((S.reading source.new).given ≡ (S.reading source.old).given ++ more)
         × IfSome line (λ l. parts_of (buffer.old.items ++ more) ≡ l.items ∷ parts_of buffer.new.items)
         × IfNone line ((buffer.new.items ≡ buffer.old.items ++ more) × (parts_of buffer.new.items ≡ buffer.new.items ∷ []))) }
+    ensures broken { OnErr result ((more : List ℕ) × ((S.reading source.new).given ≡ (S.reading source.old).given ++ more)) }
     ensures ended { IfOk result (λ line. IfNone line ((S.reading source.new).ended ≡ true)) }
     ensures fine { OnOk result ((S.reading source.new).failures ≡ (S.reading source.old).failures) }
     ensures fault { IfErr result (λ fault. (fault ≡ ReplayFault.Read)
@@ -79,6 +80,7 @@ fn keep<F: Folder>(
     text: &Vec<u8>,
 ) -> Result<bool, AllocError>
     ensures kept { IfOk result (IsKept (F.used folder.old) (F.used folder.new) file.now text.now.items) }
+    ensures unkept { OnErr result (F.used folder.new ≡ F.used folder.old) }
     ensures opened { (F.used folder.new).opened ≡ (F.used folder.old).opened }
 {
     let Ok(name) = str::from_utf8(file) else {
@@ -98,6 +100,8 @@ fn save<V: Simulation, F: Folder>(
 ) -> Result<(), AllocError>
     ensures kept { OnOk result ((done : Bool) × IsKept (F.used folder.old) (F.used folder.new) (file_in line.now)
         (spelling session.now.schedule) done × (page.new.items ≡ page.old.items ++ saved_text done)) }
+    ensures broken { OnErr result ((F.used folder.new ≡ F.used folder.old)
+        ⊎ WritesFile (F.used folder.old) (F.used folder.new) (file_in line.now) (spelling session.now.schedule)) }
     ensures opened { (F.used folder.new).opened ≡ (F.used folder.old).opened }
 {
     let Ok(text) = write_schedule(alloc, session.schedule()) else {
@@ -120,6 +124,7 @@ fn reply<V: Simulation, F: Folder>(
     requires { page.old.items ≡ [] }
     ensures answer { OnOk result (IsAnswer V.semantics session.old line.now (F.used folder.old) (F.used folder.new) page.new.items) }
     ensures after { OnOk result (session.new ≡ after_line V.semantics session.old line.now) }
+    ensures broken { OnErr result (IsBegun V.semantics session.old line.now (F.used folder.old) (F.used folder.new)) }
     ensures opened { (F.used folder.new).opened ≡ (F.used folder.old).opened }
     ensures ends { IfOk result (λ ends. ends ≡ true ↔ (reply_to (request_in session.old line.now) ≡ ReplyQuits)) }
 {
@@ -131,6 +136,16 @@ fn reply<V: Simulation, F: Folder>(
         }
         Reply::Quits => Ok(true),
     }
+}
+
+/// The fault of an unfinished last line.
+fn last_fault<V: Simulation>(alloc: Global, session: &Session<V>) -> Result<Vec<u8>, AllocError>
+    ensures { IfOk result (λ page. page.items ≡ fault_text (next_number session.now) (codes "fault ") 5) }
+{
+    let mut page = Vec::new(alloc);
+    let next = session.schedule().lines().len() as u64 + 2;
+    put_fault(&mut page, next, b"fault ", LineFault::NoNewline.number())?;
+    Ok(page)
 }
 
 /// Says that an unfinished last line is not taken.
@@ -145,9 +160,7 @@ fn write_last<V: Simulation, W: Sink>(
     if rest.is_empty() {
         return Ok(());
     }
-    let mut page = Vec::new(alloc);
-    let next = session.schedule().lines().len() as u64 + 2;
-    put_fault(&mut page, next, b"fault ", LineFault::NoNewline.number())?;
+    let page = last_fault(alloc, session)?;
     write_all(w, &page)?;
     Ok(())
 }

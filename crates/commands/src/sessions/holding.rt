@@ -6,9 +6,9 @@ ghost use Rattle.schedule.specs.Tapes.{Writes};
 ghost use Rattle.schedule.specs.Wholes.{world_run};
 ghost use Rattle.diagram.specs.Sessions.{standing_text};
 ghost use Rattle.commands.specs.Conversations.{BeginsWith, CantBegin, CantPlay, Opens, SessionEnds};
-ghost use Rattle.commands.specs.Endings.{IsEnded};
+ghost use Rattle.commands.specs.Endings.{FailsIn, FailsToRead, IsEnded};
 ghost use Rattle.commands.specs.Settings.{IsNoSchedule};
-ghost use Rattle.commands.specs.Statuses.{fault_of_replay, status_of};
+ghost use Rattle.commands.specs.Statuses.{fault_of_replay};
 
 use crate::folder::Folder;
 use crate::schedules::ending::Ending;
@@ -29,7 +29,7 @@ pub(crate) fn header_text<R: Source>(
 ) -> Result<Vec<u8>, ReplayFault>
     requires { buffer.old.items ≡ [] }
     ensures begins { IfOk result (λ text. BeginsWith None (R.reading r.old) (R.reading r.new) buffer.new.items text.items) }
-    ensures failed { IfErr result (λ fault. status_of (fault_of_replay fault) ≡ 3) }
+    ensures failed { IfErr result (λ fault. FailsToRead (R.reading r.old) (R.reading r.new) (fault_of_replay fault)) }
 {
     match next_line(alloc, r, buffer)? {
         Some(mut line) => {
@@ -50,7 +50,7 @@ fn first_text<R: Source>(
     requires { buffer.old.items ≡ [] }
     ensures begins { IfOk result (λ text. BeginsWith (option_copied start.entry) (R.reading r.old) (R.reading r.new)
         buffer.new.items text.items) }
-    ensures failed { IfErr result (λ fault. status_of (fault_of_replay fault) ≡ 3) }
+    ensures failed { IfErr result (λ fault. FailsToRead (R.reading r.old) (R.reading r.new) (fault_of_replay fault)) }
 {
     match start {
         Some(text) => Ok(Vec::from_slice(alloc, text)?),
@@ -61,7 +61,7 @@ fn first_text<R: Source>(
 /// The schedule of this text. `Text`: it is none.
 pub(crate) fn schedule_of(alloc: Global, text: &[u8]) -> Result<Schedule, CommandFault>
     ensures read { IfOk result (λ schedule. schedule_at text.now ≡ Ok schedule) }
-    ensures unread { IfErr result (λ fault. (status_of fault ≡ 3) ⊎ IsNoSchedule text.now fault) }
+    ensures unread { IfErr result (λ fault. (fault ≡ CommandFault.OutOfMemory) ⊎ IsNoSchedule text.now fault) }
 {
     Ok(read_schedule(alloc, text)?)
 }
@@ -69,7 +69,7 @@ pub(crate) fn schedule_of(alloc: Global, text: &[u8]) -> Result<Schedule, Comman
 /// Plays a schedule, and answers why a world refuses its sizes or a line.
 fn plays(alloc: Global, schedule: &Schedule) -> Result<(), CommandFault>
     ensures accepted { OnOk result ((world_run schedule.now).refused ≡ None) }
-    ensures refused { IfErr result (λ fault. (status_of fault ≡ 3) ⊎ CantPlay schedule.now fault) }
+    ensures refused { IfErr result (λ fault. (fault ≡ CommandFault.OutOfMemory) ⊎ CantPlay schedule.now fault) }
 {
     let mut world = new_world(alloc, schedule)?;
     let mut judge = new_judge(alloc, schedule)?;
@@ -90,7 +90,7 @@ fn first_schedule<R: Source>(
     requires { buffer.old.items ≡ [] }
     ensures opens { IfOk result (Opens (option_copied start.entry) (R.reading r.old) (R.reading r.new) buffer.new.items) }
     ensures accepted { IfOk result (λ schedule. (world_run schedule).refused ≡ None) }
-    ensures refused { IfErr result (λ fault. (status_of fault ≡ 3)
+    ensures refused { IfErr result (λ fault. FailsToRead (R.reading r.old) (R.reading r.new) fault
         ⊎ CantBegin (option_copied start.entry) (R.reading r.old) (R.reading r.new) fault) }
 {
     let text = first_text(alloc, start, r, buffer)?;
@@ -106,7 +106,7 @@ pub fn write_state<V: Simulation, W: Sink>(
     w: &mut W,
 ) -> Result<(), CommandFault>
     ensures written { OnOk result (Writes (W.tape w.old) (W.tape w.new) (standing_text V.semantics session.now)) }
-    ensures failed { IfErr result (λ fault. status_of fault ≡ 3) }
+    ensures failed { IfErr result (FailsIn (standing_text V.semantics session.now) (W.tape w.old) (W.tape w.new)) }
 {
     let mut page = Vec::new(alloc);
     session.put_state(&mut page)?;

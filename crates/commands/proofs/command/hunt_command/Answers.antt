@@ -1,8 +1,7 @@
-use Rattle.commands.proofs.Telling.{nothing_told}
+use Rattle.std.proofs.Common.{inl}
 use Rattle.commands.proofs.command.hunt_command.Goals as goal
 
 pub returns-in-Ok-None-clause-ends : goal.returns-in-Ok-None-clause-ends
 returns-in-Ok-None-clause-ends g c =
     let exact = rw c.in-Ok-None.field-0-is at (rw c.in-Ok-None.is at c.hunt_in_parallel_watched-found.ensures.exact) in
-    nothing_told c.args.args.now _ _ c.tell_nothing.result exact
-    c.tell_nothing.ensures.told c.tell_nothing.ensures.status c.tell_nothing.ensures.failed
+    inl (exact, c.tell_nothing.ensures.prints)

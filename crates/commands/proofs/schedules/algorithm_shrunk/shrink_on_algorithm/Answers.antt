@@ -6,13 +6,13 @@ pub returns-in-Ok-Some-clause-told : goal.returns-in-Ok-Some-clause-told
 returns-in-Ok-Some-clause-told g c =
     shrunk_told c.args.algorithm c.args.schedule.now (Some c.in-Ok-Some.least) _ _ c.tell_schedule.result
     (rw c.in-Ok-Some.field-0-is at c.in-Ok-Some.ensures)
-    c.tell_schedule.ensures.told c.tell_schedule.ensures.status c.tell_schedule.ensures.failed
+    c.tell_schedule.ensures.prints
 
 pub returns-in-Ok-None-clause-told : goal.returns-in-Ok-None-clause-told
 returns-in-Ok-None-clause-told g c =
     shrunk_told c.args.algorithm c.args.schedule.now None _ _ c.tell_fine.result
     (rw c.in-Ok-None.field-0-is at c.in-Ok-None.ensures)
-    c.tell_fine.ensures.told c.tell_fine.ensures.status c.tell_fine.ensures.failed
+    c.tell_fine.ensures.prints
 
 pub returns-in-Err-clause-told : goal.returns-in-Err-clause-told
 returns-in-Err-clause-told g c =

@@ -1,6 +1,6 @@
 use Rattle.std.proofs.Common.{refl}
 use Rattle.std.proofs.lemmas.Result.{err_from_is_err_and}
-use Rattle.commands.proofs.AlgorithmSessions.{no_header, no_world}
+use Rattle.commands.proofs.AlgorithmSessions.{cut_at_start, cut_in_lines, no_header, no_world}
 use Rattle.commands.proofs.sessions.algorithm.hold_session.Goals as goal
 
 pub returns-in_err-schedule-clause-ends : goal.returns-in_err-schedule-clause-ends
@@ -34,4 +34,36 @@ returns-clause-ends g c =
         first = rw made at (rw is at c.in_ok-write_state.ensures.written);
         holds = rw made at (rw is at c.in_ok-converse.ensures.holds);
       },
+    )
+
+pub returns-in_err-session-clause-ends : goal.returns-in_err-session-clause-ends
+returns-in_err-session-clause-ends g c =
+    let p = err_from_is_err_and c.from_residual-in_err-session.result c.from_residual-in_err-session.ensures.1 in
+    rw (p.1, p.2) (
+    cut_at_start c.args.algorithm (g.R.Source.reading c.args.r.now) (g.R.Source.reading c.header_read.new.r)
+    (g.F.Folder.used c.args.folder.now) (g.W.Sink.tape c.args.w.now) (g.W.Sink.tape c.args.w.now) c.header_read.new.buffer.items
+    c.in_ok-schedule.schedule _ c.in_ok-schedule.ensures.opens c.in_ok-monitor.ensures.accepted (record { taken = refl; fine = refl })
+    )
+
+pub returns-in_err-write_state-clause-ends : goal.returns-in_err-write_state-clause-ends
+returns-in_err-write_state-clause-ends g c =
+    let p = err_from_is_err_and c.from_residual-in_err-write_state.result c.from_residual-in_err-write_state.ensures.1 in
+    rw (p.1, p.2) (
+    cut_at_start c.args.algorithm (g.R.Source.reading c.args.r.now) (g.R.Source.reading c.header_read.new.r)
+    (g.F.Folder.used c.args.folder.now) (g.W.Sink.tape c.args.w.now) (g.W.Sink.tape c.write_state.new.w) c.header_read.new.buffer.items
+    c.in_ok-schedule.schedule _ c.in_ok-schedule.ensures.opens c.in_ok-monitor.ensures.accepted
+    (rw c.in_ok-monitor.ensures.made at (rw c.in_ok-session.ensures at c.in_err-write_state.ensures.failed))
+    )
+
+pub returns-in_err-converse-clause-ends : goal.returns-in_err-converse-clause-ends
+returns-in_err-converse-clause-ends g c =
+    let is = c.in_ok-session.ensures in
+    let made = c.in_ok-monitor.ensures.made in
+    let p = err_from_is_err_and c.from_residual-in_err-converse.result c.from_residual-in_err-converse.ensures.1 in
+    rw (p.1, p.2) (
+    cut_in_lines c.args.algorithm (g.R.Source.reading c.args.r.now) (g.R.Source.reading c.header_read.new.r)
+    (g.R.Source.reading c.converse.new.r) (g.F.Folder.used c.args.folder.now) (g.F.Folder.used c.converse.new.folder)
+    (g.W.Sink.tape c.args.w.now) (g.W.Sink.tape c.write_state.new.w) (g.W.Sink.tape c.converse.new.w) c.header_read.new.buffer.items
+    c.in_ok-schedule.schedule _ c.in_ok-schedule.ensures.opens c.in_ok-monitor.ensures.accepted
+    (rw made at (rw is at c.in_ok-write_state.ensures.written)) (rw made at (rw is at c.in_err-converse.ensures.holds))
     )

@@ -1,14 +1,13 @@
 -- The answer of a call, from the steps of its process.
-use Rattle.std.proofs.Common.{◌≡◌, ◌≢◌, ℕ, zero, suc, ◌+◌, ◌≤◌, ◌⊎◌, Bool, true, false, if◌then◌else◌, Option, Some, None, IsNone, IsSome, IfSome, List, [], ◌∷◌, ◌++◌, Result, Ok, Err, IfErr, refl, sym, ap, ◌∙◌, subst, inl, inr, arith, append_assoc}
+use Rattle.std.proofs.Common.{◌≡◌, ℕ, zero, suc, ◌+◌, ◌≤◌, ◌⊎◌, Bool, true, false, if◌then◌else◌, Option, Some, None, IsNone, IsSome, IfSome, List, [], ◌∷◌, ◌++◌, Result, Ok, Err, IfErr, refl, sym, ap, ◌∙◌, subst, inl, inr, arith, append_assoc}
 use Rattle.one_lock.proofs.Common.{Setup, Gives, Mirrors, TrailGrows, HasTaken, Suffice, spent, IsAnswered, Answered, IsReply, Trail, Seat, AreSizes}
-use Rattle.one_lock.proofs.Common.{Accepts, IsEventOf, crashed_if, opened_machine, moved_machine, answer_with, is_blocked_with, first_of, further, opening_after, machine_after, blocked_along, events_along, grown}
+use Rattle.one_lock.proofs.Common.{crashed_if, opened_machine, moved_machine, answer_with, is_blocked_with, first_of, further, opening_after, machine_after, blocked_along, events_along}
 use Rattle.one_lock.proofs.Common.{EndsAtLock, reply_by, entry_by}
 use Rattle.one_lock.proofs.UnderWay.{IsUnderWay, Leaves, is_begun, steps_on}
 use Rattle.one_lock.proofs.Events.{has_events}
 use Rattle.std.proofs.lemmas.Bool.{true≢false}
 use Rattle.redomail.specs.declared.reply.Reply.{Reply}
 use Rattle.rmeworld.specs.declared.call.Call.TheVariants.{Lock}
-use Rattle.execution.specs.Under.{Fits}
 use Rattle.execution.specs.declared.lock_fault.LockFault.{LockFault}
 use Rattle.execution.specs.declared.lock_fault.LockFault.TheVariants.{Crashed, OutOfMemory, NotRecoverable as RuinFault}
 use Rattle.one_lock.specs.declared.member_state.MemberState.TheVariants.{Mended}

@@ -1,6 +1,5 @@
 -- The events of a call's own steps, and the table of replies.
-use Rattle.std.proofs.Common.{◌≡◌, ℕ, ◌≤◌, Bool, true, false, List, [], ◌∷◌, ◌++◌, Option, Some, None, IsSome, unwrap_or, refl, sym, ap, ◌∙◌, subst, append_assoc}
-use Rattle.rmecore.specs.Machine.{kind_of, word_of, carried}
+use Rattle.std.proofs.Common.{◌≡◌, ℕ, ◌≤◌, List, [], ◌∷◌, ◌++◌, Option, Some, IsSome, unwrap_or, refl, sym, ap, ◌∙◌, subst, append_assoc}
 use Rattle.rmecore.specs.declared.access.Access.{Access}
 use Rattle.rmecore.specs.declared.happened.Happened.{Happened}
 use Rattle.redomail.specs.declared.layout.Layout.{Layout}
@@ -14,8 +13,8 @@ use Rattle.rmeworld.specs.ScriptStates.{script_state_of}
 use Rattle.rmeworld.specs.WorldState.{HasConfiguration}
 use Rattle.rmeworld.proofs.ReplyEvents.{answers_have_their_events}
 use Rattle.rmeworld.proofs.WorldTallies.{no_glance}
-use Rattle.one_lock.proofs.Common.{Setup, Gives, Mirrors, HasTaken, Accepts, IsEventOf, crashed_if, opened_machine, moved_machine, answer_with, first_of, further, opening_after, machine_after, event_if, events_along}
-use Rattle.one_lock.proofs.OwnSteps.{keeps_then, keeps_crashed, keeps_opened, keeps_taken}
+use Rattle.one_lock.proofs.Common.{Setup, Gives, HasTaken, Accepts, IsEventOf, crashed_if, opened_machine, moved_machine, answer_with, first_of, further, opening_after, machine_after, event_if, events_along}
+use Rattle.one_lock.proofs.OwnSteps.{keeps_crashed, keeps_opened, keeps_taken}
 use Rattle.one_lock.specs.declared.opening.Opening.{Opening}
 use Rattle.one_lock.specs.declared.member_state.MemberState.{MemberState}
 

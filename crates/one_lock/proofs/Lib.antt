@@ -12,3 +12,4 @@ pub mod Whole
 pub mod LabCommon
 pub mod Endings
 pub mod Places
+pub mod AllSent

@@ -1,16 +1,15 @@
 -- The machine of a process while a call is under way: each step answers nothing, and the call is still under way, or has an
 -- answer that fits the call.
-use Rattle.std.proofs.Common.{◌≡◌, ℕ, suc, ◌+◌, ◌≤◌, ◌⊎◌, Bool, true, false, if◌then◌else◌, Option, Some, None, IsSome, IfSome, unwrap_or, refl, sym, ap, ◌∙◌, subst, inl, inr, arith}
+use Rattle.std.proofs.Common.{◌≡◌, ℕ, suc, Bool, if◌then◌else◌, Option, Some, None, IsSome, IfSome, unwrap_or, refl, sym, ap, subst, arith}
 use Rattle.rmecore.specs.Place.{Place}
 use Rattle.rmecore.specs.Machine.{kind_of, word_of, carried}
 use Rattle.rmecore.specs.declared.access.Access.{Access}
 use Rattle.rmecore.specs.declared.happened.Happened.{Happened}
 use Rattle.redomail.specs.declared.layout.Layout.{Layout}
-use Rattle.rmeworld.specs.Answered.{answer_at, blocked_by}
-use Rattle.rmeworld.specs.Refused.{is_idle}
+use Rattle.rmeworld.specs.Answered.{answer_at}
 use Rattle.rmeworld.specs.declared.answer.Answer.{Answer}
 use Rattle.rmeworld.specs.declared.call.Call.{Call}
-use Rattle.rmeworld.specs.MachineState.{MachineState, IsSize, process_state_of, next_access, outcome, stepped, started, world_event}
+use Rattle.rmeworld.specs.MachineState.{MachineState, IsSize, process_state_of, next_access, outcome, stepped, started}
 use Rattle.rmeworld.specs.ProcessState.{ProcessState, ScriptState, Free, Doing, Begins, next_process_state}
 use Rattle.rmeworld.specs.ScriptStates.{script_state_of}
 use Rattle.rmeworld.proofs.WorldSteps.{keeps_stepped, keeps_started}

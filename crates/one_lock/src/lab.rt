@@ -1,6 +1,7 @@
 //! The laboratory: workers send numbered messages through one mailbox while their plans let them crash. Its sizes, gates and
 //! faults are shared by the lab over the running lock.
 
+mod all_sent;
 mod crew;
 pub mod ending;
 mod gate;

@@ -50,7 +50,7 @@ impl<L: Ledger, S: Sizes> Model for Member<L, S> {
 }
 
 /// Waits for ever.
-fn never_return<R: Wait>(rt: &R)
+pub(crate) fn never_return<R: Wait>(rt: &R)
     ensures { ⊥ }
 {
     for _ in rt.forever() {}

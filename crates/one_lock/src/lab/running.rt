@@ -2,17 +2,16 @@
 
 ghost use Rattle.std.specs.Prelude.{◌≡◌, ◌⊎◌, ◌↔◌, ◌<◌, ℕ, IfOk, IfErr, OnOk, IsErrOf, Some, vec_len};
 ghost use Rattle.one_lock.specs.LabEndings.{MayEndLab, WereSent};
-ghost use Rattle.one_lock.specs.Lab.{IsBadSpec, setup_of};
+ghost use Rattle.one_lock.specs.Lab.{AreAllSent, IsBadSpec, setup_of};
 ghost use Rattle.one_lock.specs.Shown.{AreShown};
 
 use crate::arena::Arena;
 use crate::gather_fault::GatherFault;
 use crate::gathering::gather;
 use crate::lab::crew::{first_fault, members_of, work_all};
-use crate::lab::showing::shown;
+use crate::lab::showing::all_shown;
 use crate::lab::{Gate, LabFault, LabResult, Spec};
 use crate::sizes::Sizes;
-use redomail::Layout;
 use std::alloc::Global;
 use std::marker::Brand;
 use std::sync::Wait;
@@ -21,9 +20,13 @@ use std::thread::Threads;
 
 /// Runs a worker for each process of a new arena, all at the same time, each on a thread of its own. Worker p appends its
 /// messages with the numbers from 1 on. It calls again after each crash of its gate's plan, and reports each answer to its
-/// gate. It returns when all workers have ended, with the messages in the mailbox then. A step whose deed could not be
-/// stored ends its worker out of memory. `Member` and `Reply` name the worker with the least number of those that ended
-/// early.
+/// gate. It returns when all workers have ended. Each message was answered Stored or Already. The words at the end of some
+/// run show the messages: of each worker its own, once and in order, and no others.
+///
+/// `BadSpec`: a size is outside its limits, or the number of gates isn't that of the processes. `OutOfMemory`: memory or a
+/// thread was refused, or a step's deed could not be stored. `Member`: a lock of that worker was answered `NumbersSpent`, or
+/// it found the lock ruined. `Reply`: one of its messages was given this reply. Both name the worker with the least number of
+/// those that ended early, and each worker with a lower number has sent all its messages.
 pub fn run_lab<G: Gate + Send + Drop, R: Threads + Wait + Sync>(
     rt: &R,
     alloc: Global,
@@ -33,6 +36,7 @@ pub fn run_lab<G: Gate + Send + Drop, R: Threads + Wait + Sync>(
     ensures bad_spec { IsErrOf result LabFault.BadSpec ↔ IsBadSpec spec (vec_len gates) }
     ensures ends { IfErr result (λ fault. (fault ≡ LabFault.BadSpec) ⊎ MayEndLab spec fault) }
     ensures sent { OnOk result ((p : ℕ) → p < spec.procs → WereSent (Some (setup_of spec)) spec.width p spec.messages) }
+    ensures all { IfOk result (λ lab. AreAllSent spec lab.messages.items) }
     ensures shown { IfOk result (λ lab. AreShown (record { procs = spec.procs; cap = spec.cap; width = spec.width }) lab.messages.items) }
 {
     if spec.is_bad(gates.len() as u64) {
@@ -55,6 +59,7 @@ fn run<
     requires named { S.named ≡ Some (setup_of spec) }
     ensures ends { IfErr result (MayEndLab spec) }
     ensures sent { OnOk result ((p : ℕ) → p < spec.procs → WereSent (Some (setup_of spec)) spec.width p spec.messages) }
+    ensures all { IfOk result (λ lab. AreAllSent spec lab.messages.items) }
     ensures shown { IfOk result (λ lab. AreShown (record { procs = spec.procs; cap = spec.cap; width = spec.width }) lab.messages.items) }
 {
     let Ok(members) = Arena::of_sizes::<L, S>(
@@ -71,13 +76,8 @@ fn run<
     let Ok(members) = members_of(alloc, ended) else {
         return Err(LabFault::OutOfMemory);
     };
-    let layout = Layout {
-        procs: spec.procs,
-        cap: spec.cap,
-        width: spec.width,
-    };
     match gather(rt, members) {
-        Ok(image) => shown(alloc, layout, image.cells.as_slice()),
+        Ok(image) => all_shown(rt, alloc, spec, image.cells.as_slice()),
         Err((_, GatherFault::OutOfMemory)) => Err(LabFault::OutOfMemory),
         Err((_, GatherFault::NotAll)) => unreachable!(),
     }

@@ -29,7 +29,7 @@ pub returns-in-Ok-gather-clause-sent : goal.returns-in-Ok-gather-clause-sent
 returns-in-Ok-gather-clause-sent g c =
     let ended = lab_ended g.S.Sizes.named c.args.spec (λ d. d.ending) (λ d. d.member) c.in-Ok-work_all.ended.items c.as_slice.result.now c.requires.named c.as_slice.ensures.value c.in-Ok-work_all.ensures.ends (c.in-Ok-work_all.ensures.places ∙ ap (map place_of) c.in-Ok.ensures.ok) in
     let sent : HaveAllSent (map (λ d. d.ending) c.as_slice.result.now) = search (rules, c.in_default-first_fault.ensures, c.in_default-first_fault.is) in
-    on_ok c.shown.result _ (all_sent (Some (setup_of c.args.spec)) c.args.spec (map (λ d. d.ending) c.as_slice.result.now) ended.0 ended.1 sent)
+    on_ok c.all_shown.result _ (all_sent (Some (setup_of c.args.spec)) c.args.spec (map (λ d. d.ending) c.as_slice.result.now) ended.0 ended.1 sent)
 
 pub of_sizes-requires-clause-sizes : goal.of_sizes-requires-clause-sizes
 of_sizes-requires-clause-sizes g c =
@@ -65,5 +65,5 @@ pub returns-in-Ok-gather-clause-shown : goal.returns-in-Ok-gather-clause-shown
 returns-in-Ok-gather-clause-shown g c =
     let l : Layout = record { procs = c.args.spec.procs; cap = c.args.spec.cap; width = c.args.spec.width } in
     let is : c.as_slice-in-Ok-gather.result.now ≡ c.in-Ok-gather.image.cells = search (rules, c.as_slice-in-Ok-gather.ensures) in
-    are_shown (λ lab. lab.messages.items) l c.in-Ok-gather.image c.as_slice-in-Ok-gather.result.now (steps_taken c.in-Ok-members_of.members.items) c.shown.result is c.in-Ok-gather.ensures.left
-    c.in-Ok-gather.ensures.lawful c.shown.ensures.kept c.shown.ensures.messages
+    are_shown (λ lab. lab.messages.items) l c.in-Ok-gather.image c.as_slice-in-Ok-gather.result.now (steps_taken c.in-Ok-members_of.members.items) c.all_shown.result is c.in-Ok-gather.ensures.left
+    c.in-Ok-gather.ensures.lawful c.all_shown.ensures.kept c.all_shown.ensures.messages

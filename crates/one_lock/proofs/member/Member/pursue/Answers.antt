@@ -1,7 +1,6 @@
 use Rattle.std.proofs.Common.{rules, ◌≡◌, ℕ, Some, None, IsNone, IsSome, refl, subst}
 use Rattle.one_lock.proofs.Common.{IsOwnTrail, TrailGrows, further, spent}
-use Rattle.one_lock.proofs.Answered.{begins, answered_by, given_up, goes_free, goes_blocked, still_none}
-use Rattle.one_lock.proofs.OwnSteps.{own_size}
+use Rattle.one_lock.proofs.Answered.{answered_by, given_up, goes_free, goes_blocked, still_none}
 use Rattle.one_lock.proofs.member.Member.pursue.Goals as goal
 
 pub loop-preserved-then-outcome : goal.loop-preserved-then-outcome

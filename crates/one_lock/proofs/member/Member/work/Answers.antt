@@ -1,7 +1,5 @@
-use Rattle.std.proofs.Common.{◌≡◌, Ok, Err, None, Result, Bool, sym, ap, ◌∙◌, subst}
-use Rattle.redomail.specs.declared.reply.Reply.{Reply}
+use Rattle.std.proofs.Common.{◌≡◌, None, sym, ap, ◌∙◌, subst}
 use Rattle.rmeworld.specs.declared.call.Call.TheVariants.{Unlock}
-use Rattle.execution.specs.declared.lock_fault.LockFault.{LockFault}
 use Rattle.one_lock.proofs.Common.{IsAnswered, Works, Seat}
 use Rattle.one_lock.proofs.Whole.{works_by, leaves_by}
 use Rattle.one_lock.specs.Member.{stands_mended}

@@ -14,7 +14,7 @@ use crate::progress::work::Work;
 use crate::schedules::ending::Ending;
 use crate::schedules::fault::CommandFault;
 use crate::schedules::line::starves_line;
-use crate::schedules::telling::write_lines;
+use crate::schedules::telling::tell_schedule;
 use crate::stuck::tell_stuck;
 use cli::arguments::args::{Cycles, ExploreArgs};
 use lock_explorer::{ExploreFault, Lasso, Move, StarvingOutcome, StuckBounds, starving_schedule};
@@ -56,15 +56,12 @@ pub(crate) fn tell_starves<W: Sink>(
     ensures ended { IfOk result (IsEnded false (W.tape w.old).failures (W.tape w.new).failures) }
     ensures failed { IfErr result (FailsToWrite (W.tape w.old) (W.tape w.new)) }
 {
-    write_lines(alloc, schedule, w)?;
+    let ending = tell_schedule(alloc, schedule, w)?;
     let line = starves_line(process, cycle);
     if write_all(w, line.as_bytes()).is_err() {
         return Err(CommandFault::Write);
     }
-    Ok(Ending {
-        status: 1,
-        save: None,
-    })
+    Ok(ending)
 }
 
 /// Writes a lasso: its stem and its cycle as a schedule, and whose call it is.

@@ -5,7 +5,8 @@
 use crate::cases::{Kind, compare_cases};
 use crate::support::{number, text_named};
 use algorithm_explorer::{StarvingOutcome, Unwatched, starving_algorithm_schedule};
-use algorithms::{Call, read_algorithm};
+use algorithm_texts::read_algorithm;
+use algorithms::Call;
 use std::alloc::Global;
 use std::fmt::Write;
 use std::test::Fail;

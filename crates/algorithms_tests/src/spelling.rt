@@ -2,7 +2,7 @@
 
 use crate::cases::{Kind, compare_cases};
 use crate::support::text_named;
-use algorithm_texts::laws::{a_line_says_one_thing, tokens_say_one_part};
+use algorithm_texts::laws::{a_line_says_one_thing, lines_make_blocks, tokens_say_one_part};
 use algorithm_texts::read_algorithm;
 use algorithms::Algorithm;
 use std::alloc::{AllocError, Global};
@@ -154,5 +154,6 @@ fn spaces_part_the_words_of_an_answer(rt: HostRuntime) -> Result<(), Fail> {
 fn the_text_spells_the_bakery(rt: HostRuntime) -> Result<(), Fail> {
     a_line_says_one_thing();
     tokens_say_one_part();
+    lines_make_blocks();
     compare_cases(rt.alloc(), Kind::Spelling, BAKERY)
 }

@@ -1,18 +1,18 @@
 -- Reading lines into a block, one after the other: the way to the place of the line that comes next.
-use Rattle.std.proofs.Common.{◌≡◌, ◌⊎◌, ℕ, Bool, true, false, cond, List, [], ◌∷◌, ◌++◌, length, Option, Some, None, IfSome, slice_get, drop, codes, refl, sym, ap, ◌∙◌, subst, inl, inr, append_assoc}
+use Rattle.std.proofs.Common.{◌≡◌, ◌⊎◌, ℕ, Bool, true, false, cond, List, [], ◌∷◌, ◌++◌, length, Option, Some, None, slice_get, drop, codes, refl, sym, ap, ◌∙◌, subst, inl, inr, append_assoc}
 use Rattle.std.proofs.lemmas.List.{append-nil}
 use Rattle.algorithm_texts.specs.declared.lines.Block.{Block as Kind}
-use Rattle.algorithm_texts.specs.declared.lines.Block.TheVariants.{If, Else, For}
+use Rattle.algorithm_texts.specs.declared.lines.Block.TheVariants.{If, Else}
 use Rattle.algorithm_texts.specs.declared.lines.Opened.{Opened}
 use Rattle.algorithm_texts.specs.declared.tokens.Sign.TheVariants.{Colon}
 use Rattle.algorithm_texts.specs.declared.tokens.Token.{Token}
 use Rattle.algorithm_texts.specs.Parts.{◌>>=◌}
-use Rattle.algorithm_texts.specs.Fronts.{is_the_word, is_the_sign, provided, is_over, begins_no_simple}
+use Rattle.algorithm_texts.specs.Fronts.{is_the_word, is_the_sign, is_over, begins_no_simple}
 use Rattle.algorithm_texts.specs.Drafts.{Drafted}
-use Rattle.algorithm_texts.specs.LineReading.{read_simple, opening, read_test, read_then, read_if, read_for, else_after, else_in, end_in, read_else, read_end, read_label, read_statement}
+use Rattle.algorithm_texts.specs.LineReading.{read_simple, opening, read_test, read_then, read_if, read_for, else_after, read_else, read_end, read_label, read_statement}
 use Rattle.algorithm_texts.specs.TextReading.{Spoken, with_number}
 use Rattle.algorithm_texts.specs.Blocks.{Block, Empty, Line, Enclosed, Divided, lines_in, read_if_block, read_if_line, begins_block, read_alone, divides, ends, alone, beginning, dividing, ending, compiled, read_statements, MakeBlocks}
-use Rattle.algorithm_texts.proofs.BlockTrees.{some_of, bind_same, if_of, Keeps, compiled_keeps, begins_opens, Divides, divides_open}
+use Rattle.algorithm_texts.proofs.BlockTrees.{some_of, bind_same, if_of, compiled_keeps, begins_opens, divides_open}
 
 -- ---- blocks after blocks
 

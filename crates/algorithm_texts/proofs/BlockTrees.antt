@@ -1,6 +1,5 @@
 -- Lines that are read one after the other are those of a block.
-use Rattle.std.proofs.Common.{◌≡◌, ◌⊎◌, ℕ, Bool, true, false, cond, ltb, List, [], ◌∷◌, ◌++◌, length, Option, Some, None, IfSome, slice_get, drop, codes, refl, sym, ap, ◌∙◌, subst, inl, inr, append_assoc}
-use Rattle.std.proofs.lemmas.List.{append-nil}
+use Rattle.std.proofs.Common.{◌≡◌, ℕ, Bool, true, false, cond, ltb, List, [], ◌∷◌, ◌++◌, length, Option, Some, None, IfSome, slice_get, drop, codes, refl, sym, ap, subst}
 use Rattle.algorithms.specs.declared.line.Members.{Members}
 use Rattle.algorithm_texts.specs.declared.lines.Block.{Block as Kind}
 use Rattle.algorithm_texts.specs.declared.lines.Block.TheVariants.{If, Else, For}
@@ -10,11 +9,11 @@ use Rattle.algorithm_texts.specs.declared.tokens.Sign.TheVariants.{Assign, OpenI
 use Rattle.algorithm_texts.specs.declared.tokens.Token.{Token}
 use Rattle.algorithm_texts.specs.Parts.{◌>>=◌}
 use Rattle.algorithm_texts.specs.Grammar.{is_among}
-use Rattle.algorithm_texts.specs.Fronts.{is_the_word, is_the_sign, letters_of, provided, past_word, past_sign, is_over, deed_said, members_said, past_withdraw, value_tokens, value_rest, begins_no_simple}
+use Rattle.algorithm_texts.specs.Fronts.{is_the_word, is_the_sign, letters_of, past_word, past_sign, is_over, deed_said, members_said, past_withdraw, value_tokens, value_rest, begins_no_simple}
 use Rattle.algorithm_texts.specs.Drafts.{SharedWord, Act, Loading, Storing, Awaiting, Accessing, Noting, Going, Beginning, Drafted}
-use Rattle.algorithm_texts.specs.LineReading.{read_value, read_condition, scope_in, new_name, name_set, index_in, with_names, with_form, read_word, read_until, read_deed, read_access, read_await, read_store, is_no_word, read_load, begins_word, read_assigned_value, read_assigned, read_private_assignment, read_assignment, read_done, read_goto, read_simple, opening, closing, landing, read_test, read_then, read_if, is_looping, loops, loop_opened, read_for, else_after, else_in, going_round, end_in, read_label, read_statement, Drafts}
-use Rattle.algorithm_texts.specs.TextReading.{Spoken, with_number}
-use Rattle.algorithm_texts.specs.Blocks.{Block, Empty, Line, Enclosed, Divided, lines_in, read_if_block, read_if_line, begins_block, read_alone, divides, ends, alone, beginning, dividing, ending, compiled, read_statements, MakeBlocks}
+use Rattle.algorithm_texts.specs.LineReading.{read_value, read_condition, scope_in, new_name, name_set, index_in, with_names, with_form, read_word, read_until, read_deed, read_access, read_await, read_store, is_no_word, read_load, begins_word, read_assigned_value, read_assigned, read_private_assignment, read_assignment, read_done, read_goto, read_simple, opening, closing, landing, read_test, read_then, is_looping, loops, loop_opened, read_for, else_after, else_in, going_round, end_in, read_label}
+use Rattle.algorithm_texts.specs.TextReading.{with_number}
+use Rattle.algorithm_texts.specs.Blocks.{Block, Empty, Line, Enclosed, Divided, read_if_block, read_if_line, begins_block, read_alone, divides, ends, alone, beginning, dividing, ending, compiled}
 
 -- ---- steps that may fail
 

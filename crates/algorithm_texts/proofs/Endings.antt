@@ -1,5 +1,5 @@
 -- Lines that end a call in place of a way.
-use Rattle.std.proofs.Common.{◌≡◌, ◌⊎◌, ℕ, zero, suc, true, List, [], ◌∷◌, map, set, get_or, refl, sym, ap, ◌∙◌, subst, inl, inr}
+use Rattle.std.proofs.Common.{◌≡◌, ℕ, zero, suc, true, List, [], ◌∷◌, map, set, get_or, refl, ap, ◌∙◌, subst, inl, inr}
 use Rattle.algorithms.specs.declared.line.Line.{Line}
 use Rattle.algorithm_texts.specs.Drafts.{PlacedLine, Ending, line_of}
 use Rattle.algorithm_texts.specs.Finishing.{is_way, EndsAt, EndSome}

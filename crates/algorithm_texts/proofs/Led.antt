@@ -1,5 +1,5 @@
 -- Lines that lead to another place.
-use Rattle.std.proofs.Common.{◌≡◌, ℕ, List, map, set, Option, Some, None, slice_get, refl, sym, ap, ◌∙◌}
+use Rattle.std.proofs.Common.{◌≡◌, ℕ, List, map, set, Some, None, slice_get, sym, ap, ◌∙◌}
 use Rattle.std.proofs.lemmas.List.{map-set}
 use Rattle.std.proofs.lemmas.Option.{slice_get-map}
 use Rattle.std.specs.Option.{option_map}

@@ -12,3 +12,4 @@ pub mod BlockTrees
 pub mod BlockPaths
 pub mod ProgramTrees
 pub mod TextBeginnings
+pub mod Sayings

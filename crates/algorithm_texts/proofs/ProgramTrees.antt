@@ -1,10 +1,8 @@
 -- A text that is read is that of a program.
-use Rattle.std.proofs.Common.{◌≡◌, ◌⊎◌, ℕ, ◌≤◌, Bool, true, false, cond, eqb, ltb, List, [], ◌∷◌, ◌++◌, length, Option, Some, None, IfSome, slice_get, drop, codes, refl, sym, ap, ◌∙◌, subst, inl, inr, append_assoc, arith}
-use Rattle.std.proofs.lemmas.Bool.{false≢true}
+use Rattle.std.proofs.Common.{◌≡◌, ◌⊎◌, ℕ, Bool, true, false, cond, eqb, ltb, List, [], ◌∷◌, ◌++◌, length, Option, Some, None, slice_get, drop, codes, refl, sym, ap, ◌∙◌, subst, inl, inr, append_assoc, arith}
 use Rattle.std.proofs.lemmas.Bool.Decides.{nat_tests}
 use Rattle.std.proofs.lemmas.List.{append-nil}
 use Rattle.std.proofs.lemmas.Option.{slice_get_past, slice_get_read}
-use Rattle.algorithms.specs.declared.algorithm.Call.{Call}
 use Rattle.algorithm_texts.specs.declared.lines.CallRead.{CallRead}
 use Rattle.algorithm_texts.specs.declared.lines.Draft.{Draft}
 use Rattle.algorithm_texts.specs.declared.lines.Opened.{Opened}
@@ -16,7 +14,7 @@ use Rattle.algorithm_texts.specs.LineReading.{read_statement, scope_in}
 use Rattle.algorithm_texts.specs.TextReading.{Spoken, with_number, begun, call_words, has_call, with_call, end_call_in, end_call, read_call, undeclared, read_each, read_bound, with_lasting, read_shared, read_private, read_declaration, read_line, read_lines, read_head, read_promises, read_text}
 use Rattle.algorithm_texts.specs.TextLines.{TextSays}
 use Rattle.algorithm_texts.specs.Blocks.{Block, lines_in, read_alone, begins_block, divides, ends, compiled, read_statements}
-use Rattle.algorithm_texts.specs.Finishing.{finished, EndSome, with_lines, IsOf}
+use Rattle.algorithm_texts.specs.Finishing.{finished, EndSome, with_lines}
 use Rattle.algorithm_texts.specs.Programs.{CallLines, Program, calls_lines, program_lines, declarations_made, call_begun, calls_made, meant, Spells}
 use Rattle.algorithm_texts.proofs.BlockTrees.{some_of, if_of, round, Stays, stays, choice_stays, alone_stays, begins_calls, divides_calls, ends_calls}
 use Rattle.algorithm_texts.proofs.BlockPaths.{kinds, make_blocks}

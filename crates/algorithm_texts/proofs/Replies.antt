@@ -1,5 +1,5 @@
 -- Answers as words with one space between two.
-use Rattle.std.proofs.Common.{◌≡◌, ◌⊎◌, ℕ, zero, suc, ◌+◌, ◌<◌, Bool, true, false, cond, not, eqb, leb, IsAscii, ◌&&◌, List, [], ◌∷◌, ◌++◌, length, take, get_or, filter, Result, Ok, Err, refl, sym, ap, ◌∙◌, subst, inl, inr, append_assoc, arith}
+use Rattle.std.proofs.Common.{◌≡◌, ℕ, zero, suc, ◌<◌, Bool, true, false, cond, not, eqb, leb, IsAscii, ◌&&◌, List, [], ◌∷◌, ◌++◌, length, get_or, filter, Ok, Err, refl, sym, ap, ◌∙◌, subst, append_assoc, arith}
 use Rattle.std.proofs.lemmas.Bool.{false≢true, leb-true}
 use Rattle.std.proofs.lemmas.Bool.Decides.{nat_tests}
 use Rattle.std.proofs.lemmas.List.{append-nil}
@@ -8,7 +8,6 @@ use Rattle.std.proofs.lemmas.Str.{IsAscii-append}
 use Rattle.std.proofs.lemmas.Str.Ascii.{IsAscii-nil, IsAscii-cons}
 use Rattle.std.specs.Char.{is_ascii_lowercase}
 use Rattle.std.specs.List.{list_all, join_with_byte, slice_split, onto_first}
-use Rattle.algorithms.specs.declared.fault.LineFault.{LineFault}
 use Rattle.algorithms.specs.declared.fault.LineFault.TheVariants.{BadForm}
 use Rattle.algorithm_texts.specs.Tokens.{is_filled, is_answer_part, is_answer_word}
 unfoldable use Rattle.algorithm_texts.specs.Tokens.{answer_from}

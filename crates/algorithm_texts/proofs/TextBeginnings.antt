@@ -1,5 +1,5 @@
 -- The first two lines of a text.
-use Rattle.std.proofs.Common.{◌≡◌, ℕ, List, map, drop, Option, Some, None, slice_get, refl, sym, ap, ◌∙◌, subst}
+use Rattle.std.proofs.Common.{◌≡◌, ℕ, List, map, drop, Option, Some, None, slice_get, refl, sym, ap, ◌∙◌}
 use Rattle.std.proofs.lemmas.Option.{slice_get-map}
 use Rattle.std.specs.Option.{option_map}
 use Rattle.algorithms.specs.declared.algorithm.Promises.{Promises}

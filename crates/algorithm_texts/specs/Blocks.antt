@@ -1,5 +1,5 @@
 -- Blocks of lines as trees, and what they make of a draft. The blocks that are open in a draft are those round the line.
-use Rattle.std.specs.Prelude.{◌≡◌, ℕ, Bool, List, [], ◌∷◌, ◌++◌, length, drop, slice_get, Option, Some, None, if◌then◌else◌, codes}
+use Rattle.std.specs.Prelude.{◌≡◌, ℕ, List, [], ◌∷◌, ◌++◌, length, drop, slice_get, Option, Some, None, if◌then◌else◌, codes}
 use Rattle.algorithm_texts.specs.declared.lines.Block.TheVariants.{If as IfBlock}
 use Rattle.algorithm_texts.specs.declared.lines.Opened.{Opened}
 use Rattle.algorithm_texts.specs.declared.tokens.Sign.TheVariants.{Colon}

@@ -1,5 +1,5 @@
 -- Lines of an algorithm, and drafts of one, without their memory.
-use Rattle.std.specs.Prelude.{ℕ, ◌+◌, Bool, false, List, [], ◌∷◌, ◌++◌, length, map, reverse, slice_get, slice_set, Option, Some, None, string_bytes}
+use Rattle.std.specs.Prelude.{ℕ, Bool, List, map, reverse, slice_set, Option, Some, None, string_bytes}
 use Rattle.std.specs.Option.{option_map}
 use Rattle.algorithms.specs.declared.algorithm.Algorithm.{Algorithm}
 use Rattle.algorithms.specs.declared.algorithm.Entries.{Entries}

@@ -1,6 +1,5 @@
 -- A draft that was read becomes an algorithm: gotos lead to their labels, calls begin at their lines.
-use Rattle.std.specs.Prelude.{◌≡◌, ◌⊎◌, ℕ, nat_eq, nat_lt, nat_le, Bool, true, false, ◌&&◌, List, [], ◌∷◌, slice_get, Option, Some, None, if◌then◌else◌, bytes_eq, position}
-use Rattle.std.specs.Option.{option_map}
+use Rattle.std.specs.Prelude.{◌≡◌, ◌⊎◌, ℕ, nat_lt, nat_le, Bool, true, false, ◌&&◌, List, [], ◌∷◌, slice_get, Option, Some, None, if◌then◌else◌, bytes_eq, position}
 use Rattle.algorithms.specs.declared.algorithm.Algorithm.{Algorithm}
 use Rattle.algorithms.specs.declared.algorithm.Call.{Call}
 use Rattle.algorithms.specs.declared.algorithm.Call.TheVariants.{Lock, Unlock, Recover, Withdraw}
@@ -9,7 +8,7 @@ use Rattle.algorithm_texts.specs.declared.lines.Jump.{Jump}
 use Rattle.algorithm_texts.specs.declared.lines.Label.{Label}
 use Rattle.algorithm_texts.specs.Parts.{◌>>=◌}
 use Rattle.algorithm_texts.specs.Operands.{names_of, declared_of}
-use Rattle.algorithm_texts.specs.Drafts.{LineForm, Accessing, Assigning, Noting, Going, Branching, Beginning, Repeating, Ending, PlacedLine, leading, Head, head_of, each_of, answers_of, lines_of, Drafted}
+use Rattle.algorithm_texts.specs.Drafts.{LineForm, Accessing, Assigning, Noting, Going, Branching, Beginning, Repeating, Ending, PlacedLine, leading, head_of, each_of, answers_of, lines_of, Drafted}
 use Rattle.algorithm_texts.specs.TextReading.{is_call}
 
 -- ---- gotos

@@ -1,5 +1,5 @@
 -- What comes next in a line: its tokens, one after the other.
-use Rattle.std.specs.Prelude.{ℕ, ◌+◌, ◌==◌, nat_eq, Bool, true, false, not, ◌||◌, List, [], ◌∷◌, length, take, drop, slice_get, Option, Some, None, if◌then◌else◌, codes, bytes_eq}
+use Rattle.std.specs.Prelude.{ℕ, ◌==◌, nat_eq, Bool, false, not, ◌||◌, List, [], ◌∷◌, length, take, drop, slice_get, Option, Some, None, if◌then◌else◌, codes, bytes_eq}
 use Rattle.std.specs.List.{prefix_len}
 use Rattle.algorithms.specs.declared.condition.Comparison.{Comparison}
 use Rattle.algorithms.specs.declared.condition.Comparison.TheVariants.{Equal, NotEqual, Less, AtMost, Greater, AtLeast}

@@ -12,3 +12,4 @@ pub mod TextLines
 pub mod Finishing
 pub mod Blocks
 pub mod Programs
+pub mod Sayings

@@ -1,12 +1,9 @@
 -- Reading the lines of a call from the left: what each of them makes of a draft, or None where it is refused.
-use Rattle.std.specs.Prelude.{◌≡◌, ◌⊎◌, ℕ, zero, ◌+◌, ◌==◌, nat_lt, nat_eq, Bool, true, false, not, ◌||◌, List, [], ◌∷◌, ◌++◌, length, take, drop, slice_get, slice_set, Option, Some, None, Result, Ok, Err, if◌then◌else◌, codes, bytes_eq, position}
+use Rattle.std.specs.Prelude.{◌≡◌, ℕ, ◌+◌, nat_lt, nat_eq, Bool, true, false, ◌||◌, List, [], ◌∷◌, ◌++◌, length, drop, slice_get, slice_set, Option, Some, None, Result, Ok, Err, if◌then◌else◌, codes, bytes_eq, position}
 use Rattle.algorithms.specs.declared.fault.LineFault.{LineFault}
-use Rattle.algorithms.specs.declared.line.Deed.{Deed}
 use Rattle.algorithms.specs.declared.line.Members.{Members}
 use Rattle.algorithm_texts.specs.declared.lines.Block.{Block}
 use Rattle.algorithm_texts.specs.declared.lines.Block.TheVariants.{If, Else, For}
-use Rattle.algorithm_texts.specs.declared.lines.Jump.{Jump}
-use Rattle.algorithm_texts.specs.declared.lines.Label.{Label}
 use Rattle.algorithm_texts.specs.declared.lines.Opened.{Opened}
 use Rattle.algorithm_texts.specs.declared.tokens.Sign.TheVariants.{Assign, OpenIndex, CloseIndex, Colon}
 use Rattle.algorithm_texts.specs.declared.tokens.Token.{Token}
@@ -16,7 +13,7 @@ use Rattle.algorithm_texts.specs.Grammar.{Scope, is_among, placed}
 use Rattle.algorithm_texts.specs.Operands.{reserved, Refuses}
 use Rattle.algorithm_texts.specs.Stacks.{read_part}
 use Rattle.algorithm_texts.specs.Fronts.{is_the_word, is_the_sign, letters_of, provided, past_word, past_sign, is_over, deed_said, members_said, past_withdraw, value_tokens, value_rest, begins_no_simple}
-use Rattle.algorithm_texts.specs.Drafts.{SharedWord, Act, Loading, Storing, Awaiting, LineForm, Accessing, Assigning, Noting, Going, Branching, Beginning, Repeating, Ending, PlacedLine, leading, Drafted}
+use Rattle.algorithm_texts.specs.Drafts.{SharedWord, Act, Loading, Storing, Awaiting, LineForm, Accessing, Assigning, Noting, Going, Branching, Beginning, Repeating, Ending, leading, Drafted}
 
 -- what a function makes of a draft is what the definition gives, where that is something
 abbrev pub Drafts : {A : Type 0} → Drafted → Result A LineFault → Option Drafted → Type 0

@@ -1,9 +1,8 @@
 -- Reading the lines of a text from the left: what each of them makes of a draft, or None where it is refused.
-use Rattle.std.specs.Prelude.{◌≡◌, string_bytes, ℕ, ◌+◌, ◌==◌, nat_eq, nat_lt, nat_le, Bool, true, false, not, ◌&&◌, ◌||◌, List, [], ◌∷◌, ◌++◌, length, drop, slice_get, Option, Some, None, if◌then◌else◌, codes, bytes_eq}
+use Rattle.std.specs.Prelude.{◌≡◌, string_bytes, ℕ, ◌+◌, ◌==◌, nat_eq, nat_lt, Bool, true, false, ◌&&◌, ◌||◌, List, [], ◌∷◌, ◌++◌, length, drop, slice_get, Option, Some, None, if◌then◌else◌, codes}
 use Rattle.algorithms.specs.declared.algorithm.Algorithm.{Algorithm}
 use Rattle.algorithms.specs.declared.algorithm.Call.{Call}
 use Rattle.algorithms.specs.declared.algorithm.Call.TheVariants.{Lock, Unlock, Recover, Withdraw}
-use Rattle.algorithms.specs.declared.algorithm.Entries.{Entries}
 use Rattle.algorithms.specs.declared.algorithm.Promises.{Promises}
 use Rattle.algorithm_texts.specs.declared.lines.CallRead.{CallRead}
 use Rattle.algorithm_texts.specs.declared.lines.Opened.{Opened}
@@ -11,9 +10,9 @@ use Rattle.algorithm_texts.specs.declared.tokens.Sign.TheVariants.{Comma, OpenIn
 use Rattle.algorithm_texts.specs.declared.tokens.Token.{Token}
 use Rattle.algorithm_texts.specs.declared.tokens.Token.TheVariants.{Number as NumberToken, Word, Sign}
 use Rattle.algorithm_texts.specs.Parts.{Term, Number, Private, Me, Procs, Limit, Joined, ◌>>=◌}
-use Rattle.algorithm_texts.specs.Grammar.{Scope, is_among, placed}
-use Rattle.algorithm_texts.specs.Fronts.{is_the_word, is_the_sign, letters_of, provided, past_word, past_sign, is_over, named_by, value_tokens, value_rest}
-use Rattle.algorithm_texts.specs.Drafts.{Head, PlacedLine, Drafted}
+use Rattle.algorithm_texts.specs.Grammar.{Scope, is_among}
+use Rattle.algorithm_texts.specs.Fronts.{is_the_word, is_the_sign, provided, past_word, is_over, named_by, value_tokens, value_rest}
+use Rattle.algorithm_texts.specs.Drafts.{Drafted}
 use Rattle.algorithm_texts.specs.LineReading.{read_value, scope_in, new_name, with_names, read_statement}
 
 -- ---- calls

@@ -2,7 +2,9 @@
 
 use crate::cases::{Kind, compare_cases};
 use crate::support::text_named;
-use algorithm_texts::laws::{a_line_says_one_thing, lines_make_blocks, tokens_say_one_part};
+use algorithm_texts::laws::{
+    a_line_says_one_thing, lines_make_blocks, tokens_are_read_as_said, tokens_say_one_part,
+};
 use algorithm_texts::read_algorithm;
 use algorithms::Algorithm;
 use std::alloc::{AllocError, Global};
@@ -155,5 +157,6 @@ fn the_text_spells_the_bakery(rt: HostRuntime) -> Result<(), Fail> {
     a_line_says_one_thing();
     tokens_say_one_part();
     lines_make_blocks();
+    tokens_are_read_as_said();
     compare_cases(rt.alloc(), Kind::Spelling, BAKERY)
 }

@@ -1,4 +1,4 @@
-use Rattle.std.proofs.Common.{sym, inr, rules}
+use Rattle.std.proofs.Common.{sym, inr}
 use Rattle.std.proofs.lemmas.Result.{err_from_is_err_and}
 use Rattle.algorithm_texts.proofs.LineTokens.{space_read, token_read, not_done, read_to_end, read_to_fault}
 use Rattle.algorithm_texts.proofs.tokens.read_tokens.Goals as goal

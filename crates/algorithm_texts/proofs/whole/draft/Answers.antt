@@ -1,4 +1,4 @@
-use Rattle.std.proofs.Common.{◌≡◌, Some, slice_get, sym, ◌∙◌, rules}
+use Rattle.std.proofs.Common.{◌≡◌, Some, slice_get, rules}
 use Rattle.algorithm_texts.specs.Drafts.{drafted}
 use Rattle.algorithm_texts.proofs.TextBeginnings.{text_begun}
 use Rattle.algorithm_texts.proofs.whole.draft.Goals as goal

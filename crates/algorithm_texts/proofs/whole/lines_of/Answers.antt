@@ -1,8 +1,8 @@
-use Rattle.std.proofs.Common.{◌≡◌, ◌+◌, ℕ, ◌++◌, [], length, map, refl, sym, ap, ◌∙◌, arith, rules}
+use Rattle.std.proofs.Common.{◌≡◌, ◌+◌, ℕ, ◌++◌, [], map, ap, ◌∙◌, arith, rules}
 use Rattle.std.proofs.lemmas.Grind.{common_steps}
 use Rattle.std.proofs.lemmas.List.{length-map}
 use Rattle.algorithm_texts.specs.TextLines.{and_line, spoken_of}
-use Rattle.algorithm_texts.proofs.SpokenLines.{so_far_more, all_said, none_so_far}
+use Rattle.algorithm_texts.proofs.SpokenLines.{so_far_more}
 use Rattle.algorithm_texts.proofs.whole.lines_of.Goals as goal
 
 pub loop-line-preserved : goal.loop-line-preserved

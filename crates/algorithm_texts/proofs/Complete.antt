@@ -1,8 +1,8 @@
 -- What the grammar says of tokens is what is read from them.
-use Rattle.std.proofs.Common.{◌≡◌, ◌⊎◌, inl, inr, ℕ, ◌+◌, ◌<◌, ◌≤◌, max, Bool, true, false, cond, leb, ltb, List, [], ◌∷◌, ◌++◌, Option, Some, None, refl, sym, ap, ◌∙◌, subst, codes, bytes_eq, arith}
+use Rattle.std.proofs.Common.{◌≡◌, ◌⊎◌, inl, inr, ℕ, ◌+◌, ◌<◌, ◌≤◌, Bool, true, false, cond, leb, List, [], ◌∷◌, ◌++◌, Option, Some, None, refl, sym, ap, ◌∙◌, subst, codes, bytes_eq, arith}
 use Rattle.std.proofs.lemmas.Bool.{lt-leb, le-leb, leb-true, lt-ltb}
 use Rattle.std.proofs.lemmas.Slice.Eq.{bytes_eq-Decides}
-use Rattle.algorithm_texts.specs.declared.tokens.Sign.TheVariants.{Open, Close, Comma, Operator as OperatorSign, Comparison as ComparisonSign}
+use Rattle.algorithm_texts.specs.declared.tokens.Sign.TheVariants.{Open, Close, Comma}
 use Rattle.algorithm_texts.specs.declared.tokens.Token.{Token}
 use Rattle.algorithm_texts.specs.declared.tokens.Token.TheVariants.{Number as NumberToken, Word, Sign}
 use Rattle.algorithm_texts.specs.declared.operands.Bracket.{Bracket}
@@ -11,7 +11,7 @@ use Rattle.algorithm_texts.specs.declared.operands.Joint.{Joint}
 use Rattle.algorithm_texts.specs.declared.operands.Joint.TheVariants.{Operator as ByOperator, Comparison as ByComparison, And, Or}
 use Rattle.algorithm_texts.specs.Parts.{Part, Value, Number, joined, enclosed, enclosed_two, ◌>>=◌}
 use Rattle.algorithm_texts.specs.Grammar.{Scope, Tree, Numeral, Name, One, Two, Between, head_tokens, joint_token, written, strength, Binds, depth, is_among, word_value, meaning, Says}
-use Rattle.algorithm_texts.specs.Stacks.{Waits, Joining, Opened, Halfway, Next, Begins, Heads, Follows, Reading, reading, brackets, reduced, opened, head_of, worded, valued, enclosing, closes, halves, joint_of, joining, followed, turn, run, alone, ended, read_part}
+use Rattle.algorithm_texts.specs.Stacks.{Waits, Joining, Opened, Halfway, Begins, Follows, Reading, reading, brackets, reduced, head_of, worded, valued, enclosing, closes, halves, joining, followed, turn, run, alone, ended, read_part}
 
 -- ---- what is waiting
 

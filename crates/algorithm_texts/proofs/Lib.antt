@@ -5,3 +5,11 @@ pub mod Complete
 pub mod Sound
 pub mod Places
 pub mod Stacked
+pub mod SpokenLines
+pub mod Endings
+pub mod Led
+pub mod BlockTrees
+pub mod BlockPaths
+pub mod ProgramTrees
+pub mod TextBeginnings
+pub mod Sayings

@@ -1,5 +1,5 @@
 -- The tokens of a line.
-use Rattle.std.proofs.Common.{◌≡◌, ◌≢◌, ◌⊎◌, ℕ, zero, suc, IsAscii, ◌+◌, ◌<◌, ◌≤◌, Bool, true, false, cond, not, eqb, ◌&&◌, List, [], ◌∷◌, ◌++◌, length, drop, Result, Ok, Err, Some, None, position, ltb, refl, sym, ap, ◌∙◌, subst, inl, inr, append_assoc, arith, rules}
+use Rattle.std.proofs.Common.{◌≡◌, ◌≢◌, ◌⊎◌, ℕ, zero, suc, IsAscii, ◌<◌, Bool, true, false, cond, not, List, [], ◌∷◌, ◌++◌, length, drop, Result, Ok, Err, Some, None, position, ltb, refl, sym, ap, ◌∙◌, subst, inl, inr, append_assoc, arith, rules}
 use Rattle.std.proofs.lemmas.Bool.{ne_eqb, ltb-false, and_parts, false≢true}
 use Rattle.std.proofs.lemmas.Bool.Decides.{nat_tests}
 use Rattle.std.proofs.lemmas.List.{append-nil}

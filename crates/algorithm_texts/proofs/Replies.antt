@@ -1,12 +1,15 @@
 -- Answers as words with one space between two.
-use Rattle.std.proofs.Common.{◌≡◌, ◌⊎◌, ℕ, zero, suc, ◌+◌, ◌<◌, Bool, true, false, cond, not, eqb, ◌&&◌, List, [], ◌∷◌, ◌++◌, length, take, get_or, filter, Result, Ok, Err, refl, sym, ap, ◌∙◌, subst, inl, inr, append_assoc, arith}
+use Rattle.std.proofs.Common.{◌≡◌, ℕ, zero, suc, ◌<◌, Bool, true, false, cond, not, eqb, leb, IsAscii, ◌&&◌, List, [], ◌∷◌, ◌++◌, length, get_or, filter, Ok, Err, refl, sym, ap, ◌∙◌, subst, append_assoc, arith}
+use Rattle.std.proofs.lemmas.Bool.{false≢true, leb-true}
 use Rattle.std.proofs.lemmas.Bool.Decides.{nat_tests}
 use Rattle.std.proofs.lemmas.List.{append-nil}
 use Rattle.std.proofs.lemmas.List.Folds.{list_all-append}
-use Rattle.std.specs.List.{list_all, join_with_byte}
-use Rattle.algorithms.specs.declared.fault.LineFault.{LineFault}
+use Rattle.std.proofs.lemmas.Str.{IsAscii-append}
+use Rattle.std.proofs.lemmas.Str.Ascii.{IsAscii-nil, IsAscii-cons}
+use Rattle.std.specs.Char.{is_ascii_lowercase}
+use Rattle.std.specs.List.{list_all, join_with_byte, slice_split, onto_first}
 use Rattle.algorithms.specs.declared.fault.LineFault.TheVariants.{BadForm}
-use Rattle.algorithm_texts.specs.Tokens.{is_filled, is_answer_word}
+use Rattle.algorithm_texts.specs.Tokens.{is_filled, is_answer_part, is_answer_word}
 unfoldable use Rattle.algorithm_texts.specs.Tokens.{answer_from}
 
 and_no : (b : Bool) → (b && false) ≡ false
@@ -134,3 +137,57 @@ pub part_refused : (parts : List (List ℕ)) (i : ℕ) (w : List ℕ) → i < le
 unfolding answer_from
 part_refused parts i w lt here some wrong =
     rw (wrong_at parts i w lt (ap is_filled (sym here) ∙ some) (ap is_answer_word (sym here) ∙ wrong)) refl
+
+-- ---- answers are ASCII
+
+both : (a b : Bool) → (a && b) ≡ true → (a ≡ true) × (b ≡ true)
+both true b h = (refl, h)
+both false b h = absurd (false≢true h)
+
+small_letter : (x : ℕ) → is_ascii_lowercase x ≡ true → x < 128
+small_letter x e = let h : leb x 122 ≡ true = (both (leb 97 x) (leb x 122) e).1 in omega (arith, leb-true x 122 h)
+
+abbrev is_lower : List ℕ → Bool
+is_lower part = list_all is_ascii_lowercase part
+
+onto_lower : (x : ℕ) (parts : List (List ℕ)) → list_all is_lower (onto_first x parts) ≡ true → (is_ascii_lowercase x ≡ true) × (list_all is_lower parts ≡ true)
+onto_lower x [] h = ((both (is_ascii_lowercase x) true (both (is_ascii_lowercase x && true) true h).0).0, refl)
+onto_lower x (p ∷ ps) h =
+    let k = both (is_ascii_lowercase x && is_lower p) (list_all is_lower ps) h in
+    let l = both (is_ascii_lowercase x) (is_lower p) k.0 in
+    (l.0, rw (l.1, k.1) refl)
+
+split_ascii_at : (x : ℕ) (xs : List ℕ) (b : Bool) → eqb x 45 ≡ b
+    → list_all is_lower (cond b ([] ∷ slice_split (λ c. eqb c 45) xs) (onto_first x (slice_split (λ c. eqb c 45) xs))) ≡ true
+    → (list_all is_lower (slice_split (λ c. eqb c 45) xs) ≡ true → IsAscii xs) → IsAscii (x ∷ xs)
+split_ascii_at x xs true e h ih = let same : x ≡ 45 = grind (arith, nat_tests) in IsAscii-cons x xs (omega (arith, same)) (ih h)
+split_ascii_at x xs false e h ih =
+    let k = onto_lower x (slice_split (λ c. eqb c 45) xs) h in
+    IsAscii-cons x xs (small_letter x k.0) (ih k.1)
+
+split_ascii : (xs : List ℕ) → list_all is_lower (slice_split (λ c. eqb c 45) xs) ≡ true → IsAscii xs
+split_ascii [] h = IsAscii-nil
+split_ascii (x ∷ xs) h = split_ascii_at x xs (eqb x 45) refl h (split_ascii xs)
+
+lower_parts : (parts : List (List ℕ)) → list_all is_answer_part parts ≡ true → list_all is_lower parts ≡ true
+lower_parts [] h = refl
+lower_parts (p ∷ ps) h =
+    let k = both (is_answer_part p) (list_all is_answer_part ps) h in
+    let l = both (is_filled p) (is_lower p) k.0 in
+    rw (l.1, lower_parts ps k.1) refl
+
+word_ascii : (word : List ℕ) → is_answer_word word ≡ true → IsAscii word
+word_ascii word e = split_ascii word (lower_parts (slice_split (λ c. eqb c 45) word) e)
+
+join_ascii : (words : List (List ℕ)) → list_all is_answer_word words ≡ true → IsAscii (join_with_byte 32 words)
+join_ascii [] h = IsAscii-nil
+join_ascii (w ∷ []) h = word_ascii w (both (is_answer_word w) true h).0
+join_ascii (w ∷ (v ∷ vs)) h =
+    let k = both (is_answer_word w) (list_all is_answer_word (v ∷ vs)) h in
+    IsAscii-append w (32 ∷ join_with_byte 32 (v ∷ vs)) (word_ascii w k.0) (IsAscii-cons 32 (join_with_byte 32 (v ∷ vs)) (omega arith) (join_ascii (v ∷ vs) k.1))
+
+-- an answer is ASCII
+pub answer_ascii : (parts : List (List ℕ)) (answer : List ℕ) → answer_from parts ≡ Ok answer → IsAscii answer
+answer_ascii parts answer e =
+    let h = fits parts answer e in
+    subst IsAscii h.1 (join_ascii (filter is_filled parts) h.0)

@@ -1,5 +1,5 @@
 -- What is read from tokens is what the grammar says of them.
-use Rattle.std.proofs.Common.{◌≡◌, ℕ, ◌+◌, ◌<◌, ◌≤◌, max, Bool, true, false, cond, leb, ltb, List, [], ◌∷◌, ◌++◌, Option, Some, None, IfSome, refl, sym, ap, ◌∙◌, subst, append_assoc, codes, bytes_eq, arith}
+use Rattle.std.proofs.Common.{◌≡◌, ℕ, ◌+◌, ◌<◌, ◌≤◌, Bool, true, false, cond, leb, ltb, List, [], ◌∷◌, ◌++◌, Option, Some, None, IfSome, refl, sym, ap, ◌∙◌, subst, append_assoc, codes, bytes_eq, arith}
 use Rattle.std.proofs.lemmas.Bool.{leb-true, leb-false, ltb-true}
 use Rattle.std.proofs.lemmas.List.{append-nil}
 use Rattle.algorithm_texts.specs.declared.tokens.Sign.TheVariants.{Assign, Colon, Open, Close, Comma, OpenIndex, CloseIndex, Operator as OperatorSign, Comparison as ComparisonSign}
@@ -9,10 +9,10 @@ use Rattle.algorithm_texts.specs.declared.operands.Bracket.{Bracket}
 use Rattle.algorithm_texts.specs.declared.operands.Bracket.TheVariants.{Plain, Not, Max, Min}
 use Rattle.algorithm_texts.specs.declared.operands.Joint.{Joint}
 use Rattle.algorithm_texts.specs.declared.operands.Joint.TheVariants.{Operator as ByOperator, Comparison as ByComparison, And, Or}
-use Rattle.algorithm_texts.specs.Parts.{Part, Value, Number, joined, enclosed, enclosed_two, ◌>>=◌}
+use Rattle.algorithm_texts.specs.Parts.{Part, joined, enclosed, enclosed_two, ◌>>=◌}
 use Rattle.algorithm_texts.specs.Grammar.{Scope, Tree, Numeral, Name, One, Two, Between, head_tokens, joint_token, written, strength, Binds, depth, word_value, meaning, Says}
 use Rattle.algorithm_texts.specs.Stacks.{Waits, Joining, Opened, Halfway, Next, Begins, Heads, Follows, Reading, reading, brackets, reduced, opened, head_of, worded, valued, begun, headed, enclosing, closes, halves, joint_of, joining, followed, turned, turn, run, alone, ended, read_part}
-use Rattle.algorithm_texts.proofs.Complete.{Ends, ends_more, is_word}
+use Rattle.algorithm_texts.proofs.Complete.{Ends, is_word}
 
 -- ---- trees
 

@@ -1,5 +1,5 @@
 -- The stack of what waits, as it is kept and as it is read.
-use Rattle.std.proofs.Common.{◌≡◌, ◌⊎◌, ℕ, ◌+◌, ◌<◌, ◌≤◌, Bool, true, false, cond, leb, List, [], ◌∷◌, ◌++◌, length, map, reverse, take, drop, get_or, Option, Some, None, Result, Ok, Err, IfOk, IfErr, String, string_bytes, ltb, inl, inr, refl, sym, ap, ◌∙◌, subst, codes, arith}
+use Rattle.std.proofs.Common.{◌≡◌, ◌⊎◌, ℕ, ◌+◌, ◌<◌, ◌≤◌, Bool, true, false, cond, leb, List, [], ◌∷◌, ◌++◌, length, map, reverse, take, get_or, Some, None, Result, Ok, Err, IfOk, IfErr, String, string_bytes, ltb, inl, inr, refl, sym, ap, ◌∙◌, subst, arith}
 use Rattle.std.proofs.lemmas.Bool.{le-leb, lt-leb, lt-ltb, le-ltb}
 use Rattle.std.proofs.lemmas.List.{map-append, length-map, reverse-append, take_more}
 use Rattle.std.specs.declared.alloc.Global.{Global}
@@ -13,7 +13,7 @@ use Rattle.algorithm_texts.specs.declared.operands.Joint.{Joint}
 use Rattle.algorithm_texts.specs.declared.stack.Waiting.{Waiting}
 use Rattle.algorithm_texts.specs.Parts.{Part, Value, Condition, Pair, Private, Term, Formula, term_of, formula_of, joined, value_in, condition_in, ◌>>=◌}
 use Rattle.algorithm_texts.specs.Grammar.{Scope, strength, placed, Says}
-use Rattle.algorithm_texts.specs.Stacks.{Waits, Joining, Opened, Halfway, Reading, reading, brackets, is_open, reduced, turn, run, ended, alone, Next, Follows, read_part}
+use Rattle.algorithm_texts.specs.Stacks.{Waits, Joining, Opened, Halfway, Reading, brackets, is_open, reduced, turn, run, read_part}
 use Rattle.algorithm_texts.specs.Operands.{waits_of, Refuses, MakesValue, MakesCondition, scope_of, SayNoValue, SayNoCondition, SayOnePart}
 unfoldable use Rattle.algorithm_texts.specs.Operands.{reserved}
 use Rattle.algorithm_texts.proofs.Complete.{KnowsHeads, complete}

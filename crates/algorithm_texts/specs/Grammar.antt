@@ -10,7 +10,7 @@ use Rattle.algorithm_texts.specs.declared.operands.Bracket.{Bracket}
 use Rattle.algorithm_texts.specs.declared.operands.Bracket.TheVariants.{Plain, Not, Max, Min}
 use Rattle.algorithm_texts.specs.declared.operands.Joint.{Joint}
 use Rattle.algorithm_texts.specs.declared.operands.Joint.TheVariants.{Operator as ByOperator, Comparison as ByComparison, And, Or}
-use Rattle.algorithm_texts.specs.Parts.{Term, Number, Private, Me, Procs, Limit, Part, Value, joined, enclosed, enclosed_two, ◌>>=◌}
+use Rattle.algorithm_texts.specs.Parts.{Number, Private, Me, Procs, Limit, Part, Value, joined, enclosed, enclosed_two, ◌>>=◌}
 
 -- ---- trees and their tokens
 

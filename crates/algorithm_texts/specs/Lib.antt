@@ -4,3 +4,12 @@ pub mod Parts
 pub mod Grammar
 pub mod Stacks
 pub mod Operands
+pub mod Fronts
+pub mod Drafts
+pub mod LineReading
+pub mod TextReading
+pub mod TextLines
+pub mod Finishing
+pub mod Blocks
+pub mod Programs
+pub mod Sayings

@@ -2,7 +2,6 @@
 use Rattle.std.specs.Prelude.{ℕ, Option, Some, None, option_and_then}
 use Rattle.algorithms.specs.declared.condition.Comparison.{Comparison}
 use Rattle.algorithms.specs.declared.condition.Condition.{Condition as ConditionOf, Compare as CompareOf, ComparePairs as ComparePairsOf, And' as AndOf, Or' as OrOf, Not' as NotOf}
-use Rattle.algorithms.specs.declared.condition.Pair.{Pair as PairOf}
 use Rattle.algorithms.specs.declared.expression.Expression.{Expression as ValueOf, Number as NumberOf, Private as PrivateOf, Me as MeOf, Procs as ProcsOf, Limit as LimitOf, Joined' as JoinedOf}
 use Rattle.algorithms.specs.declared.expression.Operator.{Operator}
 use Rattle.algorithms.specs.declared.expression.Operator.TheVariants.{Maximum, Minimum}

@@ -1,5 +1,5 @@
 -- The tokens of a line: numbers, words and signs, parted by spaces, up to a comment.
-use Rattle.std.specs.Prelude.{◌≡◌, ℕ, ◌^◌, ◌==◌, nat_lt, nat_le, Bool, true, false, not, ◌≢◌, ◌&&◌, ◌||◌, ◌⊎◌, List, [], ◌∷◌, length, take, drop, slice_index, Option, Some, None, Result, Ok, Err, ok_or, if◌then◌else◌, codes, bytes_eq, filter, take_while}
+use Rattle.std.specs.Prelude.{◌≡◌, ℕ, ◌^◌, ◌==◌, nat_lt, nat_le, Bool, true, false, not, ◌≢◌, ◌&&◌, ◌||◌, ◌⊎◌, List, [], ◌∷◌, length, take, drop, slice_index, Option, Some, None, Result, Ok, Err, if◌then◌else◌, codes, bytes_eq, filter, take_while}
 use Rattle.std.specs.List.{before_first, slice_split, join_with_byte, list_all}
 use Rattle.std.specs.Char.{is_ascii_digit, is_ascii_alphanumeric, is_ascii_lowercase}
 use Rattle.std.specs.Str.Parse.{digits_value}

@@ -1,10 +1,20 @@
 //! The head of a text, its declarations and its calls.
 
+ghost use Rattle.std.specs.Prelude.{◌≡◌, ◌==◌, List, ℕ, length, reverse, Some, None, MatchResult, MatchOption, OnOk, IfOk, IfErr, IsAscii};
+ghost use Rattle.std.specs.Option.{option_copied, option_map};
+ghost use Rattle.algorithms.specs.declared.fault.LineFault.TheVariants.{OutOfMemory as NoMemory};
+ghost use Rattle.algorithm_texts.specs.Fronts.{named_by};
+ghost use Rattle.algorithm_texts.specs.Parts.{term_of};
+ghost use Rattle.algorithm_texts.specs.Operands.{Refuses};
+ghost use Rattle.algorithm_texts.specs.Drafts.{drafted};
+ghost use Rattle.algorithm_texts.specs.LineReading.{Drafts, scope_in, with_names};
+ghost use Rattle.algorithm_texts.specs.Tokens.{named};
+ghost use Rattle.algorithm_texts.specs.TextReading.{IsEmpty, call_words, has_call, ended_calls, end_call, with_call, read_call, is_bound, read_each, read_limit, read_bound, with_declaration, read_shared, read_private, read_declaration, read_line, number_in, read_numbers, read_head_words, read_head, promised, read_promises};
+
 use crate::lines::{CallRead, Draft};
 use crate::names::{declare_private, new_name, undeclared};
-use crate::parts::{after, after_word, ended, split_value};
+use crate::parts::{after, after_word, ended, letters, split_value};
 use crate::tokens::{Sign, Token, Tokens, Word, is_sign, is_word};
-use crate::values::value;
 use algorithms::algorithm::{Algorithm, Call, Declaration, Entries, Promises};
 use algorithms::constants::MOST_PROCS;
 use algorithms::expression::Expression;
@@ -15,10 +25,12 @@ use std::alloc::Global;
 const MOST_DECLARATIONS: usize = 64;
 
 /// The number at a token.
-fn number_at(token: Option<&Token>) -> Result<u64, LineFault> {
+fn number_at(token: Option<&Token>) -> Option<u64>
+    ensures { result ≡ number_in (option_copied token.entry) }
+{
     match token {
-        Some(Token::Number(number)) => Ok(*number),
-        _ => Err(LineFault::NoHeader),
+        Some(Token::Number(number)) => Some(*number),
+        Some(Token::Word(_) | Token::Sign(_)) | None => None,
     }
 }
 
@@ -28,7 +40,11 @@ fn empty_algorithm(
     name: &[u8],
     least: u64,
     most: u64,
-) -> Result<Algorithm, LineFault> {
+) -> Result<Algorithm, LineFault>
+    requires { IsAscii name.now }
+    ensures ok { IfOk result (λ a. IsEmpty a name.now least most) }
+    ensures err { IfErr result (λ fault. fault ≡ NoMemory) }
+{
     Ok(Algorithm {
         name: String::from_utf8_lossy(alloc, name)?,
         least,
@@ -52,37 +68,63 @@ fn empty_algorithm(
 }
 
 /// The least and the greatest number of processes, and the tokens after them.
-fn numbers(tokens: &[Token]) -> Result<(u64, u64, &[Token]), LineFault> {
+fn numbers(tokens: &[Token]) -> Option<(u64, u64, &[Token])>
+    ensures { MatchOption result (read_numbers tokens.now ≡ None) (λ n. read_numbers tokens.now ≡ Some (n.0, n.1, n.2.now)) }
+{
     let least = number_at(tokens.first())?;
     if is_word(tokens.get(1), b"to") {
-        Ok((least, number_at(tokens.get(2))?, after(tokens, 3)))
+        let most = number_at(tokens.get(2))?;
+        Some((least, most, after(tokens, 3)))
     } else {
-        Ok((least, least, after(tokens, 1)))
+        Some((least, least, after(tokens, 1)))
     }
 }
 
 /// What a first line says: the name, and the least and the greatest number of processes.
-fn head_words(tokens: &[Token]) -> Result<(Word, u64, u64), LineFault> {
+fn head_words(tokens: &[Token]) -> Result<(Word, u64, u64), LineFault>
+    ensures { MatchResult result (λ h. read_head_words tokens.now ≡ Some (h.0, h.1, h.2))
+        (λ _. read_head_words tokens.now ≡ None) }
+{
     let rest = after_word(tokens, b"algorithm")?;
     let name = new_name(rest.first())?;
-    let (least, most, rest) = numbers(after_word(after(rest, 1), b"for")?)?;
+    let (least, most, rest) = numbers(after_word(after(rest, 1), b"for")?).ok_or(
+        LineFault::NoHeader,
+    )?;
     ended(after_word(rest, b"processes")?)?;
     Ok((name, least, most))
 }
 
-/// Reads the first line: `algorithm NAME for LEAST to MOST processes`.
-pub fn head(alloc: Global, line: &Tokens) -> Result<Algorithm, LineFault> {
-    let Ok((name, least, most)) = head_words(line.all.as_slice()) else {
-        return Err(LineFault::NoHeader);
-    };
-    if least == 0 || least > most || most > MOST_PROCS as u64 {
-        return Err(LineFault::TooBig);
+/// What a first line says, where its numbers are within their limits.
+fn limited_head(tokens: &[Token]) -> Result<(Word, u64, u64), LineFault>
+    ensures { MatchResult result (λ h. read_head tokens.now ≡ Some (h.0, h.1, h.2))
+        (λ _. read_head tokens.now ≡ None) }
+{
+    match head_words(tokens) {
+        Err(_) => Err(LineFault::NoHeader),
+        Ok((name, least, most)) => {
+            if least == 0 || least > most || most > MOST_PROCS as u64 {
+                Err(LineFault::TooBig)
+            } else {
+                Ok((name, least, most))
+            }
+        }
     }
+}
+
+/// Reads the first line: `algorithm NAME for LEAST to MOST processes`.
+pub fn head(alloc: Global, line: &Tokens) -> Result<Algorithm, LineFault>
+    ensures { MatchResult result
+        (λ a. (h : List ℕ × ℕ × ℕ) × (read_head line.now.all.items ≡ Some h) × IsEmpty a h.0 h.1 h.2)
+        (λ fault. Refuses fault (read_head line.now.all.items)) }
+{
+    let (name, least, most) = limited_head(line.all.as_slice())?;
     empty_algorithm(alloc, name.as_bytes(), least, most)
 }
 
 /// Whether a further promise comes next, and the tokens after it.
-fn promised<'t>(tokens: &'t [Token], word: &[u8]) -> (bool, &'t [Token]) {
+fn promised<'t>(tokens: &'t [Token], word: &[u8]) -> (bool, &'t [Token])
+    ensures { promised tokens.now word.now ≡ (result.0, result.1.now) }
+{
     if is_sign(tokens.first(), Sign::Comma) && is_word(tokens.get(1), word) {
         (true, after(tokens, 2))
     } else {
@@ -91,9 +133,13 @@ fn promised<'t>(tokens: &'t [Token], word: &[u8]) -> (bool, &'t [Token]) {
 }
 
 /// Reads the second line: `promises exclusion, reentry, order`, of which the last two may be left out.
-pub fn promises(line: &Tokens) -> Result<Promises, LineFault> {
-    let Ok(rest) = after_word(line.all.as_slice(), b"promises") else {
-        return Err(LineFault::NoHeader);
+pub fn promises(line: &Tokens) -> Result<Promises, LineFault>
+    ensures { MatchResult result (λ p. read_promises line.now.all.items ≡ Some p)
+        (λ _. read_promises line.now.all.items ≡ None) }
+{
+    let rest = match after_word(line.all.as_slice(), b"promises") {
+        Ok(rest) => rest,
+        Err(_) => return Err(LineFault::NoHeader),
     };
     let rest = after_word(rest, b"exclusion")?;
     let (reentry, rest) = promised(rest, b"reentry");
@@ -103,7 +149,9 @@ pub fn promises(line: &Tokens) -> Result<Promises, LineFault> {
 }
 
 /// Whether a value is made of numbers, `procs` and `limit` alone.
-fn is_bound(value: &Expression) -> bool {
+fn is_bound(value: &Expression) -> bool
+    ensures { result ≡ is_bound (term_of value.now) }
+{
     match value {
         Expression::Number(_) | Expression::Procs | Expression::Limit => true,
         Expression::Me | Expression::Private(_) => false,
@@ -112,7 +160,9 @@ fn is_bound(value: &Expression) -> bool {
 }
 
 /// Whether there is a word for each process, and the tokens after `[procs]`.
-fn each(tokens: &[Token]) -> Result<(bool, &[Token]), LineFault> {
+fn each(tokens: &[Token]) -> Result<(bool, &[Token]), LineFault>
+    ensures { MatchResult result (λ e. read_each tokens.now ≡ Some (e.0, e.1.now)) (λ _. read_each tokens.now ≡ None) }
+{
     if !is_sign(tokens.first(), Sign::OpenIndex) {
         return Ok((false, tokens));
     }
@@ -122,97 +172,160 @@ fn each(tokens: &[Token]) -> Result<(bool, &[Token]), LineFault> {
     Err(LineFault::BadForm)
 }
 
-/// A bound, where there is one, up to the end of the line.
-fn bound(
-    alloc: Global,
-    algorithm: &mut Algorithm,
-    tokens: &[Token],
-) -> Result<Option<Expression>, LineFault> {
-    if tokens.is_empty() {
-        return Ok(None);
-    }
-    let rest = after_word(after_word(tokens, b"up")?, b"to")?;
-    let (part, rest) = split_value(rest);
-    let known = algorithm.names.len();
-    let value = value(alloc, algorithm, part)?;
-    if rest.is_empty() && is_bound(&value) && algorithm.names.len() == known {
-        Ok(Some(value))
+fn call_named(word: &[u8]) -> Option<Call>
+    ensures { result ≡ named call_words word.now }
+{
+    if word == b"lock".as_slice() {
+        Some(Call::Lock)
+    } else if word == b"unlock".as_slice() {
+        Some(Call::Unlock)
+    } else if word == b"recover".as_slice() {
+        Some(Call::Recover)
+    } else if word == b"withdraw".as_slice() {
+        Some(Call::Withdraw)
     } else {
-        Err(LineFault::BadForm)
+        None
     }
 }
 
-/// The declaration of this name.
-fn declared(
-    alloc: Global,
-    name: &[u8],
-    each: bool,
-    bound: Option<Expression>,
-) -> Result<Declaration, LineFault> {
-    let name = String::from_utf8_lossy(alloc, name)?;
-    Ok(Declaration { name, each, bound })
+fn call_of(token: Option<&Token>) -> Option<Call>
+    ensures { result ≡ named_by call_words (option_copied token.entry) }
+{
+    call_named(letters(token)?.as_bytes())
 }
 
-/// Reads `shared NAME`, with `[procs]` and a bound where they are there.
-fn shared(alloc: Global, algorithm: &mut Algorithm, tokens: &[Token]) -> Result<(), LineFault> {
-    let name = undeclared(algorithm, tokens.first())?;
-    if algorithm.declarations.len() >= MOST_DECLARATIONS {
-        return Err(LineFault::TooBig);
+/// Whether a call was read.
+fn has_call(calls: &[CallRead], call: Call) -> bool
+    ensures { result ≡ has_call call (reverse calls.now) }
+{
+    let mut found = false;
+    for other in calls {
+        found = other.call == call || found;
     }
-    let (each, rest) = each(after(tokens, 1))?;
-    let bound = bound(alloc, algorithm, rest)?;
-    let declaration = declared(alloc, name.as_bytes(), each, bound)?;
-    algorithm.declarations.push(declaration)?;
-    Ok(())
+    found
 }
 
-fn call_of(token: Option<&Token>) -> Result<Call, LineFault> {
-    if is_word(token, b"lock") {
-        Ok(Call::Lock)
-    } else if is_word(token, b"unlock") {
-        Ok(Call::Unlock)
-    } else if is_word(token, b"recover") {
-        Ok(Call::Recover)
-    } else if is_word(token, b"withdraw") {
-        Ok(Call::Withdraw)
-    } else {
-        Err(LineFault::BadForm)
+/// Lets the last call end at a place.
+fn end_last(calls: &mut Vec<CallRead>, to: usize, last: u64) -> Result<(), LineFault>
+    ensures ok { OnOk result (reverse calls.new.items ≡ ended_calls to last (reverse calls.old.items)) }
+    ensures err { IfErr result (λ fault. fault ≡ NoMemory) }
+{
+    match calls.pop() {
+        None => Ok(()),
+        Some(call) => {
+            calls.push(CallRead { to, last, ..call })?;
+            Ok(())
+        }
     }
 }
 
 impl Draft {
-    /// Ends the call that was read last, if there is one. `BadBlock` where a block of it has no end.
-    pub fn end_call(&mut self, last: u64) -> Result<(), LineFault> {
-        if !self.opened.is_empty() {
-            return Err(LineFault::BadBlock);
+    /// A bound after `up to`, up to the end of the line.
+    fn limit(&mut self, alloc: Global, tokens: &[Token]) -> Result<Expression, LineFault>
+        ensures limit { MatchResult result
+            (λ v. read_limit (scope_in (drafted self.old)) (drafted self.old).names tokens.now
+            ≡ Some (Some (term_of v), (drafted self.new).names))
+            (λ fault. Refuses fault (read_limit (scope_in (drafted self.old)) (drafted self.old).names tokens.now)) }
+        ensures kept { drafted self.new ≡ with_names (drafted self.new).names (drafted self.old) }
+    {
+        let rest = after_word(after_word(tokens, b"up")?, b"to")?;
+        let (part, rest) = split_value(rest);
+        let known = self.algorithm.names.len();
+        let value = self.value(alloc, part)?;
+        if rest.is_empty() && (is_bound(&value) && self.algorithm.names.len() == known) {
+            Ok(value)
+        } else {
+            Err(LineFault::BadForm)
         }
-        let to = self.algorithm.lines.len();
-        match self.calls.pop() {
-            None => Ok(()),
-            Some(call) => {
-                self.calls.push(CallRead { to, last, ..call })?;
-                Ok(())
+    }
+
+    /// A bound, where there is one, up to the end of the line.
+    fn bound(&mut self, alloc: Global, tokens: &[Token]) -> Result<Option<Expression>, LineFault>
+        ensures bound { MatchResult result
+            (λ b. read_bound (scope_in (drafted self.old)) (drafted self.old).names tokens.now
+            ≡ Some (option_map (λ v. term_of v) b, (drafted self.new).names))
+            (λ fault. Refuses fault (read_bound (scope_in (drafted self.old)) (drafted self.old).names tokens.now)) }
+        ensures kept { drafted self.new ≡ with_names (drafted self.new).names (drafted self.old) }
+    {
+        if tokens.is_empty() {
+            Ok(None)
+        } else {
+            Ok(Some(self.limit(alloc, tokens)?))
+        }
+    }
+
+    /// Adds a declaration.
+    fn declare(
+        &mut self,
+        alloc: Global,
+        name: &[u8],
+        each: bool,
+        bound: Option<Expression>,
+    ) -> Result<(), LineFault>
+        requires { IsAscii name.now }
+        ensures ok { OnOk result (drafted self.new
+            ≡ with_declaration name.now each (option_map (λ v. term_of v) bound) (drafted self.old)) }
+        ensures err { IfErr result (λ fault. fault ≡ NoMemory) }
+    {
+        let name = String::from_utf8_lossy(alloc, name)?;
+        self.algorithm
+            .declarations
+            .push(Declaration { name, each, bound })?;
+        Ok(())
+    }
+
+    /// Reads `shared NAME`, with `[procs]` and a bound where they are there.
+    fn shared(&mut self, alloc: Global, tokens: &[Token]) -> Result<(), LineFault>
+        ensures { Drafts (drafted self.new) result (read_shared (drafted self.old) tokens.now) }
+    {
+        let name = undeclared(&self.algorithm, tokens.first())?;
+        if self.algorithm.declarations.len() >= MOST_DECLARATIONS {
+            return Err(LineFault::TooBig);
+        }
+        let (each, rest) = each(after(tokens, 1))?;
+        let bound = self.bound(alloc, rest)?;
+        self.declare(alloc, name.as_bytes(), each, bound)
+    }
+
+    /// Reads `private NAME`.
+    fn private(&mut self, alloc: Global, tokens: &[Token]) -> Result<(), LineFault>
+        ensures { Drafts (drafted self.new) result (read_private (drafted self.old) tokens.now) }
+    {
+        let name = undeclared(&self.algorithm, tokens.first())?;
+        declare_private(alloc, &mut self.algorithm, name.as_bytes())?;
+        ended(after(tokens, 1))
+    }
+
+    fn declaration(&mut self, alloc: Global, tokens: &[Token]) -> Result<(), LineFault>
+        ensures { Drafts (drafted self.new) result (read_declaration (drafted self.old) tokens.now) }
+    {
+        if is_word(tokens.first(), b"shared") {
+            self.shared(alloc, after(tokens, 1))
+        } else if is_word(tokens.first(), b"private") {
+            self.private(alloc, after(tokens, 1))
+        } else {
+            Err(LineFault::BadForm)
+        }
+    }
+
+    /// Ends the call that was read last, if there is one. `BadBlock` where a block of it has no end.
+    pub fn end_call(&mut self, last: u64) -> Result<(), LineFault>
+        ensures { Drafts (drafted self.new) result (end_call last (drafted self.old)) }
+    {
+        match self.innermost() {
+            Some(_) => Err(LineFault::BadBlock),
+            None => {
+                let to = self.algorithm.lines.len();
+                end_last(&mut self.calls, to, last)
             }
         }
     }
 
-    /// Begins a call.
-    fn begin_call(&mut self, tokens: &[Token], last: u64) -> Result<(), LineFault> {
-        self.end_call(last)?;
-        let call = call_of(tokens.first())?;
-        ended(after(tokens, 1))?;
-        if self.has_call(call) {
-            return Err(LineFault::BadCall);
-        }
-        self.add_call(call)
-    }
-
-    fn has_call(&self, call: Call) -> bool {
-        self.calls.iter().any(|other| other.call == call)
-    }
-
     /// Adds a call that begins at the next line.
-    fn add_call(&mut self, call: Call) -> Result<(), LineFault> {
+    fn add_call(&mut self, call: Call) -> Result<(), LineFault>
+        ensures ok { OnOk result (drafted self.new ≡ with_call call (drafted self.old)) }
+        ensures err { IfErr result (λ fault. fault ≡ NoMemory) }
+    {
         let from = self.algorithm.lines.len();
         let number = self.number;
         self.calls.push(CallRead {
@@ -225,23 +338,39 @@ impl Draft {
         Ok(())
     }
 
+    /// Begins a call.
+    fn begin_call(&mut self, tokens: &[Token], last: u64) -> Result<(), LineFault>
+        ensures { Drafts (drafted self.new) result (read_call (drafted self.old) tokens.now last) }
+    {
+        self.end_call(last)?;
+        let call = call_of(tokens.first()).ok_or(LineFault::BadForm)?;
+        ended(after(tokens, 1))?;
+        if has_call(self.calls.as_slice(), call) {
+            return Err(LineFault::BadCall);
+        }
+        self.add_call(call)
+    }
+
+    /// Whether no call was read yet.
+    fn is_before_calls(&self) -> bool
+        ensures { result ≡ (length (drafted self.now).calls == 0) }
+    {
+        self.calls.is_empty()
+    }
+
     /// Reads a line after the first two. `last` is the number of the line before it that is not empty.
-    pub fn line(&mut self, alloc: Global, line: &Tokens, last: u64) -> Result<(), LineFault> {
+    pub fn line(&mut self, alloc: Global, line: &Tokens, last: u64) -> Result<(), LineFault>
+        requires { IsAscii line.now.answer.items }
+        ensures { Drafts (drafted self.new) result
+            (read_line (drafted self.old) line.now.all.items line.now.answer.items last) }
+    {
         let tokens = line.all.as_slice();
-        let rest = after(tokens, 1);
         if is_word(tokens.first(), b"call") {
-            return self.begin_call(rest, last);
-        }
-        if !self.calls.is_empty() {
-            return self.statement(alloc, line);
-        }
-        if is_word(tokens.first(), b"shared") {
-            shared(alloc, &mut self.algorithm, rest)
-        } else if is_word(tokens.first(), b"private") {
-            declare_private(alloc, &mut self.algorithm, rest.first())?;
-            ended(after(rest, 1))
+            self.begin_call(after(tokens, 1), last)
+        } else if self.is_before_calls() {
+            self.declaration(alloc, tokens)
         } else {
-            Err(LineFault::BadForm)
+            self.statement(alloc, line)
         }
     }
 }

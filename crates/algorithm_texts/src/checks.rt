@@ -1,6 +1,10 @@
 //! The labels, the names and the deeds of a call that was read.
 
-use crate::lines::{CallRead, Draft, Jump, Label, lead_to};
+ghost use Rattle.std.specs.Prelude.{◌≡◌, ◌&&◌, map, bytes_eq, position, Some, OnOk};
+ghost use Rattle.algorithm_texts.specs.Drafts.{drafted, line_of};
+ghost use Rattle.algorithm_texts.specs.Finishing.{is_label_in, label_named, is_within, reachable, target_of, jump_led, jumps_led, call_led};
+
+use crate::lines::{CallRead, Draft, Jump, Label, lead_line};
 use crate::usage::{first_names, loop_name, names_read, names_set};
 use algorithms::algorithm::{Call, Promises};
 use algorithms::fault::{AlgorithmFault, LineFault};
@@ -16,7 +20,9 @@ fn fits(deed: Deed, promises: Promises) -> bool {
 }
 
 /// Whether a label stands in this call.
-fn is_in(label: &Label, call: CallRead) -> bool {
+fn is_in(label: &Label, call: CallRead) -> bool
+    ensures { result ≡ is_label_in call label.now }
+{
     call.number < label.number && label.number <= call.last
 }
 
@@ -48,6 +54,101 @@ impl NameSets {
         }
         Ok(())
     }
+}
+
+/// The place of the label of a call that has this name.
+fn place_named(labels: &[Label], call: CallRead, name: &[u8]) -> Option<usize>
+    ensures { result ≡ position (λ label. bytes_eq label.name name.now && is_label_in call label) labels.now }
+{
+    labels
+        .iter()
+        .position(|label| label.name.is(name) && is_in(label, call))
+}
+
+/// The label of a call that has this name.
+fn label_named(labels: &[Label], call: CallRead, name: &[u8]) -> Option<Label>
+    ensures { result ≡ label_named labels.now call name.now }
+{
+    labels.get(place_named(labels, call, name)?).copied()
+}
+
+fn is_within(block: (usize, usize), at: usize) -> bool
+    ensures { result ≡ is_within block at }
+{
+    block.0 <= at && at < block.1
+}
+
+/// The place of a label, where it can be reached from this place: it stands in no block that the place isn't in.
+fn reachable(blocks: &[(usize, usize)], at: usize, label: Label) -> Option<usize>
+    ensures { result ≡ reachable blocks.now at label.place label.block }
+{
+    match label.block {
+        None => Some(label.place),
+        Some(block) => {
+            let block = blocks.get(block).copied()?;
+            if is_within(block, at) {
+                Some(label.place)
+            } else {
+                None
+            }
+        }
+    }
+}
+
+/// Where a goto leads.
+fn target(labels: &[Label], blocks: &[(usize, usize)], call: CallRead, jump: Jump) -> Option<usize>
+    ensures { result ≡ target_of labels.now blocks.now call jump }
+{
+    let label = label_named(labels, call, jump.name.as_bytes())?;
+    reachable(blocks, jump.place, label)
+}
+
+/// The number of the line at a place.
+fn number_at(lines: &[Line], place: usize) -> u64 {
+    match lines.get(place) {
+        Some(line) => line.number,
+        None => 0,
+    }
+}
+
+/// Lets a goto of a call lead to its label.
+fn lead(
+    lines: &mut Vec<Line>,
+    labels: &[Label],
+    blocks: &[(usize, usize)],
+    call: CallRead,
+    jump: Jump,
+) -> Result<(), AlgorithmFault>
+    ensures { OnOk result (jump_led labels.now blocks.now call (map line_of lines.old.items) jump
+        ≡ Some (map line_of lines.new.items)) }
+{
+    let place = jump.place;
+    match target(labels, blocks, call, jump) {
+        Some(target) => {
+            lead_line(lines, place, target);
+            Ok(())
+        }
+        None => Err(LineFault::BadLabel.at(number_at(lines.as_slice(), place))),
+    }
+}
+
+/// Lets the gotos of a call lead to their labels.
+fn resolve(
+    lines: &mut Vec<Line>,
+    labels: &[Label],
+    blocks: &[(usize, usize)],
+    call: CallRead,
+    jumps: &[Jump],
+) -> Result<(), AlgorithmFault>
+    ensures { OnOk result (jumps_led labels.now blocks.now call jumps.now (map line_of lines.old.items)
+        ≡ Some (map line_of lines.new.items)) }
+{
+    for jump in jumps {
+        if is_within((call.from, call.to), jump.place) {
+            lead(lines, labels, blocks, call, *jump)?;
+        }
+    }
+    Ok(())
 }
 
 impl Draft {
@@ -87,55 +188,6 @@ impl Draft {
         Ok(())
     }
 
-    /// The label of a call that has this name.
-    fn label_named(&self, call: CallRead, name: &[u8]) -> Option<&Label> {
-        self.labels
-            .iter()
-            .find(|label| label.name.is(name) && is_in(label, call))
-    }
-
-    /// Where a goto leads: to the label of its name, which stands in no block that the goto isn't in.
-    fn target(&self, call: CallRead, jump: &Jump) -> Option<usize> {
-        let label = self.label_named(call, jump.name.as_bytes())?;
-        let Some(block) = label.block else {
-            return Some(label.place);
-        };
-        let (from, to) = self.blocks.as_slice().get(block).copied()?;
-        if from <= jump.place && jump.place < to {
-            Some(label.place)
-        } else {
-            None
-        }
-    }
-
-    /// Lets a goto of a call lead to its label.
-    fn lead(&mut self, call: CallRead, jump: &Jump) -> Result<(), AlgorithmFault> {
-        let target = self.target(call, jump);
-        let Some(line) = self.algorithm.lines.get_mut(jump.place) else {
-            return Ok(());
-        };
-        match target {
-            Some(target) => {
-                lead_to(&mut line.form, target);
-                Ok(())
-            }
-            None => Err(LineFault::BadLabel.at(line.number)),
-        }
-    }
-
-    /// Lets the gotos of a call lead to their labels.
-    fn resolve(&mut self, call: CallRead) -> Result<(), AlgorithmFault> {
-        for at in 0..self.jumps.len() {
-            let Some(jump) = self.jumps.as_slice().get(at).copied() else {
-                continue;
-            };
-            if call.from <= jump.place && jump.place < call.to {
-                self.lead(call, &jump)?;
-            }
-        }
-        Ok(())
-    }
-
     /// The deeds and the withdraws of one line.
     fn check_deed(&self, call: Call, form: &Form) -> Result<(), LineFault> {
         match form {
@@ -162,9 +214,17 @@ impl Draft {
     }
 
     /// The labels, the names and the deeds of a call.
-    pub fn check_call(&mut self, call: CallRead) -> Result<(), AlgorithmFault> {
+    pub fn check_call(&mut self, call: CallRead) -> Result<(), AlgorithmFault>
+        ensures { OnOk result (call_led (drafted self.old) call ≡ Some (drafted self.new)) }
+    {
         self.check_labels(call)?;
-        self.resolve(call)?;
+        resolve(
+            &mut self.algorithm.lines,
+            self.labels.as_slice(),
+            self.blocks.as_slice(),
+            call,
+            self.jumps.as_slice(),
+        )?;
         self.check_lines(call)
     }
 

@@ -1,5 +1,7 @@
 //! Laws of the format.
 
+ghost use Rattle.algorithm_texts.specs.Blocks.{MakeBlocks};
+ghost use Rattle.algorithm_texts.specs.Sayings.{AreReadAsSaid};
 ghost use Rattle.algorithm_texts.specs.Operands.{SayOnePart};
 ghost use Rattle.algorithm_texts.specs.Tokens.{SaysOnce};
 
@@ -11,4 +13,14 @@ pub fn a_line_says_one_thing()
 /// Tokens say one value, one pair or one condition, or none of them.
 pub fn tokens_say_one_part()
     ensures { SayOnePart }
+{}
+
+/// The lines of a call that is read are those of a tree of blocks, and are read as that tree says.
+pub fn lines_make_blocks()
+    ensures { MakeBlocks }
+{}
+
+/// Where a line is read, its values and conditions are those that the grammar says.
+pub fn tokens_are_read_as_said()
+    ensures { AreReadAsSaid }
 {}

@@ -1,14 +1,17 @@
 //! Algorithms of mutual exclusion from texts.
 #![tactic(auto)]
 
+mod blocks;
 mod calls;
 mod checks;
+mod filled;
 mod flow;
 pub mod laws;
 mod lines;
 mod names;
 mod operands;
 mod parts;
+mod simple;
 mod stack;
 mod tokens;
 mod usage;

@@ -1,9 +1,13 @@
 //! The names of a text.
 
-ghost use Rattle.std.specs.Prelude.{◌≡◌, ◌||◌, IsAscii, position, bytes_eq, if◌then◌else◌, None, length};
+ghost use Rattle.std.specs.Prelude.{◌≡◌, ◌≤◌, ◌<◌, ◌+◌, ◌⊎◌, ◌++◌, ◌∷◌, [], ◌||◌, IsAscii, OnOk, position, bytes_eq, if◌then◌else◌, Some, None, length, MatchResult};
 ghost use Rattle.std.specs.List.{list_any};
+ghost use Rattle.std.specs.Option.{option_copied};
 ghost use Rattle.algorithm_texts.specs.Grammar.{is_among, placed};
-ghost use Rattle.algorithm_texts.specs.Operands.{MakesName, names_of, declared_of, reserved};
+ghost use Rattle.algorithm_texts.specs.Operands.{MakesName, names_of, declared_of, scope_of, reserved};
+ghost use Rattle.algorithms.specs.declared.fault.LineFault.TheVariants.{OutOfMemory as NoMemory};
+ghost use Rattle.algorithm_texts.specs.LineReading.{is_constant, new_name, name_set};
+ghost use Rattle.algorithm_texts.specs.TextReading.{undeclared};
 
 use crate::tokens::{Token, Word};
 use algorithms::algorithm::Algorithm;
@@ -79,7 +83,9 @@ fn is_reserved(word: &[u8]) -> bool
 }
 
 /// Whether a word is one of the format's numbers.
-fn is_constant(word: &[u8]) -> bool {
+fn is_constant(word: &[u8]) -> bool
+    ensures { result ≡ is_constant word.now }
+{
     word == b"me".as_slice() || word == b"procs".as_slice() || word == b"limit".as_slice()
 }
 
@@ -104,7 +110,10 @@ fn index_of(algorithm: &Algorithm, word: &[u8]) -> Option<usize>
 }
 
 /// A word as a new name: no word of the format.
-pub fn new_name(token: Option<&Token>) -> Result<Word, LineFault> {
+pub fn new_name(token: Option<&Token>) -> Result<Word, LineFault>
+    ensures { MatchResult result (λ word. new_name (option_copied token.entry) ≡ Some word)
+        (λ _. new_name (option_copied token.entry) ≡ None) }
+{
     match token {
         Some(Token::Word(word)) => {
             if is_constant(word.as_bytes()) {
@@ -115,15 +124,22 @@ pub fn new_name(token: Option<&Token>) -> Result<Word, LineFault> {
                 Ok(*word)
             }
         }
-        _ => Err(LineFault::BadForm),
+        Some(Token::Sign(_) | Token::Number(_)) | None => Err(LineFault::BadForm),
     }
 }
 
 /// Whether a shared word of this name is declared.
-fn is_declared(algorithm: &Algorithm, word: &[u8]) -> bool
+pub fn is_declared(algorithm: &Algorithm, word: &[u8]) -> bool
     ensures { result ≡ is_among (declared_of algorithm.now) word.now }
 {
     declaration_of(algorithm, word).is_some()
+}
+
+/// Whether there is a private name like this.
+fn is_private(algorithm: &Algorithm, word: &[u8]) -> bool
+    ensures { result ≡ is_among (names_of algorithm.now) word.now }
+{
+    index_of(algorithm, word).is_some()
 }
 
 /// Adds a private name, and answers its index. `TooBig` where there are as many as can be.
@@ -158,9 +174,13 @@ pub fn name_set(
     alloc: Global,
     algorithm: &mut Algorithm,
     token: Option<&Token>,
-) -> Result<usize, LineFault> {
+) -> Result<usize, LineFault>
+    ensures name { MakesName (names_of algorithm.new) result
+        (name_set (scope_of algorithm.old) (names_of algorithm.old) (option_copied token.entry)) }
+    ensures kept { algorithm.new ≡ record algorithm.old { names = algorithm.new.names } }
+{
     let word = new_name(token)?;
-    if declaration_of(algorithm, word.as_bytes()).is_some() {
+    if is_declared(algorithm, word.as_bytes()) {
         return Err(LineFault::NotAssignable);
     }
     place_of(alloc, algorithm, word.as_bytes())
@@ -187,19 +207,28 @@ pub fn name_read(alloc: Global, algorithm: &mut Algorithm, word: &[u8]) -> Resul
 pub fn declare_private(
     alloc: Global,
     algorithm: &mut Algorithm,
-    token: Option<&Token>,
-) -> Result<(), LineFault> {
-    let word = undeclared(algorithm, token)?;
-    place_of(alloc, algorithm, word.as_bytes())?;
-    algorithm.lasting = algorithm.names.len();
+    word: &[u8],
+) -> Result<(), LineFault>
+    requires { IsAscii word.now }
+    ensures name { MatchResult result
+        (λ _. (length (names_of algorithm.old) < 32) × (names_of algorithm.new ≡ names_of algorithm.old ++ word.now ∷ []))
+        (λ fault. (fault ≡ NoMemory) ⊎ (32 ≤ length (names_of algorithm.old))) }
+    ensures kept { OnOk result (algorithm.new
+        ≡ record algorithm.old { names = algorithm.new.names; lasting = length (names_of algorithm.old) + 1 }) }
+{
+    let index = add_name(alloc, algorithm, word)?;
+    algorithm.lasting = index + 1;
     Ok(())
 }
 
 /// A name that is not declared yet.
-pub fn undeclared(algorithm: &Algorithm, token: Option<&Token>) -> Result<Word, LineFault> {
+pub fn undeclared(algorithm: &Algorithm, token: Option<&Token>) -> Result<Word, LineFault>
+    ensures { MatchResult result
+        (λ word. undeclared (declared_of algorithm.now) (names_of algorithm.now) (option_copied token.entry) ≡ Some word)
+        (λ _. undeclared (declared_of algorithm.now) (names_of algorithm.now) (option_copied token.entry) ≡ None) }
+{
     let word = new_name(token)?;
-    let bytes = word.as_bytes();
-    if declaration_of(algorithm, bytes).is_some() || index_of(algorithm, bytes).is_some() {
+    if is_declared(algorithm, word.as_bytes()) || is_private(algorithm, word.as_bytes()) {
         return Err(LineFault::NameTaken);
     }
     Ok(word)

@@ -1,11 +1,18 @@
 //! The parts of a line: the tokens that have to come next, and what they name.
 
-use crate::tokens::{Sign, Token, is_sign, is_word};
+ghost use Rattle.std.specs.Prelude.{◌≡◌, drop, length, slice_get, OnErr, OnOk, IfOk, IfErr, Some, None, true, false, ◌||◌, codes, position};
+ghost use Rattle.std.specs.Option.{option_copied};
+ghost use Rattle.algorithm_texts.specs.Fronts.{past_word, past_sign, is_over, is_the_word, letters_of, named_by, deed_words, members_words, deed_said, members_said, past_withdraw, ends_value, value_tokens, value_rest, begins_no_simple};
+ghost use Rattle.algorithm_texts.specs.Tokens.{named};
+
+use crate::tokens::{Sign, Token, Word, is_sign, is_word};
 use algorithms::fault::LineFault;
 use algorithms::line::{Deed, Members};
 
 /// The tokens after the first ones.
-pub fn after(tokens: &[Token], count: usize) -> &[Token] {
+pub fn after(tokens: &[Token], count: usize) -> &[Token]
+    ensures { result.now ≡ drop count tokens.now }
+{
     if count <= tokens.len() {
         &tokens[count..]
     } else {
@@ -14,7 +21,10 @@ pub fn after(tokens: &[Token], count: usize) -> &[Token] {
 }
 
 /// The tokens after a word that has to come next.
-pub fn after_word<'t>(tokens: &'t [Token], word: &[u8]) -> Result<&'t [Token], LineFault> {
+pub fn after_word<'t>(tokens: &'t [Token], word: &[u8]) -> Result<&'t [Token], LineFault>
+    ensures ok { IfOk result (λ rest. past_word tokens.now word.now ≡ Some rest.now) }
+    ensures err { OnErr result (past_word tokens.now word.now ≡ None) }
+{
     if is_word(tokens.first(), word) {
         Ok(after(tokens, 1))
     } else {
@@ -23,7 +33,10 @@ pub fn after_word<'t>(tokens: &'t [Token], word: &[u8]) -> Result<&'t [Token], L
 }
 
 /// The tokens after a sign that has to come next.
-pub fn after_sign(tokens: &[Token], sign: Sign) -> Result<&[Token], LineFault> {
+pub fn after_sign(tokens: &[Token], sign: Sign) -> Result<&[Token], LineFault>
+    ensures ok { IfOk result (λ rest. past_sign tokens.now sign ≡ Some rest.now) }
+    ensures err { OnErr result (past_sign tokens.now sign ≡ None) }
+{
     if is_sign(tokens.first(), sign) {
         Ok(after(tokens, 1))
     } else {
@@ -32,7 +45,10 @@ pub fn after_sign(tokens: &[Token], sign: Sign) -> Result<&[Token], LineFault> {
 }
 
 /// `BadForm` where a token is left.
-pub fn ended(tokens: &[Token]) -> Result<(), LineFault> {
+pub fn ended(tokens: &[Token]) -> Result<(), LineFault>
+    ensures ok { OnOk result (is_over tokens.now ≡ true) }
+    ensures err { OnErr result (is_over tokens.now ≡ false) }
+{
     if tokens.is_empty() {
         Ok(())
     } else {
@@ -41,7 +57,10 @@ pub fn ended(tokens: &[Token]) -> Result<(), LineFault> {
 }
 
 /// `BadDeed` where a deed or `may withdraw` is left, `BadForm` where another token is.
-pub fn ended_without_deed(tokens: &[Token]) -> Result<(), LineFault> {
+pub fn ended_without_deed(tokens: &[Token]) -> Result<(), LineFault>
+    ensures ok { OnOk result (is_over tokens.now ≡ true) }
+    ensures err { OnErr result (is_over tokens.now ≡ false) }
+{
     if is_word(tokens.first(), b"this") || is_word(tokens.first(), b"may") {
         return Err(LineFault::BadDeed);
     }
@@ -49,7 +68,9 @@ pub fn ended_without_deed(tokens: &[Token]) -> Result<(), LineFault> {
 }
 
 /// Whether a value or a condition ends before this token.
-fn ends_value(token: &Token) -> bool {
+fn ends_value(token: &Token) -> bool
+    ensures { result ≡ ends_value token.now }
+{
     is_word(Some(token), b"then")
         || is_word(Some(token), b"may")
         || is_word(Some(token), b"this")
@@ -60,65 +81,112 @@ fn ends_value(token: &Token) -> bool {
 }
 
 /// The tokens of a value or a condition, and those after it.
-pub fn split_value(tokens: &[Token]) -> (&[Token], &[Token]) {
-    match tokens.iter().position(ends_value) {
+pub fn split_value(tokens: &[Token]) -> (&[Token], &[Token])
+    ensures value { result.0.now ≡ value_tokens tokens.now }
+    ensures rest { result.1.now ≡ value_rest tokens.now }
+{
+    match value_end(tokens) {
         Some(end) => tokens.split_at(end),
         None => tokens.split_at(tokens.len()),
     }
 }
 
-/// The deed that a token names.
-fn deed_of(token: Option<&Token>) -> Result<Deed, LineFault> {
-    if is_word(token, b"begin") {
-        Ok(Deed::Begin)
-    } else if is_word(token, b"ready") {
-        Ok(Deed::Ready)
-    } else if is_word(token, b"enter") {
-        Ok(Deed::Enter)
-    } else if is_word(token, b"reenter") {
-        Ok(Deed::Reenter)
-    } else if is_word(token, b"leave") {
-        Ok(Deed::Leave)
-    } else if is_word(token, b"quit") {
-        Ok(Deed::Quit)
+/// The letters of a word.
+pub fn letters(token: Option<&Token>) -> Option<Word>
+    ensures { result ≡ letters_of (option_copied token.entry) }
+{
+    match token {
+        Some(Token::Word(word)) => Some(*word),
+        _ => None,
+    }
+}
+
+/// The deed of this name.
+fn deed_named(word: &[u8]) -> Option<Deed>
+    ensures { result ≡ named deed_words word.now }
+{
+    if word == b"begin".as_slice() {
+        Some(Deed::Begin)
+    } else if word == b"ready".as_slice() {
+        Some(Deed::Ready)
+    } else if word == b"enter".as_slice() {
+        Some(Deed::Enter)
+    } else if word == b"reenter".as_slice() {
+        Some(Deed::Reenter)
+    } else if word == b"leave".as_slice() {
+        Some(Deed::Leave)
+    } else if word == b"quit".as_slice() {
+        Some(Deed::Quit)
     } else {
-        Err(LineFault::BadForm)
+        None
+    }
+}
+
+/// The deed that a token names.
+fn deed_of(token: Option<&Token>) -> Option<Deed>
+    ensures { result ≡ named_by deed_words (option_copied token.entry) }
+{
+    deed_named(letters(token)?.as_bytes())
+}
+
+/// The processes of this name.
+fn members_named(word: &[u8]) -> Option<Members>
+    ensures { result ≡ named members_words word.now }
+{
+    if word == b"all".as_slice() {
+        Some(Members::All)
+    } else if word == b"others".as_slice() {
+        Some(Members::Others)
+    } else if word == b"lower".as_slice() {
+        Some(Members::Lower)
+    } else if word == b"higher".as_slice() {
+        Some(Members::Higher)
+    } else {
+        None
     }
 }
 
 /// The processes that a token names.
-fn members_of(token: Option<&Token>) -> Result<Members, LineFault> {
-    if is_word(token, b"all") {
-        Ok(Members::All)
-    } else if is_word(token, b"others") {
-        Ok(Members::Others)
-    } else if is_word(token, b"lower") {
-        Ok(Members::Lower)
-    } else if is_word(token, b"higher") {
-        Ok(Members::Higher)
-    } else {
-        Err(LineFault::BadForm)
-    }
+fn members_of(token: Option<&Token>) -> Option<Members>
+    ensures { result ≡ named_by members_words (option_copied token.entry) }
+{
+    members_named(letters(token)?.as_bytes())
+}
+
+/// The place of the token before which a value or a condition ends.
+fn value_end(tokens: &[Token]) -> Option<usize>
+    ensures { result ≡ position ends_value tokens.now }
+{
+    tokens.iter().position(|token| ends_value(token))
 }
 
 /// The processes that a loop goes over: `in MEMBERS`.
-pub fn members_said(tokens: &[Token]) -> Result<Members, LineFault> {
+pub fn members_said(tokens: &[Token]) -> Result<Members, LineFault>
+    ensures ok { IfOk result (λ members. members_said tokens.now ≡ Some members) }
+    ensures err { OnErr result (members_said tokens.now ≡ None) }
+{
     let rest = after_word(tokens, b"in")?;
-    let members = members_of(rest.first())?;
+    let members = members_of(rest.first()).ok_or(LineFault::BadForm)?;
     ended(after(rest, 1))?;
     Ok(members)
 }
 
 /// The deed that a line says: `this is DEED`.
-pub fn deed_said(tokens: &[Token]) -> Result<Deed, LineFault> {
+pub fn deed_said(tokens: &[Token]) -> Result<Deed, LineFault>
+    ensures ok { IfOk result (λ deed. deed_said tokens.now ≡ Some deed) }
+    ensures err { OnErr result (deed_said tokens.now ≡ None) }
+{
     let rest = after_word(after_word(tokens, b"this")?, b"is")?;
-    let deed = deed_of(rest.first())?;
+    let deed = deed_of(rest.first()).ok_or(LineFault::BadForm)?;
     ended(after(rest, 1))?;
     Ok(deed)
 }
 
 /// The tokens after `may withdraw`, where a line says it.
-pub fn after_withdraw(tokens: &[Token]) -> Result<&[Token], LineFault> {
+pub fn after_withdraw(tokens: &[Token]) -> Result<&[Token], LineFault>
+    ensures ok { IfOk result (λ rest. past_withdraw tokens.now ≡ Some rest.now) }
+    ensures err { OnErr result (past_withdraw tokens.now ≡ None) }
+{
     if is_word(tokens.first(), b"may") {
         after_word(after(tokens, 1), b"withdraw")
     } else {
@@ -127,7 +195,9 @@ pub fn after_withdraw(tokens: &[Token]) -> Result<&[Token], LineFault> {
 }
 
 /// Whether a block or a label begins here.
-pub fn begins_no_simple(tokens: &[Token]) -> bool {
+pub fn begins_no_simple(tokens: &[Token]) -> bool
+    ensures { result ≡ begins_no_simple tokens.now }
+{
     is_word(tokens.first(), b"if")
         || is_word(tokens.first(), b"for")
         || is_sign(tokens.get(1), Sign::Colon)

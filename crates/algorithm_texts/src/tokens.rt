@@ -8,6 +8,7 @@ ghost use Rattle.std.specs.Str.Parse.{digits_value, AllDigits};
 ghost use Rattle.algorithms.specs.declared.fault.LineFault.TheVariants.{OutOfMemory as NoMemory};
 ghost use Rattle.algorithm_texts.specs.declared.tokens.Token.{Token as TokenOf};
 ghost use Rattle.algorithm_texts.specs.declared.tokens.Token.TheVariants.{Word as OfWord, Sign as OfSign};
+ghost use Rattle.algorithm_texts.specs.Fronts.{is_the_word, is_the_sign};
 ghost use Rattle.algorithm_texts.specs.Tokens.{is_name_byte, named, long_signs, short_signs, number_token, word_token, sign_token, first_token, Scans, is_printable, before_comment, is_answer_part, is_answer_word, answer_from, answer_of, is_filled, LineSays};
 
 use algorithms::condition::Comparison;
@@ -334,7 +335,7 @@ fn before_comment(line: &[u8]) -> &[u8]
 }
 
 /// The bytes after the first ones.
-fn tail(bytes: &[u8], size: usize) -> &[u8]
+pub fn tail(bytes: &[u8], size: usize) -> &[u8]
     requires { size ≤ length bytes.now }
     ensures { result.now ≡ drop size bytes.now }
 {
@@ -372,6 +373,7 @@ fn is_printable(line: &[u8]) -> bool
 /// The tokens of a line, without its LF. A comment is none.
 pub fn tokens_of(alloc: Global, line: &[u8]) -> Result<Tokens, LineFault>
     ensures ok { IfOk result (λ read. LineSays line.now (Ok (read.all.items, read.answer.items))) }
+    ensures ascii { IfOk result (λ read. IsAscii read.answer.items) }
     ensures err { IfErr result (λ fault. (fault ≡ NoMemory) ⊎ LineSays line.now (Err fault)) }
 {
     if !is_printable(line) {
@@ -385,7 +387,8 @@ pub fn tokens_of(alloc: Global, line: &[u8]) -> Result<Tokens, LineFault>
 
 /// Whether a token is this word.
 pub fn is_word(token: Option<&Token>, word: &[u8]) -> bool
-    ensures { IsTrue result ↔ (option_copied token.entry ≡ Some (OfWord word.now)) }
+    ensures is { IsTrue result ↔ (option_copied token.entry ≡ Some (OfWord word.now)) }
+    ensures test { result ≡ is_the_word (option_copied token.entry) word.now }
 {
     match token {
         Some(Token::Word(other)) => other.is(word),
@@ -395,7 +398,8 @@ pub fn is_word(token: Option<&Token>, word: &[u8]) -> bool
 
 /// Whether a token is this sign.
 pub fn is_sign(token: Option<&Token>, sign: Sign) -> bool
-    ensures { IsTrue result ↔ (option_copied token.entry ≡ Some (OfSign sign)) }
+    ensures is { IsTrue result ↔ (option_copied token.entry ≡ Some (OfSign sign)) }
+    ensures test { result ≡ is_the_sign (option_copied token.entry) sign }
 {
     match token {
         Some(Token::Sign(other)) => *other == sign,

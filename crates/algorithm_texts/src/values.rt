@@ -1,13 +1,14 @@
 //! Values and conditions from tokens, by the strength of their operators.
 
-ghost use Rattle.std.specs.Prelude.{◌≡◌, ◌⊎◌, List, ℕ, IsAscii, IfOk, IfErr, Some};
+ghost use Rattle.std.specs.Prelude.{◌≡◌, ◌⊎◌, List, ℕ, IsAscii, IfOk, IfErr, Some, MatchResult};
 ghost use Rattle.algorithms.specs.declared.fault.LineFault.TheVariants.{OutOfMemory as NoMemory};
 ghost use Rattle.algorithm_texts.specs.declared.tokens.Sign.TheVariants.{Close as CloseSign, Comma as CommaSign};
 ghost use Rattle.algorithm_texts.specs.declared.tokens.Token.TheVariants.{Word as WordToken, Sign as SignToken};
 ghost use Rattle.algorithm_texts.specs.Parts.{part_of, term_of, formula_of, Value as ValuePart, Condition as ConditionPart};
 ghost use Rattle.algorithm_texts.specs.Grammar.{word_value as word_value_of, Says};
 ghost use Rattle.algorithm_texts.specs.Stacks.{Waits, head_of, worded, begun, headed, joint_of, joining, followed, turned, run, ended, read_part, reading, Begins};
-ghost use Rattle.algorithm_texts.specs.Operands.{stack_of, next_of, Turns, MakesWord, Ends, SayNoValue, SayNoCondition, scope_of, names_of};
+ghost use Rattle.algorithm_texts.specs.Operands.{stack_of, next_of, Turns, MakesWord, Ends, SayNoValue, SayNoCondition, scope_of, names_of, Refuses};
+ghost use Rattle.algorithm_texts.specs.LineReading.{read_value, read_condition};
 
 use crate::names::name_read;
 use crate::operands::{Bracket, Joint, Operand};
@@ -267,6 +268,9 @@ pub fn value(
     algorithm: &mut Algorithm,
     tokens: &[Token],
 ) -> Result<Expression, LineFault>
+    ensures reads { MatchResult result
+        (λ v. read_value (scope_of algorithm.old) (names_of algorithm.old) tokens.now ≡ Some (term_of v, names_of algorithm.new))
+        (λ fault. Refuses fault (read_value (scope_of algorithm.old) (names_of algorithm.old) tokens.now)) }
     ensures ok { IfOk result (λ v. Says
         (scope_of algorithm.old) (names_of algorithm.old) tokens.now (ValuePart (term_of v)) (names_of algorithm.new)) }
     ensures err { IfErr result (λ fault. (fault ≡ NoMemory)
@@ -285,6 +289,9 @@ pub fn condition(
     algorithm: &mut Algorithm,
     tokens: &[Token],
 ) -> Result<Condition, LineFault>
+    ensures reads { MatchResult result
+        (λ c. read_condition (scope_of algorithm.old) (names_of algorithm.old) tokens.now ≡ Some (formula_of c, names_of algorithm.new))
+        (λ fault. Refuses fault (read_condition (scope_of algorithm.old) (names_of algorithm.old) tokens.now)) }
     ensures ok { IfOk result (λ c. Says
         (scope_of algorithm.old) (names_of algorithm.old) tokens.now (ConditionPart (formula_of c)) (names_of algorithm.new)) }
     ensures err { IfErr result (λ fault. (fault ≡ NoMemory)

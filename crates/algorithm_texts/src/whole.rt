@@ -1,18 +1,25 @@
 //! A whole text.
 
-ghost use Rattle.std.specs.Prelude.{IfOk, OnOk};
+ghost use Rattle.std.specs.Prelude.{◌≡◌, ◌==◌, ◌≤◌, ℕ, if◌then◌else◌, None, reverse, ◌++◌, ◌∷◌, [], List, position, map, length, drop, slice_get, Some, Ok, IfOk, OnOk, IfSome};
 ghost use Rattle.algorithms.specs.Deeds.{SaysDeed};
 ghost use Rattle.algorithms.specs.Ranked.{LocalLinesEnd, AccessesLeadOn};
 ghost use Rattle.algorithms.specs.declared.line.Deed.TheVariants as deeds;
+ghost use Rattle.algorithm_texts.specs.Drafts.{drafted, form_of, line_of, local_form};
+ghost use Rattle.algorithm_texts.specs.Finishing.{is_way, EndsAt, EndSome, begins_of, call_in, finished, first_of, kind_led, with_entries, with_lines};
+ghost use Rattle.algorithm_texts.specs.Programs.{Spells};
+ghost use Rattle.algorithm_texts.specs.TextLines.{TextSays, and_line, second_said, spoken_of};
+ghost use Rattle.algorithm_texts.specs.TextReading.{IsEmpty, Spoken, begun, is_call, read_head, read_lines, read_text};
+ghost use Rattle.algorithm_texts.specs.Tokens.{LineSays};
 
 use crate::calls::{head, promises};
+use crate::filled::Filled;
 use crate::flow::Flow;
 use crate::lines::{CallRead, Draft};
-use crate::tokens::{Tokens, tokens_of};
-use algorithms::algorithm::{Algorithm, Call, Promises};
+use crate::tokens::{tail, tokens_of};
+use algorithms::algorithm::{Algorithm, Call, Entries, Promises};
 use algorithms::deeds::says_deed;
 use algorithms::fault::{AlgorithmFault, LineFault};
-use algorithms::line::{Deed, Form, Line};
+use algorithms::line::{Deed, Form, Line, LocalLine};
 use algorithms::ranks::lines_end;
 use std::alloc::{AllocError, Global};
 
@@ -25,15 +32,13 @@ const MOST_FILLED: usize = 1024;
 /// The most characters of a line.
 const LONGEST_LINE: usize = 1000;
 
-/// A line that is not empty, with its number.
-#[derive(Drop)]
-struct Filled {
-    number: u64,
-    tokens: Tokens,
-}
-
 /// The tokens of one line, with its number.
-fn read_tokens(alloc: Global, number: u64, line: &[u8]) -> Result<Filled, AlgorithmFault> {
+fn read_tokens(alloc: Global, number: u64, line: &[u8]) -> Result<Filled, AlgorithmFault>
+    ensures number { IfOk result (λ filled. filled.number ≡ number) }
+    ensures says { IfOk result (λ filled. LineSays line.now (Ok (filled.tokens.all.items, filled.tokens.answer.items))) }
+    ensures few { OnOk result (number ≤ 4096) }
+    ensures short { OnOk result (length line.now ≤ 1000) }
+{
     if number > MOST_LINES as u64 || line.len() > LONGEST_LINE {
         return Err(LineFault::TooBig.at(number));
     }
@@ -44,7 +49,11 @@ fn read_tokens(alloc: Global, number: u64, line: &[u8]) -> Result<Filled, Algori
 }
 
 /// Adds a line, unless it is empty.
-fn add_filled(lines: &mut Vec<Filled>, line: Filled) -> Result<(), AlgorithmFault> {
+fn add_filled(lines: &mut Vec<Filled>, line: Filled) -> Result<(), AlgorithmFault>
+    ensures added { OnOk result (map spoken_of lines.new.items
+        ≡ map spoken_of lines.old.items ++ and_line line.number line.tokens.all.items line.tokens.answer.items []) }
+    ensures few { OnOk result (length lines.old.items ≤ 1024 → length lines.new.items ≤ 1024) }
+{
     if line.tokens.all.is_empty() {
         return Ok(());
     }
@@ -54,14 +63,32 @@ fn add_filled(lines: &mut Vec<Filled>, line: Filled) -> Result<(), AlgorithmFaul
     lines.push(line).map_err(|_| AlgorithmFault::OutOfMemory)
 }
 
+/// The bytes up to the first line feed, and those after it.
+fn split_line(bytes: &[u8]) -> Option<(&[u8], &[u8])>
+    ensures { IfSome result (λ parts. bytes.now ≡ parts.0.now ++ (10 ∷ parts.1.now)) }
+{
+    let end = line_end(bytes)?;
+    Some((&bytes[..end], tail(bytes, end + 1)))
+}
+
+/// The place of the first line feed.
+fn line_end(bytes: &[u8]) -> Option<usize>
+    ensures { result ≡ position (λ b. b == 10) bytes.now }
+{
+    bytes.iter().position(|byte| *byte == b'\n')
+}
+
 /// The lines of a text that are not empty.
-fn lines_of(alloc: Global, text: &[u8]) -> Result<Vec<Filled>, AlgorithmFault> {
+fn lines_of(alloc: Global, text: &[u8]) -> Result<Vec<Filled>, AlgorithmFault>
+    ensures { IfOk result (λ lines. TextSays text.now (map spoken_of lines.items)) }
+{
     let mut lines = Vec::new(alloc);
     let mut number: u64 = 1;
     let mut rest = text;
-    while let Some(end) = rest.iter().position(|byte| *byte == b'\n') {
-        add_filled(&mut lines, read_tokens(alloc, number, &rest[..end])?)?;
-        rest = &rest[end + 1..];
+    while let Some((line, after)) = split_line(rest) {
+        let filled = read_tokens(alloc, number, line)?;
+        add_filled(&mut lines, filled)?;
+        rest = after;
         number = number.saturating_add(1);
     }
     if rest.is_empty() {
@@ -72,25 +99,57 @@ fn lines_of(alloc: Global, text: &[u8]) -> Result<Vec<Filled>, AlgorithmFault> {
 }
 
 /// The promises that the second line says, and its number. `first` is the number of the line before it.
-fn second_line(lines: &[Filled], first: u64) -> Result<(Promises, u64), AlgorithmFault> {
-    let Some(second) = lines.get(1) else {
-        return Err(LineFault::NoHeader.at(first));
-    };
-    match promises(&second.tokens) {
-        Ok(promises) => Ok((promises, second.number)),
-        Err(fault) => Err(fault.at(second.number)),
+fn second_line(lines: &[Filled], first: u64) -> Result<(Promises, u64), AlgorithmFault>
+    ensures { IfOk result (λ second. second_said (slice_get lines.now 1) ≡ Some (second.0, second.1)) }
+{
+    match lines.get(1) {
+        None => Err(LineFault::NoHeader.at(first)),
+        Some(second) => promises_of(second),
+    }
+}
+
+/// The promises that a line says, and its number.
+fn promises_of(line: &Filled) -> Result<(Promises, u64), AlgorithmFault>
+    ensures { IfOk result (λ second. second_said (Some line.now) ≡ Some (second.0, second.1)) }
+{
+    match promises(&line.tokens) {
+        Ok(promises) => Ok((promises, line.number)),
+        Err(fault) => Err(fault.at(line.number)),
     }
 }
 
 /// The draft of a text of which the first two lines are read.
-fn draft(alloc: Global, lines: &[Filled]) -> Result<Draft, AlgorithmFault> {
-    let Some(first) = lines.first() else {
-        return Err(LineFault::NoHeader.at(1));
+fn draft(alloc: Global, lines: &[Filled]) -> Result<Draft, AlgorithmFault>
+    ensures { IfOk result (λ draft.
+        read_text (map spoken_of lines.now) ≡ read_lines (drafted draft) (drop 2 (map spoken_of lines.now))) }
+{
+    let first = match lines.first() {
+        Some(first) => first,
+        None => return Err(LineFault::NoHeader.at(1)),
     };
-    let mut algorithm = head(alloc, &first.tokens).map_err(|fault| fault.at(first.number))?;
+    let algorithm = head_of(alloc, first)?;
     let (promises, number) = second_line(lines, first.number)?;
+    Ok(new_draft(alloc, algorithm, promises, number))
+}
+
+/// What the first line says.
+fn head_of(alloc: Global, line: &Filled) -> Result<Algorithm, AlgorithmFault>
+    ensures { IfOk result (λ a. (h : List ℕ × ℕ × ℕ)
+        × (read_head line.now.tokens.all.items ≡ Some h) × IsEmpty a h.0 h.1 h.2) }
+{
+    match head(alloc, &line.tokens) {
+        Ok(algorithm) => Ok(algorithm),
+        Err(fault) => Err(fault.at(line.number)),
+    }
+}
+
+/// A draft of this algorithm, after the line of this number.
+fn new_draft(alloc: Global, algorithm: Algorithm, promises: Promises, number: u64) -> Draft
+    ensures { (h : List ℕ × ℕ × ℕ) → IsEmpty algorithm h.0 h.1 h.2 → drafted result ≡ begun h promises number }
+{
+    let mut algorithm = algorithm;
     algorithm.promises = promises;
-    Ok(Draft {
+    Draft {
         algorithm,
         opened: Vec::new(alloc),
         blocks: Vec::new(alloc),
@@ -98,98 +157,252 @@ fn draft(alloc: Global, lines: &[Filled]) -> Result<Draft, AlgorithmFault> {
         jumps: Vec::new(alloc),
         calls: Vec::new(alloc),
         number,
-    })
+    }
+}
+
+/// The lines after the first two.
+fn after_head(lines: &[Filled]) -> &[Filled]
+    ensures { result.now ≡ drop 2 lines.now }
+{
+    if lines.len() > 2 {
+        &lines[2..]
+    } else {
+        &lines[..0]
+    }
+}
+
+/// Reads a line.
+fn read_line(alloc: Global, draft: &mut Draft, line: &Filled) -> Result<(), AlgorithmFault>
+    ensures { OnOk result ((ss : List Spoken)
+        → read_lines (drafted draft.old) (spoken_of line.now ∷ ss) ≡ read_lines (drafted draft.new) ss) }
+{
+    let last = draft.number;
+    draft.number = line.number;
+    match draft.line(alloc, &line.tokens, last) {
+        Ok(()) => Ok(()),
+        Err(fault) => Err(fault.at(line.number)),
+    }
+}
+
+/// Ends the last call.
+fn end_calls(draft: &mut Draft) -> Result<(), AlgorithmFault>
+    ensures { OnOk result (read_lines (drafted draft.old) [] ≡ Some (drafted draft.new)) }
+{
+    let last = draft.number;
+    match draft.end_call(last) {
+        Ok(()) => Ok(()),
+        Err(fault) => Err(fault.at(last)),
+    }
 }
 
 /// Reads all lines after the first two.
-fn read_lines(alloc: Global, draft: &mut Draft, lines: &[Filled]) -> Result<(), AlgorithmFault> {
-    for line in lines.get(2..).unwrap_or(&[]) {
-        let last = draft.number;
-        draft.number = line.number;
-        draft
-            .line(alloc, &line.tokens, last)
-            .map_err(|fault| fault.at(line.number))?;
+fn read_all(alloc: Global, draft: &mut Draft, lines: &[Filled]) -> Result<(), AlgorithmFault>
+    ensures { OnOk result (read_lines (drafted draft.old) (map spoken_of lines.now) ≡ Some (drafted draft.new)) }
+{
+    for line in lines {
+        read_line(alloc, draft, line)?;
     }
-    let last = draft.number;
-    draft.end_call(last).map_err(|fault| fault.at(last))
+    end_calls(draft)
 }
 
 /// The draft of a whole text.
-fn forms(alloc: Global, text: &[u8]) -> Result<Draft, AlgorithmFault> {
+fn forms(alloc: Global, text: &[u8]) -> Result<Draft, AlgorithmFault>
+    ensures { IfOk result (λ draft. (spoken : List Spoken) × TextSays text.now spoken × (read_text spoken ≡ Some (drafted draft))) }
+{
     let lines = lines_of(alloc, text)?;
     let mut draft = draft(alloc, lines.as_slice())?;
-    read_lines(alloc, &mut draft, lines.as_slice())?;
+    read_all(alloc, &mut draft, after_head(lines.as_slice()))?;
     Ok(draft)
 }
 
-/// A call of the draft.
-fn call_of(draft: &Draft, call: Call) -> Option<CallRead> {
-    draft.calls.iter().find(|read| read.call == call).copied()
+/// The first call of this kind.
+fn first_call(calls: &[CallRead], call: Call) -> Option<CallRead>
+    ensures { result ≡ call_in call (reverse calls.now) }
+{
+    let mut first = None;
+    for read in calls {
+        first = first_of(first, *read, call);
+    }
+    first
 }
 
-/// Where each call begins. `BadCall` where there is no lock or no unlock, `FallsOff` where a call has no lines.
-fn entries(draft: &mut Draft) -> Result<(), AlgorithmFault> {
+/// A call that was found, else this one where it is of the kind.
+fn first_of(first: Option<CallRead>, read: CallRead, call: Call) -> Option<CallRead>
+    ensures { result ≡ first_of first (if is_call call read then Some read else None) }
+{
+    match first {
+        Some(first) => Some(first),
+        None => { if read.call == call { Some(read) } else { None } }
+    }
+}
+
+/// A call of the draft.
+fn call_of(draft: &Draft, call: Call) -> Option<CallRead>
+    ensures { result ≡ call_in call (drafted draft.now).calls }
+{
+    first_call(draft.calls.as_slice(), call)
+}
+
+/// `FallsOff` where a call has no lines.
+fn check_filled(draft: &Draft) -> Result<(), AlgorithmFault> {
     for call in &draft.calls {
         if call.from == call.to {
             return Err(LineFault::FallsOff.at(call.number));
         }
     }
-    match (call_of(draft, Call::Lock), call_of(draft, Call::Unlock)) {
-        (Some(lock), Some(unlock)) => {
-            draft.algorithm.entries.lock = lock.from;
-            draft.algorithm.entries.unlock = unlock.from;
-        }
-        _ => return Err(LineFault::BadCall.at(draft.number)),
-    }
-    draft.algorithm.entries.recover = call_of(draft, Call::Recover).map(|call| call.from);
-    draft.algorithm.entries.withdraw = call_of(draft, Call::Withdraw).map(|call| call.from);
     Ok(())
+}
+
+/// Where a call begins.
+fn beginning(draft: &Draft, call: Call) -> Option<usize>
+    ensures { result ≡ begins_of (call_in call (drafted draft.now).calls) }
+{
+    match call_of(draft, call) {
+        Some(call) => Some(call.from),
+        None => None,
+    }
+}
+
+/// Sets where each call begins. `BadCall` where there is no lock or no unlock.
+fn set_entries(draft: &mut Draft) -> Result<(), AlgorithmFault>
+    ensures { OnOk result (with_entries (drafted draft.old) ≡ Some (drafted draft.new)) }
+{
+    let fault = LineFault::BadCall.at(draft.number);
+    let lock = call_of(draft, Call::Lock).ok_or(fault)?;
+    let unlock = call_of(draft, Call::Unlock).ok_or(fault)?;
+    let recover = beginning(draft, Call::Recover);
+    let withdraw = beginning(draft, Call::Withdraw);
+    draft.algorithm.entries = Entries {
+        lock: lock.from,
+        unlock: unlock.from,
+        recover,
+        withdraw,
+    };
+    Ok(())
+}
+
+/// Checks the labels, the names and the deeds of a call, if it is there.
+fn check_call(draft: &mut Draft, call: Call) -> Result<(), AlgorithmFault>
+    ensures { OnOk result (kind_led call (drafted draft.old) ≡ Some (drafted draft.new)) }
+{
+    match call_of(draft, call) {
+        Some(call) => draft.check_call(call),
+        None => Ok(()),
+    }
+}
+
+/// Checks the labels, the names and the deeds of all calls.
+fn check_calls(draft: &mut Draft) -> Result<(), AlgorithmFault>
+    ensures { OnOk result (finished (drafted draft.old) ≡ Some (drafted draft.new)) }
+{
+    check_filled(draft)?;
+    set_entries(draft)?;
+    check_call(draft, Call::Lock)?;
+    check_call(draft, Call::Unlock)?;
+    check_call(draft, Call::Recover)?;
+    check_call(draft, Call::Withdraw)?;
+    draft.check_withdraw()
 }
 
 /// The calls that a text has, in the order in which they are checked.
 const CALLS: [Call; 4] = [Call::Lock, Call::Unlock, Call::Recover, Call::Withdraw];
 
-/// Checks the labels, the names and the deeds of all calls.
-fn check_calls(draft: &mut Draft) -> Result<(), AlgorithmFault> {
-    entries(draft)?;
-    for call in CALLS {
-        if let Some(call) = call_of(draft, call) {
-            draft.check_call(call)?;
-        }
+/// Whether it is the way past an `else`, or back to the head of a loop.
+fn is_local_way(line: &LocalLine) -> bool
+    ensures { result ≡ is_way (local_form line.now) }
+{
+    match line {
+        LocalLine::Goto(_) | LocalLine::Next { .. } => true,
+        LocalLine::Assign { .. } => false,
+        LocalLine::Note(_) => false,
+        LocalLine::Branch { .. } => false,
+        LocalLine::First { .. } => false,
     }
-    draft.check_withdraw()
 }
 
-/// Lets a line end its call.
-fn end_line(line: &mut Line) {
-    line.form = Form::Done(0);
+/// Whether it is such a way.
+fn is_way(form: &Form) -> bool
+    ensures { result ≡ is_way (form_of form.now) }
+{
+    match form {
+        Form::Local(line) => is_local_way(line),
+        Form::Access(_) | Form::Done(_) => false,
+    }
+}
+
+/// Lets a line end its call, where it is such a way.
+fn end_way(line: &mut Line)
+    ensures { EndsAt (line_of line.old) (line_of line.new) }
+{
+    if is_way(&line.form) {
+        line.form = Form::Done(0);
+    }
+}
+
+/// Lets the line at a place end its call, where it is such a way.
+fn end_at(lines: &mut Vec<Line>, place: usize)
+    ensures { EndSome (map line_of lines.old.items) (map line_of lines.new.items) }
+{
+    if let Some(line) = lines.get_mut(place) {
+        end_way(line);
+    }
+}
+
+/// Lets the line at a place end its call, where no run comes to it and it is such a way.
+#[tactic(auto, using(crate::proofs::Endings::none_end))]
+fn end_where(lines: &mut Vec<Line>, place: usize, reached: &[bool])
+    ensures { EndSome (map line_of lines.old.items) (map line_of lines.new.items) }
+{
+    if reached.get(place).copied() == Some(false) {
+        end_at(lines, place);
+    }
 }
 
 /// Lets each line of a call to which no run comes end the call. Such a line has no text of its own: after a block that always
 /// ends in `goto` or `done`, it is the way past an `else`, or back to the head of a loop. What it is does not matter, since no
 /// run comes there. But there may be no line to which it would lead, and an end leads to none.
-fn end_unreached(lines: &mut [Line], call: CallRead, reached: &[bool]) {
+fn end_unreached(lines: &mut Vec<Line>, call: CallRead, reached: &[bool])
+    ensures { EndSome (map line_of lines.old.items) (map line_of lines.new.items) }
+{
     for place in call.from..call.to {
-        if reached.get(place).copied() == Some(false) {
-            if let Some(line) = lines.get_mut(place) {
-                end_line(line);
-            }
-        }
+        end_where(lines, place, reached);
+    }
+}
+
+/// Checks what the runs of a call may do, and lets those of its lines end it to which no run comes.
+fn check_run(alloc: Global, draft: &mut Draft, call: CallRead) -> Result<(), AlgorithmFault>
+    ensures lines { OnOk result (EndSome (drafted draft.old).lines (drafted draft.new).lines) }
+    ensures kept { drafted draft.new ≡ with_lines (drafted draft.new).lines (drafted draft.old) }
+{
+    let algorithm = &draft.algorithm;
+    let reached = Flow::of(algorithm.lines.as_slice(), call, algorithm.least).check(
+        alloc,
+        draft.jumps.as_slice(),
+        algorithm.lasting,
+    )?;
+    end_unreached(&mut draft.algorithm.lines, call, reached.as_slice());
+    Ok(())
+}
+
+/// Checks what the runs of a call may do, if it is there.
+#[tactic(auto, using(crate::proofs::Endings::none_end))]
+fn check_kind(alloc: Global, draft: &mut Draft, call: Call) -> Result<(), AlgorithmFault>
+    ensures lines { OnOk result (EndSome (drafted draft.old).lines (drafted draft.new).lines) }
+    ensures kept { drafted draft.new ≡ with_lines (drafted draft.new).lines (drafted draft.old) }
+{
+    match call_of(draft, call) {
+        Some(call) => check_run(alloc, draft, call),
+        None => Ok(()),
     }
 }
 
 /// Checks what the runs of all calls may do.
-fn check_runs(alloc: Global, draft: &mut Draft) -> Result<(), AlgorithmFault> {
+fn check_runs(alloc: Global, draft: &mut Draft) -> Result<(), AlgorithmFault>
+    ensures lines { OnOk result (EndSome (drafted draft.old).lines (drafted draft.new).lines) }
+    ensures kept { drafted draft.new ≡ with_lines (drafted draft.new).lines (drafted draft.old) }
+{
     for call in CALLS {
-        if let Some(call) = call_of(draft, call) {
-            let algorithm = &mut draft.algorithm;
-            let reached = Flow::of(algorithm.lines.as_slice(), call, algorithm.least).check(
-                alloc,
-                draft.jumps.as_slice(),
-                algorithm.lasting,
-            )?;
-            end_unreached(algorithm.lines.as_mut_slice(), call, reached.as_slice());
-        }
+        check_kind(alloc, draft, call)?;
     }
     Ok(())
 }
@@ -210,6 +423,8 @@ fn ranks(alloc: Global, draft: &Draft) -> Result<Vec<u64>, AllocError> {
 fn check_flow(alloc: Global, draft: &mut Draft) -> Result<(), AlgorithmFault>
     ensures ends { OnOk result (LocalLinesEnd draft.new.algorithm) }
     ensures leads { OnOk result (AccessesLeadOn draft.new.algorithm) }
+    ensures lines { OnOk result (EndSome (drafted draft.old).lines (drafted draft.new).lines) }
+    ensures kept { drafted draft.new ≡ with_lines (drafted draft.new).lines (drafted draft.old) }
 {
     check_runs(alloc, draft)?;
     let ranks = ranks(alloc, draft)?;
@@ -251,6 +466,7 @@ fn check_deeds(draft: &Draft) -> Result<(), AlgorithmFault>
 /// what runs may do, and at last that the lock says `enter` and the unlock `leave`. Calls are taken in the order lock, unlock,
 /// recover, withdraw, whatever their order in the text, and in each call labels before names and deeds.
 pub fn read_algorithm(alloc: Global, text: &[u8]) -> Result<Algorithm, AlgorithmFault>
+    ensures spells { IfOk result (λ a. Spells text.now a) }
     ensures ends { IfOk result LocalLinesEnd }
     ensures leads { IfOk result AccessesLeadOn }
     ensures enters { IfOk result (λ a. SaysDeed a a.entries.lock deeds.Enter) }

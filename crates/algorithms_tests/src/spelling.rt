@@ -7,7 +7,9 @@ use algorithm_lab::laws::{
     a_core_makes_these_moves, the_text_is_never_found_out, the_text_means_the_lock,
     the_text_plays_as_the_lock,
 };
-use algorithm_texts::laws::{a_line_says_one_thing, tokens_say_one_part};
+use algorithm_texts::laws::{
+    a_line_says_one_thing, lines_make_blocks, tokens_are_read_as_said, tokens_say_one_part,
+};
 use algorithm_texts::read_algorithm;
 use algorithms::Algorithm;
 use std::alloc::{AllocError, Global};
@@ -166,5 +168,7 @@ fn the_text_spells_the_bakery(rt: HostRuntime) -> Result<(), Fail> {
     the_text_is_never_found_out();
     a_core_makes_these_moves();
     no_search_finds_the_text_out();
+    lines_make_blocks();
+    tokens_are_read_as_said();
     compare_cases(rt.alloc(), Kind::Spelling, BAKERY)
 }

@@ -1,7 +1,6 @@
-use Rattle.std.proofs.Common.{◌≡◌, ◌<◌, not, true, length, sym, ap, ◌∙◌, arith, rules}
+use Rattle.std.proofs.Common.{◌≡◌, ◌<◌, not, length, sym, ap, ◌∙◌, arith, rules}
 use Rattle.std.proofs.lemmas.Bool.Decides.{nat_tests}
 use Rattle.std.proofs.lemmas.Grind.{common_steps}
-use Rattle.algorithm_texts.specs.Tokens.{is_filled, is_answer_word}
 use Rattle.algorithm_texts.proofs.Replies.{part_skipped, part_begins, part_follows}
 use Rattle.algorithm_texts.proofs.tokens.add_word.Goals as goal
 

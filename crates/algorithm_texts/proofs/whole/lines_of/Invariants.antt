@@ -1,5 +1,11 @@
-use Rattle.std.proofs.Common.{length}
+use Rattle.std.proofs.Common.{map, length}
+use Rattle.algorithm_texts.specs.TextLines.{spoken_of}
+use Rattle.algorithm_texts.proofs.SpokenLines.{SoFar}
 use Rattle.algorithm_texts.proofs.whole.lines_of.Given as goal
 
-abbrev pub decreases-loop-end : goal.decreases-loop-end
-decreases-loop-end l = length l.rest
+abbrev pub decreases-loop-line : goal.decreases-loop-line
+decreases-loop-line l = length l.rest
+
+-- the lines so far say what was read
+abbrev pub invariant-loop-line : goal.invariant-loop-line
+invariant-loop-line l = SoFar l.text l.rest l.number (map spoken_of l.lines.items)

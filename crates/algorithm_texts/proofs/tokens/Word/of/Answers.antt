@@ -1,4 +1,3 @@
-use Rattle.std.proofs.Common.{arith}
 use Rattle.algorithm_texts.specs.Letters.{filled_up}
 use Rattle.algorithm_texts.proofs.tokens.Word.of.Goals as goal
 

@@ -1,0 +1,164 @@
+-- Lines of an algorithm, and drafts of one, without their memory.
+use Rattle.std.specs.Prelude.{ℕ, Bool, List, map, reverse, slice_set, Option, Some, None, string_bytes}
+use Rattle.std.specs.Option.{option_map}
+use Rattle.algorithms.specs.declared.algorithm.Algorithm.{Algorithm}
+use Rattle.algorithms.specs.declared.algorithm.Entries.{Entries}
+use Rattle.algorithms.specs.declared.algorithm.Promises.{Promises}
+use Rattle.algorithms.specs.declared.line.AccessLine.{AccessLine}
+use Rattle.algorithms.specs.declared.line.Action.{Action}
+use Rattle.algorithms.specs.declared.line.Action.TheVariants.{Load, Store, Await}
+use Rattle.algorithms.specs.declared.line.Deed.{Deed}
+use Rattle.algorithms.specs.declared.line.Form.{Form}
+use Rattle.algorithms.specs.declared.line.Form.TheVariants.{Access, Local, Done}
+use Rattle.algorithms.specs.declared.line.Line.{Line}
+use Rattle.algorithms.specs.declared.line.LocalLine.{LocalLine}
+use Rattle.algorithms.specs.declared.line.LocalLine.TheVariants.{Assign, Note, Goto, Branch, First, Next}
+use Rattle.algorithms.specs.declared.line.Members.{Members}
+use Rattle.algorithms.specs.declared.line.WordOf.{WordOf}
+use Rattle.algorithm_texts.specs.declared.lines.CallRead.{CallRead}
+use Rattle.algorithm_texts.specs.declared.lines.Draft.{Draft}
+use Rattle.algorithm_texts.specs.declared.lines.Jump.{Jump}
+use Rattle.algorithm_texts.specs.declared.lines.Label.{Label}
+use Rattle.algorithm_texts.specs.declared.lines.Opened.{Opened}
+use Rattle.algorithm_texts.specs.Parts.{Term, Formula, term_of, formula_of}
+use Rattle.algorithm_texts.specs.Operands.{names_of, declared_of}
+
+-- ---- lines
+
+-- a shared word, with its index where there is one for each process
+pub record SharedWord : Type 0 where
+  pub declaration : ℕ
+  pub index : Option Term
+
+-- what an access does with its word
+pub data Act : Type 0 where
+  Loading : ℕ → Act
+  Storing : Term → Act
+  Awaiting : ℕ → Formula → Act
+
+pub record AccessForm : Type 0 where
+  pub word : SharedWord
+  pub act : Act
+  pub may_withdraw : Bool
+
+-- what a line is
+pub data LineForm : Type 0 where
+  Accessing : AccessForm → LineForm
+  Assigning : ℕ → Term → LineForm
+  Noting : Deed → LineForm
+  Going : ℕ → LineForm
+  Branching : Formula → ℕ → LineForm
+  Beginning : ℕ → Members → ℕ → LineForm
+  Repeating : ℕ → Members → ℕ → LineForm
+  Ending : ℕ → LineForm
+
+-- a line, with its number in the text
+pub record PlacedLine : Type 0 where
+  pub number : ℕ
+  pub form : LineForm
+
+abbrev pub word_of : WordOf → SharedWord
+word_of w = record { declaration = w.declaration; index = option_map (λ i. term_of i) w.index }
+
+abbrev pub act_of : Action → Act
+act_of (Load name) = Loading name
+act_of (Store value) = Storing (term_of value)
+act_of (Await name until) = Awaiting name (formula_of until)
+
+abbrev pub access_of : AccessLine → AccessForm
+access_of a = record { word = word_of a.word; act = act_of a.action; may_withdraw = a.may_withdraw }
+
+abbrev pub local_form : LocalLine → LineForm
+local_form (Assign name value) = Assigning name (term_of value)
+local_form (Note deed) = Noting deed
+local_form (Goto place) = Going place
+local_form (Branch condition otherwise) = Branching (formula_of condition) otherwise
+local_form (First name members after) = Beginning name members after
+local_form (Next name members body) = Repeating name members body
+
+abbrev pub form_of : Form → LineForm
+form_of (Access a) = Accessing (access_of a)
+form_of (Local l) = local_form l
+form_of (Done answer) = Ending answer
+
+abbrev pub line_of : Line → PlacedLine
+line_of l = record { number = l.number; form = form_of l.form }
+
+abbrev pub lines_of : Algorithm → List PlacedLine
+lines_of a = map line_of a.lines.items
+
+abbrev pub answers_of : Algorithm → List (List ℕ)
+answers_of a = map (λ answer. string_bytes answer) a.answers.items
+
+-- whether a declaration has a word for each process
+abbrev pub each_of : Algorithm → List Bool
+each_of a = map (λ d. d.each) a.declarations.items
+
+-- a line that leads past a block, or a goto, leads to this place
+abbrev pub led : ℕ → LineForm → LineForm
+led place (Accessing a) = Accessing a
+led place (Assigning name value) = Assigning name value
+led place (Noting deed) = Noting deed
+led place (Going target) = Going place
+led place (Branching condition otherwise) = Branching condition place
+led place (Beginning name members after) = Beginning name members place
+led place (Repeating name members body) = Repeating name members body
+led place (Ending answer) = Ending answer
+
+abbrev pub leading : List PlacedLine → ℕ → ℕ → Option PlacedLine → List PlacedLine
+leading lines at place None = lines
+leading lines at place (Some line) = slice_set lines at (record { number = line.number; form = led place line.form })
+
+-- ---- drafts
+
+-- what the lines of a call leave alone
+pub record Head : Type 0 where
+  pub name : List ℕ
+  pub least : ℕ
+  pub most : ℕ
+  pub promises : Promises
+  pub bounds : List (Option Term)
+  pub entries : Entries
+
+abbrev pub head_of : Algorithm → Head
+head_of a = record {
+  name = string_bytes a.name;
+  least = a.least;
+  most = a.most;
+  promises = a.promises;
+  bounds = map (λ d. option_map (λ b. term_of b) d.bound) a.declarations.items;
+  entries = a.entries;
+}
+
+-- what was read so far
+pub record Drafted : Type 0 where
+  pub head : Head
+  pub declared : List (List ℕ)
+  pub each : List Bool
+  pub lasting : ℕ
+  pub number : ℕ
+  pub names : List (List ℕ)
+  pub answers : List (List ℕ)
+  pub lines : List PlacedLine
+  pub opened : List Opened
+  pub blocks : List (ℕ × ℕ)
+  pub labels : List Label
+  pub jumps : List Jump
+  pub calls : List CallRead
+
+abbrev pub drafted : Draft → Drafted
+drafted d = record {
+  head = head_of d.algorithm;
+  declared = declared_of d.algorithm;
+  each = each_of d.algorithm;
+  lasting = d.algorithm.lasting;
+  number = d.number;
+  names = names_of d.algorithm;
+  answers = answers_of d.algorithm;
+  lines = lines_of d.algorithm;
+  opened = reverse d.opened.items;
+  blocks = d.blocks.items;
+  labels = d.labels.items;
+  jumps = d.jumps.items;
+  calls = reverse d.calls.items;
+}

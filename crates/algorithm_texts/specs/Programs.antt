@@ -1,0 +1,59 @@
+-- Texts as trees: the two lines of the head, declarations, and calls with their blocks. What they mean.
+use Rattle.std.specs.Prelude.{◌≡◌, ℕ, List, [], ◌∷◌, ◌++◌, drop, slice_get, Option, Some, None, if◌then◌else◌, codes}
+use Rattle.algorithms.specs.declared.algorithm.Algorithm.{Algorithm}
+use Rattle.algorithm_texts.specs.Parts.{◌>>=◌}
+use Rattle.algorithm_texts.specs.Fronts.{is_the_word}
+use Rattle.algorithm_texts.specs.Drafts.{Drafted}
+use Rattle.algorithm_texts.specs.TextReading.{Spoken, with_number, begun, end_call, read_call, read_declaration, read_head, read_promises}
+use Rattle.algorithm_texts.specs.TextLines.{TextSays}
+use Rattle.algorithm_texts.specs.Blocks.{Block, lines_in, compiled}
+use Rattle.algorithm_texts.specs.Finishing.{finished, IsOf}
+
+-- the line that begins a call, and the lines after it
+pub record CallLines : Type 0 where
+  pub first : Spoken
+  pub block : Block
+
+pub record Program : Type 0 where
+  pub head : Spoken
+  pub promises : Spoken
+  pub declarations : List Spoken
+  pub calls : List CallLines
+
+abbrev pub calls_lines : List CallLines → List Spoken
+calls_lines [] = []
+calls_lines (c ∷ cs) = c.first ∷ (lines_in c.block ++ calls_lines cs)
+
+-- the lines of a program
+abbrev pub program_lines : Program → List Spoken
+program_lines p = p.head ∷ (p.promises ∷ (p.declarations ++ calls_lines p.calls))
+
+abbrev pub declarations_made : List Spoken → Drafted → Option Drafted
+declarations_made [] d = Some d
+declarations_made (s ∷ ss) d = read_declaration (with_number s.number d) s.tokens >>= declarations_made ss
+
+abbrev pub call_begun : Drafted → Spoken → Option Drafted
+call_begun d s = if is_the_word (slice_get s.tokens 0) (codes "call") then read_call (with_number s.number d) (drop 1 s.tokens) d.number else None
+
+abbrev pub calls_made : List CallLines → Drafted → Option Drafted
+calls_made [] d = end_call d.number d
+calls_made (c ∷ cs) d = do
+  begun ← call_begun d c.first
+  now ← compiled c.block begun
+  calls_made cs now
+
+-- what a program means, with gotos that lead nowhere yet
+abbrev pub meant : Program → Option Drafted
+meant p = do
+  head ← read_head p.head.tokens
+  promises ← read_promises p.promises.tokens
+  declared ← declarations_made p.declarations (begun head promises p.promises.number)
+  calls_made p.calls declared
+
+-- the lines of a text are those of a program, and the algorithm is what it means
+pub record Spells (text : List ℕ) (a : Algorithm) : Type 0 where
+  pub program : Program
+  pub says : TextSays text (program_lines program)
+  pub draft : Drafted
+  pub means : (meant program >>= finished) ≡ Some draft
+  pub is_of : IsOf draft a

@@ -1,0 +1,49 @@
+-- The lines of a text: each is ended by a line feed, and says its tokens.
+use Rattle.std.specs.Prelude.{◌≡◌, ℕ, ◌+◌, ◌≤◌, List, [], ◌∷◌, ◌++◌, length, Option, Some, None, Ok, if◌then◌else◌}
+use Rattle.std.specs.List.{All}
+use Rattle.algorithms.specs.declared.algorithm.Promises.{Promises}
+use Rattle.algorithm_texts.specs.declared.tokens.Token.{Token}
+use Rattle.algorithm_texts.specs.declared.filled.Filled.{Filled}
+use Rattle.algorithm_texts.specs.Parts.{◌>>=◌}
+use Rattle.algorithm_texts.specs.Fronts.{is_over}
+use Rattle.algorithm_texts.specs.TextReading.{Spoken, read_promises}
+use Rattle.algorithm_texts.specs.Tokens.{LineSays}
+
+-- the bytes of lines, each ended by a line feed
+abbrev pub ended_lines : List (List ℕ) → List ℕ
+ended_lines [] = []
+ended_lines (line ∷ lines) = line ++ (10 ∷ ended_lines lines)
+
+-- a line and those after it, unless it has no token
+abbrev pub and_line : ℕ → List Token → List ℕ → List Spoken → List Spoken
+and_line number tokens answer rest = if is_over tokens then rest else record { number = number; tokens = tokens; answer = answer } ∷ rest
+
+-- what lines say, the first of this number: the tokens of those that are not empty
+abbrev pub SayLines : ℕ → List (List ℕ) → List Spoken → Type 0
+SayLines number [] spoken = spoken ≡ []
+SayLines number (line ∷ lines) spoken =
+    (tokens : List Token)
+    × (answer : List ℕ)
+    × LineSays line (Ok (tokens, answer))
+    × (rest : List Spoken)
+    × SayLines (number + 1) lines rest
+    × (spoken ≡ and_line number tokens answer rest)
+
+-- the lines of a text that are not empty, within their limits
+pub record TextSays (text : List ℕ) (spoken : List Spoken) : Type 0 where
+  pub lines : List (List ℕ)
+  pub bytes : text ≡ ended_lines lines
+  pub few : length lines ≤ 4096
+  pub short : All (λ line. length line ≤ 1000) lines
+  pub say : SayLines 1 lines spoken
+  pub few_filled : length spoken ≤ 1024
+
+abbrev pub spoken_of : Filled → Spoken
+spoken_of line = record { number = line.number; tokens = line.tokens.all.items; answer = line.tokens.answer.items }
+
+-- the promises of a second line, and its number
+abbrev pub second_said : Option Filled → Option (Promises × ℕ)
+second_said None = None
+second_said (Some line) = do
+  promises ← read_promises line.tokens.all.items
+  Some (promises, line.number)

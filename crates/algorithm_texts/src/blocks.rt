@@ -1,0 +1,312 @@
+//! Blocks and labels, and all lines of a call.
+
+ghost use Rattle.std.specs.Prelude.{◌≡◌, ◌∷◌, [], List, length, reverse, slice_get, Some, MatchOption, MatchResult, OnOk, IfErr, IsAscii};
+ghost use Rattle.algorithms.specs.declared.fault.LineFault.TheVariants.{OutOfMemory as NoMemory};
+ghost use Rattle.algorithm_texts.specs.declared.lines.Opened.{Opened as OpenedOf};
+ghost use Rattle.algorithm_texts.specs.Operands.{Refuses};
+ghost use Rattle.algorithm_texts.specs.Drafts.{drafted};
+ghost use Rattle.algorithm_texts.specs.LineReading.{Drafts, opening, closing, ended_at, read_test, read_then, read_if, is_loop_of, is_loop, is_looping, loops, loop_opened, read_for, else_in, read_else, going_round, end_in, read_end, read_label, read_statement, block_in};
+
+use crate::lines::{Block, Draft, Label, Opened};
+use crate::names::new_name;
+use crate::parts::{after, after_word, begins_no_simple, ended, members_said, split_value};
+use crate::tokens::{Sign, Token, Tokens, is_sign, is_word};
+use algorithms::condition::Condition;
+use algorithms::fault::LineFault;
+use algorithms::line::{LocalLine, Members};
+use std::alloc::Global;
+
+/// How deep blocks stand in one another at most.
+const DEEPEST_BLOCK: usize = 16;
+
+/// How deep loops stand in one another at most.
+const DEEPEST_LOOP: usize = 2;
+
+/// Whether a block is a loop that sets this name.
+fn is_loop_of(name: usize, block: Block) -> bool
+    ensures { result ≡ is_loop_of name block }
+{
+    match block {
+        Block::For { name: other, .. } => other == name,
+        Block::If | Block::Else => false,
+    }
+}
+
+fn is_loop(block: Block) -> bool
+    ensures { result ≡ is_loop block }
+{
+    match block {
+        Block::For { .. } => true,
+        Block::If | Block::Else => false,
+    }
+}
+
+/// Whether a loop of this name is open.
+fn is_looping(opened: &[Opened], name: usize) -> bool
+    ensures { result ≡ is_looping name (reverse opened.now) }
+{
+    let mut looping = false;
+    for block in opened {
+        looping = is_loop_of(name, block.kind) || looping;
+    }
+    looping
+}
+
+/// How many loops are open.
+fn loops(opened: &[Opened]) -> usize
+    ensures { result ≡ loops (reverse opened.now) }
+{
+    let mut count = 0;
+    for block in opened {
+        if is_loop(block.kind) {
+            count += 1;
+        }
+    }
+    count
+}
+
+/// Lets a block end before a place.
+fn end_block(blocks: &mut Vec<(usize, usize)>, block: usize, place: usize)
+    ensures { blocks.new.items ≡ ended_at blocks.old.items block place (slice_get blocks.old.items block) }
+{
+    if let Some(block) = blocks.get_mut(block) {
+        block.1 = place;
+    }
+}
+
+impl Draft {
+    fn open(&mut self, place: usize, kind: Block) -> Result<(), LineFault>
+        ensures { Drafts (drafted self.new) result (opening place kind (drafted self.old)) }
+    {
+        if self.opened.len() >= DEEPEST_BLOCK {
+            return Err(LineFault::TooBig);
+        }
+        let block = self.blocks.len();
+        let from = self.algorithm.lines.len();
+        self.blocks.push((from, from))?;
+        self.opened.push(Opened {
+            place,
+            first: from,
+            kind,
+            block,
+        })?;
+        Ok(())
+    }
+
+    /// The innermost block.
+    pub fn innermost(&self) -> Option<Opened>
+        ensures { MatchOption result ((drafted self.now).opened ≡ [])
+            (λ o. (rest : List OpenedOf) × ((drafted self.now).opened ≡ o ∷ rest)) }
+    {
+        self.opened.last().copied()
+    }
+
+    /// Ends the innermost block.
+    fn close(&mut self) -> Option<Opened>
+        ensures { MatchOption result ((drafted self.old).opened ≡ [])
+            (λ o. ((drafted self.old).opened ≡ o ∷ (drafted self.new).opened)
+            × (drafted self.new ≡ closing o (drafted self.new).opened (drafted self.old))) }
+    {
+        let opened = self.opened.pop()?;
+        let to = self.algorithm.lines.len();
+        end_block(&mut self.blocks, opened.block, to);
+        Some(opened)
+    }
+
+    /// Adds the line of `if CONDITION then`, and answers its place and the tokens after it.
+    fn test<'t>(
+        &mut self,
+        alloc: Global,
+        tokens: &'t [Token],
+    ) -> Result<(usize, &'t [Token]), LineFault>
+        ensures { MatchResult result
+            (λ r. (r.0 ≡ length (drafted self.old).lines)
+            × (read_test (drafted self.old) tokens.now ≡ Some (drafted self.new, r.1.now)))
+            (λ fault. Refuses fault (read_test (drafted self.old) tokens.now)) }
+    {
+        let (test, rest) = split_value(tokens);
+        let condition: Condition = self.condition(alloc, test)?;
+        let otherwise = 0;
+        let place = self.add_local(LocalLine::Branch {
+            condition,
+            otherwise,
+        })?;
+        Ok((place, after_word(rest, b"then")?))
+    }
+
+    /// The statement of a condition in the same line.
+    fn then(
+        &mut self,
+        alloc: Global,
+        place: usize,
+        tokens: &[Token],
+        answer: &[u8],
+    ) -> Result<(), LineFault>
+        requires { IsAscii answer.now }
+        ensures { Drafts (drafted self.new) result (read_then place (drafted self.old) tokens.now answer.now) }
+    {
+        self.simple(alloc, tokens, answer)?;
+        self.land(place);
+        Ok(())
+    }
+
+    /// `if CONDITION then`, with a statement in the same line or a block after it.
+    fn branch(&mut self, alloc: Global, tokens: &[Token], answer: &[u8]) -> Result<(), LineFault>
+        requires { IsAscii answer.now }
+        ensures { Drafts (drafted self.new) result (read_if (drafted self.old) tokens.now answer.now) }
+    {
+        let (place, rest) = self.test(alloc, tokens)?;
+        if rest.is_empty() {
+            self.open(place, Block::If)
+        } else if begins_no_simple(rest) {
+            Err(LineFault::BadForm)
+        } else {
+            self.then(alloc, place, rest, answer)
+        }
+    }
+
+    /// Begins a loop. `NameTaken` where one round it sets its name.
+    fn begin_loop(&mut self, name: usize, members: Members) -> Result<(), LineFault>
+        ensures { Drafts (drafted self.new) result (loop_opened name members (drafted self.old)) }
+    {
+        if is_looping(self.opened.as_slice(), name) {
+            return Err(LineFault::NameTaken);
+        }
+        if loops(self.opened.as_slice()) >= DEEPEST_LOOP {
+            return Err(LineFault::TooBig);
+        }
+        let place = self.add_local(LocalLine::First {
+            name,
+            members,
+            after: 0,
+        })?;
+        self.open(place, Block::For { name, members })
+    }
+
+    /// `for NAME in MEMBERS`.
+    fn loop_head(&mut self, alloc: Global, tokens: &[Token]) -> Result<(), LineFault>
+        ensures { Drafts (drafted self.new) result (read_for (drafted self.old) tokens.now) }
+    {
+        let name = self.name(alloc, tokens.first())?;
+        if name < self.algorithm.lasting {
+            return Err(LineFault::NameTaken);
+        }
+        let members = members_said(after(tokens, 1))?;
+        self.begin_loop(name, members)
+    }
+
+    /// Ends the first part of a condition, and begins the second.
+    fn begin_other(&mut self) -> Result<(), LineFault>
+        ensures { Drafts (drafted self.new) result (else_in (drafted self.old).opened (drafted self.old)) }
+    {
+        let place = self.add_local(LocalLine::Goto(0))?;
+        match self.close() {
+            None => Err(LineFault::BadBlock),
+            Some(opened) => match opened.kind {
+                Block::If => {
+                    self.land(opened.place);
+                    self.open(place, Block::Else)
+                }
+                Block::Else => Err(LineFault::BadBlock),
+                Block::For { .. } => Err(LineFault::BadBlock),
+            },
+        }
+    }
+
+    /// `else`.
+    fn other(&mut self, tokens: &[Token]) -> Result<(), LineFault>
+        ensures { Drafts (drafted self.new) result (read_else (drafted self.old) tokens.now) }
+    {
+        ended(tokens)?;
+        self.begin_other()
+    }
+
+    /// Adds the line that begins the next round of a loop, where the block is one.
+    fn go_round(&mut self, opened: Opened) -> Result<(), LineFault>
+        ensures ok { OnOk result (drafted self.new ≡ going_round opened.first opened.kind (drafted self.old)) }
+        ensures err { IfErr result (λ fault. fault ≡ NoMemory) }
+    {
+        match opened.kind {
+            Block::For { name, members } => {
+                let body = opened.first;
+                self.add_local(LocalLine::Next {
+                    name,
+                    members,
+                    body,
+                })?;
+                Ok(())
+            }
+            Block::If | Block::Else => Ok(()),
+        }
+    }
+
+    /// Ends the innermost block, and lets its first line lead past it.
+    fn end_innermost(&mut self) -> Result<(), LineFault>
+        ensures { Drafts (drafted self.new) result (end_in (drafted self.old).opened (drafted self.old)) }
+    {
+        let opened = self.innermost().ok_or(LineFault::BadBlock)?;
+        self.go_round(opened)?;
+        self.close();
+        self.land(opened.place);
+        Ok(())
+    }
+
+    /// `end`.
+    fn end(&mut self, tokens: &[Token]) -> Result<(), LineFault>
+        ensures { Drafts (drafted self.new) result (read_end (drafted self.old) tokens.now) }
+    {
+        ended(tokens)?;
+        self.end_innermost()
+    }
+
+    /// The innermost block, by its index.
+    fn block(&self) -> Option<usize>
+        ensures { result ≡ block_in (drafted self.now).opened }
+    {
+        match self.innermost() {
+            Some(opened) => Some(opened.block),
+            None => None,
+        }
+    }
+
+    /// `NAME:`.
+    fn label(&mut self, tokens: &[Token]) -> Result<(), LineFault>
+        ensures { Drafts (drafted self.new) result (read_label (drafted self.old) tokens.now) }
+    {
+        let name = new_name(tokens.first())?;
+        ended(after(tokens, 2))?;
+        let place = self.algorithm.lines.len();
+        let block = self.block();
+        let number = self.number;
+        self.labels.push(Label {
+            name,
+            place,
+            block,
+            number,
+        })?;
+        Ok(())
+    }
+
+    /// Reads a line of a call.
+    pub fn statement(&mut self, alloc: Global, line: &Tokens) -> Result<(), LineFault>
+        requires { IsAscii line.now.answer.items }
+        ensures { Drafts (drafted self.new) result
+            (read_statement (drafted self.old) line.now.all.items line.now.answer.items) }
+    {
+        let tokens = line.all.as_slice();
+        let first = tokens.first();
+        if is_word(first, b"if") {
+            self.branch(alloc, after(tokens, 1), line.answer.as_slice())
+        } else if is_word(first, b"for") {
+            self.loop_head(alloc, after(tokens, 1))
+        } else if is_word(first, b"else") {
+            self.other(after(tokens, 1))
+        } else if is_word(first, b"end") {
+            self.end(after(tokens, 1))
+        } else if is_sign(tokens.get(1), Sign::Colon) {
+            self.label(tokens)
+        } else {
+            self.simple(alloc, tokens, line.answer.as_slice())
+        }
+    }
+}

@@ -34,7 +34,7 @@ ghost use Rattle.algorithm_lab.specs.declared.told.Told.TheVariants.{Answered};
 /// The text of the recoverable Bakery means the proved lock. For every schedule of starts of lock, unlock, recover and
 /// withdraw, of steps and of crashes, an algorithm with its lines says in the laboratory, move by move, what the lock says:
 /// the same deeds, the same answers, and a refusal with the same number. Then its shared words are the lock words. A world
-/// of it is refused for the sizes for which a lock is. That the text spells these lines is a test.
+/// of it is refused for the sizes for which a lock is. That the text spells such an algorithm is a test.
 pub fn the_text_means_the_lock()
     ensures said { (a : Algorithm) (n limit : ℕ) (moves : List Move) → IsBakery a → n ≤ 64 → limit ≤ 2 ^ 62
         → all_said text_move (first_monitor a n limit) moves ≡ all_said (lock_move n limit) at_rest moves }
@@ -79,8 +79,8 @@ pub fn the_text_plays_as_the_lock()
     ensures image { (n limit p : ℕ) (w : World) → p < n → own_at (image_of n limit w).lock p ≡ w.words p }
 {}
 
-/// No replay of the text of the recoverable Bakery is against, whatever its lines are: also where a line is refused, as one with
-/// a call that the text has not. `replayed` says it of what `replay_algorithm` answers.
+/// No replay of the text of the recoverable Bakery is against, whatever its sizes and its lines are: also where a line is refused,
+/// as one with a call that the text has not. `replayed` says it of what `replay_algorithm` answers.
 pub fn the_text_is_never_found_out()
     ensures judged { (a : Algorithm) (n limit : ℕ) (lines : List LineOf) → IsBakery a
         → verdict_of n (run_of a n limit lines).told ≡ Fine }

@@ -1,12 +1,14 @@
 -- The sizes of a run in range are those of a lab, and why a run has no tallies.
-use Rattle.std.proofs.Common.{◌≡◌, ◌⊎◌, ℕ, ◌-◌, ◌*◌, ◌^◌, ◌≤◌, min, refl, inl, inr, arith}
+use Rattle.std.proofs.Common.{◌≡◌, ◌⊎◌, ℕ, ◌-◌, ◌*◌, ◌^◌, ◌≤◌, min, refl, inl, inr, arith, subst, sym}
 use Rattle.std.proofs.Math.Nat.{min-eq_left, one-le-mul}
 use Rattle.std.proofs.lemmas.Nat.{mul-le}
 use Rattle.one_lock.specs.Lab.{IsBadSpec}
 use Rattle.one_lock.specs.LabEndings.{MayEndLab}
 use Rattle.one_lock.specs.declared.lab.lab_fault.LabFault.{LabFault}
 use Rattle.one_lock.specs.declared.lab.lab_fault.LabFault.TheVariants as of_lab
+use Rattle.one_lock.specs.declared.lab.spec.Spec.{Spec}
 use Rattle.cli.specs.declared.arguments.args.RunArgs.{RunArgs}
+use Rattle.commands.specs.declared.schedules.fault.CommandFault.{CommandFault}
 use Rattle.commands.specs.Commands.{HasNoTallies, lab_for}
 use Rattle.commands.specs.Faults.{fault_of_lab}
 use Rattle.cli.specs.Sizes.{RunFits}
@@ -45,3 +47,12 @@ lab_fails args (of_lab.Member p fault) bad (inl is) = cc
 lab_fails args (of_lab.Member p fault) bad (inr may) = may.0
 lab_fails args (of_lab.Reply p reply) bad (inl is) = cc
 lab_fails args (of_lab.Reply p reply) bad (inr may) = may.0
+
+-- the same by what the calls of a run say
+pub lab_fails_so : (args : RunArgs) (spec : Spec) (gates : ℕ) (fault : LabFault) (told : CommandFault) → spec ≡ lab_for args → gates ≡ args.procs
+    → told ≡ fault_of_lab fault → (fault ≡ of_lab.BadSpec → IsBadSpec spec gates) → (fault ≡ of_lab.BadSpec) ⊎ MayEndLab spec fault → HasNoTallies args told
+lab_fails_so args spec gates fault told sizes count is bad why =
+    subst (λ (f : CommandFault). HasNoTallies args f) (sym is)
+    (lab_fails args fault
+    (λ e. subst (λ (s : Spec). IsBadSpec s args.procs) sizes (subst (λ (n : ℕ). IsBadSpec spec n) count (bad e)))
+    (subst (λ (s : Spec). (fault ≡ of_lab.BadSpec) ⊎ MayEndLab s fault) sizes why))

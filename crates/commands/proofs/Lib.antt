@@ -16,3 +16,4 @@ pub mod Tapes
 pub mod Telling
 pub mod Holding
 pub mod Beginning
+pub mod Writing

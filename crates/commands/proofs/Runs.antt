@@ -1,12 +1,14 @@
 -- The sizes of a run in range are those of a lab, and why a run has no tallies.
-use Rattle.std.proofs.Common.{◌≡◌, ◌⊎◌, ℕ, ◌-◌, ◌*◌, ◌^◌, ◌≤◌, min, refl, inl, inr, arith}
+use Rattle.std.proofs.Common.{◌≡◌, ◌⊎◌, ℕ, ◌-◌, ◌*◌, ◌^◌, ◌≤◌, min, refl, inl, inr, arith, subst, sym}
 use Rattle.std.proofs.Math.Nat.{min-eq_left, one-le-mul}
 use Rattle.std.proofs.lemmas.Nat.{mul-le}
 use Rattle.one_lock.specs.Lab.{IsBadSpec}
-use Rattle.one_lock.specs.LabEndings.{MayEndLab}
+use Rattle.robust.specs.LabFaults.{EndsLab}
 use Rattle.one_lock.specs.declared.lab.lab_fault.LabFault.{LabFault}
 use Rattle.one_lock.specs.declared.lab.lab_fault.LabFault.TheVariants as of_lab
+use Rattle.one_lock.specs.declared.lab.spec.Spec.{Spec}
 use Rattle.cli.specs.declared.arguments.args.RunArgs.{RunArgs}
+use Rattle.commands.specs.declared.schedules.fault.CommandFault.{CommandFault}
 use Rattle.commands.specs.Commands.{HasNoTallies, lab_for}
 use Rattle.commands.specs.Faults.{fault_of_lab}
 use Rattle.cli.specs.Sizes.{RunFits}
@@ -38,10 +40,19 @@ fits_lab args fits (inr (inr (inr (inr (inr other))))) = other refl
 
 -- the fault of a lab that has a gate for each sender
 pub lab_fails : (args : RunArgs) (fault : LabFault) → (fault ≡ of_lab.BadSpec → IsBadSpec (lab_for args) args.procs)
-    → (fault ≡ of_lab.BadSpec) ⊎ MayEndLab (lab_for args) fault → HasNoTallies args (fault_of_lab fault)
+    → (fault ≡ of_lab.BadSpec) ⊎ EndsLab (lab_for args) fault → HasNoTallies args (fault_of_lab fault)
 lab_fails args of_lab.BadSpec bad why = λ fits. fits_lab args fits (bad refl)
 lab_fails args of_lab.OutOfMemory bad why = tt
 lab_fails args (of_lab.Member p fault) bad (inl is) = cc
 lab_fails args (of_lab.Member p fault) bad (inr may) = may.0
 lab_fails args (of_lab.Reply p reply) bad (inl is) = cc
 lab_fails args (of_lab.Reply p reply) bad (inr may) = may.0
+
+-- the same by what the calls of a run say
+pub lab_fails_so : (args : RunArgs) (spec : Spec) (gates : ℕ) (fault : LabFault) (told : CommandFault) → spec ≡ lab_for args → gates ≡ args.procs
+    → told ≡ fault_of_lab fault → (fault ≡ of_lab.BadSpec → IsBadSpec spec gates) → (fault ≡ of_lab.BadSpec) ⊎ EndsLab spec fault → HasNoTallies args told
+lab_fails_so args spec gates fault told sizes count is bad why =
+    subst (λ (f : CommandFault). HasNoTallies args f) (sym is)
+    (lab_fails args fault
+    (λ e. subst (λ (s : Spec). IsBadSpec s args.procs) sizes (subst (λ (n : ℕ). IsBadSpec spec n) count (bad e)))
+    (subst (λ (s : Spec). (fault ≡ of_lab.BadSpec) ⊎ EndsLab s fault) sizes why))

@@ -14,7 +14,7 @@ use Rattle.algorithm_texts.specs.LineReading.{read_statement, scope_in}
 use Rattle.algorithm_texts.specs.TextReading.{Spoken, with_number, begun, call_words, has_call, with_call, end_call_in, end_call, read_call, undeclared, read_each, read_bound, with_lasting, read_shared, read_private, read_declaration, read_line, read_lines, read_head, read_promises, read_text}
 use Rattle.algorithm_texts.specs.TextLines.{TextSays}
 use Rattle.algorithm_texts.specs.Blocks.{Block, lines_in, read_alone, begins_block, divides, ends, compiled, read_statements}
-use Rattle.algorithm_texts.specs.Finishing.{finished, EndSome, with_lines}
+use Rattle.algorithm_texts.specs.Finishing.{finished, EndUnreached, with_lines}
 use Rattle.algorithm_texts.specs.Programs.{CallLines, Program, calls_lines, program_lines, declarations_made, call_begun, calls_made, meant, Spells}
 use Rattle.algorithm_texts.proofs.BlockTrees.{some_of, if_of, round, Stays, stays, choice_stays, alone_stays, begins_calls, divides_calls, ends_calls}
 use Rattle.algorithm_texts.proofs.BlockPaths.{kinds, make_blocks}
@@ -237,7 +237,7 @@ text_makes_program spoken d e =
 
 -- the algorithm of a draft that is finished
 pub spelled : (text : List ℕ) (read ready checked : Draft) (spoken : List Spoken) → TextSays text spoken → read_text spoken ≡ Some (drafted read)
-    → finished (drafted read) ≡ Some (drafted ready) → EndSome (drafted ready).lines (drafted checked).lines
+    → finished (drafted read) ≡ Some (drafted ready) → EndUnreached (drafted ready) (drafted checked).lines
     → drafted checked ≡ with_lines (drafted checked).lines (drafted ready) → Spells text checked.algorithm
 spelled text read ready checked spoken says reads finishes ends kept =
     let p = text_makes_program spoken (drafted read) reads in

@@ -1,7 +1,7 @@
 -- Values and conditions are read as the grammar says them.
-use Rattle.std.proofs.Common.{◌≡◌, ℕ, List, Option, Some, refl, ap, ◌∙◌, subst}
+use Rattle.std.proofs.Common.{◌≡◌, ℕ, List, Some, refl, ap, subst}
 use Rattle.algorithm_texts.specs.declared.tokens.Token.{Token}
-use Rattle.algorithm_texts.specs.Parts.{Term, Formula, Part, Value, Condition, value_in, condition_in, ◌>>=◌}
+use Rattle.algorithm_texts.specs.Parts.{Term, Formula, Value, Condition, value_in, condition_in, ◌>>=◌}
 use Rattle.algorithm_texts.specs.Grammar.{Says}
 unfoldable use Rattle.algorithm_texts.specs.Operands.{reserved}
 use Rattle.algorithm_texts.specs.Stacks.{read_part}

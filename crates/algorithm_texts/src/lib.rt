@@ -8,6 +8,7 @@ mod filled;
 mod flow;
 pub mod laws;
 mod lines;
+mod marks;
 mod names;
 mod operands;
 mod parts;

@@ -4,8 +4,8 @@ ghost use Rattle.std.specs.Prelude.{◌≡◌, ◌==◌, ◌≤◌, ℕ, if◌th
 ghost use Rattle.algorithms.specs.Deeds.{SaysDeed};
 ghost use Rattle.algorithms.specs.Ranked.{LocalLinesEnd, AccessesLeadOn};
 ghost use Rattle.algorithms.specs.declared.line.Deed.TheVariants as deeds;
-ghost use Rattle.algorithm_texts.specs.Drafts.{drafted, form_of, line_of, local_form};
-ghost use Rattle.algorithm_texts.specs.Finishing.{is_way, EndsAt, EndSome, begins_of, call_in, finished, first_of, kind_led, with_entries, with_lines};
+ghost use Rattle.algorithm_texts.specs.Drafts.{drafted};
+ghost use Rattle.algorithm_texts.specs.Finishing.{EndUnreached, begins_of, call_in, finished, first_of, kind_led, with_entries, with_lines};
 ghost use Rattle.algorithm_texts.specs.Programs.{Spells};
 ghost use Rattle.algorithm_texts.specs.TextLines.{TextSays, and_line, second_said, spoken_of};
 ghost use Rattle.algorithm_texts.specs.TextReading.{IsEmpty, Spoken, begun, is_call, read_head, read_lines, read_text};
@@ -15,11 +15,12 @@ use crate::calls::{head, promises};
 use crate::filled::Filled;
 use crate::flow::Flow;
 use crate::lines::{CallRead, Draft};
+use crate::marks::{end_unmarked, mark_all, runs_stay};
 use crate::tokens::{tail, tokens_of};
 use algorithms::algorithm::{Algorithm, Call, Entries, Promises};
 use algorithms::deeds::says_deed;
 use algorithms::fault::{AlgorithmFault, LineFault};
-use algorithms::line::{Deed, Form, Line, LocalLine};
+use algorithms::line::Deed;
 use algorithms::ranks::lines_end;
 use std::alloc::{AllocError, Global};
 
@@ -307,104 +308,54 @@ fn check_calls(draft: &mut Draft) -> Result<(), AlgorithmFault>
 /// The calls that a text has, in the order in which they are checked.
 const CALLS: [Call; 4] = [Call::Lock, Call::Unlock, Call::Recover, Call::Withdraw];
 
-/// Whether it is the way past an `else`, or back to the head of a loop.
-fn is_local_way(line: &LocalLine) -> bool
-    ensures { result ≡ is_way (local_form line.now) }
-{
-    match line {
-        LocalLine::Goto(_) | LocalLine::Next { .. } => true,
-        LocalLine::Assign { .. } => false,
-        LocalLine::Note(_) => false,
-        LocalLine::Branch { .. } => false,
-        LocalLine::First { .. } => false,
-    }
-}
-
-/// Whether it is such a way.
-fn is_way(form: &Form) -> bool
-    ensures { result ≡ is_way (form_of form.now) }
-{
-    match form {
-        Form::Local(line) => is_local_way(line),
-        Form::Access(_) | Form::Done(_) => false,
-    }
-}
-
-/// Lets a line end its call, where it is such a way.
-fn end_way(line: &mut Line)
-    ensures { EndsAt (line_of line.old) (line_of line.new) }
-{
-    if is_way(&line.form) {
-        line.form = Form::Done(0);
-    }
-}
-
-/// Lets the line at a place end its call, where it is such a way.
-fn end_at(lines: &mut Vec<Line>, place: usize)
-    ensures { EndSome (map line_of lines.old.items) (map line_of lines.new.items) }
-{
-    if let Some(line) = lines.get_mut(place) {
-        end_way(line);
-    }
-}
-
-/// Lets the line at a place end its call, where no run comes to it and it is such a way.
-#[tactic(auto, using(crate::proofs::Endings::none_end))]
-fn end_where(lines: &mut Vec<Line>, place: usize, reached: &[bool])
-    ensures { EndSome (map line_of lines.old.items) (map line_of lines.new.items) }
-{
-    if reached.get(place).copied() == Some(false) {
-        end_at(lines, place);
-    }
-}
-
-/// Lets each line of a call to which no run comes end the call. Such a line has no text of its own: after a block that always
-/// ends in `goto` or `done`, it is the way past an `else`, or back to the head of a loop. What it is does not matter, since no
-/// run comes there. But there may be no line to which it would lead, and an end leads to none.
-fn end_unreached(lines: &mut Vec<Line>, call: CallRead, reached: &[bool])
-    ensures { EndSome (map line_of lines.old.items) (map line_of lines.new.items) }
-{
-    for place in call.from..call.to {
-        end_where(lines, place, reached);
-    }
-}
-
-/// Checks what the runs of a call may do, and lets those of its lines end it to which no run comes.
-fn check_run(alloc: Global, draft: &mut Draft, call: CallRead) -> Result<(), AlgorithmFault>
-    ensures lines { OnOk result (EndSome (drafted draft.old).lines (drafted draft.new).lines) }
-    ensures kept { drafted draft.new ≡ with_lines (drafted draft.new).lines (drafted draft.old) }
-{
+/// Marks the places to which the runs of a call come, and checks what they may do.
+fn check_run(
+    alloc: Global,
+    draft: &Draft,
+    call: CallRead,
+    marks: &mut [bool],
+) -> Result<(), AlgorithmFault> {
     let algorithm = &draft.algorithm;
     let reached = Flow::of(algorithm.lines.as_slice(), call, algorithm.least).check(
         alloc,
         draft.jumps.as_slice(),
         algorithm.lasting,
     )?;
-    end_unreached(&mut draft.algorithm.lines, call, reached.as_slice());
+    mark_all(marks, call, reached.as_slice());
     Ok(())
 }
 
-/// Checks what the runs of a call may do, if it is there.
-#[tactic(auto, using(crate::proofs::Endings::none_end))]
-fn check_kind(alloc: Global, draft: &mut Draft, call: Call) -> Result<(), AlgorithmFault>
-    ensures lines { OnOk result (EndSome (drafted draft.old).lines (drafted draft.new).lines) }
-    ensures kept { drafted draft.new ≡ with_lines (drafted draft.new).lines (drafted draft.old) }
-{
-    match call_of(draft, call) {
-        Some(call) => check_run(alloc, draft, call),
-        None => Ok(()),
+/// The places to which the runs of all calls come, where they do what they may.
+fn check_all(alloc: Global, draft: &Draft) -> Result<Vec<bool>, AlgorithmFault> {
+    let mut marks = vec![in alloc; false; draft.algorithm.lines.len()]?;
+    for call in CALLS {
+        if let Some(call) = call_of(draft, call) {
+            check_run(alloc, draft, call, marks.as_mut_slice())?;
+        }
     }
+    Ok(marks)
+}
+
+/// Lets lines to which no run comes end their calls. That the places that are marked lead to no other is looked at again: it is
+/// always so.
+fn end_ways(draft: &mut Draft, marks: &[bool]) -> Result<(), AlgorithmFault>
+    ensures lines { OnOk result (EndUnreached (drafted draft.old) (drafted draft.new).lines) }
+    ensures kept { OnOk result (drafted draft.new ≡ with_lines (drafted draft.new).lines (drafted draft.old)) }
+{
+    if !runs_stay(&draft.algorithm, marks) {
+        return Err(LineFault::Endless.at(draft.number));
+    }
+    end_unmarked(&mut draft.algorithm.lines, marks);
+    Ok(())
 }
 
 /// Checks what the runs of all calls may do.
 fn check_runs(alloc: Global, draft: &mut Draft) -> Result<(), AlgorithmFault>
-    ensures lines { OnOk result (EndSome (drafted draft.old).lines (drafted draft.new).lines) }
-    ensures kept { drafted draft.new ≡ with_lines (drafted draft.new).lines (drafted draft.old) }
+    ensures lines { OnOk result (EndUnreached (drafted draft.old) (drafted draft.new).lines) }
+    ensures kept { OnOk result (drafted draft.new ≡ with_lines (drafted draft.new).lines (drafted draft.old)) }
 {
-    for call in CALLS {
-        check_kind(alloc, draft, call)?;
-    }
-    Ok(())
+    let marks = check_all(alloc, draft)?;
+    end_ways(draft, marks.as_slice())
 }
 
 /// A rank for each line.
@@ -423,8 +374,8 @@ fn ranks(alloc: Global, draft: &Draft) -> Result<Vec<u64>, AllocError> {
 fn check_flow(alloc: Global, draft: &mut Draft) -> Result<(), AlgorithmFault>
     ensures ends { OnOk result (LocalLinesEnd draft.new.algorithm) }
     ensures leads { OnOk result (AccessesLeadOn draft.new.algorithm) }
-    ensures lines { OnOk result (EndSome (drafted draft.old).lines (drafted draft.new).lines) }
-    ensures kept { drafted draft.new ≡ with_lines (drafted draft.new).lines (drafted draft.old) }
+    ensures lines { OnOk result (EndUnreached (drafted draft.old) (drafted draft.new).lines) }
+    ensures kept { OnOk result (drafted draft.new ≡ with_lines (drafted draft.new).lines (drafted draft.old)) }
 {
     check_runs(alloc, draft)?;
     let ranks = ranks(alloc, draft)?;

@@ -5,4 +5,4 @@ pub returns-clause-spells : goal.returns-clause-spells
 returns-clause-spells c =
     let read = c.in_ok-draft.ensures in
     spelled c.args.text.now c.in_ok-draft.draft c.check_calls.new.draft c.check_flow.new.draft read.0 read.1 read.2 c.in_ok-check_calls.ensures c.in_ok-check_flow.ensures.lines
-    c.check_flow.ensures.kept
+    c.in_ok-check_flow.ensures.kept

@@ -1,0 +1,164 @@
+//! Lines to which no run comes.
+
+ghost use Rattle.std.specs.Prelude.{◌≡◌, ◌&&◌, ◌+◌, not, map, slice_get};
+ghost use Rattle.std.specs.List.{list_all};
+ghost use Rattle.std.specs.Option.{option_copied};
+ghost use Rattle.algorithm_texts.specs.Drafts.{form_of, head_of, line_of, lines_of, local_form};
+ghost use Rattle.algorithm_texts.specs.Finishing.{is_way, is_in, ways, line_stays, lines_stay, is_marked_where, entries_marked, EndsAt, EndSome};
+
+use crate::lines::CallRead;
+use algorithms::algorithm::{Algorithm, Entries};
+use algorithms::line::{Form, Line, LocalLine};
+use algorithms::ranks::has_round;
+
+/// Marks the places of a call that are reached.
+pub fn mark_all(marks: &mut [bool], call: CallRead, reached: &[bool]) {
+    for place in call.from..call.to {
+        if let Some(mark) = marks.get_mut(place) {
+            *mark = reached.get(place).copied().unwrap_or(false);
+        }
+    }
+}
+
+fn is_in(marks: &[bool], place: usize) -> bool
+    ensures { result ≡ is_in marks.now place }
+{
+    match marks.get(place) {
+        Some(mark) => *mark,
+        None => false,
+    }
+}
+
+/// Whether a local line leads to places that are marked alone.
+fn local_stays(least: u64, marks: &[bool], next: usize, line: &LocalLine) -> bool
+    ensures { result ≡ list_all (is_in marks.now) (ways least next (local_form line.now)) }
+{
+    match line {
+        LocalLine::Assign { .. } => is_in(marks, next),
+        LocalLine::Note(_) => is_in(marks, next),
+        LocalLine::Goto(place) => is_in(marks, *place),
+        LocalLine::Branch { otherwise, .. } => is_in(marks, next) && is_in(marks, *otherwise),
+        LocalLine::First { members, after, .. } => {
+            if has_round(least, *members) {
+                is_in(marks, next)
+            } else {
+                is_in(marks, next) && is_in(marks, *after)
+            }
+        }
+        LocalLine::Next { body, .. } => is_in(marks, *body) && is_in(marks, next),
+    }
+}
+
+/// Whether a line leads to places that are marked alone.
+fn form_stays(least: u64, marks: &[bool], next: usize, form: &Form) -> bool
+    ensures { result ≡ list_all (is_in marks.now) (ways least next (form_of form.now)) }
+{
+    match form {
+        Form::Access(_) => is_in(marks, next),
+        Form::Local(line) => local_stays(least, marks, next, line),
+        Form::Done(_) => true,
+    }
+}
+
+/// Whether the line at a place leads to places that are marked alone, where its own is.
+fn line_stays(least: u64, marks: &[bool], place: usize, next: usize, line: &Line) -> bool
+    requires { next ≡ place + 1 }
+    ensures { result ≡ line_stays least marks.now place (form_of line.now.form) }
+{
+    !is_in(marks, place) || form_stays(least, marks, next, &line.form)
+}
+
+/// Whether all lines lead from places that are marked to such places alone.
+fn lines_stay(least: u64, marks: &[bool], lines: &[Line]) -> bool
+    ensures { result ≡ lines_stay least marks.now 0 (map line_of lines.now) }
+{
+    let mut place = 0;
+    for line in lines {
+        let next = place + 1;
+        if !line_stays(least, marks, place, next, line) {
+            return false;
+        }
+        place = next;
+    }
+    true
+}
+
+fn is_marked_where(marks: &[bool], place: Option<usize>) -> bool
+    ensures { result ≡ is_marked_where marks.now place }
+{
+    match place {
+        Some(place) => is_in(marks, place),
+        None => true,
+    }
+}
+
+fn entries_marked(marks: &[bool], entries: Entries) -> bool
+    ensures { result ≡ entries_marked marks.now entries }
+{
+    is_in(marks, entries.lock)
+        && (is_in(marks, entries.unlock)
+            && (is_marked_where(marks, entries.recover)
+                && is_marked_where(marks, entries.withdraw)))
+}
+
+/// Whether calls begin at places that are marked, and all lines lead from such places to such places.
+pub fn runs_stay(algorithm: &Algorithm, marks: &[bool]) -> bool
+    ensures { result ≡ (entries_marked marks.now (head_of algorithm.now).entries
+        && lines_stay (head_of algorithm.now).least marks.now 0 (lines_of algorithm.now)) }
+{
+    entries_marked(marks, algorithm.entries)
+        && lines_stay(algorithm.least, marks, algorithm.lines.as_slice())
+}
+
+/// Whether it is the way past an `else`, or back to the head of a loop.
+fn is_local_way(line: &LocalLine) -> bool
+    ensures { result ≡ is_way (local_form line.now) }
+{
+    match line {
+        LocalLine::Goto(_) | LocalLine::Next { .. } => true,
+        LocalLine::Assign { .. } => false,
+        LocalLine::Note(_) => false,
+        LocalLine::Branch { .. } => false,
+        LocalLine::First { .. } => false,
+    }
+}
+
+/// Whether it is such a way.
+fn is_way(form: &Form) -> bool
+    ensures { result ≡ is_way (form_of form.now) }
+{
+    match form {
+        Form::Local(line) => is_local_way(line),
+        Form::Access(_) | Form::Done(_) => false,
+    }
+}
+
+/// Lets a line end its call, where it is such a way and is not marked.
+fn end_way(line: &mut Line, mark: bool)
+    ensures { EndsAt mark (line_of line.old) (line_of line.new) }
+{
+    if !mark && is_way(&line.form) {
+        line.form = Form::Done(0);
+    }
+}
+
+/// Lets the line at a place end its call, where it is such a way and is not marked.
+fn end_at(lines: &mut Vec<Line>, place: usize, marks: &[bool])
+    ensures { EndSome marks.now 0 (map line_of lines.old.items) (map line_of lines.new.items) }
+{
+    let mark = is_in(marks, place);
+    if let Some(line) = lines.get_mut(place) {
+        end_way(line, mark);
+    }
+}
+
+/// Lets each line to which no run comes end its call, where it is such a way. It has no text of its own: after a block that
+/// always ends in `goto` or `done`, it is the way past an `else`, or back to the head of a loop. What it is does not matter,
+/// since no run comes there. But there may be no line to which it would lead, and an end leads to none.
+pub fn end_unmarked(lines: &mut Vec<Line>, marks: &[bool])
+    ensures { EndSome marks.now 0 (map line_of lines.old.items) (map line_of lines.new.items) }
+{
+    for place in 0..marks.len() {
+        end_at(lines, place, marks);
+    }
+}

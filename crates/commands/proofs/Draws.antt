@@ -1,5 +1,5 @@
 -- If the schedule can't be read, nothing is written of its run.
-use Rattle.std.proofs.Common.{◌≡◌, ◌≤◌, ◌⊎◌, ℕ, List, Option, Err, refl, inl, inr, arith}
+use Rattle.std.proofs.Common.{◌≤◌, ◌⊎◌, ℕ, List, Option, Err, refl, inl, inr, arith}
 use Rattle.crashlab.specs.declared.variant.Variant.{Variant}
 use Rattle.commands.specs.declared.schedules.fault.CommandFault.{CommandFault}
 use Rattle.schedule.specs.Tapes.{Tape, Reading}

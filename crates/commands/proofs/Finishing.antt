@@ -1,7 +1,6 @@
 -- What is known of a command that ends without a fault, from how it ended before its output was flushed.
-use Rattle.std.proofs.Common.{◌≡◌, ◌⊎◌, ◌∙◌, Bool, true, is_some, Result, Ok, Err, IfOk, OnOk, inl, inr, refl, sym, ap, subst}
+use Rattle.std.proofs.Common.{◌≡◌, ◌⊎◌, ◌∙◌, Bool, Result, Ok, Err, IfOk, OnOk, inl, inr, refl, sym, ap, subst}
 use Rattle.schedule.specs.Tapes.{Tape}
-use Rattle.cli.specs.FilesNamed.{save_of}
 use Rattle.cli.specs.declared.arguments.args.Command.{Command}
 use Rattle.commands.specs.declared.schedules.ending.Ending.{Ending}
 use Rattle.commands.specs.declared.schedules.fault.CommandFault.{CommandFault}

@@ -6,7 +6,7 @@ ghost use Rattle.schedule.specs.Tapes.{Writes};
 ghost use Rattle.cli.specs.FilesNamed.{image_of, input_of, save_of};
 ghost use Rattle.commands.specs.Lines.{IsTold};
 ghost use Rattle.commands.specs.Folders.{is_session};
-ghost use Rattle.commands.specs.Programs.{Answers, Closes, Does, EndsOnFile, EndsOnInput, Finishes, IsAsked, IsProgram, IsUnasked, Obeys, opens_all, OpensSome, PrintsHelp, PrintsUsageError, RunsProgram, SavesAll, SessionEndsIn};
+ghost use Rattle.commands.specs.Programs.{Answers, Closes, Does, EndsOnFile, EndsOnInput, Finishes, IsAsked, IsProgram, IsUnasked, Obeys, opens_all, OpensSome, PrintsHelp, PrintsUsageError, RunsProgram, SavesAll, SessionEndsIn, unread};
 ghost use Rattle.commands.specs.Faults.{fault_of_opening, fault_of_saving};
 ghost use Rattle.std.specs.Process.{exit_status};
 
@@ -316,6 +316,22 @@ pub fn program<T: Threads + Wait + Sync, F: Folder, S: Screen, R: Source, W: Sin
     }
 }
 
+/// The program over an input of which nothing was read before.
+fn program_from_start<T: Threads + Wait + Sync, F: Folder, S: Screen, R: Source, W: Sink, E: Sink>(
+    rt: &T,
+    alloc: Global,
+    words: Result<Vec<String>, WordsFault>,
+    folder: &mut F,
+    screen: &mut S,
+    input: &mut R,
+    out: &mut W,
+    err: &mut E,
+) -> u8
+    ensures { R.reading input.old ≡ unread → RunsProgram words (F.used folder.old) (F.used folder.new) result }
+{
+    program(rt, alloc, words, folder, screen, input, out, err)
+}
+
 /// The exit status of the whole program over an input and two outputs.
 fn status_over<
     T: Threads + Wait + Sync,
@@ -341,7 +357,7 @@ fn status_over<
     match BufWriter::new(alloc, output) {
         Ok(buffer) => {
             let mut out = ToWriter::new(buffer);
-            program(
+            program_from_start(
                 rt, alloc, words, folder, screen, &mut input, &mut out, &mut err,
             )
         }

@@ -1,4 +1,4 @@
-use Rattle.std.proofs.Common.{◌≡◌, ℕ, ◌+◌, Bool, List, ◌++◌, length, Result, Ok, Err, IfOk, OnOk, IfErr, ◌∙◌, inl, inr, ap, subst}
+use Rattle.std.proofs.Common.{◌≡◌, ℕ, ◌+◌, List, ◌++◌, length, Result, Ok, Err, IfOk, OnOk, IfErr, ◌∙◌, inl, inr, ap, subst}
 use Rattle.schedule.specs.Schedules.{spelling}
 use Rattle.schedule.specs.Tapes.{Tape, Writes}
 use Rattle.explorer.specs.Fairness.{IsLassoOf, IsLeastLasso, IsNeverStarving}

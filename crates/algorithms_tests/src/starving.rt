@@ -54,8 +54,6 @@ const QUITTERS: &str = "\
 const AT_LENGTH: &str = "\
 == bakery 2 4 1 recover\n--\n7048 worlds\n\
 == bakery 2 4 1 recover any\n--\n0 starves, stem 15, cycle 5\n\
-== bakery 3 2 0 none\n--\n11071 worlds\n\
-== bakery 3 2 0 none any\n--\n1 starves, stem 18, cycle 10\n\
 ";
 
 const CALLS: [Call; 3] = [Call::Lock, Call::Unlock, Call::Recover];

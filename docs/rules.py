@@ -30,7 +30,7 @@ MADE = {
     "completions/rmelab.bash": "docs/from-help",
     "completions/_rmelab": "docs/from-help",
     "completions/rmelab.fish": "docs/from-help",
-    "c/man": "c/man-pages",
+    "c/man": "c/tools/man-pages",
     "examples/drawings": "rmelab draw",
     "examples/rows": "rmelab replay, rmelab judge",
 }
@@ -45,7 +45,7 @@ MADE_PARTS = {
     "docs/dev/architecture.md": "docs/from-sources",
     "docs/dev/testing.md": "docs/from-sources",
     "examples/algorithms/README.md": "docs/from-sources",
-    "docs/use/c.md": "docs/from-sources",  # And its table of calls c/man-pages.
+    "docs/use/c.md": "docs/from-sources",  # And its table of calls c/tools/man-pages.
 }
 
 # Facts that have one place: words that only this page may have, of those by hand.

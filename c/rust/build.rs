@@ -21,13 +21,10 @@ fn named() -> Option<PathBuf> {
 /// Has the Makefile of the folder above make the archive, as `make` does for C.
 fn made() -> Option<PathBuf> {
     let sources = Path::new(&env::var_os("CARGO_MANIFEST_DIR")?).parent()?.to_path_buf();
-    if !sources.join("Makefile").exists() || !sources.join("rme.c").exists() {
+    if !sources.join("Makefile").exists() || !sources.join("src/rme.c").exists() {
         return None;
     }
-    let shim = ["Makefile", "rme.c", "file.c", "reap.c", "status.c", "shim.h", "rme.h", "rme_status.h", "rme_machine.h"];
-    let log = ["log.c", "log_files.c", "log_segments.c", "log_read.c", "log_event.c", "log_status.c", "log.h", "rme_log.h"];
-    let machine = ["librme_machine.a", "../crates/rme_c/out/librme_c.a"];
-    for name in shim.iter().chain(&log).chain(&machine) {
+    for name in ["Makefile", "include", "src", "librme_machine.a", "../crates/rme_c/out/librme_c.a"] {
         let path = sources.join(name);
         if path.exists() {
             println!("cargo:rerun-if-changed={}", path.display());

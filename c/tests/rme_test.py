@@ -1,4 +1,4 @@
-"""Tests of rme.py, with processes that are killed: python3 c/rme_test.py, where rme.py finds the shared library."""
+"""Tests of rme.py, with processes that are killed: python3 c/tests/rme_test.py, where PYTHONPATH names the folder of rme.py."""
 
 import os
 import signal

@@ -116,7 +116,7 @@ _CALLS = {
 
 def _library():
     here = os.path.dirname(os.path.realpath(__file__))
-    beside = [os.path.join(here, *above, "librme.so.2") for above in [(), ("out",), ("..", ".."), ("..", "..", "..")]]
+    beside = [os.path.join(here, *above, "librme.so.2") for above in [(), ("..", "out"), ("..", ".."), ("..", "..", "..")]]
     named = os.environ.get("RME_LIBRARY") or next((path for path in beside if os.path.exists(path)), None)
     library = ctypes.CDLL(named or ctypes.util.find_library("rme") or "librme.so.2")
     for name, (answer, arguments) in _CALLS.items():

@@ -2,7 +2,7 @@
  *
  *     count lock|append PROCS WIDTH INDEX ROUNDS
  *
- * c/count runs it under callgrind twice, and prints what one round takes. */
+ * c/tools/count runs it under callgrind twice, and prints what one round takes. */
 #define _GNU_SOURCE
 #include "rme.h"
 

@@ -6,7 +6,7 @@ import os
 import re
 from typing import Iterator
 
-from rules import MADE_PARTS, TOP, repository_files, text_of
+from rules import MADE_PARTS, TOP, repository_files, root_paragraphs, text_of, used_by_crates
 
 PARSER, ARGUMENT = "crates/cli/src/arguments/parser.rt", "crates/cli/src/arguments/argument.rt"
 EXPLAIN = "crates/cli/src/explain"
@@ -158,16 +158,12 @@ def wrong_bodies() -> str:
 
 def first_sentence(crate: str) -> str:
     """What the inner comment of a crate's root says first."""
-    root = next(name for name in (f"crates/{crate}/src/lib.rt", f"crates/{crate}/src/main.rt") if os.path.exists(f"{TOP}/{name}"))
-    said = re.match(r"(?://!.*\n)+", text_of(root))
-    text = " ".join(line[3:].strip() for line in said[0].splitlines()) if said else ""
-    return cell(re.split(r"(?<=\.) (?=[A-Z])", text)[0].rstrip("."))
+    return cell(re.split(r"(?<=\.) (?=[A-Z])", root_paragraphs(crate)[0])[0].rstrip("."))
 
 
 def crates() -> str:
     """The crates, each after those that it uses."""
-    lines = re.findall(r"^(\w+)[^:\n]*:(.*)$", text_of("crates.txt"), re.M)
-    waiting, rows = {crate: used.split() for crate, used in lines}, ["| crate | what it is |", "|---|---|"]
+    waiting, rows = used_by_crates(), ["| crate | what it is |", "|---|---|"]
     while waiting:
         crate = next(name for name, used in waiting.items() if not set(used) & set(waiting))
         del waiting[crate]

@@ -160,6 +160,29 @@ def crates():
     return re.findall(r"^(\w+)[ :]", text_of("crates.txt"), re.M)
 
 
+def used_by_crates() -> dict[str, list[str]]:
+    """Of each crate the crates that it uses, those of the kit too."""
+    return {crate: used.split() for crate, used in re.findall(r"^(\w+)[^:\n]*:(.*)$", text_of("crates.txt"), re.M)}
+
+
+def root_of(crate: str) -> str:
+    """The root file of a crate."""
+    library = f"crates/{crate}/src/lib.rt"
+    return library if os.path.exists(os.path.join(TOP, library)) else f"crates/{crate}/src/main.rt"
+
+
+def root_paragraphs(crate: str) -> list[str]:
+    """The paragraphs of the comment at the head of a crate's root file."""
+    said = re.match(r"(?://!.*\n)*", text_of(root_of(crate)))
+    lines = [line[3:].strip() for line in said[0].splitlines()] if said else []
+    return [" ".join(text.split()) for text in "\n".join(lines).split("\n\n")]
+
+
+def is_made(name: str) -> bool:
+    """Whether a script makes the whole of this page."""
+    return name in MADE or re.fullmatch(r"crates/\w+/README\.md", name) is not None
+
+
 def blanked(text, pattern):
     """The text with each match made blank, so that every line keeps its number."""
     return pattern.sub(lambda match: re.sub(r"[^\n]", " ", match[0]), text)
@@ -433,7 +456,7 @@ def glossary_too_long():
 
 
 def pages_by_hand() -> list[str]:
-    return [page for page in pages() if page not in MADE]
+    return [page for page in pages() if not is_made(page)]
 
 
 def too_many_words() -> Iterator[str]:

@@ -1,4 +1,6 @@
 //! The laboratory over algorithms as texts: runs of schedules before the judge, and their reports.
+//!
+//! Main items: `Monitor`, `replay_algorithm`, `laws`.
 #![tactic(auto)]
 
 mod heard;

@@ -1,4 +1,7 @@
-//! Algorithms of mutual exclusion from texts.
+//! Reads algorithms of mutual exclusion from texts. A text that breaks a rule of the format is refused, with the line and the
+//! first rule that it breaks. What an algorithm is, and how it runs, is in `algorithms`.
+//!
+//! Main items: `read_algorithm`, `flow`, `laws`.
 #![tactic(auto)]
 
 mod blocks;

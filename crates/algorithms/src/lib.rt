@@ -1,4 +1,6 @@
 //! Algorithms of mutual exclusion as data: their lines, and the worlds in which processes take them one access at a time.
+//!
+//! Main items: `Algorithm`, `World`, `Process`.
 #![tactic(auto)]
 
 pub mod access;

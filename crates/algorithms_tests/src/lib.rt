@@ -1,4 +1,6 @@
-//! Tests of algorithms as texts.
+//! Tests of algorithms as texts: what is read, refused, run, drawn, searched, hunted and minimized, against a reference program.
+//!
+//! Main items: `texts`, `runs`, `searches`.
 #![tactic(auto)]
 
 #[cfg(test)]

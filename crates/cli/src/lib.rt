@@ -1,4 +1,6 @@
 //! The command line of `rmelab`: its commands, the words that spell them, and what the names and numbers of its output mean.
+//!
+//! Main items: `Command`, `read_words`, `meaning_of`.
 #![tactic(auto)]
 
 pub mod arguments;

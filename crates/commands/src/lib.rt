@@ -1,4 +1,6 @@
 //! The commands of `rmelab`, and the whole program over its words, a folder of files, a reader and two writers.
+//!
+//! Main items: `run_program`, `command`, `Folder`.
 #![tactic(auto)]
 
 pub mod algorithm_exploring;

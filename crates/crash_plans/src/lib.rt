@@ -1,4 +1,7 @@
-//! Crash plans: at each asking a plan decides whether its process crashes there.
+//! Crash plans: at each asking a plan decides whether its process crashes there. A member of the running lock asks its plan before
+//! each step.
+//!
+//! Main items: `CrashPlan`, `At`, `Seeded`.
 #![tactic(auto)]
 
 mod asking_counter;

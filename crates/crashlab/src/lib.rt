@@ -1,4 +1,6 @@
 //! Wrong variants of the lock, the hunt that finds their faults, and the minimizing of schedules.
+//!
+//! Main items: `Variant`, `hunt`, `shrink`.
 #![tactic(auto)]
 
 pub mod change;

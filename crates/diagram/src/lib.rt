@@ -1,4 +1,6 @@
 //! A schedule's run as a space-time diagram: rows that a machine's steps make, and their spelling as text and as SVG.
+//!
+//! Main items: `Drawing`, `draw`, `Session`.
 #![tactic(auto)]
 
 pub mod act;

@@ -1,4 +1,7 @@
 //! The judge: it decides which lists of deeds a recoverable first-come first-served lock with a mailbox can have made.
+//! It refuses the first deed that is against a rule, and names the rule.
+//!
+//! Main items: `Judge`, `Start`, `laws`.
 #![tactic(auto)]
 
 pub mod ahead;

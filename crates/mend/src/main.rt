@@ -1,4 +1,6 @@
 //! An example: three senders on threads of their own. One has died inside: it comes back, mends and goes on.
+//!
+//! Main item: `send`.
 #![tactic(auto)]
 
 use crash_plans::{At, Never};

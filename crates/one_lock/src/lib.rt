@@ -3,6 +3,8 @@
 //!
 //! It answers as the running lock does, and asks its plans as often. Whenever its mutex is free, some run has as many steps
 //! as the ledger's book counts, has the stored history as its deeds, and ends in the world under the mutex.
+//!
+//! Main items: `Arena`, `Member`, `run_lab`.
 #![tactic(auto)]
 
 pub mod arena;

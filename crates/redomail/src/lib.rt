@@ -1,5 +1,7 @@
 //! The mailbox: a redo record and a list of places in data words, and the tasks that write them, one load or store at a
 //! time.
+//!
+//! Main items: `Task`, `Job`, `Layout`.
 #![tactic(auto)]
 
 pub mod cells;

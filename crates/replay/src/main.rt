@@ -1,5 +1,7 @@
 //! `replay`: reads a schedule from standard input and prints its report, as `rmelab replay` does for the right lock. It uses
 //! the simulated side alone, so that a first proved report needs few libraries.
+//!
+//! Main item: `report`.
 #![tactic(auto)]
 
 use schedule::{ReplayFault, replay_to_writer};

@@ -1,6 +1,8 @@
 //! The machine of one process for C, as a static library: which shared word it loads or stores next, and what that step did.
 //! C keeps the private memory of the process as plain numbers, and takes each step itself, as one sequentially consistent
 //! load or store. Only the judgement of a copied block takes memory.
+//!
+//! Main items: `RmeProcess`, `exports`, `blocks`.
 #![tactic(auto)]
 
 mod accesses;

@@ -1,4 +1,6 @@
 //! `rmebench`: repeats the calls of members of the running lock, so that they can be timed from outside.
+//!
+//! Main items: `Order`, `enter`, `send`.
 #![tactic(auto)]
 
 mod fault;

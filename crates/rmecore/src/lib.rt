@@ -1,5 +1,7 @@
 //! The lock: a recoverable, first-come first-served Bakery. This crate has its definitions, the laws over every run, and the
 //! lock's core in simulation.
+//!
+//! Main items: `LockProcess`, `Core`, `laws`.
 #![tactic(auto)]
 
 pub mod access;

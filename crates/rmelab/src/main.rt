@@ -1,4 +1,7 @@
-//! `rmelab`: a laboratory of recoverable first-come first-served locks.
+//! `rmelab`: a laboratory of recoverable first-come first-served locks. Its commands are in `commands`, their words in `cli`,
+//! and `rmelab_tests` runs whole invocations.
+//!
+//! Main item: `main`.
 #![tactic(auto)]
 
 pub use cli::arguments::args::Command;
@@ -12,6 +15,7 @@ pub use commands::schedules::ending::Ending;
 use std::io::IsTerminal;
 use std::process::ExitCode;
 
+/// Runs the program on its words, the files of the system, and the standard streams.
 fn main(rt: HostRuntime) -> ExitCode {
     let mut folder = Disk::new(&rt);
     let mut screen = Terminal::new(&rt, rt.stderr(), rt.stderr().is_terminal());

@@ -1,4 +1,6 @@
 //! Tests of the program: whole invocations over a folder in memory; and each request for memory is refused in turn.
+//!
+//! Main items: `program`, `replays`, `searches`.
 #![tactic(auto)]
 
 #[cfg(test)]

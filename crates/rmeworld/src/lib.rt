@@ -1,4 +1,6 @@
 //! A whole world: processes over lock words and data words, their calls and answers, the history of deeds, and images.
+//!
+//! Main items: `World`, `Process`, `Image`.
 #![tactic(auto)]
 
 pub mod answer;

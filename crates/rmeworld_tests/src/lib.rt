@@ -1,5 +1,7 @@
 //! The worked rows of the lock in simulation: cores, mailboxes, judges, whole worlds with their images, and crash plans.
 //! Each test names public functions of `rmecore`, `redomail`, `judge`, `rmeworld` and `crash_plans`.
+//!
+//! Main items: `cores`, `worlds`, `mailboxes`.
 #![tactic(auto)]
 
 #[cfg(test)]

@@ -1,4 +1,6 @@
 //! The running lock: members that step over the words of one atomic table. Each has a view, a prefix of one run.
+//!
+//! Main items: `Arena`, `Member`, `laws`.
 #![tactic(auto)]
 
 pub mod access;

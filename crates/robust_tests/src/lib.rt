@@ -1,5 +1,7 @@
 //! Tests of the running lock and of its plain reference: the worked rows over members, and members that crash. The rows are
 //! played on both locks where both have the calls.
+//!
+//! Main items: `both`, `sweeps`, `labs`.
 #![tactic(auto)]
 
 #[cfg(test)]

@@ -1,4 +1,6 @@
 //! Schedules, traces and reports: their texts, the replay of a schedule on any machine, and the judging of a trace.
+//!
+//! Main items: `Schedule`, `replay`, `judge_trace`.
 #![tactic(auto)]
 
 pub mod lexer;

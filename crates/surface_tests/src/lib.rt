@@ -1,5 +1,7 @@
 //! Names each public item that users rely on, by its path and with its signature, so that none of them can move, change or go
 //! without this crate failing to compile. What the items do is tested elsewhere.
+//!
+//! Main items: `of_rmecore`, `of_robust`, `of_schedule`.
 #![tactic(auto)]
 
 pub mod of_crashlab;

@@ -137,6 +137,7 @@ LINK = re.compile(r"\]\(([^)\s#]*)(?:#([^)\s]*))?\)")
 MENTION = re.compile(r"\bdocs/[\w/-]+\.(?:md|1)\b|\bdocs/[\w/-]*\b(?:check|from-help)\b")
 
 
+@functools.cache
 def text_of(name):
     with open(os.path.join(TOP, name), encoding="utf-8") as file:
         return file.read()
@@ -322,6 +323,7 @@ def body_of(code, at):
     return None
 
 
+@functools.cache
 def code_of(text):
     """The text without comments, and with nothing in its strings and characters."""
     return blanked(text, RATTLE)

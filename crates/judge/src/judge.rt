@@ -390,7 +390,7 @@ impl Judge {
     }
 }
 
-// Whether all counts are at most `most`.
+/// Whether all counts are at most `most`.
 fn all_within(counts: &[u64], most: u64) -> bool
     ensures { IsTrue result ↔ ((p : ℕ) → p < length counts.now → slice_index counts.now p ≤ most) }
 {

@@ -34,7 +34,7 @@ pub fn content<A: Allocator>(
     Ok(shown(alloc, layout, words)?)
 }
 
-// Whether the entries and the record keep their rules.
+/// Whether the entries and the record keep their rules.
 fn entries_hold(layout: Layout, words: &[u64]) -> bool
     requires { HeadsHold layout words.now }
     ensures { IsTrue result ↔ EntriesHold layout words.now }
@@ -53,7 +53,7 @@ pub fn counters() -> [u64; 64]
     [0; 64]
 }
 
-// The word at an index, 0 past the end.
+/// The word at an index, 0 past the end.
 fn word(words: &[u64], i: u64) -> u64
     ensures { result ≡ slice_index words.now i }
 {
@@ -102,7 +102,7 @@ pub fn value_at(words: &[u64], i: u64, width: u64) -> Body
     value
 }
 
-// Whether two ranges of words are equal.
+/// Whether two ranges of words are equal.
 fn same_rows(words: &[u64], i: u64, j: u64, width: u64) -> bool
     requires first { i + width ≤ length words.now }
     requires second { j + width ≤ length words.now }
@@ -111,7 +111,7 @@ fn same_rows(words: &[u64], i: u64, j: u64, width: u64) -> bool
     words[i as usize..(i + width) as usize] == words[j as usize..(j + width) as usize]
 }
 
-// The entry at a place.
+/// The entry at a place.
 fn entry(layout: Layout, words: &[u64], a: u64) -> Message
     requires heads { HeadsHold layout words.now }
     requires room { a < layout.cap }
@@ -125,7 +125,7 @@ fn entry(layout: Layout, words: &[u64], a: u64) -> Message
     }
 }
 
-// The messages of the entries below count.
+/// The messages of the entries below count.
 fn shown<A: Allocator>(
     alloc: A,
     layout: Layout,
@@ -153,8 +153,8 @@ pub fn count_entries(layout: Layout, words: &[u64], counts: &mut [u64]) -> bool
     count_from(layout, words, 0, counts)
 }
 
-// Whether each entry below count has a sender, and those of the processes from `first` on, one for each counter, are
-// numbered. If so, `counts` has the number of messages of each of these processes. `counts` is all zero at first.
+/// Whether each entry below count has a sender, and those of the processes from `first` on, one for each counter, are
+/// numbered. If so, `counts` has the number of messages of each of these processes. `counts` is all zero at first.
 fn count_from(layout: Layout, words: &[u64], first: u64, counts: &mut [u64]) -> bool
     requires heads { HeadsHold layout words.now }
     requires zero { (q : ℕ) → slice_index counts.old q ≡ 0 }
@@ -174,7 +174,7 @@ fn count_from(layout: Layout, words: &[u64], first: u64, counts: &mut [u64]) -> 
     true
 }
 
-// Counts an entry, where its sender has a counter. False: it has another number than the next of its sender.
+/// Counts an entry, where its sender has a counter. False: it has another number than the next of its sender.
 fn count_entry(message: &Message, first: u64, counts: &mut [u64]) -> bool
     ensures other { (first ≤ message.now.sender → message.now.sender < first + length counts.old → ⊥)
         → IsTrue result × (counts.new ≡ counts.old) }
@@ -206,7 +206,7 @@ pub fn lasts_are(layout: Layout, words: &[u64], counts: &[u64], but: u64) -> boo
     lasts_from(layout, words, 0, counts, but)
 }
 
-// Whether the last numbers of the processes from `first` on, one for each count, equal these counts, except that of `but`.
+/// Whether the last numbers of the processes from `first` on, one for each count, equal these counts, except that of `but`.
 #[tactic(auto, using(crate::proofs::Words::place_low))]
 fn lasts_from(layout: Layout, words: &[u64], first: u64, counts: &[u64], but: u64) -> bool
     requires heads { HeadsHold layout words.now }
@@ -222,7 +222,7 @@ fn lasts_from(layout: Layout, words: &[u64], first: u64, counts: &[u64], but: u6
     true
 }
 
-// Whether the list rule holds for the 64 processes from `first` on, or as many as there are, except `but`.
+/// Whether the list rule holds for the 64 processes from `first` on, or as many as there are, except `but`.
 fn are_listed_from(layout: Layout, words: &[u64], first: u64, but: u64) -> bool
     requires heads { HeadsHold layout words.now }
     requires first { first ≤ layout.procs }
@@ -232,8 +232,8 @@ fn are_listed_from(layout: Layout, words: &[u64], first: u64, but: u64) -> bool
     count_from(layout, words, first, &mut counts) && lasts_from(layout, words, first, &counts, but)
 }
 
-// Whether the list rule holds for all processes except `but`. It reads the entries once for 64 processes, whose counters are
-// on the stack.
+/// Whether the list rule holds for all processes except `but`. It reads the entries once for 64 processes, whose counters are
+/// on the stack.
 fn are_listed(layout: Layout, words: &[u64], but: u64) -> bool
     requires { HeadsHold layout words.now }
     ensures { IsTrue result ↔ IsListedBut layout (words_of words.now) (slice_index words.now 2) but }
@@ -247,7 +247,7 @@ fn are_listed(layout: Layout, words: &[u64], but: u64) -> bool
     true
 }
 
-// Whether the entry at the record's place is the record's message, sent by p.
+/// Whether the entry at the record's place is the record's message, sent by p.
 fn is_recorded(layout: Layout, words: &[u64], p: u64) -> bool
     requires heads { HeadsHold layout words.now }
     requires room { slice_index words.now 4 < layout.cap }
@@ -271,7 +271,7 @@ pub fn has_record(layout: Layout, words: &[u64], counts: &[u64], p: u64) -> bool
     lasts_are(layout, words, counts, p) && fits_record(layout, words, counts[p as usize], p)
 }
 
-// Whether the record rule holds for p, where the list rule holds for all others. `counted` is the number of p's entries.
+/// Whether the record rule holds for p, where the list rule holds for all others. `counted` is the number of p's entries.
 #[tactic(auto, using(crate::proofs::Words::place_low))]
 fn fits_record(layout: Layout, words: &[u64], counted: u64, p: u64) -> bool
     requires heads { HeadsHold layout words.now }
@@ -296,7 +296,7 @@ fn fits_record(layout: Layout, words: &[u64], counted: u64, p: u64) -> bool
     count == at + 1 && last == counted && is_recorded(layout, words, p)
 }
 
-// The number of p's entries below count.
+/// The number of p's entries below count.
 fn counted(layout: Layout, words: &[u64], p: u64) -> u64
     requires { HeadsHold layout words.now }
     ensures { result ≡ count_of p (entries layout (words_of words.now) (slice_index words.now 2)) }
@@ -310,7 +310,7 @@ fn counted(layout: Layout, words: &[u64], p: u64) -> u64
     counted
 }
 
-// Whether p is a process for which the record rule holds.
+/// Whether p is a process for which the record rule holds.
 fn keeps_record(layout: Layout, words: &[u64], p: u64) -> bool
     requires { HeadsHold layout words.now }
     ensures { IsTrue result ↔ ((p < layout.procs) × RecordRule layout p (words_of words.now)) }
@@ -320,7 +320,7 @@ fn keeps_record(layout: Layout, words: &[u64], p: u64) -> bool
         && fits_record(layout, words, counted(layout, words, p), p)
 }
 
-// A process whose last number is the one before the record's.
+/// A process whose last number is the one before the record's.
 #[tactic(auto, using(crate::proofs::Words::place_low))]
 fn find_next(layout: Layout, words: &[u64]) -> Option<u64>
     requires { HeadsHold layout words.now }
@@ -336,8 +336,8 @@ fn find_next(layout: Layout, words: &[u64]) -> Option<u64>
     None
 }
 
-// Whether the record rule holds for some process. It then holds for the sender of the entry at the record's place, or for any
-// process whose last number is the one before the record's: the list rule holds for all of these.
+/// Whether the record rule holds for some process. It then holds for the sender of the entry at the record's place, or for any
+/// process whose last number is the one before the record's: the list rule holds for all of these.
 fn some_record(layout: Layout, words: &[u64]) -> bool
     requires { HeadsHold layout words.now }
     ensures { IsTrue result ↔ ((q : ℕ) × (q < layout.procs) × RecordRule layout q (words_of words.now)) }

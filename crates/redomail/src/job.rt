@@ -150,7 +150,7 @@ impl Job {
     }
 }
 
-// The first cause to refuse this task.
+/// The first cause to refuse this task.
 fn check(layout: &Layout, sender: u64, task: &Task) -> Result<(), Refusal>
     ensures allowed { OnOk result (refusal_of layout.now sender task.now ≡ None) }
     ensures refused { IfErr result (λ refusal. refusal_of layout.now sender task.now ≡ Some refusal) }

@@ -16,7 +16,7 @@ pub struct Record {
 }
 
 impl Record {
-    // Word `j` of a row: `first`, the number, then the words of the value.
+    /// Word `j` of a row: `first`, the number, then the words of the value.
     fn word(&self, first: u64, j: u64) -> u64
         ensures { result ≡ slice_index (first ∷ self.now.seq ∷ self.now.value) j }
     {

@@ -143,7 +143,7 @@ impl JobStage {
         }
     }
 
-    // A step of a stage that stores no record.
+    /// A step of a stage that stores no record.
     // Apart: keeps the caller small.
     #[inline(never)]
     fn ask_on(&mut self, layout: Layout, sender: u64, word: u64)
@@ -158,7 +158,7 @@ impl JobStage {
         *self = self.after(layout, sender, word);
     }
 
-    // The stage after one that stores no record, with the word that was read.
+    /// The stage after one that stores no record, with the word that was read.
     // Inline: its one caller is apart.
     #[inline(always)]
     fn after(&self, layout: Layout, sender: u64, word: u64) -> JobStage
@@ -207,7 +207,7 @@ impl JobStage {
     }
 }
 
-// Whether a repair that has read `read` words of the record's value has one more to read.
+/// Whether a repair that has read `read` words of the record's value has one more to read.
 fn is_short(layout: Layout, words: [u64; 8], read: u64) -> bool
     ensures short { IsTrue result ↔ (read < layout.width) }
     ensures room { length words ≡ 8 }
@@ -217,7 +217,7 @@ fn is_short(layout: Layout, words: [u64; 8], read: u64) -> bool
     read < layout.width
 }
 
-// The stage of a repair after one more word of the record's value.
+/// The stage of a repair after one more word of the record's value.
 fn read_on(layout: Layout, at: u64, seq: u64, words: [u64; 8], read: u64, word: u64) -> JobStage
     requires lawful { IsLayout layout }
     requires within { read < layout.width }
@@ -238,7 +238,7 @@ fn read_on(layout: Layout, at: u64, seq: u64, words: [u64; 8], read: u64, word: 
     JobStage::Write(Record { at, seq, value }, 3 + read, Reply::Mended(true))
 }
 
-// What an append does after it has read its three words: the first condition that holds decides.
+/// What an append does after it has read its three words: the first condition that holds decides.
 fn decided(layout: Layout, seq: u64, value: Body, closed: u64, count: u64, last: u64) -> JobStage
     requires lawful { IsLayout layout }
     requires fits { length value ≡ layout.width }

@@ -69,6 +69,7 @@ impl Model for World {
     ghost invariant = { λ w. IsWorld (record { layout = w.layout; limit = w.limit; words = w.words.items; cells = w.cells.items; processes = w.processes.items; tallies = w.tallies.items; history = w.history.items }) };
 }
 
+/// The processes of a new world, each at rest with nothing under way.
 fn all_at_rest(alloc: Global, layout: Layout, limit: u64) -> Result<Vec<Process>, Refusal>
     requires { IsSize layout }
     ensures each { IfOk result (λ processes. (p : ℕ) → p < layout.procs
@@ -83,6 +84,7 @@ fn all_at_rest(alloc: Global, layout: Layout, limit: u64) -> Result<Vec<Process>
     Ok(processes)
 }
 
+/// The processes of a world that goes on from an image: each has crashed.
 fn all_crashed(alloc: Global, layout: Layout, limit: u64) -> Result<Vec<Process>, Refusal>
     requires { IsSize layout }
     ensures each { IfOk result (λ processes. (p : ℕ) → p < layout.procs
@@ -410,6 +412,7 @@ impl World {
         Ok(self.tally(p)?.began)
     }
 
+    /// The counts of a process's last call. `NoSuchProcess`: there are fewer processes.
     fn tally(&self, p: u64) -> Result<Tally, Refusal>
         ensures ok { IfOk result (λ tally. (p < self.now.layout.procs) × (tally ≡ tally_at self.now.tallies p)) }
         ensures taking { IsExact (tally_at self.now.tallies p) → p < self.now.layout.procs

@@ -36,7 +36,7 @@ pub fn start_of(alloc: Global, image: &Image) -> Result<Start, Refusal>
     started(alloc, image)
 }
 
-// The start of a lawful image.
+/// The start of a lawful image.
 fn started(alloc: Global, image: &Image) -> Result<Start, Refusal>
     requires { IsLawfulImage image.now }
     ensures start { IfOk result (IsStartOf image.now) }
@@ -59,7 +59,7 @@ fn started(alloc: Global, image: &Image) -> Result<Start, Refusal>
     })
 }
 
-// The messages shown in a lawful image.
+/// The messages shown in a lawful image.
 fn shown(alloc: Global, image: &Image) -> Result<Vec<Message>, Refusal>
     requires { IsLawfulImage image.now }
     ensures ok { IfOk result (λ messages. messages.items ≡ shown_in image.now) }
@@ -68,7 +68,7 @@ fn shown(alloc: Global, image: &Image) -> Result<Vec<Message>, Refusal>
     content(alloc, layout(image), image.cells.as_slice())
 }
 
-// The phase that a process's words describe.
+/// The phase that a process's words describe.
 fn phase(own: &Own) -> Phase
     ensures { result ≡ phase_by own.now }
 {
@@ -85,6 +85,7 @@ fn phase(own: &Own) -> Phase
     }
 }
 
+/// The phases that the words of all processes describe.
 fn phases(alloc: Global, lock: &[Own]) -> Result<Vec<Phase>, AllocError>
     ensures { IfOk result (λ phases. phases.items ≡ map phase_by lock.now) }
 {
@@ -95,8 +96,8 @@ fn phases(alloc: Global, lock: &[Own]) -> Result<Vec<Phase>, AllocError>
     Ok(phases)
 }
 
-// Whether q is ahead of p. All ready processes are ahead of one in the doorway. Of a ready process, those with a smaller
-// pair are ahead.
+/// Whether q is ahead of p. All ready processes are ahead of one in the doorway. Of a ready process, those with a smaller
+/// pair are ahead.
 fn is_ahead(lock: &[Own], p: u64, q: u64) -> bool
     requires first { p < length lock.now }
     requires second { q < length lock.now }
@@ -114,7 +115,7 @@ fn is_ahead(lock: &[Own], p: u64, q: u64) -> bool
     }
 }
 
-// The processes ahead of p.
+/// The processes ahead of p.
 fn ahead_of(alloc: Global, lock: &[Own], p: u64) -> Result<Vec<u64>, AllocError>
     requires { p < length lock.now }
     ensures { IfOk result (λ names. (q : ℕ) → is_named names.items q ≡ (start_by (own_at lock.now)).ahead p q) }
@@ -128,6 +129,7 @@ fn ahead_of(alloc: Global, lock: &[Own], p: u64) -> Result<Vec<u64>, AllocError>
     Ok(names)
 }
 
+/// For each process the processes ahead of it.
 fn ahead_sets(alloc: Global, lock: &[Own]) -> Result<Vec<Vec<u64>>, AllocError>
     ensures each { IfOk result (λ sets. length sets.items ≡ length lock.now) }
     ensures ahead { IfOk result (λ sets. (p q : ℕ) → is_named (slice_index_or (map (λ names. names.items) sets.items) p []) q
@@ -140,7 +142,7 @@ fn ahead_sets(alloc: Global, lock: &[Own]) -> Result<Vec<Vec<u64>>, AllocError>
     Ok(sets)
 }
 
-// The message that is committed and not shown yet. Its sender is the process inside.
+/// The message that is committed and not shown yet. Its sender is the process inside.
 fn pending(image: &Image) -> Option<Message>
     requires { IsLawfulImage image.now }
     ensures { (p : ℕ) → IsInAlone image.now p → result ≡ (mailbox_of (layout_of image.now) p (words_of image.now.cells)).pending }

@@ -18,7 +18,7 @@ use std::alloc::Global;
 // The refusal for a text that is not an image's JSON.
 const MISSHAPEN: Refusal = Refusal::BadImage { rule: 1 };
 
-// Takes the first member of an object, which must have this name.
+/// Takes the first member of an object, which must have this name.
 fn take(members: &mut Map<String, Value>, name: &str) -> Result<Value, Refusal>
     ensures ok { IfOk result (λ v. members_view members.old.entries ≡ member name.now (view v) (members_view members.new.entries)) }
     ensures err { IfErr result (λ e. (e ≡ BadImage 1) × ((d : Data) (ms : Members)
@@ -30,7 +30,7 @@ fn take(members: &mut Map<String, Value>, name: &str) -> Result<Value, Refusal>
     }
 }
 
-// The value as a whole number.
+/// The value as a whole number.
 fn whole(value: &Value) -> Result<u64, Refusal>
     ensures ok { IfOk result (λ n. view value.now ≡ whole_data n) }
     ensures err { IfErr result (λ e. (e ≡ BadImage 1) × ((n : ℕ) → view value.now ≡ whole_data n → ⊥)) }
@@ -41,7 +41,7 @@ fn whole(value: &Value) -> Result<u64, Refusal>
     }
 }
 
-// The value as a list of whole numbers.
+/// The value as a list of whole numbers.
 fn numbers(alloc: Global, value: &Value) -> Result<Vec<u64>, Refusal>
     ensures ok { IfOk result (λ ns. view value.now ≡ list_data ns.items) }
     ensures err { IfErr result (λ e. (e ≡ OutOfMemory)
@@ -57,7 +57,7 @@ fn numbers(alloc: Global, value: &Value) -> Result<Vec<u64>, Refusal>
     Ok(numbers)
 }
 
-// The value as the lock words of a process, a list of three numbers.
+/// The value as the lock words of a process, a list of three numbers.
 fn own(value: &Value) -> Result<Own, Refusal>
     ensures ok { IfOk result (λ x. view value.now ≡ own_data x) }
     ensures err { IfErr result (λ e. (e ≡ BadImage 1) × ((x : OwnOf) → view value.now ≡ own_data x → ⊥)) }
@@ -75,7 +75,7 @@ fn own(value: &Value) -> Result<Own, Refusal>
     })
 }
 
-// The value as a list of lock words.
+/// The value as a list of lock words.
 fn owns(alloc: Global, value: &Value) -> Result<Vec<Own>, Refusal>
     ensures ok { IfOk result (λ xs. view value.now ≡ lock_data xs.items) }
     ensures err { IfErr result (λ e. (e ≡ OutOfMemory)
@@ -91,7 +91,7 @@ fn owns(alloc: Global, value: &Value) -> Result<Vec<Own>, Refusal>
     Ok(owns)
 }
 
-// Takes the first member, a whole number.
+/// Takes the first member, a whole number.
 fn take_whole(members: &mut Map<String, Value>, name: &str) -> Result<u64, Refusal>
     ensures ok { IfOk result (λ n. members_view members.old.entries
         ≡ member name.now (whole_data n) (members_view members.new.entries)) }
@@ -102,7 +102,7 @@ fn take_whole(members: &mut Map<String, Value>, name: &str) -> Result<u64, Refus
     whole(&value)
 }
 
-// Takes the first member, a list of whole numbers.
+/// Takes the first member, a list of whole numbers.
 fn take_numbers(
     alloc: Global,
     members: &mut Map<String, Value>,
@@ -117,7 +117,7 @@ fn take_numbers(
     numbers(alloc, &value)
 }
 
-// Takes the first member, a list of lock words.
+/// Takes the first member, a list of lock words.
 fn take_owns(
     alloc: Global,
     members: &mut Map<String, Value>,
@@ -132,7 +132,7 @@ fn take_owns(
     owns(alloc, &value)
 }
 
-// Takes the last member, the width, if there is one.
+/// Takes the last member, the width, if there is one.
 fn last_width(members: &mut Map<String, Value>) -> Result<Option<u64>, Refusal>
     ensures ok { IfOk result (λ o. members_view members.old.entries ≡ width_member (is_some o) (unwrap_or o 1)) }
     ensures err { IfErr result (λ e. (e ≡ BadImage 1) × ((wide : Bool) (w : ℕ)
@@ -169,7 +169,7 @@ pub(crate) fn image_in(alloc: Global, value: Value) -> Result<Spelled, Refusal>
 }
 
 #[tactic(auto, using(crate::proofs::ImageForms::image_of_members))]
-// Takes all members, those of an image.
+/// Takes all members, those of an image.
 fn take_image(alloc: Global, members: &mut Map<String, Value>) -> Result<Spelled, Refusal>
     ensures ok { IfOk result (λ s. object (members_view members.old.entries) ≡ image_data s.wide s.image) }
     ensures narrow { IfOk result (λ s. s.wide ≡ false → s.image.width ≡ 1) }
@@ -195,7 +195,7 @@ fn take_image(alloc: Global, members: &mut Map<String, Value>) -> Result<Spelled
     })
 }
 
-// Takes the members after the lock words: the version, and the width, if there is one.
+/// Takes the members after the lock words: the version, and the width, if there is one.
 fn take_last(members: &mut Map<String, Value>) -> Result<(u64, Option<u64>), Refusal>
     ensures ok { IfOk result (λ r. members_view members.old.entries
         ≡ member (codes "version") (whole_data r.0) (width_member (is_some r.1) (unwrap_or r.1 1))) }

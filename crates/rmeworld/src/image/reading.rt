@@ -29,7 +29,7 @@ pub fn read_image(alloc: Global, text: &[u8]) -> Result<Image, Refusal>
     checked(spelled)
 }
 
-// The JSON value of a text.
+/// The JSON value of a text.
 fn parse(alloc: Global, text: &[u8]) -> Result<Value, Refusal>
     ensures utf8 { IfOk result (λ v. IsUtf8 text.now) }
     ensures ok { IfOk result (λ v. read text.now ≡ Some (view v)) }
@@ -42,7 +42,7 @@ fn parse(alloc: Global, text: &[u8]) -> Result<Value, Refusal>
     }
 }
 
-// The image of a text, if it keeps rules 2 to 9.
+/// The image of a text, if it keeps rules 2 to 9.
 fn checked(spelled: Spelled) -> Result<Image, Refusal>
     ensures same { IfOk result (λ i. i ≡ spelled.image) }
     ensures version { IfOk result (λ i. i.version ≡ version_of spelled.wide) }

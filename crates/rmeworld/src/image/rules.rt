@@ -65,12 +65,14 @@ pub fn layout(image: &Image) -> Layout
     }
 }
 
+/// Whether the version is 2, or 1 with values of one word: rule 2.
 fn is_versioned(image: &Image) -> bool
     ensures { IsTrue result ↔ IsVersioned image.now }
 {
     image.version == 2 || (image.version == 1 && image.width == 1)
 }
 
+/// Whether the processes, the limit, the capacity and the width are within their bounds: rule 3.
 fn is_sized(image: &Image) -> bool
     ensures { IsTrue result ↔ IsSized image.now }
 {
@@ -85,6 +87,7 @@ fn is_sized(image: &Image) -> bool
         && image.width <= MOST_WIDTH
 }
 
+/// Whether there are as many data words as the sizes ask for.
 #[tactic(auto, unfolding(redomail::specs::Layout::place_at))]
 fn is_filled(image: &Image) -> bool
     requires { IsSized image.now }
@@ -94,7 +97,7 @@ fn is_filled(image: &Image) -> bool
     image.cells.as_slice().len() as u64 == head + (2 + image.width) * image.cap
 }
 
-// Whether the words are a row of the restart table.
+/// Whether the words are a row of the restart table.
 fn is_row(own: &Own, limit: u64) -> bool
     ensures { IsTrue result ↔ IsRow limit own.now }
 {
@@ -104,6 +107,7 @@ fn is_row(own: &Own, limit: u64) -> bool
         && (own.choosing == 0 || own.inside == 0)
 }
 
+/// Whether the lock words of each process are a row of the restart table.
 fn are_rows(lock: &[Own], limit: u64) -> bool
     ensures { IsTrue result ↔ ((p : ℕ) → IsRow limit (own_at lock.now p)) }
 {
@@ -115,7 +119,7 @@ fn are_rows(lock: &[Own], limit: u64) -> bool
     true
 }
 
-// Whether p has the least pair of all processes that hold a number.
+/// Whether p has the least pair of all processes that hold a number.
 fn has_least(lock: &[Own], p: u64) -> bool
     requires { p < length lock.now }
     ensures { IsTrue result ↔ ((q : ℕ) → q < length lock.now → q ≢ p → 0 < (own_at lock.now q).number
@@ -132,7 +136,7 @@ fn has_least(lock: &[Own], p: u64) -> bool
     true
 }
 
-// Whether each process inside has the least pair.
+/// Whether each process inside has the least pair.
 fn is_first(lock: &[Own], limit: u64) -> bool
     requires { (p : ℕ) → IsRow limit (own_at lock.now p) }
     ensures { IsTrue result ↔ IsLawful (length lock.now) limit (own_at lock.now) }
@@ -153,7 +157,7 @@ pub fn word(words: &[u64], i: u64) -> u64
     words.get(i as usize).copied().unwrap_or(0)
 }
 
-// Whether the list rule holds, if no record is armed.
+/// Whether the list rule holds, if no record is armed.
 fn is_listed(image: &Image) -> bool
     requires { Keeps 7 image.now }
     ensures { IsTrue result ↔ IsListed image.now }
@@ -171,7 +175,7 @@ fn is_listed(image: &Image) -> bool
     lasts_are(layout, words, counts, layout.procs)
 }
 
-// Whether the record rule holds, if a record is armed: for the process inside, or in a ruined lock for some process.
+/// Whether the record rule holds, if a record is armed: for the process inside, or in a ruined lock for some process.
 fn is_recorded(image: &Image) -> bool
     requires { Keeps 7 image.now }
     ensures { IsTrue result ↔ IsRecorded image.now }

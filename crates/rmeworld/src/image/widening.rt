@@ -34,7 +34,7 @@ pub fn widen(alloc: Global, image: &Image, width: u64) -> Result<Image, Refusal>
     Ok(wider(alloc, image, width)?)
 }
 
-// The wider image of a lawful image.
+/// The wider image of a lawful image.
 fn wider(alloc: Global, image: &Image, width: u64) -> Result<Image, AllocError>
     requires lawful { IsLawfulImage image.now }
     requires least { image.now.width ≤ width }
@@ -55,7 +55,7 @@ fn wider(alloc: Global, image: &Image, width: u64) -> Result<Image, AllocError>
     })
 }
 
-// The data words, with wider values.
+/// The data words, with wider values.
 fn wide_cells(
     alloc: Global,
     layout: Layout,
@@ -76,7 +76,7 @@ fn wide_cells(
     Ok(cells)
 }
 
-// Appends the words before the first place.
+/// Appends the words before the first place.
 fn push_front(
     cells: &mut Vec<u64>,
     layout: Layout,
@@ -97,7 +97,7 @@ fn push_front(
     Ok(())
 }
 
-// Appends the words of place `a`.
+/// Appends the words of place `a`.
 fn push_place(
     cells: &mut Vec<u64>,
     layout: Layout,
@@ -117,7 +117,7 @@ fn push_place(
     push_wide(cells, &words[value_at..end], width)
 }
 
-// Appends a value, with words 0 at its end.
+/// Appends a value, with words 0 at its end.
 fn push_wide(cells: &mut Vec<u64>, value: &[u64], width: u64) -> Result<(), AllocError>
     requires { length value.now ≤ width }
     ensures { OnOk result (cells.new.items ≡ cells.old.items ++ padded width value.now) }

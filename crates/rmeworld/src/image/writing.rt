@@ -23,7 +23,7 @@ pub fn write_image(alloc: Global, image: &Image) -> Result<Vec<u8>, Refusal>
     Ok(text)
 }
 
-// The image as a JSON value.
+/// The image as a JSON value.
 fn image_value(alloc: Global, image: &Image) -> Result<Value, AllocError>
     ensures { IfOk result (λ v. view v ≡ written_data image.now) }
 {
@@ -37,7 +37,7 @@ fn image_value(alloc: Global, image: &Image) -> Result<Value, AllocError>
     })
 }
 
-// A list of numbers.
+/// A list of numbers.
 fn list_value(alloc: Global, numbers: &[u64]) -> Result<Value, AllocError>
     ensures { IfOk result (λ v. view v ≡ list_data numbers.now) }
 {
@@ -48,14 +48,14 @@ fn list_value(alloc: Global, numbers: &[u64]) -> Result<Value, AllocError>
     Ok(Value::Array(items))
 }
 
-// The lock words of a process, as a list of three.
+/// The lock words of a process, as a list of three.
 fn own_value(alloc: Global, own: &Own) -> Result<Value, AllocError>
     ensures { IfOk result (λ v. view v ≡ own_data own.now) }
 {
     list_value(alloc, &[own.choosing, own.number, own.inside])
 }
 
-// The lock words of all processes.
+/// The lock words of all processes.
 fn lock_value(alloc: Global, lock: &[Own]) -> Result<Value, AllocError>
     ensures { IfOk result (λ v. view v ≡ lock_data lock.now) }
 {

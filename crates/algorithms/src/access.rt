@@ -49,6 +49,7 @@ pub struct Moved {
     pub blocked: bool,
 }
 
+/// Which of a declaration's words a line names. None: the index has no value, or there is no such word.
 fn index_of(word: &WordOf, constants: Constants, store: &[u64; NAMES]) -> Option<u64>
     ensures { result ≡ index_of constants store.now word.now.index }
 {
@@ -65,6 +66,7 @@ fn index_of(word: &WordOf, constants: Constants, store: &[u64; NAMES]) -> Option
     }
 }
 
+/// The greatest value that a shared word may hold. None: the bound has no value.
 fn bound_of(declaration: &Declaration, constants: Constants, store: &[u64; NAMES]) -> Option<u64>
     ensures { result ≡ bound_of constants store.now declaration.now.bound }
 {
@@ -74,6 +76,8 @@ fn bound_of(declaration: &Declaration, constants: Constants, store: &[u64; NAMES
     }
 }
 
+/// The value that an action stores, or none where it only loads. None as a whole: a value that is needed does not exist, or is
+/// too great.
 fn value_stored(
     declaration: &Declaration,
     action: &Action,

@@ -83,6 +83,7 @@ impl Comparison {
 }
 
 impl Pair {
+    /// The values of both parts, where both have one.
     fn evaluate(&self, constants: Constants, store: &[u64; NAMES]) -> Option<(u64, u64)>
         ensures { result ≡ evaluated_pair constants store.now self.now }
     {

@@ -6,6 +6,7 @@ ghost use Rattle.algorithms.specs.Ranked.{rank_of, is_below, has_round, ways_pas
 use crate::algorithm::Algorithm;
 use crate::line::{Form, Line, LocalLine, Members};
 
+/// The rank of a line of this form, which is 0 for all lines but local ones.
 fn rank_of(rank: u64, form: &Form) -> u64
     ensures { result ≡ rank_of rank form.now }
 {
@@ -15,6 +16,7 @@ fn rank_of(rank: u64, form: &Form) -> u64
     }
 }
 
+/// The rank at a place, 0 past the end.
 fn rank_at(ranks: &[u64], place: usize) -> u64
     ensures { result ≡ slice_index ranks.now place }
 {
@@ -69,6 +71,7 @@ fn ways_fall(
     }
 }
 
+/// Whether there is a line at this place.
 fn is_line(lines: &[Line], place: usize) -> bool
     ensures { result ≡ is_line (slice_get lines.now place) }
 {
@@ -78,6 +81,7 @@ fn is_line(lines: &[Line], place: usize) -> bool
     }
 }
 
+/// Whether a line keeps the ranks: an access has a line after it, and a local line leads to lower ranks alone.
 fn falls(lines: &[Line], least: u64, ranks: &[u64], place: usize, form: &Form) -> bool
     requires { place < 2 ^ 64 - 1 }
     ensures { result ≡ form_falls lines.now least ranks.now place form.now }
@@ -104,6 +108,7 @@ fn all_fall(lines: &[Line], least: u64, ranks: &[u64]) -> bool
     true
 }
 
+/// Whether all lines of the algorithm keep these ranks.
 fn all_lines_fall(algorithm: &Algorithm, ranks: &[u64]) -> bool
     ensures { IsTrue result → AllFall algorithm.now.lines.items algorithm.now.least ranks.now }
 {

@@ -214,6 +214,7 @@ fn taken(before: &LocalState, advanced: &Advanced, state: &LocalState) -> Taken
     }
 }
 
+/// As many rows of words as there are declarations, with each word 0.
 fn all_zero(alloc: Global, count: usize) -> Result<Vec<[u64; MOST_PROCS]>, AlgorithmRefusal>
     ensures rows { IfOk result (λ rows. rows.items ≡ replicate count (replicate 64 0)) }
     ensures memory { IfErr result (λ e. e ≡ AlgorithmRefusal.OutOfMemory) }
@@ -225,6 +226,7 @@ fn all_zero(alloc: Global, count: usize) -> Result<Vec<[u64; MOST_PROCS]>, Algor
     Ok(rows)
 }
 
+/// As many processes as are asked for, each at rest.
 fn all_at_rest(alloc: Global, count: usize) -> Result<Vec<Process>, AlgorithmRefusal>
     ensures rows { IfOk result (λ processes. processes.items ≡ replicate count resting) }
     ensures memory { IfErr result (λ e. e ≡ AlgorithmRefusal.OutOfMemory) }
@@ -236,6 +238,7 @@ fn all_at_rest(alloc: Global, count: usize) -> Result<Vec<Process>, AlgorithmRef
     Ok(processes)
 }
 
+/// Sets each word of these rows to 0.
 #[tactic(auto, using(crate::proofs::Worlds::set_next))]
 fn zero_all(rows: &mut [[u64; MOST_PROCS]])
     ensures { rows.new ≡ replicate (length rows.old) (replicate 64 0) }
@@ -245,6 +248,7 @@ fn zero_all(rows: &mut [[u64; MOST_PROCS]])
     }
 }
 
+/// Sets each of these processes at rest.
 fn rest_all(processes: &mut [Process])
     ensures { processes.new ≡ replicate (length processes.old) resting }
 {
@@ -366,6 +370,7 @@ impl World {
         Ok(advanced)
     }
 
+    /// The process with this number. `NoSuchProcess`: there are fewer.
     fn process_at(&self, p: u64) -> Result<&Process, AlgorithmRefusal>
         ensures ok { IfOk result (λ process. process_of self.now p ≡ Ok process.now) }
         ensures within { OnOk result (p < self.now.procs) }
@@ -479,6 +484,7 @@ impl World {
         }
     }
 
+    /// What this process knows beside its private names.
     fn constants(&self, p: u64) -> Constants
         ensures { result ≡ constants_of self.now p }
     {

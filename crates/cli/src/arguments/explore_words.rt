@@ -26,12 +26,14 @@ fn is_call(name: &str) -> bool
     )
 }
 
+/// Whether this call is one of those that are named.
 fn has_call(calls: &[&str], name: &str) -> bool
     ensures { result ≡ has_call name.now (map (λ call. call.now) calls.now) }
 {
     calls.contains(&name)
 }
 
+/// Whether each name is a call that a search of a variant can start.
 fn are_calls(calls: &[&str]) -> bool
     ensures { result ≡ list_all (λ call. is_call call.now) calls.now }
 {
@@ -76,6 +78,8 @@ fn calls_without(stuck: bool) -> &'static str
     }
 }
 
+/// The calls that a search of a variant starts: those that are given, or else the usual ones. `BadSize`: a name is no such
+/// call.
 #[tactic(auto, using(crate::proofs::Reading::all_calls))]
 fn alphabet_of(alloc: Global, matches: &ArgMatches<'_>) -> Result<Alphabet, WordsFault>
     ensures ok { IfOk result (λ calls. calls ≡ alphabet_of (calls_of (given_in matches.now))) }
@@ -140,6 +144,7 @@ fn is_algorithm_call(name: &str) -> bool
     matches!(name, "lock" | "unlock" | "recover" | "withdraw")
 }
 
+/// Whether each name is a call that a search of an algorithm can start.
 fn are_algorithm_calls(calls: &[&str]) -> bool
     ensures { result ≡ list_all (λ call. is_algorithm_call call.now) calls.now }
 {

@@ -105,6 +105,7 @@ fn command<'a>(
     Ok(command)
 }
 
+/// The parser of `replay`, with its help.
 fn replay<'a>(alloc: Global) -> Result<Parser<'a>, AllocError>
     ensures { IfOk result (IsParser (alone replay)) }
 {
@@ -127,6 +128,7 @@ fn replay<'a>(alloc: Global) -> Result<Parser<'a>, AllocError>
     command(alloc, "replay", about, REPLAY_HELP, &arguments)
 }
 
+/// The parser of `run`, with its help.
 fn run<'a>(alloc: Global) -> Result<Parser<'a>, AllocError>
     ensures { IfOk result (IsParser (alone run)) }
 {
@@ -141,6 +143,7 @@ fn run<'a>(alloc: Global) -> Result<Parser<'a>, AllocError>
     command(alloc, "run", about, RUN_HELP, &arguments)
 }
 
+/// The parser of `hunt`, with its help.
 fn hunt<'a>(alloc: Global) -> Result<Parser<'a>, AllocError>
     ensures { IfOk result (IsParser (alone hunt)) }
 {
@@ -174,6 +177,7 @@ fn hunt<'a>(alloc: Global) -> Result<Parser<'a>, AllocError>
     command(alloc, "hunt", about, HUNT_HELP, &arguments)
 }
 
+/// The parser of `explore`, with its help.
 fn explore<'a>(alloc: Global) -> Result<Parser<'a>, AllocError>
     ensures { IfOk result (IsParser (alone explore)) }
 {
@@ -217,6 +221,7 @@ fn explore<'a>(alloc: Global) -> Result<Parser<'a>, AllocError>
     command(alloc, "explore", about, EXPLORE_HELP, &arguments)
 }
 
+/// The parser of `judge`, with its help.
 fn judge<'a>(alloc: Global) -> Result<Parser<'a>, AllocError>
     ensures { IfOk result (IsParser (alone judge)) }
 {
@@ -228,6 +233,7 @@ fn judge<'a>(alloc: Global) -> Result<Parser<'a>, AllocError>
     command(alloc, "judge", about, JUDGE_HELP, &arguments)
 }
 
+/// The parser of `draw`, with its help.
 fn draw<'a>(alloc: Global) -> Result<Parser<'a>, AllocError>
     ensures { IfOk result (IsParser (alone draw)) }
 {
@@ -246,6 +252,7 @@ fn draw<'a>(alloc: Global) -> Result<Parser<'a>, AllocError>
     command(alloc, "draw", about, DRAW_HELP, &arguments)
 }
 
+/// The parser of `shrink`, with its help.
 fn shrink<'a>(alloc: Global) -> Result<Parser<'a>, AllocError>
     ensures { IfOk result (IsParser (alone shrink)) }
 {
@@ -258,6 +265,7 @@ fn shrink<'a>(alloc: Global) -> Result<Parser<'a>, AllocError>
     command(alloc, "shrink", about, SHRINK_HELP, &arguments)
 }
 
+/// The parser of `step`, with its help.
 fn step<'a>(alloc: Global) -> Result<Parser<'a>, AllocError>
     ensures { IfOk result (IsParser (alone step)) }
 {
@@ -269,6 +277,7 @@ fn step<'a>(alloc: Global) -> Result<Parser<'a>, AllocError>
     command(alloc, "step", about, STEP_HELP, &arguments)
 }
 
+/// The parser of `explain`, with its help.
 fn explain<'a>(alloc: Global) -> Result<Parser<'a>, AllocError>
     ensures { IfOk result (IsParser (alone explain)) }
 {
@@ -279,6 +288,7 @@ fn explain<'a>(alloc: Global) -> Result<Parser<'a>, AllocError>
     command(alloc, "explain", about, EXPLAIN_HELP, &arguments)
 }
 
+/// The parser of the program without its commands: what it is, its version and its exit statuses.
 fn head<'a>(alloc: Global) -> Parser<'a>
     ensures { IsParser (alone head) result }
 {
@@ -317,6 +327,7 @@ const PARTS: [Part; 9] = [
 ];
 
 impl Part {
+    /// The parser of this command.
     fn parser<'a>(self, alloc: Global) -> Result<Parser<'a>, AllocError>
         ensures { IfOk result (IsParser (alone (shape_of_part self))) }
     {

@@ -99,6 +99,7 @@ pub(crate) fn str_of<'a>(matches: &ArgMatches<'a>, name: &str) -> Option<&'a str
     matches.get_str(name)
 }
 
+/// A copy of the text of this argument. None: it is not given.
 pub(crate) fn text_of(
     alloc: Global,
     matches: &ArgMatches<'_>,
@@ -112,6 +113,7 @@ pub(crate) fn text_of(
     }
 }
 
+/// Whether this flag is given.
 pub(crate) fn is_set(matches: &ArgMatches<'_>, name: &str) -> bool
     ensures { result ≡ is_set name.now (given_in matches.now) }
 {
@@ -132,6 +134,7 @@ pub(crate) fn number_or(matches: &ArgMatches<'_>, name: &str, without: u64) -> u
     matches.get_one::<u64>(name).unwrap_or(without)
 }
 
+/// The number of a required argument.
 pub(crate) fn number_of(matches: &ArgMatches<'_>, name: &str) -> u64
     ensures { result ≡ number_or 0 name.now (given_in matches.now) }
 {
@@ -191,6 +194,7 @@ fn run_of(args: RunArgs) -> Result<RunArgs, WordsFault>
     }
 }
 
+/// The arguments of `run`. `BadSize`: a number is out of its range.
 fn run_words(matches: &ArgMatches<'_>) -> Result<Command, WordsFault>
     ensures sized { IfOk result IsSized }
     ensures reads { Reads (codes "run") (given_in matches.now) result }
@@ -205,6 +209,7 @@ fn run_words(matches: &ArgMatches<'_>) -> Result<Command, WordsFault>
     Ok(Command::Run(args))
 }
 
+/// The arguments of `judge`.
 fn judge_words(alloc: Global, matches: &ArgMatches<'_>) -> Result<Command, WordsFault>
     ensures { Reads (codes "judge") (given_in matches.now) result }
 {
@@ -287,6 +292,7 @@ fn command_in(alloc: Global, matches: &ArgMatches<'_>) -> Result<Command, WordsF
     }
 }
 
+/// What an error of `clap` comes to: a help text that was asked for, or why the words are no command.
 fn refused(alloc: Global, error: &Error) -> Result<WordsFault, AllocError>
     ensures { IfOk result (IsAnsweredBy (kind_of error.now)) }
 {

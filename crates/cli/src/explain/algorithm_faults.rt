@@ -88,6 +88,7 @@ const MALFORMED: &str =
     "The algorithm is wrong at a line: there is no such line, or local lines repeat for ever. No text that was read \
 has this fault.";
 
+/// An entry for a fault of an algorithm's text.
 fn of_text(name: &'static str, text: &'static str) -> Meaning
     ensures { result.name.now ≡ name.now }
 {
@@ -98,6 +99,7 @@ fn of_text(name: &'static str, text: &'static str) -> Meaning
     }
 }
 
+/// An entry for a refusal in the run of an algorithm.
 fn of_run(name: &'static str, text: &'static str) -> Meaning
     ensures { result.name.now ≡ name.now }
 {

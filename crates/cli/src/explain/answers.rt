@@ -85,6 +85,7 @@ const NOT_RUINED: &str =
     "The task Check read that the lock is not ruined. Only programs get this answer: in a report the lock answers \
 `clean` or `owner-died`.";
 
+/// An entry for an answer of the lock's calls.
 fn of_lock(name: &'static str, text: &'static str) -> Meaning
     ensures { result.name.now ≡ name.now }
 {
@@ -95,6 +96,7 @@ fn of_lock(name: &'static str, text: &'static str) -> Meaning
     }
 }
 
+/// An entry for an answer of a recovery.
 fn of_restart(name: &'static str, text: &'static str) -> Meaning
     ensures { result.name.now ≡ name.now }
 {
@@ -105,6 +107,7 @@ fn of_restart(name: &'static str, text: &'static str) -> Meaning
     }
 }
 
+/// An entry for an answer of a task on the mailbox or its board.
 fn of_task(name: &'static str, text: &'static str) -> Meaning
     ensures { result.name.now ≡ name.now }
 {

@@ -60,6 +60,7 @@ const OUT_OF_MEMORY: &str =
     "A request for memory was refused. This is the answer only if there is no other cause, and the call may be made \
 again.";
 
+/// An entry for the refusal of a call.
 fn of_call(name: &'static str, text: &'static str) -> Meaning
     ensures { result.name.now ≡ name.now }
 {

@@ -46,6 +46,7 @@ const PUT: &str =
 const GLANCE: &str =
     "Loads one word, also outside the section. It changes no word and no state of its process.";
 
+/// An entry for a kind of step.
 fn of_step(name: &'static str, text: &'static str) -> Meaning
     ensures { result.name.now ≡ name.now }
 {

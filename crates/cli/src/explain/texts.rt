@@ -93,6 +93,7 @@ the next one, there is no place left, or the lock is ruined.";
 const AFTER_CLOSE: &str =
     "The mailbox was closed before. After a close no message is committed, and the mailbox is not closed again.";
 
+/// An entry for a fault of a schedule or a trace.
 fn of_text(name: &'static str, text: &'static str) -> Meaning
     ensures { result.name.now ≡ name.now }
 {
@@ -103,6 +104,7 @@ fn of_text(name: &'static str, text: &'static str) -> Meaning
     }
 }
 
+/// An entry for a rule that an image has to keep.
 fn of_image(name: &'static str, text: &'static str) -> Meaning
     ensures { result.name.now ≡ name.now }
 {
@@ -113,6 +115,7 @@ fn of_image(name: &'static str, text: &'static str) -> Meaning
     }
 }
 
+/// An entry for a fault of a deed before the judge.
 fn of_judge(name: &'static str, text: &'static str) -> Meaning
     ensures { result.name.now ≡ name.now }
 {

@@ -22,6 +22,7 @@ fn send<R: Wait>(rt: &R, mut member: Member, value: Body) -> Result<(Entry, Repl
     Ok((entry, reply))
 }
 
+/// Lets process 0 die inside, and then has all three send a message on threads of their own.
 fn main(rt: HostRuntime) -> Result<(), anyhow::Error> {
     let value = Body::new(&[77])?;
     // 3 processes, numbers up to 2^62, room for 3 messages of 1 word.

@@ -33,6 +33,7 @@ fn status(fault: ReplayFault) -> u8 {
     }
 }
 
+/// Writes the report of the schedule on standard input. A fault is written to standard error, and decides the exit status.
 fn main(rt: HostRuntime) -> ExitCode {
     match report(&rt, rt.alloc()) {
         Ok(()) => ExitCode::from(0),

@@ -22,15 +22,18 @@ const USAGE: &str =
        rmebench append PROCS WIDTH ROUNDS      one member appends ROUNDS messages, at most 65536, of WIDTH words
 PROCS is 1 to 64, THREADS 1 to PROCS, WIDTH 1 to 8.";
 
+/// The words of the command line, with the program's name.
 fn words_given<R: Env + Alloc<A = Global>>(rt: &R) -> io::Result<Vec<String>> {
     Ok(std::env::args(rt)?.collect(rt.alloc())?)
 }
 
+/// Writes a fault of the work to standard error, and answers the exit status of such a fault.
 fn told<R: Eprint>(rt: &R, fault: RunningJudgeFault) -> ExitCode {
     let _ = eprintln!(rt; "rmebench: {fault}");
     ExitCode::from(3)
 }
 
+/// Does the work that the words ask for, and prints how many entries or messages there were.
 fn main(rt: HostRuntime) -> ExitCode {
     let Ok(words) = words_given(&rt) else {
         return told(&rt, RunningJudgeFault::OutOfMemory);

@@ -32,6 +32,7 @@ fn is_loop_of(name: usize, block: Block) -> bool
     }
 }
 
+/// Whether a block is a loop.
 fn is_loop(block: Block) -> bool
     ensures { result ≡ is_loop block }
 {
@@ -75,6 +76,7 @@ fn end_block(blocks: &mut Vec<(usize, usize)>, block: usize, place: usize)
 }
 
 impl Draft {
+    /// Opens a block whose head is the line at `place`. `TooBig`: too many blocks are open.
     fn open(&mut self, place: usize, kind: Block) -> Result<(), LineFault>
         ensures { Drafts (drafted self.new) result (opening place kind (drafted self.old)) }
     {

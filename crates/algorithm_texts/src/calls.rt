@@ -172,6 +172,7 @@ fn each(tokens: &[Token]) -> Result<(bool, &[Token]), LineFault>
     Err(LineFault::BadForm)
 }
 
+/// The call whose name is this word.
 fn call_named(word: &[u8]) -> Option<Call>
     ensures { result ≡ named call_words word.now }
 {
@@ -188,6 +189,7 @@ fn call_named(word: &[u8]) -> Option<Call>
     }
 }
 
+/// The call that a token names.
 fn call_of(token: Option<&Token>) -> Option<Call>
     ensures { result ≡ named_by call_words (option_copied token.entry) }
 {
@@ -296,6 +298,7 @@ impl Draft {
         ended(after(tokens, 1))
     }
 
+    /// Reads a declaration, which begins with `shared` or `private`.
     fn declaration(&mut self, alloc: Global, tokens: &[Token]) -> Result<(), LineFault>
         ensures { Drafts (drafted self.new) result (read_declaration (drafted self.old) tokens.now) }
     {

@@ -26,6 +26,7 @@ fn is_in(label: &Label, call: CallRead) -> bool
     call.number < label.number && label.number <= call.last
 }
 
+/// Whether a call may be withdrawn at a line of this form.
 fn may_withdraw(form: &Form) -> bool {
     match form {
         Form::Access(access) => access.may_withdraw,
@@ -72,6 +73,7 @@ fn label_named(labels: &[Label], call: CallRead, name: &[u8]) -> Option<Label>
     labels.get(place_named(labels, call, name)?).copied()
 }
 
+/// Whether a place is in a block, from its first place to before its last.
 fn is_within(block: (usize, usize), at: usize) -> bool
     ensures { result ≡ is_within block at }
 {
@@ -161,6 +163,7 @@ impl Draft {
             .unwrap_or(&[])
     }
 
+    /// The names that the lines of a call set, those of its loops, and those that last from call to call.
     fn known(&self, call: CallRead) -> NameSets {
         let (mut set, mut loops) = (0, 0);
         for line in self.lines_of(call) {

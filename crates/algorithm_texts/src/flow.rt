@@ -23,6 +23,7 @@ struct Ways {
     second: Option<usize>,
 }
 
+/// The ways of a line after which nothing comes.
 fn no_way() -> Ways {
     Ways {
         first: None,
@@ -30,6 +31,7 @@ fn no_way() -> Ways {
     }
 }
 
+/// The ways of a line that leads to one place.
 fn one_way(place: usize) -> Ways {
     Ways {
         first: Some(place),
@@ -37,6 +39,7 @@ fn one_way(place: usize) -> Ways {
     }
 }
 
+/// The ways of a line that leads to either of two places.
 fn two_ways(first: usize, second: usize) -> Ways {
     Ways {
         first: Some(first),
@@ -62,10 +65,12 @@ fn local_ways(line: &LocalLine, least: u64, next: usize) -> Ways {
 }
 
 impl<'a> Flow<'a> {
+    /// The ways of these lines, of which the call has its own.
     pub fn of(lines: &'a [Line], call: CallRead, least: u64) -> Flow<'a> {
         Flow { lines, call, least }
     }
 
+    /// Where the line at a place leads. Where there is no line, nowhere.
     fn ways(&self, place: usize) -> Ways {
         let next = place.saturating_add(1);
         let Some(line) = self.lines.get(place) else {
@@ -106,6 +111,7 @@ impl<'a> Flow<'a> {
         }
     }
 
+    /// Whether there is a local line at this place.
     fn is_local(&self, place: usize) -> bool {
         match self.lines.get(place) {
             Some(line) => match &line.form {
@@ -116,6 +122,7 @@ impl<'a> Flow<'a> {
         }
     }
 
+    /// Whether there is a line at this place that loads or stores a shared word.
     fn is_access(&self, place: usize) -> bool {
         match self.lines.get(place) {
             Some(line) => match &line.form {
@@ -145,6 +152,7 @@ impl<'a> Flow<'a> {
         }
     }
 
+    /// The number in the text of the line at this place; past the lines, that of the call's last line.
     fn number(&self, place: usize) -> u64 {
         match self.lines.get(place) {
             Some(line) => line.number,
@@ -339,6 +347,7 @@ impl<'a> Flow<'a> {
         Ok(reached)
     }
 
+    /// Checks the places to which the runs of the call come, in the order in which the faults of a text are listed.
     fn check_places(
         &self,
         alloc: Global,
@@ -354,6 +363,7 @@ impl<'a> Flow<'a> {
     }
 }
 
+/// The rank of the place to which a way leads; 0 where there is no way.
 fn rank_after(ranks: &[u64], way: Option<usize>) -> u64 {
     match way {
         Some(place) => ranks.get(place).copied().unwrap_or(0),
@@ -361,14 +371,17 @@ fn rank_after(ranks: &[u64], way: Option<usize>) -> u64 {
     }
 }
 
+/// The names that are set for sure before a place.
 fn names_at(surely: &[u64], place: usize) -> u64 {
     surely.get(place).copied().unwrap_or(0)
 }
 
+/// Whether the place has a mark.
 fn is_marked(places: &[bool], place: usize) -> bool {
     places.get(place).copied().unwrap_or(false)
 }
 
+/// Marks the place to which a way leads.
 fn mark(places: &mut [bool], way: Option<usize>) {
     if let Some(place) = way {
         if let Some(mark) = places.get_mut(place) {
@@ -377,12 +390,14 @@ fn mark(places: &mut [bool], way: Option<usize>) {
     }
 }
 
+/// Takes the mark of a place away.
 fn unmark(places: &mut [bool], place: usize) {
     if let Some(mark) = places.get_mut(place) {
         *mark = false;
     }
 }
 
+/// Leaves of the names at the place to which a way leads those that are also in `names`.
 fn restrict(surely: &mut [u64], way: Option<usize>, names: u64) {
     if let Some(place) = way {
         if let Some(known) = surely.get_mut(place) {

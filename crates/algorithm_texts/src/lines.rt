@@ -122,6 +122,7 @@ impl Draft {
         Ok(place)
     }
 
+    /// Adds a line that touches no shared word, and answers its place.
     pub fn add_local(&mut self, line: LocalLine) -> Result<usize, LineFault>
         ensures place { IfOk result (λ place. place ≡ length (drafted self.old).lines) }
         ensures ok { OnOk result (drafted self.new ≡ with_form (local_form line) (drafted self.old)) }

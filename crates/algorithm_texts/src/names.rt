@@ -63,6 +63,7 @@ const RESERVED: [&[u8]; 44] = [
     b"recover",
 ];
 
+/// Whether the word is one of these words.
 fn is_one_of(words: &[&[u8]], word: &[u8]) -> bool
     ensures { result ≡ list_any (λ other. bytes_eq other.now word.now) words.now }
 {

@@ -54,6 +54,7 @@ impl Joint {
 }
 
 impl Operand {
+    /// The part as a value. `BadForm`: it is a pair or a condition.
     pub fn value(self) -> Result<Expression, LineFault>
         ensures { MakesValue result (value_in (part_of self)) }
     {
@@ -63,6 +64,7 @@ impl Operand {
         }
     }
 
+    /// The part as a condition. `BadForm`: it is a pair or a value.
     pub fn condition(self) -> Result<Condition, LineFault>
         ensures { MakesCondition result (condition_in (part_of self)) }
     {

@@ -186,6 +186,7 @@ impl Draft {
         }
     }
 
+    /// Reads the deed that a line notes, and adds it as a local line.
     fn deed(&mut self, tokens: &[Token]) -> Result<(), LineFault>
         ensures { Drafts (drafted self.new) result (read_deed (drafted self.old) tokens.now) }
     {

@@ -41,6 +41,7 @@ pub struct Stack {
 }
 
 impl Stack {
+    /// A stack on which nothing waits.
     #[tactic(auto, unfolding(crate::specs::Operands::stack_of))]
     pub fn new(alloc: Global) -> Stack
         ensures { stack_of result ≡ [] }
@@ -50,6 +51,7 @@ impl Stack {
         }
     }
 
+    /// Lets this wait above all others.
     #[tactic(auto, unfolding(crate::specs::Operands::stack_of))]
     pub fn push(&mut self, last: Waiting) -> Result<(), LineFault>
         ensures ok { OnOk result (stack_of self.new ≡ waits_of last ∷ stack_of self.old) }
@@ -59,6 +61,7 @@ impl Stack {
         Ok(())
     }
 
+    /// Takes what is at the top.
     #[tactic(auto, unfolding(crate::specs::Operands::stack_of))]
     pub fn pop(&mut self) -> Option<Waiting>
         ensures { MatchOption result ((stack_of self.old ≡ []) × (stack_of self.new ≡ []))
@@ -76,6 +79,7 @@ impl Stack {
     }
 }
 
+/// Whether an open bracket waits here.
 fn is_bracket(waiting: &Waiting) -> bool
     ensures { result ≡ is_open (waits_of waiting.now) }
 {
@@ -85,6 +89,7 @@ fn is_bracket(waiting: &Waiting) -> bool
     }
 }
 
+/// How many open brackets wait.
 fn count_brackets(all: &[Waiting]) -> usize
     ensures { result ≡ brackets (reverse (map waits_of all.now)) }
 {

@@ -87,6 +87,7 @@ impl Word {
         Ok(Word { letters, size })
     }
 
+    /// The letters of the word.
     pub fn as_bytes(&self) -> &[u8]
         ensures letters { result.now ≡ self.now }
         ensures ascii { IsAscii result.now }
@@ -102,6 +103,7 @@ impl Word {
     }
 }
 
+/// Whether a byte may stand in a name: a letter, a digit or `_`.
 fn is_name_byte(byte: u8) -> bool
     ensures { result ≡ is_name_byte byte }
 {
@@ -258,6 +260,7 @@ fn first_token(bytes: &[u8]) -> Result<(Token, usize), LineFault>
     sign_token(bytes)
 }
 
+/// Whether each byte is a small letter.
 fn is_lowercase(part: &[u8]) -> bool
     ensures { result ≡ list_all is_ascii_lowercase part.now }
 {
@@ -364,6 +367,7 @@ fn read_tokens<'l>(all: &mut Vec<Token>, bytes: &'l [u8]) -> Result<&'l [u8], Li
     Ok(rest)
 }
 
+/// Whether each byte is a space or a printed character of ASCII.
 fn is_printable(line: &[u8]) -> bool
     ensures { result ≡ list_all is_printable line.now }
 {

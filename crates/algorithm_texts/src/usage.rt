@@ -18,6 +18,7 @@ pub fn first_names(count: usize) -> u64 {
     names
 }
 
+/// The names that a value reads.
 fn of_value(value: &Expression) -> u64 {
     match value {
         Expression::Private(name) => bit(*name),
@@ -26,10 +27,12 @@ fn of_value(value: &Expression) -> u64 {
     }
 }
 
+/// The names that a pair of values reads.
 fn of_pair(pair: &Pair) -> u64 {
     of_value(&pair.first) | of_value(&pair.second)
 }
 
+/// The names that a condition reads.
 fn of_condition(condition: &Condition) -> u64 {
     match condition {
         Condition::Compare(_, left, right) => of_value(left) | of_value(right),

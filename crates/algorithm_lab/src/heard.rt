@@ -8,6 +8,7 @@ use algorithms::{Deed, Noted, Promises};
 use rmecore::{Outer, Phase};
 use std::alloc::AllocError;
 
+/// Appends a deed to the list.
 fn put(told: &mut Vec<Told>, outer: Outer) -> Result<(), AllocError>
     ensures { OnOk result (told.new.items ≡ told.old.items ++ Told.Did outer ∷ []) }
 {
@@ -15,6 +16,7 @@ fn put(told: &mut Vec<Told>, outer: Outer) -> Result<(), AllocError>
     Ok(())
 }
 
+/// Appends Begin, unless the process has begun already.
 fn put_begun(told: &mut Vec<Told>, p: u64, phase: Phase) -> Result<(), AllocError>
     ensures { OnOk result (told.new.items ≡ told.old.items ++ begun p phase) }
 {
@@ -24,6 +26,7 @@ fn put_begun(told: &mut Vec<Told>, p: u64, phase: Phase) -> Result<(), AllocErro
     }
 }
 
+/// Appends Ready, unless the process is ready already.
 fn put_readied(told: &mut Vec<Told>, p: u64, phase: Phase) -> Result<(), AllocError>
     ensures { OnOk result (told.new.items ≡ told.old.items ++ readied p phase) }
 {
@@ -33,6 +36,7 @@ fn put_readied(told: &mut Vec<Told>, p: u64, phase: Phase) -> Result<(), AllocEr
     }
 }
 
+/// Appends an entry that keeps no order: a second one after a crash inside, else the whole of Begin, Ready and Enter.
 fn put_out_of_order(told: &mut Vec<Told>, p: u64, phase: Phase) -> Result<(), AllocError>
     ensures { OnOk result (told.new.items ≡ told.old.items ++ entered_out_of_order p phase) }
 {
@@ -46,6 +50,7 @@ fn put_out_of_order(told: &mut Vec<Told>, p: u64, phase: Phase) -> Result<(), Al
     }
 }
 
+/// Appends an entry, in the line's order where the algorithm promises one.
 fn put_entered(
     told: &mut Vec<Told>,
     promises: Promises,
@@ -146,6 +151,7 @@ fn put_given_up(told: &mut Vec<Told>, p: u64, phase: Phase) -> Result<(), AllocE
     }
 }
 
+/// Appends what a crash of p in this phase ends, unless the algorithm promises that p enters again.
 fn end_by_crash(
     told: &mut Vec<Told>,
     promises: Promises,

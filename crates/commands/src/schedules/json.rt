@@ -29,6 +29,7 @@ fn object_of(alloc: Global, lines: Vec<Value>) -> Result<Value, AllocError> {
     Ok(Value::Object(members))
 }
 
+/// The report as JSON, without a line feed.
 fn spelled(alloc: Global, report: &str) -> Result<Vec<u8>, AllocError> {
     let object = object_of(alloc, lines_of(alloc, report)?)?;
     object.to_vec(alloc)

@@ -73,6 +73,7 @@ pub(crate) fn starves_line(process: u64, cycle: u64) -> ArrayString<128>
     line
 }
 
+/// The line with this text, which has room in it.
 fn line_of_text(text: &str) -> ArrayString<128>
     requires { length text.now ≤ 40 }
     ensures { result.bytes ≡ text.now }

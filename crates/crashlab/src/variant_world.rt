@@ -49,6 +49,7 @@ impl Model for VariantWorld {
     ghost invariant = { λ w. IsConfigured (record { variant = w.variant; layout = w.layout; limit = w.limit; words = w.words.items; cells = w.cells.items; processes = w.processes.items }) };
 }
 
+/// The processes of a new world of the variant, each at rest.
 fn all_at_rest(
     alloc: Global,
     variant: Variant,

@@ -9,6 +9,7 @@ use crate::phase::LifelinePhase;
 use crate::shown_row::ShownRow;
 use std::alloc::AllocError;
 
+/// The character of a lifeline in this phase.
 fn bar_of(phase: LifelinePhase) -> u8
     ensures { result ≡ bar_for phase }
 {

@@ -14,6 +14,7 @@ fn wait_alike(first: Kind, second: Kind) -> bool
     }
 }
 
+/// Whether both are the same shared word.
 fn is_same_word(first: Word, second: Word) -> bool
     ensures { IsTrue result → first ≡ second }
 {

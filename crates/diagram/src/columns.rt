@@ -13,6 +13,7 @@ use schedule::lines::answer::put_deed;
 use schedule::put_verdict;
 use std::alloc::AllocError;
 
+/// What stands before the report of a row, with arrows where the row is marked.
 fn lead(marked: bool) -> &'static [u8]
     ensures { result.now ≡ lead_in marked }
 {

@@ -29,6 +29,7 @@ pub struct DiagramLayout {
     pub against: u64,
 }
 
+/// The number of the deed that a verdict is against; 0 where it is against none.
 fn deed_against(verdict: Verdict) -> u64
     ensures { result ≡ deed_in verdict }
 {
@@ -38,6 +39,7 @@ fn deed_against(verdict: Verdict) -> u64
     }
 }
 
+/// The number of the deed that the verdict at the end of a run is against; 0 where it is against none.
 fn against(end: &End) -> u64
     ensures { result ≡ against_in end.now }
 {

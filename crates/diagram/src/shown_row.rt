@@ -82,6 +82,7 @@ fn wide_of(act: &Act) -> usize
     }
 }
 
+/// The mark of a row with this act.
 fn mark_of(act: &Act) -> Mark
     ensures { result ≡ mark_in act.now }
 {

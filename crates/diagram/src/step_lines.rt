@@ -85,6 +85,7 @@ fn put_answer_words(out: &mut Vec<u8>, p: u64, answer: Answer) -> Result<(), All
     Ok(())
 }
 
+/// Writes a deed as a JSON text, or `null`.
 fn put_quoted_deed(out: &mut Vec<u8>, deed: &Option<Deed>) -> Result<(), AllocError>
     ensures { OnOk result (out.new.items ≡ out.old.items ++ deed_text deed.now) }
 {
@@ -96,6 +97,7 @@ fn put_quoted_deed(out: &mut Vec<u8>, deed: &Option<Deed>) -> Result<(), AllocEr
     put_text(out, b"\"")
 }
 
+/// Writes an answer of p as a JSON text, or `null`.
 fn put_quoted_answer(out: &mut Vec<u8>, p: u64, answer: Option<Answer>) -> Result<(), AllocError>
     ensures { OnOk result (out.new.items ≡ out.old.items ++ answer_text p answer) }
 {

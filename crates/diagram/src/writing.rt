@@ -23,6 +23,7 @@ pub(crate) struct Buffers {
 }
 
 impl Buffers {
+    /// Buffers with nothing in them.
     pub(crate) fn new(alloc: Global) -> Buffers {
         Buffers {
             page: Vec::new(alloc),

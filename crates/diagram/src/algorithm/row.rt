@@ -151,6 +151,7 @@ fn wide_of(act: AlgorithmAct) -> usize
     }
 }
 
+/// The mark of a row with this act.
 fn mark_of(act: AlgorithmAct) -> Mark
     ensures { result ≡ mark_in act }
 {

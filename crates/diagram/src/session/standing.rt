@@ -53,6 +53,7 @@ fn restart_row(own: &Own) -> &'static [u8]
     }
 }
 
+/// Whether these are the lock words of a process inside.
 fn is_inside(own: &Own) -> bool
     ensures { result ≡ is_inside_in own.now }
 {
@@ -79,6 +80,7 @@ fn read_so_far(p: u64, last: Option<Happened>) -> u64
     }
 }
 
+/// Writes how far a process in the doorway has read the others' numbers.
 fn put_doorway(
     out: &mut Vec<u8>,
     procs: u64,
@@ -99,6 +101,7 @@ fn is_before(k: u64, p: u64, v: u64, j: u64) -> bool
     k < v || (k == v && p < j)
 }
 
+/// Writes what a look at process j has shown.
 fn put_look(out: &mut Vec<u8>, j: u64, value: u64) -> Result<(), AllocError>
     ensures { OnOk result (out.new.items ≡ out.old.items ++ look_text j value) }
 {
@@ -116,6 +119,7 @@ fn put_waits_for(out: &mut Vec<u8>, j: u64, value: u64) -> Result<(), AllocError
     put_around(out, b", which has number ", value, b"")
 }
 
+/// Writes what weighing the number of process j has shown.
 fn put_weigh(out: &mut Vec<u8>, p: u64, own: &Own, j: u64, value: u64) -> Result<(), AllocError>
     ensures { OnOk result (out.new.items ≡ out.old.items ++ weigh_text p own.now j value) }
 {
@@ -125,6 +129,7 @@ fn put_weigh(out: &mut Vec<u8>, p: u64, own: &Own, j: u64, value: u64) -> Result
     put_around(out, b"waits, has passed process ", j, b"")
 }
 
+/// Writes what a waiting process has learned by its last step.
 fn put_waiting(
     out: &mut Vec<u8>,
     p: u64,
@@ -143,6 +148,7 @@ fn put_waiting(
     }
 }
 
+/// The words for a process that has crashed, and may be reading its own words again.
 fn gone(last: Option<Happened>) -> &'static [u8]
     ensures { result.now ≡ dead_text last }
 {
@@ -172,6 +178,7 @@ fn put_place(
     }
 }
 
+/// Writes the lock words of a process, with commas.
 #[tactic(auto, unfolding(crate::specs::Standings::own_text))]
 fn put_own(out: &mut Vec<u8>, own: &Own) -> Result<(), AllocError>
     ensures { OnOk result (out.new.items ≡ out.old.items ++ own_text own.now) }

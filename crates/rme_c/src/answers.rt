@@ -68,6 +68,7 @@ pub fn wanted(procs: u64, access: Access) -> RmeAccess
     }
 }
 
+/// The code for C of what a recovery has found.
 // Inline: once in each answer.
 #[inline(always)]
 fn found_code(found: Found) -> u64
@@ -83,6 +84,7 @@ fn found_code(found: Found) -> u64
     }
 }
 
+/// The code for C of a reply of the mailbox or its board.
 // Inline: once in each answer.
 #[inline(always)]
 fn reply_code(reply: Reply) -> u64

@@ -77,6 +77,7 @@ struct ObservedAnswer {
     waiting: bool,
 }
 
+/// What the refusals of a start ask of a process at this position.
 // Inline: once in each C start.
 #[inline(always)]
 fn look_at(p: &RmeProcess, position: Position) -> ObservedAnswer

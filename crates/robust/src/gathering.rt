@@ -54,12 +54,14 @@ pub fn gather(alloc: Global, mut members: Vec<Member>) -> Result<Image, (Vec<Mem
     Ok(read_all(members, first, lock, cells))
 }
 
+/// Whether one of these members is of process p.
 fn has(members: &[Member], p: u64) -> bool
     ensures { result ≡ has_member p members.now }
 {
     members.iter().any(|member| member.number() == p)
 }
 
+/// Whether there is a member of each process.
 fn has_all(members: &[Member], procs: u64) -> bool
     ensures yes { result ≡ true → (p : ℕ) → p < procs → has_member p members.now ≡ true }
     ensures no { result ≡ false → ((p : ℕ) × (p < procs) × (has_member p members.now ≡ false)) }
@@ -148,6 +150,7 @@ fn read_own(table: &Board, seat: &mut RunSeat, setup: &Setup, p: u64) -> Own
     }
 }
 
+/// Reads the lock words of all processes.
 fn read_lock(table: &Board, seat: &mut RunSeat, setup: &Setup, lock: &mut Vec<Own>)
     requires table { (seat.old.table_id ≡ table.now.shared.table_id) × (seat.old.table_id.words ≡ word_count setup.now) }
     requires size { IsSize setup.now.layout }
@@ -163,6 +166,7 @@ fn read_lock(table: &Board, seat: &mut RunSeat, setup: &Setup, lock: &mut Vec<Ow
     }
 }
 
+/// Reads all data words.
 fn read_cells(table: &Board, seat: &mut RunSeat, setup: &Setup, cells: &mut Vec<u64>)
     requires table { (seat.old.table_id ≡ table.now.shared.table_id) × (seat.old.table_id.words ≡ word_count setup.now) }
     requires size { IsSize setup.now.layout }
@@ -176,6 +180,7 @@ fn read_cells(table: &Board, seat: &mut RunSeat, setup: &Setup, cells: &mut Vec<
     }
 }
 
+/// Joins the seats of all members into one, and reads all words through it.
 fn read_all(others: Vec<Member>, first: Member, mut lock: Vec<Own>, mut cells: Vec<u64>) -> Image
     requires arena { OneArena (first ∷ others.items) }
     requires all { (p : ℕ) → p < first.seat_view.setup.layout.procs → has_member p (first ∷ others.items) ≡ true }

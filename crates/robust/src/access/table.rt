@@ -96,6 +96,7 @@ impl Join<SeatKnowledge> for Glue {
     ghost spent = { spent_known };
 }
 
+/// Makes one load through the seat, as the step that `D` names. Answers the value that was read.
 fn load_named<D: StepName>(
     table: &Board,
     seat: &mut RunSeat,
@@ -117,6 +118,7 @@ fn load_named<D: StepName>(
     table.shared.load::<Does<D>>(seat, at as usize)
 }
 
+/// Makes one store through the seat, as the step that `D` names.
 fn store_named<D: StepName>(
     table: &Board,
     seat: &mut RunSeat,
@@ -139,6 +141,8 @@ fn store_named<D: StepName>(
     table.shared.store::<Does<D>>(seat, at as usize, new);
 }
 
+/// Takes the step that `D` names, of a data word past the end of the mailbox: it loads word 0 of the table, and no word
+/// changes.
 fn step_past_end_named<D: StepName>(
     table: &Board,
     seat: &mut RunSeat,

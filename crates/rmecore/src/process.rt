@@ -87,6 +87,7 @@ impl LockProcess {
         self.access()
     }
 
+    /// The next access, by the stage alone. None: no call is under way.
     fn access(&self) -> Option<Access>
         ensures next { result ≡ next_access self.now }
         ensures idle { is_none result ≡ is_idle self.now.place }
@@ -132,6 +133,7 @@ impl LockProcess {
         self.scanned()
     }
 
+    /// The scan in progress with its next load, by the stage alone.
     fn scanned(&self) -> Option<(Scan, Access)>
         ensures at { IfSome result (λ r. at_scan self.now r.0 ≡ self.now) }
         ensures next { IfSome result (λ r. next_access self.now ≡ Some r.1) }
@@ -226,6 +228,7 @@ impl LockProcess {
         (Stage::Rest, Progress::ended(Outer::Quit(self.index), done))
     }
 
+    /// The stage after a step in the doorway, and its effects.
     fn after_door(&self, next: u64, greatest: u64, value: u64) -> (Stage, Progress)
         ensures place { place_of self.now.procs self.now.index result.0
             ≡ after_access (at_door self.now next greatest) (next_access (at_door self.now next greatest)) value }
@@ -257,6 +260,7 @@ impl LockProcess {
         value == 0 || (number, self.index) < (value, j)
     }
 
+    /// The stage after a step while waiting, and its effects. A step that was blocked leaves the stage as it is.
     fn after_wait(&self, number: u64, next: u64, looked: bool, value: u64) -> (Stage, Progress)
         ensures place { place_of self.now.procs self.now.index result.0
             ≡ after_access (at_wait self.now number next looked) (next_access (at_wait self.now number next looked)) value }
@@ -319,6 +323,7 @@ impl LockProcess {
         progress
     }
 
+    /// The stage after a step of a scan, and its effects.
     fn after_scan(&self, scan: Scan, value: u64) -> (Stage, Progress)
         ensures place { place_of self.now.procs self.now.index result.0
             ≡ after_access (at_scan self.now scan) (next_access (at_scan self.now scan)) value }
@@ -406,6 +411,7 @@ impl LockProcess {
         Ok(())
     }
 
+    /// The stage in which a call begins, or why it is refused.
     fn started(&self, call: CoreCall) -> Result<Stage, Refusal>
         ensures ok { IfOk result (λ stage. started self.now.place call ≡ Some (place_of self.now.procs self.now.index stage)) }
         ensures accepted { OnOk result (start_refusal self.now.place call ≡ None) }

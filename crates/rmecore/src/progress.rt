@@ -27,6 +27,7 @@ pub(crate) const BLOCKED: Progress = Progress {
 };
 
 impl Progress {
+    /// A deed in the middle of a call.
     pub(crate) fn outer(outer: Outer) -> Progress
         ensures { result ≡ record { outer = Some outer; done = None; blocked = false } }
     {
@@ -37,6 +38,7 @@ impl Progress {
         }
     }
 
+    /// The end of a call, without a deed.
     pub(crate) fn done(done: CoreDone) -> Progress
         ensures { result ≡ record { outer = None; done = Some done; blocked = false } }
     {

@@ -88,6 +88,7 @@ fn recovered(own: u64, choosing: u64, number: u64, inside: u64) -> (Stage, Progr
     }
 }
 
+/// The effects of a step that enters again after a crash inside, and ends the call.
 fn reentered(own: u64, done: CoreDone) -> Progress
     ensures { result ≡ record { outer = Some (Outer.Reenter own); done = Some done; blocked = false } }
 {

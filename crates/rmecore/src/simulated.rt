@@ -66,6 +66,7 @@ impl Model for Core {
     ghost invariant = { λ c. record { configured : IsConfigured c.procs c.limit c.words.items c.processes.items c.tallies.items; reached : IsReached c.procs c.limit (record { words = own_at c.words.items; places = place_at c.processes.items }); tallied : AllTallied c.procs (record { words = own_at c.words.items; places = place_at c.processes.items }) c.tallies.items } };
 }
 
+/// The processes of a new lock, each at rest with nothing under way.
 fn all_at_rest(alloc: Global, procs: u64, limit: u64) -> Result<Vec<LockProcess>, Refusal>
     ensures length { IfOk result (λ processes. vec_len processes ≡ procs) }
     ensures each { IfOk result (λ processes. (p : ℕ) → p < procs
@@ -223,6 +224,7 @@ impl Core {
         })
     }
 
+    /// Starts a call of a process, and begins to count its steps.
     fn start(&mut self, p: u64, call: CoreCall) -> Result<(), Refusal>
         ensures accepted { OnOk result (refusal_at self.old p call ≡ None) }
         ensures refused { IfErr result (λ e. refusal_at self.old p call ≡ Some e) }
@@ -293,6 +295,7 @@ impl Core {
         Ok(self.tally(p)?.began)
     }
 
+    /// The counts of a process's last call. `NoSuchProcess`: there are fewer processes.
     fn tally(&self, p: u64) -> Result<Tally, Refusal>
         ensures ok { IfOk result (λ tally. (p < self.now.procs) × (tally ≡ tally_at self.now.tallies p)) }
         ensures taking { IsExact (tally_at self.now.tallies p) → p < self.now.procs

@@ -13,6 +13,7 @@ use rmecore::{Found, Outer};
 use rmeworld::Answer;
 use std::alloc::AllocError;
 
+/// Writes the words of a deed.
 fn put_deed_words(out: &mut Vec<u8>, deed: &Deed) -> Result<(), AllocError>
     ensures { OnOk result (out.new.items ≡ out.old.items ++ join_with_byte 32 (words_of_deed deed.now)) }
 {
@@ -50,6 +51,7 @@ fn put_word(out: &mut Vec<u8>, word: &[u8]) -> Result<(), AllocError>
     out.extend_from_slice(word)
 }
 
+/// Writes the words of a reply, after a space.
 fn put_reply(out: &mut Vec<u8>, reply: Reply) -> Result<(), AllocError>
     ensures { OnOk result (out.new.items ≡ out.old.items ++ 32 ∷ join_with_byte 32 (words_of_reply reply)) }
 {
@@ -73,6 +75,7 @@ fn put_reply(out: &mut Vec<u8>, reply: Reply) -> Result<(), AllocError>
     }
 }
 
+/// Writes the words of an answer, after a space.
 fn put_answer_words(out: &mut Vec<u8>, answer: Answer) -> Result<(), AllocError>
     ensures { OnOk result (out.new.items ≡ out.old.items ++ 32 ∷ join_with_byte 32 (words_of_answer answer)) }
 {

@@ -28,6 +28,7 @@ pub enum DeedWord {
     Ruin,
 }
 
+/// The deed that a line begins with, by its first word.
 fn deed_word_at(word: &[u8]) -> Option<DeedWord>
     ensures { result ≡ named deeds_by_name word.now }
 {
@@ -58,6 +59,7 @@ fn deed_word_at(word: &[u8]) -> Option<DeedWord>
     }
 }
 
+/// Reads the rest of a deed after its first word.
 #[tactic(auto, unfolding(crate::specs::Words::item_after))]
 fn deed_after(width: u64, word: DeedWord, words: &mut Words) -> Result<Deed, LineFault>
     requires { (1 ≤ width) × (width ≤ 8) }
@@ -134,6 +136,7 @@ impl Item for Deed {
     }
 }
 
+/// Says that the process of a deed is a word; it answers true.
 fn outer_fits(outer: Outer) -> bool
     ensures all { result ≡ true }
     ensures outer { doer outer < 2 ^ 64 }
@@ -145,6 +148,7 @@ fn outer_fits(outer: Outer) -> bool
     true
 }
 
+/// Whether a value has this width. If so, each of its numbers is a word.
 fn value_fits(value: &Body, width: u64) -> bool
     ensures fits { result ≡ (length value.now == width) }
     ensures value { IsTrue result → IsValue width value.now }

@@ -24,6 +24,7 @@ fn value_of(digits: &[u8]) -> Option<u64>
     Some(value)
 }
 
+/// Whether each byte is a digit.
 fn all_digits(word: &[u8]) -> bool
     ensures { result ≡ list_all is_ascii_digit word.now }
 {

@@ -13,6 +13,7 @@ use crate::lines::range::{fit_words, fits_word};
 use crate::lines::words::Words;
 use rmeworld::Call;
 
+/// Reads the rest of a line after its first word.
 #[tactic(auto, unfolding(crate::specs::Words::item_after))]
 fn line_after(width: u64, command: Keyword, words: &mut Words) -> Result<Line, LineFault>
     requires { (1 ≤ width) × (width ≤ 8) }
@@ -80,6 +81,7 @@ impl Item for Line {
     }
 }
 
+/// Whether the value that a call gives, if it gives one, has this width. If so, each of its numbers is a word.
 fn call_fits(call: Call, width: u64) -> bool
     ensures fits { result ≡ call_fits width call }
     ensures call { IsTrue result → IsCall width call }

@@ -95,6 +95,7 @@ pub fn put_placed(
     Ok(())
 }
 
+/// Writes the words of a line.
 fn put_words(out: &mut Vec<u8>, line: &Line) -> Result<(), AllocError>
     ensures { OnOk result (out.new.items ≡ out.old.items ++ join_with_byte 32 (words_of_line line.now)) }
 {

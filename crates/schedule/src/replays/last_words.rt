@@ -13,6 +13,7 @@ use rmecore::{Fault, Own, Refusal};
 use rmeworld::Image;
 use std::alloc::{AllocError, Global};
 
+/// Writes the line of a process's lock words.
 fn put_own(out: &mut Vec<u8>, p: u64, own: &Own) -> Result<(), AllocError>
     ensures { OnOk result (out.new.items ≡ out.old.items ++ own_line p own.now) }
 {
@@ -36,6 +37,7 @@ fn put_owns(out: &mut Vec<u8>, owns: &[Own]) -> Result<(), AllocError>
     Ok(())
 }
 
+/// Writes the line of a message.
 fn put_entry(out: &mut Vec<u8>, at: u64, message: &Message) -> Result<(), AllocError>
     ensures { OnOk result (out.new.items ≡ out.old.items ++ message_line at message.now) }
 {
@@ -63,7 +65,7 @@ fn put_messages(out: &mut Vec<u8>, messages: &[Message]) -> Result<(), AllocErro
     Ok(())
 }
 
-// The word at this place; 0 past the end.
+/// The word at this place; 0 past the end.
 fn word(words: &[u64], i: u64) -> u64
     ensures { result ≡ slice_index words.now i }
 {
@@ -100,6 +102,7 @@ fn put_mail(
     }
 }
 
+/// Writes the verdict against a deed, with the processes that an overtaking names.
 fn put_verdict_words(out: &mut Vec<u8>, at: u64, fault: Fault) -> Result<(), AllocError>
     ensures { OnOk result (out.new.items ≡ out.old.items ++ verdict_line (Verdict.Against at fault)) }
 {

@@ -117,6 +117,7 @@ impl Reporter {
     }
 }
 
+/// Writes the lines of a step: of its deed and of its answer, as far as it has them.
 fn put_told(
     page: &mut Vec<u8>,
     p: u64,

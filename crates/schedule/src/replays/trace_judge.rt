@@ -32,6 +32,7 @@ impl Model for TraceJudge {
 }
 
 impl TraceJudge {
+    /// A judge of a trace of which nothing was read.
     fn new(alloc: Global) -> TraceJudge
         ensures { Follows result [] }
     {
@@ -65,6 +66,7 @@ impl TraceJudge {
     }
 }
 
+/// The fault of a trace whose line has this fault.
 fn text_fault(line: u64, fault: LineFault) -> ReplayFault
     ensures { result ≡ ReplayFault.Text line (number_of fault) }
 {

@@ -104,6 +104,7 @@ impl Schedule {
     }
 }
 
+/// The schedule that the whole text spells.
 fn schedule_of(alloc: Global, text: &[u8]) -> Result<Schedule, TextFault>
     ensures { Gives (λ schedule. schedule) result (schedule_at text.now) }
 {

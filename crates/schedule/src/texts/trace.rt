@@ -122,6 +122,7 @@ impl Trace {
     }
 }
 
+/// The trace that the whole text spells.
 fn trace_of(alloc: Global, text: &[u8]) -> Result<Trace, TextFault>
     ensures { Gives (λ trace. trace) result (trace_at text.now) }
 {

@@ -50,6 +50,7 @@ impl<R: io::Read> FromReader<R> {
         }
     }
 
+    /// Counts a failure of the reader.
     fn fail(&mut self) -> Failed
         ensures inner { self.new.inner ≡ self.old.inner }
         ensures given { self.new.given.items ≡ self.old.given.items }
@@ -60,6 +61,7 @@ impl<R: io::Read> FromReader<R> {
         Failed
     }
 
+    /// Notes bytes that the reader has given.
     fn take(&mut self, bytes: &[u8])
         requires { self.old.count + length bytes.now ≤ 2 ^ 62 }
         ensures inner { self.new.inner ≡ self.old.inner }
@@ -131,6 +133,7 @@ impl<W: io::Write> ToWriter<W> {
         self.inner
     }
 
+    /// Counts a failure of the writer.
     fn fail(&mut self) -> Failed
         ensures inner { self.new.inner ≡ self.old.inner }
         ensures first { self.new.first.value ≡ self.old.first.value }

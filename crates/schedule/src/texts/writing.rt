@@ -12,6 +12,7 @@ use crate::texts::head::Head;
 use crate::texts::schedule::Schedule;
 use std::alloc::{AllocError, Global};
 
+/// Writes the processes, the limit and the capacity of a header.
 fn put_sizes(out: &mut Vec<u8>, head: &Head) -> Result<(), AllocError>
     ensures { OnOk result (out.new.items ≡ out.old.items ++ 32 ∷ join_with_byte 32 (codes "procs" ∷ decimal head.now.procs
         ∷ codes "limit" ∷ decimal head.now.limit ∷ codes "cap" ∷ decimal head.now.cap ∷ [])) }
@@ -21,6 +22,7 @@ fn put_sizes(out: &mut Vec<u8>, head: &Head) -> Result<(), AllocError>
     put_named(out, b"cap", head.cap)
 }
 
+/// Writes the words of a header.
 fn put_head_words(out: &mut Vec<u8>, head: &Head) -> Result<(), AllocError>
     ensures { OnOk result (out.new.items ≡ out.old.items ++ join_with_byte 32 (words_of_head head.now)) }
 {
@@ -34,6 +36,7 @@ fn put_head_words(out: &mut Vec<u8>, head: &Head) -> Result<(), AllocError>
     }
 }
 
+/// Writes the line of a header.
 fn put_head(out: &mut Vec<u8>, head: &Head) -> Result<(), AllocError>
     ensures { OnOk result (out.new.items ≡ out.old.items ++ line_of (words_of_head head.now)) }
 {

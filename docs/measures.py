@@ -213,7 +213,7 @@ class Measure:
 MEASURES = [
     Measure("names", "types, traits and relations declared in several crates", 145, names_of_several_crates),
     Measure("relations", f"relations with more than {MOST_ARGUMENTS} arguments", 53, long_relations),
-    Measure("undocumented", "functions without a line of documentation", 255, undocumented_functions),
+    Measure("undocumented", "functions without a line of documentation", 0, undocumented_functions),
     Measure("functions", "functions named by a participle or an adjective alone", 140, bare_functions),
     Measure("definitions", "definitions of specs named by one", 203, bare_definitions),
     Measure("files", "files of src and specs named by a gerund", 91, gerunds),

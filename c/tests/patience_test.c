@@ -23,10 +23,11 @@ int fcntl(int file, int command, ...)
     return (int)syscall(SYS_fcntl, file, command, argument);
 }
 
-/* In place of the C library's (linked with -Wl,--wrap=syscall): counts how often the shim goes to sleep. */
+/* In place of the C library's (linked with -Wl,--wrap=syscall): counts how often the shim goes to sleep. As the kernel it reads six
+ * words, also where fewer are given, which no sanitizer is to see. */
 long __real_syscall(long number, ...);
 long __wrap_syscall(long number, ...);
-long __wrap_syscall(long number, ...)
+__attribute__((no_sanitize("address"))) long __wrap_syscall(long number, ...)
 {
     long word[6];
     va_list rest;

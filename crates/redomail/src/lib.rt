@@ -2,6 +2,7 @@
 //! time.
 #![tactic(auto)]
 
+pub mod append;
 pub mod cells;
 pub mod contents;
 pub mod deed;

@@ -1,15 +1,14 @@
 -- The steps of one process in an execution are a walk: each is allowed at its place, and a reread finds its word as it was
 -- when the call began, since no other process stores into the lock words of this one.
-use Rattle.std.proofs.Common.{◌≡◌, ◌≢◌, ℕ, ◌+◌, ◌<◌, ◌==◌, ◌&&◌, nat_lt, nat_le, Bool, true, false, if◌then◌else◌, List, [], ◌∷◌, Option, Some, None, IsSome, unwrap_or, refl, sym, ◌∙◌, subst, eqb-true, inl, inr}
-use Rattle.execution.proofs.Common.{and_parts, cases_Bool, eqb-false, Kind, Look as Looks, Weigh as Weighs, Open as Opens, Peek as Peeks, Take as Takes, Shut as Shuts, Mark as Marks, Drop as Drops, Glance as Glancing}
-use Rattle.execution.proofs.Common.{Own, Word, Choosing as ChoosingOf, Number as NumberOf, Data as DataAt, is_glance, ReadsBegun, Place, Wait, Reread, Opening, Door, Shutting, Leaving}
-use Rattle.execution.proofs.Common.{Withdrawing, Unmarking, next, started, only, Steps, is_store, write, Reads as CoreReads, put_same, put_other, Layout, Get as Asks, Put as Writes, Call}
+use Rattle.std.proofs.Common.{◌≡◌, ◌≢◌, ℕ, ◌<◌, ◌==◌, Bool, true, false, if◌then◌else◌, List, [], ◌∷◌, Option, Some, None, IsSome, unwrap_or, refl, sym, ◌∙◌, subst, inl, inr}
+use Rattle.execution.proofs.Common.{cases_Bool, eqb-false, Kind}
+use Rattle.execution.proofs.Common.{Own, Word, Data as DataAt, is_glance, ReadsBegun, Place, Reread}
+use Rattle.execution.proofs.Common.{next, started, Steps, is_store, write, Reads as CoreReads, put_same, put_other, Layout, Get as Asks, Put as Writes, Call}
 use Rattle.execution.proofs.Common.{Lock, Unlock, Consistent, Recover, Withdraw, next_or_same, Walks, ScriptState, Free, Doing, ProcessState, begun_from, Begins, next_process_state, WorldEvent}
 use Rattle.execution.proofs.Common.{Moves, at_lock, settled, Falls, moved_by, who, dead, script_state_entered, GlobalState, Execution, onward, own_world_events, Can, reading_of}
 use Rattle.rmecore.specs.Tallied.{IsRereading}
 use Rattle.rmecore.specs.declared.core_call.CoreCall.TheVariants as core
-use Rattle.rmecore.specs.declared.kind.Kind.TheVariants.{Reread as Rereads, Get as Gets, Put as Puts}
-use Rattle.rmecore.specs.declared.word.Word.TheVariants.{Inside as InsideOf}
+use Rattle.rmecore.specs.declared.kind.Kind.TheVariants.{Get as Gets, Put as Puts}
 use Rattle.rmecore.proofs.AllowedSteps.{by_step}
 use Rattle.rmecore.proofs.Tallies.{rereads_on, reads_begun}
 use Rattle.rmecore.proofs.Turns.{not_data}

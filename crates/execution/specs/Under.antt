@@ -1,8 +1,6 @@
 -- Which call is under way, from the process state alone, and which answers that call can have.
-use Rattle.std.specs.Prelude.{◌≡◌, ℕ, Bool, true, false, ◌≢◌, Option, Some}
-use Rattle.rmecore.specs.Named.{lock_part, own_call}
-use Rattle.rmecore.specs.Place.{Place, Rest, Inside}
-use Rattle.rmecore.specs.declared.core_call.CoreCall.{CoreCall}
+use Rattle.std.specs.Prelude.{◌≡◌, ℕ, Bool, true, false, ◌≢◌}
+use Rattle.rmecore.specs.Place.{Place, Rest, Reread, Opening, Door, Shutting, Wait, Inside, Leaving, Withdrawing, Unmarking}
 use Rattle.rmecore.specs.declared.core_call.CoreCall.TheVariants as core
 use Rattle.redomail.specs.declared.reply.Reply.{Reply}
 use Rattle.redomail.specs.declared.reply.Reply.TheVariants.{Stored, Already, OutOfOrder, Full, Closed, Mended, Ruined, Word}
@@ -17,21 +15,22 @@ use Rattle.rmeworld.specs.Refused.{is_idle}
 use Rattle.rmeworld.specs.ProcessState.{ScriptState, Free, Doing, ProcessState}
 use Rattle.execution.specs.Lasting.{Lasts}
 
--- it is this call of the lock's part
-abbrev pub is_part : CoreCall → Option CoreCall → Bool
-is_part core.Lock (Some core.Lock) = true
-is_part core.Recover (Some core.Recover) = true
-is_part core.Unlock (Some core.Unlock) = true
-is_part core.Withdraw (Some core.Withdraw) = true
-is_part _ _ = false
-
 -- a place of the lock's part of a call. A lock that found the lock ruined is on its way out
 abbrev pub under_place : Call → Bool → Place → Bool
-under_place Lock false s = is_part core.Lock (lock_part s)
-under_place Lock true s = is_part core.Unlock (lock_part s)
-under_place Recover false s = is_part core.Recover (own_call s)
-under_place Unlock false s = is_part core.Unlock (lock_part s)
-under_place Withdraw false s = is_part core.Withdraw (lock_part s)
+under_place Lock false (Reread core.Lock seen) = true
+under_place Lock false Opening = true
+under_place Lock false (Door unread m) = true
+under_place Lock false (Shutting core.Lock k) = true
+under_place Lock false (Wait k unpassed looked) = true
+under_place Lock false (Unmarking core.Lock) = true
+under_place Lock true Leaving = true
+under_place Lock true (Unmarking core.Unlock) = true
+under_place Recover false (Reread core.Recover seen) = true
+under_place Recover false (Shutting core.Recover k) = true
+under_place Recover false (Unmarking core.Recover) = true
+under_place Unlock false Leaving = true
+under_place Unlock false (Unmarking core.Unlock) = true
+under_place Withdraw false Withdrawing = true
 under_place _ _ _ = false
 
 -- P holds of each reply of a script

@@ -1,8 +1,8 @@
 -- A step of the lock's part, in the numbers of C.
-use Rattle.std.proofs.Common.{◌≡◌, ◌≢◌, ℕ, ◌+◌, ◌<◌, Bool, true, false, nat_lt, if◌then◌else◌, List, [], ◌∷◌, Option, Some, None, IfSome, is_none, refl, sym, ap, ◌∙◌, inl, inr, arith}
-use Rattle.rme_c.proofs.Common.{cases_Bool, cases_eq, Access, Stage}
+use Rattle.std.proofs.Common.{◌≡◌, ℕ, Bool, true, false, nat_lt, if◌then◌else◌, List, [], ◌∷◌, Option, Some, None, IfSome, is_none, refl, sym, inl, inr}
+use Rattle.rme_c.proofs.Common.{cases_Bool, Access, Stage}
 use Rattle.rme_c.proofs.Common.{Door as AtDoor, Wait as AtWait, place_of, first, access, word_of}
-use Rattle.rme_c.proofs.Common.{InLock, Place, above, above_skip, above_past, Layout, Check, begun, Free as IsFree, Doing as Does, Checking, is_entry, InWords, landing, lock_at, script_state_at}
+use Rattle.rme_c.proofs.Common.{InLock, Place, above, Layout, Check, begun, Free as IsFree, Doing as Does, Checking, is_entry, InWords, landing, lock_at, script_state_at}
 use Rattle.rmeworld.proofs.Projection.{entry_inside}
 use Rattle.rmecore.specs.Place.{Door, Wait}
 use Rattle.rmecore.specs.Refused.{is_idle}

@@ -19,6 +19,7 @@ pub mod process;
 pub mod progress;
 pub mod refusal;
 mod restart;
+pub mod rules;
 pub mod scan;
 pub mod simulated;
 pub mod stage;

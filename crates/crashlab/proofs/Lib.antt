@@ -21,7 +21,6 @@ pub mod MadeOf
 pub mod Sizes
 pub mod Shrunk
 pub mod Needed
-pub mod PlaceBack
 pub mod JobBack
 pub mod MachineStateTells
 pub mod Filtered

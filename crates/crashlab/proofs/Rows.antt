@@ -53,23 +53,25 @@ all None P h = tt
 all (Some a) P h = h a
 
 -- the variant does what the lock does
-abbrev IsMoved : Variant → Layout → ℕ → ℕ → Place → Bool → Bool → ScriptState → Deviation → ℕ → Access → Type 0
-IsMoved variant l limit p s b c e d v a =
-    (variant_moved variant l limit p s b c e d (kind_of a) (word_of a) (carried a v) ≡ beside d (moved_by l limit p s b c e (kind_of a) (word_of a) (carried a v)))
-    × (variant_outer_by variant p s e d (kind_of a) (carried a v) ≡ outer_by p s e (kind_of a) (carried a v)) × (variant_answer_by variant s b c e d (kind_of a) (carried a v) ≡ answer_by s b c e (kind_of a) (carried a v))
-    × (variant_done_by variant s e d (kind_of a) (carried a v) ≡ done_by s e (kind_of a) (carried a v))
+abbrev IsMoved : Variant → MachineState → ScriptState → Deviation → ℕ → Access → Type 0
+IsMoved variant s e d v a =
+    let kind = kind_of a in
+    let x = carried a v in
+    (variant_moved variant s.layout s.limit s.index s.lock s.mended s.barred e d kind (word_of a) x ≡ beside d (moved_by s.layout s.limit s.index s.lock s.mended s.barred e kind (word_of a) x))
+    × (variant_outer_by variant s.index s.lock e d kind x ≡ outer_by s.index s.lock e kind x) × (variant_answer_by variant s.lock s.mended s.barred e d kind x ≡ answer_by s.lock s.mended s.barred e kind x)
+    × (variant_done_by variant s.lock e d kind x ≡ done_by s.lock e kind x)
 
 plain_process_state : (variant : Variant) (s : MachineState) (d : Deviation) → variant_process_state_of (process_of variant s d Nothing) ≡ record { process_state = process_state_of s; deviation = d }
 plain_process_state variant s d = λ i. record { process_state = record (process_state_of s) { script_state = nothing_changed s.layout s.index (script_state_of s.script_state) i }; deviation = d }
 
-moves_on : (variant : Variant) (s : MachineState) (d : Deviation) (v : ℕ) → Steady s → MayGo variant d → IfSome (next_access s) (IsMoved variant s.layout s.limit s.index s.lock s.mended s.barred (script_state_of s.script_state) d v)
+moves_on : (variant : Variant) (s : MachineState) (d : Deviation) (v : ℕ) → Steady s → MayGo variant d → IfSome (next_access s) (IsMoved variant s (script_state_of s.script_state) d v)
     → Goes variant s d (next_access s) (process_of variant (stepped s v) d Nothing) (plain_outcome s v) v
 moves_on variant s d v h may moved = record { row = by (next_access s) moved (step_goes s v h); steady = step_steady s v h; deviation = may; change = refl }
   where
     from : variant_process_state_of (process_of variant s d Nothing) ≡ record { process_state = process_state_of s; deviation = d }
     from = plain_process_state variant s d
 
-    by : (o : Option Access) → IfSome o (IsMoved variant s.layout s.limit s.index s.lock s.mended s.barred (script_state_of s.script_state) d v) → IfSome o (λ a. next_process_state s.layout s.limit (process_state_of s) (world_event s a v) ≡ Some (process_state_of (stepped s v)))
+    by : (o : Option Access) → IfSome o (IsMoved variant s (script_state_of s.script_state) d v) → IfSome o (λ a. next_process_state s.layout s.limit (process_state_of s) (world_event s a v) ≡ Some (process_state_of (stepped s v)))
         → IfSome o (IsRow variant s (variant_process_state_of (process_of variant s d Nothing)) (variant_process_state_of (process_of variant (stepped s v) d Nothing)) (outcome s o v) v)
     by None x y = tt
     by (Some a) x y = (
@@ -84,7 +86,7 @@ pub script_goes : (variant : Variant) (s : MachineState) (d : Deviation) (v : �
     → Goes variant s d (next_access s) (process_of variant (stepped s v) d Nothing) (plain_outcome s v) v
 script_goes variant s d v h may purpose x at =
     moves_on variant s d v h may
-    (subst (λ e. IfSome (access_by s.limit s.index s.lock e) (IsMoved variant s.layout s.limit s.index s.lock s.mended s.barred e d v)) (sym at) (all (access_by s.limit s.index s.lock (Doing purpose x)) _ (λ a. (refl, refl, refl, refl))))
+    (subst (λ e. IfSome (access_by s.limit s.index s.lock e) (IsMoved variant s e d v)) (sym at) (all (access_by s.limit s.index s.lock (Doing purpose x)) _ (λ a. (refl, refl, refl, refl))))
 
 -- a step of the lock's part where the variant has the lock's row
 

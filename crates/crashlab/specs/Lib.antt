@@ -16,7 +16,6 @@ pub mod Hunted
 pub mod MadeOf
 pub mod Least
 pub mod Shrunk
-pub mod PlaceWords
 pub mod JobWords
 pub mod MachineStateWords
 pub mod Spaces

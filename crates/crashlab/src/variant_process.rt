@@ -14,20 +14,10 @@ use crate::variant_memory::VariantMemory;
 use lock_rows::script_state_of;
 use redomail::Layout;
 use redomail::layout::COUNT;
-use rmecore::{Access, Kind, Progress, Refusal, Scan, Word};
+use rmecore::{Access, Kind, Refusal, Scan, Word};
 use rmeworld::script_state::ScriptState;
 use rmeworld::{Answer, Call, Outcome, Process};
 use std::marker::Model;
-
-/// The outcome of a silent step: no deed, no answer, not blocked.
-const SILENT: Outcome = Outcome {
-    progress: Progress {
-        outer: None,
-        done: None,
-        blocked: false,
-    },
-    answer: None,
-};
 
 /// One process of a variant. Its calls take no memory.
 #[derive(Debug, Drop)]
@@ -323,7 +313,7 @@ impl VariantProcess {
         }
         if puts(self.process.next(), COUNT) {
             self.change = Change::Counted(raised(self.process.layout().cap, value));
-            return SILENT;
+            return Outcome::SILENT;
         }
         let outcome = self.process.feed(value);
         if outcome.answer.is_some() {

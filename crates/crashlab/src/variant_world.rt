@@ -22,12 +22,6 @@ use rmeworld::{Answer, Call, DataWords, Image, Machine, Owns, Stepped};
 use std::alloc::Global;
 use std::marker::Model;
 
-const ZEROS: Own = Own {
-    choosing: 0,
-    number: 0,
-    inside: 0,
-};
-
 /// A world of a variant: its processes with their private memories, and the words that they share.
 #[derive(Debug, Drop)]
 pub struct VariantWorld {
@@ -90,7 +84,7 @@ impl VariantWorld {
         if let Some(refusal) = size_refusal(layout, limit) {
             return Err(refusal);
         }
-        let words = vec![in alloc; ZEROS; procs as usize]?;
+        let words = vec![in alloc; Own::ZEROS; procs as usize]?;
         let cells = vec![in alloc; 0; layout.words() as usize]?;
         let processes = all_at_rest(alloc, variant, layout, limit)?;
         Ok(VariantWorld {

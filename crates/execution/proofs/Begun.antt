@@ -1,11 +1,13 @@
 -- A call that has been started is under way, and has few steps left.
-use Rattle.std.proofs.Common.{◌≡◌, ℕ, zero, suc, ◌+◌, ◌*◌, ◌≤◌, Bool, true, false, ◌&&◌, ◌==◌, nat_lt, nat_le, if◌then◌else◌, List, [], ◌∷◌, ◌++◌, length, Some, None, IsSome, unwrap_or, refl, sym, ap, ◌∙◌, subst, arith, length-append, eqb-true}
+use Rattle.std.proofs.Common.{◌≡◌, ℕ, zero, suc, ◌+◌, ◌*◌, ◌≤◌, Bool, true, false, ◌&&◌, ◌==◌, nat_lt, nat_le, if◌then◌else◌, List, [], ◌∷◌, ◌++◌, length, Option, Some, None, IsSome, IfSome, unwrap_or, refl, sym, ap, ◌∙◌, subst, arith, length-append, eqb-true}
 use Rattle.execution.proofs.Common.{and_parts, ltb-true, Place, Rest, Dead, Wait, Inside, Layout, Reply, IsLayout, last_at, held, place_at, tail, Script, Get as Asks, Put as Writes, Done, puts, gets, in_row}
 use Rattle.execution.proofs.Common.{append, repair, redo, consistent, apply_steps, store_steps, record_of, Call, Lock, Unlock, Consistent, Recover, Append, Close, Withdraw, Purpose, ScriptState, Free, Doing, ProcessState}
 use Rattle.execution.proofs.Common.{begun_from, inside_only, Begins, next_process_state, Setup, Within, SeatView, IsSeatView, process_state_now, Replies, Mends, Begun, Appends}
 use Rattle.redomail.specs.declared.reply.Reply.TheVariants as reply
 use Rattle.redomail.specs.declared.record.Record.{Record}
 use Rattle.rmeworld.specs.declared.call.Call.TheVariants.{Get, Put}
+use Rattle.std.proofs.lemmas.Bool.{cond_both}
+use Rattle.redomail.specs.Tasks.{early_reply, unless_replied}
 use Rattle.redomail.proofs.Scripts.{length-in_row}
 use Rattle.execution.proofs.Running.{process_state_begun}
 
@@ -47,8 +49,11 @@ within_stored : (l : Layout) (p : ℕ) (r : Record) → length r.value ≤ 8 →
 within_stored l p r few = within_more (length (store_steps l p r) + 0) 40 (puts (store_steps l p r) (Done reply.Stored)) (let s = store_length l p r in omega arith) (within_puts (store_steps l p r) (Done reply.Stored) 0 tt)
 
 within_append : (l : Layout) (p seq : ℕ) (value : List ℕ) → length value ≤ 8 → Within 43 (append l p seq value)
-within_append l p seq value few = λ closed count last.
-    within_if 40 (seq == 0) _ _ tt (within_if 40 (nat_le seq last) _ _ tt (within_if 40 (nat_lt (last + 1) seq) _ _ tt (within_if 40 (closed == 1) _ _ tt (within_if 40 (count == l.cap) _ _ tt (within_stored l p (record_of count seq value) few)))))
+within_append l p seq value few = λ closed count last. by count (early_reply l.cap seq closed count last)
+  where
+    by : (count : ℕ) (o : Option Reply) → Within 40 (unless_replied o (puts (store_steps l p (record_of count seq value)) (Done reply.Stored)))
+    by count None = within_stored l p (record_of count seq value) few
+    by count (Some answer) = tt
 
 within_redo : (l : Layout) (p at seq : ℕ) (value : List ℕ) → length value ≤ 8 → Within 20 (redo l p at seq value)
 within_redo l p at seq value few = within_more (length (apply_steps l p (record_of at seq value)) + 0) 20 (redo l p at seq value) (let s = apply_length l p (record_of at seq value) in omega arith) (within_puts (apply_steps l p (record_of at seq value)) (Done (reply.Mended true)) 0 tt)
@@ -76,14 +81,23 @@ module _ (P : Reply → Type 0) where
   replies_tail (Asks i rest) v h = h v
   replies_tail (Writes i x rest) v h = h
 
+-- an early reply is one of an append with this number
+pub early_kind : (cap seq closed count last : ℕ) → IfSome (early_reply cap seq closed count last) (Appends seq)
+early_kind cap seq closed count last =
+    let P : Option Reply → Type 0 = λ o. IfSome o (Appends seq) in
+    cond_both (seq == 0) _ _ P (λ y one. let none = eqb-true seq 0 y in omega arith) (λ _.
+    cond_both (nat_le seq last) _ _ P (λ _. tt) (λ _.
+    cond_both (nat_lt (last + 1) seq) _ _ P (λ y one. let late = ltb-true (last + 1) seq y in omega arith) (λ _.
+    cond_both (closed == 1) _ _ P (λ _. tt) (λ _.
+    cond_both (count == cap) _ _ P (λ _. tt) (λ _. tt)))))
+
 -- the replies of an append
 appends : (l : Layout) (p seq : ℕ) (value : List ℕ) → Replies (Appends seq) (append l p seq value)
-appends l p seq value = λ closed count last.
-    let P = Appends seq in
-    replies_if P (seq == 0) _ _ (λ e one. let none = eqb-true seq 0 e in omega arith) (λ some.
-    replies_if P (nat_le seq last) _ _ (λ e. tt) (λ above.
-    replies_if P (nat_lt (last + 1) seq) _ _ (λ e one. let late = ltb-true (last + 1) seq e in omega arith) (λ next.
-    replies_if P (closed == 1) _ _ (λ e. tt) (λ opened. replies_if P (count == l.cap) _ _ (λ e. tt) (λ room. replies_puts P (store_steps l p (record_of count seq value)) (Done reply.Stored) tt)))))
+appends l p seq value = λ closed count last. by count (early_reply l.cap seq closed count last) (early_kind l.cap seq closed count last)
+  where
+    by : (count : ℕ) (o : Option Reply) → IfSome o (Appends seq) → Replies (Appends seq) (unless_replied o (puts (store_steps l p (record_of count seq value)) (Done reply.Stored)))
+    by count None h = replies_puts (Appends seq) (store_steps l p (record_of count seq value)) (Done reply.Stored) tt
+    by count (Some answer) h = h
 
 within_repair : (l : Layout) (p : ℕ) → l.width ≤ 8 → Within 40 (repair l p)
 within_repair l p narrow = λ armed.

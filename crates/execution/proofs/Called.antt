@@ -1,5 +1,5 @@
 -- Steps of a call are a call.
-use Rattle.std.proofs.Common.{◌≡◌, ℕ, ◌+◌, ◌⊎◌, true, false, List, [], ◌∷◌, ◌++◌, length, Option, Some, None, Result, Ok, Err, OnErr, All, refl, sym, ap, ◌∙◌, subst, inl, inr, append-nil, append_assoc}
+use Rattle.std.proofs.Common.{◌≡◌, ℕ, ◌⊎◌, true, false, List, [], ◌∷◌, ◌++◌, length, Option, Some, None, Result, Ok, Err, OnErr, All, refl, sym, ap, ◌∙◌, subst, inl, inr, append-nil, append_assoc}
 use Rattle.execution.proofs.Common.{All-nil, All-cons, is_glance, Answer, Call, TakenStep, Served, and_call, starts, FirstStart, AreMoves, FirstCrash, answers_of, blocked_of, Takes, blocks, Ran}
 use Rattle.execution.proofs.Common.{CutOff, Crashes, SeatView, IsSeatView, EndsWith, Adds, Calls, Seated, many_more, fell, own, IsRun}
 use Rattle.execution.proofs.Runs.{own-append, own_mine}

@@ -16,6 +16,7 @@ pub use Rattle.rmecore.specs.Needs.{put}
 pub use Rattle.rmecore.specs.Paid.{is_glance, ReadsBegun}
 pub use Rattle.rmecore.specs.Place.{Place, Rest, Dead, Wait, Inside, Reread, Opening, Door, Shutting, Leaving, Withdrawing, Unmarking, is_before, next, without, span, others, relocked, recovered, restart, shut, unmarked, Event, started, only, Steps}
 pub use Rattle.rmecore.specs.Simulated.{one_more, zeros, own_at}
+pub use Rattle.rmecore.specs.StepsLeft.{lock_left, IsFair}
 pub use Rattle.rmecore.specs.World.{is_store, World, after, Run, final, write, Reads}
 pub use Rattle.rmecore.proofs.Invariant.{put_same, put_other, Tied}
 pub use Rattle.rmecore.proofs.Runs.{guard, kept}
@@ -65,7 +66,7 @@ pub use Rattle.execution.specs.Calls.{Served, and_call, starts, FirstStart, AreM
 pub use Rattle.execution.specs.Faults.{CutBy, CutIn, AnsweredBy, LockBy, LockEnds, ready, refusal_now, answer_of}
 pub use Rattle.execution.specs.Gathering.{OneArena, has_member, image_at, IsGlance, IsWhole, IsTold, Gathers, Knows, Absorbs, AnswersAll, Looked, Stays}
 pub use Rattle.execution.specs.Headline.{deeds_of, judged_by, shown_by, process_state_at, AnsweredIsShown}
-pub use Rattle.execution.specs.Lasting.{Within, lock_left, IsFair, exit_of, Lasts, LastsBy}
+pub use Rattle.execution.specs.Lasting.{Within, exit_of, Lasts, LastsBy}
 pub use Rattle.execution.specs.SeatView.{SeatView, IsSeatView, process_state_now, EndsWith, Adds, Calls, alone, view_of, glanced, glance_entry, Looks, pending_events, next_entry, moved_process_state, Advances, rest_known, own_of}
 pub use Rattle.execution.specs.Reading.{cells_of, row_words, entry_words, AreGlances, up_to_count, ReadsFrom, AreShown, RunsShow, EntriesStandInRuns}
 pub use Rattle.execution.specs.Ruins.{last_call, last_of, MayStart, AreInOrder, ReadsRuin, HasReadRuin, settles}

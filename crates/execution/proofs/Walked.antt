@@ -1,16 +1,15 @@
 -- The steps of one process in an execution are a walk: each is allowed at its place, and a reread finds its word as it was
 -- when the call began, since no other process stores into the lock words of this one.
-use Rattle.std.proofs.Common.{◌≡◌, ◌≢◌, ℕ, ◌+◌, ◌<◌, ◌==◌, ◌&&◌, nat_lt, nat_le, Bool, true, false, if◌then◌else◌, List, [], ◌∷◌, Option, Some, None, IsSome, unwrap_or, refl, sym, ◌∙◌, subst, eqb-true, inl, inr}
-use Rattle.execution.proofs.Common.{and_parts, cases_Bool, eqb-false, Kind, Look as Looks, Weigh as Weighs, Open as Opens, Peek as Peeks, Take as Takes, Shut as Shuts, Mark as Marks, Drop as Drops, Glance as Glancing}
-use Rattle.execution.proofs.Common.{Own, Word, Choosing as ChoosingOf, Number as NumberOf, Data as DataAt, is_glance, ReadsBegun, Place, Wait, Reread, Opening, Door, Shutting, Leaving}
-use Rattle.execution.proofs.Common.{Withdrawing, Unmarking, next, started, only, Steps, is_store, write, Reads as CoreReads, put_same, put_other, Layout, Get as Asks, Put as Writes, Call}
+use Rattle.std.proofs.Common.{◌≡◌, ◌≢◌, ℕ, ◌<◌, ◌==◌, Bool, true, false, if◌then◌else◌, List, [], ◌∷◌, Option, Some, None, IsSome, unwrap_or, refl, sym, ◌∙◌, subst, inl, inr}
+use Rattle.execution.proofs.Common.{cases_Bool, eqb-false, Kind}
+use Rattle.execution.proofs.Common.{Own, Word, Data as DataAt, is_glance, ReadsBegun, Place, Reread}
+use Rattle.execution.proofs.Common.{next, started, Steps, is_store, write, Reads as CoreReads, put_same, put_other, Layout, Get as Asks, Put as Writes, Call}
 use Rattle.execution.proofs.Common.{Lock, Unlock, Consistent, Recover, Withdraw, next_or_same, Walks, ScriptState, Free, Doing, ProcessState, begun_from, Begins, next_process_state, WorldEvent}
 use Rattle.execution.proofs.Common.{Moves, at_lock, settled, Falls, moved_by, who, dead, script_state_entered, GlobalState, Execution, onward, own_world_events, Can, reading_of}
 use Rattle.rmecore.specs.Tallied.{IsRereading}
 use Rattle.rmecore.specs.declared.core_call.CoreCall.TheVariants as core
-use Rattle.rmecore.specs.declared.kind.Kind.TheVariants.{Reread as Rereads, Get as Gets, Put as Puts}
-use Rattle.rmecore.specs.declared.word.Word.TheVariants.{Inside as InsideOf}
-use Rattle.rmecore.proofs.Accesses.{passed}
+use Rattle.rmecore.specs.declared.kind.Kind.TheVariants.{Get as Gets, Put as Puts}
+use Rattle.rmecore.proofs.AllowedSteps.{by_step}
 use Rattle.rmecore.proofs.Tallies.{rereads_on, reads_begun}
 use Rattle.rmecore.proofs.Turns.{not_data}
 use Rattle.rmeworld.proofs.CallSteps.{guard_process_state}
@@ -18,29 +17,31 @@ use Rattle.rmeworld.proofs.WorldTallies.{at_lock_some, settled_not}
 use Rattle.execution.proofs.Begun.{guard_inside}
 
 -- no other process's step stores into the lock words of p
-apart : (p q r : ℕ) (b : Bool) (t : Place) → p ≢ q → IsSome (only ((r == q) && b) t) → p ≢ r
-apart p q r b t ne some e = ne (e ∙ eqb-true r q (and_parts (r == q) b (passed ((r == q) && b) t some)).0)
-
-stored_apart : (n limit p q : ℕ) (s : Place) (kind : Kind) (word : Word) (v : ℕ) (words : ℕ → Own) → p ≢ q → IsSome (next n limit q s kind word v) → is_store kind ≡ true → write words word v p ≡ words p
-stored_apart n limit p q Opening Opens (ChoosingOf r) v words ne some e = put_other words r _ p (apart p q r (v == 1) _ ne some)
-stored_apart n limit p q (Door [] m) Takes (NumberOf r) v words ne some e = put_other words r _ p (apart p q r (nat_lt m limit && (v == m + 1)) _ ne some)
-stored_apart n limit p q (Door [] m) Shuts (ChoosingOf r) v words ne some e = put_other words r _ p (apart p q r (nat_le limit m && (v == 0)) _ ne some)
-stored_apart n limit p q (Shutting call k) Shuts (ChoosingOf r) v words ne some e = put_other words r _ p (apart p q r (v == 0) _ ne some)
-stored_apart n limit p q (Wait k [] None) Marks (InsideOf r) v words ne some e = put_other words r _ p (apart p q r (v == 1) _ ne some)
-stored_apart n limit p q Leaving Drops (NumberOf r) v words ne some e = put_other words r _ p (apart p q r (v == 0) _ ne some)
-stored_apart n limit p q Withdrawing Drops (NumberOf r) v words ne some e = put_other words r _ p (apart p q r (v == 0) _ ne some)
-stored_apart n limit p q (Unmarking call) Marks (InsideOf r) v words ne some e = put_other words r _ p (apart p q r (v == 0) _ ne some)
-stored_apart n limit p q (Reread call []) Rereads (ChoosingOf r) v words ne some e = absurd (cc)
-stored_apart n limit p q (Reread call (c ∷ [])) Rereads (NumberOf r) v words ne some e = absurd (cc)
-stored_apart n limit p q (Reread call (c ∷ k ∷ [])) Rereads (InsideOf r) v words ne some e = absurd (cc)
-stored_apart n limit p q (Door unread m) Peeks (NumberOf j) v words ne some e = absurd (cc)
-stored_apart n limit p q (Wait k unpassed None) Looks (ChoosingOf j) v words ne some e = absurd (cc)
-stored_apart n limit p q (Wait k unpassed (Some i)) Weighs (NumberOf j) v words ne some e = absurd (cc)
-stored_apart n limit p q s Glancing word v words ne some e = absurd (cc)
-stored_apart _ _ _ _ _ _ _ _ words ne some e = absurd (cc)
+stored_apart : (n limit p q : ℕ) (words : ℕ → Own) → p ≢ q → (s : Place) (kind : Kind) (word : Word) (v : ℕ) → IsSome (next n limit q s kind word v) → is_store kind ≡ true → write words word v p ≡ words p
+stored_apart n limit p q words ne =
+    by_step {C = λ s kind word v t. is_store kind ≡ true → write words word v p ≡ words p} (
+    record {
+      rereads_choosing = λ call v e. absurd (cc);
+      rereads_number = λ call c v e. absurd (cc);
+      rereads_inside = λ call c k v e. absurd (cc);
+      opens = λ e. put_other words q _ p ne;
+      peeks = λ unread m j v there e. absurd (cc);
+      takes = λ m less e. put_other words q _ p ne;
+      spends = λ m most e. put_other words q _ p ne;
+      shuts = λ call k e. put_other words q _ p ne;
+      looks = λ k unpassed j there e. absurd (cc);
+      looks_again = λ k unpassed j v there blocked e. absurd (cc);
+      weighs = λ k unpassed j v passes e. absurd (cc);
+      weighs_again = λ k unpassed j v blocked e. absurd (cc);
+      marks = λ k e. put_other words q _ p ne;
+      drops = λ e. put_other words q _ p ne;
+      withdraws = λ e. put_other words q _ p ne;
+      unmarks = λ call e. put_other words q _ p ne;
+      glances = λ s word v e. absurd (cc);
+    })
 
 moved_apart : (l : Layout) (limit p q : ℕ) (s : Place) (b c : Bool) (e : ScriptState) (kind : Kind) (word : Word) (v : ℕ) (words : ℕ → Own) → p ≢ q → IsSome (moved_by l limit q s b c e kind word v) → is_store kind ≡ true → write words word v p ≡ words p
-moved_apart l limit p q s b c Free kind word v words ne some store = stored_apart l.procs limit p q s kind word v words ne (at_lock_some l q s b c (next l.procs limit q s kind word v) some) store
+moved_apart l limit p q s b c Free kind word v words ne some store = stored_apart l.procs limit p q words ne s kind word v (at_lock_some l q s b c (next l.procs limit q s kind word v) some) store
 moved_apart l limit p q s b c (Doing purpose (Asks j rest)) Gets (DataAt i) v words ne some store = absurd (cc)
 moved_apart l limit p q s b c (Doing purpose (Writes j x rest)) Puts (DataAt i) v words ne some store = refl
 moved_apart l limit p q s b c (Doing purpose left) _ _ v words ne some store = absurd (cc)

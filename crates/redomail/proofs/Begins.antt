@@ -1,10 +1,12 @@
 -- Each task is safe if the process inside may begin it.
-use Rattle.std.proofs.Common.{◌≡◌, ℕ, zero, suc, ◌+◌, ◌<◌, ◌≤◌, Bool, true, false, ◌==◌, nat_lt, nat_le, List, [], ◌∷◌, ◌++◌, length, refl, not, sym, ◌∙◌, ap, subst, inl, inr, arith, append_assoc, eqb-true, leb-true, leb-false, ltb-true, ltb-false, true≢false, append-nil}
+use Rattle.std.proofs.Common.{◌≡◌, ℕ, zero, suc, ◌+◌, ◌<◌, ◌≤◌, Bool, true, false, ◌==◌, nat_lt, nat_le, List, [], ◌∷◌, ◌++◌, length, refl, not, sym, ◌∙◌, ap, subst, inl, inr, arith, append_assoc, eqb-true, leb-true, leb-false, ltb-true, ltb-false, true≢false, append-nil, Option}
 use Rattle.redomail.proofs.Common.{cond_both, eqb-false, put, Layout, Message, Reply, Task, deeds_of_put, row, Words, last_at, board_at, MailLeads, message, IsAmong, Mailbox, done, MayBegin, added_by}
 use Rattle.redomail.proofs.Common.{Safe, Seen, Done, Put, Script, gets, entry, entries, count_of, Shape, bit, recorded, RecordRule, ListRule, record_of, redo, decided, append, close, repair, script}
 use Rattle.redomail.specs.declared.deed.Deed.TheVariants as deed
 use Rattle.redomail.specs.declared.task.Task.TheVariants as task
 use Rattle.redomail.specs.declared.reply.Reply.TheVariants as reply
+use Rattle.redomail.specs.Tasks.{store_steps, unless_replied}
+use Rattle.redomail.specs.Script.{puts}
 use Rattle.redomail.specs.Laws.{ConsistentIsSafe}
 use Rattle.redomail.proofs.Among.{numbers_are_shown}
 use Rattle.redomail.proofs.Leading.{no_deed, one_deed}
@@ -29,7 +31,7 @@ module _ (l : Layout) (p : ℕ) (m : Message) (s0 : Mailbox) where
 
   decided_safe : (seq : ℕ) (value : List ℕ) (w : Words) (s : Mailbox) → Fresh l p m s0 seq value w s → Safe l p m s0 (decided l p seq value (w 1) (w 2) (w (last_at l p))) w s
   decided_safe seq value w s h =
-      let P : Script Reply → Type 0 = λ x. Safe l p m s0 x w s in
+      let P : Option Reply → Type 0 = λ o. Safe l p m s0 (unless_replied o (puts (store_steps l p (record_of (w 2) seq value)) (Done reply.Stored))) w s in
       let look = seen_idle w s h.idle h.same in
       let off = h.idle.disarmed in
       let es : m.seq ≡ seq = sym (ap (λ x. x.seq) h.mine) in

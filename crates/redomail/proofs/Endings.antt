@@ -1,9 +1,10 @@
 -- The words ruined and armed after the tasks.
-use Rattle.std.proofs.Common.{◌≡◌, ℕ, ◌+◌, true, ◌==◌, List, [], ◌∷◌, ◌++◌, refl, sym, ap, ◌∙◌, arith, append_assoc, nat_le, nat_lt, eqb-true}
+use Rattle.std.proofs.Common.{◌≡◌, ℕ, ◌+◌, true, ◌==◌, List, [], ◌∷◌, ◌++◌, refl, sym, ap, ◌∙◌, arith, append_assoc, eqb-true, Option, Some, None}
 use Rattle.redomail.proofs.Common.{cond_both, eqb-false, put, Layout, Record, Reply, row, Words, held, last_at, board_at, place_at, final, written, Done, puts, Script, in_row, apply_steps}
 use Rattle.redomail.proofs.Common.{store_steps, record_of, redo, decided, close, repair}
 use Rattle.redomail.specs.declared.reply.Reply.TheVariants as reply
 use Rattle.redomail.specs.declared.task.Task.TheVariants as task
+use Rattle.redomail.specs.Tasks.{early_reply, unless_replied}
 use Rattle.redomail.specs.Laws.{TasksEnd, ConsistentEnds}
 use Rattle.redomail.proofs.Words.{put-other, place_low}
 use Rattle.redomail.proofs.Repairs.{Outside, Outside-append, Outside-in_row, written-append, final-puts, final-gets, flag_off}
@@ -47,12 +48,11 @@ module _ (l : Layout) (p : ℕ) (r : Record) where
 
 module _ (l : Layout) (p : ℕ) (w : Words) where
   decided_ends : (seq : ℕ) (value : List ℕ) (closed count last : ℕ) → w 3 ≡ 0 → Ends w (decided l p seq value closed count last)
-  decided_ends seq value closed count last off =
-      cond_both (seq == 0) _ _ (Ends w) (λ _. (refl, off)) (λ _.
-      cond_both (nat_le seq last) _ _ (Ends w) (λ _. (refl, off)) (λ _.
-      cond_both (nat_lt (last + 1) seq) _ _ (Ends w) (λ _. (refl, off)) (λ _.
-      cond_both (closed == 1) _ _ (Ends w) (λ _. (refl, off)) (λ _.
-      cond_both (count == l.cap) _ _ (Ends w) (λ _. (refl, off)) (λ _. store_ends l p (record_of count seq value) reply.Stored w)))))
+  decided_ends seq value closed count last off = by (early_reply l.cap seq closed count last)
+    where
+      by : (o : Option Reply) → Ends w (unless_replied o (puts (store_steps l p (record_of count seq value)) (Done reply.Stored)))
+      by None = store_ends l p (record_of count seq value) reply.Stored w
+      by (Some answer) = (refl, off)
 
   close_ends : w 3 ≡ 0 → Ends w close
   close_ends off =

@@ -1,12 +1,13 @@
 -- A job after one more word: it still fits its layout, and the rest of it is the tail of its script.
-use Rattle.std.proofs.Common.{◌≡◌, ℕ, ◌+◌, ◌-◌, ◌*◌, ◌<◌, ◌≤◌, Bool, true, false, ◌==◌, nat_lt, nat_le, if◌then◌else◌, List, length, take, slice_set, refl, sym, ap, ◌∙◌, inl, inr, arith, length-take, length-set, ltb-true, ltb-false}
+use Rattle.std.proofs.Common.{◌≡◌, ℕ, ◌+◌, ◌-◌, ◌*◌, ◌<◌, ◌≤◌, Bool, true, false, ◌==◌, nat_lt, nat_le, if◌then◌else◌, List, length, take, slice_set, refl, sym, ap, ◌∙◌, inl, inr, arith, length-take, length-set, ltb-true, ltb-false, Option, Some, None}
 use Rattle.redomail.proofs.Common.{cases_Bool, Layout, Reply, Task, left_at, value_width, buffer_width, words_read, steps_done, board_index, FitsStage, IsLayout, Done, puts, tail, store_steps}
 use Rattle.redomail.proofs.Common.{record_of, redo, decided}
 use Rattle.redomail.specs.declared.reply.Reply.TheVariants as reply
 use Rattle.redomail.specs.declared.stage.JobStage.{JobStage}
 use Rattle.redomail.specs.declared.stage.JobStage.TheVariants as stage
 use Rattle.redomail.specs.declared.task.Task.TheVariants as task
-use Rattle.redomail.specs.Stages.{first_stage, stage_after, decided_stage, read_stage}
+use Rattle.redomail.specs.Stages.{first_stage, stage_after, decided_stage, unless_ended, read_stage}
+use Rattle.redomail.specs.Tasks.{early_reply, unless_replied}
 use Rattle.redomail.proofs.Scripts.{store-on, store-end, store-redo, read-on, read-end}
 
 module _ (l : Layout) (lawful : IsLayout l) where
@@ -40,29 +41,18 @@ module _ (l : Layout) (lawful : IsLayout l) where
 
   -- an append that has read its three words
   fits_decided : (seq : ℕ) (value : List ℕ) (closed count last : ℕ) → length value ≡ l.width → FitsStage l (decided_stage l seq value closed count last)
-  fits_decided seq value closed count last wide = by (seq == 0) (nat_le seq last) (nat_lt (last + 1) seq) (closed == 1) (count == l.cap)
+  fits_decided seq value closed count last wide = by (early_reply l.cap seq closed count last)
     where
-      by : (a b c d e : Bool)
-          → FitsStage l (if a then stage.Ended reply.OutOfOrder else if b then stage.Ended reply.Already else if c then stage.Ended reply.OutOfOrder else if d then stage.Ended reply.Closed else if e then stage.Ended reply.Full else stage.Write (record_of count seq value) 0 reply.Stored)
-      by true b c d e = fits_ended _
-      by false true c d e = fits_ended _
-      by false false true d e = fits_ended _
-      by false false false true e = fits_ended _
-      by false false false false true = fits_ended _
-      by false false false false false = fits (stage.Write (record_of count seq value) 0 reply.Stored) wide refl refl refl refl
+      by : (o : Option Reply) → FitsStage l (unless_ended o (stage.Write (record_of count seq value) 0 reply.Stored))
+      by None = fits (stage.Write (record_of count seq value) 0 reply.Stored) wide refl refl refl refl
+      by (Some answer) = fits_ended answer
 
   left_decided : (p seq : ℕ) (value : List ℕ) (closed count last : ℕ) → left_at l p (decided_stage l seq value closed count last) ≡ decided l p seq value closed count last
-  left_decided p seq value closed count last = by (seq == 0) (nat_le seq last) (nat_lt (last + 1) seq) (closed == 1) (count == l.cap)
+  left_decided p seq value closed count last = by (early_reply l.cap seq closed count last)
     where
-      by : (a b c d e : Bool)
-          → left_at l p (if a then stage.Ended reply.OutOfOrder else if b then stage.Ended reply.Already else if c then stage.Ended reply.OutOfOrder else if d then stage.Ended reply.Closed else if e then stage.Ended reply.Full else stage.Write (record_of count seq value) 0 reply.Stored)
-          ≡ (if a then Done reply.OutOfOrder else if b then Done reply.Already else if c then Done reply.OutOfOrder else if d then Done reply.Closed else if e then Done reply.Full else puts (store_steps l p (record_of count seq value)) (Done reply.Stored))
-      by true b c d e = refl
-      by false true c d e = refl
-      by false false true d e = refl
-      by false false false true e = refl
-      by false false false false true = refl
-      by false false false false false = refl
+      by : (o : Option Reply) → left_at l p (unless_ended o (stage.Write (record_of count seq value) 0 reply.Stored)) ≡ unless_replied o (puts (store_steps l p (record_of count seq value)) (Done reply.Stored))
+      by None = refl
+      by (Some answer) = refl
 
   -- a repair after one more word of the record's value
   fits_read : (at seq : ℕ) (words : List ℕ) (read word : ℕ) → length words ≡ 8 → read < l.width → FitsStage l (read_stage l at seq (slice_set words read word) (read + 1))

@@ -1,9 +1,10 @@
 -- The number of steps of each task.
-use Rattle.std.proofs.Common.{subst, false, inl, inr, ◌≡◌, ℕ, zero, suc, ◌+◌, ◌*◌, true, ◌==◌, List, [], ◌∷◌, ◌++◌, length, refl, sym, ◌∙◌, ap, arith, length-append, Bool, not, if◌then◌else◌, nat_le, nat_lt}
+use Rattle.std.proofs.Common.{subst, false, inl, inr, ◌≡◌, ℕ, zero, suc, ◌+◌, ◌*◌, true, ◌==◌, List, [], ◌∷◌, ◌++◌, length, refl, sym, ◌∙◌, ap, arith, length-append, Bool, not, if◌then◌else◌, nat_le, nat_lt, Option}
 use Rattle.redomail.proofs.Common.{cases_Bool, cond_both, Layout, Record, Reply, Words, held, last_at, place_at, steps, answer, steps_of, Done, puts, Script, gets, in_row, Get, apply_steps}
 use Rattle.redomail.proofs.Common.{store_steps, record_of, redo, decided, repair}
 use Rattle.redomail.specs.declared.task.Task.TheVariants as task
 use Rattle.redomail.specs.declared.reply.Reply.TheVariants as reply
+use Rattle.redomail.specs.Tasks.{unless_replied}
 use Rattle.redomail.specs.Laws.{ConsistentTold, consistent_steps, StepsTold}
 use Rattle.redomail.proofs.Scripts.{length-in_row, length-store_steps}
 
@@ -39,7 +40,8 @@ length-apply_steps l p r =
 decided_steps : (l : Layout) (p seq : ℕ) (value : List ℕ) (closed count last : ℕ) (w : Words) → length value ≡ l.width
     → 3 + steps (decided l p seq value closed count last) w ≡ steps_of l (task.Append seq value) (answer (decided l p seq value closed count last) w)
 decided_steps l p seq value closed count last w wide =
-    let P : Script Reply → Type 0 = λ x. 3 + steps x w ≡ steps_of l (task.Append seq value) (answer x w) in
+    let left : Option Reply → Script Reply = λ o. unless_replied o (puts (store_steps l p (record_of count seq value)) (Done reply.Stored)) in
+    let P : Option Reply → Type 0 = λ o. 3 + steps (left o) w ≡ steps_of l (task.Append seq value) (answer (left o) w) in
     cond_both (seq == 0) _ _ P (λ _. refl) (λ _.
     cond_both (nat_le seq last) _ _ P (λ _. refl) (λ _.
     cond_both (nat_lt (last + 1) seq) _ _ P (λ _. refl) (λ _.

@@ -1,12 +1,13 @@
 -- The stage after a step with one more word. `Jobs` says what script a stage leaves.
-use Rattle.std.specs.Prelude.{ℕ, ◌+◌, ◌*◌, ◌==◌, true, false, nat_lt, nat_le, if◌then◌else◌, List, take, replicate, slice_set}
+use Rattle.std.specs.Prelude.{ℕ, ◌+◌, ◌*◌, ◌==◌, true, false, nat_lt, if◌then◌else◌, List, Option, Some, None, take, replicate, slice_set}
 use Rattle.redomail.specs.declared.layout.Layout.{Layout}
+use Rattle.redomail.specs.declared.reply.Reply.{Reply}
 use Rattle.redomail.specs.declared.reply.Reply.TheVariants as reply
 use Rattle.redomail.specs.declared.stage.JobStage.{JobStage}
 use Rattle.redomail.specs.declared.stage.JobStage.TheVariants as stage
 use Rattle.redomail.specs.declared.task.Task.{Task}
 use Rattle.redomail.specs.declared.task.Task.TheVariants as task
-use Rattle.redomail.specs.Tasks.{record_of}
+use Rattle.redomail.specs.Tasks.{record_of, early_reply}
 
 -- the first stage of a task
 abbrev pub first_stage : Task → JobStage
@@ -18,15 +19,15 @@ first_stage (task.BoardPut i v) = stage.PutBoard i v
 first_stage task.Ruin = stage.PutRuined
 first_stage task.Check = stage.AskRuined
 
+-- the end, if there is a reply, or else the stage
+abbrev pub unless_ended : Option Reply → JobStage → JobStage
+unless_ended None to = to
+unless_ended (Some answer) to = stage.Ended answer
+
 -- an append that has read its three words
 abbrev pub decided_stage : Layout → ℕ → List ℕ → ℕ → ℕ → ℕ → JobStage
 decided_stage l seq value closed count last =
-    if seq == 0 then stage.Ended reply.OutOfOrder
-    else if nat_le seq last then stage.Ended reply.Already
-    else if nat_lt (last + 1) seq then stage.Ended reply.OutOfOrder
-    else if closed == 1 then stage.Ended reply.Closed
-    else if count == l.cap then stage.Ended reply.Full
-    else stage.Write (record_of count seq value) 0 reply.Stored
+    unless_ended (early_reply l.cap seq closed count last) (stage.Write (record_of count seq value) 0 reply.Stored)
 
 -- a repair that has read these words of the record's value
 abbrev pub read_stage : Layout → ℕ → ℕ → List ℕ → ℕ → JobStage

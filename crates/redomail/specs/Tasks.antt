@@ -1,5 +1,5 @@
 -- "Tasks", each as its script.
-use Rattle.std.specs.Prelude.{ℕ, ◌+◌, true, false, ◌==◌, nat_lt, nat_le, if◌then◌else◌, List, [], ◌∷◌, ◌++◌}
+use Rattle.std.specs.Prelude.{ℕ, ◌+◌, true, false, ◌==◌, nat_lt, nat_le, if◌then◌else◌, List, [], ◌∷◌, ◌++◌, Option, Some, None}
 use Rattle.redomail.specs.declared.reply.Reply.{Reply}
 use Rattle.redomail.specs.declared.layout.Layout.{Layout}
 use Rattle.redomail.specs.declared.task.Task.{Task}
@@ -22,15 +22,25 @@ apply_steps l p r =
 abbrev pub store_steps : Layout → ℕ → Record → List (ℕ × ℕ)
 store_steps l p r = in_row 4 (r.at ∷ r.seq ∷ r.value) ++ (3, 1) ∷ apply_steps l p r
 
--- "Append" after its three gets: the first condition that holds decides.
+-- "Append" after its three gets: the first condition that holds decides. None: the message is stored
+abbrev pub early_reply : (cap seq closed count last : ℕ) → Option Reply
+early_reply cap seq closed count last =
+    if seq == 0 then Some OutOfOrder
+    else if nat_le seq last then Some Already
+    else if nat_lt (last + 1) seq then Some OutOfOrder
+    else if closed == 1 then Some Closed
+    else if count == cap then Some Full
+    else None
+
+-- the reply at once, if there is one, or else the script
+abbrev pub unless_replied : Option Reply → Script Reply → Script Reply
+unless_replied None left = left
+unless_replied (Some reply) left = Done reply
+
+-- "Append" after its three gets: what is left of it
 abbrev pub decided : Layout → ℕ → ℕ → List ℕ → ℕ → ℕ → ℕ → Script Reply
 decided l p seq value closed count last =
-    if seq == 0 then Done OutOfOrder
-    else if nat_le seq last then Done Already
-    else if nat_lt (last + 1) seq then Done OutOfOrder
-    else if closed == 1 then Done Closed
-    else if count == l.cap then Done Full
-    else puts (store_steps l p (record_of count seq value)) (Done Stored)
+    unless_replied (early_reply l.cap seq closed count last) (puts (store_steps l p (record_of count seq value)) (Done Stored))
 
 -- "Append": the three gets, then the first condition that holds
 abbrev pub append : Layout → ℕ → ℕ → List ℕ → Script Reply

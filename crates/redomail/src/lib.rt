@@ -4,6 +4,7 @@
 //! Main items: `Task`, `Job`, `Layout`.
 #![tactic(auto)]
 
+pub mod append;
 pub mod cells;
 pub mod contents;
 pub mod deed;

@@ -8,6 +8,7 @@ ghost use Rattle.redomail.specs.Script.{head, tail, reply_in};
 ghost use Rattle.redomail.specs.Stages.{first_stage, stage_after, read_stage, decided_stage, StoresNothing};
 ghost use Rattle.redomail.specs.Tasks.{script, decided as decided_by};
 
+use crate::append::early_reply;
 use crate::layout::{ARMED, CLOSED, COUNT, Layout, RECORD, RUINED};
 use crate::next::Next;
 use crate::record::Record;
@@ -246,18 +247,11 @@ fn decided(layout: Layout, seq: u64, value: Body, closed: u64, count: u64, last:
     ensures exact { result ≡ decided_stage layout seq value closed count last }
     ensures fits { FitsStage layout result }
 {
-    if seq == 0 {
-        JobStage::Ended(Reply::OutOfOrder)
-    } else if seq <= last {
-        JobStage::Ended(Reply::Already)
-    } else if seq - 1 > last {
-        JobStage::Ended(Reply::OutOfOrder)
-    } else if closed == 1 {
-        JobStage::Ended(Reply::Closed)
-    } else if count == layout.cap {
-        JobStage::Ended(Reply::Full)
-    } else {
-        let at = count;
-        JobStage::Write(Record { at, seq, value }, 0, Reply::Stored)
+    match early_reply(layout.cap, seq, closed, count, last) {
+        Some(reply) => JobStage::Ended(reply),
+        None => {
+            let at = count;
+            JobStage::Write(Record { at, seq, value }, 0, Reply::Stored)
+        }
     }
 }

@@ -5,7 +5,9 @@ use Rattle.rme_c.proofs.Common.{job_of, purpose_of, layout_of, machine_state_at,
 use Rattle.std.proofs.lemmas.List.{length-replicate}
 use Rattle.redomail.specs.declared.reply.Reply.TheVariants.{Stored, Mended}
 use Rattle.redomail.specs.declared.stage.JobStage.TheVariants as stage
-use Rattle.redomail.specs.Stages.{stage_after}
+use Rattle.redomail.specs.declared.stage.JobStage.{JobStage}
+use Rattle.redomail.specs.Stages.{stage_after, unless_ended}
+use Rattle.redomail.specs.Tasks.{early_reply, unless_replied}
 use Rattle.redomail.proofs.Feeding.{left_after}
 use Rattle.rmecore.specs.Place as Place
 use Rattle.rmeworld.specs.declared.answer.Answer.TheVariants.{Mail}
@@ -166,3 +168,29 @@ module _ (p : RmeProcess) (eight : length p.value ≡ 8) where
       (script_position.Redo at seq (3 + p.width)) r is refl refl
       (storing l p.index _ (3 + p.width) (Mended true) (omega (arith, wide)))
       (fits.0, (fits.1.0, (lawful, omega arith))))
+
+module _ (p : RmeProcess) where
+  abbrev value_words : List ℕ
+  value_words = take p.width p.value
+
+  abbrev stores : ℕ → ℕ → JobStage
+  stores count seq = stage.Write (record_of count seq value_words) 0 Stored
+
+  -- an append that has read its three words: it has its reply, or stores its message
+  pub decided_early : (seq closed count last : ℕ) (reply : Reply) (r : Position × Told) → Fits p (Within (script_position.Last seq closed count)) → early_reply p.cap seq closed count last ≡ Some reply
+      → r ≡ (Lock Inside, record { answer = Some (Mail reply); blocked = false }) → IsStep p (Within (script_position.Last seq closed count)) last p r.0 r.1
+  decided_early seq closed count last reply r fits early is =
+      let c = script_position.Last seq closed count in
+      ends p p c (purpose_of (layout_of p) p.value c) (job_of (layout_of p) p.index p.value c) (record { layout = layout_of p; sender = p.index; stage = stage.Ended reply }) last refl
+      (λ i. record { layout = layout_of p; sender = p.index; stage = unless_ended (early i) (stores count seq) })
+      tt (sym (ap (λ o. unless_replied o (left_at (layout_of p) p.index (stores count seq))) early)) Inside reply r is refl refl refl refl refl (fits.0, fits.1.0)
+
+  pub decided_stores : (seq closed count last : ℕ) (r : Position × Told) → Fits p (Within (script_position.Last seq closed count)) → early_reply p.cap seq closed count last ≡ None
+      → r ≡ (Within (script_position.Store count seq 0), record { answer = None; blocked = false }) → IsStep p (Within (script_position.Last seq closed count)) last p r.0 r.1
+  decided_stores seq closed count last r fits early is =
+      let c = script_position.Last seq closed count in
+      let d = script_position.Store count seq 0 in
+      goes p p c (purpose_of (layout_of p) p.value c) (job_of (layout_of p) p.index p.value c) (job_of (layout_of p) p.index p.value d) last refl
+      (λ i. record { layout = layout_of p; sender = p.index; stage = unless_ended (early i) (stores count seq) })
+      tt (sym (ap (λ o. unless_replied o (left_at (layout_of p) p.index (stores count seq))) early)) d r is refl refl tt
+      (fits.0, (fits.1.0, (fits.1.1, omega arith)))

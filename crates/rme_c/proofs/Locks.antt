@@ -1,8 +1,8 @@
 -- A step of the lock's part, in the numbers of C.
-use Rattle.std.proofs.Common.{◌≡◌, ◌≢◌, ℕ, ◌+◌, ◌<◌, Bool, true, false, nat_lt, if◌then◌else◌, List, [], ◌∷◌, Option, Some, None, IfSome, is_none, refl, sym, ap, ◌∙◌, inl, inr, arith}
-use Rattle.rme_c.proofs.Common.{cases_Bool, cases_eq, Access, Stage}
+use Rattle.std.proofs.Common.{◌≡◌, ℕ, Bool, true, false, nat_lt, if◌then◌else◌, List, [], ◌∷◌, Option, Some, None, IfSome, is_none, refl, sym, inl, inr}
+use Rattle.rme_c.proofs.Common.{cases_Bool, Access, Stage}
 use Rattle.rme_c.proofs.Common.{Door as AtDoor, Wait as AtWait, place_of, first, access, word_of}
-use Rattle.rme_c.proofs.Common.{InLock, Place, above, above_skip, above_past, Layout, Check, begun, Free as IsFree, Doing as Does, Checking, is_entry, InWords, landing, lock_at, script_state_at}
+use Rattle.rme_c.proofs.Common.{InLock, Place, above, Layout, Check, begun, Free as IsFree, Doing as Does, Checking, is_entry, InWords, landing, lock_at, script_state_at}
 use Rattle.rmeworld.proofs.Projection.{entry_inside}
 use Rattle.rmecore.specs.Place.{Door, Wait}
 use Rattle.rmecore.specs.Refused.{is_idle}
@@ -34,22 +34,6 @@ wait_wants : (limit p k : ℕ) (js : List ℕ) (looked : Bool) → is_none (acce
 wait_wants limit p k [] true = refl
 wait_wants limit p k (j ∷ js) true = refl
 wait_wants limit p k _ _ = refl
-
--- the first of the processes that are left has the scan's index
-pub above_again : (n p i j : ℕ) → (i ≢ p → j ≡ i) → (i ≡ p → j ≡ i + 1) → p < n → above n p j ≡ above n p i
-above_again n p i j other own below =
-    elim (cases_eq i p) [
-      | inl e ↦ let is : j ≡ p + 1 = own e ∙ ap (λ r. r + 1) e in ap (above n p) is ∙ (sym (above_skip n p below) ∙ ap (above n p) (sym e))
-      | inr ne ↦ ap (above n p) (other ne)
-    ]
-
-empty : (js : List ℕ) → first js ≡ None → js ≡ []
-empty [] e = refl
-empty (j ∷ js) e = cc
-
--- where none is left the number of processes is the scan's index
-pub above_none : (n p i : ℕ) → first (above n p i) ≡ None → above n p n ≡ above n p i
-above_none n p i e = above_past n p n (omega arith) ∙ sym (empty (above n p i) e)
 
 -- there is no next step exactly where no call is under way
 pub idle_access : (limit n p : ℕ) (t : Stage) → is_idle (place_of n p t) ≡ is_none (access limit p (place_of n p t))

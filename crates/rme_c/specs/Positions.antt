@@ -1,11 +1,10 @@
 -- The position that the numbers of a process in C encode.
 use Rattle.std.specs.Prelude.{ℕ, ◌+◌, ◌*◌, ◌<◌, ◌≤◌, Bool, true, false, not, ◌&&◌, ◌==◌, nat_lt, nat_le, if◌then◌else◌, List, Option, Some, None}
-use Rattle.rmecore.specs.declared.core_call.CoreCall.{CoreCall}
-use Rattle.rmecore.specs.declared.core_call.CoreCall.TheVariants.{Lock, Recover, Unlock, Withdraw}
 use Rattle.rmecore.specs.declared.stage.Stage.{Stage}
 use Rattle.rmecore.specs.declared.stage.Stage.TheVariants as stage
 use Rattle.rmecore.specs.Machine.{Standing, place_of}
 use Rattle.rmecore.specs.Place.{Place, Dead, Inside}
+use Rattle.rmecore.specs.PlaceWords.{call_by}
 use Rattle.redomail.specs.declared.layout.Layout.{Layout}
 use Rattle.rmeworld.specs.declared.script_state.ScriptState.{ScriptState}
 use Rattle.rmeworld.specs.declared.script_state.ScriptState.TheVariants as script_state
@@ -18,27 +17,23 @@ use Rattle.rme_c.specs.declared.process.RmePosition.{RmePosition}
 use Rattle.rme_c.specs.declared.process.RmeProcess.{RmeProcess}
 use Rattle.rme_c.specs.ScriptPositions.{FitsScriptPosition, script_state_of}
 
--- the call of the lock's part with this number
-abbrev pub call_of : ℕ → CoreCall
-call_of n = if n == 0 then Lock else if n == 1 then Recover else if n == 2 then Unlock else Withdraw
-
 -- the stage of the lock's part with these numbers
 abbrev pub stage_of : RmePosition → Option Stage
 stage_of q =
     if q.at == 0 then Some stage.Rest
     else if q.at == 1 then Some stage.Dead
-    else if q.at == 2 then Some (stage.ReadingChoosing (call_of q.third))
-    else if q.at == 3 then Some (stage.ReadingNumber (call_of q.third) q.second)
-    else if q.at == 4 then Some (stage.ReadingInside (call_of q.third) q.second q.first)
+    else if q.at == 2 then Some (stage.ReadingChoosing (call_by q.third))
+    else if q.at == 3 then Some (stage.ReadingNumber (call_by q.third) q.second)
+    else if q.at == 4 then Some (stage.ReadingInside (call_by q.third) q.second q.first)
     else if q.at == 5 then Some stage.Opening
     else if q.at == 256 then Some (stage.Door q.third q.first)
-    else if q.at == 7 then Some (stage.Shutting (call_of q.third) q.first)
+    else if q.at == 7 then Some (stage.Shutting (call_by q.third) q.first)
     else if q.at == 257 then Some (stage.Wait q.first q.third false)
     else if nat_lt 257 q.at then Some (stage.Wait q.first q.third true)
     else if q.at == 10 then Some stage.Inside
     else if q.at == 11 then Some stage.Leaving
     else if q.at == 12 then Some stage.Withdrawing
-    else if q.at == 13 then Some (stage.Unmarking (call_of q.third))
+    else if q.at == 13 then Some (stage.Unmarking (call_by q.third))
     else None
 
 -- the sizes are within those of a mailbox

@@ -13,11 +13,11 @@ use crate::accesses::next_at;
 use crate::answers::tell;
 use crate::position::{Position, append_position, layout, machine_state};
 use crate::process::{RmeAccess, RmeProcess, RmeStores};
-use crate::record::word;
 use crate::runs::MANY;
 use crate::script_position::ScriptPosition;
 use crate::steps::{decided, stored};
 use redomail::layout::{ARMED, COUNT, RECORD};
+use redomail::record::row_word;
 
 /// A message that is stored: its place and its number. Its words are those of the process.
 #[derive(Clone, Copy)]
@@ -77,7 +77,7 @@ fn name_row(
     ensures named { take (step + (2 + p.now.width)) each.new ≡ named_to p.now entry.at entry.seq (step + (2 + p.now.width)) }
 {
     for j in 0..2 + p.width {
-        let value = word(first, entry.seq, &p.value, p.width, j);
+        let value = row_word(first, entry.seq, &p.value, p.width, j);
         name(p, entry, step + j, start.saturating_add(j), value, each);
     }
 }

@@ -11,8 +11,9 @@ ghost use Rattle.rme_c.specs.declared.position.Position.TheVariants as Position;
 
 use crate::lock_arms::{looks_from, peeks_from};
 use crate::lock_part::{Landing, leaves, loads, stores};
-use crate::position::{at, number};
+use crate::position::at;
 use crate::process::{RmeAccess, RmeProcess};
+use rmecore::words::places::call_number;
 use rmecore::{CoreCall, Stage};
 
 /// After the reread of the own choosing: the own number comes next.
@@ -35,7 +36,7 @@ fn rereads_number(
 {
     let own = p.index;
     let to = Stage::ReadingNumber { call, choosing };
-    let numbers = at(3, p.position.first, choosing, number(call));
+    let numbers = at(3, p.position.first, choosing, call_number(call));
     loads(p, to, numbers, 3 * own + 1, steps, next)
 }
 
@@ -64,7 +65,7 @@ fn rereads_inside(
         choosing,
         number: read,
     };
-    let numbers = at(4, read, choosing, number(call));
+    let numbers = at(4, read, choosing, call_number(call));
     loads(p, to, numbers, 3 * own + 2, steps, next)
 }
 

@@ -15,7 +15,6 @@ mod lock_arms;
 mod lock_part;
 mod position;
 mod process;
-mod record;
 mod runs;
 mod script_position;
 mod starts;

@@ -1,7 +1,7 @@
 //! The steps of the lock's part, stage by stage. Each step makes the process's new numbers at once.
 
-ghost use Rattle.std.specs.Prelude.{◌≡◌, ℕ, ◌+◌, ◌<◌, ◌≤◌, ◌==◌, ◌||◌, IfSome, Some, None, true, false, is_none};
-ghost use Rattle.rmecore.specs.Place.{above, is_before};
+ghost use Rattle.std.specs.Prelude.{◌≡◌, ℕ, ◌+◌, ◌<◌, ◌≤◌, IfSome, Some, None, true, false, is_none};
+ghost use Rattle.rmecore.specs.Place.{above};
 ghost use Rattle.rmecore.specs.Place as PlaceOf;
 ghost use Rattle.rmecore.specs.Machine.{first as first_of, place_of, after_access, progress, next_access};
 ghost use Rattle.rmecore.specs.declared.stage.Stage.TheVariants as StageOf;
@@ -11,10 +11,10 @@ ghost use Rattle.rme_c.specs.Positions.{standing_at, machine_state_at, position_
 ghost use Rattle.rme_c.specs.Steps.{IsLanding, IsFed};
 ghost use Rattle.rme_c.specs.declared.position.Position.TheVariants as Position;
 
-use crate::accesses::first;
 use crate::lock_part::{Landing, comes_in, lands, leaves, loads, runs_out, stays, stores};
 use crate::position::at;
 use crate::process::{RmeAccess, RmeProcess};
+use rmecore::rules::{first_other, passes};
 use rmecore::{CoreCall, LockProcess, Stage};
 
 /// The doorway, with the processes from an index on still to be peeked at.
@@ -37,7 +37,7 @@ pub(crate) fn peeks_from(
 {
     let own = p.index;
     let second = p.position.second;
-    match first(p, from) {
+    match first_other(p.procs, p.index, from) {
         Some(k) => {
             let to = Stage::Door { next: k, greatest };
             loads(p, to, at(256, greatest, second, k), 3 * k + 1, steps, next)
@@ -78,7 +78,7 @@ pub(crate) fn looks_from(
     let own = p.index;
     let second = p.position.second;
     let looked = false;
-    match first(p, from) {
+    match first_other(p.procs, p.index, from) {
         Some(k) => {
             let to = Stage::Wait {
                 number,
@@ -124,7 +124,7 @@ fn after_door(
 {
     let own = p.index;
     let second = p.position.second;
-    match first(p, from) {
+    match first_other(p.procs, p.index, from) {
         Some(j) if value == 0 => peeks_from(p, j + 1, greatest, steps, next),
         Some(j) => peeks_from(p, j + 1, greatest.max(value), steps, next),
         None if greatest < p.limit => {
@@ -144,16 +144,6 @@ fn after_door(
         }
         None => runs_out(p, steps, next),
     }
-}
-
-/// Whether a waiter with this number passes process `j`, whose number was read: it does if that is 0 or its own pair is
-/// smaller (Lamport's Bakery).
-// Inline: each scan step, the hottest.
-#[inline(always)]
-fn passes(own: u64, number: u64, value: u64, j: u64) -> bool
-    ensures { result ≡ ((value == 0) || is_before number own value j) }
-{
-    value == 0 || (number, own) < (value, j)
 }
 
 /// After a look at process `j`.
@@ -229,7 +219,7 @@ fn after_weigh(
     if value == 0 {
         return looks_from(p, number, j + 1, steps, next);
     }
-    if passes(p.index, number, value, j) {
+    if passes(number, p.index, value, j) {
         return looks_from(p, number, j + 1, steps, next);
     }
     let to = Stage::Wait {
@@ -264,7 +254,7 @@ fn after_wait(
         (next_access (standing_at p.old (StageOf.Wait number from looked))) value).blocked }
     ensures numbers { IsLanding p.old result p.new next.old next.new }
 {
-    match first(p, from) {
+    match first_other(p.procs, p.index, from) {
         Some(j) if looked => after_weigh(p, number, from, j, value, steps, next),
         Some(j) => after_look(p, number, from, j, value, steps, next),
         None => comes_in(p, steps, next),

@@ -19,6 +19,7 @@ use crate::script_position::ScriptPosition;
 use crate::steps::check_next;
 use rmecore::{CoreDone, Found, Stage};
 use rmeworld::Answer;
+use rmeworld::outcome::core_answer;
 
 /// What a step of the lock's part leaves: the stage, the end of its call if it ended, whether it was blocked, and the code
 /// that C is given.
@@ -28,22 +29,6 @@ pub struct Landing {
     pub done: Option<CoreDone>,
     pub blocked: bool,
     pub code: u64,
-}
-
-/// The answer of a call that ends in the lock's part. None: it goes on with the ruin check.
-// Inline: once in each lock step.
-#[inline(always)]
-fn answer(barred: bool, done: Option<CoreDone>) -> Option<Answer>
-    ensures { result ≡ by_lock barred done }
-{
-    match done? {
-        CoreDone::In | CoreDone::InAgain => None,
-        CoreDone::Spent => Some(Answer::NumbersSpent),
-        CoreDone::Out if barred => Some(Answer::NotRecoverable),
-        CoreDone::Out => Some(Answer::Unlocked),
-        CoreDone::Found(found) => Some(Answer::Found(found)),
-        CoreDone::Withdrawn => Some(Answer::Withdrawn),
-    }
 }
 
 /// 1 if there is something to mend after a step, 0 if not.
@@ -107,7 +92,7 @@ pub fn lands(
     ensures numbers { IsLanding p.old result p.new next.old next.new }
 {
     let position = behind(p, enters(done), to);
-    let answer = answer(p.barred != 0, done);
+    let answer = core_answer(p.barred != 0, done);
     let after = next_at(p, position);
     p.unmended = unmended(p.unmended, done);
     p.position = numbers(p.position, position);

@@ -15,10 +15,10 @@ ghost use Rattle.rme_c.specs.declared.position.Position.TheVariants as Position;
 ghost use Rattle.rme_c.specs.declared.runs.Run.TheVariants as RunOf;
 ghost use Rattle.rmeworld.specs.declared.call.Call.TheVariants as CallStart;
 
-use crate::accesses::first;
 use crate::exports::{check_feed, rme_feed, stage_feed};
 use crate::position::{at, lock_stage};
 use crate::process::{RmeAccess, RmeProcess};
+use rmecore::rules::first_other;
 use rmecore::{CoreCall, Stage};
 
 /// Counts from here on take the long way, where they are added with care.
@@ -69,7 +69,7 @@ fn door_run(p: &RmeProcess, next: u64, greatest: u64) -> Option<Run>
     ensures next { result ≡ run_next (machine_state_at p.now (Position.Lock (StageOf.Door next greatest))) }
     ensures below { IfSome result BeginsBelow }
 {
-    match first(p, next) {
+    match first_other(p.procs, p.index, next) {
         Some(j) => Some(Run::Peeks(j)),
         None if greatest < p.limit => Some(Run::Takes(greatest + 1)),
         None => None,
@@ -97,7 +97,7 @@ fn wait_run(p: &RmeProcess, number: u64, next: u64, looked: bool) -> Option<Run>
 {
     // For the proof alone: its value is read.
     let _ = number;
-    match first(p, next) {
+    match first_other(p.procs, p.index, next) {
         Some(j) => look_run(j, looked),
         None => Some(Run::Marks),
     }
@@ -347,7 +347,7 @@ fn whole_run(
             next: from,
             greatest,
         } if zeros + 1 == 2 * p.procs && value == 0 && greatest < p.limit => {
-            match first(p, from) {
+            match first_other(p.procs, p.index, from) {
                 None => Some(passed(p, from, greatest, zeros, value, steps, next)),
                 Some(_) => None,
             }
@@ -356,7 +356,7 @@ fn whole_run(
             number,
             next: from,
             looked: false,
-        } if zeros == 1 && value != 1 => match first(p, from) {
+        } if zeros == 1 && value != 1 => match first_other(p.procs, p.index, from) {
             None => Some(marked(p, number, from, zeros, value, steps, next)),
             Some(_) => None,
         },

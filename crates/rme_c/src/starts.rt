@@ -1,8 +1,8 @@
 //! The sizes of a world, and the starts of calls.
 
-ghost use Rattle.std.specs.Prelude.{◌≡◌, ◌≤◌, ◌<◌, ◌↔◌, true, false, not, nat_lt, OnOk, OnErr, IfErr, IfSome, IsSome, IsTrue, Some, None, [], ◌∷◌, length, take};
+ghost use Rattle.std.specs.Prelude.{◌≡◌, ◌≤◌, ◌<◌, ◌↔◌, OnOk, OnErr, IfErr, IfSome, IsSome, IsTrue, Some, None, length};
 ghost use Rattle.redomail.specs.Layout.{IsLayout};
-ghost use Rattle.rmeworld.specs.Refused.{Needs, is_idle, is_inside, is_waiting, first_cause, start_refusal};
+ghost use Rattle.rmeworld.specs.Refused.{is_idle, is_inside, is_waiting, start_refusal};
 ghost use Rattle.rmeworld.specs.MachineState.{process_state_of, started, next_access, IsSize};
 ghost use Rattle.rme_c.specs.Codes.{shown as shown_of};
 ghost use Rattle.rme_c.specs.Positions.{machine_state_at, machine_state_of, layout_of, position_of, Fits};
@@ -19,6 +19,7 @@ use redomail::Layout;
 use rmecore::simulated::{MOST_LIMIT, MOST_PROCS};
 use rmecore::{Body, CoreCall, Refusal, Stage};
 use rmeworld::Call;
+use rmeworld::readiness::Readiness;
 
 /// Why no world has these sizes and this process, if so.
 pub fn size_refusal(layout: Layout, limit: u64, index: u64) -> Option<Refusal>
@@ -70,95 +71,27 @@ pub fn call_of(width: u64, call: &RmeCall) -> Option<Call>
 }
 
 /// What the refusals of a start need to know of a process.
-#[derive(Clone, Copy)]
-struct ObservedAnswer {
-    idle: bool,
-    inside: bool,
-    waiting: bool,
-}
-
-/// What the refusals of a start ask of a process at this position.
 // Inline: once in each C start.
 #[inline(always)]
-fn look_at(p: &RmeProcess, position: Position) -> ObservedAnswer
-    ensures idle { result.idle ≡ is_idle (process_state_of (machine_state_at p.now position)) }
-    ensures inside { result.inside ≡ is_inside (machine_state_at p.now position).lock }
-    ensures waiting { result.waiting ≡ is_waiting (machine_state_at p.now position).lock }
+fn readiness(p: &RmeProcess, position: Position) -> Readiness
+    ensures idle { result.is_idle ≡ is_idle (process_state_of (machine_state_at p.now position)) }
+    ensures inside { result.is_inside ≡ is_inside (machine_state_at p.now position).lock }
+    ensures waiting { result.is_waiting ≡ is_waiting (machine_state_at p.now position).lock }
+    ensures mended { result.is_mended ≡ (machine_state_at p.now position).mended }
 {
-    // For the proof alone: its value is read.
-    let _ = &p.index;
-    let (idle, inside, waiting) = match position {
+    let (is_idle, is_inside, is_waiting) = match position {
         Position::Lost | Position::Lock(Stage::Rest | Stage::Dead) => (true, false, false),
         Position::Lock(Stage::Inside) => (true, true, false),
         Position::Lock(Stage::Wait { .. }) => (false, false, true),
         Position::Lock(_) => (false, false, false),
         Position::Within(_) => (false, true, false),
     };
-    ObservedAnswer {
-        idle,
-        inside,
-        waiting,
+    Readiness {
+        is_idle,
+        is_inside,
+        is_waiting,
+        is_mended: p.unmended == 0,
     }
-}
-
-/// Refuses, unless the process is inside with no call under way.
-// Inline: once in each C start.
-#[inline(always)]
-fn holds(seen: ObservedAnswer) -> Result<(), Refusal>
-    ensures accepted { OnOk result ((seen.idle ≡ true) × (seen.inside ≡ true)) }
-    ensures refused { IfErr result (λ e. (rest : Needs) → first_cause
-        ((seen.idle, Refusal.CallUnderWay) ∷ (seen.inside, Refusal.NotOwner) ∷ rest) ≡ Some e) }
-{
-    if !seen.idle {
-        return Err(Refusal::CallUnderWay);
-    }
-    if !seen.inside {
-        return Err(Refusal::NotOwner);
-    }
-    Ok(())
-}
-
-/// Refuses, unless the process is outside with no call under way.
-// Inline: once in each C start.
-#[inline(always)]
-fn may_come(seen: ObservedAnswer) -> Result<(), Refusal>
-    ensures accepted { OnOk result ((seen.idle ≡ true) × (seen.inside ≡ false)) }
-    ensures refused { IfErr result (λ e. first_cause ((seen.idle, Refusal.CallUnderWay)
-        ∷ (not seen.inside, Refusal.AlreadyIn) ∷ []) ≡ Some e) }
-{
-    if !seen.idle {
-        return Err(Refusal::CallUnderWay);
-    }
-    if seen.inside {
-        return Err(Refusal::AlreadyIn);
-    }
-    Ok(())
-}
-
-/// Refuses for this cause, unless the condition holds.
-// Inline: once in each C start.
-#[inline(always)]
-fn only(holds: bool, refusal: Refusal) -> Result<(), Refusal>
-    ensures accepted { OnOk result (holds ≡ true) }
-    ensures refused { IfErr result (λ e. (holds ≡ false) × (e ≡ refusal)) }
-{
-    if holds { Ok(()) } else { Err(refusal) }
-}
-
-/// Refuses a call of the board that can't be started now.
-fn at_board(seen: ObservedAnswer, i: u64) -> Result<(), Refusal>
-    ensures accepted { OnOk result (first_cause ((seen.idle, Refusal.CallUnderWay) ∷ (seen.inside, Refusal.NotOwner)
-        ∷ (nat_lt i 4, Refusal.BadIndex) ∷ []) ≡ None) }
-    ensures refused { IfErr result (λ e. first_cause ((seen.idle, Refusal.CallUnderWay) ∷ (seen.inside, Refusal.NotOwner)
-        ∷ (nat_lt i 4, Refusal.BadIndex) ∷ []) ≡ Some e) }
-{
-    if !seen.idle {
-        return Err(Refusal::CallUnderWay);
-    }
-    if !seen.inside {
-        return Err(Refusal::NotOwner);
-    }
-    only(i < 4, Refusal::BadIndex)
 }
 
 /// Refuses a call that can't be started now.
@@ -170,38 +103,7 @@ fn check(p: &RmeProcess, position: Position, call: &Call) -> Result<(), Refusal>
     ensures refused { IfErr result (λ e. start_refusal (layout_of p.now) (process_state_of (machine_state_at p.now position))
         call.now ≡ Some e) }
 {
-    let seen = look_at(p, position);
-    let mended = p.unmended == 0;
-    match *call {
-        Call::Withdraw => only(seen.waiting, Refusal::NotWaiting),
-        Call::Lock | Call::Recover => may_come(seen),
-        Call::Unlock => holds(seen),
-        Call::Consistent => {
-            holds(seen)?;
-            only(!mended, Refusal::NotInconsistent)
-        }
-        Call::Append { value, .. } => {
-            holds(seen)?;
-            only(mended, Refusal::Unmended)?;
-            only(value.width() == p.width, Refusal::BadWidth)
-        }
-        Call::Close => {
-            holds(seen)?;
-            only(mended, Refusal::Unmended)
-        }
-        Call::Get(i) => at_board(seen, i),
-        Call::Put(i, _) => at_board(seen, i),
-    }
-}
-
-/// The words of a value, zeros after them.
-fn words(value: Body) -> [u64; 8]
-    ensures { take (length value) result ≡ value }
-{
-    let mut all = [0; 8];
-    let width = value.width();
-    all[..width as usize].copy_from_slice(value.as_slice());
-    all
+    readiness(p, position).check(p.width, call)
 }
 
 /// The position right after the start of a call that may start.
@@ -228,7 +130,7 @@ fn begin(p: &mut RmeProcess, position: Position, call: Call) -> Position
         Call::Unlock => Position::Within(ScriptPosition::Ruining),
         Call::Consistent => Position::Within(ScriptPosition::Asking),
         Call::Append { seq, value } => {
-            p.value = words(value);
+            p.value = *value.seam_words();
             Position::Within(ScriptPosition::Closed { seq })
         }
         Call::Close => Position::Within(ScriptPosition::Closing),

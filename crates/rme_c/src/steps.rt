@@ -16,10 +16,11 @@ ghost use Rattle.rme_c.specs.declared.script_position.ScriptPosition.TheVariants
 use crate::answers::Told;
 use crate::position::{Position, layout};
 use crate::process::RmeProcess;
-use crate::record::put;
 use crate::script_position::ScriptPosition;
 use redomail::Reply;
+use redomail::append::early_reply;
 use redomail::layout::{ARMED, CLOSED, COUNT, RECORD, RUINED};
+use redomail::record::put_at;
 use rmecore::{Access, Kind, Stage, Word};
 use rmeworld::Answer;
 
@@ -61,7 +62,7 @@ pub fn script_position_next(p: &RmeProcess, script_position: ScriptPosition) -> 
         ScriptPosition::Seq { .. } => get(RECORD + 1),
         ScriptPosition::Value { read, .. } => get(RECORD + 2 + read),
         ScriptPosition::Redo { at, seq, step } | ScriptPosition::Store { at, seq, step } => {
-            let (i, v) = put(layout(p), p.index, at, seq, &p.value, step);
+            let (i, v) = put_at(layout(p), p.index, at, seq, &p.value, step);
             Access::Store(Kind::Put, Word::Data(i), v)
         }
         ScriptPosition::Closed { .. } | ScriptPosition::Closing => get(CLOSED),
@@ -225,22 +226,13 @@ pub fn decided(p: &mut RmeProcess, seq: u64, closed: u64, count: u64, last: u64)
     ensures ends { (result.0 ≡ Position.Lock StageOf.Inside)
         ⊎ (result.0 ≡ Position.Within (ScriptPosition.Store count seq 0)) }
 {
-    if seq == 0 {
-        replied(Reply::OutOfOrder)
-    } else if seq <= last {
-        replied(Reply::Already)
-    } else if seq - 1 > last {
-        replied(Reply::OutOfOrder)
-    } else if closed == 1 {
-        replied(Reply::Closed)
-    } else if count == p.cap {
-        replied(Reply::Full)
-    } else {
-        on(ScriptPosition::Store {
+    match early_reply(p.cap, seq, closed, count, last) {
+        Some(reply) => replied(reply),
+        None => on(ScriptPosition::Store {
             at: count,
             seq,
             step: 0,
-        })
+        }),
     }
 }
 

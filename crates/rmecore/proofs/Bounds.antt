@@ -1,19 +1,16 @@
 -- Numbers stay at most limit, so the words of every world of a run are lawful.
-use Rattle.std.proofs.Common.{nat_le, nat_lt, ◌≡◌, ℕ, zero, suc, ◌+◌, ◌<◌, ◌≤◌, max, Bool, true, false, ◌&&◌, ◌||◌, ◌==◌, if◌then◌else◌, List, [], ◌∷◌, Some, None, IsSome, unwrap_or, refl, sym, subst, inl, inr, arith, eqb-true, eq-eqb, ltb-true, lt-ltb}
-use Rattle.rmecore.proofs.Common.{and_parts, cases_eq, cases_lt, and_from, or_left, or_right, CoreCall, Lock, Unlock, Withdraw, Kind, Take as Takes, Shut as Shuts, Rereads, Open as Opens}
-use Rattle.rmecore.proofs.Common.{Peek as Peeks, Look as Looks, Weigh as Weighs, Mark as Marks, Drop as Drops, Glance as Glances, Own, Word, Choosing as ChoosingOf, Number as NumberOf, InsideOf}
-use Rattle.rmecore.proofs.Common.{Data as DataAt, Abstract, IsRow, IsLawful, all_dead, put, Place, Rest, Dead, Reread, Opening, Door, Shutting, Wait, Inside, Leaving, Withdrawing, Unmarking, has}
-use Rattle.rmecore.proofs.Common.{only, next, Event, Starts, Crashes, Steps, without, others, is_before, restart, started, shut, unmarked, World, at_rest, is_store, read, write, May, after, Run}
+use Rattle.std.proofs.Common.{◌≡◌, ℕ, zero, suc, ◌≤◌, Bool, true, false, if◌then◌else◌, List, [], ◌∷◌, IsSome, unwrap_or, refl, sym, subst, inl, inr, arith, eq-eqb, lt-ltb}
+use Rattle.rmecore.proofs.Common.{cases_eq, cases_lt, and_from, or_left, or_right, CoreCall, Lock, Withdraw, Kind}
+use Rattle.rmecore.proofs.Common.{Own, Word, Choosing as ChoosingOf, Number as NumberOf, InsideOf}
+use Rattle.rmecore.proofs.Common.{Data as DataAt, Abstract, IsRow, IsLawful, all_dead, put, Place, Rest, Dead, Door}
+use Rattle.rmecore.proofs.Common.{next, Event, Starts, Crashes, Steps, is_before, restart, started, shut, unmarked, World, at_rest, is_store, read, write, May, after, Run}
 use Rattle.rmecore.proofs.Common.{final}
 use Rattle.rmecore.proofs.Invariant.{Before, Stands, Tied, put_same, put_other, row_of}
-use Rattle.rmecore.proofs.Runs.{guard, kept}
-use Rattle.rmecore.proofs.Accesses.{passed}
+use Rattle.rmecore.proofs.AllowedSteps.{by_step}
+use Rattle.rmecore.proofs.Runs.{kept}
 
 pub before_test : (k p v i : ℕ) → Before k p v i → is_before k p v i ≡ true
 before_test k p v i h = elim h [ inl less ↦ or_left _ _ (lt-ltb k v less) | inr both ↦ or_right _ _ (and_from _ _ (eq-eqb k v both.0) (lt-ltb p i both.1)) ]
-
-last : (b c : Bool) (t : Place) → IsSome (only (b && c) t) → c ≡ true
-last b c t some = (and_parts b c (passed (b && c) t some)).1
 
 module _ (limit : ℕ) where
   pub record Small (x : Own) : Type 0 where
@@ -52,9 +49,6 @@ module _ (limit : ℕ) where
   within_restart n p _ zero (suc k) (suc i) = tt
   within_restart n p _ _ _ _ = tt
 
-  guarded : (b : Bool) (t s : Place) → IsSome (only b t) → (b ≡ true → Within t) → Within (unwrap_or (only b t) s)
-  guarded b t s some h = guard b t s Within some h
-
   within_shut : (n p : ℕ) (call : CoreCall) (k : ℕ) → Within (shut n p call k)
   within_shut n p Lock k = tt
   within_shut n p _ k = tt
@@ -63,51 +57,52 @@ module _ (limit : ℕ) where
   within_unmarked Lock = tt
   within_unmarked _ = tt
 
-  within_if : (b : Bool) (t s : Place) → Within t → Within s → Within (if b then t else s)
-  within_if true t s h k = h
-  within_if false t s h k = k
-
   -- what a store writes is within the bounds of its word
   fitting : (n p : ℕ) (s : Place) (kind : Kind) (word : Word) (v : ℕ) → IsSome (next n limit p s kind word v) → is_store kind ≡ true → Fitting word v
-  fitting n p Opening Opens (ChoosingOf q) v some e = let is : v ≡ 1 = eqb-true v 1 (last (q == p) (v == 1) (Door (others n p) 0) some) in omega arith
-  fitting n p (Door [] m) Takes (NumberOf q) v some e =
-      let both = and_parts (nat_lt m limit) (v == m + 1) (last (q == p) (nat_lt m limit && (v == m + 1)) (Shutting Lock v) some) in
-      let low : m < limit = ltb-true m limit both.0 in
-      let is : v ≡ m + 1 = eqb-true v (m + 1) both.1 in
-      omega arith
-  fitting n p (Door [] m) Shuts (ChoosingOf q) v some e =
-      let is : v ≡ 0 = eqb-true v 0 (and_parts (nat_le limit m) (v == 0) (last (q == p) (nat_le limit m && (v == 0)) Rest some)).1 in
-      omega arith
-  fitting n p (Shutting call k) Shuts (ChoosingOf q) v some e = let is : v ≡ 0 = eqb-true v 0 (last (q == p) (v == 0) (shut n p call k) some) in omega arith
-  fitting n p (Wait k unpassed (Some i)) Weighs (NumberOf j) v some e = absurd (cc)
-  fitting n p (Wait k [] None) Marks (InsideOf q) v some e = let is : v ≡ 1 = eqb-true v 1 (last (q == p) (v == 1) Inside some) in omega arith
-  fitting n p Leaving Drops (NumberOf q) v some e = let is : v ≡ 0 = eqb-true v 0 (last (q == p) (v == 0) (Unmarking Unlock) some) in omega arith
-  fitting n p Withdrawing Drops (NumberOf q) v some e = let is : v ≡ 0 = eqb-true v 0 (last (q == p) (v == 0) Rest some) in omega arith
-  fitting n p (Unmarking call) Marks (InsideOf q) v some e = let is : v ≡ 0 = eqb-true v 0 (last (q == p) (v == 0) (unmarked call) some) in omega arith
-  fitting n p (Reread call (c ∷ k ∷ [])) Rereads (InsideOf q) v some e = absurd (cc)
-  fitting n p s Glances word v some e = absurd (cc)
-  fitting _ _ _ _ _ _ some e = absurd (cc)
+  fitting n p =
+      by_step {C = λ s kind word v t. is_store kind ≡ true → Fitting word v} (
+      record {
+        rereads_choosing = λ call v e. absurd (cc);
+        rereads_number = λ call c v e. absurd (cc);
+        rereads_inside = λ call c k v e. absurd (cc);
+        opens = λ e. omega arith;
+        peeks = λ unread m j v there e. absurd (cc);
+        takes = λ m less e. omega arith;
+        spends = λ m most e. omega arith;
+        shuts = λ call k e. omega arith;
+        looks = λ k unpassed j there e. absurd (cc);
+        looks_again = λ k unpassed j v there blocked e. absurd (cc);
+        weighs = λ k unpassed j v passes e. absurd (cc);
+        weighs_again = λ k unpassed j v blocked e. absurd (cc);
+        marks = λ k e. omega arith;
+        drops = λ e. omega arith;
+        withdraws = λ e. omega arith;
+        unmarks = λ call e. omega arith;
+        glances = λ s word v e. absurd (cc);
+      })
 
-  within_next : (n p : ℕ) (words : ℕ → Own) (s : Place) (kind : Kind) (word : Word) (v : ℕ) → IsSome (next n limit p s kind word v) → ((q : ℕ) → Small (words q)) → Within s → (is_store kind ≡ false → read words word ≡ v) → Within (unwrap_or (next n limit p s kind word v) s)
-  within_next n p words (Reread call []) Rereads (ChoosingOf q) v some small h told = guarded (q == p) _ _ some (λ e. tt)
-  within_next n p words (Reread call (c ∷ [])) Rereads (NumberOf q) v some small h told = guarded (q == p) _ _ some (λ e. tt)
-  within_next n p words (Reread call (c ∷ k ∷ [])) Rereads (InsideOf q) v some small h told = guarded (q == p) _ _ some (λ e. within_restart n p call c k v)
-  within_next n p words Opening Opens (ChoosingOf q) v some small h told = guarded ((q == p) && (v == 1)) (Door (others n p) 0) Opening some (λ e. omega arith)
-  within_next n p words (Door unread m) Peeks (NumberOf j) v some small h told =
-      guarded (has unread j) (Door (without j unread) (max m v)) _ some (λ e. let le = (small j).number in let is = told refl in omega arith)
-  within_next n p words (Door [] m) Takes (NumberOf q) v some small h told = guarded _ _ _ some (λ e. tt)
-  within_next n p words (Door [] m) Shuts (ChoosingOf q) v some small h told = guarded _ _ _ some (λ e. tt)
-  within_next n p words (Shutting call k) Shuts (ChoosingOf q) v some small h told = guarded _ _ _ some (λ e. within_shut n p call k)
-  within_next n p words (Wait k unpassed None) Looks (ChoosingOf j) v some small h told = guarded (has unpassed j) _ _ some (λ e. within_if (v == 0) _ _ tt tt)
-  within_next n p words (Wait k unpassed (Some i)) Weighs (NumberOf j) v some small h told = guarded (j == i) _ _ some (λ e. within_if ((v == 0) || is_before k p v j) _ _ tt tt)
-  within_next n p words (Wait k [] None) Marks (InsideOf q) v some small h told = guarded _ _ _ some (λ e. tt)
-  within_next n p words Leaving Drops (NumberOf q) v some small h told = guarded _ _ _ some (λ e. tt)
-  within_next n p words Withdrawing Drops (NumberOf q) v some small h told = guarded _ _ _ some (λ e. tt)
-  within_next n p words (Unmarking call) Marks (InsideOf q) v some small h told = guarded _ _ _ some (λ e. within_unmarked call)
-  within_next n p words s Glances (ChoosingOf q) v some small h told = h
-  within_next n p words s Glances (NumberOf q) v some small h told = h
-  within_next n p words s Glances (InsideOf q) v some small h told = h
-  within_next _ _ _ _ _ _ _ some small h told = absurd (cc)
+  within_next : (n p : ℕ) (words : ℕ → Own) → ((q : ℕ) → Small (words q)) → (s : Place) (kind : Kind) (word : Word) (v : ℕ) → IsSome (next n limit p s kind word v) → (is_store kind ≡ false → read words word ≡ v) → Within s → Within (unwrap_or (next n limit p s kind word v) s)
+  within_next n p words small =
+      by_step {C = λ s kind word v t. (is_store kind ≡ false → read words word ≡ v) → Within s → Within t} (
+      record {
+        rereads_choosing = λ call v told h. tt;
+        rereads_number = λ call c v told h. tt;
+        rereads_inside = λ call c k v told h. within_restart n p call c k v;
+        opens = λ told h. omega arith;
+        peeks = λ unread m j v there told h. let le = (small j).number in let is = told refl in omega arith;
+        takes = λ m less told h. tt;
+        spends = λ m most told h. tt;
+        shuts = λ call k told h. within_shut n p call k;
+        looks = λ k unpassed j there told h. tt;
+        looks_again = λ k unpassed j v there blocked told h. tt;
+        weighs = λ k unpassed j v passes told h. tt;
+        weighs_again = λ k unpassed j v blocked told h. tt;
+        marks = λ k told h. tt;
+        drops = λ told h. tt;
+        withdraws = λ told h. tt;
+        unmarks = λ call told h. within_unmarked call;
+        glances = λ s word v told h. h;
+      })
 
   pub record Bounded (w : World) : Type 0 where
     pub small : (q : ℕ) → Small (w.words q)
@@ -135,7 +130,7 @@ module _ (limit : ℕ) where
   bounded_after n w (Steps p kind word v) may h =
       record {
         small = small_stored w.words kind word v (is_store kind) h.small (fitting n p (w.places p) kind word v may.1);
-        within = within_put w.places p _ h.within (within_next n p w.words (w.places p) kind word v may.1 h.small (h.within p) may.2);
+        within = within_put w.places p _ h.within (within_next n p w.words h.small (w.places p) kind word v may.1 may.2 (h.within p));
       }
 
   lawful : (n : ℕ) (w : World) (a : Abstract) → Tied n w a → Bounded w → ((p : ℕ) → n ≤ p → IsRow limit (w.words p)) → IsLawful n limit w.words

@@ -2,6 +2,7 @@ pub mod Common
 pub mod Invariant
 pub mod Allowing
 pub mod Changes
+pub mod AllowedSteps
 pub mod Rows
 pub mod Runs
 pub mod Continuations
@@ -25,3 +26,4 @@ pub mod Payments
 pub mod Tallies
 pub mod CoreTallies
 pub mod Bodies
+pub mod PlaceBack

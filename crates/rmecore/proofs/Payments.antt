@@ -1,14 +1,13 @@
 -- Each step of a call that isn't blocked adds one to its count. At the answer the count is the table's number.
-use Rattle.std.proofs.Common.{◌≡◌, ℕ, zero, suc, ◌+◌, ◌-◌, ◌*◌, ◌<◌, ◌≤◌, max, true, false, ◌||◌, ◌==◌, if◌then◌else◌, List, [], ◌∷◌, length, Option, Some, None, IsSome, IfSome, unwrap_or, refl, sym, ap, ◌∙◌, subst, inl, inr, arith, eqb-true, eq-eqb, ne_eqb}
-use Rattle.rmecore.proofs.Common.{cases_Bool, false_from_ne_true, cases_eq, CoreCall, Lock, Unlock, CoreDone, Kind, Take as Takes, Shut as Shuts, Rereads, Open as Opens, Peek as Peeks, Look as Looks}
-use Rattle.rmecore.proofs.Common.{Weigh as Weighs, Mark as Marks, Drop as Drops, Glance as Glances, Word, Choosing as ChoosingOf, Number as NumberOf, InsideOf, is_blocked, answer, reread_answer}
-use Rattle.rmecore.proofs.Common.{shut_answer, unmark_answer, most_steps, own_steps, is_glance, Distinct, Pays, ReadsBegun, Place, Rest, Reread, Opening, Door, Shutting, Wait, Inside, Leaving}
-use Rattle.rmecore.proofs.Common.{Withdrawing, Unmarking, has, next, without, others, is_before, restart, shut, unmarked, span, is_idle}
+use Rattle.std.proofs.Common.{◌≡◌, ℕ, zero, suc, ◌+◌, ◌-◌, ◌*◌, ◌<◌, ◌≤◌, true, false, ◌==◌, if◌then◌else◌, List, [], ◌∷◌, length, Option, Some, None, IsSome, IfSome, unwrap_or, refl, sym, ap, ◌∙◌, subst, inl, inr, arith, eq-eqb, ne_eqb}
+use Rattle.rmecore.proofs.Common.{cases_Bool, false_from_ne_true, cases_eq, CoreCall, Lock, Unlock, CoreDone, Kind}
+use Rattle.rmecore.proofs.Common.{Word, is_blocked, answer, reread_answer}
+use Rattle.rmecore.proofs.Common.{shut_answer, unmark_answer, most_steps, own_steps, is_glance, Distinct, Pays, ReadsBegun, Place, Reread, Opening, Door, Shutting, Wait, Leaving}
+use Rattle.rmecore.proofs.Common.{Withdrawing, Unmarking, has, next, without, others, restart, shut, unmarked, span, is_idle}
 use Rattle.rmecore.proofs.Invariant.{has-without}
-use Rattle.rmecore.proofs.Accesses.{passed}
-use Rattle.rmecore.proofs.Runs.{guard}
+use Rattle.rmecore.proofs.AllowedSteps.{by_step}
 use Rattle.rmecore.proofs.Scans.{has-span-low}
-use Rattle.rmecore.specs.declared.core_done.CoreDone.TheVariants.{In, Spent, Out, Found as Finds, Withdrawn}
+use Rattle.rmecore.specs.declared.core_done.CoreDone.TheVariants.{In, Out, Found as Finds, Withdrawn}
 use Rattle.rmecore.specs.declared.found.Found.TheVariants.{Left, Waiting}
 
 without-absent : (js : List ℕ) (j : ℕ) → has js j ≡ false → without j js ≡ js
@@ -116,39 +115,29 @@ module _ (n p : ℕ) (below : p < n) where
 
   pub pays : (limit c k i : ℕ) (s : Place) (kind : Kind) (word : Word) (v steps : ℕ) → IsSome (next n limit p s kind word v) → is_glance kind ≡ false → ReadsBegun c k i s v → Pays n c k i s steps
       → Comes n c k i (answer s kind v) (unwrap_or (next n limit p s kind word v) s) (if is_blocked p s kind v then steps else steps + 1)
-  pays limit c k i (Reread call []) Rereads (ChoosingOf q) v steps some not_glance reads h = guard _ _ _ (Goes c k i None steps) some (λ e. ((omega arith, reads), tt))
-  pays limit c k i (Reread call (x ∷ [])) Rereads (NumberOf q) v steps some not_glance reads h = guard _ _ _ (Goes c k i None steps) some (λ e. ((omega arith, h.1, reads), tt))
-  pays limit c k i (Reread call (x ∷ y ∷ [])) Rereads (InsideOf q) v steps some not_glance reads h =
-      guard _ (restart n p call x y v) _ (Goes c k i (reread_answer call x y v) steps) some (λ e. restarts_as call c k i x y v h.1 h.2 reads steps h.0)
-  pays limit c k i Opening Opens (ChoosingOf q) v steps some not_glance reads h =
-      guard _ (Door (others n p) 0) _ (Goes c k i None steps) some (λ e. let l = each in ((all, same _ h.0 (omega arith), same _ h.1 (omega arith)), tt))
-  pays limit c k i (Door unread m) Peeks (NumberOf j) v steps some not_glance reads h =
-      guard _ (Door (without j unread) (max m v)) _ (Goes c k i None steps) some
-      (λ e. let l = length-without unread j e h.0 in ((distinct-without unread j h.0, same _ h.1 (omega arith), same _ h.2 (omega arith)), tt))
-  pays limit c k i (Door [] m) Takes (NumberOf q) v steps some not_glance reads h = guard _ (Shutting Lock v) _ (Goes c k i None steps) some (λ e. (same _ h.2 (omega arith), tt))
-  pays limit c k i (Door [] m) Shuts (ChoosingOf q) v steps some not_glance reads h = guard _ Rest _ (Goes c k i (Some Spent) steps) some (λ e. (tt, h.1))
-  pays limit c k i (Shutting call x) Shuts (ChoosingOf q) v steps some not_glance reads h = guard _ (shut n p call x) _ (Goes c k i (shut_answer call) steps) some (λ e. shuts call c k i x steps h)
-  pays limit c k i (Wait x unpassed None) Looks (ChoosingOf j) v steps some not_glance reads h =
-      let e : has unpassed j ≡ true = passed _ _ some in
-      elim (cases_Bool (v == 0)) [ inl z ↦ rw (z, e) ((h.0, e, same _ h.1 (omega arith)), tt) | inr z ↦ rw (z, e) (h, tt) ]
-  pays limit c k i (Wait x unpassed (Some i')) Weighs (NumberOf j) v steps some not_glance reads h =
-      let e : (j == i') ≡ true = passed _ _ some in
-      let is : j ≡ i' = eqb-true j i' e in
-      elim (cases_Bool ((v == 0) || is_before x p v j)) [
-        | inl z ↦
-            let z' : ((v == 0) || is_before x p v i') ≡ true = subst (λ r. ((v == 0) || is_before x p v r) ≡ true) is z in
-            let there : has unpassed j ≡ true = ap (has unpassed) is ∙ h.1 in
-            let l = length-without unpassed j there h.0 in
-            rw (z, z', e) ((distinct-without unpassed j h.0, same _ h.2 (omega arith)), tt)
-        | inr z ↦ let z' : ((v == 0) || is_before x p v i') ≡ false = subst (λ r. ((v == 0) || is_before x p v r) ≡ false) is z in rw (z, z', e) (h, tt)
-      ]
-  pays limit c k i (Wait x [] None) Marks (InsideOf q) v steps some not_glance reads h = guard _ Inside _ (Goes c k i (Some In) steps) some (λ e. (tt, h.1))
-  pays limit c k i Leaving Drops (NumberOf q) v steps some not_glance reads h = guard _ (Unmarking Unlock) _ (Goes c k i None steps) some (λ e. (same _ h (omega arith), tt))
-  pays limit c k i Withdrawing Drops (NumberOf q) v steps some not_glance reads h = guard _ Rest _ (Goes c k i (Some Withdrawn) steps) some (λ e. (tt, h))
-  pays limit c k i (Unmarking call) Marks (InsideOf q) v steps some not_glance reads h = guard _ (unmarked call) _ (Goes c k i (unmark_answer call) steps) some (λ e. unmarks call c k i steps h)
-  pays limit c k i (Reread call (x ∷ y ∷ z ∷ seen)) kind word v steps some not_glance reads h = absurd h
-  pays limit c k i s Glances word v steps some not_glance reads h = absurd (cc)
-  pays limit c k i _ _ _ v steps some not_glance reads h = absurd (cc)
+  pays limit c k i s kind word v steps some not_glance reads h =
+      by_step
+      {C = λ s kind word v t. is_glance kind ≡ false → ReadsBegun c k i s v → Pays n c k i s steps → Comes n c k i (answer s kind v) t (if is_blocked p s kind v then steps else steps + 1)} (
+      record {
+        rereads_choosing = λ call v _ reads h. ((omega arith, reads), tt);
+        rereads_number = λ call x v _ reads h. ((omega arith, h.1, reads), tt);
+        rereads_inside = λ call x y v _ reads h. restarts_as call c k i x y v h.1 h.2 reads steps h.0;
+        opens = λ _ reads h. let l = each in ((all, same _ h.0 (omega arith), same _ h.1 (omega arith)), tt);
+        peeks = λ unread m j v there _ reads h. let l = length-without unread j there h.0 in ((distinct-without unread j h.0, same _ h.1 (omega arith), same _ h.2 (omega arith)), tt);
+        takes = λ m less _ reads h. (same _ h.2 (omega arith), tt);
+        spends = λ m most _ reads h. (tt, h.1);
+        shuts = λ call x _ reads h. shuts call c k i x steps h;
+        looks = λ x unpassed j there _ reads h. ((h.0, there, same _ h.1 (omega arith)), tt);
+        looks_again = λ x unpassed j v there blocked _ reads h. rw blocked (h, tt);
+        weighs = λ x unpassed j v passes _ reads h. let l = length-without unpassed j h.1 h.0 in rw passes ((distinct-without unpassed j h.0, same _ h.2 (omega arith)), tt);
+        weighs_again = λ x unpassed j v blocked _ reads h. rw blocked (h, tt);
+        marks = λ x _ reads h. (tt, h.1);
+        drops = λ _ reads h. (same _ h (omega arith), tt);
+        withdraws = λ _ reads h. (tt, h);
+        unmarks = λ call _ reads h. unmarks call c k i steps h;
+        glances = λ s word v not_glance reads h. absurd (cc);
+      })
+      s kind word v some not_glance reads h
 
 -- no number of the table is above the bound
 

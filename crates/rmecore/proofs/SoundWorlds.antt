@@ -1,11 +1,12 @@
 -- What every world of a run keeps: the invariant with some abstract lock, and that a process waits for other processes alone.
-use Rattle.std.proofs.Common.{◌≡◌, ◌≢◌, ℕ, zero, suc, ◌<◌, Bool, true, false, ◌||◌, ◌==◌, if◌then◌else◌, List, [], ◌∷◌, Some, None, IsSome, unwrap_or, refl, sym, subst, inl, inr}
-use Rattle.rmecore.proofs.Common.{cases_eq, CoreCall, Lock, Withdraw, Kind, Take as Takes, Shut as Shuts, Rereads, Open as Opens, Peek as Peeks, Look as Looks, Weigh as Weighs}
-use Rattle.rmecore.proofs.Common.{Mark as Marks, Drop as Drops, Glance as Glances, Own, Word, Choosing as ChoosingOf, Number as NumberOf, InsideOf, Abstract, nobody, IsLawful, all_dead, start_of, Place, Reread, Opening}
-use Rattle.rmecore.proofs.Common.{Door, Shutting, Wait, Leaving, Withdrawing, Unmarking, has, only, next, Event, Starts, Crashes, Steps, without, others, is_before, restart, started, shut, unmarked}
+use Rattle.std.proofs.Common.{◌≡◌, ◌≢◌, ℕ, zero, suc, ◌<◌, true, List, [], ◌∷◌, Some, None, IsSome, unwrap_or, refl, sym, subst, inl, inr}
+use Rattle.rmecore.proofs.Common.{cases_eq, CoreCall, Lock, Withdraw, Kind}
+use Rattle.rmecore.proofs.Common.{Own, Word, Abstract, nobody, IsLawful, all_dead, start_of, Place}
+use Rattle.rmecore.proofs.Common.{Wait, has, next, Event, Starts, Crashes, Steps, others, restart, started, shut, unmarked}
 use Rattle.rmecore.proofs.Common.{process, moved, World, at_rest, May, after, Run, final, deed}
 use Rattle.rmecore.proofs.Invariant.{Tied, put_same, put_other}
-use Rattle.rmecore.proofs.Runs.{guard, kept, at_first}
+use Rattle.rmecore.proofs.AllowedSteps.{by_step}
+use Rattle.rmecore.proofs.Runs.{kept, at_first}
 use Rattle.rmecore.proofs.Images.{at_image}
 use Rattle.rmecore.proofs.Rows.{after_deed}
 use Rattle.rmecore.proofs.Scans.{lined_above, has-span-other, without_has}
@@ -39,33 +40,28 @@ module _ (n limit p : ℕ) where
   awaits_unmarked Lock = tt
   awaits_unmarked _ = tt
 
-  awaits_if : (b : Bool) (t s : Place) → Awaits n p t → Awaits n p s → Awaits n p (if b then t else s)
-  awaits_if true t s h k = h
-  awaits_if false t s h k = k
-
-  guarded : (b : Bool) (t s : Place) → IsSome (only b t) → (b ≡ true → Awaits n p t) → Awaits n p (unwrap_or (only b t) s)
-  guarded b t s some h = guard b t s (Awaits n p) some h
-
   pub awaits_next : (s : Place) (kind : Kind) (word : Word) (v : ℕ) → IsSome (next n limit p s kind word v) → Awaits n p s → Awaits n p (unwrap_or (next n limit p s kind word v) s)
-  awaits_next (Reread call []) Rereads (ChoosingOf q) v some h = guarded (q == p) _ _ some (λ e. tt)
-  awaits_next (Reread call (c ∷ [])) Rereads (NumberOf q) v some h = guarded (q == p) _ _ some (λ e. tt)
-  awaits_next (Reread call (c ∷ k ∷ [])) Rereads (InsideOf q) v some h = guarded (q == p) _ _ some (λ e. awaits_restart call c k v)
-  awaits_next Opening Opens (ChoosingOf q) v some h = guarded _ _ _ some (λ e. tt)
-  awaits_next (Door unread m) Peeks (NumberOf j) v some h = guarded _ _ _ some (λ e. tt)
-  awaits_next (Door [] m) Takes (NumberOf q) v some h = guarded _ _ _ some (λ e. tt)
-  awaits_next (Door [] m) Shuts (ChoosingOf q) v some h = guarded _ _ _ some (λ e. tt)
-  awaits_next (Shutting call k) Shuts (ChoosingOf q) v some h = guarded _ _ _ some (λ e. awaits_shut call k)
-  awaits_next (Wait k unpassed None) Looks (ChoosingOf j) v some h = guarded (has unpassed j) _ _ some (λ e. awaits_if (v == 0) (Wait k unpassed (Some j)) (Wait k unpassed None) (h, h j e) h)
-  awaits_next (Wait k unpassed (Some i)) Weighs (NumberOf j) v some h =
-      guarded (j == i) _ _ some (λ e. awaits_if ((v == 0) || is_before k p v j) (Wait k (without j unpassed) None) (Wait k unpassed (Some i)) (λ r there. h.0 r (without_has unpassed r j there)) h)
-  awaits_next (Wait k [] None) Marks (InsideOf q) v some h = guarded _ _ _ some (λ e. tt)
-  awaits_next Leaving Drops (NumberOf q) v some h = guarded _ _ _ some (λ e. tt)
-  awaits_next Withdrawing Drops (NumberOf q) v some h = guarded _ _ _ some (λ e. tt)
-  awaits_next (Unmarking call) Marks (InsideOf q) v some h = guarded _ _ _ some (λ e. awaits_unmarked call)
-  awaits_next s Glances (ChoosingOf q) v some h = h
-  awaits_next s Glances (NumberOf q) v some h = h
-  awaits_next s Glances (InsideOf q) v some h = h
-  awaits_next _ _ _ _ some h = absurd (cc)
+  awaits_next =
+      by_step {C = λ s kind word v t. Awaits n p s → Awaits n p t} (
+      record {
+        rereads_choosing = λ call v h. tt;
+        rereads_number = λ call c v h. tt;
+        rereads_inside = λ call c k v h. awaits_restart call c k v;
+        opens = λ h. tt;
+        peeks = λ unread m j v there h. tt;
+        takes = λ m less h. tt;
+        spends = λ m most h. tt;
+        shuts = λ call k h. awaits_shut call k;
+        looks = λ k unpassed j there h. (h, h j there);
+        looks_again = λ k unpassed j v there blocked h. h;
+        weighs = λ k unpassed j v passes h. λ r there. h.0 r (without_has unpassed r j there);
+        weighs_again = λ k unpassed j v blocked h. h;
+        marks = λ k h. tt;
+        drops = λ h. tt;
+        withdraws = λ h. tt;
+        unmarks = λ call h. awaits_unmarked call;
+        glances = λ s word v h. h;
+      })
 
   awaits_started : (s : Place) (call : CoreCall) → Awaits n p s → Awaits n p (unwrap_or (started s call) s)
   awaits_started (Wait k unpassed looked) Withdraw h = tt

@@ -1,12 +1,12 @@
 -- The counts of a simulated core are the steps of the table.
-use Rattle.std.proofs.Common.{◌≡◌, ℕ, ◌+◌, ◌<◌, Bool, true, false, ◌==◌, nat_lt, if◌then◌else◌, List, [], ◌∷◌, Option, Some, None, IsSome, IfSome, unwrap_or, refl, sym, ap, ◌∙◌, inl, inr, arith, eqb-true}
-use Rattle.rmecore.proofs.Common.{cases_Bool, CoreCall, Lock, CoreDone, Kind, Take as Takes-number, Shut as Shuts, Rereads, Open as Opens, Peek as Peeks, Look as Looks, Weigh as Weighs, Mark as Marks}
-use Rattle.rmecore.proofs.Common.{Drop as Drops, Glance as Glances, Own, Tally, Word, Choosing as ChoosingOf, Number as NumberOf, InsideOf, access, kind_of, is_blocked, answer, is_glance, ReadsBegun}
-use Rattle.rmecore.proofs.Common.{Place, Reread, Opening, Door, Shutting, Wait, Leaving, Withdrawing, Unmarking, only, next, Steps, shut, unmarked, counted, IsExact, HasTaken, IsTallied, IsRereading}
+use Rattle.std.proofs.Common.{◌≡◌, ℕ, ◌+◌, ◌<◌, Bool, true, false, nat_lt, if◌then◌else◌, [], ◌∷◌, Option, Some, None, IsSome, IfSome, unwrap_or, refl, sym, ap, ◌∙◌, inl, inr, arith, eqb-true}
+use Rattle.rmecore.proofs.Common.{cases_Bool, CoreCall, Lock, CoreDone, Kind, Rereads}
+use Rattle.rmecore.proofs.Common.{Glance as Glances, Own, Tally, Word, Choosing as ChoosingOf, Number as NumberOf, InsideOf, access, kind_of, is_blocked, answer, is_glance, ReadsBegun}
+use Rattle.rmecore.proofs.Common.{Place, Reread, Door, Wait, next, Steps, shut, unmarked, counted, IsExact, HasTaken, IsTallied, IsRereading}
 use Rattle.rmecore.proofs.Common.{World, is_store, write, Reads, stored}
 use Rattle.rmecore.proofs.Accesses.{passed}
 use Rattle.rmecore.proofs.Payments.{Comes, pays}
-use Rattle.rmecore.proofs.Runs.{guard}
+use Rattle.rmecore.proofs.AllowedSteps.{by_step}
 
 -- the machine's next step is never a glance
 pub never_glances : (limit p : ℕ) (place : Place) → IfSome (access limit p place) (λ a. is_glance (kind_of a) ≡ false)
@@ -40,29 +40,27 @@ unmarked_not Lock h = h
 unmarked_not _ h = h
 
 pub rereads_on : (n limit p : ℕ) (s : Place) (kind : Kind) (word : Word) (v : ℕ) → IsSome (next n limit p s kind word v) → is_glance kind ≡ false → Was s kind (unwrap_or (next n limit p s kind word v) s)
-rereads_on n limit p (Reread call []) Rereads word v some not_glance = λ h. (tt, refl)
-rereads_on n limit p (Reread call (x ∷ [])) Rereads word v some not_glance = λ h. (tt, refl)
-rereads_on n limit p (Reread call (x ∷ y ∷ [])) Rereads word v some not_glance = λ h. (tt, refl)
-rereads_on n limit p (Reread call (x ∷ y ∷ z ∷ seen)) Rereads word v some not_glance = λ h. (tt, refl)
-rereads_on n limit p Opening Opens (ChoosingOf q) v some not_glance = guard _ _ _ (Was Opening Opens) some (λ e. λ h. absurd h)
-rereads_on n limit p (Door unread m) Peeks (NumberOf j) v some not_glance = guard _ _ _ (Was (Door unread m) Peeks) some (λ e. λ h. absurd h)
-rereads_on n limit p (Door [] m) Takes-number (NumberOf q) v some not_glance = guard _ _ _ (Was (Door [] m) Takes-number) some (λ e. λ h. absurd h)
-rereads_on n limit p (Door [] m) Shuts (ChoosingOf q) v some not_glance = guard _ _ _ (Was (Door [] m) Shuts) some (λ e. λ h. absurd h)
-rereads_on n limit p (Shutting call k) Shuts (ChoosingOf q) v some not_glance = guard _ _ _ (Was (Shutting call k) Shuts) some (λ e. λ h. absurd (shut_not n p call k h))
-rereads_on n limit p (Wait k unpassed None) Looks (ChoosingOf j) v some not_glance =
-    guard _ _ _ (Was (Wait k unpassed None) Looks) some (λ e. elim (cases_Bool (v == 0)) [ inl z ↦ rw z (λ h. absurd h) | inr z ↦ rw z (λ h. absurd h) ])
-rereads_on n limit p (Wait k unpassed (Some i)) Weighs (NumberOf j) v some not_glance = weighed _ _ _ some
-  where
-    weighed : (b b' : Bool) (js : List ℕ) → IsSome (only b (if b' then Wait k js None else Wait k unpassed (Some i))) → Was (Wait k unpassed (Some i)) Weighs (unwrap_or (only b (if b' then Wait k js None else Wait k unpassed (Some i))) (Wait k unpassed (Some i)))
-    weighed true true js some h = absurd h
-    weighed true false js some h = absurd h
-    weighed false b' js some h = absurd h
-rereads_on n limit p (Wait k [] None) Marks (InsideOf q) v some not_glance = guard _ _ _ (Was (Wait k [] None) Marks) some (λ e. λ h. absurd h)
-rereads_on n limit p Leaving Drops (NumberOf q) v some not_glance = guard _ _ _ (Was Leaving Drops) some (λ e. λ h. absurd h)
-rereads_on n limit p Withdrawing Drops (NumberOf q) v some not_glance = guard _ _ _ (Was Withdrawing Drops) some (λ e. λ h. absurd h)
-rereads_on n limit p (Unmarking call) Marks (InsideOf q) v some not_glance = guard _ _ _ (Was (Unmarking call) Marks) some (λ e. λ h. absurd (unmarked_not call h))
-rereads_on n limit p s Glances word v some not_glance = absurd (cc)
-rereads_on n limit p _ _ _ v some not_glance = absurd (cc)
+rereads_on n limit p =
+    by_step {C = λ s kind word v t. is_glance kind ≡ false → Was s kind t} (
+    record {
+      rereads_choosing = λ call v not_glance h. (tt, refl);
+      rereads_number = λ call c v not_glance h. (tt, refl);
+      rereads_inside = λ call c k v not_glance h. (tt, refl);
+      opens = λ not_glance h. absurd h;
+      peeks = λ unread m j v there not_glance h. absurd h;
+      takes = λ m less not_glance h. absurd h;
+      spends = λ m most not_glance h. absurd h;
+      shuts = λ call k not_glance h. absurd (shut_not n p call k h);
+      looks = λ k unpassed j there not_glance h. absurd h;
+      looks_again = λ k unpassed j v there blocked not_glance h. absurd h;
+      weighs = λ k unpassed j v passes not_glance h. absurd h;
+      weighs_again = λ k unpassed j v blocked not_glance h. absurd h;
+      marks = λ k not_glance h. absurd h;
+      drops = λ not_glance h. absurd h;
+      withdraws = λ not_glance h. absurd h;
+      unmarks = λ call not_glance h. absurd (unmarked_not call h);
+      glances = λ s word v not_glance h. absurd (cc);
+    })
 
 -- a reread reads the words as they were when the call began
 pub reads_begun : (n limit : ℕ) (w : World) (p : ℕ) (began : Own) (s : Place) (kind : Kind) (word : Word) (v : ℕ) → IsSome (next n limit p s kind word v) → is_glance kind ≡ false → Reads w.words (Steps p kind word v) → (IsRereading s → began ≡ w.words p)

@@ -10,6 +10,8 @@ pub mod Samples
 pub mod Lawful
 pub mod Machine
 pub mod Named
+pub mod PlaceWords
+pub mod StepsLeft
 pub mod Refused
 pub mod Simulated
 pub mod OwnSteps

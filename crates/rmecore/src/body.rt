@@ -1,6 +1,6 @@
 //! The value of a message.
 
-ghost use Rattle.std.specs.Prelude.{◌≡◌, ◌<◌, ◌↔◌, length, slice_index, IfOk, IfErr, IsOk};
+ghost use Rattle.std.specs.Prelude.{◌≡◌, ◌<◌, ◌↔◌, length, slice_index, take, IfOk, IfErr, IsOk};
 ghost use Rattle.rmecore.specs.Body.{IsWide};
 
 use crate::refusal::Refusal;
@@ -63,6 +63,16 @@ impl Body {
             return Err(Refusal::BadIndex);
         }
         Ok(self.words[j as usize])
+    }
+
+    /// All its words, in an array of eight. What is after them is 0. For this workspace alone: a row of a record is read from it.
+    // Inline: each store of an append.
+    #[inline(always)]
+    pub fn seam_words(&self) -> &[u64; 8]
+        ensures words { take (length self.now) result.now ≡ self.now }
+        ensures wide { IsWide self.now }
+    {
+        &self.words
     }
 
     /// All its words.

@@ -21,11 +21,13 @@ pub mod process;
 pub mod progress;
 pub mod refusal;
 mod restart;
+pub mod rules;
 pub mod scan;
 pub mod simulated;
 pub mod stage;
 pub mod tally;
 pub mod word;
+pub mod words;
 
 pub use access::Access;
 pub use body::Body;

@@ -11,3 +11,12 @@ pub struct Own {
     /// 1 while the process is in the section, also after a crash there. Else 0.
     pub inside: u64,
 }
+
+impl Own {
+    /// The words of a process that has taken no step.
+    pub const ZEROS: Own = Own {
+        choosing: 0,
+        number: 0,
+        inside: 0,
+    };
+}

@@ -12,6 +12,7 @@ use crate::outer::Outer;
 use crate::progress::{BLOCKED, Progress, SILENT};
 use crate::refusal::Refusal;
 use crate::restart::{after_shut, after_unmark, restarted};
+use crate::rules::{access_at, first_other, passes};
 use crate::scan::Scan;
 use crate::stage::Stage;
 use crate::word::Word;
@@ -64,15 +65,6 @@ impl LockProcess {
         }
     }
 
-    /// The first process from index `from` on, the own one left out.
-    fn first(&self, from: u64) -> Option<u64>
-        ensures first { result ≡ first (above self.now.procs self.now.index from) }
-        ensures room { IfSome result (λ j. j < u64.MAX) }
-    {
-        let j = if from == self.index { from + 1 } else { from };
-        if j < self.procs { Some(j) } else { None }
-    }
-
     /// The next access, if a call is under way. Scans go by rising index.
     pub fn next(&self) -> Option<Access>
         ensures next { result ≡ next_access self.now }
@@ -92,31 +84,7 @@ impl LockProcess {
         ensures next { result ≡ next_access self.now }
         ensures idle { is_none result ≡ is_idle self.now.place }
     {
-        let own = self.index;
-        match self.stage {
-            Stage::Rest | Stage::Dead | Stage::Inside => None,
-            Stage::ReadingChoosing { .. } => Some(Access::Load(Kind::Reread, Word::Choosing(own))),
-            Stage::ReadingNumber { .. } => Some(Access::Load(Kind::Reread, Word::Number(own))),
-            Stage::ReadingInside { .. } => Some(Access::Load(Kind::Reread, Word::Inside(own))),
-            Stage::Opening => Some(Access::Store(Kind::Open, Word::Choosing(own), 1)),
-            Stage::Door { next, greatest } => match self.first(next) {
-                Some(j) => Some(Access::Load(Kind::Peek, Word::Number(j))),
-                None if greatest < self.limit => {
-                    Some(Access::Store(Kind::Take, Word::Number(own), greatest + 1))
-                }
-                None => Some(Access::Store(Kind::Shut, Word::Choosing(own), 0)),
-            },
-            Stage::Shutting { .. } => Some(Access::Store(Kind::Shut, Word::Choosing(own), 0)),
-            Stage::Wait { next, looked, .. } => match self.first(next) {
-                Some(j) if looked => Some(Access::Load(Kind::Weigh, Word::Number(j))),
-                Some(j) => Some(Access::Load(Kind::Look, Word::Choosing(j))),
-                None => Some(Access::Store(Kind::Mark, Word::Inside(own), 1)),
-            },
-            Stage::Leaving | Stage::Withdrawing => {
-                Some(Access::Store(Kind::Drop, Word::Number(own), 0))
-            }
-            Stage::Unmarking { .. } => Some(Access::Store(Kind::Mark, Word::Inside(own), 0)),
-        }
+        access_at(self.procs, self.limit, self.index, self.stage)
     }
 
     /// The scan in progress, if there is one, and its next load. The load is what `next` answers.
@@ -140,7 +108,7 @@ impl LockProcess {
     {
         match self.stage {
             Stage::Door { next, greatest } => {
-                let j = self.first(next)?;
+                let j = first_other(self.procs, self.index, next)?;
                 let access = Access::Load(Kind::Peek, Word::Number(j));
                 Some((Scan::Peeking { next, greatest }, access))
             }
@@ -149,7 +117,7 @@ impl LockProcess {
                 next,
                 looked,
             } => {
-                let j = self.first(next)?;
+                let j = first_other(self.procs, self.index, next)?;
                 let scan = Scan::Waiting {
                     number,
                     next,
@@ -234,7 +202,7 @@ impl LockProcess {
             ≡ after_access (at_door self.now next greatest) (next_access (at_door self.now next greatest)) value }
         ensures progress { result.1 ≡ progress (at_door self.now next greatest) (next_access (at_door self.now next greatest)) value }
     {
-        match self.first(next) {
+        match first_other(self.procs, self.index, next) {
             Some(j) => (
                 Stage::Door {
                     next: j + 1,
@@ -253,13 +221,6 @@ impl LockProcess {
         }
     }
 
-    /// Whether a process that waits with `number` goes before process `j`, whose number is `value`.
-    fn passes(&self, number: u64, value: u64, j: u64) -> bool
-        ensures { result ≡ ((value == 0) || is_before number self.now.index value j) }
-    {
-        value == 0 || (number, self.index) < (value, j)
-    }
-
     /// The stage after a step while waiting, and its effects. A step that was blocked leaves the stage as it is.
     fn after_wait(&self, number: u64, next: u64, looked: bool, value: u64) -> (Stage, Progress)
         ensures place { place_of self.now.procs self.now.index result.0
@@ -267,8 +228,8 @@ impl LockProcess {
         ensures progress { result.1 ≡ progress (at_wait self.now number next looked)
             (next_access (at_wait self.now number next looked)) value }
     {
-        match self.first(next) {
-            Some(j) if looked && self.passes(number, value, j) => (
+        match first_other(self.procs, self.index, next) {
+            Some(j) if looked && passes(number, self.index, value, j) => (
                 Stage::Wait {
                     number,
                     next: j + 1,

@@ -14,7 +14,8 @@ pub struct Progress {
     pub blocked: bool,
 }
 
-pub(crate) const SILENT: Progress = Progress {
+/// No deed, no answer, not blocked.
+pub const SILENT: Progress = Progress {
     outer: None,
     done: None,
     blocked: false,

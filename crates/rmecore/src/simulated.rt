@@ -25,18 +25,6 @@ pub const MOST_PROCS: u64 = 64;
 /// The greatest limit of numbers, 2^62. So a number plus one always fits in a u64.
 pub const MOST_LIMIT: u64 = 4_611_686_018_427_387_904;
 
-const ZEROS: Own = Own {
-    choosing: 0,
-    number: 0,
-    inside: 0,
-};
-
-const UNSTARTED: Tally = Tally {
-    steps: 0,
-    blocked: 0,
-    began: ZEROS,
-};
-
 /// All processes of a lock and the words that they share. A caller starts a call and then steps it until a step carries its
 /// answer. A crash may come before any step. Processes are numbered from 0. Only `new` allocates.
 #[derive(Drop)]
@@ -105,8 +93,8 @@ impl Core {
         if limit == 0 || limit > MOST_LIMIT {
             return Err(Refusal::BadLimit);
         }
-        let words = vec![in alloc; ZEROS; procs as usize]?;
-        let tallies = vec![in alloc; UNSTARTED; procs as usize]?;
+        let words = vec![in alloc; Own::ZEROS; procs as usize]?;
+        let tallies = vec![in alloc; Tally::UNSTARTED; procs as usize]?;
         let processes = all_at_rest(alloc, procs, limit)?;
         Ok(Core {
             procs,

@@ -15,6 +15,13 @@ pub struct Tally {
 impl Tally {
     ghost use Rattle.rmecore.specs.Simulated.{counted};
 
+    /// The counts of a process before its first call, where its words are 0.
+    pub const UNSTARTED: Tally = Tally {
+        steps: 0,
+        blocked: 0,
+        began: Own::ZEROS,
+    };
+
     /// Counts one more step.
     pub fn count(&mut self, blocked: bool)
         ensures { self.new ≡ counted self.old blocked }

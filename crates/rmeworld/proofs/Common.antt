@@ -99,6 +99,7 @@ pub use Rattle.rmeworld.specs.Sent.{IsAsked, EveryDeedWasAsked, mail_after, Repl
 pub use Rattle.rmeworld.specs.ProcessState.{outer_by, ScriptState, Free, Doing, ProcessState, dead, WorldEvent, Begins, Falls, Moves, Glances, who, settled, script_state_entered, at_lock, inside_only, begun_from, moved_by, next_process_state, outer, only_process_state, mended_entered, working, at_rest, end_place, end_mended}
 pub use Rattle.rmeworld.specs.MachineState.{MachineState, standing, outcome, IsLeast, IsSize, resting, IsAllowed, process_state_of, lock_moved, job_left, stepped, stepped_by, access_by, next_access, after_at, process_state_after, StoresOwn, started as machine_state_started, crashed, InWords, IsOwnWord}
 pub use Rattle.rmeworld.specs.Tallied.{HasTaken, IsTallied, AllTallied}
-pub use Rattle.rmeworld.specs.UnderWay.{lock_part, part_call, purpose_call, call_by, call_at, task_call}
+pub use Rattle.rmecore.specs.Named.{lock_part}
+pub use Rattle.rmeworld.specs.UnderWay.{part_call, purpose_call, call_by, call_at, task_call}
 pub use Rattle.rmeworld.specs.World.{reading, event_deeds, GlobalState, at_first, Reads, put_cell, cells_after, Execution, onward, last_global_state, outer_deeds, mail_deeds, deeds, Can, put_deeds, words_after, own_world_events, reading_of}
 pub use Rattle.rmeworld.specs.WorldState.{WorldState, machine_state_at, process_state_at, global_state_of, Takes, world_event_of, ChoosesLeast, new_world, new_refusal, image_world, absent, HasConfiguration, crashed_from, IsConfigured, at_rest_from}

@@ -4,6 +4,7 @@ use Rattle.rmeworld.proofs.Common.{cond_both, Layout, Record, Reply, Script, Get
 use Rattle.rmeworld.proofs.Common.{repair, close, length-store_steps, task_steps, mending_steps, Costs}
 use Rattle.redomail.specs.declared.reply.Reply.TheVariants as reply
 use Rattle.redomail.specs.declared.task.Task.TheVariants as task
+use Rattle.redomail.specs.Tasks.{unless_replied}
 use Rattle.redomail.proofs.Steps.{length-apply_steps}
 
 costs-puts : (f : Reply → Option ℕ) (xs : List (ℕ × ℕ)) (a : Reply) (steps : ℕ) → f a ≡ Some (steps + length xs) → Costs f (puts xs (Done a)) steps
@@ -21,7 +22,7 @@ costs-gets f i (suc n) read next steps h = λ v.
 module _ (l : Layout) (p : ℕ) where
   decided_costs : (seq : ℕ) (value : List ℕ) (closed count last : ℕ) → length value ≡ l.width → Costs (task_steps l (task.Append seq value)) (decided l p seq value closed count last) 3
   decided_costs seq value closed count last wide =
-      let P : Script Reply → Type 0 = λ x. Costs (task_steps l (task.Append seq value)) x 3 in
+      let P : Option Reply → Type 0 = λ o. Costs (task_steps l (task.Append seq value)) (unless_replied o (puts (store_steps l p (record_of count seq value)) (Done reply.Stored))) 3 in
       cond_both (seq == 0) _ _ P (λ _. refl) (λ _.
       cond_both (nat_le seq last) _ _ P (λ _. refl) (λ _.
       cond_both (nat_lt (last + 1) seq) _ _ P (λ _. refl) (λ _.

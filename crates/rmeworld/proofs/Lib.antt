@@ -1,6 +1,5 @@
 pub mod Common
 pub mod ImageRules
-pub mod FirstRule
 pub mod Mapped
 pub mod Entries
 pub mod Chores

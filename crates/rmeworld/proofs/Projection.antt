@@ -1,6 +1,6 @@
 -- An execution without its data words is a run of the lock, with the same deeds.
 use Rattle.std.proofs.Common.{◌≡◌, ℕ, ◌<◌, Bool, true, false, ◌&&◌, ◌==◌, nat_lt, length, List, [], ◌∷◌, Option, Some, None, IsSome, unwrap_or, refl, sym, ap, ◌∙◌, subst, inl, inr, ◌⊎◌, eqb-true}
-use Rattle.rmeworld.proofs.Common.{cases_Bool, CoreCall, Kind, Gets, Puts, Outer, Own, Word, Data as DataAt, put, Place, next, Leaving, Inside, Dead, Event, Starts, Crashes, Steps, process, moved}
+use Rattle.rmeworld.proofs.Common.{cases_Bool, CoreCall, Kind, Gets, Puts, Outer, Own, Word, Data as DataAt, put, Place, next, Leaving, Inside, Dead, Event, Starts, Steps, process, moved}
 use Rattle.rmeworld.proofs.Common.{is_store, and_then, World, stored, Run, deed, final, not_data, Layout, Reply, Ruined, Script, Get as Asks, Put as Writes, Done, script, consistent, Call, Lock}
 use Rattle.rmeworld.proofs.Common.{Unlock, Consistent, Recover, Append, Close, Withdraw, Purpose, Ruining, Mending, Checking, core_of, HasStep, Can, is_entry, outer_by, ScriptState, Free, Doing, ProcessState, dead, WorldEvent, Begins, Falls}
 use Rattle.rmeworld.proofs.Common.{Moves, Glances as Looks-at, who, settled, script_state_entered, at_lock, inside_only, begun_from, moved_by, next_process_state, outer, only_process_state, mended_entered, end_place}

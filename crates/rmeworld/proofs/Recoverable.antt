@@ -1,11 +1,12 @@
 -- Only the script of an unlock before `consistent` puts word 0, so without such an unlock a lock that is not ruined stays so.
-use Rattle.std.proofs.Common.{◌≡◌, ◌≢◌, ℕ, zero, suc, ◌+◌, ◌<◌, Bool, true, false, ◌&&◌, ◌==◌, nat_lt, nat_le, length, List, [], ◌∷◌, ◌++◌, All, Option, Some, None, IsSome, unwrap_or, refl, sym, ◌∙◌, subst, inl, inr, arith, eqb-true}
+use Rattle.std.proofs.Common.{◌≡◌, ◌≢◌, ℕ, zero, suc, ◌+◌, ◌<◌, Bool, true, false, ◌&&◌, ◌==◌, nat_lt, length, List, [], ◌∷◌, ◌++◌, All, Option, Some, None, IsSome, unwrap_or, refl, sym, ◌∙◌, subst, inl, inr, arith, eqb-true}
 use Rattle.rmeworld.proofs.Common.{cases_Bool, cases_eq, and_parts, cond_both, All-nil, All-cons, put_same, put_other, not_data, Kind, Gets, Puts, Outer, Word, Data as DataAt, put, Place, next, is_store, Layout, Words, Record, Reply, Mended, Ruined}
 use Rattle.rmeworld.proofs.Common.{size, held, last_at, place_at, deeds_of_put, Script, Get as Asks, Put as Writes, Done, puts, gets, in_row, script, consistent, apply_steps, store_steps, record_of, decided, redo, repair, close}
 use Rattle.rmeworld.proofs.Common.{Call, Lock, Unlock, Consistent, Recover, Append, Close, Withdraw, Purpose, Ruining, Mending, Checking, Working, is_entry, ScriptState, Free, Doing, ProcessState, dead, WorldEvent, Begins, Falls, Moves, Glances}
 use Rattle.rmeworld.proofs.Common.{who, HasStep, settled, script_state_entered, at_lock, inside_only, begun_from, moved_by, next_process_state, GlobalState, Can, put_cell, cells_after, Execution, onward, last_global_state, mail_deeds, outer_deeds, put_deeds}
 use Rattle.rmecore.specs.Place.{started}
 use Rattle.rmecore.specs.declared.core_call.CoreCall.TheVariants as core
+use Rattle.redomail.specs.Tasks.{early_reply, unless_replied}
 use Rattle.redomail.proofs.Repairs.{Outside, Outside-append, Outside-in_row}
 use Rattle.redomail.proofs.Words.{place_low}
 use Rattle.redomail.specs.declared.reply.Reply.TheVariants as reply
@@ -42,12 +43,11 @@ module _ (l : Layout) (p : ℕ) where
       ((λ e. omega arith), outside_apply r)
 
   decided_keeps : (seq : ℕ) (value : List ℕ) (closed count last : ℕ) → KeepsRuined (decided l p seq value closed count last)
-  decided_keeps seq value closed count last =
-      cond_both (seq == 0) _ _ KeepsRuined (λ _. tt) (λ _.
-      cond_both (nat_le seq last) _ _ KeepsRuined (λ _. tt) (λ _.
-      cond_both (nat_lt (last + 1) seq) _ _ KeepsRuined (λ _. tt) (λ _.
-      cond_both (closed == 1) _ _ KeepsRuined (λ _. tt) (λ _.
-      cond_both (count == l.cap) _ _ KeepsRuined (λ _. tt) (λ _. puts_keep (store_steps l p (record_of count seq value)) (Done reply.Stored) (outside_store (record_of count seq value)) tt)))))
+  decided_keeps seq value closed count last = by (early_reply l.cap seq closed count last)
+    where
+      by : (o : Option Reply) → KeepsRuined (unless_replied o (puts (store_steps l p (record_of count seq value)) (Done reply.Stored)))
+      by None = puts_keep (store_steps l p (record_of count seq value)) (Done reply.Stored) (outside_store (record_of count seq value)) tt
+      by (Some answer) = tt
 
   close_keeps : KeepsRuined close
   close_keeps = λ closed. cond_both (closed == 1) _ _ KeepsRuined (λ _. tt) (λ _. ((λ e. omega arith), tt))

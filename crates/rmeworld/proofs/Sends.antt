@@ -1,8 +1,9 @@
 -- The mailbox deeds of a script's puts: each Commit has the append's own number and value, each Close is that of a close,
 -- each Ruin that of a ruin. It holds over any words, so steps of other processes don't affect it.
-use Rattle.std.proofs.Common.{◌≡◌, ℕ, zero, suc, ◌+◌, ◌<◌, ◌≤◌, true, ◌&&◌, ◌==◌, nat_lt, nat_le, List, [], ◌∷◌, ◌++◌, length, All, refl, sym, ◌∙◌, subst, arith, eqb-true}
+use Rattle.std.proofs.Common.{◌≡◌, ℕ, zero, suc, ◌+◌, ◌<◌, ◌≤◌, true, ◌&&◌, ◌==◌, List, [], ◌∷◌, ◌++◌, length, All, Option, Some, None, refl, sym, ◌∙◌, subst, arith, eqb-true}
 use Rattle.rmeworld.proofs.Common.{and_parts, cond_both, All-nil, All-cons, put, Deed, Layout, Record, Reply, deeds_of_put, Words, IsLayout, row, last_at, held, board_at, place_at, Script, Get, Put}
 use Rattle.rmeworld.proofs.Common.{Done, puts, gets, in_row, script, consistent, apply_steps, store_steps, record_of, redo, repair, held-small}
+use Rattle.redomail.specs.Tasks.{early_reply, unless_replied}
 use Rattle.redomail.proofs.Words.{put-other, put-same, place_low, deeds_of_put-none}
 use Rattle.redomail.specs.declared.deed.Deed.TheVariants as deed
 use Rattle.redomail.specs.declared.reply.Reply.TheVariants as reply
@@ -71,13 +72,11 @@ module _ (l : Layout) (p : ℕ) (D : Deed → Type 0) (shows : (at seq : ℕ) (v
       (put_has 3 1 v (λ _ _. rw (number, words) asked) (λ e. absurd (omega arith)) (λ e. absurd (omega arith)), apply_sends (record_of at seq value) reply.Stored (put v 3 1)))
 
   pub append_sends : (seq : ℕ) (value : List ℕ) (w : Words) → IsLayout l → length value ≡ l.width → D (deed.Commit p seq value) → Sends l p D (script l p (task.Append seq value)) w
-  append_sends seq value w layout wide asked =
-      let P : Script Reply → Type 0 = λ e. Sends l p D e w in
-      cond_both (seq == 0) _ _ P (λ _. tt) (λ _.
-      cond_both (nat_le seq (w (last_at l p))) _ _ P (λ _. tt) (λ _.
-      cond_both (nat_lt (w (last_at l p) + 1) seq) _ _ P (λ _. tt) (λ _.
-      cond_both (w 1 == 1) _ _ P (λ _. tt) (λ _.
-      cond_both (w 2 == l.cap) _ _ P (λ _. tt) (λ _. store_sends (w 2) seq value w layout wide asked)))))
+  append_sends seq value w layout wide asked = by (early_reply l.cap seq (w 1) (w 2) (w (last_at l p)))
+    where
+      by : (o : Option Reply) → Sends l p D (unless_replied o (puts (store_steps l p (record_of (w 2) seq value)) (Done reply.Stored))) w
+      by None = store_sends (w 2) seq value w layout wide asked
+      by (Some answer) = tt
 
   pub close_sends : (w : Words) → D (deed.Close p) → Sends l p D (script l p task.Close) w
   close_sends w asked =

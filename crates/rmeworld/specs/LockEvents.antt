@@ -1,6 +1,6 @@
 -- The lock's part of an execution: its events as events of the lock alone. A start, a step of the lock's part and a crash are one
 -- event. A step of a script is none, but the last one of a script after which its process leaves is the start of the exit.
-use Rattle.std.specs.Prelude.{ℕ, Bool, true, false, List, [], ◌∷◌, Option, Some, None, unwrap_or}
+use Rattle.std.specs.Prelude.{ℕ, Bool, true, List, [], ◌∷◌, Option, Some, None, unwrap_or}
 use Rattle.rmecore.specs.Place.{Event, Starts, Crashes, Steps, Place, Leaving}
 use Rattle.rmecore.specs.declared.core_call.CoreCall.TheVariants as core
 use Rattle.rmecore.specs.declared.kind.Kind.{Kind}

@@ -14,7 +14,7 @@ use Rattle.redomail.specs.declared.reply.Reply.{Reply}
 use Rattle.rmeworld.specs.ScriptStates.{HasStep}
 use Rattle.rmeworld.specs.OwnSteps.{and_more, core_steps, mending_steps, task_steps}
 use Rattle.rmeworld.specs.ProcessState.{ScriptState, Free, Doing, ProcessState}
-use Rattle.rmeworld.specs.UnderWay.{lock_part}
+use Rattle.rmecore.specs.Named.{lock_part}
 use Rattle.rmeworld.specs.declared.purpose.Purpose.{Purpose}
 use Rattle.rmeworld.specs.declared.purpose.Purpose.TheVariants.{Checking, Ruining, Mending, Working}
 

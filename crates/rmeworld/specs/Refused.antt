@@ -1,5 +1,5 @@
 -- Which starts are refused, and why: the first cause of the call that holds.
-use Rattle.std.specs.Prelude.{Bool, true, false, not, ◌==◌, nat_lt, length, if◌then◌else◌, List, [], ◌∷◌, Option, Some, None}
+use Rattle.std.specs.Prelude.{ℕ, Bool, true, false, not, ◌==◌, nat_lt, length, if◌then◌else◌, List, [], ◌∷◌, Option, Some, None}
 use Rattle.rmecore.specs.Place.{Place, Wait, Inside}
 use Rattle.rmecore.specs.Refused.{is_idle as is_idle_place}
 use Rattle.rmecore.specs.declared.refusal.Refusal.{Refusal}
@@ -29,18 +29,18 @@ is_waiting _ = false
 abbrev pub Needs : Type 0
 Needs = List (Bool × Refusal)
 
--- the needs of a call at its start, in order, each with its refusal
-abbrev pub needs : Layout → ProcessState → Call → Needs
-needs l process_state Lock = (is_idle process_state, CallUnderWay) ∷ (not (is_inside process_state.lock), AlreadyIn) ∷ []
-needs l process_state Recover = (is_idle process_state, CallUnderWay) ∷ (not (is_inside process_state.lock), AlreadyIn) ∷ []
-needs l process_state Unlock = (is_idle process_state, CallUnderWay) ∷ (is_inside process_state.lock, NotOwner) ∷ []
-needs l process_state Consistent = (is_idle process_state, CallUnderWay) ∷ (is_inside process_state.lock, NotOwner) ∷ (not process_state.mended, NotInconsistent) ∷ []
-needs l process_state (Append seq value) =
-    (is_idle process_state, CallUnderWay) ∷ (is_inside process_state.lock, NotOwner) ∷ (process_state.mended, Unmended) ∷ (length value == l.width, BadWidth) ∷ []
-needs l process_state Close = (is_idle process_state, CallUnderWay) ∷ (is_inside process_state.lock, NotOwner) ∷ (process_state.mended, Unmended) ∷ []
-needs l process_state (Get i) = (is_idle process_state, CallUnderWay) ∷ (is_inside process_state.lock, NotOwner) ∷ (nat_lt i 4, BadIndex) ∷ []
-needs l process_state (Put i v) = (is_idle process_state, CallUnderWay) ∷ (is_inside process_state.lock, NotOwner) ∷ (nat_lt i 4, BadIndex) ∷ []
-needs l process_state Withdraw = (is_waiting process_state.lock, NotWaiting) ∷ []
+-- The needs of a call at its start, in order, each with its refusal. They depend on the words of a value, whether no call of
+-- the process is under way, whether it is inside, whether a lock of it waits, and whether it has nothing to mend.
+abbrev pub needs : (width : ℕ) (idle inside waiting mended : Bool) → Call → Needs
+needs width idle inside waiting mended Lock = (idle, CallUnderWay) ∷ (not inside, AlreadyIn) ∷ []
+needs width idle inside waiting mended Recover = (idle, CallUnderWay) ∷ (not inside, AlreadyIn) ∷ []
+needs width idle inside waiting mended Unlock = (idle, CallUnderWay) ∷ (inside, NotOwner) ∷ []
+needs width idle inside waiting mended Consistent = (idle, CallUnderWay) ∷ (inside, NotOwner) ∷ (not mended, NotInconsistent) ∷ []
+needs width idle inside waiting mended (Append seq value) = (idle, CallUnderWay) ∷ (inside, NotOwner) ∷ (mended, Unmended) ∷ (length value == width, BadWidth) ∷ []
+needs width idle inside waiting mended Close = (idle, CallUnderWay) ∷ (inside, NotOwner) ∷ (mended, Unmended) ∷ []
+needs width idle inside waiting mended (Get i) = (idle, CallUnderWay) ∷ (inside, NotOwner) ∷ (nat_lt i 4, BadIndex) ∷ []
+needs width idle inside waiting mended (Put i v) = (idle, CallUnderWay) ∷ (inside, NotOwner) ∷ (nat_lt i 4, BadIndex) ∷ []
+needs width idle inside waiting mended Withdraw = (waiting, NotWaiting) ∷ []
 
 -- the refusal of the first need that fails
 abbrev pub first_cause : Needs → Option Refusal
@@ -49,4 +49,5 @@ first_cause (need ∷ rest) = if need.0 then first_cause rest else Some need.1
 
 -- why a process in this state may not start the call
 abbrev pub start_refusal : Layout → ProcessState → Call → Option Refusal
-start_refusal l process_state call = first_cause (needs l process_state call)
+start_refusal l process_state call =
+    first_cause (needs l.width (is_idle process_state) (is_inside process_state.lock) (is_waiting process_state.lock) process_state.mended call)

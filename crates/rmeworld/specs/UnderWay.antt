@@ -1,6 +1,7 @@
 -- The call under way in a process state.
 use Rattle.std.specs.Prelude.{Bool, true, false, Option, Some, None}
-use Rattle.rmecore.specs.Place.{Place, Reread, Opening, Door, Shutting, Wait, Leaving, Withdrawing, Unmarking}
+use Rattle.rmecore.specs.Named.{lock_part}
+use Rattle.rmecore.specs.Place.{Place}
 use Rattle.rmecore.specs.declared.core_call.CoreCall.{CoreCall}
 use Rattle.rmecore.specs.declared.core_call.CoreCall.TheVariants as core
 use Rattle.redomail.specs.declared.task.Task.{Task}
@@ -10,22 +11,6 @@ use Rattle.rmeworld.specs.declared.call.Call.TheVariants.{Lock, Unlock, Consiste
 use Rattle.rmeworld.specs.declared.purpose.Purpose.{Purpose}
 use Rattle.rmeworld.specs.declared.purpose.Purpose.TheVariants.{Checking, Ruining, Mending, Working}
 use Rattle.rmeworld.specs.ProcessState.{ScriptState, Free, Doing, ProcessState}
-
--- the call of the lock's part at a place. Unlock is the exit
-abbrev pub lock_part : Place → Option CoreCall
-lock_part (Reread core.Lock seen) = Some core.Lock
-lock_part (Reread _ seen) = Some core.Recover
-lock_part Opening = Some core.Lock
-lock_part (Door unread m) = Some core.Lock
-lock_part (Shutting core.Lock k) = Some core.Lock
-lock_part (Shutting _ k) = Some core.Recover
-lock_part (Wait k unpassed looked) = Some core.Lock
-lock_part (Unmarking core.Lock) = Some core.Lock
-lock_part (Unmarking core.Unlock) = Some core.Unlock
-lock_part (Unmarking _) = Some core.Recover
-lock_part Leaving = Some core.Unlock
-lock_part Withdrawing = Some core.Withdraw
-lock_part _ = None
 
 -- the call that it belongs to. A lock that found the lock ruined takes the exit too
 abbrev pub part_call : Option CoreCall → Bool → Option Call

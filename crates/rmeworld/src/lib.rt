@@ -17,6 +17,7 @@ pub mod owns;
 pub mod private_memory;
 pub mod process;
 pub mod purpose;
+pub mod readiness;
 pub mod script_state;
 pub mod size;
 pub mod stepped;

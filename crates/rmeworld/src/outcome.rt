@@ -8,20 +8,22 @@ ghost use Rattle.rmeworld.specs.Answered.{by_lock, by_reply, by_script};
 use crate::answer::Answer;
 use crate::purpose::Purpose;
 use redomail::{Job, Next, Reply};
+use rmecore::progress::SILENT;
 use rmecore::{CoreDone, Progress};
-
-/// No deed, no answer of the core, not blocked.
-const SILENT: Progress = Progress {
-    outer: None,
-    done: None,
-    blocked: false,
-};
 
 /// The effects of a step: those of the lock's part, and the answer if the step ends its call.
 #[derive(Clone, Copy, Debug, PartialEq, Eq)]
 pub struct Outcome {
     pub progress: Progress,
     pub answer: Option<Answer>,
+}
+
+impl Outcome {
+    /// No deed, no answer, not blocked.
+    pub const SILENT: Outcome = Outcome {
+        progress: SILENT,
+        answer: None,
+    };
 }
 
 /// The effects of a job's step, from the answer of its call.
@@ -44,8 +46,10 @@ pub(crate) fn lock_outcome(barred: bool, progress: Progress) -> Outcome
     }
 }
 
-/// The call's answer when the lock's part ends, if the call ends with it.
-fn core_answer(barred: bool, done: Option<CoreDone>) -> Option<Answer>
+/// The call's answer when the lock's part ends, if the call ends with it. `barred`: the call has found the lock ruined.
+// Inline: once in each lock step in C.
+#[inline(always)]
+pub fn core_answer(barred: bool, done: Option<CoreDone>) -> Option<Answer>
     ensures { result ≡ by_lock barred done }
 {
     match done? {

@@ -8,7 +8,7 @@ ghost use Rattle.rmecore.specs.Machine.{at_scan, progress, next_access as lock_a
 ghost use Rattle.redomail.specs.Refusals.{refused};
 ghost use Rattle.rmeworld.specs.Purposes.{task_of};
 ghost use Rattle.rmeworld.specs.ScriptStates.{Held};
-ghost use Rattle.rmeworld.specs.Refused.{first_cause, Needs, is_inside, is_waiting};
+ghost use Rattle.rmeworld.specs.Refused.{is_inside, is_waiting};
 
 mod in_place;
 mod silent;
@@ -18,6 +18,7 @@ use crate::lock_part::{begin_lock, leave, lock_scan, lock_step};
 use crate::outcome::{Outcome, job_outcome, job_step, lock_outcome};
 use crate::private_memory::PrivateMemory;
 use crate::purpose::Purpose;
+use crate::readiness::Readiness;
 use crate::script_state::{ScriptState, check_next, job};
 use redomail::{Job, Layout, Next, Reply, Task};
 use rmecore::{Access, CoreCall, Kind, LockProcess, Progress, Refusal, Scan, Stage, Word};
@@ -386,69 +387,28 @@ impl Process {
         ensures accepted { OnOk result (start_refusal self.now.layout (process_state_of self.now) call.now ≡ None) }
         ensures refused { IfErr result (λ e. start_refusal self.now.layout (process_state_of self.now) call.now ≡ Some e) }
     {
-        match *call {
-            Call::Withdraw => self.may_withdraw(),
-            Call::Lock | Call::Recover => self.may_come(),
-            Call::Unlock => self.holds(),
-            Call::Consistent => {
-                self.holds()?;
-                only(!self.mended, Refusal::NotInconsistent)
-            }
-            Call::Append { value, .. } => {
-                self.holds()?;
-                only(self.mended, Refusal::Unmended)?;
-                only(value.width() == self.layout.width, Refusal::BadWidth)
-            }
-            Call::Close => {
-                self.holds()?;
-                only(self.mended, Refusal::Unmended)
-            }
-            Call::Get(i) | Call::Put(i, _) => {
-                self.holds()?;
-                only(i < 4, Refusal::BadIndex)
-            }
-        }
+        self.readiness().check(self.layout.width, call)
     }
 
-    /// Refuses unless the process is inside with no call under way.
-    fn holds(&self) -> Result<(), Refusal>
-        ensures accepted { OnOk result ((is_idle (process_state_of self.now) ≡ true) × (is_inside self.now.lock ≡ true)) }
-        ensures refused { IfErr result (λ e. (rest : Needs) → first_cause
-            ((is_idle (process_state_of self.now), Refusal.CallUnderWay) ∷ (is_inside self.now.lock, Refusal.NotOwner)
-            ∷ rest) ≡ Some e) }
+    /// What the refusals of a start need to know of the process.
+    fn readiness(&self) -> Readiness
+        ensures idle { result.is_idle ≡ is_idle (process_state_of self.now) }
+        ensures inside { result.is_inside ≡ is_inside self.now.lock }
+        ensures waiting { result.is_waiting ≡ is_waiting self.now.lock }
+        ensures mended { result.is_mended ≡ self.now.mended }
     {
-        match self.script_state {
-            ScriptState::Free => match self.lock.refusal(CoreCall::Unlock) {
-                Some(refusal) => Err(refusal),
-                None => Ok(()),
-            },
-            ScriptState::Doing(..) => Err(Refusal::CallUnderWay),
-        }
-    }
-
-    /// Refuses unless the process is not inside and has no call under way.
-    fn may_come(&self) -> Result<(), Refusal>
-        ensures accepted { OnOk result ((is_idle (process_state_of self.now) ≡ true) × (is_inside self.now.lock ≡ false)) }
-        ensures refused { IfErr result (λ e. first_cause ((is_idle (process_state_of self.now), Refusal.CallUnderWay)
-            ∷ (not (is_inside self.now.lock), Refusal.AlreadyIn) ∷ []) ≡ Some e) }
-    {
-        match self.script_state {
-            ScriptState::Free => match self.lock.refusal(CoreCall::Lock) {
-                Some(refusal) => Err(refusal),
-                None => Ok(()),
-            },
-            ScriptState::Doing(..) => Err(Refusal::CallUnderWay),
-        }
-    }
-
-    /// Refuses unless a lock of the process waits.
-    fn may_withdraw(&self) -> Result<(), Refusal>
-        ensures accepted { OnOk result (is_waiting self.now.lock ≡ true) }
-        ensures refused { IfErr result (λ e. first_cause ((is_waiting self.now.lock, Refusal.NotWaiting) ∷ []) ≡ Some e) }
-    {
-        match self.lock.refusal(CoreCall::Withdraw) {
-            Some(refusal) => Err(refusal),
-            None => Ok(()),
+        let (is_idle, is_inside, is_waiting) = match (&self.script_state, self.lock.stage()) {
+            (ScriptState::Doing(..), _) => (false, true, false),
+            (ScriptState::Free, Stage::Rest | Stage::Dead) => (true, false, false),
+            (ScriptState::Free, Stage::Inside) => (true, true, false),
+            (ScriptState::Free, Stage::Wait { .. }) => (false, false, true),
+            (ScriptState::Free, _) => (false, false, false),
+        };
+        Readiness {
+            is_idle,
+            is_inside,
+            is_waiting,
+            is_mended: self.mended,
         }
     }
 
@@ -487,12 +447,4 @@ impl Process {
         let task = purpose.task();
         self.script_state = ScriptState::Doing(purpose, job(self.layout, self.index, task));
     }
-}
-
-/// Refuses with this refusal unless the condition holds.
-fn only(holds: bool, refusal: Refusal) -> Result<(), Refusal>
-    ensures accepted { OnOk result (holds ≡ true) }
-    ensures refused { IfErr result (λ e. (holds ≡ false) × (e ≡ refusal)) }
-{
-    if holds { Ok(()) } else { Err(refusal) }
 }

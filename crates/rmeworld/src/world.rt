@@ -28,18 +28,6 @@ use std::alloc::Global;
 use std::fmt;
 use std::marker::Model;
 
-const ZEROS: Own = Own {
-    choosing: 0,
-    number: 0,
-    inside: 0,
-};
-
-const UNSTARTED: Tally = Tally {
-    steps: 0,
-    blocked: 0,
-    began: ZEROS,
-};
-
 /// All processes with their private memories, the words that they share, and the deeds done so far.
 #[derive(Drop)]
 pub struct World {
@@ -151,9 +139,9 @@ impl World {
         if let Some(refusal) = size_refusal(layout, limit) {
             return Err(refusal);
         }
-        let words = vec![in alloc; ZEROS; procs as usize]?;
+        let words = vec![in alloc; Own::ZEROS; procs as usize]?;
         let cells = vec![in alloc; 0; layout.words() as usize]?;
-        let tallies = vec![in alloc; UNSTARTED; procs as usize]?;
+        let tallies = vec![in alloc; Tally::UNSTARTED; procs as usize]?;
         let processes = all_at_rest(alloc, layout, limit)?;
         Ok(World {
             layout,

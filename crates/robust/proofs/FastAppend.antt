@@ -1,10 +1,12 @@
 -- Steps of a script on the data words in a row, in terms of views alone.
-use Rattle.std.proofs.Common.{◌≡◌, ℕ, zero, suc, ◌+◌, ◌*◌, ◌<◌, ◌≤◌, ◌==◌, ◌&&◌, true, false, List, [], ◌∷◌, ◌++◌, length, drop, slice_index, Some, None, IsSome, unwrap_or, refl, sym, ap, ◌∙◌, subst, arith, eq-eqb}
+use Rattle.std.proofs.Common.{◌≡◌, ℕ, zero, suc, ◌+◌, ◌*◌, ◌<◌, ◌≤◌, ◌==◌, ◌&&◌, true, false, List, [], ◌∷◌, ◌++◌, length, drop, slice_index, Option, Some, None, IsSome, ◌≢◌, nat_le, nat_lt, unwrap_or, refl, sym, ap, ◌∙◌, subst, arith, eq-eqb}
 use Rattle.robust.proofs.AccessCommon.{Access, Load, Store, Get as Gets, Put as Puts, Data as DataAt, kind_of, word_of, carried, Inside, Reply, Stored, IsLayout, held, last_at, place_at, size, Script}
 use Rattle.robust.proofs.AccessCommon.{puts, decided, record_of, held-small, length-store_steps, step-record, step-entry, step-disarm, place_low, place_up, place_small, Mail, Working, answer_at}
 use Rattle.robust.proofs.AccessCommon.{by_script, blocked_by, Doing, ProcessState, next_process_state, access_by, TakenStep, Setup, IsSeatView, process_state_now, SeatView, moved_process_state, next_entry, Adds, Advances, next_of, outcome_of}
 use Rattle.robust.proofs.AccessCommon.{taken, IsRun, process_state_moves, more, at_append, append_begun, HasLeft, steps_of, stored_so_far, free_process_state, Unanswered, EndsIn}
 use Rattle.std.proofs.lemmas.List.{drop_all}
+use Rattle.std.proofs.lemmas.Bool.{cond_both, eqb-false}
+use Rattle.redomail.specs.Tasks.{early_reply}
 use Rattle.redomail.specs.declared.layout.Layout.{Layout}
 use Rattle.execution.specs.Reading.{cells_of}
 use Rattle.execution.proofs.Runs.{last_reads, legal_front}
@@ -196,3 +198,13 @@ module _ (y : SeatView) (e : NewEntry) (k : ℕ) (is : k ≡ 7 + 2 * length e.va
     all_ends x five =
         let many : (((((2 + length e.value) + 1) + (2 + length e.value)) + 1) + 1) + 1 ≡ 8 + 2 * length e.value = omega arith in
         subst (λ (j : ℕ). EndsIn x j (Mail Stored) z) many (written_left y e.seq e.value 3 0 (Done Stored) one_left z adv x (((((2 + length e.value) + 1) + (2 + length e.value)) + 1) + 1) five)
+
+-- an append that has no early reply finds room
+pub early_room : (cap seq closed count last : ℕ) → early_reply cap seq closed count last ≡ None → count ≢ cap
+early_room cap seq closed count last =
+    let P : Option Reply → Type 0 = λ o. o ≡ None → count ≢ cap in
+    cond_both (seq == 0) _ _ P (λ _. λ e. absurd (cc)) (λ _.
+    cond_both (nat_le seq last) _ _ P (λ _. λ e. absurd (cc)) (λ _.
+    cond_both (nat_lt (last + 1) seq) _ _ P (λ _. λ e. absurd (cc)) (λ _.
+    cond_both (closed == 1) _ _ P (λ _. λ e. absurd (cc)) (λ _.
+    cond_both (count == cap) _ _ P (λ _. λ e. absurd (cc)) (λ n. λ e. eqb-false count cap n)))))

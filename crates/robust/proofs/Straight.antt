@@ -5,7 +5,7 @@ use Rattle.robust.proofs.AccessCommon.{Choosing as ChoosingOf, access, first, Pl
 use Rattle.robust.proofs.AccessCommon.{Clean, answer_at, blocked_by, is_idle, ProcessState, next_process_state, access_by, process_state_now, SeatView, moved_process_state, Advances, next_of, outcome_of, taken, Begun, under_place}
 use Rattle.robust.proofs.AccessCommon.{process_state_moves, free_process_state, Unanswered, EndsIn, checked_process_state, Way, waits_at, checking_process_state}
 use Rattle.std.proofs.lemmas.Bool.{cases_Bool, lt-ltb}
-use Rattle.execution.specs.Lasting.{lock_left, IsFair}
+use Rattle.rmecore.specs.StepsLeft.{lock_left, IsFair}
 use Rattle.rmecore.specs.Place.{Reread, has}
 use Rattle.rmecore.specs.declared.core_call.CoreCall.TheVariants.{Lock, Unlock}
 use Rattle.rmecore.specs.declared.kind.Kind.{Kind}

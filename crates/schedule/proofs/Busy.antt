@@ -23,7 +23,7 @@ use Rattle.rmeworld.specs.ScriptStates.{script_state_of}
 use Rattle.rmeworld.specs.ProcessState.{ScriptState, Free, Doing, ProcessState, at_lock, moved_by, next_process_state, settled}
 use Rattle.rmeworld.specs.Refused.{is_idle, is_idle_by}
 use Rattle.rmeworld.specs.Replayed.{advance_refusal, advanced, advanced_if, stepped, stepped_if, value_of, world_event}
-use Rattle.rmeworld.specs.UnderWay.{lock_part}
+use Rattle.rmecore.specs.Named.{lock_part}
 use Rattle.rmeworld.specs.World.{GlobalState}
 use Rattle.rmeworld.specs.declared.purpose.Purpose.{Purpose}
 use Rattle.rmeworld.specs.declared.purpose.Purpose.TheVariants.{Checking, Ruining, Mending, Working}

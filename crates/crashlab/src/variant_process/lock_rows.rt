@@ -1,7 +1,6 @@
 //! The rows of the lock's part that a variant changes: the table, and the steps by it.
 
-ghost use Rattle.std.specs.Prelude.{◌≡◌, ◌<◌, ◌+◌, ◌==◌, ◌||◌, ℕ, false, Some, None, IfSome};
-ghost use Rattle.rmecore.specs.Place.{is_before};
+ghost use Rattle.std.specs.Prelude.{◌≡◌, ◌<◌, ◌+◌, ℕ, false, Some, None, IfSome};
 ghost use Rattle.rmecore.specs.Machine.{place_of};
 ghost use Rattle.crashlab.specs.Variants.{lock_or_recover as lock_or_recover_of};
 ghost use Rattle.rmeworld.specs.declared.script_state.ScriptState.TheVariants.{Free};
@@ -10,7 +9,8 @@ ghost use Rattle.crashlab.specs.VariantStands.{changed_row as row_of, weighing_r
 
 use crate::deviation::Deviation;
 use crate::variant::Variant;
-use crate::variant_process::{SILENT, VariantProcess};
+use crate::variant_process::VariantProcess;
+use rmecore::rules::passes;
 use rmecore::{Access, CoreCall, Kind, Stage, Word};
 use rmeworld::script_state::ScriptState;
 use rmeworld::{Outcome, PrivateMemory, Process};
@@ -48,13 +48,6 @@ fn feed_outside(process: &mut Process, value: u64)
     process.feed(value);
     let stage = stage_of(process);
     machine_state_outside(process, stage);
-}
-
-/// Whether a waiter passes process j, whose number is `value`.
-fn passes(number: u64, index: u64, value: u64, j: u64) -> bool
-    ensures { result ≡ ((value == 0) || is_before number index value j) }
-{
-    value == 0 || (number, index) < (value, j)
 }
 
 /// The place of a waiter that has passed process j, and so all before it.
@@ -175,13 +168,13 @@ impl VariantProcess {
             (ScriptState::Free, Deviation::Straight) => self.go_by_row(value),
             (ScriptState::Free, Deviation::Over(number)) => {
                 self.scan_again(number, value);
-                SILENT
+                Outcome::SILENT
             }
             (ScriptState::Free, Deviation::Dropping) => {
                 let stage = stage_of(&self.process);
                 machine_state_outside(&mut self.process, stage);
                 self.deviation = Deviation::Straight;
-                SILENT
+                Outcome::SILENT
             }
         }
     }
@@ -196,7 +189,7 @@ impl VariantProcess {
         match self.row(value) {
             Some((to, deviation)) => {
                 self.go(to, deviation);
-                SILENT
+                Outcome::SILENT
             }
             None => self.process.feed(value),
         }

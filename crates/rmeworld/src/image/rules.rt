@@ -1,8 +1,8 @@
 //! The rules of images.
 
-ghost use Rattle.std.specs.Prelude.{◌≡◌, ◌≢◌, ℕ, ◌<◌, ◌≤◌, ◌↔◌, IsTrue, IsNone, IfSome, true, length, slice_index};
+ghost use Rattle.std.specs.Prelude.{◌≡◌, ◌≢◌, ℕ, ◌-◌, ◌<◌, ◌≤◌, ◌↔◌, IsTrue, IsNone, IfSome, true, length, slice_index};
 ghost use Rattle.rmecore.specs.Lawful.{IsRow, IsLawful};
-ghost use Rattle.rmecore.specs.Place.{is_before};
+ghost use Rattle.rmecore.specs.Place.{is_before as is_before_of};
 ghost use Rattle.rmecore.specs.Simulated.{own_at};
 ghost use Rattle.redomail.specs.Layout.{words_of, size};
 ghost use Rattle.redomail.specs.Shape.{IsNumbered, RecordRule};
@@ -14,6 +14,7 @@ use redomail::Layout;
 use redomail::contents::{any_record, count_entries, counters, has_record, heads_hold, lasts_are};
 use redomail::layout::{ARMED, RUINED};
 use rmecore::Own;
+use rmecore::rules::is_before;
 use rmecore::simulated::{MOST_LIMIT, MOST_PROCS};
 
 /// The greatest capacity of a mailbox, in messages.
@@ -26,32 +27,31 @@ pub fn first_rule(image: &Image) -> Option<u64>
     ensures lawful { IsNone result ↔ IsLawfulImage image.now }
     ensures broken { IfSome result (λ rule. IsFirstBroken rule image.now) }
 {
-    if !is_versioned(image) {
-        return Some(2);
-    }
-    if !is_sized(image) {
-        return Some(3);
-    }
-    if !is_filled(image) {
-        return Some(4);
-    }
-    let lock = image.lock.as_slice();
-    if !are_rows(lock, image.limit) {
-        return Some(5);
-    }
-    if !is_first(lock, image.limit) {
-        return Some(6);
-    }
-    if !heads_hold(layout(image), image.cells.as_slice()) {
-        return Some(7);
-    }
-    if !is_listed(image) {
-        return Some(8);
-    }
-    if !is_recorded(image) {
-        return Some(9);
+    for rule in 2..10 {
+        if !keeps(image, rule) {
+            return Some(rule);
+        }
     }
     None
+}
+
+// Whether an image that keeps the rules before this one keeps it too.
+fn keeps(image: &Image, rule: u64) -> bool
+    requires least { 2 ≤ rule }
+    requires most { rule ≤ 9 }
+    requires before { Keeps (rule - 1) image.now }
+    ensures { IsTrue result ↔ Keeps rule image.now }
+{
+    match rule {
+        2 => is_versioned(image),
+        3 => is_sized(image),
+        4 => is_filled(image),
+        5 => are_rows(image.lock.as_slice(), image.limit),
+        6 => is_first(image.lock.as_slice(), image.limit),
+        7 => heads_hold(layout(image), image.cells.as_slice()),
+        8 => is_listed(image),
+        _ => is_recorded(image),
+    }
 }
 
 /// The sizes of an image, which decide the indexes of its data words.
@@ -123,13 +123,12 @@ fn are_rows(lock: &[Own], limit: u64) -> bool
 fn has_least(lock: &[Own], p: u64) -> bool
     requires { p < length lock.now }
     ensures { IsTrue result ↔ ((q : ℕ) → q < length lock.now → q ≢ p → 0 < (own_at lock.now q).number
-        → is_before (own_at lock.now p).number p (own_at lock.now q).number q ≡ true) }
+        → is_before_of (own_at lock.now p).number p (own_at lock.now q).number q ≡ true) }
 {
     let own = lock[p as usize];
     for q in 0..lock.len() as u64 {
         let other = lock[q as usize].number;
-        let before = own.number < other || (own.number == other && p < q);
-        if q != p && other > 0 && !before {
+        if q != p && other > 0 && !is_before(own.number, p, other, q) {
             return false;
         }
     }

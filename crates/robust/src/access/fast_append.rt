@@ -1,11 +1,9 @@
 //! The fast path of an append by a holder with nothing to mend, for plans that never fall: its gets and puts as plain loads
 //! and stores, proved to be the run of its steps. The machine isn't used, and is in the same state afterwards.
-ghost use Rattle.std.specs.Prelude.{◌≡◌, ◌≢◌, ℕ, ◌+◌, ◌*◌, ◌<◌, ◌≤◌, List, ◌∷◌, None, true, length, drop, slice_index, IfSome};
+ghost use Rattle.std.specs.Prelude.{◌≡◌, ℕ, ◌+◌, ◌*◌, ◌<◌, ◌≤◌, ◌∷◌, true, length, drop, slice_index};
 ghost use Rattle.rmecore.specs.Place.{Inside};
 ghost use Rattle.redomail.specs.Layout.{size};
-ghost use Rattle.redomail.specs.Script.{Done, puts};
-ghost use Rattle.redomail.specs.Tasks.{decided, record_of, store_steps};
-ghost use Rattle.redomail.specs.declared.layout.Layout.{Layout as LayoutOf};
+ghost use Rattle.redomail.specs.Tasks.{decided};
 ghost use Rattle.redomail.specs.declared.reply.Reply.TheVariants.{Stored};
 ghost use Rattle.rmeworld.specs.declared.answer.Answer.TheVariants.{Mail};
 ghost use Rattle.execution.specs.SeatView.{process_state_now};
@@ -16,7 +14,9 @@ ghost use Rattle.robust.specs.FastAppend.{at_append, append_begun, HasLeft, IsOf
 use crate::access::port::Port;
 use execution::Setup;
 use redomail::Reply;
+use redomail::append::early_reply;
 use redomail::layout::{ARMED, CLOSED, COUNT, RECORD};
+use redomail::record::row_word;
 use rmecore::{Body, Kind, Word};
 
 /// The words that an append reads first: whether the mailbox is closed, count, and the sender's last number.
@@ -35,19 +35,6 @@ struct NewEntry {
     at: u64,
     seq: u64,
     value: Body,
-}
-
-impl NewEntry {
-    /// Word j of a row that begins with `first`: then come the sequence number and the words of the value.
-    fn word(&self, first: u64, j: u64) -> u64
-        ensures { result ≡ slice_index (first ∷ self.now.seq ∷ self.now.value) j }
-    {
-        match j {
-            0 => first,
-            1 => self.seq,
-            _ => self.value.word(j - 2).unwrap_or(0),
-        }
-    }
 }
 
 /// Reads the three words.
@@ -73,31 +60,6 @@ fn read_heads(port: &mut Port, seq: u64, value: &Body) -> Heads
         closed,
         count,
         last,
-    }
-}
-
-/// The reply of an append that stores nothing, from the three words. None: it stores its message.
-fn answered(cap: u64, seq: u64, heads: &Heads) -> Option<Reply>
-    ensures answers { IfSome result (λ reply. (l : LayoutOf) (p : ℕ) (value : List ℕ) → l.cap ≡ cap
-        → decided l p seq value heads.now.closed heads.now.count heads.now.last ≡ Done reply) }
-    ensures stores { result ≡ None → (l : LayoutOf) (p : ℕ) (value : List ℕ) → l.cap ≡ cap
-        → decided l p seq value heads.now.closed heads.now.count heads.now.last
-        ≡ puts (store_steps l p (record_of heads.now.count seq value)) (Done Stored) }
-    ensures room { result ≡ None → heads.now.count ≢ cap }
-    ensures kind { IfSome result (Appends seq) }
-{
-    if seq == 0 {
-        Some(Reply::OutOfOrder)
-    } else if seq <= heads.last {
-        Some(Reply::Already)
-    } else if seq - 1 > heads.last {
-        Some(Reply::OutOfOrder)
-    } else if heads.closed == 1 {
-        Some(Reply::Closed)
-    } else if heads.count == cap {
-        Some(Reply::Full)
-    } else {
-        None
     }
 }
 
@@ -137,8 +99,10 @@ fn put_row(port: &mut Port, entry: &NewEntry, step: u64, start: u64, first: u64)
     ensures clear { IsClear port.new }
     ensures of { IsOf port.new entry.now }
 {
-    for j in 0..2 + entry.value.width() {
-        put(port, entry, step + j, start + j, entry.word(first, j));
+    let width = entry.value.width();
+    for j in 0..2 + width {
+        let word = row_word(first, entry.seq, entry.value.seam_words(), width, j);
+        put(port, entry, step + j, start + j, word);
     }
 }
 
@@ -179,7 +143,7 @@ pub fn append(port: &mut Port, seq: u64, value: &Body) -> (Reply, u64)
     let setup = port.setup();
     let own = port.by();
     let heads = read_heads(port, seq, value);
-    match answered(setup.layout.cap, seq, &heads) {
+    match early_reply(setup.layout.cap, seq, heads.closed, heads.count, heads.last) {
         Some(reply) => (reply, 3),
         None => {
             let entry = NewEntry {

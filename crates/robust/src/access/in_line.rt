@@ -1,11 +1,12 @@
 //! A process in the line: it looks at the others and weighs their numbers. These are loops over the words alone, proved to
 //! be the run of their steps.
-ghost use Rattle.std.specs.Prelude.{◌≡◌, ◌≢◌, ◌+◌, ◌<◌, ◌≤◌, [], true, false, ◌==◌, ◌||◌, None, if◌then◌else◌};
-ghost use Rattle.rmecore.specs.Place.{Wait, is_before};
+ghost use Rattle.std.specs.Prelude.{◌≡◌, ◌≢◌, ◌+◌, ◌<◌, ◌≤◌, [], true, false, None, if◌then◌else◌};
+ghost use Rattle.rmecore.specs.Place.{Wait};
 ghost use Rattle.execution.specs.SeatView.{process_state_now};
 ghost use Rattle.robust.specs.FastPath.{free_process_state, IsSame, Unanswered, waits_at};
 
 use crate::access::port::Port;
+use rmecore::rules::passes;
 use rmecore::{Kind, Word};
 
 /// How far a wait has got: the first index that was not passed, whether that process was looked at, the number of steps, and
@@ -16,14 +17,6 @@ pub struct Passed {
     pub looked: bool,
     pub taken: u64,
     pub is_blocked: bool,
-}
-
-/// Whether a waiter with this number passes process `j`, whose number was read: it does if that is 0 or its own pair is
-/// smaller (Lamport's Bakery).
-fn passes(number: u64, own: u64, value: u64, j: u64) -> bool
-    ensures { result ≡ ((value == 0) || is_before number own value j) }
-{
-    value == 0 || (number, own) < (value, j)
 }
 
 /// Looks at process `j`. True: it is in no doorway.

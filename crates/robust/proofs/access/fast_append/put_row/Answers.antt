@@ -1,4 +1,4 @@
-use Rattle.std.proofs.Common.{◌≡◌, ℕ, ◌+◌, ◌∷◌, drop, ap, sym, ◌∙◌, subst, arith}
+use Rattle.std.proofs.Common.{◌≡◌, ℕ, ◌+◌, ◌∷◌, take, drop, slice_index, ap, sym, ◌∙◌, subst, arith}
 use Rattle.robust.proofs.AccessCommon.{steps_of, stored_so_far}
 use Rattle.robust.proofs.FreeSteps.{unanswered_none, unanswered_then}
 use Rattle.robust.proofs.access.fast_append.put_row.Goals as goal
@@ -15,7 +15,9 @@ pub put-requires-clause-next : goal.put-requires-clause-next
 put-requires-clause-next c =
     let e = c.args.entry.now in
     let j = c.loop-j.j in
-    subst (λ (v : ℕ). drop (c.args.step + j) (steps_of e) ≡ (c.args.start + j, v) ∷ drop (c.args.step + j + 1) (steps_of e)) (sym c.word.ensures) (c.requires.row j (omega arith))
+    let words : take c.width-width.result c.seam_words.result.now ≡ e.value = ap (λ n. take n c.seam_words.result.now) c.width-width.ensures.width ∙ c.seam_words.ensures.words in
+    let word : c.row_word-word.result ≡ slice_index (c.args.first ∷ e.seq ∷ e.value) j = c.row_word-word.ensures ∙ ap (λ ws. slice_index (c.args.first ∷ e.seq ∷ ws) j) words in
+    subst (λ (v : ℕ). drop (c.args.step + j) (steps_of e) ≡ (c.args.start + j, v) ∷ drop (c.args.step + j + 1) (steps_of e)) (sym word) (c.requires.row j (omega (arith, c.width-width.ensures.width)))
 
 pub loop-j-preserved : goal.loop-j-preserved
 loop-j-preserved c = record {

@@ -1,0 +1,4 @@
+//! Places as words, and back.
+
+pub mod lists;
+pub mod places;

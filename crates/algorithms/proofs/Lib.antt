@@ -1,3 +1,4 @@
+pub mod CallLines
 pub mod Names
 pub mod Ranked
 pub mod Worlds

@@ -1,6 +1,6 @@
 //! Ranks of lines, which show that local lines end.
 
-ghost use Rattle.std.specs.Prelude.{◌≡◌, ◌+◌, ◌-◌, ◌^◌, ◌<◌, IsTrue, slice_get, slice_index};
+ghost use Rattle.std.specs.Prelude.{◌≡◌, ◌+◌, ◌-◌, ◌^◌, ◌<◌, ◌↔◌, IsTrue, slice_get, slice_index};
 ghost use Rattle.algorithms.specs.Ranked.{rank_of, is_below, has_round, ways_pass, is_line, form_falls, AllFall, LocalLinesEnd, AccessesLeadOn};
 
 use crate::algorithm::Algorithm;
@@ -98,7 +98,7 @@ fn falls(lines: &[Line], least: u64, ranks: &[u64], place: usize, form: &Form) -
 
 /// Whether with these ranks each local line leads to lower ones alone, and each access to some line.
 fn all_fall(lines: &[Line], least: u64, ranks: &[u64]) -> bool
-    ensures { IsTrue result → AllFall lines.now least ranks.now }
+    ensures { IsTrue result ↔ AllFall lines.now least ranks.now }
 {
     for place in 0..lines.len() {
         if !falls(lines, least, ranks, place, &lines[place].form) {
@@ -110,13 +110,14 @@ fn all_fall(lines: &[Line], least: u64, ranks: &[u64]) -> bool
 
 /// Whether all lines of the algorithm keep these ranks.
 fn all_lines_fall(algorithm: &Algorithm, ranks: &[u64]) -> bool
-    ensures { IsTrue result → AllFall algorithm.now.lines.items algorithm.now.least ranks.now }
+    ensures { IsTrue result ↔ AllFall algorithm.now.lines.items algorithm.now.least ranks.now }
 {
     all_fall(algorithm.lines.as_slice(), algorithm.least, ranks)
 }
 
 /// Whether these ranks show that the local lines of an algorithm end, and that after each access there is a line.
 pub fn lines_end(algorithm: &Algorithm, ranks: &[u64]) -> bool
+    ensures falls { IsTrue result ↔ AllFall algorithm.now.lines.items algorithm.now.least ranks.now }
     ensures ends { IsTrue result → LocalLinesEnd algorithm.now }
     ensures leads { IsTrue result → AccessesLeadOn algorithm.now }
 {

@@ -4,6 +4,7 @@ use Rattle.schedule.proofs.ReplaysCommon.{Refusal, Deed, Kept, empty, LineFault,
 use Rattle.schedule.proofs.ReplaysCommon.{Stands, trace_answer, answer_of, judged_of, judge_refusal, numbered, JudgesTrace}
 use Rattle.schedule.specs.declared.replays.stage.TraceStage.TheVariants as stages
 use Rattle.schedule.specs.Numbers.{number_of}
+use Rattle.schedule.specs.Tapes.{Reading}
 use Rattle.schedule.specs.TraceJudges.{JudgesText}
 use Rattle.schedule.proofs.Closing.{ruled_on}
 use Rattle.schedule.proofs.Staging.{none_last, none_empty, fine_last, faulty_last}
@@ -54,20 +55,21 @@ unfolding of_text IsOfDevice
 answer_is (Ok read) = judged_is (numbered (judge_refusal read.0.procs read.0.cap)) read.0.procs read.0.cap read.1
 answer_is (Err fault) = λ h. h
 
-pub judges : (old new text : List ℕ) (before now : ℕ) (ended : Bool) (answer : Result Verdict ReplayFault) → new ≡ old ++ text → ended ≡ true → now ≡ before
-    → answer ≡ trace_answer (parts_of text) → of_text answer → JudgesTrace old new before now ended answer
+pub judges : (old new : Reading) (text : List ℕ) (answer : Result Verdict ReplayFault) → new.given ≡ old.given ++ text → new.ended ≡ true → new.failures ≡ old.failures
+    → answer ≡ trace_answer (parts_of text) → of_text answer → JudgesTrace old new answer
 unfolding of_text IsOfDevice
-judges old new text before now ended (Err Read) given told fine e is = absurd (is tt)
-judges old new text before now ended (Err OutOfMemory) given told fine e is = absurd (is tt)
-judges old new text before now ended _ given told fine e is = ((text, given, told, e), fine)
+judges old new text (Err Read) given told fine e is = absurd (is tt)
+judges old new text (Err OutOfMemory) given told fine e is = absurd (is tt)
+judges old new text _ given told fine e is = ((text, given, told, e), fine)
 
 pub is_of_text : (parts : List (List ℕ)) (answer : Result Verdict ReplayFault) → answer ≡ trace_answer parts → of_text answer
 is_of_text parts answer e = subst of_text (sym e) (answer_is (text_at trace_head_at item parts))
 
 -- the source has failed, or memory has run out
-pub stops : (fault : ReplayFault) (old new : List ℕ) (before now : ℕ) (ended : Bool) → ((fault ≡ Read) × (now ≡ min (before + 1) (2 ^ 64 - 1))) ⊎ ((fault ≡ OutOfMemory) × (now ≡ before)) → JudgesTrace old new before now ended (Err fault)
-stops fault old new before now ended (inl failed) = rw failed.0 failed.1
-stops fault old new before now ended (inr memory) = rw memory.0 memory.1
+pub stops : (fault : ReplayFault) (old new : Reading) → new.ended ≡ old.ended
+    → ((fault ≡ Read) × (new.failures ≡ min (old.failures + 1) (2 ^ 64 - 1))) ⊎ ((fault ≡ OutOfMemory) × (new.failures ≡ old.failures)) → JudgesTrace old new (Err fault)
+stops fault old new unended (inl failed) = rw failed.0 (unended, failed.1)
+stops fault old new unended (inr memory) = rw memory.0 (unended, memory.1)
 
 pub stops_known : {A B : Type 0} (fault : ReplayFault) (text : List ℕ) → ((fault ≡ Read) × A) ⊎ ((fault ≡ OutOfMemory) × B) → JudgesText text (Err fault)
 stops_known fault text (inl failed) = inl (ap Err failed.0)

@@ -9,14 +9,10 @@ use Rattle.schedule.specs.Wholes.{ReplaysText, ReplaysBetween, Unread}
 pub silent : (t : Tape) → Silent t t
 silent t = record { taken = refl; fine = refl }
 
--- out of memory, and nothing was written
-pub no_memory : (t : Tape) (schedule : Scheduled) (o : Option Refusal) → OfSchedule t t schedule o (Err OutOfMemory)
-no_memory t schedule None = inr (silent t, refl)
-no_memory t schedule (Some refusal) = (silent t, inr refl)
-
-pub no_memory_at_all : (t : Tape) (r : Result Scheduled (ℕ × LineFault)) → OfText t t r (Err OutOfMemory)
-no_memory_at_all t (Err fault) = (silent t, inr refl)
-no_memory_at_all t (Ok schedule) = no_memory t schedule (new_refusal (layout_of schedule) schedule.limit)
+-- out of memory for a world, and nothing was written
+pub no_memory : (t : Tape) (schedule : Scheduled) (o : Option Refusal) → o ≡ None → OfSchedule t t schedule o (Err OutOfMemory)
+no_memory t schedule None fits = inr (silent t, refl)
+no_memory t schedule (Some refusal) fits = absurd (cc)
 
 -- a refusal is a cause, unless it is out of memory
 is_cause : (e : Refusal) → ((e ≡ refusals.OutOfMemory) × (cause e ≡ None)) ⊎ (cause e ≡ Some e)
@@ -25,8 +21,8 @@ is_cause _ = inr refl
 
 header_by : (t : Tape) (schedule : Scheduled) (e : Refusal) (o : Option Refusal) → o ≡ cause e → ((e ≡ refusals.OutOfMemory) × (cause e ≡ None)) ⊎ (cause e ≡ Some e)
     → OfSchedule t t schedule o (Err (header_fault (number_of e)))
-header_by t schedule e o is (inl memory) = rw memory.0 (no_memory t schedule o)
-header_by t schedule e o is (inr refused) = rw (is ∙ refused) (silent t, inl refl)
+header_by t schedule e o is (inl memory) = rw memory.0 (no_memory t schedule o (is ∙ memory.1))
+header_by t schedule e o is (inr refused) = rw (is ∙ refused) (silent t, refl)
 
 -- the header is refused
 pub header_refused : (t : Tape) (schedule : Scheduled) (e : Refusal) (o : Option Refusal) → o ≡ cause e → OfSchedule t t schedule o (Err (header_fault (number_of e)))
@@ -49,11 +45,11 @@ replays_between text held old new first now after answer is holds replayed =
     (between (subst (λ (t : Tape). ReplaysText text old new t now answer) is replayed))
   where
     between : ReplaysText text old new (record { taken = held; failures = 0 }) now answer → ReplaysBetween text held now.taken answer
-    between (inl (inl read, none)) = inl (inl read.0, none.taken)
-    between (inl (inr memory, none)) = inl (inr memory.0, none.taken)
+    between (inl ((_, inl read), none)) = inl (inl read.0, none.taken)
+    between (inl ((_, inr memory), none)) = inl (inr memory.0, none.taken)
     between (inr replayed) = inr (now.failures, replayed)
 
 -- the source has failed, or memory has run out
-pub unread : (old new : Reading) (fault : ReplayFault) → ((fault ≡ Read) × (new.failures ≡ min (old.failures + 1) (2 ^ 64 - 1))) ⊎ ((fault ≡ OutOfMemory) × (new.failures ≡ old.failures)) → Unread old new (Err fault)
-unread old new fault (inl failed) = inl (ap Err failed.0, failed.1)
-unread old new fault (inr memory) = inr (ap Err memory.0, memory.1)
+pub unread : (old new : Reading) (fault : ReplayFault) → new.ended ≡ old.ended → ((fault ≡ Read) × (new.failures ≡ min (old.failures + 1) (2 ^ 64 - 1))) ⊎ ((fault ≡ OutOfMemory) × (new.failures ≡ old.failures)) → Unread old new (Err fault)
+unread old new fault unended (inl failed) = (unended, inl (ap Err failed.0, failed.1))
+unread old new fault unended (inr memory) = (unended, inr (ap Err memory.0, memory.1))

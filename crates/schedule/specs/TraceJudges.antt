@@ -19,6 +19,7 @@ use Rattle.schedule.specs.Words.{parts_of}
 use Rattle.schedule.specs.Texts.{text_at}
 use Rattle.schedule.specs.Deeds.{deed_at}
 use Rattle.schedule.specs.Traces.{trace_head_at}
+use Rattle.schedule.specs.Tapes.{Reading}
 use Rattle.schedule.specs.Verdicts.{verdict_on}
 use Rattle.schedule.specs.RunningVerdicts.{opened, running_judge, Hears}
 
@@ -95,11 +96,11 @@ Follows trace_judge lines = length lines + 3 < 2 ^ 64 → (trace_judge.line ≡ 
 abbrev pub AnswersText : List ℕ → List ℕ → Bool → Result Verdict ReplayFault → Type 0
 AnswersText old new ended answer = (text : List ℕ) × (new ≡ old ++ text) × (ended ≡ true) × (answer ≡ trace_answer (parts_of text))
 
--- what judging a trace answers
-abbrev pub JudgesTrace : List ℕ → List ℕ → ℕ → ℕ → Bool → Result Verdict ReplayFault → Type 0
-JudgesTrace old new before now ended (Err Read) = now ≡ min (before + 1) (2 ^ 64 - 1)
-JudgesTrace old new before now ended (Err OutOfMemory) = now ≡ before
-JudgesTrace old new before now ended answer = AnswersText old new ended answer × (now ≡ before)
+-- what judging a trace answers. Where the source fails or memory runs out, the end was not reached
+abbrev pub JudgesTrace : Reading → Reading → Result Verdict ReplayFault → Type 0
+JudgesTrace old new (Err Read) = (new.ended ≡ old.ended) × (new.failures ≡ min (old.failures + 1) (2 ^ 64 - 1))
+JudgesTrace old new (Err OutOfMemory) = (new.ended ≡ old.ended) × (new.failures ≡ old.failures)
+JudgesTrace old new answer = AnswersText old.given new.given new.ended answer × (new.failures ≡ old.failures)
 
 -- what judging a trace answers where it is known that the source gives this text
 abbrev pub JudgesText : List ℕ → Result Verdict ReplayFault → Type 0

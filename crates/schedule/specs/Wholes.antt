@@ -36,21 +36,21 @@ header_fault None = OutOfMemory
 header_fault (Some number) = Refused 1 number
 
 -- sizes that no world has are refused at line 1; else the report is that of the schedule's run, and its verdict is fine.
--- Memory may run out before anything is played
+-- For a world memory may run out before anything is played
 abbrev pub OfSchedule : Tape → Tape → Scheduled → Option Refusal → Result Verdict ReplayFault → Type 0
-OfSchedule before now schedule (Some refusal) answer = Silent before now × ((answer ≡ Err (header_fault (number_of refusal))) ⊎ (answer ≡ Err OutOfMemory))
+OfSchedule before now schedule (Some refusal) answer = Silent before now × (answer ≡ Err (header_fault (number_of refusal)))
 OfSchedule before now schedule None answer =
     Replays before now (empty schedule.procs schedule.cap) image_of (world_run schedule) answer ⊎ (Silent before now × (answer ≡ Err OutOfMemory))
 
 -- a text that is no schedule has a fault, and nothing is written
 abbrev pub OfText : Tape → Tape → Result Scheduled (ℕ × LineFault) → Result Verdict ReplayFault → Type 0
-OfText before now (Err fault) answer = Silent before now × ((answer ≡ Err (Text fault.0 (number_of_line fault.1))) ⊎ (answer ≡ Err OutOfMemory))
+OfText before now (Err fault) answer = Silent before now × (answer ≡ Err (Text fault.0 (number_of_line fault.1)))
 OfText before now (Ok schedule) answer = OfSchedule before now schedule (new_refusal (layout_of schedule) schedule.limit) answer
 
 -- the source was not read to its end, and nothing was written
 abbrev pub Unread : Reading → Reading → Result Verdict ReplayFault → Type 0
-Unread old new answer =
-    ((answer ≡ Err Read) × (new.failures ≡ min (old.failures + 1) (2 ^ 64 - 1))) ⊎ ((answer ≡ Err OutOfMemory) × (new.failures ≡ old.failures))
+Unread old new answer = (new.ended ≡ old.ended)
+    × (((answer ≡ Err Read) × (new.failures ≡ min (old.failures + 1) (2 ^ 64 - 1))) ⊎ ((answer ≡ Err OutOfMemory) × (new.failures ≡ old.failures)))
 
 -- the whole text was read
 pub record WasRead (old new : Reading) (text : List ℕ) : Type 0 where

@@ -1,7 +1,7 @@
 //! Reads the lines of a schedule in place. No line is kept, so a text is read twice: once to find its faults, and once as it
 //! is played.
 
-ghost use Rattle.std.specs.Prelude.{◌≡◌, ℕ, ◌+◌, ◌^◌, ◌<◌, ◌≤◌, ◌++◌, length, List, drop, Ok, Err, IfOk, IfErr};
+ghost use Rattle.std.specs.Prelude.{◌≡◌, ℕ, ◌+◌, ◌^◌, ◌<◌, ◌≤◌, ◌++◌, length, List, drop, Ok, Err, IfOk, IfErr, IsErrOf};
 ghost use Rattle.schedule.specs.declared.lines.line.Line.{Line as LineOf};
 ghost use Rattle.schedule.specs.Commands.{line_at};
 ghost use Rattle.schedule.specs.Texts.{items_at, Fails};
@@ -88,7 +88,8 @@ fn after_line(width: u64, text: &[u8]) -> Result<&[u8], LineFault>
 fn check_lines(width: u64, first: u64, text: &[u8]) -> Result<(), TextFault>
     requires width { (1 ≤ width) × (width ≤ 8) }
     requires room { first + length text.now < 2 ^ 64 }
-    ensures { Tries result (items_at (line_at width) first (parts_of text.now)) }
+    ensures read { Tries result (items_at (line_at width) first (parts_of text.now)) }
+    ensures memory { IsErrOf result TextFault.OutOfMemory → ⊥ }
 {
     let mut rest = text;
     let mut number = first;
@@ -113,6 +114,7 @@ fn read(text: &[u8]) -> Result<(Head, &[u8]), TextFault>
     ensures shorter { IfOk result (λ read. length read.1.now ≤ length text.now) }
     ensures tail { IfOk result (λ read. (first : List ℕ) × (text.now ≡ first ++ read.1.now)) }
     ensures fault { IfErr result (λ fault. Fails fault (schedule_at text.now)) }
+    ensures memory { IsErrOf result TextFault.OutOfMemory → ⊥ }
 {
     if text.is_empty() {
         return Err(TextFault::on_line(1, LineFault::NoHeader));
@@ -138,6 +140,7 @@ fn read_to(text: &[u8]) -> Result<(Head, usize), TextFault>
     ensures width { IfOk result (λ read. (1 ≤ read.0.width) × (read.0.width ≤ 8)) }
     ensures within { IfOk result (λ read. read.1 ≤ length text.now) }
     ensures fault { IfErr result (λ fault. Fails fault (schedule_at text.now)) }
+    ensures memory { IsErrOf result TextFault.OutOfMemory → ⊥ }
 {
     match read(text) {
         Ok((head, lines)) => Ok((head, text.len() - lines.len())),
@@ -145,7 +148,7 @@ fn read_to(text: &[u8]) -> Result<(Head, usize), TextFault>
     }
 }
 
-/// As `read_to`, for a text that is owned.
+/// As `read_to`, for a text that is owned. It takes no memory.
 pub fn read_whole(text: &Vec<u8>) -> Result<(Head, usize), TextFault>
     requires room { length text.now.items + 2 < 2 ^ 64 }
     ensures lines { IfOk result (λ read. (lines : List LineOf)
@@ -154,6 +157,7 @@ pub fn read_whole(text: &Vec<u8>) -> Result<(Head, usize), TextFault>
     ensures width { IfOk result (λ read. (1 ≤ read.0.width) × (read.0.width ≤ 8)) }
     ensures within { IfOk result (λ read. read.1 ≤ length text.now.items) }
     ensures fault { IfErr result (λ fault. Fails fault (schedule_at text.now.items)) }
+    ensures memory { IsErrOf result TextFault.OutOfMemory → ⊥ }
 {
     read_to(text)
 }

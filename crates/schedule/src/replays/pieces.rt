@@ -1,6 +1,6 @@
 //! Cuts pieces of any length into lines, and reads the whole text of a source.
 
-ghost use Rattle.std.specs.Prelude.{◌≡◌, ℕ, ◌+◌, ◌-◌, ◌^◌, ◌⊎◌, List, [], ◌∷◌, ◌++◌, OnOk, IfOk, IfErr, true, min, length, ◌≤◌};
+ghost use Rattle.std.specs.Prelude.{◌≡◌, ℕ, ◌+◌, ◌-◌, ◌^◌, ◌⊎◌, List, [], ◌∷◌, ◌++◌, OnOk, OnErr, IfOk, IfErr, true, min, length, ◌≤◌};
 ghost use Rattle.std.specs.Io.KnownBytes.{Consumes, IsAtEnd};
 ghost use Rattle.schedule.specs.Words.{parts_of};
 
@@ -74,6 +74,8 @@ pub fn take_lines<S: Source, T: TakeLine>(
         × Consumes (S.coming source.old) (S.coming source.new) text
         × ((more : List (List ℕ)) × (parts_of text ≡ more ++ rest.items ∷ []) × T.after taker.new (lines ++ more))) }
     ensures ended { OnOk result ((S.reading source.new).ended ≡ true) }
+    // It breaks off before the end.
+    ensures unended { OnErr result ((S.reading source.new).ended ≡ (S.reading source.old).ended) }
     ensures none_left { OnOk result (IsAtEnd (S.coming source.new)) }
     ensures finite { OnOk result (length (S.reading source.new).given ≤ 2 ^ 63) }
     ensures fine { OnOk result ((S.reading source.new).failures ≡ (S.reading source.old).failures) }
@@ -100,6 +102,8 @@ pub fn read_all<S: Source>(alloc: Global, source: &mut S) -> Result<Vec<u8>, Rep
     ensures known { IfOk result (λ text. Consumes (S.coming source.old) (S.coming source.new) text.items
         × IsAtEnd (S.coming source.new)) }
     ensures ended { OnOk result ((S.reading source.new).ended ≡ true) }
+    // It breaks off before the end.
+    ensures unended { OnErr result ((S.reading source.new).ended ≡ (S.reading source.old).ended) }
     ensures fine { OnOk result ((S.reading source.new).failures ≡ (S.reading source.old).failures) }
     ensures fault { IfErr result (λ fault. (fault ≡ ReplayFault.Read)
         × ((S.reading source.new).failures ≡ min ((S.reading source.old).failures + 1) (2 ^ 64 - 1))

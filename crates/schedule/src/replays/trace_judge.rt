@@ -94,8 +94,7 @@ impl TakeLine for TraceJudge {
 /// The answer is that of the whole text, however the bytes are cut into pieces. It is the first of these that fits:
 /// `Read`, the first fault of the text, `Refused` at line 1 where no judge has its sizes, the verdict on its deeds.
 pub fn judge_trace<S: Source>(alloc: Global, source: &mut S) -> Result<Verdict, ReplayFault>
-    ensures judges { JudgesTrace (S.reading source.old).given (S.reading source.new).given (S.reading source.old).failures
-        (S.reading source.new).failures (S.reading source.new).ended result }
+    ensures judges { JudgesTrace (S.reading source.old) (S.reading source.new) result }
     // Where it is known what the source gives, the answer is that of just this text.
     ensures known { (text : List ℕ) → S.coming source.old ≡ Some text → JudgesText text result }
 {

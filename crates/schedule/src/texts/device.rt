@@ -1,6 +1,6 @@
 //! Devices: sources of bytes, and sinks for bytes.
 
-ghost use Rattle.std.specs.Prelude.{◌≡◌, ◌+◌, ◌-◌, ◌^◌, ◌<◌, ◌≤◌, ◌⊎◌, ◌++◌, List, ℕ, true, false, [], length, take, drop, None, Some, OnOk, OnErr, IfOk, IfErr, IfSome, min, max};
+ghost use Rattle.std.specs.Prelude.{◌≡◌, ◌+◌, ◌-◌, ◌^◌, ◌<◌, ◌≤◌, ◌⊎◌, ◌++◌, List, ℕ, true, false, [], length, take, drop, None, Some, IsOk, OnOk, OnErr, IfOk, IfErr, IfSome, min, max};
 ghost use Rattle.std.specs.declared.option.Option.{Option};
 ghost use Rattle.std.specs.Io.KnownBytes.{ReadConsumes};
 ghost use Rattle.schedule.specs.Tapes.{WritesFront, Reading, Tape};
@@ -154,7 +154,11 @@ impl Sink for Page {
         }
     }
 
-    fn flush(&mut self) -> Result<(), Failed> {
+    /// It holds nothing back, so this never fails.
+    fn flush(&mut self) -> Result<(), Failed>
+        ensures fine { IsOk result }
+        ensures same { self.new ≡ self.old }
+    {
         Ok(())
     }
 }

@@ -16,11 +16,11 @@ returns-in_default-clause-fault c =
 pub returns-in_err-check_lines-in-Ok-clause-fault : goal.returns-in_err-check_lines-in-Ok-clause-fault
 returns-in_err-check_lines-in-Ok-clause-fault c =
     let p = err_from_is_err_and c.from_residual.result c.from_residual.ensures.1 in
-    rw (p.1, p.2) (fails_so c.in_err-check_lines-in-Ok.field-0.0 c.args.text.now (items_fail head_at (λ h. line_at h.width) c.in_err-check_lines-in-Ok.field-0.0 c.args.text.now c.in-Some.first.now c.in-Some.lines.now c.in-Ok.head c.in-Some.ensures.parts c.in-Ok.ensures.head c.in_err-check_lines-in-Ok.ensures))
+    rw (p.1, p.2) (fails_so c.in_err-check_lines-in-Ok.field-0.0 c.args.text.now (items_fail head_at (λ h. line_at h.width) c.in_err-check_lines-in-Ok.field-0.0 c.args.text.now c.in-Some.first.now c.in-Some.lines.now c.in-Ok.head c.in-Some.ensures.parts c.in-Ok.ensures.head c.in_err-check_lines-in-Ok.ensures.read))
 
 pub returns-in_ok-check_lines-in-Ok-clause-lines : goal.returns-in_ok-check_lines-in-Ok-clause-lines
 returns-in_ok-check_lines-in-Ok-clause-lines c =
-    let lines = c.in_ok-check_lines-in-Ok.ensures in
+    let lines = c.in_ok-check_lines-in-Ok.ensures.read in
     (lines.0, lines.1, is_right c.args.text.now _ (text_read head_at (λ h. line_at h.width) c.args.text.now c.in-Some.first.now c.in-Some.lines.now c.in-Ok.head lines.0 c.in-Some.ensures.parts c.in-Ok.ensures.head lines.1))
 
 pub returns-in-Err-clause-fault : goal.returns-in-Err-clause-fault

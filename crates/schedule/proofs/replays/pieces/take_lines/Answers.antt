@@ -1,4 +1,4 @@
-use Rattle.std.proofs.Common.{◌≡◌, ◌+◌, ◌≤◌, ◌^◌, List, ℕ, [], ◌∷◌, ◌++◌, take, length, sym, ap, ◌∙◌, append_assoc, arith, length-append, length-take}
+use Rattle.std.proofs.Common.{◌≡◌, ◌+◌, ◌≤◌, ◌^◌, List, ℕ, [], ◌∷◌, ◌++◌, take, length, sym, ap, inl, ◌∙◌, append_assoc, arith, length-append, length-take}
 use Rattle.std.proofs.KnownBytes.{Consumes-trans}
 use Rattle.schedule.proofs.Cutting.{parts_of-pieces}
 use Rattle.schedule.proofs.replays.pieces.take_lines.Goals as goal
@@ -29,6 +29,7 @@ loop-preserved g c =
               rw (sym (append_assoc lines so_far.0 fed.0)) fed.2,
             ),
       );
+      unended = c.in-Ok.ensures.goes_on (inl (grind arith)) ∙ c.loop.invariant.unended;
       few = few;
       fine = c.in-Ok.ensures.fine ∙ c.loop.invariant.fine;
       whole = c.in_ok-feed-in-Ok.ensures.kept;

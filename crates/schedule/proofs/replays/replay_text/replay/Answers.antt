@@ -12,4 +12,4 @@ returns-clause-known g c = λ text coming.
 pub returns-in_err-text-clause-known : goal.returns-in_err-text-clause-known
 returns-in_err-text-clause-known g c = λ text coming.
     let p = err_from_is_err_and c.from_residual.result c.from_residual.ensures.1 in
-    rw (p.1, p.2) (inl (unread (g.R.Source.reading c.args.source.now) (g.R.Source.reading c.read_all.new.source) c.in_err-text.field-0.0 c.in_err-text.ensures.fault, silent (g.W.Sink.tape c.args.w.now)))
+    rw (p.1, p.2) (inl (unread (g.R.Source.reading c.args.source.now) (g.R.Source.reading c.read_all.new.source) c.in_err-text.field-0.0 c.in_err-text.ensures.unended c.in_err-text.ensures.fault, silent (g.W.Sink.tape c.args.w.now)))

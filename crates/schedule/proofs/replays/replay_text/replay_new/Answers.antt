@@ -12,7 +12,7 @@ returns-in-Err-clause-of g c all read =
 pub returns-in-Err-new-clause-of : goal.returns-in-Err-new-clause-of
 returns-in-Err-new-clause-of g c all read =
     let schedule = scheduled_with (c.args.head, all) in
-    no_memory (g.W.Sink.tape c.args.w.now) schedule (new_refusal (layout_of schedule) schedule.limit)
+    no_memory (g.W.Sink.tape c.args.w.now) schedule (new_refusal (layout_of schedule) schedule.limit) c.in-Ok.ensures.accepted
 
 pub returns-clause-of : goal.returns-clause-of
 returns-clause-of g c all read =

@@ -14,7 +14,7 @@ returns-clause-judges g c =
     let size = ap length taken.1 ∙ length-append (g.S.Source.reading c.args.source.now).given text in
     let few : length lines + 3 < 2 ^ 64 = omega (arith, size, c.in_ok-rest.ensures.finite, lines-few text c.in_ok-rest.rest.items lines parts) in
     let answer : c.answer.result ≡ trace_answer (parts_of text) = c.answer.ensures lines taken.3.2 few ∙ rw (c.deref.ensures.value, parts) refl in
-    judges _ _ text _ _ _ c.answer.result taken.1 c.in_ok-rest.ensures.ended c.in_ok-rest.ensures.fine answer (is_of_text (parts_of text) c.answer.result answer)
+    judges _ _ text c.answer.result taken.1 c.in_ok-rest.ensures.ended c.in_ok-rest.ensures.fine answer (is_of_text (parts_of text) c.answer.result answer)
 
 pub returns-clause-known : goal.returns-clause-known
 returns-clause-known g c = λ known coming.
@@ -30,7 +30,7 @@ returns-clause-known g c = λ known coming.
 pub returns-in_err-rest-clause-judges : goal.returns-in_err-rest-clause-judges
 returns-in_err-rest-clause-judges g c =
     let p = err_from_is_err_and c.from_residual.result c.from_residual.ensures.1 in
-    rw (p.1, p.2) (stops c.in_err-rest.field-0.0 _ _ _ _ _ c.in_err-rest.ensures.fault)
+    rw (p.1, p.2) (stops c.in_err-rest.field-0.0 _ _ c.in_err-rest.ensures.unended c.in_err-rest.ensures.fault)
 
 pub returns-in_err-rest-clause-known : goal.returns-in_err-rest-clause-known
 returns-in_err-rest-clause-known g c = λ known coming.

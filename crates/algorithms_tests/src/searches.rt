@@ -1,13 +1,16 @@
 //! Searches of algorithms, against the numbers of the reference program's `explore`: how many moves a shortest schedule has, or
-//! how many states there are. After the text a case has the sizes, how many crashes there may be, and whether processes make all
+//! how many states there are, with the moves left out. After the text a case has the sizes, how many crashes there may be, and whether processes make all
 //! calls.
 
 use crate::cases::{Kind, compare_cases};
 use crate::support::{number, text_named};
-use algorithm_explorer::{AlgorithmBounds, SearchOutcome, Unwatched, shortest_algorithm_schedule};
+use algorithm_explorer::{
+    AlgorithmBounds, AlgorithmOutcome, LeftOut, SearchOutcome, Unwatched,
+    shortest_algorithm_schedule,
+};
 use algorithm_texts::read_algorithm;
 use algorithms::Call;
-use std::alloc::Global;
+use std::alloc::{AllocError, Global};
 use std::fmt::Write;
 use std::test::Fail;
 
@@ -50,6 +53,8 @@ const OTHERS: &str = "\
 == forgetful_peterson 2 1 1\n--\n16 moves\n\
 == peterson_order 2 1 any\n--\n188 states\n\
 == one_word 2 1 0\n--\n6 moves\n\
+== bakery_1974 2 4 0\n--\n449 states, 26 moves left out from line 16\n\
+== bakery_1974 2 1 1\n--\n358 states, 79 moves left out from line 16\n\
 ";
 
 const ALL: [Call; 4] = [Call::Lock, Call::Unlock, Call::Recover, Call::Withdraw];
@@ -58,6 +63,19 @@ const BOUNDS: AlgorithmBounds = AlgorithmBounds {
     moves: 1000,
     states: 100_000,
 };
+
+/// What a search has found.
+fn put_found(text: &mut String, found: &AlgorithmOutcome) -> Result<(), AllocError> {
+    match (&found.outcome, found.left_out) {
+        (SearchOutcome::Path(moves), _) => writeln!(text, "{} moves", moves.len()),
+        (SearchOutcome::NoneWithin, _) => text.push_str("none within\n"),
+        (SearchOutcome::Nowhere(states), None) => writeln!(text, "{states} states"),
+        (SearchOutcome::Nowhere(states), Some(LeftOut { moves, line })) => writeln!(
+            text,
+            "{states} states, {moves} moves left out from line {line}"
+        ),
+    }
+}
 
 /// A search, as a case: the text, the sizes, the crashes and the calls.
 pub fn put_search(alloc: Global, words: &[&str; 8], text: &mut String) -> Result<(), Fail> {
@@ -79,9 +97,7 @@ pub fn put_search(alloc: Global, words: &[&str; 8], text: &mut String) -> Result
         &mut Unwatched,
     );
     let written = match &found {
-        Ok(SearchOutcome::Path(moves)) => writeln!(text, "{} moves", moves.len()),
-        Ok(SearchOutcome::NoneWithin) => text.push_str("none within\n"),
-        Ok(SearchOutcome::Nowhere(states)) => writeln!(text, "{states} states"),
+        Ok(found) => put_found(text, found),
         Err(fault) => writeln!(text, "{fault}"),
     };
     drop(found);

@@ -2,7 +2,7 @@
 
 use crate::cases::{Kind, compare_cases};
 use crate::support::text_named;
-use algorithm_explorer::laws::no_search_finds_the_text_out;
+use algorithm_explorer::laws::{no_search_finds_the_text_out, which_states_are_one};
 use algorithm_lab::laws::{
     a_core_makes_these_moves, the_text_is_never_found_out, the_text_means_the_lock,
     the_text_plays_as_the_lock,
@@ -168,6 +168,7 @@ fn the_text_spells_the_bakery(rt: HostRuntime) -> Result<(), Fail> {
     the_text_is_never_found_out();
     a_core_makes_these_moves();
     no_search_finds_the_text_out();
+    which_states_are_one();
     lines_make_blocks();
     tokens_are_read_as_said();
     compare_cases(rt.alloc(), Kind::Spelling, BAKERY)

@@ -1,7 +1,7 @@
 //! The command `explore` on an algorithm's text.
 
 ghost use Rattle.std.specs.Prelude.{◌≡◌, false, IfErr, IfOk, OnOk};
-ghost use Rattle.commands.specs.AlgorithmExplores.{AlgorithmExploreEnds, ExploresAlgorithm, SearchEnds, calls_had, calls_of as calls_asked, schedule_of as schedule_by};
+ghost use Rattle.commands.specs.AlgorithmExplores.{AlgorithmExploreEnds, all_line_but, ExploresAlgorithm, SearchEnds, calls_had, calls_of as calls_asked, schedule_of as schedule_by};
 ghost use Rattle.commands.specs.AlgorithmFindings.{line_by, world_call};
 ghost use Rattle.commands.specs.Endings.{FailsToWrite, IsEnded};
 ghost use Rattle.schedule.specs.Schedules.{spelling};
@@ -15,13 +15,16 @@ use crate::progress::work::Work;
 use crate::schedules::algorithm::algorithm_read;
 use crate::schedules::ending::Ending;
 use crate::schedules::fault::CommandFault;
+use crate::schedules::line::left_out_line;
 use crate::schedules::telling::tell_schedule;
 use algorithm_explorer::{
-    AlgorithmBounds, AlgorithmExploreFault, Move, SearchOutcome, shortest_algorithm_schedule,
+    AlgorithmBounds, AlgorithmExploreFault, LeftOut, Move, SearchOutcome,
+    shortest_algorithm_schedule,
 };
 use algorithms::{Algorithm, Call, Entries};
 use cli::arguments::args::{AlgorithmCalls, AlgorithmExploreArgs};
 use rmeworld::Call as WorldCall;
+use schedule::texts::device::write_all;
 use schedule::{Count, Line, Schedule, Sink};
 use std::alloc::{AllocError, Global};
 
@@ -116,6 +119,30 @@ fn tell_path<W: Sink>(
     tell_schedule(alloc, &schedule, w)
 }
 
+/// Writes that nothing was found in this many states, which are all, and which moves were left out, if any.
+fn tell_all_but<W: Sink>(
+    states: u64,
+    left_out: Option<LeftOut>,
+    w: &mut W,
+) -> Result<Ending, CommandFault>
+    ensures told { OnOk result (Writes (W.tape w.old) (W.tape w.new) (all_line_but states left_out)) }
+    ensures status { IfOk result (λ ending. ending.status ≡ 0) }
+    ensures ended { IfOk result (IsEnded false (W.tape w.old).failures (W.tape w.new).failures) }
+    ensures failed { IfErr result (FailsToWrite (W.tape w.old) (W.tape w.new)) }
+{
+    let Some(left) = left_out else {
+        return tell_all(states, w);
+    };
+    let line = left_out_line(states, left);
+    if write_all(w, line.as_bytes()).is_err() {
+        return Err(CommandFault::Write);
+    }
+    Ok(Ending {
+        status: 0,
+        save: None,
+    })
+}
+
 /// Writes the schedule of fewest moves of the algorithm that goes wrong, or that there is none.
 fn tell_shortest<S: Screen, W: Sink>(
     alloc: Global,
@@ -145,9 +172,11 @@ fn tell_shortest<S: Screen, W: Sink>(
     );
     meter.end();
     match found {
-        Ok(SearchOutcome::Path(path)) => tell_path(alloc, args, &path, w),
-        Ok(SearchOutcome::NoneWithin) => tell_within(args.moves, w),
-        Ok(SearchOutcome::Nowhere(states)) => tell_all(states, w),
+        Ok(found) => match found.outcome {
+            SearchOutcome::Path(path) => tell_path(alloc, args, &path, w),
+            SearchOutcome::NoneWithin => tell_within(args.moves, w),
+            SearchOutcome::Nowhere(states) => tell_all_but(states, found.left_out, w),
+        },
         Err(AlgorithmExploreFault::Refused(_)) => Err(CommandFault::BadSize),
         Err(AlgorithmExploreFault::TooManyStates) => Err(CommandFault::TooManyStates),
         Err(AlgorithmExploreFault::OutOfMemory) => Err(CommandFault::OutOfMemory),

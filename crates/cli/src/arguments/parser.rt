@@ -40,7 +40,8 @@ before the longer. Two worlds are one state if their words, their processes, the
 same; with --starving the judge is left out. Of a process those variables count that a move may still read; all do \
 with --all-variables, --stuck or, of a variant, --starving. An algorithm is searched by one thread.\nOut: the \
 schedule of fewest moves that goes wrong, which `rmelab replay` with the same --variant or --algorithm replays to \
-its fault; `nothing found within K moves`; or, if all was tried, `nothing found: all N states`. With --stuck, if \
+its fault; `nothing found within K moves`; or, if all was tried, `nothing found: all N states`; of an algorithm \
+with moves to values out of range `nothing found: all N states, M moves left out from line L`. With --stuck, if \
 none goes wrong: the schedule of fewest moves to a state from which no starts and steps bring each process to rest \
 with all lock words 0, unless by an unlock that ruins the lock; it replays to a fine verdict; or `never stuck: all \
 N states`. With --starving, whatever goes wrong: a schedule of fewest moves that ends with a cycle in which a \

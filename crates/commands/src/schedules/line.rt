@@ -1,7 +1,8 @@
 //! The one line of a fault, in a buffer of fixed size: it needs no memory.
 
-ghost use Rattle.std.specs.Prelude.{◌≡◌, ◌+◌, ◌≤◌, ◌++◌, ◌∷◌, [], codes, length};
+ghost use Rattle.std.specs.Prelude.{◌≡◌, ◌+◌, ◌≤◌, ◌++◌, ◌∷◌, [], Some, codes, length};
 ghost use Rattle.std.specs.Fmt.{decimal};
+ghost use Rattle.commands.specs.AlgorithmExplores.{all_line_but};
 ghost use Rattle.commands.specs.AlgorithmFaults.{number_of_text_fault, sentence_of};
 ghost use Rattle.commands.specs.Lines.{fault_line, IsTold};
 ghost use Rattle.commands.specs.Starving.{starves_line as starves_line_by};
@@ -9,6 +10,7 @@ ghost use Rattle.commands.specs.Statuses.{status_of};
 
 use crate::algorithm_fault::{number_of_text_fault, sentence_of};
 use crate::schedules::fault::CommandFault;
+use algorithm_explorer::LeftOut;
 use algorithms::LineFault;
 use arrayvec::ArrayString;
 use itoa::Buffer;
@@ -69,6 +71,19 @@ pub(crate) fn starves_line(process: u64, cycle: u64) -> ArrayString<128>
     let mut line = ArrayString::new();
     put(&mut line, "starves ", process);
     put(&mut line, " cycle ", cycle);
+    line.push_str("\n");
+    line
+}
+
+/// The line that tells that nothing was found in all states, how many moves were left out, and the first line of the text that one
+/// of them came to.
+pub(crate) fn left_out_line(states: u64, left: LeftOut) -> ArrayString<128>
+    ensures { result.bytes ≡ all_line_but states (Some left) }
+{
+    let mut line = ArrayString::new();
+    put(&mut line, "nothing found: all ", states);
+    put(&mut line, " states, ", left.moves);
+    put(&mut line, " moves left out from line ", left.line);
     line.push_str("\n");
     line
 }

@@ -91,6 +91,10 @@ nothing found: all 1741 states
 nothing found: all 1741 states
 @row rmelab explore --algorithm a.lock --procs 2 --states 58 @file a.lock PETERSON @out
 nothing found: all 58 states
+@row rmelab explore --algorithm a.lock --procs 2 @file a.lock BAKERY_1974 @out
+nothing found: all 449 states, 26 moves left out from line 16
+@row rmelab explore --algorithm a.lock --procs 2 --limit 1 --crashes 1 @file a.lock BAKERY_1974 @out
+nothing found: all 358 states, 79 moves left out from line 16
 @row rmelab explore --algorithm a.lock --procs 2 --calls recover @file a.lock PETERSON @out
 nothing found: all 1 states
 @row rmelab explore --algorithm a.lock --procs 2 --limit 1 --starving @file a.lock BURNS @out STARVES @ends 1
@@ -170,6 +174,7 @@ const SEARCHES_OF_ALGORITHMS_WHERE_DEVICES_FAIL: &str = "
 @row rmelab explore --algorithm a.lock --procs 2 @file a.lock PETERSON @fails file-read @ends 3 @err UNREAD
 @row rmelab explore --algorithm a.lock --procs 2 @file a.lock PETERSON @fails write @ends 3 @err UNWRITTEN
 @row rmelab explore --algorithm a.lock --procs 2 --moves 3 @file a.lock PETERSON @fails write @ends 3 @err UNWRITTEN
+@row rmelab explore --algorithm a.lock --procs 2 --limit 1 @file a.lock BAKERY_1974 @fails write @ends 3 @err UNWRITTEN
 @row rmelab explore --algorithm a.lock --procs 2 --limit 1 --crashes 1 @file a.lock PETERSON @fails write @ends 3 @err UNWRITTEN
 @row rmelab explore --algorithm a.lock --procs 2 --limit 1 --starving @file a.lock BURNS @fails write @ends 3 @err UNWRITTEN
 @row rmelab explore --algorithm a.lock --procs 2 --limit 1 --starving @file a.lock PETERSON @fails write @ends 3 @err UNWRITTEN

@@ -35,7 +35,7 @@ pub fn first_rule(image: &Image) -> Option<u64>
     None
 }
 
-// Whether an image that keeps the rules before this one keeps it too.
+/// Whether an image that keeps the rules before this one keeps it too.
 fn keeps(image: &Image, rule: u64) -> bool
     requires least { 2 ≤ rule }
     requires most { rule ≤ 9 }

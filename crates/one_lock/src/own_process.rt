@@ -56,17 +56,24 @@ impl OwnProcess {
         }
     }
 
+    /// The crash before a step, where there is one.
+    fn crash_before(&mut self, crash: bool)
+        ensures { self.new ≡ record { machine = crashed_if crash self.old.machine; values = self.old.values } }
+    {
+        if crash {
+            self.process.crash();
+        }
+    }
+
     /// The crash and the start before a step. False: the start is refused.
-    #[tactic(auto, using(crate::proofs::OwnSteps::keeps_then, crate::proofs::OwnSteps::kept_by_crash, crate::proofs::OwnSteps::kept_by_start))]
+    #[tactic(auto, using(crate::proofs::OwnSteps::keeps_crashed, crate::proofs::OwnSteps::keeps_then, crate::proofs::OwnSteps::kept_by_start))]
     fn open(&mut self, opening: Opening) -> bool
         ensures accepts { result ≡ true → Accepts opening.call (crashed_if opening.crash self.old.machine) }
         ensures opened { result ≡ true
             → self.new ≡ record { machine = opened_machine opening self.old.machine; values = self.old.values } }
         ensures sizes { HasConfiguration self.old.machine.layout self.old.machine.limit self.old.machine.index self.new.machine }
     {
-        if opening.crash {
-            self.process.crash();
-        }
+        self.crash_before(opening.crash);
         if let Some(call) = opening.call {
             if self.process.start(call).is_err() {
                 return false;

@@ -8,6 +8,9 @@ pub mod Stacked
 pub mod SpokenLines
 pub mod Endings
 pub mod Led
+pub mod RunMarks
+pub mod Uses
+pub mod Fits
 pub mod BlockTrees
 pub mod BlockPaths
 pub mod ProgramTrees

@@ -15,6 +15,7 @@ use Rattle.algorithm_texts.specs.TextReading.{Spoken, with_number, begun, call_w
 use Rattle.algorithm_texts.specs.TextLines.{TextSays}
 use Rattle.algorithm_texts.specs.Blocks.{Block, lines_in, read_alone, begins_block, divides, ends, compiled, read_statements}
 use Rattle.algorithm_texts.specs.Finishing.{finished, EndUnreached, with_lines}
+use Rattle.algorithm_texts.specs.Lawful.{IsLawfulDraft}
 use Rattle.algorithm_texts.specs.Programs.{CallLines, Program, calls_lines, program_lines, declarations_made, call_begun, calls_made, meant, Spells}
 use Rattle.algorithm_texts.proofs.BlockTrees.{some_of, if_of, round, Stays, stays, choice_stays, alone_stays, begins_calls, divides_calls, ends_calls}
 use Rattle.algorithm_texts.proofs.BlockPaths.{kinds, make_blocks}
@@ -237,15 +238,16 @@ text_makes_program spoken d e =
 
 -- the algorithm of a draft that is finished
 pub spelled : (text : List ℕ) (read ready checked : Draft) (spoken : List Spoken) → TextSays text spoken → read_text spoken ≡ Some (drafted read)
-    → finished (drafted read) ≡ Some (drafted ready) → EndUnreached (drafted ready) (drafted checked).lines
+    → finished (drafted read) ≡ Some (drafted ready) → IsLawfulDraft (drafted ready) → EndUnreached (drafted ready) (drafted checked).lines
     → drafted checked ≡ with_lines (drafted checked).lines (drafted ready) → Spells text checked.algorithm
-spelled text read ready checked spoken says reads finishes ends kept =
+spelled text read ready checked spoken says reads finishes lawful ends kept =
     let p = text_makes_program spoken (drafted read) reads in
     record {
       program = p.0;
       says = subst (λ ss. TextSays text ss) (sym p.1) says;
       draft = drafted ready;
       means = ap (λ o. o >>= finished) p.2 ∙ finishes;
+      lawful = lawful;
       is_of = record {
         head = ap (λ d. d.head) kept;
         declared = ap (λ d. d.declared) kept;

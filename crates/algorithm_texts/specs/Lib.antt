@@ -10,6 +10,10 @@ pub mod LineReading
 pub mod TextReading
 pub mod TextLines
 pub mod Finishing
+pub mod Usage
+pub mod Runs
+pub mod Marking
+pub mod Lawful
 pub mod Blocks
 pub mod Programs
 pub mod Sayings

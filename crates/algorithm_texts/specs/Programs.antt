@@ -8,6 +8,7 @@ use Rattle.algorithm_texts.specs.TextReading.{Spoken, with_number, begun, end_ca
 use Rattle.algorithm_texts.specs.TextLines.{TextSays}
 use Rattle.algorithm_texts.specs.Blocks.{Block, lines_in, compiled}
 use Rattle.algorithm_texts.specs.Finishing.{finished, IsOf}
+use Rattle.algorithm_texts.specs.Lawful.{IsLawfulDraft}
 
 -- the line that begins a call, and the lines after it
 pub record CallLines : Type 0 where
@@ -50,10 +51,11 @@ meant p = do
   declared ← declarations_made p.declarations (begun head promises p.promises.number)
   calls_made p.calls declared
 
--- the lines of a text are those of a program, and the algorithm is what it means
+-- the lines of a text are those of a program that keeps the rules, and the algorithm is what it means
 pub record Spells (text : List ℕ) (a : Algorithm) : Type 0 where
   pub program : Program
   pub says : TextSays text (program_lines program)
   pub draft : Drafted
   pub means : (meant program >>= finished) ≡ Some draft
+  pub lawful : IsLawfulDraft draft
   pub is_of : IsOf draft a

@@ -1,17 +1,21 @@
-//! The labels, the names and the deeds of a call that was read.
+//! The labels, the names, the deeds and the withdraws of a call that was read.
 
-ghost use Rattle.std.specs.Prelude.{◌≡◌, ◌&&◌, map, bytes_eq, position, Some, OnOk};
-ghost use Rattle.algorithm_texts.specs.Drafts.{drafted, line_of};
+ghost use Rattle.std.specs.Prelude.{◌≡◌, ◌&&◌, ◌≤◌, ◌<◌, ◌↔◌, ℕ, true, map, length, slice_get, bytes_eq, position, Some, OnOk, IsTrue};
+ghost use Rattle.algorithm_texts.specs.Drafts.{drafted, form_of, led, line_of};
 ghost use Rattle.algorithm_texts.specs.Finishing.{is_label_in, label_named, is_within, reachable, target_of, jump_led, jumps_led, call_led};
+ghost use Rattle.algorithm_texts.specs.Lawful.{LabelsDiffer, HasLine, HasLoop, IsInLoop, IsKnown, LineFits, LinesFit};
+ghost use Rattle.algorithm_texts.specs.Usage.{reads, sets, begins_loop, ends_loop, deed_fits, fits, uses, passes_at};
 
 use crate::lines::{CallRead, Draft, Jump, Label, lead_line};
-use crate::usage::{first_names, loop_name, names_read, names_set};
+use crate::usage::{begins_loop, ends_loop, sets};
 use algorithms::algorithm::{Call, Promises};
 use algorithms::fault::{AlgorithmFault, LineFault};
 use algorithms::line::{Deed, Form, Line, LocalLine};
 
 /// Whether a deed fits what is promised.
-fn fits(deed: Deed, promises: Promises) -> bool {
+fn deed_fits(deed: Deed, promises: Promises) -> bool
+    ensures { result ≡ deed_fits promises deed }
+{
     match deed {
         Deed::Enter | Deed::Leave => true,
         Deed::Begin | Deed::Ready | Deed::Quit => promises.order,
@@ -26,37 +30,6 @@ fn is_in(label: &Label, call: CallRead) -> bool
     call.number < label.number && label.number <= call.last
 }
 
-/// Whether a call may be withdrawn at a line of this form.
-fn may_withdraw(form: &Form) -> bool {
-    match form {
-        Form::Access(access) => access.may_withdraw,
-        _ => false,
-    }
-}
-
-/// The names of a call, as bits: those that a line sets, those that a loop sets, and those that last.
-#[derive(Clone, Copy)]
-struct NameSets {
-    set: u64,
-    loops: u64,
-    lasting: u64,
-}
-
-impl NameSets {
-    /// The names of one line, of which `inner` are those of the loops round it.
-    fn check(self, inner: u64, form: &Form) -> Result<(), LineFault> {
-        let read = names_read(form);
-        let known = self.loops | self.set | self.lasting;
-        if (read & self.loops & !inner) != 0 || (read & !known) != 0 {
-            return Err(LineFault::UnknownName);
-        }
-        if (names_set(form) & self.loops) != 0 {
-            return Err(LineFault::NotAssignable);
-        }
-        Ok(())
-    }
-}
-
 /// The place of the label of a call that has this name.
 fn place_named(labels: &[Label], call: CallRead, name: &[u8]) -> Option<usize>
     ensures { result ≡ position (λ label. bytes_eq label.name name.now && is_label_in call label) labels.now }
@@ -66,6 +39,16 @@ fn place_named(labels: &[Label], call: CallRead, name: &[u8]) -> Option<usize>
         .position(|label| label.name.is(name) && is_in(label, call))
 }
 
+/// Whether the label at a place is the first of a call that has this name.
+fn is_first(labels: &[Label], call: CallRead, name: &[u8], at: usize) -> bool
+    ensures { result ≡ true → position (λ label. bytes_eq label.name name.now && is_label_in call label) labels.now ≡ Some at }
+{
+    match place_named(labels, call, name) {
+        Some(first) => first == at,
+        None => false,
+    }
+}
+
 /// The label of a call that has this name.
 fn label_named(labels: &[Label], call: CallRead, name: &[u8]) -> Option<Label>
     ensures { result ≡ label_named labels.now call name.now }
@@ -73,8 +56,8 @@ fn label_named(labels: &[Label], call: CallRead, name: &[u8]) -> Option<Label>
     labels.get(place_named(labels, call, name)?).copied()
 }
 
-/// Whether a place is in a block, from its first place to before its last.
-fn is_within(block: (usize, usize), at: usize) -> bool
+/// Whether a place lies in a block: at its first place or after it, and before its end.
+pub fn is_within(block: (usize, usize), at: usize) -> bool
     ensures { result ≡ is_within block at }
 {
     block.0 <= at && at < block.1
@@ -153,72 +136,193 @@ fn resolve(
     Ok(())
 }
 
+/// The deed and the withdraw of one line.
+fn check_deed(promises: Promises, call: Call, form: &Form) -> Result<(), LineFault>
+    ensures { OnOk result (fits promises call (form_of form.now) ≡ true) }
+{
+    match form {
+        Form::Local(LocalLine::Note(deed)) => {
+            if deed_fits(*deed, promises) {
+                Ok(())
+            } else {
+                Err(LineFault::BadDeed)
+            }
+        }
+        Form::Access(access) => {
+            if access.may_withdraw && call != Call::Lock {
+                Err(LineFault::BadCall)
+            } else {
+                Ok(())
+            }
+        }
+        _ => Ok(()),
+    }
+}
+
 impl Draft {
-    /// The lines of a call.
-    fn lines_of(&self, call: CallRead) -> &[Line] {
-        self.algorithm
-            .lines
-            .as_slice()
-            .get(call.from..call.to)
-            .unwrap_or(&[])
-    }
-
-    /// The names that the lines of a call set, those of its loops, and those that last from call to call.
-    fn known(&self, call: CallRead) -> NameSets {
-        let (mut set, mut loops) = (0, 0);
-        for line in self.lines_of(call) {
-            set |= names_set(&line.form);
-            loops |= loop_name(&line.form);
-        }
-        let lasting = first_names(self.algorithm.lasting);
-        NameSets {
-            set,
-            loops,
-            lasting,
-        }
-    }
-
-    /// Labels of one name in one call are one.
-    fn check_labels(&self, call: CallRead) -> Result<(), AlgorithmFault> {
+    /// `NameTaken` at the first label whose name another one of the call has before it.
+    fn check_labels(&self, call: CallRead) -> Result<(), AlgorithmFault>
+        ensures { OnOk result (LabelsDiffer (drafted self.now).labels call) }
+    {
         for (at, label) in self.labels.iter().enumerate() {
-            let earlier = self.labels.as_slice().get(..at).unwrap_or(&[]);
-            let taken = earlier.iter().any(|other| other.name.is(label.name.as_bytes())
-                && is_in(other, call));
-            if taken && is_in(label, call) {
+            if is_in(label, call)
+                && !is_first(self.labels.as_slice(), call, label.name.as_bytes(), at)
+            {
                 return Err(LineFault::NameTaken.at(label.number));
             }
         }
         Ok(())
     }
 
-    /// The deeds and the withdraws of one line.
-    fn check_deed(&self, call: Call, form: &Form) -> Result<(), LineFault> {
-        match form {
-            Form::Local(LocalLine::Note(deed)) if !fits(*deed, self.algorithm.promises) => Err(
-                LineFault::BadDeed,
-            ),
-            Form::Access(access) if access.may_withdraw && call != Call::Lock => Err(
-                LineFault::BadCall,
-            ),
-            _ => Ok(()),
+    /// Whether the line at a place sets a name.
+    fn sets_at(&self, name: usize, place: usize) -> bool
+        ensures { result ≡ passes_at (sets name) (uses (drafted self.now).lines) place }
+    {
+        match self.algorithm.lines.get(place) {
+            Some(line) => sets(&line.form, name),
+            None => false,
         }
     }
 
-    /// The names, the deeds and the withdraws of one line, of which `inner` are the names of the loops round it.
-    fn check_line(
-        &self,
-        call: CallRead,
-        known: NameSets,
-        inner: u64,
-        line: &Line,
-    ) -> Result<(), LineFault> {
-        known.check(inner, &line.form)?;
-        self.check_deed(call.call, &line.form)
+    /// Whether the line at a place begins a loop with this name.
+    fn begins_at(&self, name: usize, place: usize) -> bool
+        ensures { result ≡ passes_at (begins_loop name) (uses (drafted self.now).lines) place }
+    {
+        match self.algorithm.lines.get(place) {
+            Some(line) => begins_loop(&line.form, name),
+            None => false,
+        }
     }
 
-    /// The labels, the names and the deeds of a call.
+    /// Whether the line at a place ends a loop with this name.
+    fn ends_at(&self, name: usize, place: usize) -> bool
+        ensures { result ≡ passes_at (ends_loop name) (uses (drafted self.now).lines) place }
+    {
+        match self.algorithm.lines.get(place) {
+            Some(line) => ends_loop(&line.form, name),
+            None => false,
+        }
+    }
+
+    /// Whether the call has a loop with this name.
+    fn has_loop(&self, call: CallRead, name: usize) -> bool
+        ensures { IsTrue result ↔ HasLoop (uses (drafted self.now).lines) call name }
+    {
+        for place in call.from..call.to {
+            if self.begins_at(name, place) {
+                return true;
+            }
+        }
+        false
+    }
+
+    /// Whether a line of the call sets this name.
+    fn has_setting(&self, call: CallRead, name: usize) -> bool
+        ensures { IsTrue result ↔ HasLine (uses (drafted self.now).lines) call (sets name) }
+    {
+        for place in call.from..call.to {
+            if self.sets_at(name, place) {
+                return true;
+            }
+        }
+        false
+    }
+
+    /// Whether a place is in a loop with this name.
+    fn is_in_loop(&self, call: CallRead, name: usize, place: usize) -> bool
+        requires { call.«from» ≤ place }
+        ensures { IsTrue result → IsInLoop (uses (drafted self.now).lines) call name place }
+    {
+        let mut inside = false;
+        for at in call.from..place {
+            inside = (inside || self.begins_at(name, at)) && !self.ends_at(name, at);
+        }
+        inside || self.begins_at(name, place)
+    }
+
+    /// Whether a place knows this name.
+    fn is_known(&self, call: CallRead, name: usize, place: usize) -> bool
+        requires { call.«from» ≤ place }
+        ensures { IsTrue result → IsKnown (uses (drafted self.now).lines) call (drafted self.now).lasting name place }
+    {
+        if self.has_loop(call, name) {
+            self.is_in_loop(call, name, place)
+        } else {
+            name < self.algorithm.lasting || self.has_setting(call, name)
+        }
+    }
+
+    /// `UnknownName` where a line reads a name that it does not know.
+    fn check_read(&self, call: CallRead, place: usize) -> Result<(), LineFault>
+        requires { call.«from» ≤ place }
+        ensures { OnOk result ((name : ℕ) → name < length (drafted self.now).names
+            → passes_at (reads name) (uses (drafted self.now).lines) place ≡ true
+            → IsKnown (uses (drafted self.now).lines) call (drafted self.now).lasting name place) }
+    {
+        for name in 0..self.algorithm.names.len() {
+            if self.reads_at(name, place) && !self.is_known(call, name, place) {
+                return Err(LineFault::UnknownName);
+            }
+        }
+        Ok(())
+    }
+
+    /// `NotAssignable` where a line sets a name of a loop.
+    fn check_loops(&self, call: CallRead, place: usize) -> Result<(), LineFault>
+        ensures { OnOk result ((name : ℕ) → name < length (drafted self.now).names
+            → passes_at (sets name) (uses (drafted self.now).lines) place ≡ true
+            → HasLoop (uses (drafted self.now).lines) call name → ⊥) }
+    {
+        for name in 0..self.algorithm.names.len() {
+            if self.sets_at(name, place) && self.has_loop(call, name) {
+                return Err(LineFault::NotAssignable);
+            }
+        }
+        Ok(())
+    }
+
+    /// The names, the deed and the withdraw of one line.
+    fn check_form(&self, call: CallRead, place: usize, form: &Form) -> Result<(), LineFault>
+        requires beginning { call.«from» ≤ place }
+        requires there { slice_get (uses (drafted self.now).lines) place ≡ Some (led 0 (form_of form.now)) }
+        ensures { OnOk result (LineFits (uses (drafted self.now).lines) (drafted self.now).head.promises (drafted self.now).lasting
+            (length (drafted self.now).names) call place) }
+    {
+        self.check_read(call, place)?;
+        self.check_loops(call, place)?;
+        check_deed(self.algorithm.promises, call.call, form)
+    }
+
+    /// The names, the deed and the withdraw of the line at a place.
+    fn check_line(&self, call: CallRead, place: usize) -> Result<(), AlgorithmFault>
+        requires { call.«from» ≤ place }
+        ensures { OnOk result (LineFits (uses (drafted self.now).lines) (drafted self.now).head.promises (drafted self.now).lasting
+            (length (drafted self.now).names) call place) }
+    {
+        match self.algorithm.lines.get(place) {
+            Some(line) => match self.check_form(call, place, &line.form) {
+                Ok(()) => Ok(()),
+                Err(fault) => Err(fault.at(line.number)),
+            },
+            None => Ok(()),
+        }
+    }
+
+    /// The names, the deeds and the withdraws of all lines of a call.
+    fn check_lines(&self, call: CallRead) -> Result<(), AlgorithmFault>
+        ensures { OnOk result ((at : ℕ) → is_within (call.«from», call.to) at ≡ true → LineFits (uses (drafted self.now).lines)
+            (drafted self.now).head.promises (drafted self.now).lasting (length (drafted self.now).names) call at) }
+    {
+        for place in call.from..call.to {
+            self.check_line(call, place)?;
+        }
+        Ok(())
+    }
+
+    /// The labels, the names, the deeds and the withdraws of a call.
     pub fn check_call(&mut self, call: CallRead) -> Result<(), AlgorithmFault>
-        ensures { OnOk result (call_led (drafted self.old) call ≡ Some (drafted self.new)) }
+        ensures led { OnOk result (call_led (drafted self.old) call ≡ Some (drafted self.new)) }
+        ensures fits { OnOk result (LinesFit (drafted self.new) call) }
     {
         self.check_labels(call)?;
         resolve(
@@ -229,37 +333,5 @@ impl Draft {
             self.jumps.as_slice(),
         )?;
         self.check_lines(call)
-    }
-
-    /// The names, the deeds and the withdraws of all lines of a call.
-    fn check_lines(&self, call: CallRead) -> Result<(), AlgorithmFault> {
-        let known = self.known(call);
-        let mut inner = 0;
-        for line in self.lines_of(call) {
-            if let Form::Local(LocalLine::First { .. }) = &line.form {
-                inner |= loop_name(&line.form);
-            }
-            self.check_line(call, known, inner, line)
-                .map_err(|fault| fault.at(line.number))?;
-            if let Form::Local(LocalLine::Next { .. }) = &line.form {
-                inner &= !loop_name(&line.form);
-            }
-        }
-        Ok(())
-    }
-
-    /// There is a call withdraw just where a line of the lock may withdraw.
-    pub fn check_withdraw(&self) -> Result<(), AlgorithmFault> {
-        let may = self
-            .algorithm
-            .lines
-            .iter()
-            .find(|line| may_withdraw(&line.form));
-        let call = self.calls.iter().find(|call| call.call == Call::Withdraw);
-        match (may, call) {
-            (Some(line), None) => Err(LineFault::BadCall.at(line.number)),
-            (None, Some(call)) => Err(LineFault::BadCall.at(call.number)),
-            _ => Ok(()),
-        }
     }
 }

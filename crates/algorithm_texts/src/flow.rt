@@ -1,46 +1,61 @@
-//! What the runs of a call may do: which lines they come to, which names they have set, and where they go round.
+//! Where the runs of a call come. Which way a branch goes is not asked.
 
-use crate::lines::{CallRead, Jump};
-use crate::usage::{first_names, loop_name, names_read, names_set};
-use algorithms::fault::{AlgorithmFault, LineFault};
-use algorithms::line::{Form, Line, LocalLine};
+ghost use Rattle.std.specs.Prelude.{◌≡◌, ◌+◌, ◌-◌, ◌^◌, ◌<◌, ◌≤◌, ℕ, true, [], ◌∷◌, None, Some, IfOk, MatchOption, length, slice_set, if◌then◌else◌};
+ghost use Rattle.std.specs.List.{find};
+ghost use Rattle.algorithm_texts.specs.Drafts.{drafted, form_of, line_of, local_form};
+ghost use Rattle.algorithm_texts.specs.Finishing.{is_in, is_within, ways};
+ghost use Rattle.algorithm_texts.specs.Marking.{listed, is_free, free_of, free_way, past_marked, marks_from, IsClosed, Keeps};
+ghost use Rattle.algorithm_texts.specs.Runs.{is_access, goes_on, ways_from, Comes, IsReached, IsReachedWithout, way_past, past_from};
+
+use crate::checks::is_within;
+use crate::lines::{CallRead, Draft};
+use crate::marks::is_in;
+use crate::usage::{begins_loop, ends_loop, sets};
+use algorithms::line::{Form, LocalLine};
 use algorithms::ranks::has_round;
 use std::alloc::{AllocError, Global};
 
-/// The ways of a call from line to line. Which way a branch goes is not asked.
-#[derive(Drop)]
-pub struct Flow<'a> {
-    lines: &'a [Line],
-    call: CallRead,
-    /// The least number of processes.
-    least: u64,
+/// Which runs are asked for.
+#[derive(Clone, Copy)]
+pub enum Runs {
+    All,
+    /// Those without an access.
+    Silent,
+    /// Those that do not set this name.
+    Without(usize),
 }
 
 /// Where a line leads: at most two places.
 #[derive(Clone, Copy)]
-struct Ways {
-    first: Option<usize>,
-    second: Option<usize>,
+pub struct Ways {
+    pub first: Option<usize>,
+    pub second: Option<usize>,
 }
 
-/// The ways of a line after which nothing comes.
-fn no_way() -> Ways {
+/// No place: nothing follows.
+fn no_way() -> Ways
+    ensures { listed result ≡ [] }
+{
     Ways {
         first: None,
         second: None,
     }
 }
 
-/// The ways of a line that leads to one place.
-fn one_way(place: usize) -> Ways {
+/// One place follows.
+fn one_way(place: usize) -> Ways
+    ensures { listed result ≡ place ∷ [] }
+{
     Ways {
         first: Some(place),
         second: None,
     }
 }
 
-/// The ways of a line that leads to either of two places.
-fn two_ways(first: usize, second: usize) -> Ways {
+/// One of two places follows.
+fn two_ways(first: usize, second: usize) -> Ways
+    ensures { listed result ≡ first ∷ (second ∷ []) }
+{
     Ways {
         first: Some(first),
         second: Some(second),
@@ -48,9 +63,12 @@ fn two_ways(first: usize, second: usize) -> Ways {
 }
 
 /// Where a local line leads, where `least` is the least number of processes and `next` the place of the line after it.
-fn local_ways(line: &LocalLine, least: u64, next: usize) -> Ways {
+fn local_ways(line: &LocalLine, least: u64, next: usize) -> Ways
+    ensures { listed result ≡ ways least next (local_form line.now) }
+{
     match line {
-        LocalLine::Assign { .. } | LocalLine::Note(_) => one_way(next),
+        LocalLine::Assign { .. } => one_way(next),
+        LocalLine::Note(_) => one_way(next),
         LocalLine::Goto(target) => one_way(*target),
         LocalLine::Branch { otherwise, .. } => two_ways(next, *otherwise),
         LocalLine::First { members, after, .. } => {
@@ -64,344 +82,278 @@ fn local_ways(line: &LocalLine, least: u64, next: usize) -> Ways {
     }
 }
 
-impl<'a> Flow<'a> {
-    /// The ways of these lines, of which the call has its own.
-    pub fn of(lines: &'a [Line], call: CallRead, least: u64) -> Flow<'a> {
-        Flow { lines, call, least }
-    }
-
-    /// Where the line at a place leads. Where there is no line, nowhere.
-    fn ways(&self, place: usize) -> Ways {
-        let next = place.saturating_add(1);
-        let Some(line) = self.lines.get(place) else {
-            return no_way();
-        };
-        match &line.form {
-            Form::Done(_) => no_way(),
-            Form::Access(_) => one_way(next),
-            Form::Local(local) => local_ways(local, self.least, next),
-        }
-    }
-
-    /// Marks the places to which a line leads.
-    fn follow(&self, place: usize, places: &mut [bool]) {
-        let ways = self.ways(place);
-        mark(places, ways.first);
-        mark(places, ways.second);
-    }
-
-    /// One more than the longest way from the places to which a line leads.
-    fn rank_at(&self, place: usize, ranks: &[u64]) -> u64 {
-        let ways = self.ways(place);
-        let longest = rank_after(ranks, ways.first).max(rank_after(ranks, ways.second));
-        longest.saturating_add(1)
-    }
-
-    /// The longest way over local lines from each line of the call, once each line was taken as often as there are lines.
-    pub fn rank(&self, ranks: &mut [u64]) {
-        for _ in self.call.from..self.call.to {
-            for place in self.call.from..self.call.to {
-                if self.is_local(place) {
-                    let longer = self.rank_at(place, ranks);
-                    if let Some(rank) = ranks.get_mut(place) {
-                        *rank = longer;
-                    }
-                }
-            }
-        }
-    }
-
-    /// Whether there is a local line at this place.
-    fn is_local(&self, place: usize) -> bool {
-        match self.lines.get(place) {
-            Some(line) => match &line.form {
-                Form::Local(_) => true,
-                _ => false,
-            },
-            None => false,
-        }
-    }
-
-    /// Whether there is a line at this place that loads or stores a shared word.
-    fn is_access(&self, place: usize) -> bool {
-        match self.lines.get(place) {
-            Some(line) => match &line.form {
-                Form::Access(_) => true,
-                _ => false,
-            },
-            None => false,
-        }
-    }
-
-    /// Which places a run comes to from the call's first line. Past an access only where `through`.
-    fn reached(&self, alloc: Global, through: bool) -> Result<Vec<bool>, AllocError> {
-        let mut reached = vec![in alloc; false; self.lines.len().saturating_add(1)]?;
-        mark(reached.as_mut_slice(), Some(self.call.from));
-        for _ in self.call.from..self.call.to {
-            self.reach(reached.as_mut_slice(), through);
-        }
-        Ok(reached)
-    }
-
-    /// Marks the places to which the lines that are reached lead.
-    fn reach(&self, reached: &mut [bool], through: bool) {
-        for place in self.call.from..self.call.to {
-            if is_marked(reached, place) && (through || !self.is_access(place)) {
-                self.follow(place, reached);
-            }
-        }
-    }
-
-    /// The number in the text of the line at this place; past the lines, that of the call's last line.
-    fn number(&self, place: usize) -> u64 {
-        match self.lines.get(place) {
-            Some(line) => line.number,
-            None => self.call.last,
-        }
-    }
-
-    /// Whether the text has a line of its own for this one.
-    fn is_own_line(&self, place: usize, jumps: &[Jump]) -> bool {
-        match self.lines.get(place).map(|line| &line.form) {
-            Some(Form::Local(LocalLine::Next { .. })) => false,
-            Some(Form::Local(LocalLine::Goto(_))) => jumps.iter().any(|jump| jump.place == place),
-            _ => true,
-        }
-    }
-
-    /// `NeverReached` at the first line to which no run comes. The end of a loop, and the end of a block before `else`, are no
-    /// lines of their own.
-    fn check_reached(&self, reached: &[bool], jumps: &[Jump]) -> Result<(), AlgorithmFault> {
-        for place in self.call.from..self.call.to {
-            if !is_marked(reached, place) && self.is_own_line(place, jumps) {
-                return Err(LineFault::NeverReached.at(self.number(place)));
-            }
-        }
-        Ok(())
-    }
-
-    /// `FallsOff` where a run can pass the call's last line.
-    fn check_end(&self, reached: &[bool]) -> Result<(), AlgorithmFault> {
-        for place in self.call.from..self.call.to {
-            let ways = self.ways(place);
-            let falls = ways.first == Some(self.call.to) || ways.second == Some(self.call.to);
-            if falls && is_marked(reached, place) {
-                return Err(LineFault::FallsOff.at(self.call.last));
-            }
-        }
-        Ok(())
-    }
-
-    /// Which names are set for sure before each place.
-    fn surely_set(
-        &self,
-        alloc: Global,
-        reached: &[bool],
-        lasting: u64,
-    ) -> Result<Vec<u64>, AllocError> {
-        let mut surely = vec![in alloc; u64::MAX; self.lines.len().saturating_add(1)]?;
-        restrict(surely.as_mut_slice(), Some(self.call.from), lasting);
-        for _ in self.call.from..self.call.to {
-            for place in self.call.from..self.call.to {
-                if is_marked(reached, place) {
-                    self.set_after(place, surely.as_mut_slice());
-                }
-            }
-        }
-        Ok(surely)
-    }
-
-    /// Restricts the names before the places to which a line leads to those that are set after it.
-    fn set_after(&self, place: usize, surely: &mut [u64]) {
-        let Some(line) = self.lines.get(place) else {
-            return;
-        };
-        let after = names_at(surely, place) | names_set(&line.form);
-        let name = loop_name(&line.form);
-        let ways = self.ways(place);
-        restrict(surely, ways.first, after | name);
-        restrict(surely, ways.second, after & !name);
-    }
-
-    /// `Unset` at the first line that may read a name before it is set.
-    fn check_set(
-        &self,
-        alloc: Global,
-        reached: &[bool],
-        lasting: u64,
-    ) -> Result<(), AlgorithmFault> {
-        let surely = self.surely_set(alloc, reached, lasting)?;
-        self.check_read(reached, surely.as_slice())
-    }
-
-    /// `Unset` at the first line that reads a name that is not surely set before it.
-    fn check_read(&self, reached: &[bool], surely: &[u64]) -> Result<(), AlgorithmFault> {
-        for place in self.call.from..self.call.to {
-            let Some(line) = self.lines.get(place) else {
-                continue;
-            };
-            let unset = names_read(&line.form) & !names_at(surely, place);
-            if is_marked(reached, place) && unset != 0 {
-                return Err(LineFault::Unset.at(line.number));
-            }
-        }
-        Ok(())
-    }
-
-    /// Whether a way leads to one of these places.
-    fn leads_to(&self, place: usize, places: &[bool]) -> bool {
-        let ways = self.ways(place);
-        let first = ways.first.is_some_and(|way| is_marked(places, way));
-        first || ways.second.is_some_and(|way| is_marked(places, way))
-    }
-
-    /// Marks just the places to which those that are left lead.
-    fn follow_all(&self, left: &[bool], followed: &mut [bool]) {
-        for place in self.call.from..self.call.to {
-            unmark(followed, place);
-        }
-        for place in self.call.from..self.call.to {
-            if is_marked(left, place) {
-                self.follow(place, followed);
-            }
-        }
-    }
-
-    /// Takes out the local lines that none of those that are left leads to, and those that lead to none of them.
-    fn take_out(&self, left: &mut [bool], followed: &mut [bool]) {
-        self.follow_all(left, followed);
-        for place in self.call.from..self.call.to {
-            if !is_marked(followed, place) || !self.leads_to(place, left) {
-                unmark(left, place);
-            }
-        }
-    }
-
-    /// `Endless` where local lines can go round: some are left where those at the ends are taken out again and again.
-    fn check_ends(&self, alloc: Global, reached: &[bool]) -> Result<(), AlgorithmFault> {
-        let mut left = vec![in alloc; false; self.lines.len().saturating_add(1)]?;
-        let mut followed = vec![in alloc; false; self.lines.len().saturating_add(1)]?;
-        self.mark_local(reached, left.as_mut_slice());
-        for _ in self.call.from..self.call.to {
-            self.take_out(left.as_mut_slice(), followed.as_mut_slice());
-        }
-        self.check_none(left.as_slice())
-    }
-
-    /// Marks the places that are reached and of no access.
-    fn mark_local(&self, reached: &[bool], left: &mut [bool]) {
-        for place in self.call.from..self.call.to {
-            if is_marked(reached, place) && !self.is_access(place) {
-                mark(left, Some(place));
-            }
-        }
-    }
-
-    /// `Endless` at the first place that is left.
-    fn check_none(&self, left: &[bool]) -> Result<(), AlgorithmFault> {
-        for place in self.call.from..self.call.to {
-            if is_marked(left, place) {
-                return Err(LineFault::Endless.at(self.number(place)));
-            }
-        }
-        Ok(())
-    }
-
-    /// `NoStep` at the first end or deed that can come before the call's first step.
-    fn check_steps(&self, alloc: Global) -> Result<(), AlgorithmFault> {
-        let silent = self.reached(alloc, false)?;
-        self.check_silent(silent.as_slice())
-    }
-
-    /// `NoStep` at the first end or deed among these places.
-    fn check_silent(&self, silent: &[bool]) -> Result<(), AlgorithmFault> {
-        for place in self.call.from..self.call.to {
-            if is_marked(silent, place) && self.is_told(place) {
-                return Err(LineFault::NoStep.at(self.number(place)));
-            }
-        }
-        Ok(())
-    }
-
-    /// Whether a line is an end or a deed, which others see.
-    fn is_told(&self, place: usize) -> bool {
-        match self.lines.get(place) {
-            Some(line) => match &line.form {
-                Form::Done(_) | Form::Local(LocalLine::Note(_)) => true,
-                _ => false,
-            },
-            None => false,
-        }
-    }
-
-    /// Checks what the runs of the call may do, and answers which places they come to. `lasting` are the names that stay from
-    /// call to call.
-    pub fn check(
-        &self,
-        alloc: Global,
-        jumps: &[Jump],
-        lasting: usize,
-    ) -> Result<Vec<bool>, AlgorithmFault> {
-        let reached = self.reached(alloc, true)?;
-        self.check_places(alloc, reached.as_slice(), jumps, lasting)?;
-        Ok(reached)
-    }
-
-    /// Checks the places to which the runs of the call come, in the order in which the faults of a text are listed.
-    fn check_places(
-        &self,
-        alloc: Global,
-        reached: &[bool],
-        jumps: &[Jump],
-        lasting: usize,
-    ) -> Result<(), AlgorithmFault> {
-        self.check_reached(reached, jumps)?;
-        self.check_end(reached)?;
-        self.check_set(alloc, reached, first_names(lasting))?;
-        self.check_ends(alloc, reached)?;
-        self.check_steps(alloc)
+/// Where a line leads.
+fn form_ways(form: &Form, least: u64, next: usize) -> Ways
+    ensures { listed result ≡ ways least next (form_of form.now) }
+{
+    match form {
+        Form::Access(_) => one_way(next),
+        Form::Local(line) => local_ways(line, least, next),
+        Form::Done(_) => no_way(),
     }
 }
 
-/// The rank of the place to which a way leads; 0 where there is no way.
-fn rank_after(ranks: &[u64], way: Option<usize>) -> u64 {
+/// Whether a line loads or stores a word.
+pub fn is_access(form: &Form) -> bool
+    ensures { result ≡ is_access (form_of form.now) }
+{
+    match form {
+        Form::Access(_) => true,
+        Form::Local(_) | Form::Done(_) => false,
+    }
+}
+
+/// Whether runs of this kind go on after a line.
+fn goes_on(runs: Runs, form: &Form) -> bool
+    ensures { result ≡ goes_on runs (form_of form.now) }
+{
+    match runs {
+        Runs::All => true,
+        Runs::Silent => !is_access(form),
+        Runs::Without(name) => {
+            !(sets(form, name) || (begins_loop(form, name) || ends_loop(form, name)))
+        }
+    }
+}
+
+/// The place after a loop with this name, at the lines from which a run can go on there.
+fn way_past(form: &Form, name: usize, least: u64, next: usize) -> Option<usize>
+    ensures { result ≡ way_past name least next (form_of form.now) }
+{
+    match form {
+        Form::Local(line) => local_way_past(line, name, least, next),
+        Form::Access(_) | Form::Done(_) => None,
+    }
+}
+
+/// As `way_past`, of a local line.
+fn local_way_past(line: &LocalLine, name: usize, least: u64, next: usize) -> Option<usize>
+    ensures { result ≡ way_past name least next (local_form line.now) }
+{
+    match line {
+        LocalLine::First {
+            name: own,
+            members,
+            after,
+        } => {
+            if *own == name {
+                if has_round(least, *members) {
+                    None
+                } else {
+                    Some(*after)
+                }
+            } else {
+                None
+            }
+        }
+        LocalLine::Next { name: own, .. } => { if *own == name { Some(next) } else { None } }
+        LocalLine::Assign { .. }
+        | LocalLine::Note(_)
+        | LocalLine::Goto(_)
+        | LocalLine::Branch { .. } => None,
+    }
+}
+
+/// Marks a place, if there is a mark for it.
+#[tactic(auto, using(std::proofs::lemmas::List::set_past))]
+pub fn mark(marks: &mut [bool], place: usize)
+    ensures { marks.new ≡ slice_set marks.old place true }
+{
+    if place < marks.len() {
+        marks[place] = true;
+    }
+}
+
+/// Whether a place is not marked, and there is a mark for it.
+pub fn is_free(marks: &[bool], place: usize) -> bool
+    ensures { result ≡ is_free marks.now place }
+{
+    place < marks.len() && !is_in(marks, place)
+}
+
+/// The first of these places that is not marked.
+fn first_free(marks: &[bool], ways: Ways) -> Option<usize>
+    ensures { result ≡ find (is_free marks.now) (listed ways) }
+{
+    match ways.first {
+        Some(way) => {
+            if is_free(marks, way) {
+                Some(way)
+            } else {
+                free_of(marks, ways.second)
+            }
+        }
+        None => free_of(marks, ways.second),
+    }
+}
+
+/// The place of a way, if it is not marked yet.
+fn free_of(marks: &[bool], way: Option<usize>) -> Option<usize>
+    ensures { result ≡ free_of marks.now way }
+{
     match way {
-        Some(place) => ranks.get(place).copied().unwrap_or(0),
-        None => 0,
+        Some(way) => { if is_free(marks, way) { Some(way) } else { None } }
+        None => None,
     }
 }
 
-/// The names that are set for sure before a place.
-fn names_at(surely: &[u64], place: usize) -> u64 {
-    surely.get(place).copied().unwrap_or(0)
-}
-
-/// Whether the place has a mark.
-fn is_marked(places: &[bool], place: usize) -> bool {
-    places.get(place).copied().unwrap_or(false)
-}
-
-/// Marks the place to which a way leads.
-fn mark(places: &mut [bool], way: Option<usize>) {
-    if let Some(place) = way {
-        if let Some(mark) = places.get_mut(place) {
-            *mark = true;
+impl Draft {
+    /// The places to which a line of the call leads.
+    pub fn ways_from(&self, call: CallRead, runs: Runs, place: usize) -> Ways
+        ensures { listed result ≡ ways_from (drafted self.now) call runs place }
+    {
+        if !is_within((call.from, call.to), place) {
+            return no_way();
+        }
+        match self.algorithm.lines.get(place) {
+            Some(line) => self.ways_of(runs, place, &line.form),
+            None => no_way(),
         }
     }
-}
 
-/// Takes the mark of a place away.
-fn unmark(places: &mut [bool], place: usize) {
-    if let Some(mark) = places.get_mut(place) {
-        *mark = false;
-    }
-}
-
-/// Leaves of the names at the place to which a way leads those that are also in `names`.
-fn restrict(surely: &mut [u64], way: Option<usize>, names: u64) {
-    if let Some(place) = way {
-        if let Some(known) = surely.get_mut(place) {
-            *known &= names;
+    /// The places to which runs of this kind go from a line, if they go on after it.
+    fn ways_of(&self, runs: Runs, place: usize, form: &Form) -> Ways
+        requires { place < 2 ^ 64 - 1 }
+        ensures { listed result
+            ≡ (if goes_on runs (form_of form.now) then ways (drafted self.now).head.least (place + 1) (form_of form.now) else []) }
+    {
+        if goes_on(runs, form) {
+            form_ways(form, self.algorithm.least, place + 1)
+        } else {
+            no_way()
         }
+    }
+
+    /// A place that is not marked, to which a line that is marked leads.
+    fn free_way(&self, call: CallRead, runs: Runs, marks: &[bool], place: usize) -> Option<usize>
+        ensures { result ≡ free_way (drafted self.now) call runs marks.now place }
+    {
+        if is_in(marks, place) {
+            first_free(marks, self.ways_from(call, runs, place))
+        } else {
+            None
+        }
+    }
+
+    /// A place that is not marked, to which one of the lines that are marked leads.
+    fn next_free(&self, call: CallRead, runs: Runs, marks: &[bool]) -> Option<usize>
+        ensures { MatchOption result ((at : ℕ) → free_way (drafted self.now) call runs marks.now at ≡ None)
+            (λ way. (at : ℕ) × (free_way (drafted self.now) call runs marks.now at ≡ Some way)) }
+    {
+        for place in call.from..call.to {
+            if let Some(way) = self.free_way(call, runs, marks, place) {
+                return Some(way);
+            }
+        }
+        None
+    }
+
+    /// Marks all places to which runs come from those that are marked.
+    fn spread(&self, call: CallRead, runs: Runs, marks: &mut [bool])
+        ensures size { length marks.new ≡ length marks.old }
+        ensures kept { Keeps marks.old marks.new }
+        ensures closed { IsClosed (drafted self.now) call runs marks.new }
+        ensures comes { (at : ℕ) → is_in marks.new at ≡ true
+            → Comes (drafted self.now) call runs (λ first. is_in marks.old first ≡ true) at }
+    {
+        while let Some(place) = self.next_free(call, runs, marks) {
+            mark(marks, place);
+        }
+    }
+
+    /// A mark for each line and for the place after the last. That of the call's first line is set where `first`.
+    fn marks_from(
+        &self,
+        alloc: Global,
+        call: CallRead,
+        first: bool,
+    ) -> Result<Vec<bool>, AllocError>
+        ensures { IfOk result (λ marks. marks.items ≡ marks_from (length (drafted self.now).lines + 1) call.«from» first) }
+    {
+        let mut marks = vec![in alloc; false; self.algorithm.lines.len() + 1]?;
+        if first {
+            mark(marks.as_mut_slice(), call.from);
+        }
+        Ok(marks)
+    }
+
+    /// The places to which runs of the call come, among those of lines and the place after the last.
+    pub fn reached(
+        &self,
+        alloc: Global,
+        call: CallRead,
+        runs: Runs,
+    ) -> Result<Vec<bool>, AllocError>
+        ensures size { IfOk result (λ marks. length marks.items ≡ length (drafted self.now).lines + 1) }
+        ensures comes { IfOk result (λ marks. (at : ℕ) → is_in marks.items at ≡ true
+            → Comes (drafted self.now) call runs (λ first. first ≡ call.«from») at) }
+        ensures all { IfOk result (λ marks. (at : ℕ) → at ≤ length (drafted self.now).lines
+            → Comes (drafted self.now) call runs (λ first. first ≡ call.«from») at → is_in marks.items at ≡ true) }
+    {
+        let mut marks = self.marks_from(alloc, call, true)?;
+        self.spread(call, runs, marks.as_mut_slice());
+        Ok(marks)
+    }
+
+    /// The place after a loop with this name, where a run can go on there from this place.
+    fn past_from(&self, call: CallRead, name: usize, place: usize) -> Option<usize>
+        ensures { result ≡ past_from (drafted self.now) call name place }
+    {
+        if !is_within((call.from, call.to), place) {
+            return None;
+        }
+        match self.algorithm.lines.get(place) {
+            Some(line) => way_past(&line.form, name, self.algorithm.least, place + 1),
+            None => None,
+        }
+    }
+
+    /// Marks the places after loops with this name, where one of these places is a line from which a run can go on there.
+    fn mark_past(&self, call: CallRead, name: usize, reached: &[bool], marks: &mut [bool])
+        ensures size { length marks.new ≡ length marks.old }
+        ensures kept { Keeps marks.old marks.new }
+        ensures marked { (at way : ℕ) → past_marked (drafted self.now) call name reached.now at ≡ Some way → way < length marks.new
+            → is_in marks.new way ≡ true }
+    {
+        for place in call.from..call.to {
+            if let Some(way) = self.past_marked(call, name, reached, place) {
+                mark(marks, way);
+            }
+        }
+    }
+
+    /// The place past a loop with this name, if runs come to the line at `place`.
+    fn past_marked(
+        &self,
+        call: CallRead,
+        name: usize,
+        reached: &[bool],
+        place: usize,
+    ) -> Option<usize>
+        ensures { result ≡ past_marked (drafted self.now) call name reached.now place }
+    {
+        if is_in(reached, place) {
+            self.past_from(call, name, place)
+        } else {
+            None
+        }
+    }
+
+    /// The places to which runs of the call come that have not set a name, where `reached` are those to which any run comes.
+    pub fn reached_without(
+        &self,
+        alloc: Global,
+        call: CallRead,
+        name: usize,
+        reached: &[bool],
+    ) -> Result<Vec<bool>, AllocError>
+        ensures { (at : ℕ) → ((before : ℕ) → before ≤ length (drafted self.now).lines → IsReached (drafted self.now) call before
+            → is_in reached.now before ≡ true) → IfOk result (λ marks. at ≤ length (drafted self.now).lines
+            → IsReachedWithout (drafted self.now) call name at → is_in marks.items at ≡ true) }
+    {
+        let mut marks = self.marks_from(alloc, call, self.algorithm.lasting <= name)?;
+        self.mark_past(call, name, reached, marks.as_mut_slice());
+        self.spread(call, Runs::Without(name), marks.as_mut_slice());
+        Ok(marks)
     }
 }

@@ -15,6 +15,8 @@ mod marks;
 mod names;
 mod operands;
 mod parts;
+mod rounds;
+mod runs;
 mod simple;
 mod stack;
 mod tokens;

@@ -20,8 +20,8 @@ pub fn mark_all(marks: &mut [bool], call: CallRead, reached: &[bool]) {
     }
 }
 
-/// Whether the place has a mark.
-fn is_in(marks: &[bool], place: usize) -> bool
+/// Whether a place is marked.
+pub fn is_in(marks: &[bool], place: usize) -> bool
     ensures { result ≡ is_in marks.now place }
 {
     match marks.get(place) {
@@ -84,7 +84,7 @@ fn lines_stay(least: u64, marks: &[bool], lines: &[Line]) -> bool
     true
 }
 
-/// Whether the place has a mark, where there is a place.
+/// Whether a place is marked, if there is one.
 fn is_marked_where(marks: &[bool], place: Option<usize>) -> bool
     ensures { result ≡ is_marked_where marks.now place }
 {
@@ -94,7 +94,7 @@ fn is_marked_where(marks: &[bool], place: Option<usize>) -> bool
     }
 }
 
-/// Whether each call that the algorithm has begins at a place with a mark.
+/// Whether the first line of each call is marked.
 fn entries_marked(marks: &[bool], entries: Entries) -> bool
     ensures { result ≡ entries_marked marks.now entries }
 {

@@ -1,89 +1,157 @@
-//! Which private names a line reads and sets, as bits of a number.
+//! What a line does with private names.
+
+ghost use Rattle.std.specs.Prelude.{◌≡◌, ◌||◌};
+ghost use Rattle.std.specs.Option.{option_map};
+ghost use Rattle.algorithm_texts.specs.Parts.{term_of, formula_of};
+ghost use Rattle.algorithm_texts.specs.Drafts.{access_of, act_of, form_of, local_form};
+ghost use Rattle.algorithm_texts.specs.Usage.{term_reads, formula_reads, index_reads, act_reads, reads, act_sets, sets, begins_loop, ends_loop, may_withdraw};
 
 use algorithms::condition::{Condition, Pair};
-use algorithms::expression::{Expression, NAMES};
+use algorithms::expression::Expression;
 use algorithms::line::{AccessLine, Action, Form, LocalLine};
 
-/// The bit of a name.
-pub fn bit(name: usize) -> u64 {
-    if name < NAMES { 1 << name } else { 0 }
-}
-
-/// The bits of the first names.
-pub fn first_names(count: usize) -> u64 {
-    let mut names = 0;
-    for name in 0..count {
-        names |= bit(name);
-    }
-    names
-}
-
-/// The names that a value reads.
-fn of_value(value: &Expression) -> u64 {
+/// Whether a value reads a name.
+fn value_reads(value: &Expression, name: usize) -> bool
+    ensures { result ≡ term_reads name (term_of value.now) }
+{
     match value {
-        Expression::Private(name) => bit(*name),
-        Expression::Joined(_, left, right) => of_value(left) | of_value(right),
-        Expression::Number(_) | Expression::Me | Expression::Procs | Expression::Limit => 0,
+        Expression::Private(other) => *other == name,
+        Expression::Joined(_, left, right) => value_reads(left, name) || value_reads(right, name),
+        Expression::Number(_) | Expression::Me | Expression::Procs | Expression::Limit => false,
     }
 }
 
-/// The names that a pair of values reads.
-fn of_pair(pair: &Pair) -> u64 {
-    of_value(&pair.first) | of_value(&pair.second)
-}
-
-/// The names that a condition reads.
-fn of_condition(condition: &Condition) -> u64 {
+/// Whether a condition reads a name.
+fn condition_reads(condition: &Condition, name: usize) -> bool
+    ensures { result ≡ formula_reads name (formula_of condition.now) }
+{
     match condition {
-        Condition::Compare(_, left, right) => of_value(left) | of_value(right),
-        Condition::ComparePairs(_, left, right) => of_pair(left) | of_pair(right),
-        Condition::And(first, second) | Condition::Or(first, second) => of_condition(first)
-            | of_condition(second),
-        Condition::Not(condition) => of_condition(condition),
+        Condition::Compare(_, left, right) => value_reads(left, name) || value_reads(right, name),
+        Condition::ComparePairs(_, left, right) => {
+            (value_reads(&left.first, name) || value_reads(&left.second, name))
+                || (value_reads(&right.first, name) || value_reads(&right.second, name))
+        }
+        Condition::And(first, second) => condition_reads(first, name)
+            || condition_reads(second, name),
+        Condition::Or(first, second) => condition_reads(first, name)
+            || condition_reads(second, name),
+        Condition::Not(condition) => condition_reads(condition, name),
     }
 }
 
-/// The names that are read before the value of the access is, and those that are read after it and not set by it.
-fn of_access(line: &AccessLine) -> u64 {
-    let index = match &line.word.index {
-        Some(index) => of_value(index),
-        None => 0,
-    };
-    match &line.action {
-        Action::Load { .. } => index,
-        Action::Store { value } => index | of_value(value),
-        Action::Await { name, until } => index | (of_condition(until) & !bit(*name)),
+/// Whether an index reads a name.
+fn index_reads(index: &Option<Expression>, name: usize) -> bool
+    ensures { result ≡ index_reads name (option_map (λ i. term_of i) index.now) }
+{
+    match index {
+        Some(index) => value_reads(index, name),
+        None => false,
     }
 }
 
-/// The names that a line reads before it sets them.
-pub fn names_read(form: &Form) -> u64 {
+/// Whether an action reads a name that it has not set.
+fn action_reads(action: &Action, name: usize) -> bool
+    ensures { result ≡ act_reads name (act_of action.now) }
+{
+    match action {
+        Action::Load { .. } => false,
+        Action::Store { value } => value_reads(value, name),
+        Action::Await { name: own, until } => *own != name && condition_reads(until, name),
+    }
+}
+
+/// Whether a load or a store reads a name, in its index or in its value.
+fn access_reads(line: &AccessLine, name: usize) -> bool
+    ensures { result ≡ (index_reads name (access_of line.now).word.index || act_reads name (access_of line.now).act) }
+{
+    index_reads(&line.word.index, name) || action_reads(&line.action, name)
+}
+
+/// Whether a local line reads a name.
+fn local_reads(line: &LocalLine, name: usize) -> bool
+    ensures { result ≡ reads name (local_form line.now) }
+{
+    match line {
+        LocalLine::Assign { value, .. } => value_reads(value, name),
+        LocalLine::Branch { condition, .. } => condition_reads(condition, name),
+        LocalLine::Next { name: own, .. } => *own == name,
+        LocalLine::Note(_) | LocalLine::Goto(_) | LocalLine::First { .. } => false,
+    }
+}
+
+/// Whether a line reads a name before it sets it.
+pub fn reads(form: &Form, name: usize) -> bool
+    ensures { result ≡ reads name (form_of form.now) }
+{
     match form {
-        Form::Access(line) => of_access(line),
-        Form::Local(LocalLine::Assign { value, .. }) => of_value(value),
-        Form::Local(LocalLine::Branch { condition, .. }) => of_condition(condition),
-        Form::Local(LocalLine::Next { name, .. }) => bit(*name),
-        Form::Local(LocalLine::Note(_) | LocalLine::Goto(_) | LocalLine::First { .. })
-        | Form::Done(_) => 0,
+        Form::Access(line) => access_reads(line, name),
+        Form::Local(line) => local_reads(line, name),
+        Form::Done(_) => false,
     }
 }
 
-/// The names that a line sets, but for the names of loops.
-pub fn names_set(form: &Form) -> u64 {
-    match form {
-        Form::Access(line) => match &line.action {
-            Action::Load { name } | Action::Await { name, .. } => bit(*name),
-            Action::Store { .. } => 0,
-        },
-        Form::Local(LocalLine::Assign { name, .. }) => bit(*name),
-        _ => 0,
+/// Whether a load sets a name.
+fn action_sets(action: &Action, name: usize) -> bool
+    ensures { result ≡ act_sets name (act_of action.now) }
+{
+    match action {
+        Action::Load { name: own } => *own == name,
+        Action::Await { name: own, .. } => *own == name,
+        Action::Store { .. } => false,
     }
 }
 
-/// The name of a loop that begins or ends at a line.
-pub fn loop_name(form: &Form) -> u64 {
+/// Whether a local line sets a name.
+fn local_sets(line: &LocalLine, name: usize) -> bool
+    ensures { result ≡ sets name (local_form line.now) }
+{
+    match line {
+        LocalLine::Assign { name: own, .. } => *own == name,
+        LocalLine::Note(_)
+        | LocalLine::Goto(_)
+        | LocalLine::Branch { .. }
+        | LocalLine::First { .. }
+        | LocalLine::Next { .. } => false,
+    }
+}
+
+/// Whether a line sets a name, which is not that of its loop.
+pub fn sets(form: &Form, name: usize) -> bool
+    ensures { result ≡ sets name (form_of form.now) }
+{
     match form {
-        Form::Local(LocalLine::First { name, .. } | LocalLine::Next { name, .. }) => bit(*name),
-        _ => 0,
+        Form::Access(line) => action_sets(&line.action, name),
+        Form::Local(line) => local_sets(line, name),
+        Form::Done(_) => false,
+    }
+}
+
+/// Whether a loop with this name begins at a line.
+pub fn begins_loop(form: &Form, name: usize) -> bool
+    ensures { result ≡ begins_loop name (form_of form.now) }
+{
+    match form {
+        Form::Local(LocalLine::First { name: own, .. }) => *own == name,
+        _ => false,
+    }
+}
+
+/// Whether a loop with this name ends at a line.
+pub fn ends_loop(form: &Form, name: usize) -> bool
+    ensures { result ≡ ends_loop name (form_of form.now) }
+{
+    match form {
+        Form::Local(LocalLine::Next { name: own, .. }) => *own == name,
+        _ => false,
+    }
+}
+
+/// Whether a line may end its call by a withdraw.
+pub fn may_withdraw(form: &Form) -> bool
+    ensures { result ≡ may_withdraw (form_of form.now) }
+{
+    match form {
+        Form::Access(access) => access.may_withdraw,
+        Form::Local(_) | Form::Done(_) => false,
     }
 }

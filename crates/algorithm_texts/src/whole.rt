@@ -1,26 +1,31 @@
 //! A whole text.
 
-ghost use Rattle.std.specs.Prelude.{◌≡◌, ◌==◌, ◌≤◌, ℕ, if◌then◌else◌, None, reverse, ◌++◌, ◌∷◌, [], List, position, map, length, drop, slice_get, Some, Ok, IfOk, OnOk, IfSome};
+ghost use Rattle.std.specs.Prelude.{◌≡◌, ◌==◌, ◌≤◌, ℕ, if◌then◌else◌, None, reverse, ◌++◌, ◌∷◌, [], List, position, map, length, drop, slice_get, Some, Ok, IfOk, OnOk, IfSome, is_some};
+ghost use Rattle.std.specs.List.{list_any};
+ghost use Rattle.algorithms.specs.declared.algorithm.Call.TheVariants.{Withdraw};
 ghost use Rattle.algorithms.specs.Deeds.{SaysDeed};
 ghost use Rattle.algorithms.specs.Ranked.{LocalLinesEnd, AccessesLeadOn};
 ghost use Rattle.algorithms.specs.declared.line.Deed.TheVariants as deeds;
-ghost use Rattle.algorithm_texts.specs.Drafts.{drafted};
+ghost use Rattle.algorithm_texts.specs.Drafts.{drafted, line_of};
 ghost use Rattle.algorithm_texts.specs.Finishing.{EndUnreached, begins_of, call_in, finished, first_of, kind_led, with_entries, with_lines};
+ghost use Rattle.algorithm_texts.specs.Lawful.{LinesFit};
 ghost use Rattle.algorithm_texts.specs.Programs.{Spells};
+ghost use Rattle.algorithm_texts.specs.Runs.{RunsFit};
+ghost use Rattle.algorithm_texts.specs.Usage.{may_withdraw};
 ghost use Rattle.algorithm_texts.specs.TextLines.{TextSays, and_line, second_said, spoken_of};
 ghost use Rattle.algorithm_texts.specs.TextReading.{IsEmpty, Spoken, begun, is_call, read_head, read_lines, read_text};
 ghost use Rattle.algorithm_texts.specs.Tokens.{LineSays};
 
 use crate::calls::{head, promises};
 use crate::filled::Filled;
-use crate::flow::Flow;
 use crate::lines::{CallRead, Draft};
 use crate::marks::{end_unmarked, mark_all, runs_stay};
 use crate::tokens::{tail, tokens_of};
+use crate::usage::may_withdraw;
 use algorithms::algorithm::{Algorithm, Call, Entries, Promises};
 use algorithms::deeds::says_deed;
 use algorithms::fault::{AlgorithmFault, LineFault};
-use algorithms::line::Deed;
+use algorithms::line::{Deed, Line};
 use algorithms::ranks::lines_end;
 use std::alloc::{AllocError, Global};
 
@@ -282,19 +287,52 @@ fn set_entries(draft: &mut Draft) -> Result<(), AlgorithmFault>
     Ok(())
 }
 
-/// Checks the labels, the names and the deeds of a call, if it is there.
+/// Checks the labels, the names, the deeds and the withdraws of a call, if it is there.
 fn check_call(draft: &mut Draft, call: Call) -> Result<(), AlgorithmFault>
-    ensures { OnOk result (kind_led call (drafted draft.old) ≡ Some (drafted draft.new)) }
+    ensures led { OnOk result (kind_led call (drafted draft.old) ≡ Some (drafted draft.new)) }
+    ensures fits { OnOk result ((read : CallRead) → call_in call (drafted draft.new).calls ≡ Some read
+        → LinesFit (drafted draft.new) read) }
 {
     match call_of(draft, call) {
-        Some(call) => draft.check_call(call),
+        Some(read) => draft.check_call(read),
         None => Ok(()),
     }
 }
 
-/// Checks the labels, the names and the deeds of all calls.
+/// The number of the first line that may withdraw.
+fn first_withdraw(lines: &[Line]) -> Option<u64>
+    ensures { is_some result ≡ list_any (λ line. may_withdraw line.form) (map line_of lines.now) }
+{
+    for line in lines {
+        if may_withdraw(&line.form) {
+            return Some(line.number);
+        }
+    }
+    None
+}
+
+/// `BadCall` where a line may withdraw and there is no call withdraw, or the call is there and no line may.
+fn check_withdraw(draft: &Draft) -> Result<(), AlgorithmFault>
+    ensures { OnOk result (is_some (call_in Withdraw (drafted draft.now).calls)
+        ≡ list_any (λ line. may_withdraw line.form) (drafted draft.now).lines) }
+{
+    match (
+        first_withdraw(draft.algorithm.lines.as_slice()),
+        call_of(draft, Call::Withdraw),
+    ) {
+        (Some(number), None) => Err(LineFault::BadCall.at(number)),
+        (None, Some(call)) => Err(LineFault::BadCall.at(call.number)),
+        (Some(_), Some(_)) | (None, None) => Ok(()),
+    }
+}
+
+/// Checks the labels, the names, the deeds and the withdraws of all calls.
 fn check_calls(draft: &mut Draft) -> Result<(), AlgorithmFault>
-    ensures { OnOk result (finished (drafted draft.old) ≡ Some (drafted draft.new)) }
+    ensures finished { OnOk result (finished (drafted draft.old) ≡ Some (drafted draft.new)) }
+    ensures fits { OnOk result ((kind : Call) (read : CallRead) → call_in kind (drafted draft.new).calls ≡ Some read
+        → LinesFit (drafted draft.new) read) }
+    ensures withdraw { OnOk result (is_some (call_in Withdraw (drafted draft.new).calls)
+        ≡ list_any (λ line. may_withdraw line.form) (drafted draft.new).lines) }
 {
     check_filled(draft)?;
     set_entries(draft)?;
@@ -302,37 +340,42 @@ fn check_calls(draft: &mut Draft) -> Result<(), AlgorithmFault>
     check_call(draft, Call::Unlock)?;
     check_call(draft, Call::Recover)?;
     check_call(draft, Call::Withdraw)?;
-    draft.check_withdraw()
+    check_withdraw(draft)
 }
 
-/// The calls that a text has, in the order in which they are checked.
+/// The calls that a text has.
 const CALLS: [Call; 4] = [Call::Lock, Call::Unlock, Call::Recover, Call::Withdraw];
 
-/// Marks the places to which the runs of a call come, and checks what they may do.
+/// Marks the places to which the runs of a call come, if it is there, and checks what they may do.
 fn check_run(
     alloc: Global,
     draft: &Draft,
-    call: CallRead,
+    call: Call,
     marks: &mut [bool],
-) -> Result<(), AlgorithmFault> {
-    let algorithm = &draft.algorithm;
-    let reached = Flow::of(algorithm.lines.as_slice(), call, algorithm.least).check(
-        alloc,
-        draft.jumps.as_slice(),
-        algorithm.lasting,
-    )?;
-    mark_all(marks, call, reached.as_slice());
-    Ok(())
+) -> Result<(), AlgorithmFault>
+    ensures { OnOk result ((read : CallRead) → call_in call (drafted draft.now).calls ≡ Some read
+        → RunsFit (drafted draft.now) read) }
+{
+    match call_of(draft, call) {
+        Some(read) => {
+            let reached = draft.check_runs(alloc, read)?;
+            mark_all(marks, read, reached.as_slice());
+            Ok(())
+        }
+        None => Ok(()),
+    }
 }
 
 /// The places to which the runs of all calls come, where they do what they may.
-fn check_all(alloc: Global, draft: &Draft) -> Result<Vec<bool>, AlgorithmFault> {
+fn check_all(alloc: Global, draft: &Draft) -> Result<Vec<bool>, AlgorithmFault>
+    ensures { OnOk result ((kind : Call) (read : CallRead) → call_in kind (drafted draft.now).calls ≡ Some read
+        → RunsFit (drafted draft.now) read) }
+{
     let mut marks = vec![in alloc; false; draft.algorithm.lines.len()]?;
-    for call in CALLS {
-        if let Some(call) = call_of(draft, call) {
-            check_run(alloc, draft, call, marks.as_mut_slice())?;
-        }
-    }
+    check_run(alloc, draft, Call::Lock, marks.as_mut_slice())?;
+    check_run(alloc, draft, Call::Unlock, marks.as_mut_slice())?;
+    check_run(alloc, draft, Call::Recover, marks.as_mut_slice())?;
+    check_run(alloc, draft, Call::Withdraw, marks.as_mut_slice())?;
     Ok(marks)
 }
 
@@ -351,6 +394,8 @@ fn end_ways(draft: &mut Draft, marks: &[bool]) -> Result<(), AlgorithmFault>
 
 /// Checks what the runs of all calls may do.
 fn check_runs(alloc: Global, draft: &mut Draft) -> Result<(), AlgorithmFault>
+    ensures runs { OnOk result ((kind : Call) (read : CallRead) → call_in kind (drafted draft.old).calls ≡ Some read
+        → RunsFit (drafted draft.old) read) }
     ensures lines { OnOk result (EndUnreached (drafted draft.old) (drafted draft.new).lines) }
     ensures kept { OnOk result (drafted draft.new ≡ with_lines (drafted draft.new).lines (drafted draft.old)) }
 {
@@ -360,11 +405,10 @@ fn check_runs(alloc: Global, draft: &mut Draft) -> Result<(), AlgorithmFault>
 
 /// A rank for each line.
 fn ranks(alloc: Global, draft: &Draft) -> Result<Vec<u64>, AllocError> {
-    let lines = draft.algorithm.lines.as_slice();
-    let mut ranks = vec![in alloc; 0; lines.len()]?;
+    let mut ranks = vec![in alloc; 0; draft.algorithm.lines.len()]?;
     for call in CALLS {
         if let Some(call) = call_of(draft, call) {
-            Flow::of(lines, call, draft.algorithm.least).rank(ranks.as_mut_slice());
+            draft.rank(call, ranks.as_mut_slice());
         }
     }
     Ok(ranks)
@@ -374,6 +418,8 @@ fn ranks(alloc: Global, draft: &Draft) -> Result<Vec<u64>, AllocError> {
 fn check_flow(alloc: Global, draft: &mut Draft) -> Result<(), AlgorithmFault>
     ensures ends { OnOk result (LocalLinesEnd draft.new.algorithm) }
     ensures leads { OnOk result (AccessesLeadOn draft.new.algorithm) }
+    ensures runs { OnOk result ((kind : Call) (read : CallRead) → call_in kind (drafted draft.old).calls ≡ Some read
+        → RunsFit (drafted draft.old) read) }
     ensures lines { OnOk result (EndUnreached (drafted draft.old) (drafted draft.new).lines) }
     ensures kept { OnOk result (drafted draft.new ≡ with_lines (drafted draft.new).lines (drafted draft.old)) }
 {

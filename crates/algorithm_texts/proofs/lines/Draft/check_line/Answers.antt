@@ -1,0 +1,22 @@
+use Rattle.std.proofs.Common.{◌≡◌, ◌<◌, ◌≤◌, length, map, get_or, slice_get, refl, arith, rules}
+use Rattle.std.proofs.lemmas.Grind.{common_steps}
+use Rattle.std.proofs.lemmas.Option.{slice_get_read, slice_get_past, gets}
+use Rattle.algorithm_texts.specs.Drafts.{drafted}
+use Rattle.algorithm_texts.specs.Usage.{uses}
+use Rattle.algorithm_texts.proofs.Fits.{no_line_fits}
+use Rattle.algorithm_texts.proofs.Uses.{use_at, no_use_at}
+use Rattle.algorithm_texts.proofs.lines.Draft.check_line.Goals as goal
+
+pub check_form-requires-clause-there : goal.check_form-requires-clause-there
+check_form-requires-clause-there c =
+    let lines = c.args.self.now.algorithm.lines.items in
+    let within : c.args.place < length lines = first_of (search rules, grind (arith, common_steps), grind (arith, common_steps, gets)) in
+    let at : c.in-Some.line.now ≡ get_or lines c.args.place c.in-Some.line.now = first_of (search rules, grind (arith, common_steps), grind (arith, common_steps, gets)) in
+    use_at lines c.args.place c.in-Some.line.now (slice_get_read lines (length lines) c.args.place c.in-Some.line.now refl within at)
+
+pub returns-in-None : goal.returns-in-None
+returns-in-None c =
+    let lines = c.args.self.now.algorithm.lines.items in
+    let d = drafted c.args.self.now in
+    let past : length lines ≤ c.args.place = first_of (search rules, grind (arith, common_steps), grind (arith, common_steps, gets)) in
+    no_line_fits (uses d.lines) d.head.promises d.lasting (length d.names) c.args.call c.args.place (no_use_at lines c.args.place (slice_get_past lines c.args.place past))

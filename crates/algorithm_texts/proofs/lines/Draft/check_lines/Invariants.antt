@@ -1,0 +1,10 @@
+use Rattle.std.proofs.Common.{ℕ, ◌<◌, ◌≤◌, length}
+use Rattle.algorithm_texts.specs.Drafts.{drafted}
+use Rattle.algorithm_texts.specs.Lawful.{LineFits}
+use Rattle.algorithm_texts.specs.Usage.{uses}
+use Rattle.algorithm_texts.proofs.lines.Draft.check_lines.Given as goal
+
+-- the lines so far fit
+abbrev pub invariant-loop-place : goal.invariant-loop-place
+invariant-loop-place l = (at : ℕ) → l.call.«from» ≤ at → at < l.place
+    → LineFits (uses (drafted l.self).lines) (drafted l.self).head.promises (drafted l.self).lasting (length (drafted l.self).names) l.call at

@@ -1,0 +1,24 @@
+use Rattle.std.proofs.Common.{◌≡◌, ℕ, true, length, string_bytes, ◌∙◌, arith}
+use Rattle.std.proofs.lemmas.Bool.{both_ways}
+use Rattle.std.proofs.lemmas.List.{length-map}
+use Rattle.algorithm_texts.specs.Drafts.{drafted}
+use Rattle.algorithm_texts.specs.Lawful.{IsKnown}
+use Rattle.algorithm_texts.specs.Usage.{reads, uses, passes_at}
+use Rattle.algorithm_texts.proofs.RunMarks.{below_next}
+use Rattle.algorithm_texts.proofs.lines.Draft.check_read.Goals as goal
+use Rattle.algorithm_texts.proofs.lines.Draft.check_read.Goals.{else-reads_at-via-then-reads_at+else-not-is_known, else-reads_at-via-else-reads_at}
+
+pub loop-name-preserved : goal.loop-name-preserved
+loop-name-preserved c = λ name less.
+    below_next (λ k. passes_at (reads k) (uses (drafted c.args.self.now).lines) c.args.place ≡ true
+    → IsKnown (uses (drafted c.args.self.now).lines) c.args.call (drafted c.args.self.now).lasting k c.args.place) 0 c.loop-name.name (λ k l. c.loop-name.invariant k)
+    (λ h. elim c.else-reads_at.branch [
+      | else-reads_at-via-then-reads_at+else-not-is_known w ↦ w.is_known.ensures w.if-not-is_known.false
+      | else-reads_at-via-else-reads_at w ↦ absurd (both_ways c.reads_at.result w.if-reads_at.false (c.reads_at.ensures ∙ h))
+    ])
+    name (omega arith) less
+
+pub returns : goal.returns
+returns c = λ name less.
+    let count = length-map c.args.self.now.algorithm.names.items (λ n. string_bytes n) in
+    c.loop-name.invariant name (omega (arith, less, count, c.loop-name-test.false, c.len-name-end.ensures))

@@ -1,0 +1,27 @@
+use Rattle.std.proofs.Common.{◌≡◌, ℕ, ◌+◌, ◌≤◌, true, length, leb, refl, sym, ap, ◌∙◌, subst}
+use Rattle.std.proofs.lemmas.List.{with_items_is}
+use Rattle.std.specs.Vec.{with_items}
+use Rattle.algorithm_texts.specs.declared.flow.Runs.TheVariants.{Without}
+use Rattle.algorithm_texts.specs.Drafts.{drafted}
+use Rattle.algorithm_texts.specs.Finishing.{is_in}
+use Rattle.algorithm_texts.specs.Marking.{Keeps}
+use Rattle.algorithm_texts.specs.Runs.{HasNot}
+use Rattle.algorithm_texts.proofs.RunMarks.{comes_marked, start_marked, length-marks_from}
+use Rattle.algorithm_texts.proofs.lines.Draft.reached_without.Goals as goal
+
+pub returns : goal.returns
+returns c = λ at all within h.
+    let d = drafted c.args.self.now in
+    let items = c.in_ok-marks.marks.items in
+    let past = c.mark_past.new.marks in
+    let marks = c.spread.new.marks in
+    let one = with_items_is c.in_ok-marks.marks past (c.mark_past.ensures.size ∙ c.as_mut_slice.ensures.len) in
+    let before = c.as_mut_slice-2.ensures.value ∙ one in
+    let now = with_items_is (with_items c.in_ok-marks.marks past) marks (c.spread.ensures.size ∙ c.as_mut_slice-2.ensures.len) in
+    let long = c.mark_past.ensures.size ∙ ap length (c.as_mut_slice.ensures.value ∙ c.in_ok-marks.ensures) ∙ length-marks_from (length d.lines + 1) c.args.call.«from» (leb d.lasting c.args.name) in
+    let kept : Keeps items past = subst (λ ms. Keeps ms past) c.as_mut_slice.ensures.value c.mark_past.ensures.kept in
+    let keeps : Keeps past marks = subst (λ ms. Keeps ms marks) before c.spread.ensures.kept in
+    subst (λ ms. is_in ms at ≡ true) (sym now)
+    (comes_marked d c.args.call (Without c.args.name) (HasNot d c.args.call c.args.name) marks (c.spread.ensures.size ∙ ap length before ∙ long) c.spread.ensures.closed
+    (start_marked d c.args.call c.args.name c.args.reached.now items past marks (length d.lines + 1) refl c.in_ok-marks.ensures kept c.mark_past.ensures.marked long keeps all)
+    at within h)

@@ -1,0 +1,125 @@
+-- Runs of a call, from line to line. Which way a branch goes is not asked.
+use Rattle.std.specs.Prelude.{◌≡◌, ◌⊎◌, ℕ, zero, suc, ◌+◌, ◌≤◌, ◌<◌, nat_eq, Bool, true, false, not, ◌||◌, List, [], ◌∷◌, slice_get, length, Option, Some, None, if◌then◌else◌}
+use Rattle.std.specs.List.{list_any}
+use Rattle.algorithms.specs.Ranked.{has_round}
+use Rattle.algorithm_texts.specs.declared.flow.Runs.{Runs}
+use Rattle.algorithm_texts.specs.declared.flow.Runs.TheVariants.{All, Silent, Without}
+use Rattle.algorithm_texts.specs.declared.lines.CallRead.{CallRead}
+use Rattle.algorithm_texts.specs.declared.lines.Jump.{Jump}
+use Rattle.algorithm_texts.specs.Drafts.{LineForm, Accessing, Assigning, Noting, Going, Branching, Beginning, Repeating, Ending, PlacedLine, Drafted}
+use Rattle.algorithm_texts.specs.Finishing.{is_within, ways}
+use Rattle.algorithm_texts.specs.Usage.{reads, sets, begins_loop, ends_loop, uses, passes_at}
+
+-- ---- ways
+
+abbrev pub is_access : LineForm → Bool
+is_access (Accessing a) = true
+is_access (Assigning name value) = false
+is_access (Noting deed) = false
+is_access (Going place) = false
+is_access (Branching condition otherwise) = false
+is_access (Beginning name members after) = false
+is_access (Repeating name members body) = false
+is_access (Ending answer) = false
+
+-- whether a run of this kind goes on after a line: all do, those without an access, or those that do not set a name
+abbrev pub goes_on : Runs → LineForm → Bool
+goes_on All form = true
+goes_on Silent form = not (is_access form)
+goes_on (Without name) form = not (sets name form || (begins_loop name form || ends_loop name form))
+
+abbrev pub ways_after : ℕ → Runs → ℕ → Option PlacedLine → List ℕ
+ways_after least runs at None = []
+ways_after least runs at (Some line) = if goes_on runs line.form then ways least (at + 1) line.form else []
+
+-- the places to which a line of the call leads
+abbrev pub ways_from : Drafted → CallRead → Runs → ℕ → List ℕ
+ways_from d call runs at = if is_within (call.«from», call.to) at then ways_after d.head.least runs at (slice_get d.lines at) else []
+
+abbrev pub leads_to : List ℕ → ℕ → Bool
+leads_to places at = list_any (λ place. nat_eq place at) places
+
+-- ---- runs
+
+-- a run over that many lines comes to this place
+abbrev pub ComesOver : Drafted → CallRead → Runs → (ℕ → Type 0) → ℕ → ℕ → Type 0
+ComesOver d call runs Start zero at = Start at
+ComesOver d call runs Start (suc n) at =
+    (before : ℕ) × ComesOver d call runs Start n before × (leads_to (ways_from d call runs before) at ≡ true)
+
+-- a run comes to this place
+abbrev pub Comes : Drafted → CallRead → Runs → (ℕ → Type 0) → ℕ → Type 0
+Comes d call runs Start at = (n : ℕ) × ComesOver d call runs Start n at
+
+-- a run of the call comes to this place
+abbrev pub IsReached : Drafted → CallRead → ℕ → Type 0
+IsReached d call at = Comes d call All (λ first. first ≡ call.«from») at
+
+-- a run of the call comes to this place before its first access
+abbrev pub IsReachedSilently : Drafted → CallRead → ℕ → Type 0
+IsReachedSilently d call at = Comes d call Silent (λ first. first ≡ call.«from») at
+
+-- the place after a loop with this name, at the lines from which a run can go on there
+abbrev pub way_past : ℕ → ℕ → ℕ → LineForm → Option ℕ
+way_past name least next (Accessing a) = None
+way_past name least next (Assigning k value) = None
+way_past name least next (Noting deed) = None
+way_past name least next (Going place) = None
+way_past name least next (Branching condition otherwise) = None
+way_past name least next (Beginning k members after) = if nat_eq k name then (if has_round least members then None else Some after) else None
+way_past name least next (Repeating k members body) = if nat_eq k name then Some next else None
+way_past name least next (Ending answer) = None
+
+abbrev pub past_where : ℕ → ℕ → ℕ → Option PlacedLine → Option ℕ
+past_where name least next None = None
+past_where name least next (Some line) = way_past name least next line.form
+
+-- where a run comes that leaves a loop with this name
+abbrev pub past_from : Drafted → CallRead → ℕ → ℕ → Option ℕ
+past_from d call name at = if is_within (call.«from», call.to) at then past_where name d.head.least (at + 1) (slice_get d.lines at) else None
+
+-- here a run has not set the name: at its first line, unless the name lasts, and after a loop with this name
+abbrev pub HasNot : Drafted → CallRead → ℕ → ℕ → Type 0
+HasNot d call name at =
+    ((at ≡ call.«from») × (d.lasting ≤ name)) ⊎ ((before : ℕ) × IsReached d call before × (past_from d call name before ≡ Some at))
+
+-- a run of the call comes to this place and has not set the name
+abbrev pub IsReachedWithout : Drafted → CallRead → ℕ → ℕ → Type 0
+IsReachedWithout d call name at = Comes d call (Without name) (HasNot d call name) at
+
+-- ---- what runs may do
+
+-- a goto of the text stands at this place
+abbrev pub has_jump : List Jump → ℕ → Bool
+has_jump jumps at = list_any (λ jump. nat_eq jump.place at) jumps
+
+-- a line that the text has: not the way past an `else`, and not the way back to the head of a loop
+abbrev pub is_own : List Jump → ℕ → LineForm → Bool
+is_own jumps at (Accessing a) = true
+is_own jumps at (Assigning name value) = true
+is_own jumps at (Noting deed) = true
+is_own jumps at (Going place) = has_jump jumps at
+is_own jumps at (Branching condition otherwise) = true
+is_own jumps at (Beginning name members after) = true
+is_own jumps at (Repeating name members body) = false
+is_own jumps at (Ending answer) = true
+
+-- an end or a deed, which others see
+abbrev pub is_seen : LineForm → Bool
+is_seen (Accessing a) = false
+is_seen (Assigning name value) = false
+is_seen (Noting deed) = true
+is_seen (Going place) = false
+is_seen (Branching condition otherwise) = false
+is_seen (Beginning name members after) = false
+is_seen (Repeating name members body) = false
+is_seen (Ending answer) = true
+
+-- runs of a call come to each line of the text, come to none after the last, have set each name before they read it, and make an
+-- access before the first end or deed
+pub record RunsFit (d : Drafted) (call : CallRead) : Type 0 where
+  pub reached : (at : ℕ) → is_within (call.«from», call.to) at ≡ true → passes_at (is_own d.jumps at) (uses d.lines) at ≡ true → IsReached d call at
+  pub ends : IsReached d call call.to → ⊥
+  pub set : (name at : ℕ) → name < length d.names → is_within (call.«from», call.to) at ≡ true → passes_at (reads name) (uses d.lines) at ≡ true
+      → IsReachedWithout d call name at → ⊥
+  pub steps : (at : ℕ) → is_within (call.«from», call.to) at ≡ true → passes_at is_seen (uses d.lines) at ≡ true → IsReachedSilently d call at → ⊥

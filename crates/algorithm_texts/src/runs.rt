@@ -1,0 +1,239 @@
+//! What the runs of a call may do: which lines they come to, which names they have set, and when they make an access.
+
+ghost use Rattle.std.specs.Prelude.{◌≡◌, ◌≤◌, ◌<◌, ◌+◌, ℕ, true, None, Some, OnOk, IfOk, length, slice_get, map};
+ghost use Rattle.std.specs.List.{list_any};
+ghost use Rattle.algorithm_texts.specs.Drafts.{drafted, form_of, line_of, local_form};
+ghost use Rattle.algorithm_texts.specs.Finishing.{is_in, is_within};
+ghost use Rattle.algorithm_texts.specs.Marking.{is_free};
+ghost use Rattle.algorithm_texts.specs.Runs.{IsReached, IsReachedSilently, IsReachedWithout, has_jump, is_own, is_seen, RunsFit};
+ghost use Rattle.algorithm_texts.specs.Usage.{reads, uses, passes_at};
+
+use crate::flow::{Runs, is_free};
+use crate::lines::{CallRead, Draft, Jump};
+use crate::marks::is_in;
+use crate::usage::reads;
+use algorithms::fault::{AlgorithmFault, LineFault};
+use algorithms::line::{Form, LocalLine};
+use std::alloc::{AllocError, Global};
+
+/// Whether a goto of the text stands at this place.
+fn has_jump(jumps: &[Jump], place: usize) -> bool
+    ensures { result ≡ has_jump jumps.now place }
+{
+    jumps.iter().any(|jump| jump.place == place)
+}
+
+/// Whether the text has this line.
+fn is_own(jumps: &[Jump], place: usize, form: &Form) -> bool
+    ensures { result ≡ is_own jumps.now place (form_of form.now) }
+{
+    match form {
+        Form::Access(_) | Form::Done(_) => true,
+        Form::Local(line) => is_own_local(jumps, place, line),
+    }
+}
+
+/// As `is_own`, of a local line.
+fn is_own_local(jumps: &[Jump], place: usize, line: &LocalLine) -> bool
+    ensures { result ≡ is_own jumps.now place (local_form line.now) }
+{
+    match line {
+        LocalLine::Goto(_) => has_jump(jumps, place),
+        LocalLine::Next { .. } => false,
+        LocalLine::Assign { .. }
+        | LocalLine::Note(_)
+        | LocalLine::Branch { .. }
+        | LocalLine::First { .. } => true,
+    }
+}
+
+/// Whether a line is an end or a deed, which others see.
+fn is_seen(form: &Form) -> bool
+    ensures { result ≡ is_seen (form_of form.now) }
+{
+    match form {
+        Form::Done(_) | Form::Local(LocalLine::Note(_)) => true,
+        _ => false,
+    }
+}
+
+/// The lesser of two places.
+fn earlier(first: Option<usize>, second: Option<usize>) -> Option<usize>
+    ensures { result ≡ None → (first ≡ None) × (second ≡ None) }
+{
+    match (first, second) {
+        (Some(first), Some(second)) => Some(first.min(second)),
+        (Some(first), None) => Some(first),
+        (None, second) => second,
+    }
+}
+
+impl Draft {
+    /// The number of the line at a place, or of the last one of the call.
+    pub fn number_in(&self, call: CallRead, place: usize) -> u64 {
+        match self.algorithm.lines.get(place) {
+            Some(line) => line.number,
+            None => call.last,
+        }
+    }
+
+    /// Whether the text has the line at a place.
+    fn is_own_at(&self, place: usize) -> bool
+        ensures { result ≡ passes_at (is_own (drafted self.now).jumps place) (uses (drafted self.now).lines) place }
+    {
+        match self.algorithm.lines.get(place) {
+            Some(line) => is_own(self.jumps.as_slice(), place, &line.form),
+            None => false,
+        }
+    }
+
+    /// Whether the line at a place is an end or a deed.
+    fn is_seen_at(&self, place: usize) -> bool
+        ensures { result ≡ passes_at is_seen (uses (drafted self.now).lines) place }
+    {
+        match self.algorithm.lines.get(place) {
+            Some(line) => is_seen(&line.form),
+            None => false,
+        }
+    }
+
+    /// Whether the line at a place reads a name.
+    pub fn reads_at(&self, name: usize, place: usize) -> bool
+        ensures { result ≡ passes_at (reads name) (uses (drafted self.now).lines) place }
+    {
+        match self.algorithm.lines.get(place) {
+            Some(line) => reads(&line.form, name),
+            None => false,
+        }
+    }
+
+    /// `NeverReached` at the first line of the text to which no run comes.
+    fn check_reached(&self, call: CallRead, reached: &[bool]) -> Result<(), AlgorithmFault>
+        ensures { OnOk result ((at : ℕ) → is_within (call.«from», call.to) at ≡ true
+            → passes_at (is_own (drafted self.now).jumps at) (uses (drafted self.now).lines) at ≡ true
+            → is_in reached.now at ≡ true) }
+    {
+        for place in call.from..call.to {
+            if self.is_own_at(place) && !is_in(reached, place) {
+                return Err(LineFault::NeverReached.at(self.number_in(call, place)));
+            }
+        }
+        Ok(())
+    }
+
+    /// `FallsOff` where a run comes past the call's last line.
+    fn check_end(&self, call: CallRead, reached: &[bool]) -> Result<(), AlgorithmFault>
+        ensures { OnOk result (is_free reached.now call.to ≡ true) }
+    {
+        if is_free(reached, call.to) {
+            Ok(())
+        } else {
+            Err(LineFault::FallsOff.at(call.last))
+        }
+    }
+
+    /// The first of these places whose line reads a name.
+    fn first_read(&self, call: CallRead, name: usize, places: &[bool]) -> Option<usize>
+        ensures { result ≡ None → (at : ℕ) → is_within (call.«from», call.to) at ≡ true
+            → passes_at (reads name) (uses (drafted self.now).lines) at ≡ true → is_in places.now at ≡ true → ⊥ }
+    {
+        for place in call.from..call.to {
+            if is_in(places, place) && self.reads_at(name, place) {
+                return Some(place);
+            }
+        }
+        None
+    }
+
+    /// The first place where a line may read a name that is not set.
+    fn first_unset(
+        &self,
+        alloc: Global,
+        call: CallRead,
+        name: usize,
+        reached: &[bool],
+    ) -> Result<Option<usize>, AllocError>
+        requires { (at : ℕ) → at ≤ length (drafted self.now).lines → IsReached (drafted self.now) call at
+            → is_in reached.now at ≡ true }
+        ensures { IfOk result (λ first. first ≡ None → (at : ℕ) → is_within (call.«from», call.to) at ≡ true
+            → passes_at (reads name) (uses (drafted self.now).lines) at ≡ true
+            → IsReachedWithout (drafted self.now) call name at → ⊥) }
+    {
+        let without = self.reached_without(alloc, call, name, reached)?;
+        Ok(self.first_read(call, name, without.as_slice()))
+    }
+
+    /// `Unset` at the first line that may read a name before it is set.
+    fn check_set(
+        &self,
+        alloc: Global,
+        call: CallRead,
+        reached: &[bool],
+    ) -> Result<(), AlgorithmFault>
+        requires { (at : ℕ) → at ≤ length (drafted self.now).lines → IsReached (drafted self.now) call at
+            → is_in reached.now at ≡ true }
+        ensures { OnOk result ((name at : ℕ) → name < length (drafted self.now).names → is_within (call.«from», call.to) at ≡ true
+            → passes_at (reads name) (uses (drafted self.now).lines) at ≡ true
+            → IsReachedWithout (drafted self.now) call name at → ⊥) }
+    {
+        let mut first = None;
+        for name in 0..self.algorithm.names.len() {
+            first = earlier(first, self.first_unset(alloc, call, name, reached)?);
+        }
+        match first {
+            Some(place) => Err(LineFault::Unset.at(self.number_in(call, place))),
+            None => Ok(()),
+        }
+    }
+
+    /// `NoStep` at the first end or deed among these places.
+    fn check_silent(&self, call: CallRead, silent: &[bool]) -> Result<(), AlgorithmFault>
+        ensures { OnOk result ((at : ℕ) → is_within (call.«from», call.to) at ≡ true
+            → passes_at is_seen (uses (drafted self.now).lines) at ≡ true → is_in silent.now at ≡ true → ⊥) }
+    {
+        for place in call.from..call.to {
+            if is_in(silent, place) && self.is_seen_at(place) {
+                return Err(LineFault::NoStep.at(self.number_in(call, place)));
+            }
+        }
+        Ok(())
+    }
+
+    /// `NoStep` at the first end or deed that can come before the call's first access.
+    fn check_steps(&self, alloc: Global, call: CallRead) -> Result<(), AlgorithmFault>
+        ensures { OnOk result ((at : ℕ) → is_within (call.«from», call.to) at ≡ true
+            → passes_at is_seen (uses (drafted self.now).lines) at ≡ true → IsReachedSilently (drafted self.now) call at → ⊥) }
+    {
+        let silent = self.reached(alloc, call, Runs::Silent)?;
+        self.check_silent(call, silent.as_slice())
+    }
+
+    /// Checks what the runs of the call may do, where `reached` are the places to which they come.
+    fn check_places(
+        &self,
+        alloc: Global,
+        call: CallRead,
+        reached: &[bool],
+    ) -> Result<(), AlgorithmFault>
+        requires comes { (at : ℕ) → is_in reached.now at ≡ true → IsReached (drafted self.now) call at }
+        requires all { (at : ℕ) → at ≤ length (drafted self.now).lines → IsReached (drafted self.now) call at
+            → is_in reached.now at ≡ true }
+        requires size { length reached.now ≡ length (drafted self.now).lines + 1 }
+        ensures { OnOk result (RunsFit (drafted self.now) call) }
+    {
+        self.check_reached(call, reached)?;
+        self.check_end(call, reached)?;
+        self.check_set(alloc, call, reached)?;
+        self.check_ends(alloc, call, reached)?;
+        self.check_steps(alloc, call)
+    }
+
+    /// Checks what the runs of the call may do, and answers which places they come to.
+    pub fn check_runs(&self, alloc: Global, call: CallRead) -> Result<Vec<bool>, AlgorithmFault>
+        ensures { OnOk result (RunsFit (drafted self.now) call) }
+    {
+        let reached = self.reached(alloc, call, Runs::All)?;
+        self.check_places(alloc, call, reached.as_slice())?;
+        Ok(reached)
+    }
+}

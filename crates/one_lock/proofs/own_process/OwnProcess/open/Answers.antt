@@ -13,5 +13,5 @@ returns-else-is_err-clause-sizes c =
     let s = c.args.self.now.machine in
     let t = c.crash_before.new.self.machine in
     keeps_then s t c.start.new.self
-      (subst (HasConfiguration s.layout s.limit s.index) (sym lost) (keeps_crashed c.args.opening.crash s))
-      (kept_by_start t c.start.new.self c.in-Some.call begun)
+    (subst (HasConfiguration s.layout s.limit s.index) (sym lost) (keeps_crashed c.args.opening.crash s))
+    (kept_by_start t c.start.new.self c.in-Some.call begun)

@@ -14,7 +14,7 @@ use Rattle.commands.specs.Statuses.{fault_of_replay, status_after}
 
 -- the verdict of a trace is written
 pub trace_told : (json : Bool) (old new : Reading) (before now : Tape) (verdict : Verdict) (end : Result Ending CommandFault)
-    → JudgesTrace old.given new.given old.failures new.failures new.ended (Ok verdict)
+    → JudgesTrace old new (Ok verdict)
     → Prints (status_after verdict) (verdict_told json verdict) before now end → JudgeEnds json old new before now end
 trace_told json old new before now verdict end judged prints =
     let read = judged.0 in
@@ -38,11 +38,11 @@ at_fault json old new now fault read fine =
 
 -- a trace has no verdict
 pub trace_fails : (json : Bool) (old new : Reading) (now : Tape) (fault : ReplayFault)
-    → JudgesTrace old.given new.given old.failures new.failures new.ended (Err fault) → JudgeEnds json old new now now (Err (fault_of_replay fault))
+    → JudgesTrace old new (Err fault) → JudgeEnds json old new now now (Err (fault_of_replay fault))
 trace_fails json old new now of_replay.Read h =
-    inl (record { fault = faults.Read; is = refl; fails = h; silent = record { taken = refl; fine = refl } })
+    inl (record { fault = faults.Read; is = refl; fails = h.1; silent = record { taken = refl; fine = refl } })
 trace_fails json old new now of_replay.OutOfMemory h =
-    inl (record { fault = faults.OutOfMemory; is = refl; fails = h; silent = record { taken = refl; fine = refl } })
+    inl (record { fault = faults.OutOfMemory; is = refl; fails = h.1; silent = record { taken = refl; fine = refl } })
 trace_fails json old new now of_replay.Write h = at_fault json old new now of_replay.Write h.0 h.1
 trace_fails json old new now (of_replay.Text line number) h = at_fault json old new now (of_replay.Text line number) h.0 h.1
 trace_fails json old new now (of_replay.Refused line number) h = at_fault json old new now (of_replay.Refused line number) h.0 h.1

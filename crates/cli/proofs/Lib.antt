@@ -5,3 +5,4 @@ pub mod Reading
 pub mod Stops
 pub mod ReadWords
 pub mod Answered
+pub mod Telling

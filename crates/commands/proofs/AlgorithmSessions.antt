@@ -1,8 +1,9 @@
 -- How a session on an algorithm begins, or why it doesn't.
-use Rattle.std.proofs.Common.{◌≡◌, ◌⊎◌, List, ℕ, None, Result, Err, refl, inl, inr}
+use Rattle.std.proofs.Common.{◌≡◌, ◌⊎◌, List, ℕ, Option, None, Result, Err, refl, inl, inr}
 use Rattle.algorithms.specs.Ranked.{LocalLinesEnd, AccessesLeadOn}
 use Rattle.algorithms.specs.declared.algorithm.Algorithm.{Algorithm}
 use Rattle.algorithms.specs.Worlds.{new_refusal}
+use Rattle.algorithm_texts.specs.Programs.{Spells}
 use Rattle.diagram.specs.AlgorithmSimulations.{algorithm_semantics, algorithm_session}
 use Rattle.diagram.specs.Sessions.{standing_text}
 use Rattle.schedule.specs.Schedules.{Scheduled}
@@ -10,8 +11,8 @@ use Rattle.schedule.specs.Tapes.{Reading, Tape, Writes}
 use Rattle.schedule.specs.declared.replays.replay_fault.ReplayFault.{ReplayFault}
 use Rattle.commands.specs.declared.schedules.ending.Ending.{Ending}
 use Rattle.commands.specs.declared.schedules.fault.CommandFault.{CommandFault}
-use Rattle.commands.specs.AlgorithmSessions.{AlgorithmSessionEnds, HasNoHeader, HasNoWorld, SessionOn}
-use Rattle.commands.specs.AlgorithmTexts.{IsAlgorithmFault}
+use Rattle.commands.specs.AlgorithmSessions.{HasNoHeader, HasNoWorld, RefusesText, SessionOn}
+use Rattle.commands.specs.AlgorithmTexts.{HoldsOfAlgorithm, IsAlgorithmFault, text_of}
 use Rattle.commands.specs.Conversations.{HoldsSession, Opens}
 use Rattle.commands.specs.Endings.{FailsIn, FailsToRead}
 use Rattle.commands.specs.Folders.{Used}
@@ -53,11 +54,12 @@ cut_in_lines a old opened new before now blank opening written buffer schedule f
     })
 
 -- the algorithm's text is at fault
-pub no_session : (old : Reading) (used : Used) (tape : Tape) (fault : CommandFault) → IsAlgorithmFault fault
-    → AlgorithmSessionEnds old old used used tape tape (Err fault)
+pub no_session : {B : Type 0} (old : Reading) (used : Used) (tape : Tape) (fault : CommandFault) → IsAlgorithmFault fault
+    → RefusesText old old used used tape tape (Err fault) ⊎ B
 no_session old used tape fault is = inl ((record { taken = refl; fine = refl }, (fault, refl, is)), refl, refl)
 
 -- it was read
-pub session_held : (old new : Reading) (before now : Used) (blank written : Tape) (end : Result Ending CommandFault) (a : Algorithm) → LocalLinesEnd a
-    → AccessesLeadOn a → SessionOn a old new before now blank written end → AlgorithmSessionEnds old new before now blank written end
-session_held old new before now blank written end a ends leads holds = inr (record { algorithm = a; ends = ends; leads = leads; holds = holds })
+pub session_held : (file : Option (List ℕ)) (old new : Reading) (before now : Used) (blank written : Tape) (end : Result Ending CommandFault) (a : Algorithm)
+    → Spells (text_of file) a → LocalLinesEnd a → AccessesLeadOn a → SessionOn a old new before now blank written end
+    → RefusesText old new before now blank written end ⊎ HoldsOfAlgorithm file (λ (algorithm : Algorithm). SessionOn algorithm old new before now blank written end)
+session_held file old new before now blank written end a spells ends leads holds = inr (record { algorithm = a; spells = spells; ends = ends; leads = leads; holds = holds })

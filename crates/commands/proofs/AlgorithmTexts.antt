@@ -1,10 +1,11 @@
 -- How a command ends that reads an algorithm, from what was read.
-use Rattle.std.proofs.Common.{◌≡◌, ◌≤◌, ◌⊎◌, ℕ, List, Result, Ok, Err, Some, refl, inl, inr}
+use Rattle.std.proofs.Common.{◌≡◌, ◌≤◌, ◌⊎◌, ℕ, List, Option, Result, Ok, Err, Some, refl, inl, inr}
 use Rattle.algorithms.specs.Ranked.{LocalLinesEnd, AccessesLeadOn}
 use Rattle.algorithms.specs.declared.algorithm.Algorithm.{Algorithm}
 use Rattle.algorithms.specs.declared.fault.AlgorithmFault.{AlgorithmFault}
 use Rattle.algorithms.specs.declared.fault.AlgorithmFault.TheVariants as of_reading
 use Rattle.algorithms.specs.declared.fault.LineFault.{LineFault}
+use Rattle.algorithm_texts.specs.Programs.{Spells}
 use Rattle.cli.specs.Names.{number_of_algorithm_fault}
 use Rattle.schedule.specs.Schedules.{Scheduled, schedule_at}
 use Rattle.schedule.specs.Tapes.{Tape, Reading}
@@ -12,7 +13,7 @@ use Rattle.schedule.specs.Wholes.{WasRead}
 use Rattle.commands.specs.declared.schedules.ending.Ending.{Ending}
 use Rattle.commands.specs.declared.schedules.fault.CommandFault.{CommandFault}
 use Rattle.commands.specs.declared.schedules.fault.CommandFault.TheVariants as faults
-use Rattle.commands.specs.AlgorithmTexts.{EndsOnAlgorithm, EndsOnBoth, IsAlgorithmFault, IsUnreadAlgorithm, TellsFault}
+use Rattle.commands.specs.AlgorithmTexts.{EndsOnAlgorithm, EndsOnBoth, IsAlgorithmFault, IsUnreadAlgorithm, TellsFault, text_of}
 use Rattle.commands.specs.Endings.{FailsToRead, TellsReads}
 use Rattle.commands.specs.Settings.{IsWrongText}
 use Rattle.commands.specs.Tellings.{Refuses}
@@ -32,9 +33,9 @@ pub no_algorithm_alone : {B : Type 0} (now : Tape) (fault : CommandFault) → Is
 no_algorithm_alone now fault is = inl (record { taken = refl; fine = refl }, (fault, refl, is))
 
 -- it was read
-pub algorithm_read : (Holds : Algorithm → Type 0) (before now : Tape) (end : Result Ending CommandFault) (a : Algorithm) → LocalLinesEnd a → AccessesLeadOn a
-    → Holds a → EndsOnAlgorithm Holds before now end
-algorithm_read Holds before now end a ends leads holds = inr (record { algorithm = a; ends = ends; leads = leads; holds = holds })
+pub algorithm_read : (file : Option (List ℕ)) (Holds : Algorithm → Type 0) (before now : Tape) (end : Result Ending CommandFault) (a : Algorithm)
+    → Spells (text_of file) a → LocalLinesEnd a → AccessesLeadOn a → Holds a → EndsOnAlgorithm file Holds before now end
+algorithm_read file Holds before now end a spells ends leads holds = inr (record { algorithm = a; spells = spells; ends = ends; leads = leads; holds = holds })
 
 -- the algorithm's text is at fault: nothing was read or written
 pub no_algorithm : {B : Type 0} (old : Reading) (now : Tape) (fault : CommandFault) → IsAlgorithmFault fault
@@ -51,8 +52,20 @@ fine_reads old new (Ok ending) fine = fine
 fine_reads old new (Err fault) fine = inl fine
 
 -- both were read
-pub both_read : (Holds : Algorithm → Scheduled → Type 0) (old new : Reading) (before now : Tape) (end : Result Ending CommandFault) (a : Algorithm)
-    (schedule : Scheduled) (text : List ℕ) → LocalLinesEnd a → AccessesLeadOn a → WasRead old new text → schedule_at text ≡ Ok schedule
-    → Holds a schedule → EndsOnBoth Holds old new before now end
-both_read Holds old new before now end a schedule text ends leads read spelled holds =
-    (inr (record { algorithm = a; ends = ends; leads = leads; text = text; read = read; schedule = schedule; spelled_so = spelled; holds = holds }), fine_reads old new end read.fine)
+pub both_read : (file : Option (List ℕ)) (Holds : Algorithm → Scheduled → Type 0) (old new : Reading) (before now : Tape) (end : Result Ending CommandFault)
+    (a : Algorithm) (schedule : Scheduled) (text : List ℕ) → Spells (text_of file) a → LocalLinesEnd a → AccessesLeadOn a → WasRead old new text
+    → schedule_at text ≡ Ok schedule → Holds a schedule → EndsOnBoth file Holds old new before now end
+both_read file Holds old new before now end a schedule text spells ends leads read spelled holds = (
+  inr (record {
+    algorithm = a;
+    spells = spells;
+    ends = ends;
+    leads = leads;
+    text = text;
+    read = read;
+    schedule = schedule;
+    spelled_so = spelled;
+    holds = holds;
+  }),
+  fine_reads old new end read.fine,
+)

@@ -7,11 +7,13 @@ pub mod AlgorithmStarving
 pub mod AlgorithmTexts
 pub mod Draws
 pub mod Replays
+pub mod ReportObjects
 pub mod Finishing
 pub mod Gates
 pub mod Judging
 pub mod Pictures
 pub mod Runs
+pub mod Tallies
 pub mod Tapes
 pub mod Telling
 pub mod Holding

@@ -1,5 +1,5 @@
 -- How drawing a schedule's run on an algorithm's text ends.
-use Rattle.std.specs.Prelude.{◌≡◌, Bool, Result}
+use Rattle.std.specs.Prelude.{◌≡◌, ℕ, Bool, List, Option, Result}
 use Rattle.algorithms.specs.declared.algorithm.Algorithm.{Algorithm}
 use Rattle.algorithm_explorer.specs.Shrunk.{schedule_run}
 use Rattle.algorithm_lab.specs.declared.replay_fault.AlgorithmReplayFault.{AlgorithmReplayFault}
@@ -22,6 +22,6 @@ DrawsAlgorithm svg algorithm schedule before now end =
     × (outcome end ≡ outcome_of_run answer)
 
 -- how `draw --algorithm` ends
-abbrev pub AlgorithmDrawEnds : Bool → Reading → Reading → Tape → Tape → Result Ending CommandFault → Type 0
-AlgorithmDrawEnds svg old new before now end =
-    EndsOnBoth (λ algorithm schedule. DrawsAlgorithm svg algorithm schedule before now end) old new before now end
+abbrev pub AlgorithmDrawEnds : Bool → Option (List ℕ) → Reading → Reading → Tape → Tape → Result Ending CommandFault → Type 0
+AlgorithmDrawEnds svg file old new before now end =
+    EndsOnBoth file (λ algorithm schedule. DrawsAlgorithm svg algorithm schedule before now end) old new before now end

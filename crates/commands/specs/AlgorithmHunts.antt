@@ -1,5 +1,5 @@
 -- How a hunt on an algorithm ends.
-use Rattle.std.specs.Prelude.{◌≡◌, ◌⊎◌, None, Some, Result, Err}
+use Rattle.std.specs.Prelude.{◌≡◌, ◌⊎◌, ℕ, List, Option, None, Some, Result, Err}
 use Rattle.algorithms.specs.Worlds.{new_refusal}
 use Rattle.algorithms.specs.declared.algorithm.Algorithm.{Algorithm}
 use Rattle.algorithm_explorer.specs.Hunted.{hunted, IsFound}
@@ -49,5 +49,5 @@ HuntsAlgorithm algorithm args before now end =
     ⊎ RunsOut before now end
 
 -- how `hunt --algorithm` ends
-abbrev pub AlgorithmHuntEnds : AlgorithmHuntArgs → Tape → Tape → Result Ending CommandFault → Type 0
-AlgorithmHuntEnds args before now end = EndsOnAlgorithm (λ algorithm. HuntsAlgorithm algorithm args before now end) before now end
+abbrev pub AlgorithmHuntEnds : AlgorithmHuntArgs → Option (List ℕ) → Tape → Tape → Result Ending CommandFault → Type 0
+AlgorithmHuntEnds args file before now end = EndsOnAlgorithm file (λ algorithm. HuntsAlgorithm algorithm args before now end) before now end

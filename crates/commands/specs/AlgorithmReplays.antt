@@ -1,5 +1,5 @@
 -- How a replay on an algorithm's text ends.
-use Rattle.std.specs.Prelude.{◌≡◌, ℕ, Option, Some, None, Result, Ok, Err}
+use Rattle.std.specs.Prelude.{◌≡◌, ℕ, List, Option, Some, None, Result, Ok, Err}
 use Rattle.algorithms.specs.declared.algorithm.Algorithm.{Algorithm}
 use Rattle.algorithm_lab.specs.Refusals.{number_of}
 use Rattle.algorithm_lab.specs.Replays.{Replays, run_of}
@@ -37,6 +37,6 @@ TellsAlgorithm algorithm schedule before now end =
     × Replays before now (run_of algorithm schedule.procs schedule.limit schedule.lines) answer × (outcome end ≡ outcome_of_run answer)
 
 -- the run is written, or the fault of what was to be read is answered
-abbrev pub AlgorithmReplayEnds : Reading → Reading → Tape → Tape → Result Ending CommandFault → Type 0
-AlgorithmReplayEnds old new before now end =
-    EndsOnBoth (λ algorithm schedule. TellsAlgorithm algorithm schedule before now end) old new before now end
+abbrev pub AlgorithmReplayEnds : Option (List ℕ) → Reading → Reading → Tape → Tape → Result Ending CommandFault → Type 0
+AlgorithmReplayEnds file old new before now end =
+    EndsOnBoth file (λ algorithm schedule. TellsAlgorithm algorithm schedule before now end) old new before now end

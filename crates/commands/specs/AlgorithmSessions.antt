@@ -13,7 +13,7 @@ use Rattle.schedule.specs.Wholes.{Silent}
 use Rattle.commands.specs.declared.schedules.ending.Ending.{Ending}
 use Rattle.commands.specs.declared.schedules.fault.CommandFault.{CommandFault}
 use Rattle.commands.specs.AlgorithmReplays.{refused_at}
-use Rattle.commands.specs.AlgorithmTexts.{HoldsOfAlgorithm, IsAlgorithmFault}
+use Rattle.commands.specs.AlgorithmTexts.{IsAlgorithmFault}
 use Rattle.commands.specs.Conversations.{BeginsWith, BreaksAfter, HoldsSession, Opens}
 use Rattle.commands.specs.Endings.{FailsToRead}
 use Rattle.commands.specs.Folders.{Used}
@@ -65,8 +65,3 @@ SessionOn a old new before now blank written (Err fault) =
 -- the algorithm's text is at fault: nothing was read, kept or written
 abbrev pub RefusesText : Reading → Reading → Used → Used → Tape → Tape → Result Ending CommandFault → Type 0
 RefusesText old new before now blank written end = Refuses blank written IsAlgorithmFault end × (new ≡ old) × (now ≡ before)
-
--- how `step --algorithm` ends
-abbrev pub AlgorithmSessionEnds : Reading → Reading → Used → Used → Tape → Tape → Result Ending CommandFault → Type 0
-AlgorithmSessionEnds old new before now blank written end =
-    RefusesText old new before now blank written end ⊎ HoldsOfAlgorithm (λ a. SessionOn a old new before now blank written end)

@@ -1,5 +1,5 @@
 -- How shrinking a schedule on an algorithm's text ends.
-use Rattle.std.specs.Prelude.{◌≡◌, ◌⊎◌, ℕ, Option, Some, Result, Err}
+use Rattle.std.specs.Prelude.{◌≡◌, ◌⊎◌, ℕ, List, Option, Some, Result, Err}
 use Rattle.algorithms.specs.declared.algorithm.Algorithm.{Algorithm}
 use Rattle.algorithm_explorer.specs.Shrunk.{Shrinks, schedule_run}
 use Rattle.algorithm_lab.specs.Refusals.{number_of}
@@ -35,6 +35,6 @@ ShrinksAlgorithm algorithm schedule before now end =
     ⊎ (TellsRefused algorithm schedule before now end ⊎ RunsOut before now end)
 
 -- how `shrink --algorithm` ends
-abbrev pub AlgorithmShrinkEnds : Reading → Reading → Tape → Tape → Result Ending CommandFault → Type 0
-AlgorithmShrinkEnds old new before now end =
-    EndsOnBoth (λ algorithm schedule. ShrinksAlgorithm algorithm schedule before now end) old new before now end
+abbrev pub AlgorithmShrinkEnds : Option (List ℕ) → Reading → Reading → Tape → Tape → Result Ending CommandFault → Type 0
+AlgorithmShrinkEnds file old new before now end =
+    EndsOnBoth file (λ algorithm schedule. ShrinksAlgorithm algorithm schedule before now end) old new before now end

@@ -1,10 +1,11 @@
 -- How a command ends that reads an algorithm from its text, alone or before a schedule.
-use Rattle.std.specs.Prelude.{◌≡◌, ◌≤◌, ◌⊎◌, ℕ, List, Result, Ok, Some}
+use Rattle.std.specs.Prelude.{◌≡◌, ◌≤◌, ◌⊎◌, ℕ, List, [], Option, Some, unwrap_or, Result, Ok}
 use Rattle.algorithms.specs.Ranked.{LocalLinesEnd, AccessesLeadOn}
 use Rattle.algorithms.specs.declared.algorithm.Algorithm.{Algorithm}
 use Rattle.algorithms.specs.declared.fault.AlgorithmFault.{AlgorithmFault}
 use Rattle.algorithms.specs.declared.fault.AlgorithmFault.TheVariants as of_reading
 use Rattle.algorithms.specs.declared.fault.LineFault.{LineFault}
+use Rattle.algorithm_texts.specs.Programs.{Spells}
 use Rattle.cli.specs.Names.{number_of_algorithm_fault}
 use Rattle.schedule.specs.Schedules.{Scheduled, schedule_at}
 use Rattle.schedule.specs.Tapes.{Tape, Reading}
@@ -27,22 +28,26 @@ TellsFault (of_reading.At line number) told =
     × ((1 ≤ number) × (number ≤ 18) → number_of_algorithm_fault of_text ≡ Some number)
 TellsFault of_reading.OutOfMemory told = told ≡ faults.OutOfMemory
 
--- there is an algorithm whose local lines end, of which this holds. That the text spells it is tested; no definition says what
--- a text spells
-pub record HoldsOfAlgorithm (Holds : Algorithm → Type 0) : Type 0 where
+-- the text of the algorithm's file; without a file it is empty
+abbrev pub text_of : Option (List ℕ) → List ℕ
+text_of file = unwrap_or file []
+
+-- the text of the file spells an algorithm, whose local lines end; this holds of it
+pub record HoldsOfAlgorithm (file : Option (List ℕ)) (Holds : Algorithm → Type 0) : Type 0 where
   pub algorithm : Algorithm
+  pub spells : Spells (text_of file) algorithm
   pub ends : LocalLinesEnd algorithm
   pub leads : AccessesLeadOn algorithm
   pub holds : Holds algorithm
 
--- this holds of the algorithm that was read, or the fault of its text is answered and nothing is written
-abbrev pub EndsOnAlgorithm : (Algorithm → Type 0) → Tape → Tape → Result Ending CommandFault → Type 0
-EndsOnAlgorithm Holds before now end = Refuses before now IsAlgorithmFault end ⊎ HoldsOfAlgorithm Holds
+-- this holds of the algorithm that the text spells, or the fault of the text is answered and nothing is written
+abbrev pub EndsOnAlgorithm : Option (List ℕ) → (Algorithm → Type 0) → Tape → Tape → Result Ending CommandFault → Type 0
+EndsOnAlgorithm file Holds before now end = Refuses before now IsAlgorithmFault end ⊎ HoldsOfAlgorithm file Holds
 
--- there is an algorithm whose local lines end, and a schedule was read; this holds of both. That the text spells the algorithm
--- is tested
-pub record HoldsOfBoth (Holds : Algorithm → Scheduled → Type 0) (old new : Reading) : Type 0 where
+-- the text of the file spells an algorithm, whose local lines end, and a schedule was read; this holds of both
+pub record HoldsOfBoth (file : Option (List ℕ)) (Holds : Algorithm → Scheduled → Type 0) (old new : Reading) : Type 0 where
   pub algorithm : Algorithm
+  pub spells : Spells (text_of file) algorithm
   pub ends : LocalLinesEnd algorithm
   pub leads : AccessesLeadOn algorithm
   pub text : List ℕ
@@ -55,8 +60,8 @@ pub record HoldsOfBoth (Holds : Algorithm → Scheduled → Type 0) (old new : R
 abbrev pub IsUnreadAlgorithm : Reading → Reading → CommandFault → Type 0
 IsUnreadAlgorithm old new fault = IsAlgorithmFault fault ⊎ (FailsToRead old new fault ⊎ IsWrongText old new fault)
 
--- this holds of the algorithm and the schedule that were read, or the fault of what was to be read is answered and nothing is
--- written. A failed read isn't taken for the end of the schedule
-abbrev pub EndsOnBoth : (Algorithm → Scheduled → Type 0) → Reading → Reading → Tape → Tape → Result Ending CommandFault → Type 0
-EndsOnBoth Holds old new before now end =
-    (Refuses before now (IsUnreadAlgorithm old new) end ⊎ HoldsOfBoth Holds old new) × TellsReads old new end
+-- this holds of the algorithm that the text spells and of the schedule that was read, or the fault of what was to be read is answered
+-- and nothing is written. A failed read isn't taken for the end of the schedule
+abbrev pub EndsOnBoth : Option (List ℕ) → (Algorithm → Scheduled → Type 0) → Reading → Reading → Tape → Tape → Result Ending CommandFault → Type 0
+EndsOnBoth file Holds old new before now end =
+    (Refuses before now (IsUnreadAlgorithm old new) end ⊎ HoldsOfBoth file Holds old new) × TellsReads old new end

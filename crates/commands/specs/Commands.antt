@@ -1,16 +1,18 @@
 -- How a command ends: what its exit status, or its fault, says of what was read, written and is to be saved.
-use Rattle.std.specs.Prelude.{◌≡◌, ◌≢◌, ◌⊎◌, ◌↔◌, ℕ, ◌+◌, ◌-◌, ◌*◌, ◌^◌, ◌<◌, ◌≤◌, min, Bool, true, false, List, All, length, Option, Some, None, Result, Ok, Err, IsErrAnd}
+use Rattle.std.specs.Prelude.{◌≡◌, ◌≢◌, ◌⊎◌, ◌↔◌, ℕ, ◌-◌, ◌*◌, ◌^◌, ◌<◌, ◌≤◌, min, Bool, true, false, List, All, length, Option, Some, None, Result, Ok, Err, IsErrAnd}
 use Rattle.crashlab.specs.declared.variant.Variant.{Variant}
 use Rattle.crashlab.specs.declared.variant.Variant.TheVariants.{Right}
 use Rattle.crashlab.specs.Hunted.{hunted}
 use Rattle.crashlab.specs.Hunts.{IsFound}
 use Rattle.cli.specs.declared.explain.dictionary_entry.DictionaryEntry.{DictionaryEntry}
 use Rattle.cli.specs.declared.explain.dictionary_entry.TheConstants.{ENTRIES}
-use Rattle.cli.specs.Told.{list_of, TellsDictionaryEntry}
+use Rattle.cli.specs.declared.explain.meaning.Meaning.{Meaning}
+use Rattle.cli.specs.Names.{name_of}
+use Rattle.cli.specs.Told.{list_of, meaning_text}
 use Rattle.one_lock.specs.declared.lab.spec.Spec.{Spec}
 use Rattle.schedule.specs.Schedules.{Scheduled, spelling}
 use Rattle.schedule.specs.Words.{parts_of}
-use Rattle.schedule.specs.Tapes.{Tape, Writes, Reading}
+use Rattle.schedule.specs.Tapes.{Tape, Reading}
 use Rattle.schedule.specs.Reports.{verdict_line}
 use Rattle.schedule.specs.TraceJudges.{trace_answer}
 use Rattle.schedule.specs.Wholes.{Silent, WasRead}
@@ -25,21 +27,22 @@ use Rattle.cli.specs.declared.arguments.args.RunArgs.{RunArgs}
 use Rattle.cli.specs.Sizes.{HuntFits, RunFits}
 use Rattle.commands.specs.declared.schedules.ending.Ending.{Ending}
 use Rattle.commands.specs.declared.schedules.fault.CommandFault.{CommandFault}
-use Rattle.commands.specs.declared.schedules.fault.CommandFault.TheVariants.{BadSize, Member, OutOfMemory, Write}
+use Rattle.commands.specs.declared.schedules.fault.CommandFault.TheVariants.{BadSize, Member, OutOfMemory}
 use Rattle.commands.specs.Conversations.{SessionEnds}
 use Rattle.commands.specs.AlgorithmDraws.{AlgorithmDrawEnds}
 use Rattle.commands.specs.AlgorithmExplores.{AlgorithmExploreEnds}
 use Rattle.commands.specs.AlgorithmHunts.{AlgorithmHuntEnds}
 use Rattle.commands.specs.AlgorithmReplays.{AlgorithmReplayEnds}
-use Rattle.commands.specs.AlgorithmSessions.{AlgorithmSessionEnds}
+use Rattle.commands.specs.AlgorithmSessions.{RefusesText, SessionOn}
 use Rattle.commands.specs.AlgorithmShrinks.{AlgorithmShrinkEnds}
+use Rattle.commands.specs.AlgorithmTexts.{HoldsOfAlgorithm}
 use Rattle.commands.specs.Draws.{DrawEnds}
 use Rattle.commands.specs.Endings.{Prints, ReadsNothing, RunsOut, TellsReads}
 use Rattle.commands.specs.Folders.{Used}
 use Rattle.commands.specs.Replays.{ReplayEnds}
 use Rattle.commands.specs.Shrinks.{ShrinkEnds}
-use Rattle.commands.specs.Statuses.{fault_of_replay, outcome, status_after}
-use Rattle.commands.specs.Tallies.{IsFine, tallies_text}
+use Rattle.commands.specs.Statuses.{fault_of_replay, status_after}
+use Rattle.commands.specs.Tallies.{IsFine, tallies_sent, tallies_text}
 use Rattle.commands.specs.declared.tally.SenderTally.{SenderTally}
 use Rattle.commands.specs.Explores.{ExploreEnds, nothing_line}
 
@@ -97,12 +100,11 @@ lab_for args =
       width = args.width;
     }
 
--- the lines of the tallies are written, and the status is 0 if each message came once and in order
-pub record TellsTallies (before now : Tape) (end : Result Ending CommandFault) : Type 0 where
-  pub tallies : List (ℕ × SenderTally)
+-- the lines of these tallies are written, and the status is 0 if each message came once and in order
+pub record TellsTallies (tallies : List SenderTally) (before now : Tape) (end : Result Ending CommandFault) : Type 0 where
   pub status : ℕ
   pub few : (status ≡ 0) ⊎ (status ≡ 1)
-  pub fine : (status ≡ 0) ↔ All (λ e. IsFine e.1) tallies
+  pub fine : (status ≡ 0) ↔ All IsFine tallies
   pub prints : Prints status (tallies_text tallies) before now end
 
 -- why a run has no tallies: a size is outside its range, a sender could not go on, or memory has run out
@@ -112,40 +114,39 @@ HasNoTallies args (Member p) = p < args.procs
 HasNoTallies args OutOfMemory = Unit {0}
 HasNoTallies args fault = ⊥
 
--- how `run` ends
+-- how `run` ends: each sender has all its messages in the mailbox, each once and in order; or there are no tallies
 abbrev pub RunEnds : RunArgs → Tape → Tape → Result Ending CommandFault → Type 0
 RunEnds args before now end =
-    TellsTallies before now end ⊎ IsErrAnd end (λ fault. HasNoTallies args fault × Silent before now)
+    Prints 0 (tallies_text (tallies_sent args.procs args.messages)) before now end ⊎ IsErrAnd end (λ fault. HasNoTallies args fault × Silent before now)
 
--- the meaning of an entry was written, or the names of all entries
-abbrev pub Explains : Option DictionaryEntry → Tape → Tape → Type 0
-Explains (Some dictionary_entry) before now = TellsDictionaryEntry dictionary_entry before now
-Explains None before now = Writes before now (list_of ENTRIES)
-
--- only a failed write keeps it from being written
+-- how `explain` ends: the meaning of an entry is written under its name, or the names of all entries
 abbrev pub ExplainEnds : Option DictionaryEntry → Tape → Tape → Result Ending CommandFault → Type 0
-ExplainEnds dictionary_entry before now end = (outcome end ≡ Ok 0) × Explains dictionary_entry before now ⊎ (outcome end ≡ Err Write) × (now.failures ≡ min (before.failures + 1) (2 ^ 64 - 1))
+ExplainEnds (Some dictionary_entry) before now end =
+    (meaning : Meaning) × (meaning.name.now ≡ name_of dictionary_entry) × Prints 0 (meaning_text meaning) before now end
+ExplainEnds None before now end = Prints 0 (list_of ENTRIES) before now end
 
 -- how the session of a command ends, by the text of its image; by what was read of the input, kept and written
 abbrev pub SessionEndsOf : Command → Option (List ℕ) → Reading → Reading → Used → Used → Tape → Tape → Result Ending CommandFault → Type 0
 SessionEndsOf (Step file) image old new before now blank written end = SessionEnds image old new before now blank written end
-SessionEndsOf (StepAlgorithm algorithm) image old new before now blank written end = AlgorithmSessionEnds old new before now blank written end
+SessionEndsOf (StepAlgorithm algorithm) image old new before now blank written end =
+    RefusesText old new before now blank written end ⊎ HoldsOfAlgorithm image (λ a. SessionOn a old new before now blank written end)
 SessionEndsOf command image old new before now blank written end = ⊥
 
 -- by the command and the text of its image; by what was read of the input and written, before and after
 abbrev pub CommandEnds : Command → Option (List ℕ) → Reading → Reading → Tape → Tape → Result Ending CommandFault → Type 0
 CommandEnds (Replay args) image old new before now end = ReplayEnds args image old new before now end
-CommandEnds (ReplayAlgorithm args) image old new before now end = AlgorithmReplayEnds old new before now end
+CommandEnds (ReplayAlgorithm args) image old new before now end = AlgorithmReplayEnds image old new before now end
 CommandEnds (Run args) image old new before now end = RunEnds args before now end
 CommandEnds (Hunt args) image old new before now end = HuntEnds args before now end
-CommandEnds (HuntAlgorithm args) image old new before now end = (new ≡ old) × AlgorithmHuntEnds args before now end
+CommandEnds (HuntAlgorithm args) image old new before now end = (new ≡ old) × AlgorithmHuntEnds args image before now end
 CommandEnds (Explore args) image old new before now end = ExploreEnds args before now end
-CommandEnds (ExploreAlgorithm args) image old new before now end = (new ≡ old) × AlgorithmExploreEnds args before now end
+CommandEnds (ExploreAlgorithm args) image old new before now end = (new ≡ old) × AlgorithmExploreEnds args image before now end
 CommandEnds (Judge args) image old new before now end = JudgeEnds args.json old new before now end
 CommandEnds (Draw args) image old new before now end = DrawEnds args image old new before now end × TellsReads old new end
-CommandEnds (DrawAlgorithm args) image old new before now end = AlgorithmDrawEnds args.svg old new before now end
+CommandEnds (DrawAlgorithm args) image old new before now end = AlgorithmDrawEnds args.svg image old new before now end
 CommandEnds (Shrink args) image old new before now end = ShrinkEnds args old new before now end × TellsReads old new end
-CommandEnds (ShrinkAlgorithm args) image old new before now end = AlgorithmShrinkEnds old new before now end
+CommandEnds (ShrinkAlgorithm args) image old new before now end = AlgorithmShrinkEnds image old new before now end
 CommandEnds (Step file) image old new before now end = (first : Used) × (last : Used) × SessionEnds image old new first last before now end
-CommandEnds (StepAlgorithm algorithm) image old new before now end = (first : Used) × (last : Used) × AlgorithmSessionEnds old new first last before now end
+CommandEnds (StepAlgorithm algorithm) image old new before now end =
+    (first : Used) × (last : Used) × SessionEndsOf (StepAlgorithm algorithm) image old new first last before now end
 CommandEnds (Explain dictionary_entry) image old new before now end = (new ≡ old) × ExplainEnds dictionary_entry before now end

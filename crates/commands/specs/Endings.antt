@@ -12,12 +12,6 @@ pub record IsEnded (saves : Bool) (before now : ℕ) (ending : Ending) : Type 0 
   pub saved : is_some ending.save ≡ saves
   pub whole : now ≡ before
 
--- why a text wasn't written: out of memory, and nothing was written; or a write has failed
-abbrev pub FailsToWrite : Tape → Tape → CommandFault → Type 0
-FailsToWrite before now OutOfMemory = Silent before now
-FailsToWrite before now Write = now.failures ≡ min (before.failures + 1) (2 ^ 64 - 1)
-FailsToWrite before now fault = ⊥
-
 -- why a text that is due was not written: a write has failed after a beginning of it; or memory has run out, and nothing was written
 abbrev pub FailsIn : List ℕ → Tape → Tape → CommandFault → Type 0
 FailsIn text before now Write = Begins before.taken now.taken text × (now.failures ≡ min (before.failures + 1) (2 ^ 64 - 1))

@@ -1,11 +1,11 @@
 -- How a search of all schedules ends.
-use Rattle.std.specs.Prelude.{◌≡◌, ◌≢◌, ◌⊎◌, ℕ, zero, suc, ◌+◌, ◌≤◌, max, Bool, true, false, List, [], ◌∷◌, ◌++◌, codes, length, map, take, replicate, Option, Some, None, Result, Ok, Err, IsErrAnd}
+use Rattle.std.specs.Prelude.{◌≡◌, ◌≢◌, ◌⊎◌, ℕ, zero, suc, ◌+◌, ◌≤◌, max, Bool, true, false, List, [], ◌∷◌, ◌++◌, codes, length, map, take, replicate, Option, Some, None, Result, Ok, Err}
 use Rattle.std.specs.Fmt.{decimal}
 use Rattle.redomail.specs.declared.layout.Layout.{Layout}
 use Rattle.rmeworld.specs.declared.call.Call.{Call}
 use Rattle.rmeworld.specs.declared.call.Call.TheVariants as call
 use Rattle.rmeworld.specs.WorldState.{new_refusal}
-use Rattle.schedule.specs.Tapes.{Tape, Writes}
+use Rattle.schedule.specs.Tapes.{Tape}
 use Rattle.schedule.specs.Schedules.{Scheduled, spelling}
 use Rattle.schedule.specs.Wholes.{Silent}
 use Rattle.explorer.specs.BreadthFirst.{EndsOnMany}
@@ -28,7 +28,7 @@ use Rattle.commands.specs.declared.schedules.fault.CommandFault.{CommandFault}
 use Rattle.commands.specs.declared.schedules.fault.CommandFault.TheVariants.{BadSize, TooManyStates}
 use Rattle.cli.specs.declared.arguments.args.Cycles.{Cycles}
 use Rattle.cli.specs.declared.arguments.args.ExploreArgs.{ExploreArgs}
-use Rattle.commands.specs.Endings.{FailsToWrite}
+use Rattle.commands.specs.Endings.{Prints, RunsOut}
 use Rattle.commands.specs.Starving.{starves_line, never_starving_line, is_any}
 use Rattle.commands.specs.Statuses.{outcome}
 
@@ -66,14 +66,14 @@ variables_by false = Live
 abbrev pub schedule_of : ExploreArgs → List Move → Scheduled
 schedule_of args path = record { procs = args.procs; limit = args.limit; cap = args.cap; width = args.width; lines = map line_by path }
 
--- a schedule of fewest moves on which a wrong variant fails was written
-pub record TellsLeast (args : ExploreArgs) (before now : Tape) : Type 0 where
+-- a schedule of fewest moves on which a wrong variant fails is written
+pub record TellsLeast (args : ExploreArgs) (before now : Tape) (end : Result Ending CommandFault) : Type 0 where
   pub wrong : args.variant ≢ Right
   pub path : List Move
   pub found : IsFoundIn args.variant (layout_of args) args.limit args.crashes (calls_of args) path
   pub least : IsLeast args.variant (layout_of args) args.limit args.crashes (calls_of args) path
   pub few : length path ≤ args.moves
-  pub text : Writes before now (spelling (schedule_of args path))
+  pub prints : Prints 1 (spelling (schedule_of args path)) before now end
 
 -- the line `nothing found`
 abbrev pub nothing_line : List ℕ
@@ -87,17 +87,17 @@ within_line moves = line_of (codes "nothing" ∷ codes "found" ∷ codes "within
 abbrev pub all_line : ℕ → List ℕ
 all_line states = line_of (codes "nothing" ∷ codes "found:" ∷ codes "all" ∷ decimal states ∷ codes "states" ∷ [])
 
--- the variant fails on no schedule of at most this many moves, and that was written
-pub record TellsNoneWithin (args : ExploreArgs) (before now : Tape) : Type 0 where
+-- the variant fails on no schedule of at most this many moves, and that is written
+pub record TellsNoneWithin (args : ExploreArgs) (before now : Tape) (end : Result Ending CommandFault) : Type 0 where
   pub none : NoneOfAtMost args.variant (layout_of args) args.limit args.crashes (calls_of args) args.moves
-  pub text : Writes before now (within_line args.moves)
+  pub prints : Prints 0 (within_line args.moves) before now end
 
--- the variant fails on no schedule of any length, and that was written, with the number of states
-pub record TellsNone (args : ExploreArgs) (before now : Tape) : Type 0 where
+-- the variant fails on no schedule of any length, and that is written, with the number of states
+pub record TellsNone (args : ExploreArgs) (before now : Tape) (end : Result Ending CommandFault) : Type 0 where
   pub none : NoneIsFound args.variant (layout_of args) args.limit args.crashes (calls_of args)
   pub states : ℕ
   pub number : IsNumberOfStates (rules (key_by (variables_by args.all_variables))) (first_search_state args.variant (layout_of args) args.limit args.crashes (calls_of args)) states
-  pub text : Writes before now (all_line states)
+  pub prints : Prints 0 (all_line states) before now end
 
 -- no world has these sizes, or no value has this width
 abbrev pub IsNoSize : ExploreArgs → Type 0
@@ -111,40 +111,40 @@ pub record HasTooMany (args : ExploreArgs) (before now : Tape) : Type 0 where
 -- how `explore` ends without `--stuck` and `--starving`
 abbrev pub ShortestEnds : ExploreArgs → Tape → Tape → Result Ending CommandFault → Type 0
 ShortestEnds args before now end =
-    (outcome end ≡ Ok 1) × TellsLeast args before now
-    ⊎ (outcome end ≡ Ok 0) × TellsNoneWithin args before now
-    ⊎ (outcome end ≡ Ok 0) × TellsNone args before now
-    ⊎ (outcome end ≡ Err BadSize) × IsNoSize args
-    ⊎ (outcome end ≡ Err TooManyStates) × HasTooMany args before now
-    ⊎ IsErrAnd end (FailsToWrite before now)
+    TellsLeast args before now end
+    ⊎ TellsNoneWithin args before now end
+    ⊎ TellsNone args before now end
+    ⊎ (end ≡ Err BadSize) × IsNoSize args × Silent before now
+    ⊎ (end ≡ Err TooManyStates) × HasTooMany args before now
+    ⊎ RunsOut before now end
 
--- a schedule of fewest moves on which a wrong variant fails was written, with no bound on the moves
-pub record TellsWrong (args : ExploreArgs) (before now : Tape) : Type 0 where
+-- a schedule of fewest moves on which a wrong variant fails is written, with no bound on the moves
+pub record TellsWrong (args : ExploreArgs) (before now : Tape) (end : Result Ending CommandFault) : Type 0 where
   pub wrong : args.variant ≢ Right
   pub path : List Move
   pub found : IsFoundIn args.variant (layout_of args) args.limit args.crashes (calls_of args) path
   pub least : IsLeast args.variant (layout_of args) args.limit args.crashes (calls_of args) path
-  pub text : Writes before now (spelling (schedule_of args path))
+  pub prints : Prints 1 (spelling (schedule_of args path)) before now end
 
--- the variant fails on no schedule; one of fewest moves to a state from which no starts and steps lead home was written
-pub record TellsStuck (args : ExploreArgs) (before now : Tape) : Type 0 where
+-- the variant fails on no schedule; one of fewest moves to a state from which no starts and steps lead home is written
+pub record TellsStuck (args : ExploreArgs) (before now : Tape) (end : Result Ending CommandFault) : Type 0 where
   pub none : NoneIsFound args.variant (layout_of args) args.limit args.crashes (calls_of args)
   pub path : List Move
   pub stuck : LeadsToStuck (rules search_state_words) (first_search_state args.variant (layout_of args) args.limit args.crashes (calls_of args)) path
   pub least : IsShortestToStuck (rules search_state_words) (first_search_state args.variant (layout_of args) args.limit args.crashes (calls_of args)) path
-  pub text : Writes before now (spelling (schedule_of args path))
+  pub prints : Prints 1 (spelling (schedule_of args path)) before now end
 
 -- the line `never stuck: all N states`
 abbrev pub never_line : ℕ → List ℕ
 never_line states = line_of (codes "never" ∷ codes "stuck:" ∷ codes "all" ∷ decimal states ∷ codes "states" ∷ [])
 
--- the variant fails on no schedule, from each state starts and steps lead home, and that was written, with the number of states
-pub record TellsNeverStuck (args : ExploreArgs) (before now : Tape) : Type 0 where
+-- the variant fails on no schedule, from each state starts and steps lead home, and that is written, with the number of states
+pub record TellsNeverStuck (args : ExploreArgs) (before now : Tape) (end : Result Ending CommandFault) : Type 0 where
   pub none : NoneIsFound args.variant (layout_of args) args.limit args.crashes (calls_of args)
   pub never : IsNeverStuck (rules search_state_words) (first_search_state args.variant (layout_of args) args.limit args.crashes (calls_of args))
   pub states : ℕ
   pub number : IsNumberOfStates (rules search_state_words) (first_search_state args.variant (layout_of args) args.limit args.crashes (calls_of args)) states
-  pub text : Writes before now (never_line states)
+  pub prints : Prints 0 (never_line states) before now end
 
 -- there are more states than may be kept, and nothing was written
 pub record HasTooManyAtAll (args : ExploreArgs) (before now : Tape) : Type 0 where
@@ -154,28 +154,28 @@ pub record HasTooManyAtAll (args : ExploreArgs) (before now : Tape) : Type 0 whe
 -- how `explore --stuck` ends
 abbrev pub StuckEnds : ExploreArgs → Tape → Tape → Result Ending CommandFault → Type 0
 StuckEnds args before now end =
-    (outcome end ≡ Ok 1) × TellsWrong args before now
-    ⊎ (outcome end ≡ Ok 1) × TellsStuck args before now
-    ⊎ (outcome end ≡ Ok 0) × TellsNeverStuck args before now
-    ⊎ (outcome end ≡ Err BadSize) × IsNoSize args
-    ⊎ (outcome end ≡ Err TooManyStates) × HasTooManyAtAll args before now
-    ⊎ IsErrAnd end (FailsToWrite before now)
+    TellsWrong args before now end
+    ⊎ TellsStuck args before now end
+    ⊎ TellsNeverStuck args before now end
+    ⊎ (end ≡ Err BadSize) × IsNoSize args × Silent before now
+    ⊎ (end ≡ Err TooManyStates) × HasTooManyAtAll args before now
+    ⊎ RunsOut before now end
 
--- a schedule of fewest moves to the end of a cycle in which a process starves was written, with the process and the cycle's length
-pub record TellsStarving (args : ExploreArgs) (cycles : Cycles) (before now : Tape) : Type 0 where
+-- a schedule of fewest moves to the end of a cycle in which a process starves is written, with the process and the cycle's length
+pub record TellsStarving (args : ExploreArgs) (cycles : Cycles) (before now : Tape) (end : Result Ending CommandFault) : Type 0 where
   pub process : ℕ
   pub stem : List Move
   pub cycle : List Move
   pub lasso : IsLassoOf world_rules fairness (is_any cycles) (first_search_state args.variant (layout_of args) args.limit args.crashes (calls_of args)) process stem cycle
   pub least : IsLeastLasso world_rules fairness (is_any cycles) (first_search_state args.variant (layout_of args) args.limit args.crashes (calls_of args)) (length stem + length cycle)
-  pub text : Writes before now (spelling (schedule_of args (stem ++ cycle)) ++ starves_line process (length cycle))
+  pub prints : Prints 1 (spelling (schedule_of args (stem ++ cycle)) ++ starves_line process (length cycle)) before now end
 
--- no process starves, and that was written, with the number of worlds
-pub record TellsNeverStarving (args : ExploreArgs) (cycles : Cycles) (before now : Tape) : Type 0 where
+-- no process starves, and that is written, with the number of worlds
+pub record TellsNeverStarving (args : ExploreArgs) (cycles : Cycles) (before now : Tape) (end : Result Ending CommandFault) : Type 0 where
   pub never : IsNeverStarving world_rules fairness (is_any cycles) (first_search_state args.variant (layout_of args) args.limit args.crashes (calls_of args))
   pub states : ℕ
   pub number : IsNumberOfStates world_rules (first_search_state args.variant (layout_of args) args.limit args.crashes (calls_of args)) states
-  pub text : Writes before now (never_starving_line states)
+  pub prints : Prints 0 (never_starving_line states) before now end
 
 -- there are more worlds than may be kept, and nothing was written
 pub record HasTooManyWorlds (args : ExploreArgs) (before now : Tape) : Type 0 where
@@ -185,11 +185,11 @@ pub record HasTooManyWorlds (args : ExploreArgs) (before now : Tape) : Type 0 wh
 -- how `explore --starving` ends
 abbrev pub StarvingEnds : Cycles → ExploreArgs → Tape → Tape → Result Ending CommandFault → Type 0
 StarvingEnds cycles args before now end =
-    (outcome end ≡ Ok 1) × TellsStarving args cycles before now
-    ⊎ (outcome end ≡ Ok 0) × TellsNeverStarving args cycles before now
-    ⊎ (outcome end ≡ Err BadSize) × IsNoSize args
-    ⊎ (outcome end ≡ Err TooManyStates) × HasTooManyWorlds args before now
-    ⊎ IsErrAnd end (FailsToWrite before now)
+    TellsStarving args cycles before now end
+    ⊎ TellsNeverStarving args cycles before now end
+    ⊎ (end ≡ Err BadSize) × IsNoSize args × Silent before now
+    ⊎ (end ≡ Err TooManyStates) × HasTooManyWorlds args before now
+    ⊎ RunsOut before now end
 
 -- the status of two answers: 1, where one of them is a schedule
 abbrev pub both_of : Ending → Result Ending CommandFault → Result ℕ CommandFault

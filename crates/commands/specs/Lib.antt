@@ -12,6 +12,7 @@ pub mod Draws
 pub mod Endings
 pub mod Lines
 pub mod Replays
+pub mod ReportObjects
 pub mod Settings
 pub mod Shrinks
 pub mod Starving

@@ -195,17 +195,13 @@ pub record RunsWords (words : GivenWords) (before now : Used) (status : ℕ) : T
   pub says : Tape
   pub is : IsProgram words before now unread new blank written said says status
 
--- there is no memory to buffer the output: nothing is done
+-- the output has no buffer: only that is reported
 pub record CantBuffer (before now : Used) (status : ℕ) : Type 0 where
   pub same : now ≡ before
   pub status_is : status ≡ 3
   pub said : Tape
   pub says : Tape
   pub told : IsTold said says (fault_line OutOfMemory)
-
--- the exit status of a process that runs the program
-abbrev pub RunsProgram : GivenWords → Used → Used → ℕ → Type 0
-RunsProgram words before now status = RunsWords words before now status ⊎ CantBuffer before now status
 
 -- no file was opened or written before
 abbrev pub unused : Used

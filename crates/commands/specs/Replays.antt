@@ -1,5 +1,5 @@
 -- How a replay ends.
-use Rattle.std.specs.Prelude.{◌≡◌, ◌≢◌, ℕ, Bool, false, not, ◌&&◌, List, Option, None, is_some, IfSome, Vec, Result, Ok, IfOk}
+use Rattle.std.specs.Prelude.{◌≡◌, ◌≢◌, ℕ, Bool, false, List, Option, None, is_some, IfSome, Vec, Result, Ok, IfOk}
 use Rattle.std.specs.declared.alloc.Global.{Global}
 use Rattle.crashlab.specs.declared.variant.Variant.TheVariants.{Right}
 use Rattle.rmeworld.specs.declared.image.Image.{Image}
@@ -28,14 +28,6 @@ IsPlainReplay args image = (image ≡ None) × (args.variant ≡ Right) × (args
 -- how the run is to be written
 abbrev pub replayed : ReplayArgs → Manner
 replayed args = Replayed args.each args.json (is_some args.save)
-
--- the report is asked for as one JSON object
-abbrev pub is_object : ReplayArgs → Bool
-is_object args = args.json && not args.each
-
--- something else is asked for besides the report, and no JSON of the report
-abbrev pub IsTold : ReplayArgs → Option (List ℕ) → Type 0
-IsTold args image = (is_object args ≡ false) × (IsPlainReplay args image → ⊥)
 
 -- the report of the schedule that was read was written, or the command answers why not
 abbrev pub TellsReplay : Reading → Reading → Tape → Tape → Result Ending CommandFault → Type 0
@@ -75,4 +67,4 @@ abbrev pub ReplayEnds : ReplayArgs → Option (List ℕ) → Reading → Reading
 ReplayEnds args image old new before now end =
     (status_ended end ≡ 1 → args.variant ≢ Right) × (IsPlainReplay args image → TellsReplay old new before now end)
     × (IsNew args image → IfOk end (λ ending. SavesLast old new ending.save))
-    × (IsTold args image → TellsRead args.variant (replayed args) image old new before now end) × TellsReads old new end
+    × ((IsPlainReplay args image → ⊥) → TellsRead args.variant (replayed args) image old new before now end) × TellsReads old new end

@@ -36,7 +36,12 @@ fault_of_replay of_replay.Read = Read
 fault_of_replay of_replay.Write = Write
 fault_of_replay of_replay.OutOfMemory = OutOfMemory
 
--- the same for a replay to a page in memory: the page refuses a write only when it is out of memory
+-- the fault of a replay whose report goes to a page in memory first: the page refuses a write only when it is out of memory
+abbrev pub fault_in_memory : ReplayFault → ReplayFault
+fault_in_memory of_replay.Write = of_replay.OutOfMemory
+fault_in_memory fault = fault
+
+-- the program's fault for it
 abbrev pub fault_on_page : ReplayFault → CommandFault
 fault_on_page of_replay.Write = OutOfMemory
 fault_on_page fault = fault_of_replay fault

@@ -18,6 +18,8 @@ use Rattle.diagram.specs.Rows.{events_in, EndsAs, IsJudged}
 use Rattle.diagram.specs.StepLines.{FollowsAsLines, step_lines}
 use Rattle.diagram.specs.DiagramLayouts.{layout_of as sizes_of}
 use Rattle.judge.specs.Starts.{state_of}
+use Rattle.rmecore.specs.declared.refusal.Refusal.{Refusal}
+use Rattle.rmecore.specs.Refused.{number_of}
 use Rattle.judge.specs.Table.{State, empty}
 use Rattle.judge.specs.declared.start.Start.{Start}
 use Rattle.rmeworld.specs.declared.image.Image.{Image}
@@ -27,9 +29,12 @@ use Rattle.rmeworld.specs.ImageStart.{IsStartOf}
 use Rattle.rmeworld.specs.Replayed.{image_of, world_behaviour}
 use Rattle.rmeworld.specs.WorldState.{image_world, new_world}
 use Rattle.schedule.specs.declared.replays.replay_fault.ReplayFault.{ReplayFault}
+use Rattle.schedule.specs.declared.replays.replay_fault.ReplayFault.TheVariants as of_replay
 use Rattle.schedule.specs.declared.replays.verdict.Verdict.{Verdict}
 use Rattle.schedule.specs.Tapes.{Tape, Writes, Begins, BreaksOff, Reading}
-use Rattle.schedule.specs.Runs.{run_on}
+use Rattle.schedule.specs.Reports.{IsReport}
+use Rattle.schedule.specs.Runs.{Part, deeds_of, run_on}
+use Rattle.schedule.specs.Verdicts.{verdict_on}
 use Rattle.rmeworld.specs.Behaviours.{Behaviour}
 use Rattle.schedule.specs.Replays.{Replays}
 use Rattle.schedule.specs.Schedules.{Scheduled, head_of, schedule_at}
@@ -38,6 +43,7 @@ use Rattle.commands.specs.declared.schedules.fault.CommandFault.{CommandFault}
 use Rattle.commands.specs.declared.schedules.fault.CommandFault.TheVariants as faults
 use Rattle.commands.specs.Settings.{IsFitting, IsMadeFit, IsMisfit, IsPicture, IsUnmade, IsWrongImage, IsWrongText}
 use Rattle.commands.specs.Endings.{FailsToRead}
+use Rattle.commands.specs.ReportObjects.{report_object}
 use Rattle.commands.specs.Statuses.{outcome, outcome_told, status_after}
 use Rattle.schedule.specs.Wholes.{Silent, WasRead, layout_of}
 
@@ -56,10 +62,10 @@ ending_of (ends.Refused line number verdict) = Err (faults.Refused line number)
 
 -- the text of a drawing was written, or a prefix of it if the device or memory has failed. Out of memory leaves some of it
 -- unwritten
-abbrev pub IsWritten : Tape → Tape → List ℕ → End → Result Ending CommandFault → Type 0
-IsWritten before now text last (Err faults.Write) = Begins before.taken now.taken text × (now.failures ≡ min (before.failures + 1) (2 ^ 64 - 1))
-IsWritten before now text last (Err faults.OutOfMemory) = BreaksOff before.taken now.taken text × (now.failures ≡ before.failures)
-IsWritten before now text last end = Writes before now text × (end ≡ ending_of last)
+abbrev pub IsDrawingWritten : Tape → Tape → List ℕ → End → Result Ending CommandFault → Type 0
+IsDrawingWritten before now text last (Err faults.Write) = Begins before.taken now.taken text × (now.failures ≡ min (before.failures + 1) (2 ^ 64 - 1))
+IsDrawingWritten before now text last (Err faults.OutOfMemory) = BreaksOff before.taken now.taken text × (now.failures ≡ before.failures)
+IsDrawingWritten before now text last end = Writes before now text × (end ≡ ending_of last)
 
 -- the rows of the drawing show exactly the steps and crashes of the schedule's run on a machine, and how it ends
 pub record DrawsRun {S : Type 0} (b : Behaviour S) (start : State) (s : S) (first : LifelinePhase) (style : Style) (schedule : Scheduled) (before now : Tape) (end : Result Ending CommandFault) : Type 0 where
@@ -67,7 +73,7 @@ pub record DrawsRun {S : Type 0} (b : Behaviour S) (start : State) (s : S) (firs
   pub last : End
   pub shows : events_in rows ≡ events_on b s schedule.lines
   pub ends_as : EndsAs start (run_on b 2 s schedule.lines) last
-  pub written : IsWritten before now (spelled (diagram_layout_of style (head_of schedule) rows last) first rows last) last end
+  pub written : IsDrawingWritten before now (spelled (diagram_layout_of style (head_of schedule) rows last) first rows last) last end
 
 -- a drawing in this style, or a page
 abbrev pub drawn_as : Bool → Style → Manner
@@ -82,7 +88,35 @@ pub record PagesRun {S : Type 0} (b : Behaviour S) (picture_of : S → Image) (s
   pub shows : events_in rows ≡ events_on b s schedule.lines
   pub ends_as : EndsAs start (run_on b 2 s schedule.lines) last
   pub left : IsJudged last → after ≡ picture_of (run_on b 2 s schedule.lines).left
-  pub written : IsWritten before now (page_text (head_of schedule) first (picture_of s) rows after last) last end
+  pub written : IsDrawingWritten before now (page_text (head_of schedule) first (picture_of s) rows after last) last end
+
+-- this is the report of a run, of which no line is refused
+pub record IsReportOf {S : Type 0} (start : State) (picture_of : S → Image) (run : Part S (ℕ × Refusal)) (text : List ℕ) : Type 0 where
+  pub accepted : run.refused ≡ None
+  pub report : IsReport start (picture_of run.left) run.told text
+
+-- the report of a run was written as one JSON object, and its verdict is that of the run
+pub record ReportsObject {S : Type 0} (before now : Tape) (start : State) (picture_of : S → Image) (run : Part S (ℕ × Refusal)) (verdict : Verdict) : Type 0 where
+  pub verdict_is : verdict ≡ verdict_on start (deeds_of run.told)
+  pub text : List ℕ
+  pub of_run : IsReportOf start picture_of run text
+  pub writes : Writes before now (report_object text)
+
+-- a write has failed after a beginning of the object
+pub record BeginsObject {S : Type 0} (before now : Tape) (start : State) (picture_of : S → Image) (run : Part S (ℕ × Refusal)) : Type 0 where
+  pub text : List ℕ
+  pub of_run : IsReportOf start picture_of run text
+  pub begins : Begins before.taken now.taken (report_object text)
+  pub failed : now.failures ≡ min (before.failures + 1) (2 ^ 64 - 1)
+
+-- the result of a replay that writes its report as one JSON object. Where a line is refused or memory has run out, nothing is written
+abbrev pub ReplaysObject : {S : Type 0} → Tape → Tape → State → (S → Image) → Part S (ℕ × Refusal) → Result Verdict ReplayFault → Type 0
+ReplaysObject before now start picture_of run (Ok verdict) = ReportsObject before now start picture_of run verdict
+ReplaysObject before now start picture_of run (Err (of_replay.Refused line number)) =
+    Silent before now × ((refusal : Refusal) × (run.refused ≡ Some (line, refusal)) × (number_of refusal ≡ Some number))
+ReplaysObject before now start picture_of run (Err of_replay.Write) = BeginsObject before now start picture_of run
+ReplaysObject before now start picture_of run (Err of_replay.OutOfMemory) = Silent before now
+ReplaysObject before now start picture_of run (Err fault) = ⊥
 
 -- the result of a replay that writes each step, as JSON or as text, or the report alone
 abbrev pub AnswersRun : {S : Type 0} → Bool → Bool → Behaviour S → (S → Image) → State → S → LifelinePhase → Scheduled → Tape → Tape → Result Verdict ReplayFault → Type 0
@@ -90,7 +124,8 @@ AnswersRun true true b picture_of start s first schedule before now answer =
     FollowsAsLines before now start picture_of (run_on b 2 s schedule.lines) (step_lines (head_of schedule) first (picture_of s) (events_on b s schedule.lines)) answer
 AnswersRun true false b picture_of start s first schedule before now answer =
     Follows before now start picture_of (run_on b 2 s schedule.lines) (followed (sizes_of (head_of schedule)) (replicate schedule.procs first) (events_on b s schedule.lines)) answer
-AnswersRun false json b picture_of start s first schedule before now answer = Replays before now start picture_of (run_on b 2 s schedule.lines) answer
+AnswersRun false true b picture_of start s first schedule before now answer = ReplaysObject before now start picture_of (run_on b 2 s schedule.lines) answer
+AnswersRun false false b picture_of start s first schedule before now answer = Replays before now start picture_of (run_on b 2 s schedule.lines) answer
 
 -- out of memory for the image that is to be saved, after a verdict
 abbrev pub WantsImage : Bool → Result Verdict ReplayFault → Result Ending CommandFault → Type 0

@@ -1,11 +1,10 @@
 //! The command `explore` on an algorithm's text.
 
-ghost use Rattle.std.specs.Prelude.{◌≡◌, false, IfErr, IfOk, OnOk};
+ghost use Rattle.std.specs.Prelude.{◌≡◌, false, IfErr, IfOk, OnOk, option_copied};
 ghost use Rattle.commands.specs.AlgorithmExplores.{AlgorithmExploreEnds, all_line_but, ExploresAlgorithm, SearchEnds, calls_had, calls_of as calls_asked, schedule_of as schedule_by};
 ghost use Rattle.commands.specs.AlgorithmFindings.{line_by, world_call};
-ghost use Rattle.commands.specs.Endings.{FailsToWrite, IsEnded};
+ghost use Rattle.commands.specs.Endings.{IsEnded, Prints};
 ghost use Rattle.schedule.specs.Schedules.{spelling};
-ghost use Rattle.schedule.specs.Tapes.{Writes};
 
 use crate::algorithm_starving::tell_starving;
 use crate::exploring::{put_call, tell_all, tell_within};
@@ -16,7 +15,7 @@ use crate::schedules::algorithm::algorithm_read;
 use crate::schedules::ending::Ending;
 use crate::schedules::fault::CommandFault;
 use crate::schedules::line::left_out_line;
-use crate::schedules::telling::tell_schedule;
+use crate::schedules::telling::{tell_schedule, tell_text};
 use algorithm_explorer::{
     AlgorithmBounds, AlgorithmExploreFault, LeftOut, Move, SearchOutcome,
     shortest_algorithm_schedule,
@@ -24,7 +23,6 @@ use algorithm_explorer::{
 use algorithms::{Algorithm, Call, Entries};
 use cli::arguments::args::{AlgorithmCalls, AlgorithmExploreArgs};
 use rmeworld::Call as WorldCall;
-use schedule::texts::device::write_all;
 use schedule::{Count, Line, Schedule, Sink};
 use std::alloc::{AllocError, Global};
 
@@ -110,10 +108,8 @@ fn tell_path<W: Sink>(
     path: &[Move],
     w: &mut W,
 ) -> Result<Ending, CommandFault>
-    ensures told { OnOk result (Writes (W.tape w.old) (W.tape w.new) (spelling (schedule_by args.now path.now))) }
-    ensures status { IfOk result (λ ending. ending.status ≡ 1) }
+    ensures prints { Prints 1 (spelling (schedule_by args.now path.now)) (W.tape w.old) (W.tape w.new) result }
     ensures ended { IfOk result (IsEnded false (W.tape w.old).failures (W.tape w.new).failures) }
-    ensures failed { IfErr result (FailsToWrite (W.tape w.old) (W.tape w.new)) }
 {
     let schedule = schedule_of(alloc, args, path)?;
     tell_schedule(alloc, &schedule, w)
@@ -125,22 +121,14 @@ fn tell_all_but<W: Sink>(
     left_out: Option<LeftOut>,
     w: &mut W,
 ) -> Result<Ending, CommandFault>
-    ensures told { OnOk result (Writes (W.tape w.old) (W.tape w.new) (all_line_but states left_out)) }
-    ensures status { IfOk result (λ ending. ending.status ≡ 0) }
+    ensures prints { Prints 0 (all_line_but states left_out) (W.tape w.old) (W.tape w.new) result }
     ensures ended { IfOk result (IsEnded false (W.tape w.old).failures (W.tape w.new).failures) }
-    ensures failed { IfErr result (FailsToWrite (W.tape w.old) (W.tape w.new)) }
 {
     let Some(left) = left_out else {
         return tell_all(states, w);
     };
     let line = left_out_line(states, left);
-    if write_all(w, line.as_bytes()).is_err() {
-        return Err(CommandFault::Write);
-    }
-    Ok(Ending {
-        status: 0,
-        save: None,
-    })
+    tell_text(line.as_bytes(), 0, w)
 }
 
 /// Writes the schedule of fewest moves of the algorithm that goes wrong, or that there is none.
@@ -213,9 +201,9 @@ pub fn algorithm_explore_command<S: Screen, W: Sink>(
     screen: &mut S,
     w: &mut W,
 ) -> Result<Ending, CommandFault>
-    ensures ends { AlgorithmExploreEnds args.now (W.tape w.old) (W.tape w.new) result }
+    ensures ends { AlgorithmExploreEnds args.now (option_copied text.entry) (W.tape w.old) (W.tape w.new) result }
     ensures ended { IfOk result (IsEnded false (W.tape w.old).failures (W.tape w.new).failures) }
 {
-    let algorithm = algorithm_read(alloc, text.unwrap_or(&[]))?;
+    let algorithm = algorithm_read(alloc, text)?;
     search_algorithm(alloc, algorithm, args, screen, w)
 }

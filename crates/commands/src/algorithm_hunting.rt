@@ -1,6 +1,6 @@
 //! The command `hunt` on an algorithm's text.
 
-ghost use Rattle.std.specs.Prelude.{◌≡◌, false, IfOk};
+ghost use Rattle.std.specs.Prelude.{◌≡◌, false, IfOk, option_copied};
 ghost use Rattle.commands.specs.AlgorithmHunts.{AlgorithmHuntEnds, fault_of_hunt, HuntsAlgorithm};
 ghost use Rattle.commands.specs.Endings.{IsEnded};
 
@@ -62,9 +62,9 @@ pub fn algorithm_hunt_command<W: Sink>(
     text: Option<&[u8]>,
     w: &mut W,
 ) -> Result<Ending, CommandFault>
-    ensures ends { AlgorithmHuntEnds args.now (W.tape w.old) (W.tape w.new) result }
+    ensures ends { AlgorithmHuntEnds args.now (option_copied text.entry) (W.tape w.old) (W.tape w.new) result }
     ensures ended { IfOk result (IsEnded false (W.tape w.old).failures (W.tape w.new).failures) }
 {
-    let algorithm = algorithm_read(alloc, text.unwrap_or(&[]))?;
+    let algorithm = algorithm_read(alloc, text)?;
     tell_hunted(alloc, algorithm, args, w)
 }

@@ -2,10 +2,9 @@
 
 ghost use Rattle.std.specs.Prelude.{◌≡◌, ◌++◌, false, length, IfErr, IfOk, OnOk};
 ghost use Rattle.commands.specs.AlgorithmExplores.{StarvesAlgorithm, schedule_of as schedule_by};
-ghost use Rattle.commands.specs.Endings.{FailsToWrite, IsEnded};
+ghost use Rattle.commands.specs.Endings.{IsEnded, Prints};
 ghost use Rattle.commands.specs.Starving.{starves_line};
 ghost use Rattle.schedule.specs.Schedules.{spelling};
-ghost use Rattle.schedule.specs.Tapes.{Writes};
 
 use crate::algorithm_exploring::{calls_of, schedule_of};
 use crate::progress::meter::Meter;
@@ -29,17 +28,15 @@ fn tell_lasso<W: Sink>(
     lasso: &Lasso<Move>,
     w: &mut W,
 ) -> Result<Ending, CommandFault>
-    ensures told { OnOk result (Writes (W.tape w.old) (W.tape w.new)
-        (spelling (schedule_by args.now (lasso.now.stem.items ++ lasso.now.cycle.items))
-        ++ starves_line lasso.now.process (length lasso.now.cycle.items))) }
-    ensures status { IfOk result (λ ending. ending.status ≡ 1) }
+    ensures prints { Prints 1 (spelling (schedule_by args.now (lasso.now.stem.items ++ lasso.now.cycle.items))
+        ++ starves_line lasso.now.process (length lasso.now.cycle.items)) (W.tape w.old) (W.tape w.new) result }
     ensures ended { IfOk result (IsEnded false (W.tape w.old).failures (W.tape w.new).failures) }
-    ensures failed { IfErr result (FailsToWrite (W.tape w.old) (W.tape w.new)) }
 {
     let mut path = Vec::from_slice(alloc, lasso.stem.as_slice())?;
-    path.extend_from_slice(lasso.cycle.as_slice())?;
+    let cycle = lasso.cycle.as_slice();
+    path.extend_from_slice(cycle)?;
     let schedule = schedule_of(alloc, args, &path)?;
-    tell_starves(alloc, &schedule, lasso.process, lasso.cycle.len() as u64, w)
+    tell_starves(alloc, &schedule, lasso.process, cycle.len() as u64, w)
 }
 
 /// Writes a schedule of fewest moves of the algorithm in which a process starves, or that there is none.

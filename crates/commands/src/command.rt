@@ -1,6 +1,8 @@
 //! The commands, over a reader and two writers.
 
-ghost use Rattle.std.specs.Prelude.{◌≡◌, IfOk, is_some, option_copied, true, false};
+ghost use Rattle.std.specs.Prelude.{◌≡◌, ℕ, List, IfOk, is_some, option_copied, true, false};
+ghost use Rattle.schedule.specs.Tapes.{Tape};
+ghost use Rattle.cli.specs.Told.{IsWritten};
 ghost use Rattle.crashlab.specs.Hunts.{IsFound};
 ghost use Rattle.commands.specs.Commands.{CommandEnds, ExplainEnds, HuntEnds, JudgeEnds, SessionEndsOf, TellsFound, verdict_told};
 ghost use Rattle.commands.specs.Endings.{IsEnded, Prints};
@@ -35,7 +37,7 @@ use cli::{DictionaryEntry, tell_all_names, tell_dictionary_entry};
 use crashlab::{HuntFault, Variant, hunt_in_parallel_watched, shrink_found};
 use diagram::put_verdict_object;
 use schedule::texts::device::write_all;
-use schedule::{Schedule, Sink, Source, Verdict, judge_trace, put_verdict};
+use schedule::{Failed, Schedule, Sink, Source, Verdict, judge_trace, put_verdict};
 use std::alloc::{AllocError, Global};
 use std::sync::Wait;
 use std::thread::Threads;
@@ -152,6 +154,21 @@ pub fn hunt_command<T: Threads + Sync, S: Screen, W: Sink>(
     }
 }
 
+/// How a command ends that had a text to write.
+fn ending_after(written: Result<(), Failed>) -> Result<Ending, CommandFault>
+    ensures prints { (before now : Tape) (text : List ℕ) → IsWritten before now text written → Prints 0 text before now result }
+    ensures ended { (before now : Tape) (text : List ℕ) → IsWritten before now text written
+        → IfOk result (IsEnded false before.failures now.failures) }
+{
+    match written {
+        Ok(()) => Ok(Ending {
+            status: 0,
+            save: None,
+        }),
+        Err(_) => Err(CommandFault::Write),
+    }
+}
+
 /// Writes what an entry means, or the names of all entries.
 fn explain_command<W: Sink>(
     dictionary_entry: Option<DictionaryEntry>,
@@ -160,16 +177,9 @@ fn explain_command<W: Sink>(
     ensures ends { ExplainEnds dictionary_entry (W.tape w.old) (W.tape w.new) result }
     ensures ended { IfOk result (IsEnded false (W.tape w.old).failures (W.tape w.new).failures) }
 {
-    let told = match dictionary_entry {
-        Some(dictionary_entry) => tell_dictionary_entry(dictionary_entry, w),
-        None => tell_all_names(w),
-    };
-    match told {
-        Ok(()) => Ok(Ending {
-            status: 0,
-            save: None,
-        }),
-        Err(_) => Err(CommandFault::Write),
+    match dictionary_entry {
+        Some(dictionary_entry) => ending_after(tell_dictionary_entry(dictionary_entry, w)),
+        None => ending_after(tell_all_names(w)),
     }
 }
 

@@ -2,9 +2,8 @@
 
 ghost use Rattle.std.specs.Prelude.{◌≡◌, ◌++◌, ◌∷◌, [], false, length, ◌≤◌, take, replicate, IfErr, IfOk, IfSome, IsSome, OnOk, ◌↔◌};
 ghost use Rattle.std.specs.Fmt.{decimal};
-ghost use Rattle.commands.specs.Endings.{FailsToWrite, IsEnded};
+ghost use Rattle.commands.specs.Endings.{IsEnded, Prints};
 ghost use Rattle.schedule.specs.Schedules.{spelling};
-ghost use Rattle.schedule.specs.Tapes.{Writes};
 ghost use Rattle.commands.specs.Explores.{appends as appends_of, asked, all_line, calls_of as calls_asked, ExploreEnds, ShortestEnds, schedule_of as schedule_by, variables_by, within_line};
 ghost use Rattle.crashlab.specs.Spaces.{line_by};
 
@@ -15,7 +14,7 @@ use crate::progress::work::Work;
 use crate::schedules::ending::Ending;
 use crate::schedules::fault::CommandFault;
 use crate::schedules::line::line_around;
-use crate::schedules::telling::tell_schedule;
+use crate::schedules::telling::{tell_schedule, tell_text};
 use crate::starving::{tell_both, tell_starving};
 use crate::stuck::tell_stuck;
 use cli::arguments::args::ExploreArgs;
@@ -25,7 +24,6 @@ use lock_explorer::{
 use redomail::Layout;
 use rmecore::Body;
 use rmeworld::Call;
-use schedule::texts::device::write_all;
 use schedule::{Count, Line, Schedule, Sink};
 use std::alloc::{AllocError, Global};
 use std::thread::Threads;
@@ -130,10 +128,8 @@ pub(crate) fn tell_path<W: Sink>(
     path: &[Move],
     w: &mut W,
 ) -> Result<Ending, CommandFault>
-    ensures told { OnOk result (Writes (W.tape w.old) (W.tape w.new) (spelling (schedule_by args.now path.now))) }
-    ensures status { IfOk result (λ ending. ending.status ≡ 1) }
+    ensures prints { Prints 1 (spelling (schedule_by args.now path.now)) (W.tape w.old) (W.tape w.new) result }
     ensures ended { IfOk result (IsEnded false (W.tape w.old).failures (W.tape w.new).failures) }
-    ensures failed { IfErr result (FailsToWrite (W.tape w.old) (W.tape w.new)) }
 {
     let schedule = schedule_of(alloc, args, path)?;
     tell_schedule(alloc, &schedule, w)
@@ -147,37 +143,25 @@ pub(crate) fn tell_none<W: Sink>(
     w: &mut W,
 ) -> Result<Ending, CommandFault>
     requires { (length before.now ≤ 21) × (length after.now ≤ 20) }
-    ensures told { OnOk result (Writes (W.tape w.old) (W.tape w.new) (before.now ++ decimal number ++ after.now)) }
-    ensures status { IfOk result (λ ending. ending.status ≡ 0) }
+    ensures prints { Prints 0 (before.now ++ decimal number ++ after.now) (W.tape w.old) (W.tape w.new) result }
     ensures ended { IfOk result (IsEnded false (W.tape w.old).failures (W.tape w.new).failures) }
-    ensures failed { IfErr result (FailsToWrite (W.tape w.old) (W.tape w.new)) }
 {
     let line = line_around(before, number, after);
-    if write_all(w, line.as_bytes()).is_err() {
-        return Err(CommandFault::Write);
-    }
-    Ok(Ending {
-        status: 0,
-        save: None,
-    })
+    tell_text(line.as_bytes(), 0, w)
 }
 
 /// Writes that nothing was found within this many moves.
 pub(crate) fn tell_within<W: Sink>(moves: u64, w: &mut W) -> Result<Ending, CommandFault>
-    ensures told { OnOk result (Writes (W.tape w.old) (W.tape w.new) (within_line moves)) }
-    ensures status { IfOk result (λ ending. ending.status ≡ 0) }
+    ensures prints { Prints 0 (within_line moves) (W.tape w.old) (W.tape w.new) result }
     ensures ended { IfOk result (IsEnded false (W.tape w.old).failures (W.tape w.new).failures) }
-    ensures failed { IfErr result (FailsToWrite (W.tape w.old) (W.tape w.new)) }
 {
     tell_none("nothing found within ", moves, " moves\n", w)
 }
 
 /// Writes that nothing was found in this many states, which are all.
 pub(crate) fn tell_all<W: Sink>(states: u64, w: &mut W) -> Result<Ending, CommandFault>
-    ensures told { OnOk result (Writes (W.tape w.old) (W.tape w.new) (all_line states)) }
-    ensures status { IfOk result (λ ending. ending.status ≡ 0) }
+    ensures prints { Prints 0 (all_line states) (W.tape w.old) (W.tape w.new) result }
     ensures ended { IfOk result (IsEnded false (W.tape w.old).failures (W.tape w.new).failures) }
-    ensures failed { IfErr result (FailsToWrite (W.tape w.old) (W.tape w.new)) }
 {
     tell_none("nothing found: all ", states, " states\n", w)
 }

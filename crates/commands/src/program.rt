@@ -1,12 +1,12 @@
 //! The whole program, over its words, a folder of files, its input and its two outputs.
 
-ghost use Rattle.std.specs.Prelude.{◌≡◌, ◌⊎◌, ◌+◌, ◌-◌, ◌^◌, ◌++◌, ◌∷◌, [], min, true, false, None, is_some, option_to_list, IfErr, IfOk, OnErr, OnOk};
+ghost use Rattle.std.specs.Prelude.{◌≡◌, ◌⊎◌, ◌+◌, ◌-◌, ◌^◌, ◌++◌, ◌∷◌, [], min, true, false, None, is_some, option_to_list, IfErr, IfOk, IsErr, IsOk, OnErr, OnOk};
 ghost use Rattle.commands.specs.Endings.{IsEnded};
 ghost use Rattle.schedule.specs.Tapes.{Writes};
 ghost use Rattle.cli.specs.FilesNamed.{image_of, input_of, save_of};
 ghost use Rattle.commands.specs.Lines.{IsTold};
 ghost use Rattle.commands.specs.Folders.{is_session};
-ghost use Rattle.commands.specs.Programs.{Answers, Closes, Does, EndsOnFile, EndsOnInput, Finishes, IsAsked, IsProgram, IsUnasked, Obeys, opens_all, OpensSome, PrintsHelp, PrintsUsageError, RunsProgram, SavesAll, SessionEndsIn, unread};
+ghost use Rattle.commands.specs.Programs.{Answers, CantBuffer, Closes, Does, EndsOnFile, EndsOnInput, Finishes, IsAsked, IsProgram, IsUnasked, Obeys, opens_all, OpensSome, PrintsHelp, PrintsUsageError, RunsWords, SavesAll, SessionEndsIn, unread};
 ghost use Rattle.commands.specs.Faults.{fault_of_opening, fault_of_saving};
 ghost use Rattle.std.specs.Process.{exit_status};
 
@@ -22,7 +22,7 @@ use schedule::replays::pieces::read_all;
 use schedule::texts::device::write_all;
 use schedule::{Failed, FromReader, Sink, Source, ToWriter};
 use std::alloc::Global;
-use std::io::{BufWriter, Read, Write};
+use std::io::{self, BufWriter, Read, Write};
 use std::process::ExitCode;
 use std::sync::Wait;
 use std::thread::Threads;
@@ -327,7 +327,7 @@ fn program_from_start<T: Threads + Wait + Sync, F: Folder, S: Screen, R: Source,
     out: &mut W,
     err: &mut E,
 ) -> u8
-    ensures { R.reading input.old ≡ unread → RunsProgram words (F.used folder.old) (F.used folder.new) result }
+    ensures { R.reading input.old ≡ unread → RunsWords words (F.used folder.old) (F.used folder.new) result }
 {
     program(rt, alloc, words, folder, screen, input, out, err)
 }
@@ -347,14 +347,15 @@ fn status_over<
     folder: &mut F,
     screen: &mut S,
     input: R,
-    output: W,
+    output: io::Result<BufWriter<W>>,
     errors: E,
 ) -> u8
-    ensures { RunsProgram words (F.used folder.old) (F.used folder.new) result }
+    ensures runs { IsOk output → RunsWords words (F.used folder.old) (F.used folder.new) result }
+    ensures unbuffered { IsErr output → CantBuffer (F.used folder.old) (F.used folder.new) result }
 {
     let mut input = FromReader::new(input);
     let mut err = ToWriter::new(errors);
-    match BufWriter::new(alloc, output) {
+    match output {
         Ok(buffer) => {
             let mut out = ToWriter::new(buffer);
             program_from_start(
@@ -365,18 +366,20 @@ fn status_over<
     }
 }
 
-/// The whole program, over the devices of a process. It answers the exit status of the process.
-pub fn run_program<T: Threads + Wait + Sync, F: Folder, S: Screen>(
+/// The whole program, over the devices of a process. It answers the exit status of the process. `output` has the buffer of the
+/// standard output; an error of it says that memory has run out.
+pub fn run_program<T: Threads + Wait + Sync, F: Folder, S: Screen, W: Write + Drop>(
     rt: &T,
     alloc: Global,
     words: Result<Vec<String>, WordsFault>,
     folder: &mut F,
     screen: &mut S,
     input: impl Read + Drop,
-    output: impl Write + Drop,
+    output: io::Result<BufWriter<W>>,
     errors: impl Write + Drop,
 ) -> ExitCode
-    ensures { RunsProgram words (F.used folder.old) (F.used folder.new) (exit_status result) }
+    ensures runs { IsOk output → RunsWords words (F.used folder.old) (F.used folder.new) (exit_status result) }
+    ensures unbuffered { IsErr output → CantBuffer (F.used folder.old) (F.used folder.new) (exit_status result) }
 {
     let status = status_over(rt, alloc, words, folder, screen, input, output, errors);
     ExitCode::from(status)

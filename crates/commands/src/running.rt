@@ -1,19 +1,19 @@
 //! The command `run`.
 
-ghost use Rattle.std.specs.Prelude.{◌≡◌, ◌⊎◌, ◌↔◌, All, false, IfErr, IfOk, OnOk, string_bytes, vec_len};
+ghost use Rattle.std.specs.Prelude.{◌≡◌, ◌⊎◌, ◌↔◌, ◌≤◌, All, false, IfErr, IfOk, OnOk, string_bytes, vec_len};
 ghost use Rattle.schedule.specs.Tapes.{Writes};
 ghost use Rattle.commands.specs.Endings.{FailsIn, IsEnded};
 ghost use Rattle.commands.specs.Commands.{HasNoTallies, lab_for, RunEnds, TellsTallies};
 ghost use Rattle.commands.specs.Faults.{fault_of_lab};
 ghost use Rattle.commands.specs.Gates.{gates_for};
-ghost use Rattle.commands.specs.Tallies.{IsFine, order_word, sender_line, tallies_text, total_line};
+ghost use Rattle.commands.specs.Tallies.{IsFine, order_word, sender_line, tallies_sent, tallies_text, total_line};
+ghost use Rattle.one_lock.specs.Lab.{AreAllSent};
 
 use crate::schedules::ending::Ending;
 use crate::schedules::fault::CommandFault;
-use crate::tally::{SenderTally, tallied};
+use crate::tally::{SenderTally, tallies_of};
 use cli::arguments::args::RunArgs;
 use crashlab::Seeded;
-use indexmap::IndexMap;
 use robust::{LabFault, LabResult, Spec, run_lab};
 use schedule::Sink;
 use schedule::texts::device::write_all;
@@ -58,13 +58,13 @@ fn order_of(ordered: bool) -> &'static str
 }
 
 /// The line of a sender.
-fn line_of_sender(alloc: Global, sender: u64, tally: &SenderTally) -> Result<String, AllocError>
-    ensures { IfOk result (λ line. string_bytes line ≡ sender_line (sender, tally.now)) }
+fn line_of_sender(alloc: Global, tally: &SenderTally) -> Result<String, AllocError>
+    ensures { IfOk result (λ line. string_bytes line ≡ sender_line tally.now) }
 {
     let order = order_of(tally.ordered);
     format!(in alloc;
-        "sender {sender} messages {} twice {} order {order}\n",
-        tally.messages, tally.twice
+        "sender {} messages {} twice {} order {order}\n",
+        tally.sender, tally.messages, tally.twice
     )
 }
 
@@ -76,13 +76,13 @@ fn line_of_total(alloc: Global, total: u64) -> Result<String, AllocError>
 }
 
 /// One line for each sender, and a last line with the total. `AllocError`: out of memory.
-pub fn lines_of(alloc: Global, tallies: &IndexMap<u64, SenderTally>) -> Result<String, AllocError>
-    ensures { IfOk result (λ text. string_bytes text ≡ tallies_text tallies.now.entries) }
+pub fn lines_of(alloc: Global, tallies: &[SenderTally]) -> Result<String, AllocError>
+    ensures { IfOk result (λ text. string_bytes text ≡ tallies_text tallies.now) }
 {
     let mut text = String::new(alloc);
     let mut total = 0u64;
-    for (sender, tally) in tallies {
-        let line = line_of_sender(alloc, *sender, tally)?;
+    for tally in tallies {
+        let line = line_of_sender(alloc, tally)?;
         text.push_str(&line)?;
         total = total.saturating_add(tally.messages);
     }
@@ -92,11 +92,11 @@ pub fn lines_of(alloc: Global, tallies: &IndexMap<u64, SenderTally>) -> Result<S
 }
 
 /// The exit status: 0 if each message came once and in order, otherwise 1.
-pub fn status_of_tallies(tallies: &IndexMap<u64, SenderTally>) -> u8
+pub fn status_of_tallies(tallies: &[SenderTally]) -> u8
     ensures either { (result ≡ 0) ⊎ (result ≡ 1) }
-    ensures fine { (result ≡ 0) ↔ All (λ e. IsFine e.1) tallies.now.entries }
+    ensures fine { (result ≡ 0) ↔ All IsFine tallies.now }
 {
-    for (_, tally) in tallies {
+    for tally in tallies {
         if !tally.is_fine() {
             return 1;
         }
@@ -123,7 +123,9 @@ fn ran<T: Threads + Wait + Sync>(
     gates: Vec<Seeded>,
 ) -> Result<LabResult, CommandFault>
     requires { vec_len gates ≡ args.now.procs }
-    ensures { IfErr result (HasNoTallies args.now) }
+    ensures sent { IfOk result (λ r. AreAllSent (lab_for args.now) r.messages.items) }
+    ensures few { OnOk result (args.now.messages ≤ 4096) }
+    ensures failed { IfErr result (HasNoTallies args.now) }
 {
     match run_lab(rt, alloc, spec_of(args), gates) {
         Ok(result) => Ok(result),
@@ -136,22 +138,23 @@ fn counted<T: Threads + Wait + Sync>(
     rt: &T,
     alloc: Global,
     args: &RunArgs,
-) -> Result<IndexMap<u64, SenderTally>, CommandFault>
-    ensures { IfErr result (HasNoTallies args.now) }
+) -> Result<Vec<SenderTally>, CommandFault>
+    ensures sent { IfOk result (λ tallies. tallies.items ≡ tallies_sent args.now.procs args.now.messages) }
+    ensures failed { IfErr result (HasNoTallies args.now) }
 {
     let gates = gates_of(alloc, args)?;
     let result = ran(rt, alloc, args, gates)?;
-    Ok(tallied(alloc, args.procs, &result.messages)?)
+    Ok(tallies_of(alloc, args.procs, &result.messages)?)
 }
 
 /// Writes the lines of the tallies.
 fn write_lines<W: Sink>(
     alloc: Global,
-    tallies: &IndexMap<u64, SenderTally>,
+    tallies: &[SenderTally],
     w: &mut W,
 ) -> Result<(), CommandFault>
-    ensures written { OnOk result (Writes (W.tape w.old) (W.tape w.new) (tallies_text tallies.now.entries)) }
-    ensures unwritten { IfErr result (FailsIn (tallies_text tallies.now.entries) (W.tape w.old) (W.tape w.new)) }
+    ensures written { OnOk result (Writes (W.tape w.old) (W.tape w.new) (tallies_text tallies.now)) }
+    ensures unwritten { IfErr result (FailsIn (tallies_text tallies.now) (W.tape w.old) (W.tape w.new)) }
 {
     let text = lines_of(alloc, tallies)?;
     if write_all(w, text.as_bytes()).is_err() {
@@ -163,10 +166,10 @@ fn write_lines<W: Sink>(
 /// Writes the tallies.
 fn tell_tallies<W: Sink>(
     alloc: Global,
-    tallies: &IndexMap<u64, SenderTally>,
+    tallies: &[SenderTally],
     w: &mut W,
 ) -> Result<Ending, CommandFault>
-    ensures told { TellsTallies (W.tape w.old) (W.tape w.new) result }
+    ensures told { TellsTallies tallies.now (W.tape w.old) (W.tape w.new) result }
     ensures ended { IfOk result (IsEnded false (W.tape w.old).failures (W.tape w.new).failures) }
 {
     let status = status_of_tallies(tallies);

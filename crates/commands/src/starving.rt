@@ -1,9 +1,8 @@
 //! The option `--starving` of the command `explore`.
 
 ghost use Rattle.std.specs.Prelude.{◌≡◌, ◌++◌, ◌≤◌, false, length, IfErr, IfOk, OnOk};
-ghost use Rattle.commands.specs.Endings.{FailsToWrite, IsEnded};
+ghost use Rattle.commands.specs.Endings.{IsEnded, Prints};
 ghost use Rattle.schedule.specs.Schedules.{spelling};
-ghost use Rattle.schedule.specs.Tapes.{Writes};
 ghost use Rattle.commands.specs.Explores.{BothEnd, StarvingEnds, schedule_of as schedule_by};
 ghost use Rattle.commands.specs.Starving.{is_any as is_any_by, never_starving_line, starves_line as starves_line_by};
 
@@ -14,12 +13,11 @@ use crate::progress::work::Work;
 use crate::schedules::ending::Ending;
 use crate::schedules::fault::CommandFault;
 use crate::schedules::line::starves_line;
-use crate::schedules::telling::tell_schedule;
+use crate::schedules::telling::{tell_schedule, tell_text};
 use crate::stuck::tell_stuck;
 use cli::arguments::args::{Cycles, ExploreArgs};
 use lock_explorer::{ExploreFault, Lasso, Move, StarvingOutcome, StuckBounds, starving_schedule};
 use redomail::Layout;
-use schedule::texts::device::write_all;
 use schedule::{Schedule, Sink};
 use std::alloc::Global;
 
@@ -35,10 +33,8 @@ pub(crate) fn is_any(cycles: Cycles) -> bool
 
 /// Writes that no process starves in any of this many worlds, which are all.
 pub(crate) fn tell_never_starving<W: Sink>(states: u64, w: &mut W) -> Result<Ending, CommandFault>
-    ensures told { OnOk result (Writes (W.tape w.old) (W.tape w.new) (never_starving_line states)) }
-    ensures status { IfOk result (λ ending. ending.status ≡ 0) }
+    ensures prints { Prints 0 (never_starving_line states) (W.tape w.old) (W.tape w.new) result }
     ensures ended { IfOk result (IsEnded false (W.tape w.old).failures (W.tape w.new).failures) }
-    ensures failed { IfErr result (FailsToWrite (W.tape w.old) (W.tape w.new)) }
 {
     tell_none("never starving: all ", states, " states\n", w)
 }
@@ -51,17 +47,12 @@ pub(crate) fn tell_starves<W: Sink>(
     cycle: u64,
     w: &mut W,
 ) -> Result<Ending, CommandFault>
-    ensures told { OnOk result (Writes (W.tape w.old) (W.tape w.new) (spelling schedule.now ++ starves_line_by process cycle)) }
-    ensures status { IfOk result (λ ending. ending.status ≡ 1) }
+    ensures prints { Prints 1 (spelling schedule.now ++ starves_line_by process cycle) (W.tape w.old) (W.tape w.new) result }
     ensures ended { IfOk result (IsEnded false (W.tape w.old).failures (W.tape w.new).failures) }
-    ensures failed { IfErr result (FailsToWrite (W.tape w.old) (W.tape w.new)) }
 {
-    let ending = tell_schedule(alloc, schedule, w)?;
+    tell_schedule(alloc, schedule, w)?;
     let line = starves_line(process, cycle);
-    if write_all(w, line.as_bytes()).is_err() {
-        return Err(CommandFault::Write);
-    }
-    Ok(ending)
+    tell_text(line.as_bytes(), 1, w)
 }
 
 /// Writes a lasso: its stem and its cycle as a schedule, and whose call it is.
@@ -71,17 +62,15 @@ fn tell_lasso<W: Sink>(
     lasso: &Lasso<Move>,
     w: &mut W,
 ) -> Result<Ending, CommandFault>
-    ensures told { OnOk result (Writes (W.tape w.old) (W.tape w.new)
-        (spelling (schedule_by args.now (lasso.now.stem.items ++ lasso.now.cycle.items))
-        ++ starves_line_by lasso.now.process (length lasso.now.cycle.items))) }
-    ensures status { IfOk result (λ ending. ending.status ≡ 1) }
+    ensures prints { Prints 1 (spelling (schedule_by args.now (lasso.now.stem.items ++ lasso.now.cycle.items))
+        ++ starves_line_by lasso.now.process (length lasso.now.cycle.items)) (W.tape w.old) (W.tape w.new) result }
     ensures ended { IfOk result (IsEnded false (W.tape w.old).failures (W.tape w.new).failures) }
-    ensures failed { IfErr result (FailsToWrite (W.tape w.old) (W.tape w.new)) }
 {
     let mut path = Vec::from_slice(alloc, lasso.stem.as_slice())?;
-    path.extend_from_slice(lasso.cycle.as_slice())?;
+    let cycle = lasso.cycle.as_slice();
+    path.extend_from_slice(cycle)?;
     let schedule = schedule_of(alloc, args, &path)?;
-    tell_starves(alloc, &schedule, lasso.process, lasso.cycle.len() as u64, w)
+    tell_starves(alloc, &schedule, lasso.process, cycle.len() as u64, w)
 }
 
 /// Writes a schedule of fewest moves in which a process starves, or that there is none.

@@ -2,8 +2,7 @@
 
 ghost use Rattle.std.specs.Prelude.{◌≡◌, ◌++◌, ◌⊎◌, ◌∷◌, [], false, codes, length, ◌≤◌, IfErr, IfOk, OnOk};
 ghost use Rattle.std.specs.Fmt.{decimal};
-ghost use Rattle.commands.specs.Endings.{FailsToWrite, IsEnded};
-ghost use Rattle.schedule.specs.Tapes.{Writes};
+ghost use Rattle.commands.specs.Endings.{IsEnded, Prints};
 ghost use Rattle.commands.specs.Explores.{StuckEnds, never_line};
 
 use crate::exploring::{calls_of, tell_none, tell_path};
@@ -20,10 +19,8 @@ use std::alloc::Global;
 
 /// Writes that none of this many states, which are all, is stuck.
 fn tell_never<W: Sink>(states: u64, w: &mut W) -> Result<Ending, CommandFault>
-    ensures told { OnOk result (Writes (W.tape w.old) (W.tape w.new) (never_line states)) }
-    ensures status { IfOk result (λ ending. ending.status ≡ 0) }
+    ensures prints { Prints 0 (never_line states) (W.tape w.old) (W.tape w.new) result }
     ensures ended { IfOk result (IsEnded false (W.tape w.old).failures (W.tape w.new).failures) }
-    ensures failed { IfErr result (FailsToWrite (W.tape w.old) (W.tape w.new)) }
 {
     tell_none("never stuck: all ", states, " states\n", w)
 }

@@ -1,17 +1,17 @@
 //! The messages of a mailbox, counted for each sender.
 
-ghost use Rattle.std.specs.Prelude.{◌≡◌, ◌↔◌, true};
-ghost use Rattle.rmecore.specs.Simulated.{one_more};
-ghost use Rattle.commands.specs.Tallies.{and_again, in_step, IsFine};
+ghost use Rattle.std.specs.Prelude.{◌≡◌, ◌↔◌, true, [], IfOk, slice_index_or, slice_set};
+ghost use Rattle.commands.specs.Tallies.{IsFine, tallies_by, tally_of, with_number};
 
-use indexmap::{IndexMap, IndexSet};
+use indexmap::IndexSet;
 use redomail::Message;
 use std::alloc::{AllocError, Global};
 
-/// The count of one sender's messages: how many there are, how many of them have a number that came before, the last number,
+/// The count of one sender's messages: how many there are, how many of them have a number that comes again later, the last number,
 /// and whether the numbers never fall.
 #[derive(Clone, Copy, Debug, PartialEq, Eq)]
 pub struct SenderTally {
+    pub sender: u64,
     pub messages: u64,
     pub twice: u64,
     pub last: u64,
@@ -20,10 +20,12 @@ pub struct SenderTally {
 
 impl SenderTally {
     /// The tally of a sender without messages.
-    pub fn new() -> SenderTally
-        ensures { result ≡ record { messages = 0; twice = 0; last = 0; ordered = true } }
+    #[tactic(auto, unfolding(crate::specs::Tallies::repeats, crate::specs::Tallies::last_number, crate::specs::Tallies::never_fall))]
+    fn new(sender: u64) -> SenderTally
+        ensures { result ≡ tally_of sender [] }
     {
         SenderTally {
+            sender,
             messages: 0,
             twice: 0,
             last: 0,
@@ -32,11 +34,8 @@ impl SenderTally {
     }
 
     /// With one more message. `again`: its number came before.
-    pub fn with(self, seq: u64, again: bool) -> SenderTally
-        ensures messages { result.messages ≡ one_more self.messages }
-        ensures twice { result.twice ≡ and_again again self.twice }
-        ensures last { result.last ≡ seq }
-        ensures ordered { result.ordered ≡ in_step self.ordered self.last seq }
+    fn with(self, seq: u64, again: bool) -> SenderTally
+        ensures { result ≡ with_number self seq again }
     {
         let twice = if again {
             self.twice.saturating_add(1)
@@ -44,6 +43,7 @@ impl SenderTally {
             self.twice
         };
         SenderTally {
+            sender: self.sender,
             messages: self.messages.saturating_add(1),
             twice,
             last: seq,
@@ -60,37 +60,40 @@ impl SenderTally {
 }
 
 /// The tallies of senders without messages.
-fn no_tallies(alloc: Global, procs: u64) -> Result<IndexMap<u64, SenderTally>, AllocError> {
-    let mut tallies = IndexMap::new(alloc);
+#[tactic(auto, using(crate::proofs::Tallies::one_sender_more))]
+fn no_tallies(alloc: Global, procs: u64) -> Result<Vec<SenderTally>, AllocError>
+    ensures { IfOk result (λ tallies. tallies.items ≡ tallies_by procs []) }
+{
+    let mut tallies = Vec::new(alloc);
     for sender in 0..procs {
-        tallies.insert(sender, SenderTally::new())?;
+        tallies.push(SenderTally::new(sender))?;
     }
     Ok(tallies)
 }
 
-/// Counts one message, if its sender has a tally.
-fn count(
-    tallies: &mut IndexMap<u64, SenderTally>,
-    met: &mut IndexSet<(u64, u64)>,
-    message: &Message,
-) -> Result<(), AllocError> {
-    let again = !met.insert((message.sender, message.seq))?;
-    if let Some(tally) = tallies.get_mut(&message.sender) {
+/// Counts one message, if its sender has a tally. `again`: its number came before.
+fn count(tallies: &mut Vec<SenderTally>, message: &Message, again: bool)
+    ensures { tallies.new.items ≡ slice_set tallies.old.items message.now.sender
+        (with_number (slice_index_or tallies.old.items message.now.sender (tally_of 0 [])) message.now.seq again) }
+{
+    if let Some(tally) = tallies.get_mut(message.sender as usize) {
         *tally = tally.with(message.seq, again);
     }
-    Ok(())
 }
 
-/// The tallies of all senders, by rising number. `AllocError`: out of memory.
-pub fn tallied(
+/// The tallies of all senders, each at its index. `AllocError`: out of memory.
+pub fn tallies_of(
     alloc: Global,
     procs: u64,
     messages: &[Message],
-) -> Result<IndexMap<u64, SenderTally>, AllocError> {
+) -> Result<Vec<SenderTally>, AllocError>
+    ensures { IfOk result (λ tallies. tallies.items ≡ tallies_by procs messages.now) }
+{
     let mut tallies = no_tallies(alloc, procs)?;
     let mut met = IndexSet::new(alloc);
     for message in messages {
-        count(&mut tallies, &mut met, message)?;
+        let again = !met.insert((message.sender, message.seq))?;
+        count(&mut tallies, message, again);
     }
     Ok(tallies)
 }

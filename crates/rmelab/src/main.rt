@@ -12,7 +12,7 @@ pub use commands::command::command;
 use commands::disk::Disk;
 use commands::program::run_program;
 pub use commands::schedules::ending::Ending;
-use std::io::IsTerminal;
+use std::io::{BufWriter, IsTerminal};
 use std::process::ExitCode;
 
 /// Runs the program on its words, the files of the system, and the standard streams.
@@ -20,6 +20,7 @@ fn main(rt: HostRuntime) -> ExitCode {
     let mut folder = Disk::new(&rt);
     let mut screen = Terminal::new(&rt, rt.stderr(), rt.stderr().is_terminal());
     let words = words_given(&rt);
+    let output = BufWriter::new(rt.alloc(), rt.stdout());
     run_program(
         &rt,
         rt.alloc(),
@@ -27,7 +28,7 @@ fn main(rt: HostRuntime) -> ExitCode {
         &mut folder,
         &mut screen,
         rt.stdin(),
-        rt.stdout(),
+        output,
         rt.stderr(),
     )
 }

@@ -11,7 +11,7 @@ use commands::program::{obey, program, run_program};
 use commands::{Ending, NoScreen, Screen};
 use schedule::{Failed, Sink, Source};
 use std::alloc::Global;
-use std::io::{Read, Write};
+use std::io::{self, BufWriter, Read, Write};
 use std::process::ExitCode;
 use std::sync::Wait;
 use std::thread::Threads;
@@ -103,14 +103,14 @@ pub fn run<T: Threads + Wait + Sync, F: Folder, R: Source, W: Sink, E: Sink>(
 }
 
 /// What `main` of the program calls.
-pub fn run_devices<T: Threads + Wait + Sync, F: Folder, S: Screen>(
+pub fn run_devices<T: Threads + Wait + Sync, F: Folder, S: Screen, W: Write + Drop>(
     rt: &T,
     alloc: Global,
     words: Result<Vec<String>, WordsFault>,
     folder: &mut F,
     screen: &mut S,
     input: impl Read + Drop,
-    output: impl Write + Drop,
+    output: io::Result<BufWriter<W>>,
     errors: impl Write + Drop,
 ) -> ExitCode {
     run_program(rt, alloc, words, folder, screen, input, output, errors)

@@ -1,9 +1,10 @@
 //! The command `replay` on an algorithm's text.
 
-ghost use Rattle.std.specs.Prelude.{◌≡◌, IfErr, IfOk, false};
+ghost use Rattle.std.specs.Prelude.{◌≡◌, IfErr, IfOk, option_copied, false};
 ghost use Rattle.algorithms.specs.Ranked.{LocalLinesEnd, AccessesLeadOn};
+ghost use Rattle.algorithm_texts.specs.Programs.{Spells};
 ghost use Rattle.commands.specs.AlgorithmReplays.{AlgorithmReplayEnds, fault_of_run, TellsAlgorithm};
-ghost use Rattle.commands.specs.AlgorithmTexts.{IsAlgorithmFault, TellsFault};
+ghost use Rattle.commands.specs.AlgorithmTexts.{IsAlgorithmFault, TellsFault, text_of as text_in};
 ghost use Rattle.commands.specs.Endings.{IsEnded};
 
 use crate::algorithm_fault::fault_numbered;
@@ -44,14 +45,25 @@ pub(crate) fn unplayed(fault: AlgorithmReplayFault) -> CommandFault
     }
 }
 
-/// The algorithm that this text spells. A text that spells none is a fault, of its first faulty line.
+/// The text of an algorithm's file; without a file it is empty.
+fn text_of(text: Option<&[u8]>) -> &[u8]
+    ensures { result.now ≡ text_in (option_copied text.entry) }
+{
+    match text {
+        Some(text) => text,
+        None => &[],
+    }
+}
+
+/// The algorithm that the text of a file spells. A text that spells none is a fault, of its first faulty line.
 #[tactic(auto, using(crate::proofs::AlgorithmTexts::is_algorithm_fault))]
-pub(crate) fn algorithm_read(alloc: Global, text: &[u8]) -> Result<Algorithm, CommandFault>
+pub(crate) fn algorithm_read(alloc: Global, text: Option<&[u8]>) -> Result<Algorithm, CommandFault>
+    ensures spells { IfOk result (Spells (text_in (option_copied text.entry))) }
     ensures ends { IfOk result LocalLinesEnd }
     ensures leads { IfOk result AccessesLeadOn }
     ensures unread { IfErr result IsAlgorithmFault }
 {
-    read_algorithm(alloc, text).map_err(unread)
+    read_algorithm(alloc, text_of(text)).map_err(unread)
 }
 
 /// Plays the schedule on the algorithm, and writes its report.
@@ -82,10 +94,10 @@ pub fn algorithm_replay_command<R: Source, W: Sink>(
     r: &mut R,
     w: &mut W,
 ) -> Result<Ending, CommandFault>
-    ensures ends { AlgorithmReplayEnds (R.reading r.old) (R.reading r.new) (W.tape w.old) (W.tape w.new) result }
+    ensures ends { AlgorithmReplayEnds (option_copied text.entry) (R.reading r.old) (R.reading r.new) (W.tape w.old) (W.tape w.new) result }
     ensures ended { IfOk result (IsEnded false (W.tape w.old).failures (W.tape w.new).failures) }
 {
-    let algorithm = algorithm_read(alloc, text.unwrap_or(&[]))?;
+    let algorithm = algorithm_read(alloc, text)?;
     let schedule = schedule_read(alloc, r)?;
     replay_on_algorithm(alloc, algorithm, &schedule, w)
 }

@@ -1,6 +1,6 @@
 //! The command `draw` on an algorithm's text.
 
-ghost use Rattle.std.specs.Prelude.{IfOk, false};
+ghost use Rattle.std.specs.Prelude.{IfOk, option_copied, false};
 ghost use Rattle.commands.specs.AlgorithmDraws.{AlgorithmDrawEnds, DrawsAlgorithm};
 ghost use Rattle.commands.specs.Endings.{IsEnded};
 
@@ -45,10 +45,11 @@ pub fn algorithm_draw_command<R: Source, W: Sink>(
     r: &mut R,
     w: &mut W,
 ) -> Result<Ending, CommandFault>
-    ensures ends { AlgorithmDrawEnds args.now.svg (R.reading r.old) (R.reading r.new) (W.tape w.old) (W.tape w.new) result }
+    ensures ends { AlgorithmDrawEnds args.now.svg (option_copied text.entry) (R.reading r.old) (R.reading r.new) (W.tape w.old)
+        (W.tape w.new) result }
     ensures ended { IfOk result (IsEnded false (W.tape w.old).failures (W.tape w.new).failures) }
 {
-    let algorithm = algorithm_read(alloc, text.unwrap_or(&[]))?;
+    let algorithm = algorithm_read(alloc, text)?;
     let schedule = schedule_read(alloc, r)?;
     draw_on_algorithm(alloc, algorithm, &schedule, args.svg, w)
 }

@@ -1,6 +1,6 @@
 //! The command `shrink` on an algorithm's text.
 
-ghost use Rattle.std.specs.Prelude.{IfOk, false};
+ghost use Rattle.std.specs.Prelude.{IfOk, option_copied, false};
 ghost use Rattle.commands.specs.AlgorithmShrinks.{AlgorithmShrinkEnds, ShrinksAlgorithm};
 ghost use Rattle.commands.specs.Endings.{IsEnded};
 
@@ -41,10 +41,10 @@ pub fn algorithm_shrink_command<R: Source, W: Sink>(
     r: &mut R,
     w: &mut W,
 ) -> Result<Ending, CommandFault>
-    ensures ends { AlgorithmShrinkEnds (R.reading r.old) (R.reading r.new) (W.tape w.old) (W.tape w.new) result }
+    ensures ends { AlgorithmShrinkEnds (option_copied text.entry) (R.reading r.old) (R.reading r.new) (W.tape w.old) (W.tape w.new) result }
     ensures ended { IfOk result (IsEnded false (W.tape w.old).failures (W.tape w.new).failures) }
 {
-    let algorithm = algorithm_read(alloc, text.unwrap_or(&[]))?;
+    let algorithm = algorithm_read(alloc, text)?;
     let schedule = schedule_read(alloc, r)?;
     shrink_on_algorithm(alloc, algorithm, &schedule, w)
 }

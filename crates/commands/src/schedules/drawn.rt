@@ -13,7 +13,7 @@ ghost use Rattle.rmeworld.specs.WorldState.{image_world as world_of_image};
 ghost use Rattle.commands.specs.Endings.{IsEnded, TellsReads};
 ghost use Rattle.commands.specs.Draws.{DrawEnds, drawn, style_of};
 ghost use Rattle.commands.specs.Statuses.{status_after};
-ghost use Rattle.commands.specs.Tellings.{ending_of as ending_for, IsWritten, Paged, Tells, TellsImage, TellsNew, TellsSchedule, TellsVariant};
+ghost use Rattle.commands.specs.Tellings.{ending_of as ending_for, IsDrawingWritten, Paged, Tells, TellsImage, TellsNew, TellsSchedule, TellsVariant};
 ghost use Rattle.schedule.specs.Runs.{deeds_of, run_on};
 ghost use Rattle.schedule.specs.Verdicts.{verdict_on};
 
@@ -59,7 +59,7 @@ fn write_drawn<W: Sink>(
     style: Style,
     w: &mut W,
 ) -> Result<Ending, CommandFault>
-    ensures written { IsWritten (W.tape w.old) (W.tape w.new)
+    ensures written { IsDrawingWritten (W.tape w.old) (W.tape w.new)
         (spelled (diagram_layout_of style drawing.now.head drawing.now.rows.items drawing.now.end)
         drawing.now.first drawing.now.rows.items drawing.now.end) drawing.now.end result }
     ensures ended { IfOk result (IsEnded false (W.tape w.old).failures (W.tape w.new).failures) }
@@ -87,7 +87,7 @@ fn write_paged<W: Sink>(
     after: &Image,
     w: &mut W,
 ) -> Result<Ending, CommandFault>
-    ensures written { IsWritten (W.tape w.old) (W.tape w.new) (page_text drawing.now.head drawing.now.first before.now
+    ensures written { IsDrawingWritten (W.tape w.old) (W.tape w.new) (page_text drawing.now.head drawing.now.first before.now
         drawing.now.rows.items after.now drawing.now.end) drawing.now.end result }
     ensures ended { IfOk result (IsEnded false (W.tape w.old).failures (W.tape w.new).failures) }
 {

@@ -1,44 +1,51 @@
 //! A report as one JSON object.
 
-use serde_json::{Map, Value};
+ghost use Rattle.std.specs.Prelude.{◌≡◌, ◌++◌, ◌∷◌, [], List, ℕ, IfOk, OnOk};
+ghost use Rattle.commands.specs.ReportObjects.{lines_of, list_text, string_text, report_object as object_by};
+
 use std::alloc::{AllocError, Global};
 
-/// The characters of a report: each byte is the character with its number.
-fn characters_of(alloc: Global, report: &[u8]) -> Result<String, AllocError> {
-    let mut text = String::new(alloc);
-    for byte in report {
-        text.push(char::from(*byte))?;
+/// Appends a line in quotation marks.
+fn put_quoted(text: &mut Vec<u8>, line: &[u8]) -> Result<(), AllocError>
+    ensures { OnOk result (text.new.items ≡ text.old.items ++ string_text line.now) }
+{
+    text.push(b'"')?;
+    text.extend_from_slice(line)?;
+    text.push(b'"')?;
+    Ok(())
+}
+
+/// Appends a line to a list of lines in quotation marks.
+fn put_line(list: &mut Vec<u8>, line: &[u8]) -> Result<(), AllocError>
+    ensures { (lines : List (List ℕ)) → list.old.items ≡ list_text lines
+        → OnOk result (list.new.items ≡ list_text (lines ++ line.now ∷ [])) }
+{
+    if list.as_slice().is_empty() {
+        return put_quoted(list, line);
     }
-    Ok(text)
+    list.push(b',')?;
+    put_quoted(list, line)
 }
 
-/// The lines of a text without their line feeds, as strings.
-fn lines_of(alloc: Global, report: &str) -> Result<Vec<Value>, AllocError> {
-    let mut lines = Vec::new(alloc);
-    for line in report.lines() {
-        lines.push(Value::String(String::from_str(alloc, line)?))?;
+/// The lines of a report in quotation marks, with commas between them.
+fn lines_list(alloc: Global, report: &[u8]) -> Result<Vec<u8>, AllocError>
+    ensures { IfOk result (λ list. list.items ≡ list_text (lines_of report.now)) }
+{
+    let mut list = Vec::new(alloc);
+    let end = report.len().saturating_sub(1);
+    for line in report[..end].split(|byte| *byte == b'\n') {
+        put_line(&mut list, line)?;
     }
-    Ok(lines)
-}
-
-/// The object with the one member `report`.
-fn object_of(alloc: Global, lines: Vec<Value>) -> Result<Value, AllocError> {
-    let name = String::from_str(alloc, "report")?;
-    let mut members = Map::new(alloc);
-    members.insert(name, Value::Array(lines))?;
-    Ok(Value::Object(members))
-}
-
-/// The report as JSON, without a line feed.
-fn spelled(alloc: Global, report: &str) -> Result<Vec<u8>, AllocError> {
-    let object = object_of(alloc, lines_of(alloc, report)?)?;
-    object.to_vec(alloc)
+    Ok(list)
 }
 
 /// One object with the one member `report`, the list of the report's lines, and LF. `AllocError`: out of memory.
-pub fn json_report(alloc: Global, report: &[u8]) -> Result<Vec<u8>, AllocError> {
-    let report = characters_of(alloc, report)?;
-    let mut text = spelled(alloc, &report)?;
-    text.push(b'\n')?;
-    Ok(text)
+pub fn report_object(alloc: Global, report: &[u8]) -> Result<Vec<u8>, AllocError>
+    ensures { IfOk result (λ object. object.items ≡ object_by report.now) }
+{
+    let list = lines_list(alloc, report)?;
+    let mut object = Vec::from_slice(alloc, b"{\"report\":[")?;
+    object.extend_from_slice(&list)?;
+    object.extend_from_slice(b"]}\n")?;
+    Ok(object)
 }

@@ -10,14 +10,16 @@ ghost use Rattle.rmeworld.specs.ImageText.{image_line};
 ghost use Rattle.rmeworld.specs.Replayed.{image_of, world_behaviour};
 ghost use Rattle.rmeworld.specs.WorldState.{image_world as world_of_image};
 ghost use Rattle.schedule.specs.Runs.{run_on};
+ghost use Rattle.schedule.specs.Tapes.{Writes};
 ghost use Rattle.commands.specs.Endings.{IsEnded, TellsReads};
-ghost use Rattle.commands.specs.Replays.{is_object, IsLast, IsPlayed, IsReplayed, ReplayEnds, replayed, TellsReplay};
-ghost use Rattle.commands.specs.Statuses.{answer_told, fault_on_page};
-ghost use Rattle.commands.specs.Tellings.{AnswersRun, Tells, TellsImage, TellsNew, TellsSchedule, TellsVariant};
+ghost use Rattle.commands.specs.ReportObjects.{IsUnwritten, report_object as object_of};
+ghost use Rattle.commands.specs.Replays.{IsLast, IsPlayed, IsReplayed, ReplayEnds, replayed, TellsReplay};
+ghost use Rattle.commands.specs.Statuses.{answer_told, fault_in_memory, fault_on_page};
+ghost use Rattle.commands.specs.Tellings.{AnswersRun, ReplaysObject, Tells, TellsImage, TellsNew, TellsSchedule, TellsVariant};
 
 use crate::schedules::ending::{Ending, status_after_verdict};
 use crate::schedules::fault::CommandFault;
-use crate::schedules::json::json_report;
+use crate::schedules::json::report_object;
 use crate::schedules::setting::{
     fitting, image_read, image_world, new_judge, new_world, schedule_read, start_at, started_judge,
     variant_world,
@@ -42,6 +44,55 @@ pub fn on_page(fault: ReplayFault) -> CommandFault
     }
 }
 
+/// The fault of a replay whose report goes to a page in memory first: the page refuses a write only when it is out of memory.
+fn in_memory(fault: ReplayFault) -> ReplayFault
+    ensures { result ≡ fault_in_memory fault }
+{
+    match fault {
+        ReplayFault::Write => ReplayFault::OutOfMemory,
+        other => other,
+    }
+}
+
+/// Writes a report as one JSON object, and answers its verdict.
+fn write_object<W: Sink>(
+    alloc: Global,
+    report: &[u8],
+    verdict: Verdict,
+    w: &mut W,
+) -> Result<Verdict, ReplayFault>
+    ensures written { IfOk result (λ same. (same ≡ verdict) × Writes (W.tape w.old) (W.tape w.new) (object_of report.now)) }
+    ensures unwritten { IfErr result (IsUnwritten (W.tape w.old) (W.tape w.new) (object_of report.now)) }
+{
+    let object = report_object(alloc, report)?;
+    match write_all(w, &object) {
+        Ok(()) => Ok(verdict),
+        Err(_) => Err(ReplayFault::Write),
+    }
+}
+
+/// Plays the schedule to a page in memory, and writes the lines of the report as one JSON object.
+fn replay_object<M: Machine, W: Sink>(
+    alloc: Global,
+    schedule: &Schedule,
+    machine: &mut M,
+    judge: &mut Judge,
+    w: &mut W,
+) -> Result<Verdict, ReplayFault>
+    ensures played { (start : State) → Keeps judge.old start
+        → IfOk result (IsPlayed start (run_on M.behaviour 2 machine.old schedule.now.lines) machine.new
+        (W.tape w.old).failures (W.tape w.new).failures) }
+    ensures told { (start : State) → Keeps judge.old start
+        → ReplaysObject (W.tape w.old) (W.tape w.new) start M.behaviour.image_of
+        (run_on M.behaviour 2 machine.old schedule.now.lines) result }
+{
+    let mut page = Page::new(alloc);
+    match replay_on(alloc, machine, judge, schedule, &mut page) {
+        Ok(verdict) => write_object(alloc, page.as_slice(), verdict, w),
+        Err(fault) => Err(in_memory(fault)),
+    }
+}
+
 /// Plays the schedule, and writes its report, or each step, as text or as JSON.
 fn report<M: Machine, W: Sink>(
     alloc: Global,
@@ -60,41 +111,12 @@ fn report<M: Machine, W: Sink>(
         → AnswersRun each json M.behaviour M.behaviour.image_of start machine.old first schedule.now (W.tape w.old) (W.tape w.new)
         result }
 {
-    if !each {
-        return replay_on(alloc, machine, judge, schedule, w);
+    match (each, json) {
+        (true, true) => follow_as_lines(alloc, machine, judge, schedule, first, w),
+        (true, false) => follow(alloc, machine, judge, schedule, first, w),
+        (false, true) => replay_object(alloc, schedule, machine, judge, w),
+        (false, false) => replay_on(alloc, machine, judge, schedule, w),
     }
-    if json {
-        return follow_as_lines(alloc, machine, judge, schedule, first, w);
-    }
-    follow(alloc, machine, judge, schedule, first, w)
-}
-
-/// Plays the schedule to a page in memory, and writes the lines of the report as one JSON object.
-fn play_object<M: Machine, W: Sink>(
-    alloc: Global,
-    machine: &mut M,
-    judge: &mut Judge,
-    schedule: &Schedule,
-    w: &mut W,
-) -> Result<Verdict, CommandFault>
-    ensures { (start : State) → Keeps judge.old start
-        → IfOk result (IsPlayed start (run_on M.behaviour 2 machine.old schedule.now.lines) machine.new
-        (W.tape w.old).failures (W.tape w.new).failures) }
-{
-    let mut page = Page::new(alloc);
-    let verdict = replay_on(alloc, machine, judge, schedule, &mut page).map_err(on_page)?;
-    let object = json_report(alloc, page.as_slice())?;
-    match write_all(w, &object) {
-        Ok(()) => Ok(verdict),
-        Err(_) => Err(CommandFault::Write),
-    }
-}
-
-/// Whether the report is asked for as one JSON object.
-fn is_object(args: &ReplayArgs) -> bool
-    ensures { result ≡ is_object args.now }
-{
-    args.json && !args.each
 }
 
 /// Plays the schedule, and writes to `w`, as text or as JSON.
@@ -110,14 +132,11 @@ fn play<M: Machine, W: Sink>(
     ensures played { (start : State) → Keeps judge.old start
         → IfOk result (IsPlayed start (run_on M.behaviour 2 machine.old schedule.now.lines) machine.new
         (W.tape w.old).failures (W.tape w.new).failures) }
-    ensures told { is_object args.now ≡ false → (start : State) → Keeps judge.old start
+    ensures told { (start : State) → Keeps judge.old start
         → (answer : Result Verdict ReplayFault)
         × AnswersRun args.now.each args.now.json M.behaviour M.behaviour.image_of start machine.old first schedule.now (W.tape w.old)
         (W.tape w.new) answer × (result ≡ answer_told answer) }
 {
-    if is_object(args) {
-        return play_object(alloc, machine, judge, schedule, w);
-    }
     let each = args.each;
     match report(alloc, machine, judge, schedule, first, each, args.json, w) {
         Ok(verdict) => Ok(verdict),
@@ -160,7 +179,7 @@ fn replay_machine<M: Machine, W: Sink>(
     ensures replayed { (start : State) → Keeps judge.old start
         → IfOk result (IsReplayed start (run_on M.behaviour 2 machine.old schedule.now.lines) M.behaviour.image_of
         (is_some args.now.save) (W.tape w.old).failures (W.tape w.new).failures) }
-    ensures told { is_object args.now ≡ false → (start : State) → Keeps judge.old start
+    ensures told { (start : State) → Keeps judge.old start
         → Tells (replayed args.now) M.behaviour M.behaviour.image_of start machine.old first schedule.now
         (W.tape w.old) (W.tape w.new) result }
 {
@@ -181,7 +200,7 @@ fn replay_new<W: Sink>(
 ) -> Result<Ending, CommandFault>
     ensures fine { IfOk result (λ ending. ending.status ≡ 0) }
     ensures last { IfOk result (λ ending. IfSome ending.save (λ image. IsLast schedule.now image.items)) }
-    ensures told { is_object args.now ≡ false → TellsNew (replayed args.now) schedule.now
+    ensures told { TellsNew (replayed args.now) schedule.now
         (W.tape w.old) (W.tape w.new) result }
     ensures ended { IfOk result (IsEnded (is_some args.now.save) (W.tape w.old).failures (W.tape w.new).failures) }
 {
@@ -209,7 +228,7 @@ fn replay_image<W: Sink>(
 ) -> Result<Ending, CommandFault>
     requires { IsLawfulImage image }
     ensures fine { IfOk result (λ ending. ending.status ≡ 0) }
-    ensures told { is_object args.now ≡ false → TellsImage image (replayed args.now) schedule.now
+    ensures told { TellsImage image (replayed args.now) schedule.now
         (W.tape w.old) (W.tape w.new) result }
     ensures ended { IfOk result (IsEnded (is_some args.now.save) (W.tape w.old).failures (W.tape w.new).failures) }
 {
@@ -231,7 +250,7 @@ fn replay_started<W: Sink>(
     requires begins { IsStartOf image.now start.now }
     requires judged { IsStart start.now }
     ensures fine { IfOk result (λ ending. ending.status ≡ 0) }
-    ensures told { is_object args.now ≡ false → Tells (replayed args.now) world_behaviour image_of
+    ensures told { Tells (replayed args.now) world_behaviour image_of
         (state_of start.now) (world_of_image image.now) LifelinePhase.Dead schedule.now (W.tape w.old) (W.tape w.new) result }
     ensures ended { IfOk result (IsEnded (is_some args.now.save) (W.tape w.old).failures (W.tape w.new).failures) }
 {
@@ -256,7 +275,7 @@ fn replay_variant<W: Sink>(
     args: &ReplayArgs,
     w: &mut W,
 ) -> Result<Ending, CommandFault>
-    ensures told { is_object args.now ≡ false → TellsVariant args.now.variant (replayed args.now) schedule.now
+    ensures told { TellsVariant args.now.variant (replayed args.now) schedule.now
         (W.tape w.old) (W.tape w.new) result }
     ensures ended { IfOk result (IsEnded (is_some args.now.save) (W.tape w.old).failures (W.tape w.new).failures) }
 {
@@ -285,7 +304,7 @@ fn replay_schedule<W: Sink>(
     ensures fine { args.now.variant ≡ Variant.Right → IfOk result (λ ending. ending.status ≡ 0) }
     ensures last { args.now.variant ≡ Variant.Right → is_some image ≡ false
         → IfOk result (λ ending. IfSome ending.save (λ image. IsLast schedule.now image.items)) }
-    ensures told { is_object args.now ≡ false → TellsSchedule args.now.variant image
+    ensures told { TellsSchedule args.now.variant image
         (replayed args.now) schedule.now (W.tape w.old) (W.tape w.new) result }
     ensures ended { IfOk result (IsEnded (is_some args.now.save) (W.tape w.old).failures (W.tape w.new).failures) }
 {

@@ -1,9 +1,10 @@
 //! Begins a session on an algorithm's text, and holds it.
 
-ghost use Rattle.std.specs.Prelude.{◌≡◌, ◌⊎◌, [], None, IfErr, IfOk, OnOk, false};
+ghost use Rattle.std.specs.Prelude.{◌≡◌, ◌⊎◌, [], None, IfErr, IfOk, OnOk, option_copied, false};
 ghost use Rattle.algorithms.specs.Worlds.{new_refusal};
 ghost use Rattle.algorithm_lab.specs.Monitors.{first_monitor};
-ghost use Rattle.commands.specs.AlgorithmSessions.{AlgorithmSessionEnds, HasNoHeader, HasNoWorld, SessionOn};
+ghost use Rattle.commands.specs.AlgorithmSessions.{HasNoHeader, HasNoWorld, RefusesText, SessionOn};
+ghost use Rattle.commands.specs.AlgorithmTexts.{HoldsOfAlgorithm};
 ghost use Rattle.commands.specs.Conversations.{Opens};
 ghost use Rattle.commands.specs.Endings.{FailsToRead, IsEnded};
 
@@ -89,11 +90,12 @@ pub fn algorithm_session_command<F: Folder, R: Source, W: Sink>(
     r: &mut R,
     w: &mut W,
 ) -> Result<Ending, CommandFault>
-    ensures ends { AlgorithmSessionEnds (R.reading r.old) (R.reading r.new) (F.used folder.old) (F.used folder.new)
-        (W.tape w.old) (W.tape w.new) result }
+    ensures ends { RefusesText (R.reading r.old) (R.reading r.new) (F.used folder.old) (F.used folder.new) (W.tape w.old)
+        (W.tape w.new) result ⊎ HoldsOfAlgorithm (option_copied text.entry) (λ a. SessionOn a (R.reading r.old)
+        (R.reading r.new) (F.used folder.old) (F.used folder.new) (W.tape w.old) (W.tape w.new) result) }
     ensures ended { IfOk result (IsEnded false (W.tape w.old).failures (W.tape w.new).failures) }
     ensures opened { (F.used folder.new).opened ≡ (F.used folder.old).opened }
 {
-    let algorithm = algorithm_read(alloc, text.unwrap_or(&[]))?;
+    let algorithm = algorithm_read(alloc, text)?;
     hold_session(alloc, algorithm, folder, r, w)
 }

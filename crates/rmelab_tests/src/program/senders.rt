@@ -3,7 +3,7 @@
 use crate::support::invocation::all_come_to;
 use cli::arguments::args::RunArgs;
 use commands::running::{gates_of, lines_of, status_of_tallies};
-use commands::tally::tallied;
+use commands::tally::tallies_of;
 use crashlab::{CrashPlan, Seeded};
 use redomail::Message;
 use rmecore::Body;
@@ -72,7 +72,7 @@ fn a_message_twice_and_one_out_of_order(rt: HostRuntime) -> Result<(), Fail> {
         seq,
         value,
     });
-    let tallies = tallied(rt.alloc(), 2, &messages)?;
+    let tallies = tallies_of(rt.alloc(), 2, &messages)?;
     let text = lines_of(rt.alloc(), &tallies)?;
     assert!(rt; text.as_str() == BROKEN && status_of_tallies(&tallies) == 1);
     Ok(())

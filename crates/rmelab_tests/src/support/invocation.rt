@@ -10,6 +10,7 @@ use cli::arguments::words::WordsFault;
 use commands::Terminal;
 use commands::program::run_program;
 use std::alloc::{AllocError, Global};
+use std::io::BufWriter;
 use std::process::ExitCode;
 use std::sync::Wait;
 use std::test::Fail;
@@ -72,7 +73,7 @@ pub fn printed_by(
         &mut folder,
         &mut screen,
         input,
-        output,
+        BufWriter::new(alloc, output),
         errors,
     );
     drop(screen);

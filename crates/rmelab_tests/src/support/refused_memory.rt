@@ -7,7 +7,7 @@ use crate::support::row::ProgramRow;
 use commands::NoScreen;
 use commands::program::run_program;
 use std::alloc::{AllocError, Global};
-use std::io::Cursor;
+use std::io::{BufWriter, Cursor};
 use std::process::ExitCode;
 use std::sync::Wait;
 use std::test::Fail;
@@ -43,7 +43,7 @@ fn ends(
         &mut folder,
         &mut NoScreen,
         input,
-        output,
+        BufWriter::new(alloc, output),
         errors,
     )
 }

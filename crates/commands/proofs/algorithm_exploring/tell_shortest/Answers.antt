@@ -10,10 +10,10 @@ returns-in-Path-clause-ends g c =
     let left = c.in-Ok.found.left_out in
     let answers = rw c.in-Ok.is at c.shortest_algorithm_schedule-found.ensures.answers in
     let sizes = rw c.in-Ok.is at c.shortest_algorithm_schedule-found.ensures.accepted in
-    ends_path c.args.algorithm o _ _ c.in-Path.path left _ c.tell_path.result (rw c.in-Path.path-is at c.deref-in-Path.ensures.value) sizes
+    ends_path c.args.algorithm o _ _ left c.tell_path.result sizes c.in-Path.path _ (rw c.in-Path.path-is at c.deref-in-Path.ensures.value)
     (subst (λ outcome. AnswersArgs c.args.algorithm o outcome left) c.in-Path.is
     (subst (λ calls. Answers c.args.algorithm o.procs o.limit (Some o.crashes) calls o.moves o.states (Ok c.in-Ok.found)) (c.deref.ensures.value ∙ c.in_ok-calls.ensures) answers))
-    c.tell_path.ensures.told c.tell_path.ensures.status c.tell_path.ensures.failed
+    c.tell_path.ensures.prints
 
 pub returns-in-NoneWithin-clause-ends : goal.returns-in-NoneWithin-clause-ends
 returns-in-NoneWithin-clause-ends g c =
@@ -24,7 +24,7 @@ returns-in-NoneWithin-clause-ends g c =
     ends_within c.args.algorithm o _ _ left c.tell_within.result sizes
     (subst (λ outcome. AnswersArgs c.args.algorithm o outcome left) c.in-NoneWithin.is
     (subst (λ calls. Answers c.args.algorithm o.procs o.limit (Some o.crashes) calls o.moves o.states (Ok c.in-Ok.found)) (c.deref.ensures.value ∙ c.in_ok-calls.ensures) answers))
-    c.tell_within.ensures.told c.tell_within.ensures.status c.tell_within.ensures.failed
+    c.tell_within.ensures.prints
 
 pub returns-in-Ok-clause-ends : goal.returns-in-Ok-clause-ends
 returns-in-Ok-clause-ends g c =
@@ -32,7 +32,7 @@ returns-in-Ok-clause-ends g c =
     let left = c.in-Ok.found.left_out in
     let answers = rw c.in-Ok.is at c.shortest_algorithm_schedule-found.ensures.answers in
     let sizes = rw c.in-Ok.is at c.shortest_algorithm_schedule-found.ensures.accepted in
-    ends_all c.args.algorithm o _ _ c.in-Nowhere.states left c.tell_all_but.result sizes
+    ends_all c.args.algorithm o _ _ left c.tell_all_but.result sizes c.in-Nowhere.states
     (subst (λ outcome. AnswersArgs c.args.algorithm o outcome left) c.in-Nowhere.is
     (subst (λ calls. Answers c.args.algorithm o.procs o.limit (Some o.crashes) calls o.moves o.states (Ok c.in-Ok.found)) (c.deref.ensures.value ∙ c.in_ok-calls.ensures) answers))
-    c.tell_all_but.ensures.told c.tell_all_but.ensures.status c.tell_all_but.ensures.failed
+    c.tell_all_but.ensures.prints

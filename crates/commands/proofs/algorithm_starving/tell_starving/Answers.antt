@@ -11,10 +11,10 @@ returns-in-Ok-Starving-clause-ends g c =
     let o : AlgorithmExploreArgs = c.args.args.now in
     let answers = rw c.in-Ok-Starving.field-0-is at (rw c.in-Ok-Starving.is at c.starving_algorithm_schedule-found.ensures.answers) in
     let found = Ok (Starving c.in-Ok-Starving.lasso) in
-    ends_lasso c.args.algorithm o c.args.cycles _ _ c.in-Ok-Starving.lasso c.tell_lasso.result
+    ends_lasso c.args.algorithm o c.args.cycles _ _ c.tell_lasso.result c.in-Ok-Starving.lasso
     (subst (λ any. StarvingAnswers c.args.algorithm o.procs o.limit (Some o.crashes) (calls_of c.args.algorithm o) any o.states found) c.is_any.ensures
     (subst (λ calls. StarvingAnswers c.args.algorithm o.procs o.limit (Some o.crashes) calls c.is_any.result o.states found) (c.deref.ensures.value ∙ c.in_ok-calls.ensures) answers))
-    c.tell_lasso.ensures.told c.tell_lasso.ensures.status c.tell_lasso.ensures.failed
+    c.tell_lasso.ensures.prints
 
 pub returns-in-Ok-NeverStarving-clause-ends : goal.returns-in-Ok-NeverStarving-clause-ends
 returns-in-Ok-NeverStarving-clause-ends g c =
@@ -22,7 +22,7 @@ returns-in-Ok-NeverStarving-clause-ends g c =
     let answers = rw c.in-Ok-NeverStarving.field-0-is at (rw c.in-Ok-NeverStarving.is at c.starving_algorithm_schedule-found.ensures.answers) in
     let sizes = rw c.in-Ok-NeverStarving.is at c.starving_algorithm_schedule-found.ensures.accepted in
     let found = Ok (NeverStarving c.in-Ok-NeverStarving.states) in
-    ends_never c.args.algorithm o c.args.cycles _ _ c.in-Ok-NeverStarving.states c.tell_never_starving.result sizes
+    ends_never c.args.algorithm o c.args.cycles _ _ c.tell_never_starving.result c.in-Ok-NeverStarving.states sizes
     (subst (λ any. StarvingAnswers c.args.algorithm o.procs o.limit (Some o.crashes) (calls_of c.args.algorithm o) any o.states found) c.is_any.ensures
     (subst (λ calls. StarvingAnswers c.args.algorithm o.procs o.limit (Some o.crashes) calls c.is_any.result o.states found) (c.deref.ensures.value ∙ c.in_ok-calls.ensures) answers))
-    c.tell_never_starving.ensures.told c.tell_never_starving.ensures.status c.tell_never_starving.ensures.failed
+    c.tell_never_starving.ensures.prints

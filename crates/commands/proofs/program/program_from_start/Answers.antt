@@ -1,11 +1,11 @@
-use Rattle.std.proofs.Common.{subst, inl}
+use Rattle.std.proofs.Common.{subst}
 use Rattle.schedule.specs.Tapes.{Reading}
 use Rattle.commands.specs.Programs.{IsProgram}
 use Rattle.commands.proofs.program.program_from_start.Goals as goal
 
 pub returns : goal.returns
 returns g c is =
-    inl (record {
+    record {
       new = g.R.Source.reading c.program.new.input;
       blank = g.W.Sink.tape c.args.out.now;
       written = g.W.Sink.tape c.program.new.out;
@@ -16,4 +16,4 @@ returns g c is =
           (λ (old : Reading). IsProgram c.args.words (g.F.Folder.used c.args.folder.now) (g.F.Folder.used c.program.new.folder) old (g.R.Source.reading c.program.new.input)
           (g.W.Sink.tape c.args.out.now) (g.W.Sink.tape c.program.new.out) (g.E.Sink.tape c.args.err.now) (g.E.Sink.tape c.program.new.err) c.program.result)
           is c.program.ensures;
-    })
+    }

@@ -1,15 +1,15 @@
-use Rattle.std.proofs.Common.{inr, refl}
+use Rattle.std.proofs.Common.{refl}
 use Rattle.commands.proofs.program.status_over.Goals as goal
 
-pub returns-in-Ok : goal.returns-in-Ok
-returns-in-Ok g c = c.program_from_start.ensures c.new-input.ensures.reading
+pub returns-in-Ok-clause-runs : goal.returns-in-Ok-clause-runs
+returns-in-Ok-clause-runs g c = λ is. c.program_from_start.ensures c.new-input.ensures.reading
 
-pub returns-in-Err : goal.returns-in-Err
-returns-in-Err g c =
-    inr (record {
+pub returns-in-Err-clause-unbuffered : goal.returns-in-Err-clause-unbuffered
+returns-in-Err-clause-unbuffered g c = λ is.
+    record {
       same = refl;
       status_is = c.told.ensures.status;
       said = _;
       says = _;
       told = c.told.ensures.line;
-    })
+    }

@@ -5,7 +5,6 @@ pub returns-in_err-write_lines-clause-told : goal.returns-in_err-write_lines-cla
 returns-in_err-write_lines-clause-told g c =
     let p = err_from_is_err_and c.from_residual.result c.from_residual.ensures.1 in
     record {
-      tallies = c.args.tallies.now.entries;
       status = c.status_of_tallies-status.result;
       few = c.status_of_tallies-status.ensures.either;
       fine = c.status_of_tallies-status.ensures.fine;

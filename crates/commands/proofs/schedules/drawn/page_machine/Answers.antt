@@ -4,7 +4,7 @@ use Rattle.diagram.specs.declared.phase.LifelinePhase.{LifelinePhase}
 use Rattle.rmeworld.specs.declared.image.Image.{Image}
 use Rattle.schedule.specs.declared.texts.head.Head.{Head}
 use Rattle.schedule.specs.Schedules.{head_of}
-use Rattle.commands.specs.Tellings.{IsWritten}
+use Rattle.commands.specs.Tellings.{IsDrawingWritten}
 use Rattle.commands.proofs.schedules.drawn.page_machine.Goals as goal
 
 pub returns-clause-draws : goal.returns-clause-draws
@@ -31,6 +31,6 @@ returns-clause-draws g c start keeps =
       left = λ judged. c.in_ok-after.ensures.image ∙ ap (λ s. b.image_of s) (run.left judged);
       written =
           subst
-          (λ (t : List ℕ). IsWritten (g.W.Sink.tape c.args.w.now)
+          (λ (t : List ℕ). IsDrawingWritten (g.W.Sink.tape c.args.w.now)
           (g.W.Sink.tape c.write_paged.new.w) t drawing.end c.write_paged.result) text c.write_paged.ensures.written;
     })

@@ -1,3 +1,4 @@
+use Rattle.std.proofs.Common.{option_copied}
 use Rattle.std.proofs.lemmas.Result.{err_from_is_err_and}
 use Rattle.commands.proofs.AlgorithmSessions.{no_session, session_held}
 use Rattle.commands.proofs.sessions.algorithm.algorithm_session_command.Goals as goal
@@ -11,7 +12,7 @@ returns-in_err-algorithm-clause-ends g c =
 
 pub returns-clause-ends : goal.returns-clause-ends
 returns-clause-ends g c =
-    session_held (g.R.Source.reading c.args.r.now) (g.R.Source.reading c.hold_session.new.r)
+    session_held (option_copied c.args.text) (g.R.Source.reading c.args.r.now) (g.R.Source.reading c.hold_session.new.r)
     (g.F.Folder.used c.args.folder.now) (g.F.Folder.used c.hold_session.new.folder)
     (g.W.Sink.tape c.args.w.now) (g.W.Sink.tape c.hold_session.new.w) c.hold_session.result c.in_ok-algorithm.algorithm
-    c.in_ok-algorithm.ensures.ends c.in_ok-algorithm.ensures.leads c.hold_session.ensures.ends
+    c.in_ok-algorithm.ensures.spells c.in_ok-algorithm.ensures.ends c.in_ok-algorithm.ensures.leads c.hold_session.ensures.ends

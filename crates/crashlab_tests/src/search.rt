@@ -13,4 +13,6 @@ mod starving;
 #[cfg(test)]
 mod starving_worlds;
 #[cfg(test)]
+mod streams;
+#[cfg(test)]
 mod stuck;

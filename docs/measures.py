@@ -219,7 +219,7 @@ MEASURES = [
     Measure("files", "files of src and specs named by a gerund", 92, gerunds),
     Measure("behind", "uses of an identifier with `behind`", 336, lambda: uses_in_names("behind")),
     Measure("told", "uses of an identifier with `told`", 4393, lambda: uses_in_names("told")),
-    Measure("lines", "lines of src, specs and proofs", 156_431, lines),
+    Measure("lines", "lines of src, specs and proofs", 156_437, lines),
 ]
 MOST_PAIRS_ALIKE = 331
 

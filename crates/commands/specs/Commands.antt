@@ -1,5 +1,5 @@
 -- How a command ends: what its exit status, or its fault, says of what was read, written and is to be saved.
-use Rattle.std.specs.Prelude.{◌≡◌, ◌≢◌, ◌⊎◌, ◌↔◌, ℕ, ◌-◌, ◌*◌, ◌^◌, ◌<◌, ◌≤◌, min, Bool, true, false, List, All, length, Option, Some, None, Result, Ok, Err, IsErrAnd}
+use Rattle.std.specs.Prelude.{◌≡◌, ◌≢◌, ◌⊎◌, ◌↔◌, ℕ, ◌-◌, ◌*◌, ◌^◌, ◌<◌, ◌≤◌, min, Bool, true, false, List, All, length, Option, Some, None, Result, Ok, Err, IfErr, IsErrAnd}
 use Rattle.crashlab.specs.declared.variant.Variant.{Variant}
 use Rattle.crashlab.specs.declared.variant.Variant.TheVariants.{Right}
 use Rattle.crashlab.specs.Hunted.{hunted}
@@ -27,7 +27,7 @@ use Rattle.cli.specs.declared.arguments.args.RunArgs.{RunArgs}
 use Rattle.cli.specs.Sizes.{HuntFits, RunFits}
 use Rattle.commands.specs.declared.schedules.ending.Ending.{Ending}
 use Rattle.commands.specs.declared.schedules.fault.CommandFault.{CommandFault}
-use Rattle.commands.specs.declared.schedules.fault.CommandFault.TheVariants.{BadSize, Member, OutOfMemory}
+use Rattle.commands.specs.declared.schedules.fault.CommandFault.TheVariants.{BadSize, Member, OutOfMemory, Write}
 use Rattle.commands.specs.Conversations.{SessionEnds}
 use Rattle.commands.specs.AlgorithmDraws.{AlgorithmDrawEnds}
 use Rattle.commands.specs.AlgorithmExplores.{AlgorithmExploreEnds}
@@ -119,11 +119,16 @@ abbrev pub RunEnds : RunArgs → Tape → Tape → Result Ending CommandFault �
 RunEnds args before now end =
     Prints 0 (tallies_text (tallies_sent args.procs args.messages)) before now end ⊎ IsErrAnd end (λ fault. HasNoTallies args fault × Silent before now)
 
--- how `explain` ends: the meaning of an entry is written under its name, or the names of all entries
+-- the fault of a write
+abbrev pub IsWriteFault : CommandFault → Type 0
+IsWriteFault fault = fault ≡ Write
+
+-- how `explain` ends: the meaning of an entry is written under its name, or the names of all entries; only a failed write keeps it
+-- from that
 abbrev pub ExplainEnds : Option DictionaryEntry → Tape → Tape → Result Ending CommandFault → Type 0
 ExplainEnds (Some dictionary_entry) before now end =
-    (meaning : Meaning) × (meaning.name.now ≡ name_of dictionary_entry) × Prints 0 (meaning_text meaning) before now end
-ExplainEnds None before now end = Prints 0 (list_of ENTRIES) before now end
+    (meaning : Meaning) × (meaning.name.now ≡ name_of dictionary_entry) × Prints 0 (meaning_text meaning) before now end × IfErr end IsWriteFault
+ExplainEnds None before now end = Prints 0 (list_of ENTRIES) before now end × IfErr end IsWriteFault
 
 -- how the session of a command ends, by the text of its image; by what was read of the input, kept and written
 abbrev pub SessionEndsOf : Command → Option (List ℕ) → Reading → Reading → Used → Used → Tape → Tape → Result Ending CommandFault → Type 0

@@ -1,6 +1,6 @@
 //! The commands, over a reader and two writers.
 
-ghost use Rattle.std.specs.Prelude.{◌≡◌, ℕ, List, IfOk, is_some, option_copied, true, false};
+ghost use Rattle.std.specs.Prelude.{◌≡◌, ℕ, List, IfErr, IfOk, is_some, option_copied, true, false};
 ghost use Rattle.schedule.specs.Tapes.{Tape};
 ghost use Rattle.cli.specs.Told.{IsWritten};
 ghost use Rattle.crashlab.specs.Hunts.{IsFound};
@@ -159,6 +159,7 @@ fn ending_after(written: Result<(), Failed>) -> Result<Ending, CommandFault>
     ensures prints { (before now : Tape) (text : List ℕ) → IsWritten before now text written → Prints 0 text before now result }
     ensures ended { (before now : Tape) (text : List ℕ) → IsWritten before now text written
         → IfOk result (IsEnded false before.failures now.failures) }
+    ensures failed { IfErr result (λ fault. fault ≡ CommandFault.Write) }
 {
     match written {
         Ok(()) => Ok(Ending {

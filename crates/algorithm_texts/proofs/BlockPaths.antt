@@ -126,7 +126,7 @@ record Held (first : Drafted) (lines : List Spoken) (d : Drafted) : Type 0 where
   runs : entered frames first ≡ Some start
   makes : compiled current start ≡ Some d
 
-still_open : (b : Block) (start d : Drafted) → compiled b start ≡ Some d → d.opened ≡ start.opened
+pub still_open : (b : Block) (start d : Drafted) → compiled b start ≡ Some d → d.opened ≡ start.opened
 still_open b start d e = if_of (λ x. x.opened ≡ start.opened) (compiled b start) d (compiled_keeps b start) e
 
 -- a line alone

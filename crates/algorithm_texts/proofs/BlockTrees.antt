@@ -17,11 +17,11 @@ use Rattle.algorithm_texts.specs.Blocks.{Block, Empty, Line, Enclosed, Divided, 
 
 -- ---- steps that may fail
 
-if_bind : {A B : Type 0} (P : A → Type 0) (Q : B → Type 0) (o : Option A) (f : A → Option B) → IfSome o P → ((x : A) → P x → IfSome (f x) Q) → IfSome (o >>= f) Q
+pub if_bind : {A B : Type 0} (P : A → Type 0) (Q : B → Type 0) (o : Option A) (f : A → Option B) → IfSome o P → ((x : A) → P x → IfSome (f x) Q) → IfSome (o >>= f) Q
 if_bind P Q None f h k = tt
 if_bind P Q (Some x) f h k = k x h
 
-if_cond : {B : Type 0} (Q : B → Type 0) (b : Bool) (x y : Option B) → IfSome x Q → IfSome y Q → IfSome (cond b x y) Q
+pub if_cond : {B : Type 0} (Q : B → Type 0) (b : Bool) (x y : Option B) → IfSome x Q → IfSome y Q → IfSome (cond b x y) Q
 if_cond Q true x y h k = h
 if_cond Q false x y h k = k
 
@@ -38,11 +38,16 @@ if_of P o x h e = subst (λ r. IfSome r P) e h
 
 -- ---- what a line leaves open
 
+-- what holds after each first step holds after both
+pub on_all : {A B : Type 0} (Q : B → Type 0) (o : Option A) (f : A → Option B) → ((x : A) → IfSome (f x) Q) → IfSome (o >>= f) Q
+on_all Q None f h = tt
+on_all Q (Some x) f h = h x
+
 -- the blocks that are open are these
 abbrev pub Keeps : List Opened → Option Drafted → Type 0
 Keeps os o = IfSome o (λ d. d.opened ≡ os)
 
-any_some : {A : Type 0} (o : Option A) → IfSome o (λ x. Unit {0})
+pub any_some : {A : Type 0} (o : Option A) → IfSome o (λ x. Unit {0})
 any_some None = tt
 any_some (Some x) = tt
 
@@ -52,17 +57,17 @@ keeps os o f h = if_bind (λ x. Unit {0}) (λ d. d.opened ≡ os) o f (any_some 
 choice_keeps : (os : List Opened) (b : Bool) (x y : Option Drafted) → Keeps os x → Keeps os y → Keeps os (cond b x y)
 choice_keeps os b x y h k = if_cond (λ d. d.opened ≡ os) b x y h k
 
--- the blocks that are open, and the calls
-abbrev pub round : Drafted → List Opened × List CallRead
-round d = (d.opened, d.calls)
+-- the blocks that are open, the calls, and the shared words that are declared
+abbrev pub round : Drafted → List Opened × List CallRead × List (List ℕ)
+round d = (d.opened, d.calls, d.declared)
 
-abbrev pub Stays : List Opened × List CallRead → Option Drafted → Type 0
+abbrev pub Stays : List Opened × List CallRead × List (List ℕ) → Option Drafted → Type 0
 Stays r o = IfSome o (λ d. round d ≡ r)
 
-pub stays : {A : Type 0} (r : List Opened × List CallRead) (o : Option A) (f : A → Option Drafted) → ((x : A) → Stays r (f x)) → Stays r (o >>= f)
+pub stays : {A : Type 0} (r : List Opened × List CallRead × List (List ℕ)) (o : Option A) (f : A → Option Drafted) → ((x : A) → Stays r (f x)) → Stays r (o >>= f)
 stays r o f h = if_bind (λ x. Unit {0}) (λ d. round d ≡ r) o f (any_some o) (λ x u. h x)
 
-pub choice_stays : (r : List Opened × List CallRead) (b : Bool) (x y : Option Drafted) → Stays r x → Stays r y → Stays r (cond b x y)
+pub choice_stays : (r : List Opened × List CallRead × List (List ℕ)) (b : Bool) (x y : Option Drafted) → Stays r x → Stays r y → Stays r (cond b x y)
 choice_stays r b x y h k = if_cond (λ d. round d ≡ r) b x y h k
 
 deed_stays : (d : Drafted) (tokens : List Token) → Stays (round d) (read_deed d tokens)
@@ -264,66 +269,75 @@ compiled_keeps (Divided s body o other e rest) d =
 
 -- ---- the calls
 
--- the calls are these
-abbrev pub Calls : List CallRead → Option Drafted → Type 0
-Calls cs o = IfSome o (λ d. d.calls ≡ cs)
+-- the calls, and the shared words that are declared
+abbrev pub rest_of : Drafted → List CallRead × List (List ℕ)
+rest_of d = (d.calls, d.declared)
 
-choice_calls : (cs : List CallRead) (b : Bool) (x y : Option Drafted) → Calls cs x → Calls cs y → Calls cs (cond b x y)
-choice_calls cs b x y h k = if_cond (λ d. d.calls ≡ cs) b x y h k
+-- they are these
+abbrev pub Calls : List CallRead × List (List ℕ) → Option Drafted → Type 0
+Calls cs o = IfSome o (λ d. rest_of d ≡ cs)
 
-opening_calls : (place : ℕ) (kind : Kind) (d : Drafted) → Calls d.calls (opening place kind d)
-opening_calls place kind d = choice_calls d.calls (ltb (length d.opened) 16) (Some (with_block place kind d)) None refl tt
+choice_calls : (cs : List CallRead × List (List ℕ)) (b : Bool) (x y : Option Drafted) → Calls cs x → Calls cs y → Calls cs (cond b x y)
+choice_calls cs b x y h k = if_cond (λ d. rest_of d ≡ cs) b x y h k
 
-if_calls : (d : Drafted) (tokens : List Token) → Calls d.calls (read_if_block d tokens)
+opening_calls : (place : ℕ) (kind : Kind) (d : Drafted) → Calls (rest_of d) (opening place kind d)
+opening_calls place kind d = choice_calls (rest_of d) (ltb (length d.opened) 16) (Some (with_block place kind d)) None refl tt
+
+if_calls : (d : Drafted) (tokens : List Token) → Calls (rest_of d) (read_if_block d tokens)
 if_calls d tokens =
-    if_bind (λ test. round test.0 ≡ round d) (λ now. now.calls ≡ d.calls) (read_test d tokens) _ (test_stays d tokens)
-    (λ test e. choice_calls d.calls (is_over test.1) (opening (length d.lines) If test.0) None
-    (subst (λ cs. Calls cs (opening (length d.lines) If test.0)) (ap (λ r. r.1) e) (opening_calls (length d.lines) If test.0)) tt)
+    if_bind (λ test. round test.0 ≡ round d) (λ now. rest_of now ≡ rest_of d) (read_test d tokens) _ (test_stays d tokens)
+    (λ test e. choice_calls (rest_of d) (is_over test.1) (opening (length d.lines) If test.0) None
+    (subst (λ cs. Calls cs (opening (length d.lines) If test.0)) (ap (λ (r : List Opened × List CallRead × List (List ℕ)). (r.1, r.2)) e) (opening_calls (length d.lines) If test.0)) tt)
 
-loop_calls : (k : ℕ) (members : Members) (d : Drafted) → Calls d.calls (loop_opened k members d)
+loop_calls : (k : ℕ) (members : Members) (d : Drafted) → Calls (rest_of d) (loop_opened k members d)
 loop_calls k members d =
-    choice_calls d.calls (is_looping k d.opened) None
+    choice_calls (rest_of d) (is_looping k d.opened) None
     (cond (ltb (loops d.opened) 2) (opening (length d.lines) (For k members) (with_form (Beginning k members 0) d)) None) tt
-    (choice_calls d.calls (ltb (loops d.opened) 2) (opening (length d.lines) (For k members) (with_form (Beginning k members 0) d)) None
+    (choice_calls (rest_of d) (ltb (loops d.opened) 2) (opening (length d.lines) (For k members) (with_form (Beginning k members 0) d)) None
     (opening_calls (length d.lines) (For k members) (with_form (Beginning k members 0) d)) tt)
 
-for_calls : (d : Drafted) (tokens : List Token) → Calls d.calls (read_for d tokens)
+for_calls : (d : Drafted) (tokens : List Token) → Calls (rest_of d) (read_for d tokens)
 for_calls d tokens =
-    if_bind (λ name. Unit {0}) (λ now. now.calls ≡ d.calls) (name_set (scope_in d) d.names (slice_get tokens 0)) _ (any_some (name_set (scope_in d) d.names (slice_get tokens 0)))
-    (λ name u. if_bind (λ members. Unit {0}) (λ now. now.calls ≡ d.calls) (members_said (drop 1 tokens)) _ (any_some (members_said (drop 1 tokens)))
-    (λ members v. choice_calls d.calls (ltb (index_in name.0) d.lasting) None (loop_opened (index_in name.0) members (with_names name.1 d)) tt
+    if_bind (λ name. Unit {0}) (λ now. rest_of now ≡ rest_of d) (name_set (scope_in d) d.names (slice_get tokens 0)) _ (any_some (name_set (scope_in d) d.names (slice_get tokens 0)))
+    (λ name u. if_bind (λ members. Unit {0}) (λ now. rest_of now ≡ rest_of d) (members_said (drop 1 tokens)) _ (any_some (members_said (drop 1 tokens)))
+    (λ members v. choice_calls (rest_of d) (ltb (index_in name.0) d.lasting) None (loop_opened (index_in name.0) members (with_names name.1 d)) tt
     (loop_calls (index_in name.0) members (with_names name.1 d))))
 
-pub begins_calls : (d : Drafted) (tokens : List Token) → Calls d.calls (begins_block d tokens)
+pub begins_calls : (d : Drafted) (tokens : List Token) → Calls (rest_of d) (begins_block d tokens)
 begins_calls d tokens =
-    choice_calls d.calls (is_the_word (slice_get tokens 0) (codes "if")) (read_if_block d (drop 1 tokens)) (cond (is_the_word (slice_get tokens 0) (codes "for")) (read_for d (drop 1 tokens)) None)
+    choice_calls (rest_of d) (is_the_word (slice_get tokens 0) (codes "if")) (read_if_block d (drop 1 tokens)) (cond (is_the_word (slice_get tokens 0) (codes "for")) (read_for d (drop 1 tokens)) None)
     (if_calls d (drop 1 tokens))
-    (choice_calls d.calls (is_the_word (slice_get tokens 0) (codes "for")) (read_for d (drop 1 tokens)) None (for_calls d (drop 1 tokens)) tt)
+    (choice_calls (rest_of d) (is_the_word (slice_get tokens 0) (codes "for")) (read_for d (drop 1 tokens)) None (for_calls d (drop 1 tokens)) tt)
 
-else_calls : (o : Opened) (kind : Kind) (os : List Opened) (d : Drafted) → Calls d.calls (else_after o kind os d)
+else_calls : (o : Opened) (kind : Kind) (os : List Opened) (d : Drafted) → Calls (rest_of d) (else_after o kind os d)
 else_calls o If os d = opening_calls (length d.lines) Else (landing o.place (closing o os (with_form (Going 0) d)))
 else_calls o Else os d = tt
 else_calls o (For name members) os d = tt
 
-else_in_calls : (os : List Opened) (d : Drafted) → Calls d.calls (else_in os d)
+else_in_calls : (os : List Opened) (d : Drafted) → Calls (rest_of d) (else_in os d)
 else_in_calls [] d = tt
 else_in_calls (o ∷ os) d = else_calls o o.kind os d
 
-pub divides_calls : (os : List Opened) (d : Drafted) (tokens : List Token) → Calls d.calls (divides os d tokens)
+pub divides_calls : (os : List Opened) (d : Drafted) (tokens : List Token) → Calls (rest_of d) (divides os d tokens)
 divides_calls os d tokens =
-    choice_calls d.calls (is_the_word (slice_get tokens 0) (codes "else")) (cond (is_over (drop 1 tokens)) (else_in os d) None) None
-    (choice_calls d.calls (is_over (drop 1 tokens)) (else_in os d) None (else_in_calls os d) tt) tt
+    choice_calls (rest_of d) (is_the_word (slice_get tokens 0) (codes "else")) (cond (is_over (drop 1 tokens)) (else_in os d) None) None
+    (choice_calls (rest_of d) (is_over (drop 1 tokens)) (else_in os d) None (else_in_calls os d) tt) tt
 
-round_calls : (first : ℕ) (kind : Kind) (d : Drafted) → (going_round first kind d).calls ≡ d.calls
+round_calls : (first : ℕ) (kind : Kind) (d : Drafted) → rest_of (going_round first kind d) ≡ rest_of d
 round_calls first If d = refl
 round_calls first Else d = refl
 round_calls first (For name members) d = refl
 
-end_in_calls : (os : List Opened) (d : Drafted) → Calls d.calls (end_in os d)
+end_in_calls : (os : List Opened) (d : Drafted) → Calls (rest_of d) (end_in os d)
 end_in_calls [] d = tt
 end_in_calls (o ∷ os) d = round_calls o.first o.kind d
 
-pub ends_calls : (os : List Opened) (d : Drafted) (tokens : List Token) → Calls d.calls (ends os d tokens)
+pub ends_calls : (os : List Opened) (d : Drafted) (tokens : List Token) → Calls (rest_of d) (ends os d tokens)
 ends_calls os d tokens =
-    choice_calls d.calls (is_the_word (slice_get tokens 0) (codes "end")) (cond (is_over (drop 1 tokens)) (end_in os d) None) None
-    (choice_calls d.calls (is_over (drop 1 tokens)) (end_in os d) None (end_in_calls os d) tt) tt
+    choice_calls (rest_of d) (is_the_word (slice_get tokens 0) (codes "end")) (cond (is_over (drop 1 tokens)) (end_in os d) None) None
+    (choice_calls (rest_of d) (is_over (drop 1 tokens)) (end_in os d) None (end_in_calls os d) tt) tt
+
+-- a line alone leaves them
+pub alone_rest : (d : Drafted) (tokens : List Token) (answer : List ℕ) (now : Drafted) → read_alone d tokens answer ≡ Some now → rest_of now ≡ rest_of d
+alone_rest d tokens answer now e =
+    ap (λ (r : List Opened × List CallRead × List (List ℕ)). (r.1, r.2)) (if_of (λ x. round x ≡ round d) (read_alone d tokens answer) now (alone_stays d tokens answer) e)

@@ -14,5 +14,8 @@ pub mod Fits
 pub mod BlockTrees
 pub mod BlockPaths
 pub mod ProgramTrees
+pub mod TreeLines
+pub mod LinesOnce
+pub mod OneDraft
 pub mod TextBeginnings
 pub mod Sayings

@@ -1,8 +1,8 @@
 -- A text that is read is that of a program.
-use Rattle.std.proofs.Common.{◌≡◌, ◌⊎◌, ℕ, Bool, true, false, cond, eqb, ltb, List, [], ◌∷◌, ◌++◌, length, Option, Some, None, slice_get, drop, codes, refl, sym, ap, ◌∙◌, subst, inl, inr, append_assoc, arith}
+use Rattle.std.proofs.Common.{◌≡◌, ◌⊎◌, ℕ, Bool, true, false, cond, eqb, ltb, List, [], ◌∷◌, ◌++◌, length, Option, Some, None, IfSome, slice_get, drop, codes, refl, sym, ap, ◌∙◌, subst, inl, inr, append_assoc, arith}
 use Rattle.std.proofs.lemmas.Bool.Decides.{nat_tests}
 use Rattle.std.proofs.lemmas.List.{append-nil}
-use Rattle.std.proofs.lemmas.Option.{slice_get_past, slice_get_read}
+use Rattle.std.proofs.lemmas.Option.{slice_get_past, slice_get_read, same_Some}
 use Rattle.algorithm_texts.specs.declared.lines.CallRead.{CallRead}
 use Rattle.algorithm_texts.specs.declared.lines.Draft.{Draft}
 use Rattle.algorithm_texts.specs.declared.lines.Opened.{Opened}
@@ -11,55 +11,61 @@ use Rattle.algorithm_texts.specs.Parts.{◌>>=◌}
 use Rattle.algorithm_texts.specs.Fronts.{is_the_word, is_over, named_by}
 use Rattle.algorithm_texts.specs.Drafts.{Drafted, drafted}
 use Rattle.algorithm_texts.specs.LineReading.{read_statement, scope_in}
-use Rattle.algorithm_texts.specs.TextReading.{Spoken, with_number, begun, call_words, has_call, with_call, end_call_in, end_call, read_call, undeclared, read_each, read_bound, with_lasting, read_shared, read_private, read_declaration, read_line, read_lines, read_head, read_promises, read_text}
+use Rattle.algorithm_texts.specs.TextReading.{Spoken, with_number, begun, call_words, has_call, with_call, end_call_in, end_call, ended_calls, read_call, undeclared, read_each, read_bound, with_lasting, read_shared, read_private, read_declaration, read_line, read_lines, read_head, read_promises, read_text}
 use Rattle.algorithm_texts.specs.TextLines.{TextSays}
-use Rattle.algorithm_texts.specs.Blocks.{Block, lines_in, read_alone, begins_block, divides, ends, compiled, read_statements}
+use Rattle.algorithm_texts.specs.Blocks.{Block, lines_in, begins_block, divides, ends, compiled, read_statements}
 use Rattle.algorithm_texts.specs.Finishing.{finished, EndUnreached, with_lines}
 use Rattle.algorithm_texts.specs.Lawful.{IsLawfulDraft}
 use Rattle.algorithm_texts.specs.Programs.{CallLines, Program, calls_lines, program_lines, declarations_made, call_begun, calls_made, meant, Spells}
-use Rattle.algorithm_texts.proofs.BlockTrees.{some_of, if_of, round, Stays, stays, choice_stays, alone_stays, begins_calls, divides_calls, ends_calls}
+use Rattle.algorithm_texts.proofs.BlockTrees.{some_of, if_of, if_cond, on_all, rest_of, alone_rest, begins_calls, divides_calls, ends_calls}
 use Rattle.algorithm_texts.proofs.BlockPaths.{kinds, make_blocks}
 
 -- ---- what lines leave
 
--- a statement leaves the calls
-statement_calls : (d : Drafted) (tokens : List Token) (answer : List ℕ) (now : Drafted) → read_statement d tokens answer ≡ Some now → now.calls ≡ d.calls
-statement_calls d tokens answer now e = elim (kinds d tokens answer now e) [
-  | inl k ↦ ap (λ r. r.1) (if_of (λ x. round x ≡ round d) (read_alone d tokens answer) now (alone_stays d tokens answer) k)
+-- a statement leaves the calls, and the shared words that are declared
+statement_rest : (d : Drafted) (tokens : List Token) (answer : List ℕ) (now : Drafted) → read_statement d tokens answer ≡ Some now → rest_of now ≡ rest_of d
+statement_rest d tokens answer now e = elim (kinds d tokens answer now e) [
+  | inl k ↦ alone_rest d tokens answer now k
   | inr rest ↦ elim rest [
-    | inl k ↦ if_of (λ x. x.calls ≡ d.calls) (begins_block d tokens) now (begins_calls d tokens) k
+    | inl k ↦ if_of (λ x. rest_of x ≡ rest_of d) (begins_block d tokens) now (begins_calls d tokens) k
     | inr more ↦ elim more [
-      | inl k ↦ if_of (λ x. x.calls ≡ d.calls) (divides d.opened d tokens) now (divides_calls d.opened d tokens) k
-      | inr k ↦ if_of (λ x. x.calls ≡ d.calls) (ends d.opened d tokens) now (ends_calls d.opened d tokens) k
+      | inl k ↦ if_of (λ x. rest_of x ≡ rest_of d) (divides d.opened d tokens) now (divides_calls d.opened d tokens) k
+      | inr k ↦ if_of (λ x. rest_of x ≡ rest_of d) (ends d.opened d tokens) now (ends_calls d.opened d tokens) k
     ]
   ]
 ]
 
-shared_stays : (d : Drafted) (tokens : List Token) → Stays (round d) (read_shared d tokens)
+-- the blocks that are open, and the calls
+abbrev pub around : Drafted → List Opened × List CallRead
+around d = (d.opened, d.calls)
+
+shared_stays : (d : Drafted) (tokens : List Token) → IfSome (read_shared d tokens) (λ now. around now ≡ around d)
 shared_stays d tokens =
-    stays (round d) (undeclared d.declared d.names (slice_get tokens 0)) _
-    (λ name. stays (round d) (cond (ltb (length d.declared) 64) (read_each (drop 1 tokens)) None) _
-    (λ each. stays (round d) (read_bound (scope_in d) d.names each.1) _ (λ bound. refl)))
+    on_all (λ now. around now ≡ around d) (undeclared d.declared d.names (slice_get tokens 0)) _
+    (λ name. on_all (λ now. around now ≡ around d) (cond (ltb (length d.declared) 64) (read_each (drop 1 tokens)) None) _
+    (λ each. on_all (λ now. around now ≡ around d) (read_bound (scope_in d) d.names each.1) _ (λ bound. refl)))
 
-private_stays : (d : Drafted) (tokens : List Token) → Stays (round d) (read_private d tokens)
+private_stays : (d : Drafted) (tokens : List Token) → IfSome (read_private d tokens) (λ now. around now ≡ around d)
 private_stays d tokens =
-    stays (round d) (undeclared d.declared d.names (slice_get tokens 0)) _
-    (λ name. choice_stays (round d) (ltb (length d.names) 32) (cond (is_over (drop 1 tokens)) (Some (with_lasting name d)) None) None
-    (choice_stays (round d) (is_over (drop 1 tokens)) (Some (with_lasting name d)) None refl tt) tt)
+    on_all (λ now. around now ≡ around d) (undeclared d.declared d.names (slice_get tokens 0)) _
+    (λ name. if_cond (λ now. around now ≡ around d) (ltb (length d.names) 32) (cond (is_over (drop 1 tokens)) (Some (with_lasting name d)) None) None
+    (if_cond (λ now. around now ≡ around d) (is_over (drop 1 tokens)) (Some (with_lasting name d)) None refl tt) tt)
 
-declaration_stays : (d : Drafted) (tokens : List Token) → Stays (round d) (read_declaration d tokens)
+pub declaration_stays : (d : Drafted) (tokens : List Token) → IfSome (read_declaration d tokens) (λ now. around now ≡ around d)
 declaration_stays d tokens =
-    choice_stays (round d) (is_the_word (slice_get tokens 0) (codes "shared")) (read_shared d (drop 1 tokens))
+    if_cond (λ now. around now ≡ around d) (is_the_word (slice_get tokens 0) (codes "shared")) (read_shared d (drop 1 tokens))
     (cond (is_the_word (slice_get tokens 0) (codes "private")) (read_private d (drop 1 tokens)) None) (shared_stays d (drop 1 tokens))
-    (choice_stays (round d) (is_the_word (slice_get tokens 0) (codes "private")) (read_private d (drop 1 tokens)) None (private_stays d (drop 1 tokens)) tt)
+    (if_cond (λ now. around now ≡ around d) (is_the_word (slice_get tokens 0) (codes "private")) (read_private d (drop 1 tokens)) None (private_stays d (drop 1 tokens)) tt)
 
 -- ---- where a call ends
 
-ended_at : (os : List Opened) (last : ℕ) (d now : Drafted) → end_call_in os last d ≡ Some now → (os ≡ []) × (now.opened ≡ d.opened)
-ended_at [] last d now e = (refl, sym (cc))
+ended_at : (os : List Opened) (last : ℕ) (d now : Drafted) → end_call_in os last d ≡ Some now → (os ≡ []) × (now.opened ≡ d.opened) × (now.declared ≡ d.declared)
+ended_at [] last d now e =
+    let same = same_Some (record d { calls = ended_calls (length d.lines) last d.calls }) now e in
+    (refl, ap (λ n. n.opened) (sym same), ap (λ n. n.declared) (sym same))
 ended_at (o ∷ os) last d now e = absurd (cc)
 
-ended_open : (last : ℕ) (d now : Drafted) → end_call last d ≡ Some now → (d.opened ≡ []) × (now.opened ≡ d.opened)
+ended_open : (last : ℕ) (d now : Drafted) → end_call last d ≡ Some now → (d.opened ≡ []) × (now.opened ≡ d.opened) × (now.declared ≡ d.declared)
 ended_open last d now e = ended_at d.opened last d now e
 
 made_at : (b c : Bool) (x now : Drafted) → cond b (cond c None (Some x)) None ≡ Some now → x ≡ now
@@ -68,14 +74,15 @@ made_at true false x now e = cc
 made_at false c x now e = absurd (cc)
 
 -- the line that begins a call
-record Begins (d now : Drafted) : Type 0 where
-  closed : d.opened ≡ []
-  first : now.opened ≡ []
-  call : CallRead
-  calls : List CallRead
-  one : now.calls ≡ call ∷ calls
+pub record Begins (d now : Drafted) : Type 0 where
+  pub closed : d.opened ≡ []
+  pub first : now.opened ≡ []
+  pub call : CallRead
+  pub calls : List CallRead
+  pub one : now.calls ≡ call ∷ calls
+  pub declared : now.declared ≡ d.declared
 
-begins_call : (d : Drafted) (tokens : List Token) (last : ℕ) (now : Drafted) → read_call d tokens last ≡ Some now → Begins d now
+pub begins_call : (d : Drafted) (tokens : List Token) (last : ℕ) (now : Drafted) → read_call d tokens last ≡ Some now → Begins d now
 begins_call d tokens last now e =
     let x = some_of (end_call last d) (λ ended. named_by call_words (slice_get tokens 0) >>= (λ call. cond (is_over (drop 1 tokens)) (cond (has_call call ended.calls) None (Some (with_call call ended))) None)) now e in
     let y = some_of (named_by call_words (slice_get tokens 0)) (λ call. cond (is_over (drop 1 tokens)) (cond (has_call call x.0.calls) None (Some (with_call call x.0))) None) now x.2 in
@@ -87,6 +94,7 @@ begins_call d tokens last now e =
       call = _;
       calls = x.0.calls;
       one = ap (λ n. n.calls) (sym same);
+      declared = ap (λ n. n.declared) (sym same) ∙ h.2;
     }
 
 -- ---- lines of a text
@@ -107,7 +115,7 @@ line_kind d s now e =
     line_at (is_the_word (slice_get s.tokens 0) (codes "call")) (eqb (length d.calls) 0) (read_call (with_number s.number d) (drop 1 s.tokens) d.number)
     (read_declaration (with_number s.number d) s.tokens) (read_statement (with_number s.number d) s.tokens s.answer) now e
 
-some_calls : (cs xs : List CallRead) (x : CallRead) → cs ≡ x ∷ xs → eqb (length cs) 0 ≡ true → ⊥
+pub some_calls : (cs xs : List CallRead) (x : CallRead) → cs ≡ x ∷ xs → eqb (length cs) 0 ≡ true → ⊥
 some_calls [] xs x e h = cc
 some_calls (c ∷ cs) xs x e h = grind (arith, nat_tests)
 
@@ -167,7 +175,7 @@ calls_from (s ∷ ss) start d now lines x xs empty h c e =
         | inl k ↦ absurd (some_calls d.calls xs x c k.0)
         | inr k ↦
             let r = calls_from ss start y.0 now (lines ++ s ∷ []) x xs empty (statements_more lines start d y.0 s h k.1)
-            (statement_calls (with_number s.number d) s.tokens s.answer y.0 k.1 ∙ c) y.2 in
+            (ap (λ r. r.0) (statement_rest (with_number s.number d) s.tokens s.answer y.0 k.1) ∙ c) y.2 in
             subst (λ ls. CallsFrom start ls now) (append_assoc lines (s ∷ []) ss) r
       ]
     ]
@@ -197,7 +205,7 @@ program_from (s ∷ ss) d now none empty e =
           }
       | inr rest ↦ elim rest [
         | inl k ↦
-            let same = if_of (λ x. round x ≡ round d) (read_declaration (with_number s.number d) s.tokens) y.0 (declaration_stays (with_number s.number d) s.tokens) k.1 in
+            let same = if_of (λ x. around x ≡ around d) (read_declaration (with_number s.number d) s.tokens) y.0 (declaration_stays (with_number s.number d) s.tokens) k.1 in
             let r = program_from ss y.0 now (ap (λ p. p.1) same ∙ none) (ap (λ p. p.0) same ∙ empty) y.2 in
             record {
               declarations = s ∷ r.declarations;

@@ -9,7 +9,7 @@ use Rattle.algorithm_texts.specs.declared.flow.Runs.{Runs}
 use Rattle.algorithm_texts.specs.declared.lines.CallRead.{CallRead}
 use Rattle.algorithm_texts.specs.Drafts.{Drafted, PlacedLine}
 use Rattle.algorithm_texts.specs.Finishing.{is_in, is_marked, is_within}
-use Rattle.algorithm_texts.specs.Marking.{is_free, free_way, past_marked, marks_from, IsClosed, Keeps}
+use Rattle.algorithm_texts.specs.Marks.{is_free, free_way, past_marked, marks_from, IsClosed, Keeps}
 use Rattle.algorithm_texts.specs.Runs.{ways_after, ways_from, leads_to, Comes, ComesOver, past_where, past_from, IsReached, HasNot}
 
 -- ---- tests

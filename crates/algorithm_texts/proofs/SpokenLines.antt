@@ -9,7 +9,7 @@ use Rattle.algorithm_texts.specs.TextLines.{ended_lines, and_line, SayLines, Tex
 use Rattle.algorithm_texts.specs.TextReading.{Spoken}
 use Rattle.algorithm_texts.specs.Tokens.{LineSays}
 
-and_at : (b : Bool) (s : Spoken) (rest more : List Spoken) → cond b rest (s ∷ rest) ++ more ≡ cond b (rest ++ more) (s ∷ (rest ++ more))
+pub and_at : (b : Bool) (s : Spoken) (rest more : List Spoken) → cond b rest (s ∷ rest) ++ more ≡ cond b (rest ++ more) (s ∷ (rest ++ more))
 and_at true s rest more = refl
 and_at false s rest more = refl
 

@@ -9,10 +9,12 @@ use Rattle.algorithms.specs.declared.line.Line.{Line}
 use Rattle.algorithm_texts.specs.declared.lines.CallRead.{CallRead}
 use Rattle.algorithm_texts.specs.declared.lines.Jump.{Jump}
 use Rattle.algorithm_texts.specs.declared.lines.Label.{Label}
+use Rattle.algorithm_texts.specs.declared.usage.Usage.{Usage}
+use Rattle.algorithm_texts.specs.declared.usage.Usage.TheVariants.{Reads, Sets, Begins, Ends}
 use Rattle.algorithm_texts.specs.Parts.{◌>>=◌}
 use Rattle.algorithm_texts.specs.Drafts.{LineForm, Accessing, Assigning, Noting, Going, Branching, Beginning, Repeating, Ending, PlacedLine, form_of, line_of, led, leading}
 use Rattle.algorithm_texts.specs.Finishing.{is_within, target_of, jump_led, jumps_led}
-use Rattle.algorithm_texts.specs.Usage.{reads, sets, begins_loop, ends_loop, fits, uses, passes_where, passes_at}
+use Rattle.algorithm_texts.specs.Usage.{reads, sets, begins_loop, ends_loop, has_usage, fits, uses, passes_where, passes_at}
 use Rattle.algorithm_texts.specs.Runs.{is_own, is_seen}
 use Rattle.algorithm_texts.proofs.BlockTrees.{some_of}
 use Rattle.algorithm_texts.proofs.RunMarks.{true_or_false}
@@ -89,7 +91,7 @@ jumps_uses labels blocks call (jump ∷ jumps) lines out e = elim (true_or_false
 
 -- ---- tests that do not ask where a line leads
 
-pub reads_same : (name : ℕ) (form : LineForm) → reads name (led 0 form) ≡ reads name form
+reads_same : (name : ℕ) (form : LineForm) → reads name (led 0 form) ≡ reads name form
 reads_same name (Accessing a) = refl
 reads_same name (Assigning k value) = refl
 reads_same name (Noting deed) = refl
@@ -99,7 +101,7 @@ reads_same name (Beginning k members after) = refl
 reads_same name (Repeating k members body) = refl
 reads_same name (Ending answer) = refl
 
-pub sets_same : (name : ℕ) (form : LineForm) → sets name (led 0 form) ≡ sets name form
+sets_same : (name : ℕ) (form : LineForm) → sets name (led 0 form) ≡ sets name form
 sets_same name (Accessing a) = refl
 sets_same name (Assigning k value) = refl
 sets_same name (Noting deed) = refl
@@ -109,7 +111,7 @@ sets_same name (Beginning k members after) = refl
 sets_same name (Repeating k members body) = refl
 sets_same name (Ending answer) = refl
 
-pub begins_same : (name : ℕ) (form : LineForm) → begins_loop name (led 0 form) ≡ begins_loop name form
+begins_same : (name : ℕ) (form : LineForm) → begins_loop name (led 0 form) ≡ begins_loop name form
 begins_same name (Accessing a) = refl
 begins_same name (Assigning k value) = refl
 begins_same name (Noting deed) = refl
@@ -119,7 +121,7 @@ begins_same name (Beginning k members after) = refl
 begins_same name (Repeating k members body) = refl
 begins_same name (Ending answer) = refl
 
-pub ends_same : (name : ℕ) (form : LineForm) → ends_loop name (led 0 form) ≡ ends_loop name form
+ends_same : (name : ℕ) (form : LineForm) → ends_loop name (led 0 form) ≡ ends_loop name form
 ends_same name (Accessing a) = refl
 ends_same name (Assigning k value) = refl
 ends_same name (Noting deed) = refl
@@ -128,6 +130,12 @@ ends_same name (Branching condition otherwise) = refl
 ends_same name (Beginning k members after) = refl
 ends_same name (Repeating k members body) = refl
 ends_same name (Ending answer) = refl
+
+pub usage_same : (usage : Usage) (name : ℕ) (form : LineForm) → has_usage usage name (led 0 form) ≡ has_usage usage name form
+usage_same Reads name form = reads_same name form
+usage_same Sets name form = sets_same name form
+usage_same Begins name form = begins_same name form
+usage_same Ends name form = ends_same name form
 
 pub seen_same : (form : LineForm) → is_seen (led 0 form) ≡ is_seen form
 seen_same (Accessing a) = refl

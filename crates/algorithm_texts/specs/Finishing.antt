@@ -114,14 +114,9 @@ finished d = do
 
 -- the way past an `else`, or back to the head of a loop
 abbrev pub is_way : LineForm → Bool
-is_way (Accessing a) = false
-is_way (Assigning name value) = false
-is_way (Noting deed) = false
 is_way (Going place) = true
-is_way (Branching condition otherwise) = false
-is_way (Beginning name members after) = false
 is_way (Repeating name members body) = true
-is_way (Ending answer) = false
+is_way other = false
 
 -- whether a place is among those that are marked
 abbrev pub is_marked : Option Bool → Bool

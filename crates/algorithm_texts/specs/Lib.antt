@@ -12,7 +12,7 @@ pub mod TextLines
 pub mod Finishing
 pub mod Usage
 pub mod Runs
-pub mod Marking
+pub mod Marks
 pub mod Lawful
 pub mod Blocks
 pub mod Programs

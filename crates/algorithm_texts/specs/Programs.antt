@@ -59,3 +59,7 @@ pub record Spells (text : List ℕ) (a : Algorithm) : Type 0 where
   pub means : (meant program >>= finished) ≡ Some draft
   pub lawful : IsLawfulDraft draft
   pub is_of : IsOf draft a
+
+-- the algorithms that a text spells are all what one draft says
+abbrev pub SpellOne : Type 0
+SpellOne = (text : List ℕ) (a b : Algorithm) → Spells text a → Spells text b → (d : Drafted) × IsOf d a × IsOf d b

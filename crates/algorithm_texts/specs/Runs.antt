@@ -14,13 +14,7 @@ use Rattle.algorithm_texts.specs.Usage.{reads, sets, begins_loop, ends_loop, use
 
 abbrev pub is_access : LineForm → Bool
 is_access (Accessing a) = true
-is_access (Assigning name value) = false
-is_access (Noting deed) = false
-is_access (Going place) = false
-is_access (Branching condition otherwise) = false
-is_access (Beginning name members after) = false
-is_access (Repeating name members body) = false
-is_access (Ending answer) = false
+is_access other = false
 
 -- whether a run of this kind goes on after a line: all do, those without an access, or those that do not set a name
 abbrev pub goes_on : Runs → LineForm → Bool
@@ -61,14 +55,9 @@ IsReachedSilently d call at = Comes d call Silent (λ first. first ≡ call.«fr
 
 -- the place after a loop with this name, at the lines from which a run can go on there
 abbrev pub way_past : ℕ → ℕ → ℕ → LineForm → Option ℕ
-way_past name least next (Accessing a) = None
-way_past name least next (Assigning k value) = None
-way_past name least next (Noting deed) = None
-way_past name least next (Going place) = None
-way_past name least next (Branching condition otherwise) = None
 way_past name least next (Beginning k members after) = if nat_eq k name then (if has_round least members then None else Some after) else None
 way_past name least next (Repeating k members body) = if nat_eq k name then Some next else None
-way_past name least next (Ending answer) = None
+way_past name least next other = None
 
 abbrev pub past_where : ℕ → ℕ → ℕ → Option PlacedLine → Option ℕ
 past_where name least next None = None
@@ -95,25 +84,15 @@ has_jump jumps at = list_any (λ jump. nat_eq jump.place at) jumps
 
 -- a line that the text has: not the way past an `else`, and not the way back to the head of a loop
 abbrev pub is_own : List Jump → ℕ → LineForm → Bool
-is_own jumps at (Accessing a) = true
-is_own jumps at (Assigning name value) = true
-is_own jumps at (Noting deed) = true
 is_own jumps at (Going place) = has_jump jumps at
-is_own jumps at (Branching condition otherwise) = true
-is_own jumps at (Beginning name members after) = true
 is_own jumps at (Repeating name members body) = false
-is_own jumps at (Ending answer) = true
+is_own jumps at other = true
 
 -- an end or a deed, which others see
 abbrev pub is_seen : LineForm → Bool
-is_seen (Accessing a) = false
-is_seen (Assigning name value) = false
 is_seen (Noting deed) = true
-is_seen (Going place) = false
-is_seen (Branching condition otherwise) = false
-is_seen (Beginning name members after) = false
-is_seen (Repeating name members body) = false
 is_seen (Ending answer) = true
+is_seen other = false
 
 -- runs of a call come to each line of the text, come to none after the last, have set each name before they read it, and make an
 -- access before the first end or deed

@@ -5,6 +5,8 @@ use Rattle.algorithms.specs.declared.algorithm.Call.TheVariants.{Lock}
 use Rattle.algorithms.specs.declared.algorithm.Promises.{Promises}
 use Rattle.algorithms.specs.declared.line.Deed.{Deed}
 use Rattle.algorithms.specs.declared.line.Deed.TheVariants.{Begin, Ready, Enter, Reenter, Leave, Quit}
+use Rattle.algorithm_texts.specs.declared.usage.Usage.{Usage}
+use Rattle.algorithm_texts.specs.declared.usage.Usage.TheVariants.{Reads, Sets, Begins, Ends}
 use Rattle.algorithm_texts.specs.Parts.{Term, Number, Private, Me, Procs, Limit, Joined, Formula, Compare, ComparePairs, Both, Either, Negated}
 use Rattle.algorithm_texts.specs.Drafts.{Act, Loading, Storing, Awaiting, LineForm, Accessing, Assigning, Noting, Going, Branching, Beginning, Repeating, Ending, PlacedLine, led}
 use Rattle.algorithm_texts.specs.TextReading.{call_number}
@@ -12,12 +14,9 @@ use Rattle.algorithm_texts.specs.TextReading.{call_number}
 -- ---- names
 
 abbrev pub term_reads : ℕ → Term → Bool
-term_reads name (Number n) = false
 term_reads name (Private k) = nat_eq k name
-term_reads name Me = false
-term_reads name Procs = false
-term_reads name Limit = false
 term_reads name (Joined o a b) = term_reads name a || term_reads name b
+term_reads name other = false
 
 abbrev pub formula_reads : ℕ → Formula → Bool
 formula_reads name (Compare c a b) = term_reads name a || term_reads name b
@@ -40,12 +39,9 @@ act_reads name (Awaiting k until) = not (nat_eq k name) && formula_reads name un
 abbrev pub reads : ℕ → LineForm → Bool
 reads name (Accessing a) = index_reads name a.word.index || act_reads name a.act
 reads name (Assigning k value) = term_reads name value
-reads name (Noting deed) = false
-reads name (Going place) = false
 reads name (Branching condition otherwise) = formula_reads name condition
-reads name (Beginning k members after) = false
 reads name (Repeating k members body) = nat_eq k name
-reads name (Ending answer) = false
+reads name other = false
 
 abbrev pub act_sets : ℕ → Act → Bool
 act_sets name (Loading k) = nat_eq k name
@@ -56,34 +52,24 @@ act_sets name (Awaiting k until) = nat_eq k name
 abbrev pub sets : ℕ → LineForm → Bool
 sets name (Accessing a) = act_sets name a.act
 sets name (Assigning k value) = nat_eq k name
-sets name (Noting deed) = false
-sets name (Going place) = false
-sets name (Branching condition otherwise) = false
-sets name (Beginning k members after) = false
-sets name (Repeating k members body) = false
-sets name (Ending answer) = false
+sets name other = false
 
 -- a loop with this name begins here
 abbrev pub begins_loop : ℕ → LineForm → Bool
-begins_loop name (Accessing a) = false
-begins_loop name (Assigning k value) = false
-begins_loop name (Noting deed) = false
-begins_loop name (Going place) = false
-begins_loop name (Branching condition otherwise) = false
 begins_loop name (Beginning k members after) = nat_eq k name
-begins_loop name (Repeating k members body) = false
-begins_loop name (Ending answer) = false
+begins_loop name other = false
 
 -- a loop with this name ends here
 abbrev pub ends_loop : ℕ → LineForm → Bool
-ends_loop name (Accessing a) = false
-ends_loop name (Assigning k value) = false
-ends_loop name (Noting deed) = false
-ends_loop name (Going place) = false
-ends_loop name (Branching condition otherwise) = false
-ends_loop name (Beginning k members after) = false
 ends_loop name (Repeating k members body) = nat_eq k name
-ends_loop name (Ending answer) = false
+ends_loop name other = false
+
+-- a line uses this name so
+abbrev pub has_usage : Usage → ℕ → LineForm → Bool
+has_usage Reads = reads
+has_usage Sets = sets
+has_usage Begins = begins_loop
+has_usage Ends = ends_loop
 
 -- ---- deeds and withdraws
 
@@ -98,24 +84,13 @@ deed_fits promises Reenter = promises.order && promises.reentry
 
 abbrev pub may_withdraw : LineForm → Bool
 may_withdraw (Accessing a) = a.may_withdraw
-may_withdraw (Assigning k value) = false
-may_withdraw (Noting deed) = false
-may_withdraw (Going place) = false
-may_withdraw (Branching condition otherwise) = false
-may_withdraw (Beginning k members after) = false
-may_withdraw (Repeating k members body) = false
-may_withdraw (Ending answer) = false
+may_withdraw other = false
 
 -- the deed of a line fits the promises, and it may withdraw in the lock alone
 abbrev pub fits : Promises → Call → LineForm → Bool
 fits promises call (Accessing a) = not a.may_withdraw || nat_eq (call_number call) (call_number Lock)
-fits promises call (Assigning k value) = true
 fits promises call (Noting deed) = deed_fits promises deed
-fits promises call (Going place) = true
-fits promises call (Branching condition otherwise) = true
-fits promises call (Beginning k members after) = true
-fits promises call (Repeating k members body) = true
-fits promises call (Ending answer) = true
+fits promises call other = true
 
 -- ---- lines
 

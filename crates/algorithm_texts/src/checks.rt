@@ -4,10 +4,10 @@ ghost use Rattle.std.specs.Prelude.{◌≡◌, ◌&&◌, ◌≤◌, ◌<◌, ◌
 ghost use Rattle.algorithm_texts.specs.Drafts.{drafted, form_of, led, line_of};
 ghost use Rattle.algorithm_texts.specs.Finishing.{is_label_in, label_named, is_within, reachable, target_of, jump_led, jumps_led, call_led};
 ghost use Rattle.algorithm_texts.specs.Lawful.{LabelsDiffer, HasLine, HasLoop, IsInLoop, IsKnown, LineFits, LinesFit};
-ghost use Rattle.algorithm_texts.specs.Usage.{reads, sets, begins_loop, ends_loop, deed_fits, fits, uses, passes_at};
+ghost use Rattle.algorithm_texts.specs.Usage.{reads, sets, has_usage, deed_fits, fits, uses, passes_at};
 
 use crate::lines::{CallRead, Draft, Jump, Label, lead_line};
-use crate::usage::{begins_loop, ends_loop, sets};
+use crate::usage::{Usage, has_usage};
 use algorithms::algorithm::{Call, Promises};
 use algorithms::fault::{AlgorithmFault, LineFault};
 use algorithms::line::{Deed, Form, Line, LocalLine};
@@ -174,54 +174,22 @@ impl Draft {
         Ok(())
     }
 
-    /// Whether the line at a place sets a name.
-    fn sets_at(&self, name: usize, place: usize) -> bool
-        ensures { result ≡ passes_at (sets name) (uses (drafted self.now).lines) place }
+    /// Whether the line at a place uses a name so.
+    pub fn uses_at(&self, usage: Usage, name: usize, place: usize) -> bool
+        ensures { result ≡ passes_at (has_usage usage name) (uses (drafted self.now).lines) place }
     {
         match self.algorithm.lines.get(place) {
-            Some(line) => sets(&line.form, name),
+            Some(line) => has_usage(&line.form, usage, name),
             None => false,
         }
     }
 
-    /// Whether the line at a place begins a loop with this name.
-    fn begins_at(&self, name: usize, place: usize) -> bool
-        ensures { result ≡ passes_at (begins_loop name) (uses (drafted self.now).lines) place }
-    {
-        match self.algorithm.lines.get(place) {
-            Some(line) => begins_loop(&line.form, name),
-            None => false,
-        }
-    }
-
-    /// Whether the line at a place ends a loop with this name.
-    fn ends_at(&self, name: usize, place: usize) -> bool
-        ensures { result ≡ passes_at (ends_loop name) (uses (drafted self.now).lines) place }
-    {
-        match self.algorithm.lines.get(place) {
-            Some(line) => ends_loop(&line.form, name),
-            None => false,
-        }
-    }
-
-    /// Whether the call has a loop with this name.
-    fn has_loop(&self, call: CallRead, name: usize) -> bool
-        ensures { IsTrue result ↔ HasLoop (uses (drafted self.now).lines) call name }
+    /// Whether a line of the call uses a name so.
+    fn has_line(&self, call: CallRead, usage: Usage, name: usize) -> bool
+        ensures { IsTrue result ↔ HasLine (uses (drafted self.now).lines) call (has_usage usage name) }
     {
         for place in call.from..call.to {
-            if self.begins_at(name, place) {
-                return true;
-            }
-        }
-        false
-    }
-
-    /// Whether a line of the call sets this name.
-    fn has_setting(&self, call: CallRead, name: usize) -> bool
-        ensures { IsTrue result ↔ HasLine (uses (drafted self.now).lines) call (sets name) }
-    {
-        for place in call.from..call.to {
-            if self.sets_at(name, place) {
+            if self.uses_at(usage, name, place) {
                 return true;
             }
         }
@@ -235,9 +203,10 @@ impl Draft {
     {
         let mut inside = false;
         for at in call.from..place {
-            inside = (inside || self.begins_at(name, at)) && !self.ends_at(name, at);
+            inside = (inside || self.uses_at(Usage::Begins, name, at))
+                && !self.uses_at(Usage::Ends, name, at);
         }
-        inside || self.begins_at(name, place)
+        inside || self.uses_at(Usage::Begins, name, place)
     }
 
     /// Whether a place knows this name.
@@ -245,10 +214,10 @@ impl Draft {
         requires { call.«from» ≤ place }
         ensures { IsTrue result → IsKnown (uses (drafted self.now).lines) call (drafted self.now).lasting name place }
     {
-        if self.has_loop(call, name) {
+        if self.has_line(call, Usage::Begins, name) {
             self.is_in_loop(call, name, place)
         } else {
-            name < self.algorithm.lasting || self.has_setting(call, name)
+            name < self.algorithm.lasting || self.has_line(call, Usage::Sets, name)
         }
     }
 
@@ -260,7 +229,7 @@ impl Draft {
             → IsKnown (uses (drafted self.now).lines) call (drafted self.now).lasting name place) }
     {
         for name in 0..self.algorithm.names.len() {
-            if self.reads_at(name, place) && !self.is_known(call, name, place) {
+            if self.uses_at(Usage::Reads, name, place) && !self.is_known(call, name, place) {
                 return Err(LineFault::UnknownName);
             }
         }
@@ -274,7 +243,7 @@ impl Draft {
             → HasLoop (uses (drafted self.now).lines) call name → ⊥) }
     {
         for name in 0..self.algorithm.names.len() {
-            if self.sets_at(name, place) && self.has_loop(call, name) {
+            if self.uses_at(Usage::Sets, name, place) && self.has_line(call, Usage::Begins, name) {
                 return Err(LineFault::NotAssignable);
             }
         }

@@ -4,7 +4,7 @@ ghost use Rattle.std.specs.Prelude.{◌≡◌, ◌+◌, ◌-◌, ◌^◌, ◌<�
 ghost use Rattle.std.specs.List.{find};
 ghost use Rattle.algorithm_texts.specs.Drafts.{drafted, form_of, line_of, local_form};
 ghost use Rattle.algorithm_texts.specs.Finishing.{is_in, is_within, ways};
-ghost use Rattle.algorithm_texts.specs.Marking.{listed, is_free, free_of, free_way, past_marked, marks_from, IsClosed, Keeps};
+ghost use Rattle.algorithm_texts.specs.Marks.{listed, is_free, free_of, free_way, past_marked, marks_from, IsClosed, Keeps};
 ghost use Rattle.algorithm_texts.specs.Runs.{is_access, goes_on, ways_from, Comes, IsReached, IsReachedWithout, way_past, past_from};
 
 use crate::checks::is_within;

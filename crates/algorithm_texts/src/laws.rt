@@ -3,6 +3,7 @@
 ghost use Rattle.algorithm_texts.specs.Blocks.{MakeBlocks};
 ghost use Rattle.algorithm_texts.specs.Sayings.{AreReadAsSaid};
 ghost use Rattle.algorithm_texts.specs.Operands.{SayOnePart};
+ghost use Rattle.algorithm_texts.specs.Programs.{SpellOne};
 ghost use Rattle.algorithm_texts.specs.Tokens.{SaysOnce};
 
 /// A line has one list of tokens and one answer, or one first fault.
@@ -23,4 +24,9 @@ pub fn lines_make_blocks()
 /// Where a line is read, its values and conditions are those that the grammar says.
 pub fn tokens_are_read_as_said()
     ensures { AreReadAsSaid }
+{}
+
+/// The algorithms that a text spells are all what one draft says.
+pub fn a_text_spells_one_draft()
+    ensures { SpellOne }
 {}

@@ -4,14 +4,14 @@ ghost use Rattle.std.specs.Prelude.{◌≡◌, ◌≤◌, ◌<◌, ◌+◌, ℕ,
 ghost use Rattle.std.specs.List.{list_any};
 ghost use Rattle.algorithm_texts.specs.Drafts.{drafted, form_of, line_of, local_form};
 ghost use Rattle.algorithm_texts.specs.Finishing.{is_in, is_within};
-ghost use Rattle.algorithm_texts.specs.Marking.{is_free};
+ghost use Rattle.algorithm_texts.specs.Marks.{is_free};
 ghost use Rattle.algorithm_texts.specs.Runs.{IsReached, IsReachedSilently, IsReachedWithout, has_jump, is_own, is_seen, RunsFit};
 ghost use Rattle.algorithm_texts.specs.Usage.{reads, uses, passes_at};
 
 use crate::flow::{Runs, is_free};
 use crate::lines::{CallRead, Draft, Jump};
 use crate::marks::is_in;
-use crate::usage::reads;
+use crate::usage::Usage;
 use algorithms::fault::{AlgorithmFault, LineFault};
 use algorithms::line::{Form, LocalLine};
 use std::alloc::{AllocError, Global};
@@ -97,16 +97,6 @@ impl Draft {
         }
     }
 
-    /// Whether the line at a place reads a name.
-    pub fn reads_at(&self, name: usize, place: usize) -> bool
-        ensures { result ≡ passes_at (reads name) (uses (drafted self.now).lines) place }
-    {
-        match self.algorithm.lines.get(place) {
-            Some(line) => reads(&line.form, name),
-            None => false,
-        }
-    }
-
     /// `NeverReached` at the first line of the text to which no run comes.
     fn check_reached(&self, call: CallRead, reached: &[bool]) -> Result<(), AlgorithmFault>
         ensures { OnOk result ((at : ℕ) → is_within (call.«from», call.to) at ≡ true
@@ -138,7 +128,7 @@ impl Draft {
             → passes_at (reads name) (uses (drafted self.now).lines) at ≡ true → is_in places.now at ≡ true → ⊥ }
     {
         for place in call.from..call.to {
-            if is_in(places, place) && self.reads_at(name, place) {
+            if is_in(places, place) && self.uses_at(Usage::Reads, name, place) {
                 return Some(place);
             }
         }

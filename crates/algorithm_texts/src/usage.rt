@@ -4,11 +4,24 @@ ghost use Rattle.std.specs.Prelude.{◌≡◌, ◌||◌};
 ghost use Rattle.std.specs.Option.{option_map};
 ghost use Rattle.algorithm_texts.specs.Parts.{term_of, formula_of};
 ghost use Rattle.algorithm_texts.specs.Drafts.{access_of, act_of, form_of, local_form};
-ghost use Rattle.algorithm_texts.specs.Usage.{term_reads, formula_reads, index_reads, act_reads, reads, act_sets, sets, begins_loop, ends_loop, may_withdraw};
+ghost use Rattle.algorithm_texts.specs.Usage.{term_reads, formula_reads, index_reads, act_reads, reads, act_sets, sets, begins_loop, ends_loop, has_usage, may_withdraw};
 
 use algorithms::condition::{Condition, Pair};
 use algorithms::expression::Expression;
 use algorithms::line::{AccessLine, Action, Form, LocalLine};
+
+/// What a line does with a private name.
+#[derive(Clone, Copy)]
+pub enum Usage {
+    /// It reads the name before it sets it.
+    Reads,
+    /// It sets the name, which is not that of its loop.
+    Sets,
+    /// A loop with the name begins.
+    Begins,
+    /// A loop with the name ends.
+    Ends,
+}
 
 /// Whether a value reads a name.
 fn value_reads(value: &Expression, name: usize) -> bool
@@ -80,7 +93,7 @@ fn local_reads(line: &LocalLine, name: usize) -> bool
 }
 
 /// Whether a line reads a name before it sets it.
-pub fn reads(form: &Form, name: usize) -> bool
+fn reads(form: &Form, name: usize) -> bool
     ensures { result ≡ reads name (form_of form.now) }
 {
     match form {
@@ -143,6 +156,18 @@ pub fn ends_loop(form: &Form, name: usize) -> bool
     match form {
         Form::Local(LocalLine::Next { name: own, .. }) => *own == name,
         _ => false,
+    }
+}
+
+/// Whether a line uses a name so.
+pub fn has_usage(form: &Form, usage: Usage, name: usize) -> bool
+    ensures { result ≡ has_usage usage name (form_of form.now) }
+{
+    match usage {
+        Usage::Reads => reads(form, name),
+        Usage::Sets => sets(form, name),
+        Usage::Begins => begins_loop(form, name),
+        Usage::Ends => ends_loop(form, name),
     }
 }
 

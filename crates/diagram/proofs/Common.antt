@@ -1,6 +1,6 @@
 -- The names that two or more proof files of this crate cite, passed on from one place. Declares nothing.
-pub use Rattle.std.proofs.Math.ListN.{replicate, length-set}
-pub use Rattle.std.proofs.lemmas.List.{append-nil, take_more, take_more_set, take_all, drop_more, length-drop, nil_from_length}
+pub use Rattle.std.proofs.Math.ListN.{replicate}
+pub use Rattle.std.proofs.lemmas.List.{append-nil, take_more, take_all, drop_more, length-drop, nil_from_length}
 pub use Rattle.std.proofs.lemmas.List.Concat.{flat_map-cons, flat_map-append}
 pub use Rattle.std.proofs.lemmas.Result.{err_from_is_err_and}
 pub use Rattle.std.specs.Prelude.{codes}
@@ -15,13 +15,13 @@ pub use Rattle.schedule.specs.declared.replays.replay_fault.ReplayFault.{ReplayF
 pub use Rattle.schedule.specs.declared.replays.verdict.Verdict.{Verdict}
 pub use Rattle.schedule.specs.RunningVerdicts.{RunningJudge, Hears, opened, running_judge}
 pub use Rattle.schedule.specs.Tapes.{WritesFront, Tape, Writes, Begins, BreaksOff}
-pub use Rattle.schedule.specs.Plays.{halted}
-pub use Rattle.schedule.specs.Runs.{Part, deeds_of, did, told_of, Told, unless, Did}
+pub use Rattle.schedule.specs.Transitions.{Took, Fell}
+pub use Rattle.schedule.specs.Runs.{Part, deeds_of, did, told_of, told_by, transitions_of}
 pub use Rattle.rmeworld.specs.Behaviours.{Behaviour}
 unfoldable pub use Rattle.schedule.specs.Runs.{steps, line_on, run_on}
 pub use Rattle.schedule.specs.Verdicts.{verdict_on}
 pub use Rattle.schedule.proofs.Heard.{hears_both, hears_none}
-pub use Rattle.schedule.proofs.Playing.{append_none, begins_further, begins_wider, breaks_further, breaks_nothing, breaks_wider, none_behind, deeds_append, deeds_told, start_part, step_part, crash_part, is_refused}
+pub use Rattle.schedule.proofs.Playing.{append_none, begins_further, begins_wider, breaks_further, breaks_nothing, breaks_wider, none_behind, deeds_append, deeds_told}
 pub use Rattle.diagram.specs.declared.act.Act.{Act}
 pub use Rattle.diagram.specs.declared.act.DiagramRow.{DiagramRow}
 pub use Rattle.diagram.specs.declared.drawing.End.{End}
@@ -31,11 +31,12 @@ pub use Rattle.diagram.specs.declared.phase.LifelinePhase.TheVariants.{Rest, Doo
 pub use Rattle.diagram.specs.declared.stop.DiagramStop.{DiagramStop}
 pub use Rattle.diagram.specs.Columns.{spaces, columns, head, heads, bars}
 pub use Rattle.diagram.specs.Drawings.{Spells, row_spelled, rows_spelled, top_in, end_in}
-pub use Rattle.diagram.specs.Events.{Event, Took, told_in, Fell, told_by}
-unfoldable pub use Rattle.diagram.specs.Events.{steps_of, events_of, events_on}
+pub use Rattle.diagram.specs.Events.{Event, told_in}
+unfoldable pub use Rattle.diagram.specs.Events.{events_of, events_on}
 pub use Rattle.diagram.specs.Followed.{Ending, Follows, IsAllFollowed, row_of, row_told, phases_with, phases_behind, rows_told, followed, Tells}
 pub use Rattle.diagram.specs.Pictures.{around, key, class_of, lifeline_tops}
 unfoldable pub use Rattle.diagram.specs.Pictures.{keys, key_name, measured, line_looks, text_looks, step_mark, lifeline}
-pub use Rattle.diagram.specs.Rows.{events_in, PlaysOn, EndsAs, IsEndOf, IsJudged, events_shown, silent_step, deed_of, stopped, Adds, Plays}
+pub use Rattle.diagram.specs.Rows.{events_in, EndsAs, IsEndOf, IsJudged, events_shown, silent_step, deed_of}
+pub use Rattle.diagram.specs.RowCollections.{CollectsRun}
 pub use Rattle.diagram.specs.DiagramLayouts.{LifelineStateState, layout_of, lifeline_state_shown, lifeline_state_with}
 pub use Rattle.diagram.specs.ShownRows.{ShownRowState}

@@ -3,8 +3,8 @@ use Rattle.std.proofs.Common.{◌≡◌, ℕ, zero, suc, List, [], ◌∷◌, �
 use Rattle.diagram.proofs.Common.{replicate, append-nil, flat_map-cons, flat_map-append, Happened, Deed, RunningJudge, Hears, deeds_of, did, told_of, hears_both, deeds_append, deeds_told, Act, DiagramRow, Event}
 use Rattle.diagram.proofs.Common.{Took, told_in, events_in, events_shown, silent_step, deed_of}
 use Rattle.diagram.specs.declared.act.Act.TheVariants.{Silent, Telling, Fell}
-use Rattle.diagram.specs.Events as events
-use Rattle.diagram.proofs.Telling.{told_cons, told_append}
+use Rattle.schedule.specs.Transitions as events
+use Rattle.diagram.proofs.RunEvents.{told_cons, told_append}
 
 silent_tells : (p : ℕ) (happened : Happened) (times : ℕ) → told_in (replicate times (Took p (silent_step happened))) ≡ []
 silent_tells p happened zero = refl

@@ -1,7 +1,9 @@
 pub mod Common
-pub mod Telling
-pub mod Shown
+pub mod RunEvents
 pub mod Heard
+pub mod Repetitions
+pub mod RowCollections
+pub mod StepWriters
 pub mod Written
 pub mod Drawn
 pub mod Joined

@@ -3,7 +3,7 @@ use Rattle.std.proofs.Common.{◌≡◌, ℕ, ◌+◌, List, [], ◌∷◌, ◌+
 use Rattle.redomail.specs.declared.layout.Layout.{Layout}
 use Rattle.rmeworld.specs.Replayed.{world_behaviour}
 use Rattle.diagram.proofs.Common.{DiagramRow, Event, LifelinePhase, Line, Refusal, events_of, events_on, followed, line_on, phases_behind, row_of, rows_told, run_on}
-use Rattle.diagram.proofs.Shown.{line_ends, line_goes_on, lines_none}
+use Rattle.diagram.proofs.RunEvents.{line_ends, line_goes_on, lines_none}
 use Rattle.diagram.proofs.Steps.{rows_both, told_both}
 use Rattle.diagram.specs.LastSteps.{LastStepsState, last_steps_after, last_steps_behind, last_steps_with}
 use Rattle.diagram.specs.DiagramLayouts.{layout_of}

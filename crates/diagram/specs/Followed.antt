@@ -15,6 +15,7 @@ use Rattle.schedule.specs.declared.replays.verdict.Verdict.{Verdict}
 use Rattle.schedule.specs.Tapes.{Tape, Writes, Begins, BreaksOff}
 use Rattle.schedule.specs.Reports.{IsEnd, told_text}
 use Rattle.schedule.specs.Runs.{Part, deeds_of, told_of}
+use Rattle.schedule.specs.Transitions.{Took, Fell}
 use Rattle.schedule.specs.Verdicts.{verdict_on}
 use Rattle.diagram.specs.declared.act.Act.{Act}
 use Rattle.diagram.specs.declared.act.Act.TheVariants as acts
@@ -25,7 +26,7 @@ use Rattle.diagram.specs.declared.drawing.End.TheVariants as ends
 use Rattle.diagram.specs.declared.phase.LifelinePhase.{LifelinePhase}
 use Rattle.diagram.specs.declared.phase.LifelinePhase.TheVariants.{Rest}
 use Rattle.diagram.specs.Drawings.{Spells}
-use Rattle.diagram.specs.Events.{Event, Took, Fell}
+use Rattle.diagram.specs.Events.{Event}
 use Rattle.diagram.specs.Phases.{phase_shown, with_phase}
 use Rattle.diagram.specs.Pictures.{around, class_of}
 use Rattle.diagram.specs.Rows.{deed_of, answer_of}

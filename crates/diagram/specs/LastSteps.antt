@@ -1,9 +1,12 @@
 -- What the steps so far have shown of each process: its phase, and its last access since its last crash.
-use Rattle.std.specs.Prelude.{ℕ, List, [], ◌∷◌, map, Option, Some, None, slice_set}
+use Rattle.std.specs.Prelude.{◌≡◌, ℕ, List, [], ◌∷◌, map, Option, Some, None, Result, Ok, Err, slice_set}
 use Rattle.std.proofs.Math.ListN.{replicate}
 use Rattle.rmecore.specs.declared.happened.Happened.{Happened}
 use Rattle.rmecore.specs.declared.refusal.Refusal.{Refusal}
 use Rattle.rmecore.specs.Refused.{number_of}
+use Rattle.schedule.specs.declared.player.play_stop.PlayStop.{PlayStop}
+use Rattle.schedule.specs.declared.player.play_stop.PlayStop.TheVariants as play_stops
+use Rattle.schedule.specs.declared.texts.fault.OutOfMemory.{OutOfMemory}
 use Rattle.diagram.specs.declared.act.Act.{Act}
 use Rattle.diagram.specs.declared.act.Act.TheVariants.{Silent, Telling, Fell}
 use Rattle.diagram.specs.declared.act.DiagramRow.{DiagramRow}
@@ -45,3 +48,10 @@ no_last_steps procs = record { phases = replicate procs Rest; lasts = replicate 
 abbrev pub number_refused : Option Refusal → Option ℕ
 number_refused None = None
 number_refused (Some refusal) = number_of refusal
+
+-- the number of the refusal of a line that is not played to its end, or out of memory
+abbrev pub IsNumberOf : {A : Type 0} → PlayStop Refusal OutOfMemory → Result (Option ℕ) A → Type 0
+IsNumberOf (play_stops.Refused refusal) (Ok number) = number ≡ number_of refusal
+IsNumberOf (play_stops.Refused refusal) (Err x) = ⊥
+IsNumberOf stop (Ok number) = ⊥
+IsNumberOf stop (Err x) = Unit {0}

@@ -14,6 +14,10 @@ pub mod AlgorithmDrawings
 pub mod StepLines
 pub mod Pages
 pub mod LastSteps
+pub mod Repetitions
+pub mod RowCollections
+pub mod RowEffects
+pub mod StepWriters
 pub mod Standings
 pub mod Requests
 pub mod Helps

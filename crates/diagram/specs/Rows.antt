@@ -11,6 +11,8 @@ use Rattle.rmeworld.specs.declared.answer.Answer.{Answer}
 use Rattle.judge.specs.Table.{State}
 use Rattle.schedule.specs.declared.replays.verdict.Verdict.{Verdict}
 use Rattle.schedule.specs.Runs.{Part, deeds_of}
+use Rattle.schedule.specs.Transitions.{Took}
+use Rattle.schedule.specs.Transitions as events
 use Rattle.schedule.specs.Verdicts.{verdict_on}
 use Rattle.diagram.specs.declared.act.Act.{Act}
 use Rattle.diagram.specs.declared.act.Act.TheVariants.{Silent, Telling, Fell}
@@ -19,8 +21,7 @@ use Rattle.diagram.specs.declared.stop.DiagramStop.{DiagramStop}
 use Rattle.diagram.specs.declared.stop.DiagramStop.TheVariants as stops
 use Rattle.diagram.specs.declared.drawing.End.{End}
 use Rattle.diagram.specs.declared.drawing.End.TheVariants as ends
-use Rattle.diagram.specs.Events.{Event, Took}
-use Rattle.diagram.specs.Events as events
+use Rattle.diagram.specs.Events.{Event}
 
 -- a silent step: it has no deed and ends no call
 abbrev pub silent_step : Happened → Stepped
@@ -48,25 +49,6 @@ answer_of (Silent happened times) = None
 answer_of (Telling step) = step.answer
 answer_of (Fell deed) = None
 
--- the refusal OutOfMemory has no number
-abbrev pub stopped : Option ℕ → DiagramStop
-stopped None = stops.OutOfMemory
-stopped (Some number) = stops.Refused number
-
--- how a part of a run was played: all of it, or up to a refusal. Out of memory comes only where there is something to show
-abbrev pub Plays : {S A : Type 0} → List DiagramRow → List DiagramRow → List Event → Option Refusal → S → S → Result A DiagramStop → Type 0
-Plays before now events refused left s (Ok x) = (events_in now ≡ events_in before ++ events) × (refused ≡ None) × (s ≡ left)
-Plays before now events refused left s (Err (stops.Refused number)) =
-    (events_in now ≡ events_in before ++ events) × ((refusal : Refusal) × (refused ≡ Some refusal) × (number_of refusal ≡ Some number))
-Plays before now events refused left s (Err stops.OutOfMemory) = events ≡ [] → ⊥
-
--- how the lines of a run were played, and the machine after all of them
-abbrev pub PlaysOn : {S A : Type 0} → List DiagramRow → List DiagramRow → List Event → Part S (ℕ × Refusal) → S → Result A (ℕ × DiagramStop) → Type 0
-PlaysOn before now events run s (Ok x) = (events_in now ≡ events_in before ++ events) × (run.refused ≡ None) × (s ≡ run.left)
-PlaysOn before now events run s (Err (line, stops.Refused number)) =
-    (events_in now ≡ events_in before ++ events) × ((refusal : Refusal) × (run.refused ≡ Some (line, refusal)) × (number_of refusal ≡ Some number))
-PlaysOn before now events run s (Err (line, stops.OutOfMemory)) = events ≡ [] → ⊥
-
 -- how a run ends: with the verdict on its deeds, and at the refused line, if there is one
 abbrev pub EndsAs : {S : Type 0} → State → Part S (ℕ × Refusal) → End → Type 0
 EndsAs start run (ends.Judged verdict) = (run.refused ≡ None) × (verdict ≡ verdict_on start (deeds_of run.told))
@@ -77,16 +59,6 @@ EndsAs start run (ends.Refused line number verdict) =
 abbrev pub IsJudged : End → Type 0
 IsJudged (ends.Judged verdict) = Unit {0}
 IsJudged end = ⊥
-
--- one more row is there, or out of memory
-abbrev pub Adds : {A : Type 0} → List DiagramRow → List DiagramRow → DiagramRow → Result A DiagramStop → Type 0
-Adds before now row (Ok x) = now ≡ before ++ row ∷ []
-Adds before now row (Err stop) = stop ≡ stops.OutOfMemory
-
--- one more event is shown, or out of memory
-abbrev pub AddsEvent : {A : Type 0} → List DiagramRow → List DiagramRow → Event → Result A DiagramStop → Type 0
-AddsEvent before now event (Ok x) = events_in now ≡ events_in before ++ event ∷ []
-AddsEvent before now event (Err stop) = stop ≡ stops.OutOfMemory
 
 -- how a run ends, by how its lines were played
 abbrev pub IsEndOf : {A : Type 0} → Result A (ℕ × DiagramStop) → Verdict → End → Type 0

@@ -1,177 +1,121 @@
 //! Plays the lines of a schedule on a machine, and collects the rows of a drawing.
 
-ghost use Rattle.std.specs.Prelude.{◌≡◌, ◌≤◌, ◌<◌, ◌-◌, ◌^◌, ◌∷◌, ◌++◌, [], None, IfSome, IsTrue, IsFalse};
-ghost use Rattle.diagram.specs.declared.act.Act.TheVariants.{Silent as ActSilent};
-ghost use Rattle.diagram.specs.Events.{Took, Fell, steps_of, events_of, events_on};
-ghost use Rattle.diagram.specs.Rows.{events_in, silent_step, Adds, Plays, PlaysOn, AddsEvent};
-ghost use Rattle.schedule.specs.declared.lines.line.Line.TheVariants.{Crash as LineCrash};
-ghost use Rattle.schedule.specs.Runs.{steps, line_on, run_on};
+ghost use Rattle.std.specs.Prelude.{◌≡◌, OnOk};
+ghost use Rattle.diagram.specs.Events.{events_on};
+ghost use Rattle.diagram.specs.Repetitions.{counted_last as counted_last_in, counted_by, last_of, with_row};
+ghost use Rattle.diagram.specs.RowCollections.{stop_of, CollectsRun};
+ghost use Rattle.schedule.specs.Runs.{run_on};
 
 use crate::act::{Act, DiagramRow};
 use crate::blocked::is_blocked_again;
+use crate::following::row_of;
 use crate::stop::DiagramStop;
-use rmecore::Happened;
+use redomail::Deed;
+use rmecore::Refusal;
 use rmeworld::{Machine, Stepped};
-use schedule::Line;
+use schedule::player::listener::Listener;
+use schedule::player::play_lines::play_lines;
+use schedule::player::play_stop::PlayStop;
+use schedule::{Line, OutOfMemory};
 
-/// How often the row was taken, if it is this blocked step and can be counted once more.
-fn times_of(row: &DiagramRow, p: u64, happened: &Happened) -> Option<u64>
-    ensures { IfSome result (λ n. (row.now ≡ record { p = p; act = ActSilent happened.now n }) × (n < 2 ^ 64 - 1)) }
+/// A row, counted once more, if p repeats its blocked step and it can be counted.
+fn counted_row(row: &DiagramRow, p: u64, act: &Act) -> Option<DiagramRow>
+    ensures { result ≡ counted_by p row.now row.now.act act.now }
 {
     let Act::Silent(before, times) = row.act else {
         return None;
     };
-    if row.p == p && is_blocked_again(&before, happened) && times < u64::MAX {
-        return Some(times);
-    }
-    None
-}
-
-/// Counts the step in the last row, if it repeats that row. Answers whether it does.
-fn again(rows: &mut Vec<DiagramRow>, p: u64, happened: &Happened) -> bool
-    ensures counted { IsTrue result → events_in rows.new.items ≡ events_in rows.old.items ++ Took p (silent_step happened.now) ∷ [] }
-    ensures other { IsFalse result → rows.new.items ≡ rows.old.items }
-{
-    let count = rows.len();
-    if count == 0 {
-        return false;
-    }
-    let Some(times) = times_of(&rows[count - 1], p, happened) else {
-        return false;
+    let Act::Silent(happened, _) = *act else {
+        return None;
     };
-    rows[count - 1] = DiagramRow {
-        p,
-        act: Act::Silent(*happened, times + 1),
-    };
-    true
-}
-
-/// Adds a row.
-fn note_act(rows: &mut Vec<DiagramRow>, p: u64, act: Act) -> Result<(), DiagramStop>
-    ensures { Adds rows.old.items rows.new.items (record { p = p; act = act }) result }
-{
-    // The borrow checker has to see what an act holds.
-    let act = match act {
-        Act::Silent(happened, times) => Act::Silent(happened, times),
-        Act::Telling(stepped) => Act::Telling(stepped),
-        Act::Fell(deed) => Act::Fell(deed),
-    };
-    rows.push(DiagramRow { p, act })?;
-    Ok(())
-}
-
-/// Adds a silent step.
-fn note_silent(rows: &mut Vec<DiagramRow>, p: u64, happened: &Happened) -> Result<(), DiagramStop>
-    ensures { AddsEvent rows.old.items rows.new.items (Took p (silent_step happened.now)) result }
-{
-    if again(rows, p, happened) {
-        return Ok(());
-    }
-    note_act(rows, p, Act::Silent(*happened, 1))
-}
-
-/// Adds a step.
-fn note(rows: &mut Vec<DiagramRow>, p: u64, stepped: &Stepped) -> Result<(), DiagramStop>
-    ensures { AddsEvent rows.old.items rows.new.items (Took p stepped.now) result }
-{
-    match (stepped.deed, stepped.answer) {
-        (None, None) => note_silent(rows, p, &stepped.happened),
-        _ => note_act(rows, p, Act::Telling(*stepped)),
+    if p == row.p && is_blocked_again(&before, &happened) && times < u64::MAX {
+        Some(DiagramRow {
+            p: row.p,
+            act: Act::Silent(before, times + 1),
+        })
+    } else {
+        None
     }
 }
 
-/// Takes at most n more steps of p, until its call is answered. A refusal ends them, and is no fault.
-fn more_steps<M: Machine>(
-    machine: &mut M,
-    rows: &mut Vec<DiagramRow>,
-    p: u64,
-    n: u64,
-) -> Result<(), DiagramStop>
-    ensures { let b = M.behaviour in Plays rows.old.items rows.new.items (steps_of b p n machine.old) None
-        (steps b p n machine.old).1 machine.new result }
+/// The last row, counted once more, if this row repeats it.
+fn counted_last(rows: &[DiagramRow], row: &DiagramRow) -> Option<DiagramRow>
+    ensures { result ≡ counted_last_in row.now (last_of rows.now) }
 {
-    for _ in 0..n {
-        let stepped = match machine.advance(p) {
-            Ok(stepped) => stepped,
-            Err(refusal) => match refusal.number() {
-                Some(_) => return Ok(()),
-                None => return Err(DiagramStop::OutOfMemory),
-            },
+    match rows.last() {
+        Some(last) => counted_row(last, row.p, &row.act),
+        None => None,
+    }
+}
+
+/// Adds a row, or counts the last one once more, if this row repeats it.
+fn put_row(rows: &mut Vec<DiagramRow>, row: &DiagramRow) -> Result<(), OutOfMemory>
+    ensures { OnOk result (rows.new.items ≡ with_row rows.old.items row.now) }
+{
+    let Some(again) = counted_last(rows.as_slice(), row) else {
+        return match rows.push(*row) {
+            Ok(()) => Ok(()),
+            Err(_) => Err(OutOfMemory),
         };
-        note(rows, p, &stepped)?;
-        if stepped.answer.is_some() {
-            return Ok(());
-        }
+    };
+    let last = rows.len().saturating_sub(1);
+    if let Some(place) = rows.get_mut(last) {
+        *place = again;
     }
     Ok(())
 }
 
-/// Takes steps of p until n are taken or its call is answered. They are refused where the first one is.
-fn take_steps<M: Machine>(
-    machine: &mut M,
-    rows: &mut Vec<DiagramRow>,
-    p: u64,
-    n: u64,
-) -> Result<(), DiagramStop>
-    requires { 1 ≤ n }
-    ensures { let b = M.behaviour in Plays rows.old.items rows.new.items (steps_of b p n machine.old)
-        (M.behaviour.advance_refusal machine.old p) (steps b p n machine.old).1 machine.new result }
-{
-    let stepped = machine.advance(p)?;
-    note(rows, p, &stepped)?;
-    if stepped.answer.is_some() {
-        return Ok(());
+/// The rows of a drawing, which hear the events of a run.
+#[derive(Drop)]
+pub struct Rows {
+    pub rows: Vec<DiagramRow>,
+}
+
+impl<M: Machine> Listener<M> for Rows {
+    ghost use Rattle.diagram.specs.RowEffects.{row_effects};
+
+    type Stop = OutOfMemory;
+
+    ghost effects = { row_effects };
+
+    fn hear_step(&mut self, p: u64, step: &Stepped) -> Result<(), OutOfMemory> {
+        put_row(&mut self.rows, &row_of(p, step))
     }
-    more_steps(machine, rows, p, n - 1)
+
+    fn hear_crash(&mut self, p: u64, crash: &Deed) -> Result<(), OutOfMemory> {
+        let act = Act::Fell(*crash);
+        put_row(&mut self.rows, &DiagramRow { p, act })
+    }
+
+    fn skips_silent_steps(&self) -> bool {
+        false
+    }
 }
 
-/// Crashes p.
-fn take_crash<M: Machine>(
-    machine: &mut M,
-    rows: &mut Vec<DiagramRow>,
-    p: u64,
-) -> Result<(), DiagramStop>
-    ensures { let b = M.behaviour in Plays rows.old.items rows.new.items (events_of b machine.old (LineCrash p))
-        (M.behaviour.crash_refusal machine.old p) (M.behaviour.crashed machine.old p) machine.new result }
+/// Why rows are not collected on.
+fn stop_of(stop: PlayStop<Refusal, OutOfMemory>) -> DiagramStop
+    ensures { result ≡ stop_of stop }
 {
-    let deed = machine.crash(p)?;
-    note_act(rows, p, Act::Fell(deed))
-}
-
-/// Plays one line.
-fn take_line<M: Machine>(
-    machine: &mut M,
-    rows: &mut Vec<DiagramRow>,
-    line: &Line,
-) -> Result<(), DiagramStop>
-    ensures { let b = M.behaviour in Plays rows.old.items rows.new.items (events_of b machine.old line.now)
-        (line_on b machine.old line.now).refused (line_on b machine.old line.now).left machine.new result }
-{
-    match *line {
-        Line::Start(p, call) => {
-            machine.start(p, call)?;
-            Ok(())
-        }
-        Line::Step(p, count) => take_steps(machine, rows, p, count.get()),
-        Line::Crash(p) => take_crash(machine, rows, p),
+    match stop {
+        PlayStop::Refused(refusal) => match refusal.number() {
+            Some(number) => DiagramStop::Refused(number),
+            None => DiagramStop::OutOfMemory,
+        },
+        PlayStop::OutOfMemory | PlayStop::Stopped(_) => DiagramStop::OutOfMemory,
     }
 }
 
 /// Plays the lines of a schedule. The first of them has number 2. Where they stop, answers the line and the reason.
 pub fn take_lines<M: Machine>(
     machine: &mut M,
-    rows: &mut Vec<DiagramRow>,
+    rows: &mut Rows,
     lines: &[Line],
 ) -> Result<(), (u64, DiagramStop)>
-    ensures { let b = M.behaviour in PlaysOn rows.old.items rows.new.items (events_on b machine.old lines.now)
+    ensures { let b = M.behaviour in CollectsRun rows.old.rows.items rows.new.rows.items (events_on b machine.old lines.now)
         (run_on b 2 machine.old lines.now) machine.new result }
 {
-    let mut number = 2;
-    for line in lines {
-        if let Err(stop) = take_line(machine, rows, line) {
-            return Err((number, stop));
-        }
-        number += 1;
+    match play_lines(machine, rows, lines) {
+        Ok(()) => Ok(()),
+        Err((line, stop)) => Err((line, stop_of(stop))),
     }
-    Ok(())
 }

@@ -1,15 +1,16 @@
 //! The drawing of a schedule's run.
 
-ghost use Rattle.std.specs.Prelude.{◌≡◌, ℕ, [], Err, IfOk, OnErr};
+ghost use Rattle.std.specs.Prelude.{◌≡◌, ℕ, [], Err, IfOk, OnOk, OnErr};
 ghost use Rattle.judge.specs.Stands.{Keeps};
 ghost use Rattle.judge.specs.Table.{State};
 ghost use Rattle.schedule.specs.Runs.{run_on};
 ghost use Rattle.schedule.specs.Schedules.{head_of};
 ghost use Rattle.diagram.specs.Events.{events_on, told_in};
+ghost use Rattle.diagram.specs.Repetitions.{with_events};
 ghost use Rattle.diagram.specs.Rows.{events_in, EndsAs, IsEndOf, IsJudged};
 
 use crate::act::DiagramRow;
-use crate::collecting::take_lines;
+use crate::collecting::{Rows, take_lines};
 use crate::deed_verdict::verdict_on;
 use crate::phase::LifelinePhase;
 use crate::stop::DiagramStop;
@@ -71,6 +72,8 @@ pub fn draw<M: Machine>(
 ) -> Result<Drawing, OutOfMemory>
     // The rows show just the run of the schedule on the machine: its steps and crashes.
     ensures events { IfOk result (λ drawing. events_in drawing.rows.items ≡ events_on M.behaviour machine.old schedule.now.lines) }
+    // They are the rows of those events: a blocked step that repeats the row before counts once more in it.
+    ensures rows { IfOk result (λ drawing. drawing.rows.items ≡ with_events [] (events_on M.behaviour machine.old schedule.now.lines)) }
     // The rows report just what a replay reports.
     ensures told { IfOk result (λ drawing. told_in (events_in drawing.rows.items)
         ≡ (run_on M.behaviour 2 machine.old schedule.now.lines).told) }
@@ -80,12 +83,16 @@ pub fn draw<M: Machine>(
     // After a verdict the machine is as the run leaves it.
     ensures left { IfOk result (λ drawing. IsJudged drawing.end
         → machine.new ≡ (run_on M.behaviour 2 machine.old schedule.now.lines).left) }
+    // After a refused line too.
+    ensures stands { OnOk result (machine.new ≡ (run_on M.behaviour 2 machine.old schedule.now.lines).left) }
     ensures sizes { IfOk result (λ drawing. (drawing.head ≡ head_of schedule.now) × (drawing.first ≡ first)) }
     // Out of memory comes only where there is a step or a crash to draw.
     ensures memory { OnErr result (events_on M.behaviour machine.old schedule.now.lines ≡ [] → ⊥) }
 {
-    let mut rows = Vec::new(alloc);
+    let rows = Vec::new(alloc);
+    let mut rows = Rows { rows };
     let played = take_lines(machine, &mut rows, schedule.lines());
+    let Rows { rows } = rows;
     let verdict = verdict_on(judge, &rows);
     let end = end_of(played, verdict)?;
     Ok(Drawing {

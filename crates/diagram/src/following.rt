@@ -4,10 +4,12 @@ ghost use Rattle.std.specs.Prelude.{◌≡◌, ◌++◌, [], true, false, OnOk, 
 ghost use Rattle.std.proofs.Math.ListN.{replicate};
 ghost use Rattle.judge.specs.Stands.{Keeps};
 ghost use Rattle.judge.specs.Table.{State};
+ghost use Rattle.schedule.specs.ReplayStops.{IsOver};
 ghost use Rattle.schedule.specs.Runs.{run_on};
 ghost use Rattle.schedule.specs.Schedules.{head_of};
+ghost use Rattle.schedule.specs.Transitions.{Took};
 ghost use Rattle.diagram.specs.Drawings.{Spells};
-ghost use Rattle.diagram.specs.Events.{Took, events_on};
+ghost use Rattle.diagram.specs.Events.{events_on};
 ghost use Rattle.diagram.specs.Followed.{access_of, Ending, followed, Follows, place_line, row_of as row_for, row_told, Tells, told_by};
 ghost use Rattle.diagram.specs.Rows.{events_in, events_shown};
 ghost use Rattle.diagram.specs.DiagramLayouts.{layout_of as layout_in};
@@ -291,8 +293,8 @@ pub fn follow<M: Machine, W: Sink>(
         (run_on M.behaviour 2 machine.old schedule.now.lines)
         (followed (layout_in (head_of schedule.now)) (replicate schedule.now.procs first)
         (events_on M.behaviour machine.old schedule.now.lines)) result }
-    // After a verdict the machine is as the run leaves it.
-    ensures left { OnOk result (machine.new ≡ (run_on M.behaviour 2 machine.old schedule.now.lines).left) }
+    // After a verdict or a refused line the machine is as the run leaves it.
+    ensures left { IsOver result → machine.new ≡ (run_on M.behaviour 2 machine.old schedule.now.lines).left }
 {
     let Ok(drawing) = draw(alloc, machine, judge, schedule, first) else {
         return Err(ReplayFault::OutOfMemory);

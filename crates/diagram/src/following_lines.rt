@@ -5,6 +5,7 @@ ghost use Rattle.std.proofs.Math.ListN.{replicate};
 ghost use Rattle.judge.specs.Stands.{Keeps};
 ghost use Rattle.judge.specs.Table.{State};
 ghost use Rattle.rmeworld.specs.ImageText.{image_line};
+ghost use Rattle.schedule.specs.ReplayStops.{IsOver};
 ghost use Rattle.schedule.specs.Runs.{run_on};
 ghost use Rattle.schedule.specs.Schedules.{head_of};
 ghost use Rattle.diagram.specs.Drawings.{Spells};
@@ -276,8 +277,8 @@ pub fn follow_as_lines<M: Machine, W: Sink>(
         (run_on M.behaviour 2 machine.old schedule.now.lines)
         (step_lines (head_of schedule.now) first (M.behaviour.image_of machine.old)
         (events_on M.behaviour machine.old schedule.now.lines)) result }
-    // After a verdict the machine is as the run leaves it.
-    ensures left { OnOk result (machine.new ≡ (run_on M.behaviour 2 machine.old schedule.now.lines).left) }
+    // After a verdict or a refused line the machine is as the run leaves it.
+    ensures left { IsOver result → machine.new ≡ (run_on M.behaviour 2 machine.old schedule.now.lines).left }
 {
     let Ok(image) = machine.image() else {
         return Err(ReplayFault::OutOfMemory);

@@ -23,6 +23,7 @@ pub mod LineTokens
 pub mod InPlace
 pub mod ReplaysCommon
 pub mod Heard
+pub mod Fragments
 pub mod Playing
 pub mod Closing
 pub mod Staging

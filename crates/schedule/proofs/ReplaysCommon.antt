@@ -34,11 +34,11 @@ pub use Rattle.schedule.specs.declared.replays.verdict.Verdict.{Verdict}
 pub use Rattle.schedule.specs.declared.replays.verdict.Verdict.TheVariants.{Fine, Against}
 pub use Rattle.schedule.specs.RunningVerdicts.{opened, running_judge, with_more, heard_with, Hears, RunningJudge, if_allowed, heard}
 pub use Rattle.schedule.specs.Tapes.{Tape, Writes, BreaksOff}
-pub use Rattle.schedule.specs.Plays.{Ends, IsRefused, halted, replay_stop_of, ReplayStops, Tells, Stops, IsRefusal, Plays, fault_at, IsOver}
+pub use Rattle.schedule.specs.ReplayStops.{Ends, IsRefused, ReplayStops, Tells, Stops, refused_at, fault_at, Runs, IsOver}
 pub use Rattle.schedule.specs.Reports.{told_text, owns_text, words_of_verdict, verdict_line, IsEnd, told_line, messages_text}
-pub use Rattle.schedule.specs.Runs.{Part, deeds_of, Told, Did, told_of, unless, followed, Answered, did, answered}
-pub use Rattle.rmeworld.specs.Behaviours.{Behaviour}
+pub use Rattle.schedule.specs.Runs.{Part, deeds_of, Told, Did, told_of, told_by, unless, followed, transitions_of, Answered, did, answered}
 unfoldable pub use Rattle.schedule.specs.Runs.{steps, line_on, run_on}
+pub use Rattle.rmeworld.specs.Behaviours.{Behaviour}
 pub use Rattle.schedule.specs.TraceJudges.{Stands, trace_answer, answer_of, judged_of, judge_refusal, numbered, JudgesTrace, Fed, TraceJudgeState}
 pub use Rattle.schedule.specs.Verdicts.{verdict_on, ruled, verdict_from}
 pub use Rattle.schedule.specs.Wholes.{Silent, header_fault, layout_of, OfSchedule, OfText}

@@ -10,10 +10,15 @@ pub mod Schedules
 pub mod Traces
 pub mod FirstLines
 pub mod Verdicts
+pub mod Transitions
+pub mod Effects
+pub mod Fragments
+pub mod Plays
 pub mod Runs
 pub mod Reports
 pub mod RunningVerdicts
-pub mod Plays
+pub mod ReplayStops
+pub mod ReportWriters
 pub mod Replays
 pub mod TraceJudges
 pub mod Wholes

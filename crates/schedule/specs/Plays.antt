@@ -1,78 +1,53 @@
--- What the functions that play a part of a run write, answer and leave.
-use Rattle.std.specs.Prelude.{◌≡◌, ℕ, ◌+◌, ◌-◌, ◌^◌, min, List, Option, Some, None, Result, Ok, Err}
-use Rattle.rmecore.specs.declared.refusal.Refusal.{Refusal}
-use Rattle.rmecore.specs.Refused.{number_of}
-use Rattle.schedule.specs.declared.replays.replay_fault.ReplayFault.{ReplayFault}
-use Rattle.schedule.specs.declared.replays.replay_fault.ReplayFault.TheVariants as faults
-use Rattle.schedule.specs.declared.replays.replay_stop.ReplayStop.{ReplayStop}
-use Rattle.schedule.specs.declared.replays.replay_stop.ReplayStop.TheVariants.{Refused, Write, OutOfMemory}
-use Rattle.schedule.specs.Tapes.{Tape, Writes, Begins, BreaksOff}
-use Rattle.schedule.specs.Runs.{Told, Part, deeds_of}
-use Rattle.schedule.specs.Reports.{told_text}
-use Rattle.schedule.specs.RunningVerdicts.{RunningJudge, Hears}
+-- How a part of a run is played: what the listener has heard, and where the machine is.
+use Rattle.std.specs.Prelude.{◌≡◌, ℕ, List, true, false, Option, Some, None, Result, Ok, Err}
+use Rattle.schedule.specs.Transitions.{Event, Took, Transitions, StepsFrom, IsLoud}
+use Rattle.schedule.specs.Effects.{Effects, HearsAll, BreaksOffAt}
+use Rattle.schedule.specs.Fragments.{Fragment}
+use Rattle.schedule.specs.declared.player.play_stop.PlayStop.{PlayStop}
+use Rattle.schedule.specs.declared.player.play_stop.PlayStop.TheVariants.{Refused, OutOfMemory, Stopped}
 
--- why a part stops before its end. Out of memory leaves some of its text unwritten, so it never replaces a refusal
-abbrev pub ReplayStops : Tape → Tape → List ℕ → Option Refusal → ReplayStop → Type 0
-ReplayStops before now text refused (Refused number) = Writes before now text × ((refusal : Refusal) × (refused ≡ Some refusal) × (number_of refusal ≡ Some number))
-ReplayStops before now text refused Write = Begins before.taken now.taken text × (now.failures ≡ min (before.failures + 1) (2 ^ 64 - 1))
-ReplayStops before now text refused OutOfMemory = BreaksOff before.taken now.taken text × (now.failures ≡ before.failures)
+-- p takes a step that does not end its call, and to hear it changes nothing
+abbrev pub TakesUnheard : {L S T C R Stop : Type 0} → Transitions S T C R → Effects L (Event T C) Stop → L → S → ℕ → S → Type 0
+TakesUnheard m h listener before p now =
+    StepsFrom m before p (m.step before p) now × (m.ends (m.step before p) ≡ false) × h.hears listener (Took p (m.step before p)) listener
 
--- the refusal OutOfMemory has no number
-abbrev pub halted : Option ℕ → ReplayStop
-halted None = OutOfMemory
-halted (Some number) = Refused number
+-- all events of a part were heard, and the machine is as the part leaves it
+pub record PlaysAll {L S T C Q Stop : Type 0} (h : Effects L (Event T C) Stop) (before now : L) (part : Fragment (Event T C) S Q) (s : S) (refused : Option Q) : Type 0 where
+  pub hears : HearsAll h.hears before part.told now
+  pub stands : s ≡ part.left
+  pub refused_is : part.refused ≡ refused
 
--- the stop that a refusal by the machine makes
-abbrev pub replay_stop_of : Refusal → ReplayStop
-replay_stop_of refusal = halted (number_of refusal)
+-- the listener has heard events of a part, and stops at the next one
+abbrev pub StopsIn : {L S T C Q Stop : Type 0} → Effects L (Event T C) Stop → L → L → Fragment (Event T C) S Q → Stop → Type 0
+StopsIn h before now part stop = BreaksOffAt h.hears (λ next event. h.stops next event now stop) before part.told
 
--- what is reported is written, and its deeds are given to the judge
-abbrev pub Tells : {A : Type 0} → Tape → Tape → RunningJudge → RunningJudge → List Told → Result A ReplayStop → Type 0
-Tells before now running_judge heard told (Ok x) = Writes before now (told_text told) × Hears running_judge (deeds_of told) heard
-Tells before now running_judge heard told (Err replay_stop) = ReplayStops before now (told_text told) None replay_stop
+-- the listener has heard events of a part, and the machine has no memory for the next one, which shows something
+abbrev pub RunsShort : {L S T C R Q Stop : Type 0} → Transitions S T C R → Effects L (Event T C) Stop → L → L → Fragment (Event T C) S Q → Type 0
+RunsShort m h before now part = BreaksOffAt h.hears (λ next event. (now ≡ next) × IsLoud m event) before part.told
 
--- the deeds that were reported are judged, and the machine is in the state that is left
-pub record Stops {S : Type 0} (running_judge heard : RunningJudge) (told : List Told) (left s : S) : Type 0 where
-  pub hears : Hears running_judge (deeds_of told) heard
-  pub stands : s ≡ left
+-- how a part of a run was played
+abbrev pub Plays : {L S T C R Stop A : Type 0} → Transitions S T C R → Effects L (Event T C) Stop → L → L → Fragment (Event T C) S R → S → Result A (PlayStop R Stop) → Type 0
+Plays m h before now part s (Ok x) = PlaysAll h before now part s None
+Plays m h before now part s (Err (Refused e)) = PlaysAll h before now part s (Some e) × (e ≡ m.out_of_memory → ⊥)
+Plays m h before now part s (Err OutOfMemory) = RunsShort m h before now part
+Plays m h before now part s (Err (Stopped stop)) = StopsIn h before now part stop
 
--- the machine refuses the line
-abbrev pub IsRefusal : ReplayStop → Type 0
-IsRefusal (Refused number) = Unit {0}
-IsRefusal replay_stop = ⊥
+-- how the lines of a run were played, and at which line that ended
+abbrev pub PlaysOn : {L S T C R Stop A : Type 0} → Transitions S T C R → Effects L (Event T C) Stop → L → L → Fragment (Event T C) S (ℕ × R) → S → Result A (ℕ × PlayStop R Stop) → Type 0
+PlaysOn m h before now run s (Ok x) = PlaysAll h before now run s None
+PlaysOn m h before now run s (Err (k, Refused e)) = PlaysAll h before now run s (Some (k, e)) × (e ≡ m.out_of_memory → ⊥)
+PlaysOn m h before now run s (Err (k, OutOfMemory)) = RunsShort m h before now run
+PlaysOn m h before now run s (Err (k, Stopped stop)) = StopsIn h before now run stop
 
--- a part of a run is played: what it reports is written and judged, and the machine is in the state that is left
-abbrev pub Plays : {S A : Type 0} → Tape → Tape → RunningJudge → RunningJudge → List Told → S → Option Refusal → S → Result A ReplayStop → Type 0
-Plays before now running_judge heard told left refused s (Ok x) =
-    Writes before now (told_text told) × Hears running_judge (deeds_of told) heard × (refused ≡ None) × (s ≡ left)
-Plays before now running_judge heard told left refused s (Err replay_stop) = ReplayStops before now (told_text told) refused replay_stop × (IsRefusal replay_stop → Stops running_judge heard told left s)
+-- why a step or a crash is not taken
+abbrev pub IsStopOf : {S T C R Stop : Type 0} → Transitions S T C R → R → PlayStop R Stop → Type 0
+IsStopOf m e (Refused refusal) = (refusal ≡ e) × (e ≡ m.out_of_memory → ⊥)
+IsStopOf m e OutOfMemory = e ≡ m.out_of_memory
+IsStopOf m e (Stopped stop) = ⊥
 
--- the answer of a replay that stops at this line
-abbrev pub fault_at : ℕ → ReplayStop → ReplayFault
-fault_at line (Refused number) = faults.Refused line number
-fault_at line Write = faults.Write
-fault_at line OutOfMemory = faults.OutOfMemory
-
--- why a run is not played to its end
-abbrev pub Ends : {S : Type 0} → Tape → Tape → Part S (ℕ × Refusal) → ReplayFault → Type 0
-Ends before now run (faults.Refused line number) =
-    Writes before now (told_text run.told) × ((refusal : Refusal) × (run.refused ≡ Some (line, refusal)) × (number_of refusal ≡ Some number))
-Ends before now run faults.Write = Begins before.taken now.taken (told_text run.told) × (now.failures ≡ min (before.failures + 1) (2 ^ 64 - 1))
-Ends before now run faults.OutOfMemory = BreaksOff before.taken now.taken (told_text run.told) × (now.failures ≡ before.failures)
-Ends before now run fault = ⊥
-
--- the fault is a refused line
-abbrev pub IsRefused : ReplayFault → Type 0
-IsRefused (faults.Refused line number) = Unit {0}
-IsRefused fault = ⊥
-
--- the lines of a run are played
-abbrev pub Runs : {S A : Type 0} → Tape → Tape → RunningJudge → RunningJudge → Part S (ℕ × Refusal) → S → Result A ReplayFault → Type 0
-Runs before now running_judge heard run s (Ok x) =
-    Writes before now (told_text run.told) × Hears running_judge (deeds_of run.told) heard × (run.refused ≡ None) × (s ≡ run.left)
-Runs before now running_judge heard run s (Err fault) = Ends before now run fault × (IsRefused fault → Stops running_judge heard run.told run.left s)
-
--- the run is over: with a verdict, or at the line that is refused
-abbrev pub IsOver : {A : Type 0} → Result A ReplayFault → Type 0
-IsOver (Ok x) = Unit {0}
-IsOver (Err fault) = IsRefused fault
+-- how the steps of a line end where one after the first is not taken
+abbrev pub IsLateEnd : {S T C R Stop A : Type 0} → Transitions S T C R → R → Result A (PlayStop R Stop) → Type 0
+IsLateEnd m e (Ok x) = (m.refuses_late ≡ false) × (e ≡ m.out_of_memory → ⊥)
+IsLateEnd m e (Err (Refused refusal)) = (m.refuses_late ≡ true) × (refusal ≡ e) × (e ≡ m.out_of_memory → ⊥)
+IsLateEnd m e (Err OutOfMemory) = e ≡ m.out_of_memory
+IsLateEnd m e (Err (Stopped stop)) = ⊥

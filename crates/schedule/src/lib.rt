@@ -5,12 +5,17 @@
 
 pub mod lexer;
 pub mod lines;
+pub mod player;
 pub mod replays;
 pub mod texts;
 
 pub use lines::count::Count;
 pub use lines::fault::LineFault;
 pub use lines::line::Line;
+pub use player::automaton::Automaton;
+pub use player::listener::Listener;
+pub use player::play_lines::{play_line, play_lines};
+pub use player::play_stop::PlayStop;
 pub use replays::last_words::put_verdict;
 pub use replays::replay_fault::ReplayFault;
 pub use replays::replay_text::{replay, replay_to_writer};

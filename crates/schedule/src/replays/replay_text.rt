@@ -12,7 +12,7 @@ ghost use Rattle.schedule.specs.Commands.{line_at};
 ghost use Rattle.schedule.specs.Texts.{items_at};
 ghost use Rattle.schedule.specs.Words.{parts_of};
 ghost use Rattle.schedule.specs.RunningVerdicts.{running_judge};
-ghost use Rattle.schedule.specs.Plays.{Runs};
+ghost use Rattle.schedule.specs.ReplayStops.{Runs};
 ghost use Rattle.schedule.specs.Schedules.{schedule_at, scheduled_with};
 ghost use Rattle.schedule.specs.Tapes.{AreKnown};
 ghost use Rattle.schedule.specs.Wholes.{layout_of, header_fault, OfSchedule, OfText, ReplaysSource, ReplaysText, ReplaysBetween};
@@ -20,9 +20,9 @@ ghost use Rattle.schedule.specs.Wholes.{layout_of, header_fault, OfSchedule, OfT
 use crate::lexer::in_place::read_whole;
 use crate::replays::laws::worlds_are_never_found_out;
 use crate::replays::pieces::read_all;
-use crate::replays::play_in_place::play_text;
 use crate::replays::replay_fault::ReplayFault;
 use crate::replays::replaying::{close, settle};
+use crate::replays::report_writer::report_text;
 use crate::replays::reporter::Reporter;
 use crate::replays::verdict::Verdict;
 use crate::texts::device::{Sink, Source};
@@ -45,7 +45,7 @@ fn at_header(refusal: Refusal) -> ReplayFault
     }
 }
 
-/// Plays the lines of a text from this byte on, as `play_text` does, and then frees the text.
+/// Plays the lines of a text from this byte on, as `report_text` does, and then frees the text.
 fn play_from<M: Machine, W: Sink>(
     machine: &mut M,
     judge: &mut Judge,
@@ -63,7 +63,7 @@ fn play_from<M: Machine, W: Sink>(
         → Runs (W.tape w.old) (W.tape w.new) (running_judge judge.old reporter.old) (running_judge judge.new reporter.new)
         (run_on M.behaviour 2 machine.old lines) machine.new result }
 {
-    play_text(machine, judge, reporter, w, width, &text[from..])
+    report_text(machine, judge, reporter, w, width, &text[from..])
 }
 
 /// Replays the lines of a text from this byte on, as `replay_on` does, and keeps none of them.

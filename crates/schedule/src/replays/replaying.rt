@@ -4,14 +4,14 @@ ghost use Rattle.std.specs.Prelude.{◌≡◌, ℕ, ◌+◌, ◌-◌, ◌^◌, m
 ghost use Rattle.judge.specs.Table.{State};
 ghost use Rattle.judge.specs.Stands.{Keeps};
 ghost use Rattle.schedule.specs.Tapes.{Writes, Begins};
-ghost use Rattle.schedule.specs.Plays.{IsRefused, IsOver};
+ghost use Rattle.schedule.specs.ReplayStops.{IsRefused, IsOver};
 ghost use Rattle.schedule.specs.Runs.{deeds_of, run_on};
 ghost use Rattle.schedule.specs.RunningVerdicts.{heard};
 ghost use Rattle.schedule.specs.Replays.{Replays, Closes};
 
 use crate::replays::last_words::put_end;
-use crate::replays::play_lines::play_lines;
 use crate::replays::replay_fault::ReplayFault;
+use crate::replays::report_writer::report_lines;
 use crate::replays::reporter::Reporter;
 use crate::replays::verdict::Verdict;
 use crate::texts::device::{Sink, write_all};
@@ -82,7 +82,7 @@ pub fn replay_on<M: Machine, W: Sink>(
         → Keeps judge.new (heard start (deeds_of (run_on M.behaviour 2 machine.old schedule.now.lines).told)) }
 {
     let mut reporter = Reporter::new(alloc);
-    if let Err(fault) = play_lines(machine, judge, &mut reporter, w, schedule.lines()) {
+    if let Err(fault) = report_lines(machine, judge, &mut reporter, w, schedule.lines()) {
         return Err(settle(w, fault));
     }
     let verdict = reporter.verdict();

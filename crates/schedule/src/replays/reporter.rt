@@ -3,7 +3,7 @@
 ghost use Rattle.std.specs.Prelude.{◌≡◌, ◌++◌, ◌∷◌, [], None, IfErr, OnOk, OnErr};
 ghost use Rattle.schedule.specs.RunningVerdicts.{opened, running_judge, Hears};
 ghost use Rattle.schedule.specs.Tapes.{Writes};
-ghost use Rattle.schedule.specs.Plays.{Tells, ReplayStops};
+ghost use Rattle.schedule.specs.ReplayStops.{Tells, ReplayStops};
 ghost use Rattle.schedule.specs.Reports.{told_text};
 ghost use Rattle.schedule.specs.Runs.{deeds_of, did, told_of};
 
@@ -71,7 +71,7 @@ impl Reporter {
     ) -> Result<(), ReplayStop>
         ensures written { OnOk result (Writes (W.tape w.old) (W.tape w.new) (told_text (told_of p deed.now answer.now))) }
         ensures halted { IfErr result (λ replay_stop. ReplayStops (W.tape w.old) (W.tape w.new)
-            (told_text (told_of p deed.now answer.now)) None replay_stop) }
+            (told_text (told_of p deed.now answer.now)) replay_stop) }
         ensures same { self.new ≡ self.old }
     {
         self.page.clear();

@@ -6,15 +6,15 @@ use Rattle.algorithm_texts.specs.Lawful.{IsKnown}
 use Rattle.algorithm_texts.specs.Usage.{reads, uses, passes_at}
 use Rattle.algorithm_texts.proofs.RunMarks.{below_next}
 use Rattle.algorithm_texts.proofs.lines.Draft.check_read.Goals as goal
-use Rattle.algorithm_texts.proofs.lines.Draft.check_read.Goals.{else-reads_at-via-then-reads_at+else-not-is_known, else-reads_at-via-else-reads_at}
+use Rattle.algorithm_texts.proofs.lines.Draft.check_read.Goals.{else-uses_at-via-then-uses_at+else-not-is_known, else-uses_at-via-else-uses_at}
 
 pub loop-name-preserved : goal.loop-name-preserved
 loop-name-preserved c = λ name less.
     below_next (λ k. passes_at (reads k) (uses (drafted c.args.self.now).lines) c.args.place ≡ true
     → IsKnown (uses (drafted c.args.self.now).lines) c.args.call (drafted c.args.self.now).lasting k c.args.place) 0 c.loop-name.name (λ k l. c.loop-name.invariant k)
-    (λ h. elim c.else-reads_at.branch [
-      | else-reads_at-via-then-reads_at+else-not-is_known w ↦ w.is_known.ensures w.if-not-is_known.false
-      | else-reads_at-via-else-reads_at w ↦ absurd (both_ways c.reads_at.result w.if-reads_at.false (c.reads_at.ensures ∙ h))
+    (λ h. elim c.else-uses_at.branch [
+      | else-uses_at-via-then-uses_at+else-not-is_known w ↦ w.is_known.ensures w.if-not-is_known.false
+      | else-uses_at-via-else-uses_at w ↦ absurd (both_ways c.uses_at.result w.if-uses_at.false (c.uses_at.ensures ∙ h))
     ])
     name (omega arith) less
 

@@ -1,7 +1,7 @@
 use Rattle.std.proofs.Common.{◌≡◌, ℕ, ◌+◌, Bool, true, false, List, length, map, replicate, set, Vec, Global, sym, ap, ◌∙◌, arith}
 use Rattle.std.proofs.lemmas.List.{with_items_is, length-set, length-map}
 use Rattle.algorithm_texts.specs.Drafts.{drafted, line_of}
-use Rattle.algorithm_texts.specs.Marking.{marks_from}
+use Rattle.algorithm_texts.specs.Marks.{marks_from}
 use Rattle.algorithm_texts.proofs.lines.Draft.marks_from.Goals as goal
 use Rattle.algorithm_texts.proofs.lines.Draft.marks_from.Goals.{then-first, else-first}
 

@@ -1,6 +1,6 @@
 use Rattle.std.proofs.Common.{◌≡◌, None, sym, ◌∙◌}
 use Rattle.algorithm_texts.specs.Drafts.{drafted}
-use Rattle.algorithm_texts.specs.Marking.{free_way}
+use Rattle.algorithm_texts.specs.Marks.{free_way}
 use Rattle.algorithm_texts.proofs.RunMarks.{below_next, none_everywhere}
 use Rattle.algorithm_texts.proofs.lines.Draft.next_free.Goals as goal
 

@@ -1,6 +1,6 @@
 use Rattle.std.proofs.Common.{◌≡◌, ℕ, ◌<◌, ◌≤◌, None}
 use Rattle.algorithm_texts.specs.Drafts.{drafted}
-use Rattle.algorithm_texts.specs.Marking.{free_way}
+use Rattle.algorithm_texts.specs.Marks.{free_way}
 use Rattle.algorithm_texts.proofs.lines.Draft.next_free.Given as goal
 
 -- the places so far lead to none that is left

@@ -2,7 +2,7 @@ use Rattle.std.proofs.Common.{◌≡◌, ℕ, ◌+◌, true, length, map, sym, a
 use Rattle.std.proofs.lemmas.List.{with_items_is, length-set, length-replicate}
 use Rattle.algorithm_texts.specs.Drafts.{drafted}
 use Rattle.algorithm_texts.specs.Finishing.{is_in}
-use Rattle.algorithm_texts.specs.Marking.{marks_from}
+use Rattle.algorithm_texts.specs.Marks.{marks_from}
 use Rattle.algorithm_texts.proofs.RunMarks.{first_in, first_marked, comes_other, comes_marked, length-marks_from}
 use Rattle.algorithm_texts.proofs.lines.Draft.reached.Goals as goal
 

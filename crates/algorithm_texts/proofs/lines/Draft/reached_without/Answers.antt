@@ -4,7 +4,7 @@ use Rattle.std.specs.Vec.{with_items}
 use Rattle.algorithm_texts.specs.declared.flow.Runs.TheVariants.{Without}
 use Rattle.algorithm_texts.specs.Drafts.{drafted}
 use Rattle.algorithm_texts.specs.Finishing.{is_in}
-use Rattle.algorithm_texts.specs.Marking.{Keeps}
+use Rattle.algorithm_texts.specs.Marks.{Keeps}
 use Rattle.algorithm_texts.specs.Runs.{HasNot}
 use Rattle.algorithm_texts.proofs.RunMarks.{comes_marked, start_marked, length-marks_from}
 use Rattle.algorithm_texts.proofs.lines.Draft.reached_without.Goals as goal

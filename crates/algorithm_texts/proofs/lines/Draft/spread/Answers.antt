@@ -2,7 +2,7 @@ use Rattle.std.proofs.Common.{◌≡◌, ◌<◌, ℕ, Some, not, sym, subst}
 use Rattle.std.specs.List.{count_by}
 use Rattle.std.proofs.lemmas.Option.{MatchOption-at_some, MatchOption-at_none}
 use Rattle.algorithm_texts.specs.Drafts.{drafted}
-use Rattle.algorithm_texts.specs.Marking.{free_way}
+use Rattle.algorithm_texts.specs.Marks.{free_way}
 use Rattle.algorithm_texts.proofs.RunMarks.{Spreads, spreads_first, spreads_on, fewer_left, free_way_leads, closed_where}
 use Rattle.algorithm_texts.proofs.lines.Draft.spread.Goals as goal
 

@@ -12,7 +12,7 @@ pub returns-in_err-close-clause-replay : goal.returns-in_err-close-clause-replay
 returns-in_err-close-clause-replay g c start keeps =
     let p = err_from_is_err_and c.from_residual.result c.from_residual.ensures.1 in
     let played = c.in_default.ensures in
-    let ruled = ruled_on c.args.judge.now c.play_lines.new.judge c.new-reporter.result c.play_lines.new.reporter _ start c.new-reporter.ensures played.1 keeps in
+    let ruled = ruled_on c.args.judge.now c.report_lines.new.judge c.new-reporter.result c.report_lines.new.reporter _ start c.new-reporter.ensures played.1 keeps in
     rw (p.1, p.2, ← c.lines.ensures)
     (cut_end start g.M.Machine.behaviour.image_of _ _ _ _ c.in-Ok.image c.verdict-verdict.result c.in_err-close.field-0.0 played.0 played.2
     (c.in-Ok.ensures.ok ∙ ap g.M.Machine.behaviour.image_of played.3) (c.verdict-verdict.ensures ∙ ruled) c.in_err-close.ensures)
@@ -20,7 +20,7 @@ returns-in_err-close-clause-replay g c start keeps =
 pub returns-clause-replay : goal.returns-clause-replay
 returns-clause-replay g c start keeps =
     let played = c.in_default.ensures in
-    let ruled = ruled_on c.args.judge.now c.play_lines.new.judge c.new-reporter.result c.play_lines.new.reporter _ start c.new-reporter.ensures played.1 keeps in
+    let ruled = ruled_on c.args.judge.now c.report_lines.new.judge c.new-reporter.result c.report_lines.new.reporter _ start c.new-reporter.ensures played.1 keeps in
     rw (← c.lines.ensures)
     (reported start g.M.Machine.behaviour.image_of _ _ _ _ c.in-Ok.image c.verdict-verdict.result played.0 played.2
     (c.in-Ok.ensures.ok ∙ ap g.M.Machine.behaviour.image_of played.3) (c.verdict-verdict.ensures ∙ ruled) c.in_ok-close.ensures)
@@ -32,7 +32,7 @@ returns-in-Err-clause-left g c over =
 pub returns-in-Err-clause-heard : goal.returns-in-Err-clause-heard
 returns-in-Err-clause-heard g c start keeps over =
     let stops = c.in-Err.ensures.1 (still_refused _ _ c.in-Err.fault c.settle.result c.settle.ensures.fault over) in
-    rw (← c.lines.ensures) (stands_heard c.args.judge.now c.play_lines.new.judge c.new-reporter.result c.play_lines.new.reporter _ start c.new-reporter.ensures stops.hears keeps)
+    rw (← c.lines.ensures) (stands_heard c.args.judge.now c.report_lines.new.judge c.new-reporter.result c.report_lines.new.reporter _ start c.new-reporter.ensures stops.hears keeps)
 
 pub returns-in_err-close-clause-left : goal.returns-in_err-close-clause-left
 returns-in_err-close-clause-left g c over =
@@ -46,4 +46,4 @@ returns-in_err-close-clause-heard g c start keeps over =
 
 pub returns-clause-heard : goal.returns-clause-heard
 returns-clause-heard g c start keeps over =
-    rw (← c.lines.ensures) (stands_heard c.args.judge.now c.play_lines.new.judge c.new-reporter.result c.play_lines.new.reporter _ start c.new-reporter.ensures c.in_default.ensures.1 keeps)
+    rw (← c.lines.ensures) (stands_heard c.args.judge.now c.report_lines.new.judge c.new-reporter.result c.report_lines.new.reporter _ start c.new-reporter.ensures c.in_default.ensures.1 keeps)

@@ -1,8 +1,0 @@
-use Rattle.std.proofs.Common.{◌≡◌, ℕ, ◌<◌, ◌≤◌, true}
-use Rattle.algorithm_texts.specs.Drafts.{drafted}
-use Rattle.algorithm_texts.specs.Usage.{begins_loop, uses, passes_at}
-use Rattle.algorithm_texts.proofs.lines.Draft.has_loop.Given as goal
-
--- none of the lines so far does
-abbrev pub invariant-loop-place : goal.invariant-loop-place
-invariant-loop-place l = (at : ℕ) → l.fn.call.«from» ≤ at → at < l.place → passes_at (begins_loop l.name) (uses (drafted l.self).lines) at ≡ true → ⊥

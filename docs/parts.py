@@ -12,7 +12,7 @@ PARSER, ARGUMENT = "crates/cli/src/arguments/parser.rt", "crates/cli/src/argumen
 EXPLAIN = "crates/cli/src/explain"
 STRING = r'"((?:\\.|[^"\\])*)"'
 CONSTANT = re.compile(rf"const (\w+): &str =\s+{STRING};", re.S)
-CALL = re.compile(rf"Argument::(\w+)\(([^()]*|[^()]*\([^()]*\)[^()]*)\)(\.required\(\))?")
+CALL = re.compile(rf"Argument::(\w+)\(([^()]*|[^()]*\([^()]*\)[^()]*)\)(\.as_required\(\))?")
 COMMAND = re.compile(rf'let about = {STRING};(.*?)command\(alloc, "(\w+)", about, (\w+),', re.S)
 ENTRY = re.compile(rf"(?:(\w+)(?: \{{ \.\. \}}|\(_\))? => |\n        )of_\w+\({STRING}, (\w+)\)")
 BEGINS = re.compile(r"(<!-- made by docs/from-sources: ([\w ./-]+) -->\n).*?(<!-- end of what is made -->)", re.S)

@@ -9,22 +9,22 @@ use Rattle.judge.specs.Legal.{judged_all}
 use Rattle.judge.proofs.Histories.{judged_all-append}
 use Rattle.algorithms.specs.Worlds.{new_refusal}
 use Rattle.algorithms.specs.declared.algorithm.Algorithm.{Algorithm}
-use Rattle.algorithms.specs.declared.algorithm.Call.{Call}
-use Rattle.algorithms.specs.declared.process.Process.{Process}
+use Rattle.algorithms.specs.declared.algorithm.AlgorithmCall.{AlgorithmCall}
+use Rattle.algorithms.specs.declared.process.AlgorithmProcess.{AlgorithmProcess}
 use Rattle.algorithms.specs.declared.refusal.AlgorithmRefusal.TheVariants.{BadProcs, BadLimit}
 use Rattle.algorithm_lab.specs.Bakery.{IsBakery}
 use Rattle.algorithm_lab.specs.Monitors.{MonitorState, first_monitor, start_on, step_on, crash_on}
-use Rattle.algorithm_lab.specs.Moves.{Outcome, begun_by, moved_by}
+use Rattle.algorithm_lab.specs.Moves.{MoveResult, begun_by, moved_by}
 use Rattle.algorithm_lab.specs.Runs.{deeds_of}
-use Rattle.algorithm_lab.specs.declared.told.Told.{Told}
-use Rattle.algorithm_lab.specs.declared.told.Told.TheVariants.{Did, Answered}
+use Rattle.algorithm_lab.specs.declared.run_report.TextReport.{TextReport}
+use Rattle.algorithm_lab.specs.declared.run_report.TextReport.TheVariants.{Did, Answered}
 use Rattle.algorithm_lab.proofs.BakeryDeeds.{judge_at, deeds_said}
 use Rattle.algorithm_lab.proofs.BakeryWorlds.{state, Alike, Matches, start_matches, step_matches, crash_matches, first_alike}
 
-pub deeds_append : (told more : List Told) → deeds_of (told ++ more) ≡ deeds_of told ++ deeds_of more
+pub deeds_append : (reports more : List TextReport) → deeds_of (reports ++ more) ≡ deeds_of reports ++ deeds_of more
 deeds_append [] more = refl
-deeds_append (Did outer ∷ told) more = ap (λ ds. Outer outer ∷ ds) (deeds_append told more)
-deeds_append (Answered p answer ∷ told) more = deeds_append told more
+deeds_append (Did outer ∷ reports) more = ap (λ ds. Outer outer ∷ ds) (deeds_append reports more)
+deeds_append (Answered p answer ∷ reports) more = deeds_append reports more
 
 none_fits : (x y z u low up : Bool) → cond (x && y && z && u) (cond (low && up) None (Some BadLimit)) (Some BadProcs) ≡ None → (u ≡ true) × (up ≡ true)
 none_fits true true true true true true e = (refl, refl)
@@ -46,7 +46,7 @@ module _ (a : Algorithm) (b : IsBakery a) (n limit : ℕ) (most : n ≤ 64) (hig
   pub record Beside (lock : Abstract) (m : MonitorState) : Type 0 where
     pub world : World
     pub rows : List (List ℕ)
-    pub processes : List Process
+    pub processes : List AlgorithmProcess
     pub now : List Phase
     pub is : m ≡ state a b n limit most high rows processes now
     pub alike : Alike a b n limit most high world lock rows processes now
@@ -72,23 +72,23 @@ module _ (a : Algorithm) (b : IsBakery a) (n limit : ℕ) (most : n ≤ 64) (hig
     beside = later.beside;
   }
 
-  matched : (from : Abstract) (o : Outcome World) (q : Outcome MonitorState) → Matches a b n limit most high from o q → Led from (deeds_said q.said) q.left
+  matched : (from : Abstract) (o : MoveResult World) (q : MoveResult MonitorState) → Matches a b n limit most high from o q → Led from (deeds_said q.said) q.left
   matched from o q h = record {
     lock = h.lock;
-    judged = ap (λ (q : Outcome MonitorState). judged_all (judge_at n from) (deeds_said q.said)) h.is ∙ h.judged;
-    beside = record { world = o.left; rows = h.rows; processes = h.processes; now = h.now; is = ap (λ (q : Outcome MonitorState). q.left) h.is; alike = h.alike };
+    judged = ap (λ (q : MoveResult MonitorState). judged_all (judge_at n from) (deeds_said q.said)) h.is ∙ h.judged;
+    beside = record { world = o.left; rows = h.rows; processes = h.processes; now = h.now; is = ap (λ (q : MoveResult MonitorState). q.left) h.is; alike = h.alike };
   }
 
   -- ---- moves
 
   -- what a move of this kind does, from a world of the text beside one of the lock
-  abbrev LedBy : Abstract → (MonitorState → Outcome MonitorState) → MonitorState → Type 0
+  abbrev LedBy : Abstract → (MonitorState → MoveResult MonitorState) → MonitorState → Type 0
   LedBy lock make m = Led lock (deeds_said (make m).said) (make m).left
 
-  from_beside : (lock : Abstract) (make : MonitorState → Outcome MonitorState) (m : MonitorState) → (h : Beside lock m) → LedBy lock make (state a b n limit most high h.rows h.processes h.now) → LedBy lock make m
+  from_beside : (lock : Abstract) (make : MonitorState → MoveResult MonitorState) (m : MonitorState) → (h : Beside lock m) → LedBy lock make (state a b n limit most high h.rows h.processes h.now) → LedBy lock make m
   from_beside lock make m h led = subst (LedBy lock make) (sym h.is) led
 
-  pub start_led : (lock : Abstract) (m : MonitorState) (p : ℕ) (call : Call) → Beside lock m → LedBy lock (λ m. begun_by m (start_on m p call)) m
+  pub start_led : (lock : Abstract) (m : MonitorState) (p : ℕ) (call : AlgorithmCall) → Beside lock m → LedBy lock (λ m. begun_by m (start_on m p call)) m
   start_led lock m p call h = from_beside lock (λ m. begun_by m (start_on m p call)) m h (matched lock _ _ (start_matches a b n limit most high h.world lock h.rows h.processes h.now h.alike p call))
 
   pub step_led : (lock : Abstract) (m : MonitorState) (p : ℕ) → Beside lock m → LedBy lock (λ m. moved_by m (step_on m p)) m

@@ -2,21 +2,21 @@
 use Rattle.std.proofs.Common.{◌≡◌, ℕ, zero, suc, ◌+◌, ◌^◌, ◌<◌, ◌≤◌, max, true, List, [], ◌∷◌, Option, Some, None, Ok, refl, ap, ◌∙◌, inl, inr, arith}
 use Rattle.std.specs.Prelude.{option_map}
 use Rattle.std.proofs.lemmas.Bool.{cases_eq}
-use Rattle.rmecore.specs.Place.{Place, Door, Wait, above, others, has, relocked, recovered}
-use Rattle.rmecore.specs.Machine.{first, again, found}
+use Rattle.rmecore.specs.Place.{Place, Door, Wait, above, others, has, lock_restart, recovery_restart}
+use Rattle.rmecore.specs.Machine.{first, again, recovery_answer}
 use Rattle.rmecore.specs.World.{reentry}
 use Rattle.rmecore.specs.declared.core_done.CoreDone.{CoreDone}
 use Rattle.rmecore.specs.declared.outer.Outer.{Outer}
 use Rattle.rmecore.proofs.Scans.{above_first, lined_above, has-first}
 use Rattle.algorithm_lab.specs.Bakery.{IsBakery}
-use Rattle.algorithms.specs.Arrivals.{Landing}
+use Rattle.algorithms.specs.Arrivals.{Arrival}
 use Rattle.algorithms.specs.LocalRuns.{nothing_noted, least_from}
 use Rattle.algorithms.specs.Steps.{process_landed}
 use Rattle.algorithm_lab.specs.Moves.{answer_number}
 use Rattle.algorithms.specs.declared.algorithm.Algorithm.{Algorithm}
 use Rattle.algorithms.specs.declared.line.Members.TheVariants.{Others}
 use Rattle.algorithms.specs.declared.local.LocalState.{LocalState}
-use Rattle.algorithms.specs.declared.noted.Noted.{Noted}
+use Rattle.algorithms.specs.declared.noted.NotedDeeds.{NotedDeeds}
 use Rattle.algorithm_lab.proofs.BakeryComparisons.{constants, least_is}
 use Rattle.algorithm_lab.proofs.BakeryLocalRuns as runs
 use Rattle.algorithm_lab.proofs.BakeryLocalRuns.{names, local, Stops, From}
@@ -50,7 +50,7 @@ module _ (a : Algorithm) (b : IsBakery a) (n limit p : ℕ) (own : p < n) (most 
   least_none : (from : ℕ) → above n p from ≡ [] → least_from (constants p n limit) Others from ≡ None
   least_none from e = least_is p n limit from own ∙ none n p from e
 
-  door_end : (fuel x k i m j v : ℕ) (d : Noted) → m ≤ limit → StopsAt (suc (suc (suc fuel))) (local 21 (names x k i m j v) d) (Door [] m)
+  door_end : (fuel x k i m j v : ℕ) (d : NotedDeeds) → m ≤ limit → StopsAt (suc (suc (suc fuel))) (local 21 (names x k i m j v) d) (Door [] m)
   door_end fuel x k i m j v d low =
       let c = constants p n limit in
       elim (cases_eq m limit) [
@@ -59,7 +59,7 @@ module _ (a : Algorithm) (b : IsBakery a) (n limit p : ℕ) (own : p < n) (most 
       ]
 
   -- the doorway from its first line on
-  pub door_starts : (fuel x k i j v : ℕ) (d : Noted) (js : List ℕ) → above n p 0 ≡ js → StopsAt (suc (suc (suc (suc fuel)))) (local 17 (names x k i 0 j v) d) (Door js 0)
+  pub door_starts : (fuel x k i j v : ℕ) (d : NotedDeeds) (js : List ℕ) → above n p 0 ≡ js → StopsAt (suc (suc (suc (suc fuel)))) (local 17 (names x k i 0 j v) d) (Door js 0)
   door_starts fuel x k i j v d [] e =
       let c = constants p n limit in
       let h = door_end fuel x k i 0 0 v d (omega arith) in
@@ -92,7 +92,7 @@ module _ (a : Algorithm) (b : IsBakery a) (n limit p : ℕ) (own : p < n) (most 
       }
 
   -- waiting from its first line on
-  pub wait_starts : (fuel x k i m j v : ℕ) (d : Noted) (js : List ℕ) → above n p 0 ≡ js → StopsAt (suc (suc fuel)) (local 29 (names x k i m j v) d) (Wait k js None)
+  pub wait_starts : (fuel x k i m j v : ℕ) (d : NotedDeeds) (js : List ℕ) → above n p 0 ≡ js → StopsAt (suc (suc fuel)) (local 29 (names x k i m j v) d) (Wait k js None)
   wait_starts fuel x k i m j v d [] e =
       let c = constants p n limit in
       record { state = local 33 (names x k i m 0 v) d; run = runs.waits_none a b c fuel x k i m j v d (least_none 0 e); noted = refl; stands = (record { c = x; k = k; i = i; m = m; j = 0; v = v }, refl) }
@@ -123,7 +123,7 @@ module _ (a : Algorithm) (b : IsBakery a) (n limit p : ℕ) (own : p < n) (most 
 
   -- it stops or ends where a process of the lock at this place is, with this deed and this answer
   pub record Lands (fuel at : ℕ) (store : List ℕ) (place : Place) (deed : Option Outer) (done : Option CoreDone) : Type 0 where
-    pub landing : Landing
+    pub landing : Arrival
     pub run : From a b (constants p n limit) fuel (local at store nothing_noted) ≡ Ok landing
     pub noted : landing.state.noted ≡ noted_by deed
     pub answer : landing.answer ≡ option_map answer_number done
@@ -134,7 +134,7 @@ module _ (a : Algorithm) (b : IsBakery a) (n limit p : ℕ) (own : p < n) (most 
   stopped fuel at store place h = record { landing = record { answer = None; state = h.state }; run = h.run; noted = h.noted; answer = refl; stands = h.stands }
 
   -- the restart table of a lock
-  pub relocks : (c k i : ℕ) → c ≤ 1 → i ≤ 1 → Lands 60 3 (names c k i 0 0 0) (relocked n p c k i) (reentry p c k i) (again c k i)
+  pub relocks : (c k i : ℕ) → c ≤ 1 → i ≤ 1 → Lands 60 3 (names c k i 0 0 0) (lock_restart n p c k i) (reentry p c k i) (again c k i)
   relocks zero zero zero low small =
       record { landing = _; run = runs.relocks_idle a b (constants p n limit) 54 0 0 0; noted = refl; answer = refl; stands = (record { c = 0; k = 0; i = 0; m = 0; j = 0; v = 0 }, refl) }
   relocks zero zero (suc zero) low small =
@@ -154,7 +154,7 @@ module _ (a : Algorithm) (b : IsBakery a) (n limit p : ℕ) (own : p < n) (most 
   relocks zero (suc k) (suc (suc i)) low small = absurd (omega arith)
 
   -- the restart table of a recovery
-  pub recovers : (c k i : ℕ) → c ≤ 1 → i ≤ 1 → Lands 60 43 (names c k i 0 0 0) (recovered c k i) (reentry p c k i) (found c k i)
+  pub recovers : (c k i : ℕ) → c ≤ 1 → i ≤ 1 → Lands 60 43 (names c k i 0 0 0) (recovery_restart c k i) (reentry p c k i) (recovery_answer c k i)
   recovers zero zero zero low small =
       record { landing = _; run = runs.recovers_idle a b (constants p n limit) 54 0 0 0; noted = refl; answer = refl; stands = refl }
   recovers zero zero (suc zero) low small =

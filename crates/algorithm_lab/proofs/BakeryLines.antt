@@ -10,28 +10,28 @@ use Rattle.algorithms.specs.declared.algorithm.Declaration.{Declaration}
 use Rattle.algorithms.specs.declared.constants.Constants.{Constants}
 use Rattle.algorithms.specs.declared.expression.Expression.{Expression}
 use Rattle.algorithms.specs.declared.line.AccessLine.{AccessLine}
-use Rattle.algorithms.specs.declared.line.Form.{Form}
-use Rattle.algorithms.specs.declared.line.Form.TheVariants.{Access, Local, Done}
-use Rattle.algorithms.specs.declared.line.Line.{Line}
+use Rattle.algorithms.specs.declared.line.LineKind.{LineKind}
+use Rattle.algorithms.specs.declared.line.LineKind.TheVariants.{Access, Local, Done}
+use Rattle.algorithms.specs.declared.line.AlgorithmLine.{AlgorithmLine}
 use Rattle.algorithms.specs.declared.line.LocalLine.{LocalLine}
 use Rattle.algorithms.specs.declared.local.LocalState.{LocalState}
 use Rattle.algorithms.specs.declared.refusal.AlgorithmRefusal.TheVariants.{OutOfRange, Malformed}
 
 -- the line at a place has this form
-pub record HasForm (all : List Line) (at : ℕ) (f : Form) : Type 0 where
-  pub line : Line
+pub record HasForm (all : List AlgorithmLine) (at : ℕ) (f : LineKind) : Type 0 where
+  pub line : AlgorithmLine
   pub there : slice_get all at ≡ Some line
   pub form : line.form ≡ f
 
-mapped_form : (all : List Line) (at : ℕ) (f : Form) → slice_get (map form_of all) at ≡ Some f → HasForm all at f
+mapped_form : (all : List AlgorithmLine) (at : ℕ) (f : LineKind) → slice_get (map form_of all) at ≡ Some f → HasForm all at f
 mapped_form [] at f e = cc
 mapped_form (line ∷ all) zero f e = record { line = line; there = refl; form = cc }
 mapped_form (line ∷ all) (suc at) f e = let rest = mapped_form all at f e in record { line = rest.line; there = rest.there; form = rest.form }
 
-pub has_form : (a : Algorithm) → (b : IsBakery a) → (at : ℕ) (f : Form) → slice_get (lines b.lock_boxes b.recover_boxes) at ≡ Some f → HasForm a.lines.items at f
+pub has_form : (a : Algorithm) → (b : IsBakery a) → (at : ℕ) (f : LineKind) → slice_get (lines b.lock_boxes b.recover_boxes) at ≡ Some f → HasForm a.lines.items at f
 has_form a b at f e = mapped_form a.lines.items at f (ap (λ all. slice_get all at) b.lines ∙ e)
 
-mapped_length : (all : List Line) → length (map form_of all) ≡ length all
+mapped_length : (all : List AlgorithmLine) → length (map form_of all) ≡ length all
 mapped_length [] = refl
 mapped_length (line ∷ all) = ap suc (mapped_length all)
 
@@ -65,18 +65,18 @@ access_there a at line h =
     ap (λ o. ok_or o (Malformed at) >>= (λ l. access_line at l.form)) h.there ∙ ap (λ f. access_line at f) h.form
 
 -- one line of a run
-formed : (all : List Line) (c : Constants) (n : ℕ) (s : LocalState) (f : Form) → HasForm all s.at f → arrives all c (suc n) s ≡ (local_step_of c f s >>= arrives_after (arrives all c n) s)
+formed : (all : List AlgorithmLine) (c : Constants) (n : ℕ) (s : LocalState) (f : LineKind) → HasForm all s.at f → arrives all c (suc n) s ≡ (local_step_of c f s >>= arrives_after (arrives all c n) s)
 formed all c n s f h =
     ap (λ o. (ok_or o (Malformed s.at) >>= (λ l. local_step_of c l.form s)) >>= arrives_after (arrives all c n) s) h.there
     ∙ ap (λ g. local_step_of c g s >>= arrives_after (arrives all c n) s) h.form
 
-pub goes : (all : List Line) (c : Constants) (n : ℕ) (s t : LocalState) (line : LocalLine) → HasForm all s.at (Local line) → local_line_done c (s.at + 1) line s ≡ Some t → arrives all c (suc n) s ≡ arrives all c n t
+pub goes : (all : List AlgorithmLine) (c : Constants) (n : ℕ) (s t : LocalState) (line : LocalLine) → HasForm all s.at (Local line) → local_line_done c (s.at + 1) line s ≡ Some t → arrives all c (suc n) s ≡ arrives all c n t
 goes all c n s t line h done =
     formed all c n s (Local line) h
     ∙ ap (λ o. (ok_or o (OutOfRange s.at) >>= (λ next. Ok (GoesOn next))) >>= arrives_after (arrives all c n) s) done
 
-pub stops : (all : List Line) (c : Constants) (n : ℕ) (s : LocalState) (line : AccessLine) → HasForm all s.at (Access line) → arrives all c (suc n) s ≡ Ok (record { answer = None; state = s })
+pub stops : (all : List AlgorithmLine) (c : Constants) (n : ℕ) (s : LocalState) (line : AccessLine) → HasForm all s.at (Access line) → arrives all c (suc n) s ≡ Ok (record { answer = None; state = s })
 stops all c n s line h = formed all c n s (Access line) h
 
-pub ends : (all : List Line) (c : Constants) (n : ℕ) (s : LocalState) (answer : ℕ) → HasForm all s.at (Done answer) → arrives all c (suc n) s ≡ Ok (record { answer = Some answer; state = s })
+pub ends : (all : List AlgorithmLine) (c : Constants) (n : ℕ) (s : LocalState) (answer : ℕ) → HasForm all s.at (Done answer) → arrives all c (suc n) s ≡ Ok (record { answer = Some answer; state = s })
 ends all c n s answer h = formed all c n s (Done answer) h

@@ -2,19 +2,19 @@
 use Rattle.std.proofs.Common.{◌≡◌, ℕ, suc, ◌+◌, ◌-◌, ◌^◌, ◌<◌, max, true, false, cond, List, ◌∷◌, Option, Some, None, Result, Ok, refl, ap, ◌∙◌, arith}
 use Rattle.std.specs.Prelude.{option_and_then, replicate}
 use Rattle.std.proofs.lemmas.Bool.{lt-ltb}
-use Rattle.algorithms.specs.Arrivals.{Landing, arrives}
+use Rattle.algorithms.specs.Arrivals.{Arrival, arrives}
 use Rattle.algorithms.specs.Values.{fitting, holds}
 use Rattle.algorithm_lab.specs.Bakery.{IsBakery}
 use Rattle.algorithms.specs.declared.algorithm.Algorithm.{Algorithm}
 use Rattle.algorithms.specs.declared.condition.Condition.{Condition}
 use Rattle.algorithms.specs.declared.constants.Constants.{Constants}
-use Rattle.algorithms.specs.declared.line.Deed.{Deed}
-use Rattle.algorithms.specs.declared.line.Deed.TheVariants.{Begin, Ready, Enter, Reenter, Leave, Quit}
-use Rattle.algorithms.specs.declared.line.Form.TheVariants.{Local}
+use Rattle.algorithms.specs.declared.line.AlgorithmDeed.{AlgorithmDeed}
+use Rattle.algorithms.specs.declared.line.AlgorithmDeed.TheVariants.{Begin, Ready, Enter, Reenter, Leave, Quit}
+use Rattle.algorithms.specs.declared.line.LineKind.TheVariants.{Local}
 use Rattle.algorithms.specs.declared.line.LocalLine.TheVariants.{Branch, Next}
 use Rattle.algorithms.specs.declared.line.Members.TheVariants.{Others}
 use Rattle.algorithms.specs.declared.local.LocalState.{LocalState}
-use Rattle.algorithms.specs.declared.noted.Noted.{Noted}
+use Rattle.algorithms.specs.declared.noted.NotedDeeds.{NotedDeeds}
 use Rattle.algorithms.specs.declared.refusal.AlgorithmRefusal.{AlgorithmRefusal}
 use Rattle.algorithms.specs.LocalRuns.{nothing_noted, least_from, round_at, at_place, local_line_done}
 use Rattle.algorithm_lab.proofs.BakeryComparisons.{eq_yes, eq_no, gt_yes}
@@ -32,22 +32,22 @@ pub record Names : Type 0 where
 abbrev pub names : (c k i m j v : ℕ) → List ℕ
 names c k i m j v = c ∷ k ∷ i ∷ m ∷ j ∷ v ∷ replicate 26 0
 
-abbrev pub local : ℕ → List ℕ → Noted → LocalState
+abbrev pub local : ℕ → List ℕ → NotedDeeds → LocalState
 local at store noted = record { at = at; store = store; noted = noted }
 
-abbrev pub one : Deed → Noted
+abbrev pub one : AlgorithmDeed → NotedDeeds
 one d = record { first = Some d; second = None; third = None }
 
 -- it stops at an access, or ends with an answer
-abbrev pub Stops : LocalState → Result Landing AlgorithmRefusal
+abbrev pub Stops : LocalState → Result Arrival AlgorithmRefusal
 Stops s = Ok (record { answer = None; state = s })
 
-abbrev pub Ends : ℕ → LocalState → Result Landing AlgorithmRefusal
+abbrev pub Ends : ℕ → LocalState → Result Arrival AlgorithmRefusal
 Ends answer s = Ok (record { answer = Some answer; state = s })
 
 module _ (a : Algorithm) (b : IsBakery a) (c : Constants) where
   -- from this line with n lines more
-  abbrev pub From : ℕ → LocalState → Result Landing AlgorithmRefusal
+  abbrev pub From : ℕ → LocalState → Result Arrival AlgorithmRefusal
   From n s = arrives a.lines.items c n s
 
   branch_yes : (n : ℕ) (s : LocalState) (condition : Condition) (otherwise : ℕ) → HasForm a.lines.items s.at (Local (Branch condition otherwise)) → holds c s.store condition ≡ Some true → From (suc n) s ≡ From n (at_place (s.at + 1) s)
@@ -58,12 +58,12 @@ module _ (a : Algorithm) (b : IsBakery a) (c : Constants) where
 
   -- ---- the doorway, from its loop on
 
-  pub spends : (n x k i m j v : ℕ) (d : Noted) → m ≡ c.limit → From (suc (suc n)) (local 21 (names x k i m j v) d) ≡ Stops (local 22 (names x k i m j v) d)
+  pub spends : (n x k i m j v : ℕ) (d : NotedDeeds) → m ≡ c.limit → From (suc (suc n)) (local 21 (names x k i m j v) d) ≡ Stops (local 22 (names x k i m j v) d)
   spends n x k i m j v d e =
       branch_yes (suc n) (local 21 (names x k i m j v) d) _ _ (has_form a b 21 _ refl) (ap Some (eq_yes m c.limit e))
       ∙ stops a.lines.items c n (local 22 (names x k i m j v) d) _ (has_form a b 22 _ refl)
 
-  pub takes : (n x k i m j v : ℕ) (d : Noted) → (m ≡ c.limit → ⊥) → m + 1 < 2 ^ 64 → From (suc (suc (suc n))) (local 21 (names x k i m j v) d) ≡ Stops (local 26 (names x (m + 1) i m j v) d)
+  pub takes : (n x k i m j v : ℕ) (d : NotedDeeds) → (m ≡ c.limit → ⊥) → m + 1 < 2 ^ 64 → From (suc (suc (suc n))) (local 21 (names x k i m j v) d) ≡ Stops (local 26 (names x (m + 1) i m j v) d)
   takes n x k i m j v d ne low =
       branch_no (suc (suc n)) (local 21 (names x k i m j v) d) _ _ (has_form a b 21 _ refl) (ap Some (eq_no m c.limit ne))
       ∙ goes a.lines.items c (suc n) (local 25 (names x k i m j v) d) (local 26 (names x (m + 1) i m j v) d) _ (has_form a b 25 _ refl)
@@ -71,27 +71,27 @@ module _ (a : Algorithm) (b : IsBakery a) (c : Constants) where
       ∙ stops a.lines.items c n (local 26 (names x (m + 1) i m j v) d) _ (has_form a b 26 _ refl)
 
   -- the head of a loop
-  pub peeks_first : (n x k i m j v r : ℕ) (d : Noted) → least_from c Others 0 ≡ Some r → From (suc (suc n)) (local 17 (names x k i m j v) d) ≡ Stops (local 18 (names x k i m r v) d)
+  pub peeks_first : (n x k i m j v r : ℕ) (d : NotedDeeds) → least_from c Others 0 ≡ Some r → From (suc (suc n)) (local 17 (names x k i m j v) d) ≡ Stops (local 18 (names x k i m r v) d)
   peeks_first n x k i m j v r d e =
       goes a.lines.items c (suc n) (local 17 (names x k i m j v) d) (local 18 (names x k i m r v) d) _ (has_form a b 17 _ refl) (ap (λ o. Some (round_at 4 18 21 (local 17 (names x k i m j v) d) o)) e)
       ∙ stops a.lines.items c n (local 18 (names x k i m r v) d) _ (has_form a b 18 _ refl)
 
-  pub peeks_none : (n x k i m j v : ℕ) (d : Noted) → least_from c Others 0 ≡ None → From (suc n) (local 17 (names x k i m j v) d) ≡ From n (local 21 (names x k i m 0 v) d)
+  pub peeks_none : (n x k i m j v : ℕ) (d : NotedDeeds) → least_from c Others 0 ≡ None → From (suc n) (local 17 (names x k i m j v) d) ≡ From n (local 21 (names x k i m 0 v) d)
   peeks_none n x k i m j v d e =
       goes a.lines.items c n (local 17 (names x k i m j v) d) (local 21 (names x k i m 0 v) d) _ (has_form a b 17 _ refl) (ap (λ o. Some (round_at 4 18 21 (local 17 (names x k i m j v) d) o)) e)
 
-  pub waits_first : (n x k i m j v r : ℕ) (d : Noted) → least_from c Others 0 ≡ Some r → From (suc (suc n)) (local 29 (names x k i m j v) d) ≡ Stops (local 30 (names x k i m r v) d)
+  pub waits_first : (n x k i m j v r : ℕ) (d : NotedDeeds) → least_from c Others 0 ≡ Some r → From (suc (suc n)) (local 29 (names x k i m j v) d) ≡ Stops (local 30 (names x k i m r v) d)
   waits_first n x k i m j v r d e =
       goes a.lines.items c (suc n) (local 29 (names x k i m j v) d) (local 30 (names x k i m r v) d) _ (has_form a b 29 _ refl) (ap (λ o. Some (round_at 4 30 33 (local 29 (names x k i m j v) d) o)) e)
       ∙ stops a.lines.items c n (local 30 (names x k i m r v) d) _ (has_form a b 30 _ refl)
 
-  pub waits_none : (n x k i m j v : ℕ) (d : Noted) → least_from c Others 0 ≡ None → From (suc (suc n)) (local 29 (names x k i m j v) d) ≡ Stops (local 33 (names x k i m 0 v) d)
+  pub waits_none : (n x k i m j v : ℕ) (d : NotedDeeds) → least_from c Others 0 ≡ None → From (suc (suc n)) (local 29 (names x k i m j v) d) ≡ Stops (local 33 (names x k i m 0 v) d)
   waits_none n x k i m j v d e =
       goes a.lines.items c (suc n) (local 29 (names x k i m j v) d) (local 33 (names x k i m 0 v) d) _ (has_form a b 29 _ refl) (ap (λ o. Some (round_at 4 30 33 (local 29 (names x k i m j v) d) o)) e)
       ∙ stops a.lines.items c n (local 33 (names x k i m 0 v) d) _ (has_form a b 33 _ refl)
 
   -- the end of a loop
-  further : (next body x k i m j v : ℕ) (d : Noted) (o : Option ℕ) → j + 1 < 2 ^ 64 → least_from c Others (j + 1) ≡ o
+  further : (next body x k i m j v : ℕ) (d : NotedDeeds) (o : Option ℕ) → j + 1 < 2 ^ 64 → least_from c Others (j + 1) ≡ o
       → local_line_done c next (Next 4 Others body) (local (next - 1) (names x k i m j v) d) ≡ Some (round_at 4 body next (local (next - 1) (names x k i m j v) d) o)
   further next body x k i m j v d o low e =
       ap (λ t. option_and_then (λ r. Some (round_at 4 body next (local (next - 1) (names x k i m j v) d) (least_from c Others r))) (fitting t (j + 1))) (lt-ltb (j + 1) (2 ^ 64) low)

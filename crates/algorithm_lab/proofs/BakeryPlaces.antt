@@ -6,24 +6,24 @@ use Rattle.rmecore.specs.declared.outer.Outer.{Outer}
 use Rattle.rmecore.specs.declared.outer.Outer.TheVariants as outers
 use Rattle.algorithms.specs.Worlds.{no_names, resting}
 use Rattle.algorithms.specs.LocalRuns.{nothing_noted}
-use Rattle.algorithms.specs.declared.line.Deed.TheVariants.{Begin, Ready, Enter, Reenter, Leave, Quit}
-use Rattle.algorithms.specs.declared.noted.Noted.{Noted}
-use Rattle.algorithms.specs.declared.process.Place.TheVariants as at
-use Rattle.algorithms.specs.declared.process.Process.{Process}
+use Rattle.algorithms.specs.declared.line.AlgorithmDeed.TheVariants.{Begin, Ready, Enter, Reenter, Leave, Quit}
+use Rattle.algorithms.specs.declared.noted.NotedDeeds.{NotedDeeds}
+use Rattle.algorithms.specs.declared.process.AlgorithmPlace.TheVariants as at
+use Rattle.algorithms.specs.declared.process.AlgorithmProcess.{AlgorithmProcess}
 use Rattle.algorithm_lab.proofs.BakeryLocalRuns.{Names, names, one}
 
 -- before the access of a line
-abbrev pub before : ℕ → List ℕ → Process
+abbrev pub before : ℕ → List ℕ → AlgorithmProcess
 before place store = record { place = at.At place; store = store }
 
-abbrev pub dead : Process
+abbrev pub dead : AlgorithmProcess
 dead = record { place = at.Dead; store = no_names }
 
 abbrev pub all_names : Names → List ℕ
 all_names x = names x.c x.k x.i x.m x.j x.v
 
 -- the doorway once all numbers are read
-abbrev pub AtEnd : ℕ → ℕ → Names → Process → Type 0
+abbrev pub AtEnd : ℕ → ℕ → Names → AlgorithmProcess → Type 0
 AtEnd limit m x t =
     ((m ≡ limit) × (t ≡ before 22 (names x.c x.k x.i m x.j x.v)))
     ⊎ ((m ≡ limit → ⊥) × (t ≡ before 26 (names x.c (m + 1) x.i m x.j x.v)))
@@ -33,7 +33,7 @@ abbrev pub IsLoop : ℕ → ℕ → ℕ → List ℕ → Type 0
 IsLoop n p j js = (j < n) × (js ≡ above n p (j + 1))
 
 -- process p of the text is where process p of the lock is
-abbrev pub Stands : ℕ → ℕ → ℕ → Place → Process → Type 0
+abbrev pub Stands : ℕ → ℕ → ℕ → Place → AlgorithmProcess → Type 0
 Stands n limit p Rest t = t ≡ resting
 Stands n limit p Dead t = t ≡ dead
 Stands n limit p (Reread Lock []) t = t ≡ before 0 no_names
@@ -61,7 +61,7 @@ Stands n limit p (Unmarking Recover) t = (x : Names) × (t ≡ before 55 (all_na
 Stands n limit p (Unmarking call) t = ⊥
 
 -- the note of a deed
-abbrev pub noted_by : Option Outer → Noted
+abbrev pub noted_by : Option Outer → NotedDeeds
 noted_by None = nothing_noted
 noted_by (Some (outers.Begin p)) = one Begin
 noted_by (Some (outers.Ready p)) = one Ready
@@ -72,6 +72,6 @@ noted_by (Some (outers.Quit p)) = one Quit
 noted_by (Some (outers.Crash p)) = nothing_noted
 
 -- a step that is allowed
-pub chosen : (n limit p : ℕ) (b : Bool) (to from : Place) (t : Process) → b ≡ true → Stands n limit p to t → Stands n limit p (unwrap_or (only b to) from) t
+pub chosen : (n limit p : ℕ) (b : Bool) (to from : Place) (t : AlgorithmProcess) → b ≡ true → Stands n limit p to t → Stands n limit p (unwrap_or (only b to) from) t
 chosen n limit p true to from t e h = h
 chosen n limit p false to from t e h = absurd (cc)

@@ -1,7 +1,7 @@
 -- A start on the text and on the lock: both are refused alike, or lead to the same place.
 use Rattle.std.proofs.Common.{◌≡◌, ℕ, ◌⊎◌, Bool, true, false, if◌then◌else◌, List, [], ◌∷◌, Option, Some, None, Result, Ok, Err, unwrap_or, refl, sym, ap, ◌∙◌, subst, inl, inr}
 use Rattle.std.specs.Prelude.{ok_or}
-use Rattle.rmecore.specs.Place.{Place, Rest, Dead, Reread, Opening, Door, Shutting, Wait, Inside, Leaving, Withdrawing, Unmarking, started as lock_started}
+use Rattle.rmecore.specs.Place.{Place, Rest, Dead, Reread, Opening, Door, Shutting, Wait, Inside, Leaving, Withdrawing, Unmarking, place_after_start as lock_started}
 use Rattle.rmecore.specs.Refused.{start_refusal as lock_refusal, number_of as lock_number}
 use Rattle.rmecore.specs.declared.core_call.CoreCall.TheVariants as cores
 use Rattle.rmecore.specs.declared.phase.Phase.{Phase}
@@ -14,15 +14,15 @@ use Rattle.algorithms.specs.LocalRuns.{nothing_noted}
 use Rattle.algorithm_lab.specs.Monitors.{is_idle, phase_refusal}
 use Rattle.algorithm_lab.specs.Refusals.{number_of}
 use Rattle.algorithm_lab.specs.Moves.{core_call}
-use Rattle.algorithms.specs.Steps.{kept}
-use Rattle.algorithms.specs.Worlds.{begun, begun_at, begun_from, entry_of, may_withdraw, no_names, resting, start_refusal, unless}
+use Rattle.algorithms.specs.Steps.{lasting_names}
+use Rattle.algorithms.specs.Worlds.{process_after_start, begun_at, begun_from, entry_of, may_withdraw, no_names, resting, start_refusal, unless}
 use Rattle.algorithms.specs.declared.algorithm.Algorithm.{Algorithm}
-use Rattle.algorithms.specs.declared.algorithm.Call.{Call}
-use Rattle.algorithms.specs.declared.algorithm.Call.TheVariants.{Lock, Unlock, Recover, Withdraw}
+use Rattle.algorithms.specs.declared.algorithm.AlgorithmCall.{AlgorithmCall}
+use Rattle.algorithms.specs.declared.algorithm.AlgorithmCall.TheVariants.{Lock, Unlock, Recover, Withdraw}
 use Rattle.algorithms.specs.declared.constants.Constants.{Constants}
 use Rattle.algorithms.specs.declared.line.AccessLine.{AccessLine}
-use Rattle.algorithms.specs.declared.line.Form.TheVariants as forms
-use Rattle.algorithms.specs.declared.process.Process.{Process}
+use Rattle.algorithms.specs.declared.line.LineKind.TheVariants as forms
+use Rattle.algorithms.specs.declared.process.AlgorithmProcess.{AlgorithmProcess}
 use Rattle.algorithms.specs.declared.refusal.AlgorithmRefusal.{AlgorithmRefusal}
 use Rattle.algorithms.specs.declared.refusal.AlgorithmRefusal.TheVariants.{NoSuchCall, CallUnderWay, NotWaiting}
 use Rattle.algorithm_lab.specs.declared.run_refusal.RunRefusal.{RunRefusal}
@@ -32,20 +32,20 @@ use Rattle.algorithm_lab.proofs.BakeryComparisons.{constants}
 use Rattle.algorithm_lab.proofs.BakeryLocalRuns.{local}
 use Rattle.algorithm_lab.proofs.BakeryPlaces.{before, dead, Stands}
 
-pub by_call : (P : Call → Type 0) → P Lock → P Unlock → P Recover → P Withdraw → (call : Call) → P call
+pub by_call : (P : AlgorithmCall → Type 0) → P Lock → P Unlock → P Recover → P Withdraw → (call : AlgorithmCall) → P call
 by_call P l u r w Lock = l
 by_call P l u r w Unlock = u
 by_call P l u r w Recover = r
 by_call P l u r w Withdraw = w
 
-abbrev entry_place : Call → ℕ
+abbrev entry_place : AlgorithmCall → ℕ
 entry_place Lock = 0
 entry_place Unlock = 36
 entry_place Recover = 40
 entry_place Withdraw = 57
 
 -- why the laboratory refuses a start before the world is asked
-abbrev pub phase_part : Process → Phase → Call → Option RunRefusal
+abbrev pub phase_part : AlgorithmProcess → Phase → AlgorithmCall → Option RunRefusal
 phase_part t phase call = if is_idle t.place then phase_refusal phase call else None
 
 -- a place at which a call is under way that may not be withdrawn
@@ -56,11 +56,11 @@ IsBusy Inside = ⊥
 IsBusy (Wait k unpassed looked) = ⊥
 IsBusy _ = Unit {0}
 
-abbrev busy_refusal : Call → Option Refusal
+abbrev busy_refusal : AlgorithmCall → Option Refusal
 busy_refusal Withdraw = Some refusals.NotWaiting
 busy_refusal _ = Some refusals.CallUnderWay
 
-busy_lock : (place : Place) → IsBusy place → (call : Call) → lock_refusal place (core_call call) ≡ busy_refusal call
+busy_lock : (place : Place) → IsBusy place → (call : AlgorithmCall) → lock_refusal place (core_call call) ≡ busy_refusal call
 busy_lock (Reread c s) h = by_call (λ call. lock_refusal (Reread c s) (core_call call) ≡ busy_refusal call) refl refl refl refl
 busy_lock Opening h = by_call (λ call. lock_refusal Opening (core_call call) ≡ busy_refusal call) refl refl refl refl
 busy_lock (Door u m) h = by_call (λ call. lock_refusal (Door u m) (core_call call) ≡ busy_refusal call) refl refl refl refl
@@ -84,15 +84,15 @@ module _ (a : Algorithm) (b : IsBakery a) (n limit p : ℕ) where
   abbrev me : Constants
   me = constants p n limit
 
-  abbrev begun_there : Process → Call → Result Process AlgorithmRefusal
-  begun_there t call = unless (start_refusal a t.place call) (Ok (entry_place call)) >>= (λ at. begun_from a me at (kept 0 t.store))
+  abbrev begun_there : AlgorithmProcess → AlgorithmCall → Result AlgorithmProcess AlgorithmRefusal
+  begun_there t call = unless (start_refusal a t.place call) (Ok (entry_place call)) >>= (λ at. begun_from a me at (lasting_names 0 t.store))
 
-  begun_is : (t : Process) (call : Call) → begun a me t call ≡ begun_there t call
+  begun_is : (t : AlgorithmProcess) (call : AlgorithmCall) → process_after_start a me t call ≡ begun_there t call
   begun_is t call =
-      ap (λ es. ok_or (entry_of es call) NoSuchCall >>= (λ entry. unless (start_refusal a t.place call) (Ok entry) >>= (λ at. begun_from a me at (kept a.lasting t.store)))) b.entries
-      ∙ by_call (λ call. (ok_or (entry_of (record { lock = 0; unlock = 36; recover = Some 40; withdraw = Some 57 }) call) NoSuchCall >>= (λ entry. unless (start_refusal a t.place call) (Ok entry) >>= (λ at. begun_from a me at (kept a.lasting t.store))))
-      ≡ (unless (start_refusal a t.place call) (Ok (entry_place call)) >>= (λ at. begun_from a me at (kept a.lasting t.store)))) refl refl refl refl call
-      ∙ ap (λ l. unless (start_refusal a t.place call) (Ok (entry_place call)) >>= (λ at. begun_from a me at (kept l t.store))) b.lasting
+      ap (λ es. ok_or (entry_of es call) NoSuchCall >>= (λ entry. unless (start_refusal a t.place call) (Ok entry) >>= (λ at. begun_from a me at (lasting_names a.lasting t.store)))) b.entries
+      ∙ by_call (λ call. (ok_or (entry_of (record { lock = 0; unlock = 36; recover = Some 40; withdraw = Some 57 }) call) NoSuchCall >>= (λ entry. unless (start_refusal a t.place call) (Ok entry) >>= (λ at. begun_from a me at (lasting_names a.lasting t.store))))
+      ≡ (unless (start_refusal a t.place call) (Ok (entry_place call)) >>= (λ at. begun_from a me at (lasting_names a.lasting t.store)))) refl refl refl refl call
+      ∙ ap (λ l. unless (start_refusal a t.place call) (Ok (entry_place call)) >>= (λ at. begun_from a me at (lasting_names l t.store))) b.lasting
 
   begins_at : (at : ℕ) (line : AccessLine) → HasForm a.lines.items at (forms.Access line) → begun_from a me at no_names ≡ Ok (before at no_names)
   begins_at at line h =
@@ -100,7 +100,7 @@ module _ (a : Algorithm) (b : IsBakery a) (n limit p : ℕ) where
       ∙ ap (λ r. r >>= (λ l. begun_at l.state l.answer)) (stops a.lines.items me 59 (local at no_names nothing_noted) line h)
 
   -- the process is before an access at which a withdraw may begin, or may not
-  record IsAt (t : Process) (may : Bool) : Type 0 where
+  record IsAt (t : AlgorithmProcess) (may : Bool) : Type 0 where
     pub place : ℕ
     pub store : List ℕ
     pub line : AccessLine
@@ -108,7 +108,7 @@ module _ (a : Algorithm) (b : IsBakery a) (n limit p : ℕ) where
     pub there : HasForm a.lines.items place (forms.Access line)
     pub withdraws : line.may_withdraw ≡ may
 
-  busy_text : (place : Place) (t : Process) → IsBusy place → Stands n limit p place t → IsAt t false
+  busy_text : (place : Place) (t : AlgorithmProcess) → IsBusy place → Stands n limit p place t → IsAt t false
   busy_text (Reread cores.Lock []) t h e = record { place = 0; store = _; line = _; is = e; there = has_form a b 0 _ refl; withdraws = refl }
   busy_text (Reread cores.Lock (c ∷ [])) t h e = record { place = 1; store = _; line = _; is = e; there = has_form a b 1 _ refl; withdraws = refl }
   busy_text (Reread cores.Lock (c ∷ k ∷ [])) t h e = record { place = 2; store = _; line = _; is = e; there = has_form a b 2 _ refl; withdraws = refl }
@@ -137,7 +137,7 @@ module _ (a : Algorithm) (b : IsBakery a) (n limit p : ℕ) where
   busy_text Inside t h e = absurd h
   busy_text (Wait k u l) t h e = absurd h
 
-  wait_text : (k : ℕ) (unpassed : List ℕ) (looked : Option ℕ) (t : Process) → Stands n limit p (Wait k unpassed looked) t → IsAt t true
+  wait_text : (k : ℕ) (unpassed : List ℕ) (looked : Option ℕ) (t : AlgorithmProcess) → Stands n limit p (Wait k unpassed looked) t → IsAt t true
   wait_text k [] None t e = record { place = 33; store = _; line = _; is = e.1; there = has_form a b 33 _ refl; withdraws = refl }
   wait_text k (j ∷ js) None t e = record { place = 30; store = _; line = _; is = e.1; there = has_form a b 30 _ refl; withdraws = refl }
   wait_text k unpassed (Some j) t e = record { place = 31; store = _; line = _; is = e.1; there = has_form a b 31 _ refl; withdraws = refl }
@@ -145,43 +145,43 @@ module _ (a : Algorithm) (b : IsBakery a) (n limit p : ℕ) where
   -- ---- what a start does, by what the lock says of it
 
   -- the text refuses it with this number
-  pub record IsRefused (t : Process) (phase : Phase) (call : Call) (number : Option ℕ) : Type 0 where
+  pub record IsRefused (t : AlgorithmProcess) (phase : Phase) (call : AlgorithmCall) (number : Option ℕ) : Type 0 where
     pub refusal : RunRefusal
     pub number_is : number_of refusal ≡ number
-    pub by : (phase_part t phase call ≡ Some refusal) ⊎ ((phase_part t phase call ≡ None) × ((e : AlgorithmRefusal) × (begun a me t call ≡ Err e) × (refusal ≡ Refused e)))
+    pub by : (phase_part t phase call ≡ Some refusal) ⊎ ((phase_part t phase call ≡ None) × ((e : AlgorithmRefusal) × (process_after_start a me t call ≡ Err e) × (refusal ≡ Refused e)))
 
-  pub record IsBegun (t : Process) (phase : Phase) (call : Call) (place : Place) : Type 0 where
-    pub process : Process
+  pub record IsBegun (t : AlgorithmProcess) (phase : Phase) (call : AlgorithmCall) (place : Place) : Type 0 where
+    pub process : AlgorithmProcess
     pub allowed : phase_part t phase call ≡ None
-    pub is : begun a me t call ≡ Ok process
+    pub is : process_after_start a me t call ≡ Ok process
     pub stands : Stands n limit p place process
 
-  abbrev pub StartIf : Process → Phase → Call → Place → Option Refusal → Type 0
+  abbrev pub StartIf : AlgorithmProcess → Phase → AlgorithmCall → Place → Option Refusal → Type 0
   StartIf t phase call place None = IsBegun t phase call place
   StartIf t phase call place (Some refusal) = IsRefused t phase call (lock_number refusal)
 
-  by_world : (t : Process) (phase : Phase) (call : Call) (number : Option ℕ) (e : AlgorithmRefusal) → number_of (Refused e) ≡ number → phase_part t phase call ≡ None → begun_there t call ≡ Err e → IsRefused t phase call number
+  by_world : (t : AlgorithmProcess) (phase : Phase) (call : AlgorithmCall) (number : Option ℕ) (e : AlgorithmRefusal) → number_of (Refused e) ≡ number → phase_part t phase call ≡ None → begun_there t call ≡ Err e → IsRefused t phase call number
   by_world t phase call number e same free is = record { refusal = Refused e; number_is = same; by = inr (free, (e, begun_is t call ∙ is, refl)) }
 
-  by_phase : (t : Process) (phase : Phase) (call : Call) (number : Option ℕ) (e : RunRefusal) → number_of e ≡ number → phase_part t phase call ≡ Some e → IsRefused t phase call number
+  by_phase : (t : AlgorithmProcess) (phase : Phase) (call : AlgorithmCall) (number : Option ℕ) (e : RunRefusal) → number_of e ≡ number → phase_part t phase call ≡ Some e → IsRefused t phase call number
   by_phase t phase call number e same is = record { refusal = e; number_is = same; by = inl is }
 
-  begins : (t : Process) (phase : Phase) (call : Call) (place : Place) (process : Process) → phase_part t phase call ≡ None → begun_there t call ≡ Ok process → Stands n limit p place process → IsBegun t phase call place
+  begins : (t : AlgorithmProcess) (phase : Phase) (call : AlgorithmCall) (place : Place) (process : AlgorithmProcess) → phase_part t phase call ≡ None → begun_there t call ≡ Ok process → Stands n limit p place process → IsBegun t phase call place
   begins t phase call place process free is stands = record { process = process; allowed = free; is = begun_is t call ∙ is; stands = stands }
 
   -- under way, in a call that may not be withdrawn
-  not_waiting : (t : Process) → (at : IsAt t false) → begun_there (before at.place at.store) Withdraw ≡ Err NotWaiting
+  not_waiting : (t : AlgorithmProcess) → (at : IsAt t false) → begun_there (before at.place at.store) Withdraw ≡ Err NotWaiting
   not_waiting t at =
-      ap (λ r. unless (if may_withdraw r then None else Some NotWaiting) (Ok 57) >>= (λ from. begun_from a me from (kept 0 at.store))) (access_there a at.place at.line at.there)
-      ∙ ap (λ t. unless (if t then None else Some NotWaiting) (Ok 57) >>= (λ from. begun_from a me from (kept 0 at.store))) at.withdraws
+      ap (λ r. unless (if may_withdraw r then None else Some NotWaiting) (Ok 57) >>= (λ from. begun_from a me from (lasting_names 0 at.store))) (access_there a at.place at.line at.there)
+      ∙ ap (λ t. unless (if t then None else Some NotWaiting) (Ok 57) >>= (λ from. begun_from a me from (lasting_names 0 at.store))) at.withdraws
 
-  may_give_up : (t : Process) → (at : IsAt t true) → begun_there (before at.place at.store) Withdraw ≡ Ok (before 57 no_names)
+  may_give_up : (t : AlgorithmProcess) → (at : IsAt t true) → begun_there (before at.place at.store) Withdraw ≡ Ok (before 57 no_names)
   may_give_up t at =
-      ap (λ r. unless (if may_withdraw r then None else Some NotWaiting) (Ok 57) >>= (λ from. begun_from a me from (kept 0 at.store))) (access_there a at.place at.line at.there)
-      ∙ ap (λ t. unless (if t then None else Some NotWaiting) (Ok 57) >>= (λ from. begun_from a me from (kept 0 at.store))) at.withdraws
+      ap (λ r. unless (if may_withdraw r then None else Some NotWaiting) (Ok 57) >>= (λ from. begun_from a me from (lasting_names 0 at.store))) (access_there a at.place at.line at.there)
+      ∙ ap (λ t. unless (if t then None else Some NotWaiting) (Ok 57) >>= (λ from. begun_from a me from (lasting_names 0 at.store))) at.withdraws
       ∙ begins_at 57 _ (has_form a b 57 _ refl)
 
-  busy_starts : (place : Place) (t : Process) (phase : Phase) → IsBusy place → Stands n limit p place t → (call : Call) (to : Place) → StartIf t phase call to (lock_refusal place (core_call call))
+  busy_starts : (place : Place) (t : AlgorithmProcess) (phase : Phase) → IsBusy place → Stands n limit p place t → (call : AlgorithmCall) (to : Place) → StartIf t phase call to (lock_refusal place (core_call call))
   busy_starts place t phase h e call to =
       let at = busy_text place t h e in
       subst (λ t. StartIf t phase call to (lock_refusal place (core_call call))) (sym at.is)
@@ -190,7 +190,7 @@ module _ (a : Algorithm) (b : IsBakery a) (n limit p : ℕ) where
       (by_world _ phase Lock _ CallUnderWay refl refl refl) (by_world _ phase Unlock _ CallUnderWay refl refl refl)
       (by_world _ phase Recover _ CallUnderWay refl refl refl) (by_world _ phase Withdraw _ NotWaiting refl refl (not_waiting t at)) call))
 
-  wait_starts : (k : ℕ) (unpassed : List ℕ) (looked : Option ℕ) (t : Process) (phase : Phase) → Stands n limit p (Wait k unpassed looked) t → (call : Call)
+  wait_starts : (k : ℕ) (unpassed : List ℕ) (looked : Option ℕ) (t : AlgorithmProcess) (phase : Phase) → Stands n limit p (Wait k unpassed looked) t → (call : AlgorithmCall)
       → StartIf t phase call (unwrap_or (lock_started (Wait k unpassed looked) (core_call call)) (Wait k unpassed looked)) (lock_refusal (Wait k unpassed looked) (core_call call))
   wait_starts k unpassed looked t phase e call =
       let at = wait_text k unpassed looked t e in
@@ -202,7 +202,7 @@ module _ (a : Algorithm) (b : IsBakery a) (n limit p : ℕ) where
 
   -- ---- idle
 
-  free : (phase : Phase) (call : Call) → (phase ≡ phases.Inside → ⊥) → (call ≡ Unlock → ⊥) → phase_refusal phase call ≡ None
+  free : (phase : Phase) (call : AlgorithmCall) → (phase ≡ phases.Inside → ⊥) → (call ≡ Unlock → ⊥) → phase_refusal phase call ≡ None
   free phases.Inside call h c = absurd (h refl)
   free phases.Out Lock h c = refl
   free phases.Door Lock h c = refl
@@ -225,7 +225,7 @@ module _ (a : Algorithm) (b : IsBakery a) (n limit p : ℕ) where
   no_owner phases.Ready h = refl
   no_owner phases.DeadIn h = refl
 
-  rest_starts : (t : Process) (phase : Phase) → t ≡ resting → (phase ≡ phases.Inside → ⊥) → (call : Call) → StartIf t phase call (unwrap_or (lock_started Rest (core_call call)) Rest) (lock_refusal Rest (core_call call))
+  rest_starts : (t : AlgorithmProcess) (phase : Phase) → t ≡ resting → (phase ≡ phases.Inside → ⊥) → (call : AlgorithmCall) → StartIf t phase call (unwrap_or (lock_started Rest (core_call call)) Rest) (lock_refusal Rest (core_call call))
   rest_starts t phase e out call =
       subst (λ t. StartIf t phase call (unwrap_or (lock_started Rest (core_call call)) Rest) (lock_refusal Rest (core_call call))) (sym e)
       (by_call (λ call. StartIf resting phase call (unwrap_or (lock_started Rest (core_call call)) Rest) (lock_refusal Rest (core_call call)))
@@ -234,7 +234,7 @@ module _ (a : Algorithm) (b : IsBakery a) (n limit p : ℕ) where
       (begins resting phase Recover (Reread cores.Recover []) (before 40 no_names) (free phase Recover out (λ c. cc)) (begins_at 40 _ (has_form a b 40 _ refl)) refl)
       (by_world resting phase Withdraw _ NotWaiting refl (free phase Withdraw out (λ c. cc)) refl) call)
 
-  dead_starts : (t : Process) (phase : Phase) → t ≡ dead → (phase ≡ phases.Inside → ⊥) → (call : Call) → StartIf t phase call (unwrap_or (lock_started Dead (core_call call)) Dead) (lock_refusal Dead (core_call call))
+  dead_starts : (t : AlgorithmProcess) (phase : Phase) → t ≡ dead → (phase ≡ phases.Inside → ⊥) → (call : AlgorithmCall) → StartIf t phase call (unwrap_or (lock_started Dead (core_call call)) Dead) (lock_refusal Dead (core_call call))
   dead_starts t phase e out call =
       subst (λ t. StartIf t phase call (unwrap_or (lock_started Dead (core_call call)) Dead) (lock_refusal Dead (core_call call))) (sym e)
       (by_call (λ call. StartIf dead phase call (unwrap_or (lock_started Dead (core_call call)) Dead) (lock_refusal Dead (core_call call)))
@@ -243,7 +243,7 @@ module _ (a : Algorithm) (b : IsBakery a) (n limit p : ℕ) where
       (begins dead phase Recover (Reread cores.Recover []) (before 40 no_names) (free phase Recover out (λ c. cc)) (begins_at 40 _ (has_form a b 40 _ refl)) refl)
       (by_world dead phase Withdraw _ NotWaiting refl (free phase Withdraw out (λ c. cc)) refl) call)
 
-  inside_starts : (t : Process) (phase : Phase) → t ≡ resting → phase ≡ phases.Inside → (call : Call) → StartIf t phase call (unwrap_or (lock_started Inside (core_call call)) Inside) (lock_refusal Inside (core_call call))
+  inside_starts : (t : AlgorithmProcess) (phase : Phase) → t ≡ resting → phase ≡ phases.Inside → (call : AlgorithmCall) → StartIf t phase call (unwrap_or (lock_started Inside (core_call call)) Inside) (lock_refusal Inside (core_call call))
   inside_starts t phase e in_ call =
       subst (λ t. StartIf t phase call (unwrap_or (lock_started Inside (core_call call)) Inside) (lock_refusal Inside (core_call call))) (sym e)
       (subst (λ phase. StartIf resting phase call (unwrap_or (lock_started Inside (core_call call)) Inside) (lock_refusal Inside (core_call call))) (sym in_)
@@ -253,7 +253,7 @@ module _ (a : Algorithm) (b : IsBakery a) (n limit p : ℕ) where
       (by_phase resting phases.Inside Recover _ AlreadyIn refl refl)
       (by_world resting phases.Inside Withdraw _ NotWaiting refl refl refl) call))
 
-  pub starts_alike : (place : Place) (t : Process) (phase : Phase) → Stands n limit p place t → PhaseFits place phase → (call : Call)
+  pub starts_alike : (place : Place) (t : AlgorithmProcess) (phase : Phase) → Stands n limit p place t → PhaseFits place phase → (call : AlgorithmCall)
       → StartIf t phase call (unwrap_or (lock_started place (core_call call)) place) (lock_refusal place (core_call call))
   starts_alike Rest t phase e fits call = rest_starts t phase e fits call
   starts_alike Dead t phase e fits call = dead_starts t phase e fits call

@@ -3,12 +3,12 @@ use Rattle.std.proofs.Common.{◌≡◌, ℕ, zero, suc, ◌+◌, ◌<◌, if◌
 use Rattle.std.specs.Prelude.{codes, slice_get, string_bytes}
 use Rattle.std.proofs.lemmas.List.FromFn.{map-range_with_len_more}
 use Rattle.rmecore.specs.declared.own.Own.{Own}
-use Rattle.schedule.specs.Words.{spaced}
+use Rattle.schedule.specs.Words.{spaced_numbers}
 use Rattle.algorithms.specs.declared.algorithm.Algorithm.{Algorithm}
 use Rattle.algorithms.specs.declared.algorithm.Declaration.{Declaration}
 use Rattle.algorithm_lab.specs.Bakery.{IsBakery, name_of, each_of}
 use Rattle.algorithm_lab.specs.LockLines.{of_each, word_line, words_lines}
-use Rattle.algorithm_lab.specs.Reports.{used, words_line, words_text}
+use Rattle.algorithm_lab.specs.Reports.{words_used, words_line, words_text}
 use Rattle.algorithm_lab.proofs.BakeryWords.{AlikeWords, IsRowOf}
 
 take_one : (row : List ℕ) (n v : ℕ) → slice_get row n ≡ Some v → take (suc n) row ≡ take n row ++ v ∷ []
@@ -28,9 +28,9 @@ taken (suc n) f row each =
 
 one_line : (n : ℕ) (f : ℕ → ℕ) (d : Declaration) (name row : List ℕ) → string_bytes d.name ≡ name → d.each ≡ true → IsRowOf n f row → words_line n d row ≡ word_line name (of_each n f)
 one_line n f d name row named each is =
-    ap (λ t. codes "words " ++ t ++ spaced (take (used n d) row) ++ 10 ∷ []) named
-    ∙ ap (λ (t : Bool). codes "words " ++ name ++ spaced (take (if t then n else 1) row) ++ 10 ∷ []) each
-    ∙ ap (λ l. codes "words " ++ name ++ spaced l ++ 10 ∷ []) (taken n f row is.each)
+    ap (λ t. codes "words " ++ t ++ spaced_numbers (take (words_used n d) row) ++ 10 ∷ []) named
+    ∙ ap (λ (t : Bool). codes "words " ++ name ++ spaced_numbers (take (if t then n else 1) row) ++ 10 ∷ []) each
+    ∙ ap (λ l. codes "words " ++ name ++ spaced_numbers l ++ 10 ∷ []) (taken n f row is.each)
 
 -- the three lines
 three_lines : (n : ℕ) (words : ℕ → Own) (ds : List Declaration) (rows : List (List ℕ)) → map name_of ds ≡ codes "choosing" ∷ codes "number" ∷ codes "inside" ∷ [] → map each_of ds ≡ true ∷ true ∷ true ∷ []

@@ -11,7 +11,7 @@ use Rattle.rmecore.specs.declared.word.Word.{Word}
 use Rattle.rmecore.specs.declared.word.Word.TheVariants.{Choosing as ChoosingOf, Number as NumberOf, Inside as InsideOf, Data as DataAt}
 use Rattle.rmecore.proofs.Invariant.{put_same, put_other}
 use Rattle.algorithms.specs.Steps.{word_at}
-use Rattle.algorithms.specs.Worlds.{stored, stored_in}
+use Rattle.algorithms.specs.Worlds.{words_after_access, stored_in}
 use Rattle.algorithm_lab.proofs.BakerySteps.{address_of}
 
 pub set_here : {X : Type 0} (xs : List X) (i : ℕ) (v : X) → i < length xs → slice_get (slice_set xs i v) i ≡ Some v
@@ -59,11 +59,11 @@ pub record AlikeWords (n : ℕ) (words : ℕ → Own) (rows : List (List ℕ)) :
   pub inside_each : IsRowOf n (λ p. (words p).inside) inside
 
 -- a load reads the same
-pub told : (n : ℕ) (words : ℕ → Own) (rows : List (List ℕ)) (word : Word) → InLock n word → AlikeWords n words rows → word_at rows (address_of word) ≡ Some (read words word)
-told n words rows (ChoosingOf q) low h = ap (λ rows. word_at rows (address_of (ChoosingOf q))) h.is ∙ h.choosing_each.each q low
-told n words rows (NumberOf q) low h = ap (λ rows. word_at rows (address_of (NumberOf q))) h.is ∙ h.number_each.each q low
-told n words rows (InsideOf q) low h = ap (λ rows. word_at rows (address_of (InsideOf q))) h.is ∙ h.inside_each.each q low
-told n words rows (DataAt i) low h = absurd low
+pub reports : (n : ℕ) (words : ℕ → Own) (rows : List (List ℕ)) (word : Word) → InLock n word → AlikeWords n words rows → word_at rows (address_of word) ≡ Some (read words word)
+reports n words rows (ChoosingOf q) low h = ap (λ rows. word_at rows (address_of (ChoosingOf q))) h.is ∙ h.choosing_each.each q low
+reports n words rows (NumberOf q) low h = ap (λ rows. word_at rows (address_of (NumberOf q))) h.is ∙ h.number_each.each q low
+reports n words rows (InsideOf q) low h = ap (λ rows. word_at rows (address_of (InsideOf q))) h.is ∙ h.inside_each.each q low
+reports n words rows (DataAt i) low h = absurd low
 
 put_field : (f : Own → ℕ) (words : ℕ → Own) (q : ℕ) (x : Own) → f x ≡ f (words q) → (p : ℕ) → f (words p) ≡ f (put words q x p)
 put_field f words q x e p =
@@ -73,7 +73,7 @@ put_field f words q x e p =
     ]
 
 -- a store leaves the same
-pub stores_alike : (n : ℕ) (words : ℕ → Own) (rows : List (List ℕ)) (word : Word) (v : ℕ) → n ≤ 64 → InLock n word → AlikeWords n words rows → AlikeWords n (write words word v) (stored rows (address_of word) (Some v))
+pub stores_alike : (n : ℕ) (words : ℕ → Own) (rows : List (List ℕ)) (word : Word) (v : ℕ) → n ≤ 64 → InLock n word → AlikeWords n words rows → AlikeWords n (write words word v) (words_after_access rows (address_of word) (Some v))
 stores_alike n words rows (ChoosingOf q) v most low h = record {
   choosing = slice_set h.choosing q v;
   number = h.number;

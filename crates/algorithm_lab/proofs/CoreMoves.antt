@@ -10,10 +10,10 @@ use Rattle.rmecore.specs.declared.kind.Kind.{Kind}
 use Rattle.rmecore.specs.declared.kind.Kind.TheVariants.{Take as Taking, Shut as Shuts, Reread as Rereads, Open as Opens, Peek as Peeks, Look as Looks, Weigh as Weighs, Mark as Marks, Drop as Drops, Glance as Glances}
 use Rattle.rmecore.specs.declared.word.Word.{Word}
 use Rattle.rmecore.specs.declared.word.Word.TheVariants.{Choosing as ChoosingOf, Number as NumberOf, Inside as InsideOf}
-use Rattle.rmecore.specs.Machine.{access, kind_of, word_of, carried, answer, owner}
+use Rattle.rmecore.specs.Machine.{access, kind_of, word_of, carried_value, answer, owner}
 use Rattle.rmecore.specs.Needs.{put}
 use Rattle.rmecore.specs.Paid.{is_glance}
-use Rattle.rmecore.specs.Place.{Place, Rest, Dead, Reread, Opening, Door, Shutting, Wait, Inside, Leaving, Withdrawing, Unmarking, has, others, span, without, only, next, Event, Starts, Crashes, Steps, restart, started, shut, unmarked, is_before}
+use Rattle.rmecore.specs.Place.{Place, Rest, Dead, Reread, Opening, Door, Shutting, Wait, Inside, Leaving, Withdrawing, Unmarking, has, others, span, without, only, next, Event, Starts, Crashes, Steps, restart, place_after_start, shut, place_after_unmark, is_before}
 use Rattle.rmecore.specs.World.{World, at_rest, is_store, read, May, after, Run, final, IsReached, deed, step_deed}
 use Rattle.rmecore.specs.Refused.{start_refusal, is_idle}
 use Rattle.rmecore.specs.Simulated.{Simulated, Takes, world_of, place_at, event_of, ChoosesLeast, refusal_at, step_refusal}
@@ -27,10 +27,10 @@ use Rattle.rmecore.proofs.CoreSteps.{KindFits, kind_fits}
 use Rattle.rmecore.proofs.Invariant.{put_same, put_other}
 use Rattle.rmecore.proofs.Runs.{guard}
 use Rattle.rmecore.proofs.Scans.{has-span-low, without_has, has-first}
-use Rattle.algorithm_lab.specs.Monitors.{answered}
-use Rattle.algorithm_lab.specs.Moves.{Outcome, Tells, core_call, answer_number, deed_told, refused, unless, stepped, step_by, lock_move}
+use Rattle.algorithm_lab.specs.Monitors.{answer_reports}
+use Rattle.algorithm_lab.specs.Moves.{MoveResult, Tells, core_call, answer_number, deed_report, refused_outcome, unless, step_outcome, step_by, lock_move}
 use Rattle.algorithm_lab.specs.Moves as Moves
-use Rattle.algorithms.specs.declared.algorithm.Call.{Call}
+use Rattle.algorithms.specs.declared.algorithm.AlgorithmCall.{AlgorithmCall}
 
 -- a rising list
 abbrev Rising : List ℕ → Type 0
@@ -88,7 +88,7 @@ ordered_shut : (n p : ℕ) (call : CoreCall) (k : ℕ) → Ordered (shut n p cal
 ordered_shut n p Lock k = rising_others n p
 ordered_shut n p _ k = tt
 
-ordered_unmarked : (call : CoreCall) → Ordered (unmarked call)
+ordered_unmarked : (call : CoreCall) → Ordered (place_after_unmark call)
 ordered_unmarked Lock = tt
 ordered_unmarked _ = tt
 
@@ -113,13 +113,13 @@ ordered_next n limit p (Wait k unpassed (Some i)) Weighs (NumberOf j) v some h =
 ordered_next n limit p (Wait k [] None) Marks (InsideOf q) v some h = guard ((q == p) && (v == 1)) Inside _ Ordered some (λ e. tt)
 ordered_next n limit p Leaving Drops (NumberOf q) v some h = guard ((q == p) && (v == 0)) (Unmarking Unlock) _ Ordered some (λ e. tt)
 ordered_next n limit p Withdrawing Drops (NumberOf q) v some h = guard ((q == p) && (v == 0)) Rest _ Ordered some (λ e. tt)
-ordered_next n limit p (Unmarking call) Marks (InsideOf q) v some h = guard ((q == p) && (v == 0)) (unmarked call) _ Ordered some (λ e. ordered_unmarked call)
+ordered_next n limit p (Unmarking call) Marks (InsideOf q) v some h = guard ((q == p) && (v == 0)) (place_after_unmark call) _ Ordered some (λ e. ordered_unmarked call)
 ordered_next n limit p s Glances (ChoosingOf q) v some h = h
 ordered_next n limit p s Glances (NumberOf q) v some h = h
 ordered_next n limit p s Glances (InsideOf q) v some h = h
 ordered_next _ _ _ _ _ _ _ some h = absurd (cc)
 
-ordered_started : (s : Place) (call : CoreCall) → IsSome (started s call) → Ordered (unwrap_or (started s call) s)
+ordered_started : (s : Place) (call : CoreCall) → IsSome (place_after_start s call) → Ordered (unwrap_or (place_after_start s call) s)
 ordered_started Rest Lock some = tt
 ordered_started Rest Recover some = tt
 ordered_started Dead Lock some = tt
@@ -153,7 +153,7 @@ pub record IsNext (limit p : ℕ) (place : Place) (kind : Kind) (word : Word) (v
   pub is : access limit p place ≡ Some acc
   pub kind_is : kind ≡ kind_of acc
   pub word_is : word ≡ word_of acc
-  pub value_is : v ≡ carried acc v
+  pub value_is : v ≡ carried_value acc v
 
 mine : (q p : ℕ) (b : Bool) (t : Place) → IsSome (only ((q == p) && b) t) → (q ≡ p) × (b ≡ true)
 mine q p b t some = let both = and_parts (q == p) b (passed ((q == p) && b) t some) in (eqb-true q p both.0, both.1)
@@ -192,7 +192,7 @@ pinned n limit p Leaving Drops (NumberOf q) v some calm h least =
 pinned n limit p Withdrawing Drops (NumberOf q) v some calm h least =
     let m = mine q p (v == 0) Rest some in record { acc = Store Drops (NumberOf p) 0; is = refl; kind_is = refl; word_is = ap NumberOf m.0; value_is = eqb-true v 0 m.1 }
 pinned n limit p (Unmarking call) Marks (InsideOf q) v some calm h least =
-    let m = mine q p (v == 0) (unmarked call) some in record { acc = Store Marks (InsideOf p) 0; is = refl; kind_is = refl; word_is = ap InsideOf m.0; value_is = eqb-true v 0 m.1 }
+    let m = mine q p (v == 0) (place_after_unmark call) some in record { acc = Store Marks (InsideOf p) 0; is = refl; kind_is = refl; word_is = ap InsideOf m.0; value_is = eqb-true v 0 m.1 }
 pinned n limit p (Door [] m) Peeks (NumberOf q) v some calm h least = absurd (cc)
 pinned n limit p (Wait k [] None) Looks (ChoosingOf q) v some calm h least = absurd (cc)
 pinned n limit p s Glances (ChoosingOf q) v some calm h least = absurd (cc)
@@ -202,9 +202,9 @@ pinned _ _ _ _ _ _ _ some calm h least = absurd (cc)
 
 -- ---- the moves of a core
 
-valued : (w : World) (p : ℕ) (kind : Kind) (word : Word) (v : ℕ) (acc : Access) → KindFits acc → kind ≡ kind_of acc → word ≡ word_of acc → v ≡ carried acc v → (is_store kind ≡ false → read w.words word ≡ v) → carried acc (read w.words (word_of acc)) ≡ v
-valued w p kind word v (Load k x) fits same there value told = ap (read w.words) (sym there) ∙ told (ap is_store same ∙ fits)
-valued w p kind word v (Store k x y) fits same there value told = sym value
+valued : (w : World) (p : ℕ) (kind : Kind) (word : Word) (v : ℕ) (acc : Access) → KindFits acc → kind ≡ kind_of acc → word ≡ word_of acc → v ≡ carried_value acc v → (is_store kind ≡ false → read w.words word ≡ v) → carried_value acc (read w.words (word_of acc)) ≡ v
+valued w p kind word v (Load k x) fits same there value reports = ap (read w.words) (sym there) ∙ reports (ap is_store same ∙ fits)
+valued w p kind word v (Store k x y) fits same there value reports = sym value
 
 idle_none : (limit p : ℕ) (place : Place) → is_idle place ≡ true → access limit p place ≡ None
 idle_none limit p Rest e = refl
@@ -213,16 +213,16 @@ idle_none limit p Inside e = refl
 idle_none limit p _ e = absurd (cc)
 
 -- what is said of a move of a process that may not be there
-abbrev if_by : Bool → Outcome World → World → Outcome World
-if_by b outcome w = if b then outcome else refused w NoSuchProcess
+abbrev if_by : Bool → MoveResult World → World → MoveResult World
+if_by b outcome w = if b then outcome else refused_outcome w NoSuchProcess
 
-abbrev reported : ℕ → ℕ → World → ℕ → ℕ → Kind → Word → Outcome World
+abbrev reported : ℕ → ℕ → World → ℕ → ℕ → Kind → Word → MoveResult World
 reported n limit w p v kind word =
-    record { said = Tells (deed_told (step_deed p (w.places p) kind v) ++ answered p (option_map answer_number (answer (w.places p) kind v))); left = after n limit w (Steps p kind word v) }
+    record { said = Tells (deed_report (step_deed p (w.places p) kind v) ++ answer_reports p (option_map answer_number (answer (w.places p) kind v))); left = after n limit w (Steps p kind word v) }
 
 -- a step that a core has taken is the move of the lock
 pub core_step : (s t : Simulated) (p : ℕ) (h : Happened) → IsReached s.procs s.limit (world_of s) → Takes s (event_of p h) t → is_glance h.kind ≡ false → ChoosesLeast s p h
-    → h.outer ≡ deed (place_at s.processes p) (event_of p h) → h.done ≡ answer (place_at s.processes p) h.kind h.value → lock_move s.procs s.limit (world_of s) (Moves.Step p) ≡ record { said = Tells (deed_told h.outer ++ answered p (option_map answer_number h.done)); left = world_of t }
+    → h.outer ≡ deed (place_at s.processes p) (event_of p h) → h.done ≡ answer (place_at s.processes p) h.kind h.value → lock_move s.procs s.limit (world_of s) (Moves.Step p) ≡ record { said = Tells (deed_report h.outer ++ answer_reports p (option_map answer_number h.done)); left = world_of t }
 core_step s t p h reached takes calm least outer answers =
     let n : ℕ = s.procs in
     let limit : ℕ = s.limit in
@@ -230,18 +230,18 @@ core_step s t p h reached takes calm least outer answers =
     let place : Place = place_at s.processes p in
     let q = pinned n limit p place h.kind h.word h.value takes.may.1 calm (ordered_reached n limit w reached p) least in
     let fits : KindFits q.acc = subst (λ o. IfSome o KindFits) q.is (kind_fits limit p place) in
-    let value : carried q.acc (read w.words (word_of q.acc)) ≡ h.value = valued w p h.kind h.word h.value q.acc fits q.kind_is q.word_is q.value_is takes.may.2 in
+    let value : carried_value q.acc (read w.words (word_of q.acc)) ≡ h.value = valued w p h.kind h.word h.value q.acc fits q.kind_is q.word_is q.value_is takes.may.2 in
     ap (λ b. if_by b (step_by n limit w p (access limit p place)) w) (lt-ltb p n takes.may.0)
     ∙ ap (step_by n limit w p) q.is
-    ∙ ap (stepped n limit w p q.acc) value
+    ∙ ap (step_outcome n limit w p q.acc) value
     ∙ ap (λ k. reported n limit w p h.value k (word_of q.acc)) (sym q.kind_is)
     ∙ ap (reported n limit w p h.value h.kind) (sym q.word_is)
-    ∙ ap (λ d. record { said = Tells (deed_told d ++ answered p (option_map answer_number (answer place h.kind h.value))); left = after n limit w (event_of p h) }) (sym outer)
-    ∙ ap (λ d. record { said = Tells (deed_told h.outer ++ answered p (option_map answer_number d)); left = after n limit w (event_of p h) }) (sym answers)
-    ∙ ap (λ x. record { said = Tells (deed_told h.outer ++ answered p (option_map answer_number h.done)); left = x }) (sym takes.world)
+    ∙ ap (λ d. record { said = Tells (deed_report d ++ answer_reports p (option_map answer_number (answer place h.kind h.value))); left = after n limit w (event_of p h) }) (sym outer)
+    ∙ ap (λ d. record { said = Tells (deed_report h.outer ++ answer_reports p (option_map answer_number d)); left = after n limit w (event_of p h) }) (sym answers)
+    ∙ ap (λ x. record { said = Tells (deed_report h.outer ++ answer_reports p (option_map answer_number h.done)); left = x }) (sym takes.world)
 
 -- a start that a core accepts
-pub core_start : (s t : Simulated) (p : ℕ) (call : Call) → refusal_at s p (core_call call) ≡ None → Takes s (Starts p (core_call call)) t → lock_move s.procs s.limit (world_of s) (Moves.Start p call) ≡ record { said = Tells []; left = world_of t }
+pub core_start : (s t : Simulated) (p : ℕ) (call : AlgorithmCall) → refusal_at s p (core_call call) ≡ None → Takes s (Starts p (core_call call)) t → lock_move s.procs s.limit (world_of s) (Moves.Start p call) ≡ record { said = Tells []; left = world_of t }
 core_start s t p call e takes =
     let n : ℕ = s.procs in
     let w : World = world_of s in
@@ -252,31 +252,31 @@ core_start s t p call e takes =
     ∙ ap (λ o. unless o w (record { said = Tells []; left = after n s.limit w (Starts p (core_call call)) })) free
     ∙ ap (λ x. record { said = Tells []; left = x }) (sym takes.world)
 
-start_refused : (w : World) (b : Bool) (o : Option Refusal) (e : Refusal) (out : Outcome World) → (if b then o else Some NoSuchProcess) ≡ Some e → if_by b (unless o w out) w ≡ refused w e
+start_refused : (w : World) (b : Bool) (o : Option Refusal) (e : Refusal) (out : MoveResult World) → (if b then o else Some NoSuchProcess) ≡ Some e → if_by b (unless o w out) w ≡ refused_outcome w e
 start_refused w true None e out is = absurd (cc)
-start_refused w true (Some r) e out is = let same : r ≡ e = cc in ap (refused w) same
-start_refused w false o e out is = let same : NoSuchProcess ≡ e = cc in ap (refused w) same
+start_refused w true (Some r) e out is = let same : r ≡ e = cc in ap (refused_outcome w) same
+start_refused w false o e out is = let same : NoSuchProcess ≡ e = cc in ap (refused_outcome w) same
 
 -- a start that a core refuses
-pub core_refuses_start : (s : Simulated) (p : ℕ) (call : Call) (e : Refusal) → refusal_at s p (core_call call) ≡ Some e → lock_move s.procs s.limit (world_of s) (Moves.Start p call) ≡ refused (world_of s) e
+pub core_refuses_start : (s : Simulated) (p : ℕ) (call : AlgorithmCall) (e : Refusal) → refusal_at s p (core_call call) ≡ Some e → lock_move s.procs s.limit (world_of s) (Moves.Start p call) ≡ refused_outcome (world_of s) e
 core_refuses_start s p call e is =
     start_refused (world_of s) (nat_lt p s.procs) (start_refusal (place_at s.processes p) (core_call call)) e (record { said = Tells []; left = after s.procs s.limit (world_of s) (Starts p (core_call call)) }) is
 
-step_refused : (n limit p : ℕ) (w : World) (b idle : Bool) (o : Option Access) (e : Refusal) → (idle ≡ true → o ≡ None) → (if b then (if idle then Some NothingToDo else None) else Some NoSuchProcess) ≡ Some e → if_by b (step_by n limit w p o) w ≡ refused w e
-step_refused n limit p w true true o e none is = let same : NothingToDo ≡ e = cc in ap (step_by n limit w p) (none refl) ∙ ap (refused w) same
+step_refused : (n limit p : ℕ) (w : World) (b idle : Bool) (o : Option Access) (e : Refusal) → (idle ≡ true → o ≡ None) → (if b then (if idle then Some NothingToDo else None) else Some NoSuchProcess) ≡ Some e → if_by b (step_by n limit w p o) w ≡ refused_outcome w e
+step_refused n limit p w true true o e none is = let same : NothingToDo ≡ e = cc in ap (step_by n limit w p) (none refl) ∙ ap (refused_outcome w) same
 step_refused n limit p w true false o e none is = absurd (cc)
-step_refused n limit p w false idle o e none is = let same : NoSuchProcess ≡ e = cc in ap (refused w) same
+step_refused n limit p w false idle o e none is = let same : NoSuchProcess ≡ e = cc in ap (refused_outcome w) same
 
 -- a step that a core refuses
-pub core_refuses_step : (s : Simulated) (p : ℕ) (e : Refusal) → step_refusal s p ≡ Some e → lock_move s.procs s.limit (world_of s) (Moves.Step p) ≡ refused (world_of s) e
+pub core_refuses_step : (s : Simulated) (p : ℕ) (e : Refusal) → step_refusal s p ≡ Some e → lock_move s.procs s.limit (world_of s) (Moves.Step p) ≡ refused_outcome (world_of s) e
 core_refuses_step s p e is =
     step_refused s.procs s.limit p (world_of s) (nat_lt p s.procs) (is_idle (place_at s.processes p)) (access s.limit p (place_at s.processes p)) e (idle_none s.limit p (place_at s.processes p)) is
 
 -- a crash of a core
-pub core_crash : (s t : Simulated) (p : ℕ) (outer : Outer) → deed (place_at s.processes p) (Crashes p) ≡ Some outer → Takes s (Crashes p) t → lock_move s.procs s.limit (world_of s) (Moves.Crash p) ≡ record { said = Tells (deed_told (Some outer)); left = world_of t }
+pub core_crash : (s t : Simulated) (p : ℕ) (outer : Outer) → deed (place_at s.processes p) (Crashes p) ≡ Some outer → Takes s (Crashes p) t → lock_move s.procs s.limit (world_of s) (Moves.Crash p) ≡ record { said = Tells (deed_report (Some outer)); left = world_of t }
 core_crash s t p outer is takes =
     let w : World = world_of s in
     let same : Outers.Crash p ≡ outer = cc in
-    ap (λ b. if_by b (record { said = Tells (deed_told (Some (Outers.Crash p))); left = after s.procs s.limit w (Crashes p) }) w) (lt-ltb p s.procs takes.may.0)
-    ∙ ap (λ o. record { said = Tells (deed_told (Some o)); left = after s.procs s.limit w (Crashes p) }) same
-    ∙ ap (λ x. record { said = Tells (deed_told (Some outer)); left = x }) (sym takes.world)
+    ap (λ b. if_by b (record { said = Tells (deed_report (Some (Outers.Crash p))); left = after s.procs s.limit w (Crashes p) }) w) (lt-ltb p s.procs takes.may.0)
+    ∙ ap (λ o. record { said = Tells (deed_report (Some o)); left = after s.procs s.limit w (Crashes p) }) same
+    ∙ ap (λ x. record { said = Tells (deed_report (Some outer)); left = x }) (sym takes.world)

@@ -1,8 +1,8 @@
 -- After a step of the lock that does not answer its call the process can take another.
 use Rattle.std.proofs.Common.{◌≡◌, ℕ, zero, suc, ◌+◌, ◌==◌, ◌||◌, ◌&&◌, nat_lt, max, Bool, true, false, if◌then◌else◌, List, [], ◌∷◌, Some, None, IsSome, IfSome, unwrap_or, refl, inl, inr}
 use Rattle.std.proofs.lemmas.Bool.{cases_Bool}
-use Rattle.rmecore.specs.Machine.{access, kind_of, word_of, carried, answer, found, again, reread_answer}
-use Rattle.rmecore.specs.Place.{Place, Rest, Dead, Reread, Opening, Door, Shutting, Wait, Inside, Leaving, Withdrawing, Unmarking, has, without, others, is_before, only, next, relocked, recovered, restart}
+use Rattle.rmecore.specs.Machine.{access, kind_of, word_of, carried_value, answer, recovery_answer, again, reread_answer}
+use Rattle.rmecore.specs.Place.{Place, Rest, Dead, Reread, Opening, Door, Shutting, Wait, Inside, Leaving, Withdrawing, Unmarking, has, without, others, is_before, only, next, lock_restart, recovery_restart, restart}
 use Rattle.rmecore.specs.declared.access.Access.{Access}
 use Rattle.rmecore.specs.declared.access.Access.TheVariants.{Store}
 use Rattle.rmecore.specs.declared.core_call.CoreCall.{CoreCall}
@@ -30,7 +30,7 @@ module _ (n limit p : ℕ) where
   only_busy true to from there here = there
   only_busy false to from there here = here
 
-  relocked_busy : (c k i : ℕ) → again c k i ≡ None → Busy (relocked n p c k i)
+  relocked_busy : (c k i : ℕ) → again c k i ≡ None → Busy (lock_restart n p c k i)
   relocked_busy zero zero zero none = refl
   relocked_busy zero zero (suc i) none = refl
   relocked_busy zero (suc k) zero none = wait_busy (suc k) (others n p)
@@ -38,7 +38,7 @@ module _ (n limit p : ℕ) where
   relocked_busy (suc c) zero i none = door_busy (others n p) 0
   relocked_busy (suc c) (suc k) i none = refl
 
-  recovered_busy : (c k i : ℕ) → found c k i ≡ None → Busy (recovered c k i)
+  recovered_busy : (c k i : ℕ) → recovery_answer c k i ≡ None → Busy (recovery_restart c k i)
   recovered_busy zero zero zero none = absurd (cc)
   recovered_busy zero zero (suc i) none = refl
   recovered_busy zero (suc k) zero none = absurd (cc)
@@ -62,7 +62,7 @@ module _ (n limit p : ℕ) where
 
   -- a step with this access, which reads this
   abbrev pub GoesOn : Place → ℕ → Access → Type 0
-  GoesOn place v acc = answer place (kind_of acc) (carried acc v) ≡ None → Busy (unwrap_or (next n limit p place (kind_of acc) (word_of acc) (carried acc v)) place)
+  GoesOn place v acc = answer place (kind_of acc) (carried_value acc v) ≡ None → Busy (unwrap_or (next n limit p place (kind_of acc) (word_of acc) (carried_value acc v)) place)
 
   pub goes_on : (place : Place) (v : ℕ) → IfSome (access limit p place) (GoesOn place v)
   goes_on Rest v = tt

@@ -9,10 +9,10 @@ use Rattle.algorithms.specs.declared.expression.Expression.{Expression, Number, 
 use Rattle.algorithms.specs.declared.expression.Operator.TheVariants.{Sum, Maximum}
 use Rattle.algorithms.specs.declared.line.Action.{Action}
 use Rattle.algorithms.specs.declared.line.Action.TheVariants.{Load, Store, Await}
-use Rattle.algorithms.specs.declared.line.Deed.TheVariants.{Begin, Ready, Enter, Reenter, Leave, Quit}
-use Rattle.algorithms.specs.declared.line.Form.{Form}
-use Rattle.algorithms.specs.declared.line.Form.TheVariants.{Access, Local, Done}
-use Rattle.algorithms.specs.declared.line.Line.{Line}
+use Rattle.algorithms.specs.declared.line.AlgorithmDeed.TheVariants.{Begin, Ready, Enter, Reenter, Leave, Quit}
+use Rattle.algorithms.specs.declared.line.LineKind.{LineKind}
+use Rattle.algorithms.specs.declared.line.LineKind.TheVariants.{Access, Local, Done}
+use Rattle.algorithms.specs.declared.line.AlgorithmLine.{AlgorithmLine}
 use Rattle.algorithms.specs.declared.line.LocalLine.TheVariants.{Assign, Note, Goto, Branch, First, Next}
 use Rattle.algorithms.specs.declared.line.Members.TheVariants.{Others}
 
@@ -21,11 +21,11 @@ abbrev pub Boxes : Type 0
 Boxes = ℕ → Box (Unit {0}) Global
 
 -- the private names c, k, i, m, j and v are 0 to 5, the declarations choosing, number and inside 0 to 2
-abbrev pub access : ℕ → Expression → Action → Form
+abbrev pub access : ℕ → Expression → Action → LineKind
 access declaration index action = Access (record { word = record { declaration = declaration; index = Some index }; action = action; may_withdraw = false })
 
 -- an access with `may withdraw`
-abbrev pub waiting : ℕ → Expression → Action → Form
+abbrev pub waiting : ℕ → Expression → Action → LineKind
 waiting declaration index action = Access (record { word = record { declaration = declaration; index = Some index }; action = action; may_withdraw = true })
 
 abbrev pub is_unnumbered : Boxes → Condition
@@ -41,7 +41,7 @@ may_pass b =
     (ComparePairs Less (record { first = Private 1; second = Me }) (record { first = Private 5; second = Private 4 }))
 
 -- the lines, from place 0 on
-abbrev pub lines : Boxes → Boxes → List Form
+abbrev pub lines : Boxes → Boxes → List LineKind
 lines b r =
     -- call lock
     access 0 Me (Load 0)
@@ -121,7 +121,7 @@ each_of d = d.each
 abbrev pub bound_of : Declaration → Option Expression
 bound_of d = d.bound
 
-abbrev pub form_of : Line → Form
+abbrev pub form_of : AlgorithmLine → LineKind
 form_of line = line.form
 
 -- the texts of the answers, by their numbers in the lines

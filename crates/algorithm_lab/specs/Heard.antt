@@ -4,38 +4,38 @@ use Rattle.std.specs.Prelude.{ℕ, if◌then◌else◌, List, [], ◌∷◌, ◌
 use Rattle.rmecore.specs.declared.outer.Outer.TheVariants as outers
 use Rattle.rmecore.specs.declared.phase.Phase.{Phase}
 use Rattle.rmecore.specs.declared.phase.Phase.TheVariants as phases
-use Rattle.rmecore.specs.AbstractLock.{crashed}
+use Rattle.rmecore.specs.AbstractLock.{phase_after_crash}
 use Rattle.algorithms.specs.declared.algorithm.Promises.{Promises}
-use Rattle.algorithms.specs.declared.line.Deed.{Deed}
-use Rattle.algorithms.specs.declared.line.Deed.TheVariants as deeds
-use Rattle.algorithms.specs.declared.noted.Noted.{Noted}
-use Rattle.algorithm_lab.specs.declared.told.Told.{Told}
-use Rattle.algorithm_lab.specs.declared.told.Told.TheVariants.{Did}
+use Rattle.algorithms.specs.declared.line.AlgorithmDeed.{AlgorithmDeed}
+use Rattle.algorithms.specs.declared.line.AlgorithmDeed.TheVariants as deeds
+use Rattle.algorithms.specs.declared.noted.NotedDeeds.{NotedDeeds}
+use Rattle.algorithm_lab.specs.declared.run_report.TextReport.{TextReport}
+use Rattle.algorithm_lab.specs.declared.run_report.TextReport.TheVariants.{Did}
 
 -- a doorway that is begun again after a crash is heard the first time alone
-abbrev pub begun : ℕ → Phase → List Told
-begun p phases.Door = []
-begun p phases.Ready = []
-begun p phase = Did (outers.Begin p) ∷ []
+abbrev pub doorway_reports : ℕ → Phase → List TextReport
+doorway_reports p phases.Door = []
+doorway_reports p phases.Ready = []
+doorway_reports p phase = Did (outers.Begin p) ∷ []
 
 -- the same of its end
-abbrev pub readied : ℕ → Phase → List Told
-readied p phases.Ready = []
-readied p phase = Did (outers.Ready p) ∷ []
+abbrev pub doorway_end_reports : ℕ → Phase → List TextReport
+doorway_end_reports p phases.Ready = []
+doorway_end_reports p phase = Did (outers.Ready p) ∷ []
 
 -- an entry without an order of doorways: after a crash inside it is a re-entry, else it has a doorway of its own
-abbrev pub entered_out_of_order : ℕ → Phase → List Told
+abbrev pub entered_out_of_order : ℕ → Phase → List TextReport
 entered_out_of_order p phases.DeadIn = Did (outers.Reenter p) ∷ []
 entered_out_of_order p phase = Did (outers.Begin p) ∷ Did (outers.Ready p) ∷ Did (outers.Enter p) ∷ []
 
-abbrev pub entered : Promises → ℕ → Phase → List Told
-entered promises p phase = if promises.order then Did (outers.Enter p) ∷ [] else entered_out_of_order p phase
+abbrev pub entry_reports : Promises → ℕ → Phase → List TextReport
+entry_reports promises p phase = if promises.order then Did (outers.Enter p) ∷ [] else entered_out_of_order p phase
 
 -- what is heard of a deed that p notes in this phase
-abbrev pub heard_of : Promises → ℕ → Phase → Deed → List Told
-heard_of promises p phase deeds.Begin = begun p phase
-heard_of promises p phase deeds.Ready = readied p phase
-heard_of promises p phase deeds.Enter = entered promises p phase
+abbrev pub heard_of : Promises → ℕ → Phase → AlgorithmDeed → List TextReport
+heard_of promises p phase deeds.Begin = doorway_reports p phase
+heard_of promises p phase deeds.Ready = doorway_end_reports p phase
+heard_of promises p phase deeds.Enter = entry_reports promises p phase
 heard_of promises p phase deeds.Reenter = Did (outers.Reenter p) ∷ []
 heard_of promises p phase deeds.Leave = Did (outers.Leave p) ∷ []
 heard_of promises p phase deeds.Quit = Did (outers.Quit p) ∷ []
@@ -46,7 +46,7 @@ phase_begun phases.Ready = phases.Ready
 phase_begun phase = phases.Door
 
 -- the phase of the process after a deed that it notes
-abbrev pub phase_after : Deed → Phase → Phase
+abbrev pub phase_after : AlgorithmDeed → Phase → Phase
 phase_after deeds.Begin phase = phase_begun phase
 phase_after deeds.Ready phase = phases.Ready
 phase_after deeds.Enter phase = phases.Inside
@@ -56,36 +56,36 @@ phase_after deeds.Quit phase = phases.Out
 
 -- what is heard of a step, and the phase after it
 pub record Heard : Type 0 where
-  pub told : List Told
+  pub reports : List TextReport
   pub phase : Phase
 
 -- the same where there may be no deed
-abbrev pub heard_if : Promises → ℕ → Phase → Option Deed → List Told
+abbrev pub heard_if : Promises → ℕ → Phase → Option AlgorithmDeed → List TextReport
 heard_if promises p phase None = []
 heard_if promises p phase (Some deed) = heard_of promises p phase deed
 
-abbrev pub phase_if : Option Deed → Phase → Phase
+abbrev pub phase_if : Option AlgorithmDeed → Phase → Phase
 phase_if None phase = phase
 phase_if (Some deed) phase = phase_after deed phase
 
 -- what is heard of the deeds that a step notes, one after the other
-abbrev pub heard : Promises → ℕ → Phase → Noted → Heard
-heard promises p phase noted =
+abbrev pub deeds_heard : Promises → ℕ → Phase → NotedDeeds → Heard
+deeds_heard promises p phase noted =
     let second = phase_if noted.first phase in
     let third = phase_if noted.second second in
     record {
-      told = heard_if promises p phase noted.first ++ (heard_if promises p second noted.second ++ heard_if promises p third noted.third);
+      reports = heard_if promises p phase noted.first ++ (heard_if promises p second noted.second ++ heard_if promises p third noted.third);
       phase = phase_if noted.third third;
     }
 
 -- what a crash ends, where the text does not promise re-entry
-abbrev pub given_up : ℕ → Phase → List Told
+abbrev pub given_up : ℕ → Phase → List TextReport
 given_up p phases.Door = Did (outers.Quit p) ∷ []
 given_up p phases.Ready = Did (outers.Quit p) ∷ []
 given_up p phases.Inside = Did (outers.Leave p) ∷ []
 given_up p phase = []
 
-abbrev pub ended_by_crash : Promises → ℕ → Phase → List Told
+abbrev pub ended_by_crash : Promises → ℕ → Phase → List TextReport
 ended_by_crash promises p phase = if promises.reentry then [] else given_up p phase
 
 -- a crash without re-entry leaves the process out
@@ -95,9 +95,9 @@ phase_given_up phase = phases.Out
 
 -- the phase after a crash
 abbrev pub phase_crashed : Promises → Phase → Phase
-phase_crashed promises phase = if promises.reentry then crashed phase else phase_given_up phase
+phase_crashed promises phase = if promises.reentry then phase_after_crash phase else phase_given_up phase
 
 -- what is heard of a crash of p in this phase, and the phase after it
 abbrev pub heard_of_crash : Promises → ℕ → Phase → Heard
 heard_of_crash promises p phase =
-    record { told = ended_by_crash promises p phase ++ Did (outers.Crash p) ∷ []; phase = phase_crashed promises phase }
+    record { reports = ended_by_crash promises p phase ++ Did (outers.Crash p) ∷ []; phase = phase_crashed promises phase }

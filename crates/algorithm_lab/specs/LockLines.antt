@@ -1,7 +1,7 @@
 -- The lines of a schedule on the lock alone, and what its run and the run of its text have in common.
 use Rattle.std.specs.Prelude.{◌≡◌, ℕ, ◌≤◌, nat_lt, if◌then◌else◌, List, [], ◌∷◌, ◌++◌, codes, map, replicate, slice_index_or, Option, Some, None, IsSome, option_map}
 use Rattle.std.specs.List.{range_with_len}
-use Rattle.rmecore.specs.Machine.{access, kind_of, word_of, carried, answer}
+use Rattle.rmecore.specs.Machine.{access, kind_of, word_of, carried_value, answer}
 use Rattle.rmecore.specs.Place.{Place, Starts, Crashes, Steps}
 use Rattle.rmecore.specs.Refused.{start_refusal, number_of}
 use Rattle.rmecore.specs.World.{World, read, after, step_deed}
@@ -21,20 +21,20 @@ use Rattle.rmeworld.specs.declared.answer.Answer.{Answer}
 use Rattle.rmeworld.specs.declared.answer.Answer.TheVariants as answers
 use Rattle.rmeworld.specs.declared.image.Image.{Image}
 use Rattle.rmeworld.specs.declared.stepped.Stepped.{Stepped}
-use Rattle.schedule.specs.Reports.{told_text as lock_text}
-use Rattle.schedule.specs.Words.{spaced}
-use Rattle.schedule.specs.Runs.{Part as LockRun, Told as LockTold, Did as LockDid, Answered as LockAnswered}
+use Rattle.schedule.specs.Reports.{reports_text as lock_text}
+use Rattle.schedule.specs.Words.{spaced_numbers}
+use Rattle.schedule.specs.Runs.{Part as LockRun, LockReport, Did as LockDid, Answered as LockAnswered}
 use Rattle.schedule.specs.declared.lines.line.Line.{Line}
 use Rattle.schedule.specs.declared.lines.line.Line.TheVariants as lines
 use Rattle.algorithms.specs.declared.algorithm.Algorithm.{Algorithm}
-use Rattle.algorithms.specs.declared.algorithm.Call.{Call as AlgorithmCall}
+use Rattle.algorithms.specs.declared.algorithm.AlgorithmCall.{AlgorithmCall}
 use Rattle.algorithm_lab.specs.Moves.{core_call, SameWords}
 use Rattle.algorithm_lab.specs.Refusals.{number_of as number_of_run}
-use Rattle.algorithm_lab.specs.Reports.{told_text, words_text}
-use Rattle.algorithm_lab.specs.Runs.{Run, call_of}
+use Rattle.algorithm_lab.specs.Reports.{reports_text, words_text}
+use Rattle.algorithm_lab.specs.Runs.{AlgorithmRun, call_of}
 use Rattle.algorithm_lab.specs.declared.run_refusal.RunRefusal.{RunRefusal}
-use Rattle.algorithm_lab.specs.declared.told.Told.{Told}
-use Rattle.algorithm_lab.specs.declared.told.Told.TheVariants.{Did, Answered}
+use Rattle.algorithm_lab.specs.declared.run_report.TextReport.{TextReport}
+use Rattle.algorithm_lab.specs.declared.run_report.TextReport.TheVariants.{Did, Answered}
 
 -- a line of the lock alone: a start of one of its calls, one step or more, or a crash
 abbrev pub IsOfLock : Line → Type 0
@@ -69,9 +69,9 @@ dones =
     ∷ []
 
 -- what the lock reports where the text reports this
-abbrev pub lock_told : Told → LockTold
-lock_told (Did outer) = LockDid (Outer outer)
-lock_told (Answered p number) = LockAnswered p (answer_of (slice_index_or dones number Withdrawn))
+abbrev pub lock_reported : TextReport → LockReport
+lock_reported (Did outer) = LockDid (Outer outer)
+lock_reported (Answered p number) = LockAnswered p (answer_of (slice_index_or dones number Withdrawn))
 
 -- ---- the lock as a machine that plays schedules
 
@@ -80,9 +80,9 @@ abbrev pub call_refusal : Place → Option AlgorithmCall → Option Refusal
 call_refusal place None = Some BadShape
 call_refusal place (Some call) = start_refusal place (core_call call)
 
-abbrev pub started : ℕ → ℕ → World → ℕ → Option AlgorithmCall → World
-started n limit w p None = w
-started n limit w p (Some call) = after n limit w (Starts p (core_call call))
+abbrev pub lock_world_after_start : ℕ → ℕ → World → ℕ → Option AlgorithmCall → World
+lock_world_after_start n limit w p None = w
+lock_world_after_start n limit w p (Some call) = after n limit w (Starts p (core_call call))
 
 -- without an access there is nothing to do
 abbrev pub step_refusal : Option Access → Option Refusal
@@ -91,11 +91,11 @@ step_refusal (Some a) = None
 
 -- the value that an access reads or writes
 abbrev pub value_of : World → Access → ℕ
-value_of w a = carried a (read w.words (word_of a))
+value_of w a = carried_value a (read w.words (word_of a))
 
-abbrev pub reported : World → ℕ → Option Access → Stepped
-reported w p None = no_step
-reported w p (Some a) =
+abbrev pub lock_step_report : World → ℕ → Option Access → Stepped
+lock_step_report w p None = no_step
+lock_step_report w p (Some a) =
     let outer = step_deed p (w.places p) (kind_of a) (value_of w a) in
     let done = answer (w.places p) (kind_of a) (value_of w a) in
     record {
@@ -104,9 +104,9 @@ reported w p (Some a) =
       answer = option_map answer_of done;
     }
 
-abbrev pub advanced : ℕ → ℕ → World → ℕ → Option Access → World
-advanced n limit w p None = w
-advanced n limit w p (Some a) = after n limit w (Steps p (kind_of a) (word_of a) (value_of w a))
+abbrev pub lock_world_after_step : ℕ → ℕ → World → ℕ → Option Access → World
+lock_world_after_step n limit w p None = w
+lock_world_after_step n limit w p (Some a) = after n limit w (Steps p (kind_of a) (word_of a) (value_of w a))
 
 -- a refusal of a process that is there
 abbrev pub if_there : ℕ → ℕ → Option Refusal → Option Refusal
@@ -126,10 +126,10 @@ abbrev pub lock_behaviour : ℕ → ℕ → Behaviour World
 lock_behaviour n limit =
     record {
       start_refusal = λ w p call. if_there n p (call_refusal (w.places p) (call_of call));
-      started = λ w p call. started n limit w p (call_of call);
+      started = λ w p call. lock_world_after_start n limit w p (call_of call);
       advance_refusal = λ w p. if_there n p (step_refusal (access limit p (w.places p)));
-      stepped = λ w p. reported w p (access limit p (w.places p));
-      advanced = λ w p. advanced n limit w p (access limit p (w.places p));
+      stepped = λ w p. lock_step_report w p (access limit p (w.places p));
+      advanced = λ w p. lock_world_after_step n limit w p (access limit p (w.places p));
       crash_refusal = λ w p. if_there n p None;
       crash_deed = λ w p. Outer (outers.Crash p);
       crashed = λ w p. after n limit w (Crashes p);
@@ -139,12 +139,12 @@ lock_behaviour n limit =
 -- ---- both runs
 
 -- the line that is refused, and the number of its refusal
-abbrev pub numbered : {R : Type 0} → (R → Option ℕ) → ℕ × R → ℕ × Option ℕ
-numbered number refused = (refused.0, number refused.1)
+abbrev pub refusal_with_number : {R : Type 0} → (R → Option ℕ) → ℕ × R → ℕ × Option ℕ
+refusal_with_number number refused = (refused.0, number refused.1)
 
 -- the line `words NAME V..`
 abbrev pub word_line : List ℕ → List ℕ → List ℕ
-word_line name row = codes "words " ++ name ++ spaced row ++ 10 ∷ []
+word_line name row = codes "words " ++ name ++ spaced_numbers row ++ 10 ∷ []
 
 -- the lines of the lock words, a word of all processes in each
 abbrev pub words_lines : ℕ → (ℕ → Own) → List ℕ
@@ -155,9 +155,9 @@ words_lines n words =
 
 -- The run of a text and that of the lock: the same deeds and answers, in lines of the same bytes; the same line is refused, by the
 -- same number; and the shared words left are the lock words left, so the text's report has their lines.
-pub record SameRun (a : Algorithm) (n : ℕ) (text : Run (ℕ × RunRefusal)) (lock : LockRun World (ℕ × Refusal)) : Type 0 where
-  pub told : map lock_told text.told ≡ lock.told
-  pub report : told_text a text.told ≡ lock_text lock.told
-  pub refused : option_map (numbered number_of_run) text.refused ≡ option_map (numbered number_of) lock.refused
+pub record SameRun (a : Algorithm) (n : ℕ) (text : AlgorithmRun (ℕ × RunRefusal)) (lock : LockRun World (ℕ × Refusal)) : Type 0 where
+  pub reports : map lock_reported text.reports ≡ lock.reports
+  pub report : reports_text a text.reports ≡ lock_text lock.reports
+  pub refused : option_map (refusal_with_number number_of_run) text.refused ≡ option_map (refusal_with_number number_of) lock.refused
   pub words : SameWords n lock.left text.left
   pub last_lines : words_text n text.left.world.words 0 a.declarations.items ≡ words_lines n lock.left.words

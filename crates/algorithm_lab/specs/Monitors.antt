@@ -2,23 +2,23 @@
 use Rattle.std.specs.Prelude.{◌≡◌, ℕ, Bool, true, false, if◌then◌else◌, List, [], ◌∷◌, ◌++◌, length, replicate, slice_index_or, slice_set, Option, Some, None, is_some, Result, Ok, Err}
 use Rattle.rmecore.specs.declared.phase.Phase.{Phase}
 use Rattle.rmecore.specs.declared.phase.Phase.TheVariants.{Out, Inside}
-use Rattle.algorithms.specs.Worlds.{WorldState, first_world, process_of, entry_of, start, advance, crash, restarted as world_restarted}
+use Rattle.algorithms.specs.Worlds.{AlgorithmWorldState, first_world, process_of, entry_of, start, advance, crash, world_at_beginning as world_restarted}
 use Rattle.algorithms.specs.declared.access.Advanced.{Advanced}
 use Rattle.algorithms.specs.declared.algorithm.Algorithm.{Algorithm}
-use Rattle.algorithms.specs.declared.algorithm.Call.{Call}
-use Rattle.algorithms.specs.declared.algorithm.Call.TheVariants.{Lock, Unlock, Recover}
-use Rattle.algorithms.specs.declared.process.Place.{Place}
-use Rattle.algorithms.specs.declared.process.Place.TheVariants.{Rest, Dead, At}
-use Rattle.algorithms.specs.declared.process.Process.{Process}
+use Rattle.algorithms.specs.declared.algorithm.AlgorithmCall.{AlgorithmCall}
+use Rattle.algorithms.specs.declared.algorithm.AlgorithmCall.TheVariants.{Lock, Unlock, Recover}
+use Rattle.algorithms.specs.declared.process.AlgorithmPlace.{AlgorithmPlace}
+use Rattle.algorithms.specs.declared.process.AlgorithmPlace.TheVariants.{Rest, Dead, At}
+use Rattle.algorithms.specs.declared.process.AlgorithmProcess.{AlgorithmProcess}
 use Rattle.algorithms.specs.declared.refusal.AlgorithmRefusal.{AlgorithmRefusal}
-use Rattle.algorithm_lab.specs.Heard.{Heard, heard, heard_of_crash}
+use Rattle.algorithm_lab.specs.Heard.{Heard, deeds_heard, heard_of_crash}
 use Rattle.algorithm_lab.specs.declared.run_refusal.RunRefusal.{RunRefusal}
 use Rattle.algorithm_lab.specs.declared.run_refusal.RunRefusal.TheVariants.{Refused, NotOwner, AlreadyIn, OutOfMemory}
-use Rattle.algorithm_lab.specs.declared.told.Told.{Told}
-use Rattle.algorithm_lab.specs.declared.told.Told.TheVariants.{Answered}
+use Rattle.algorithm_lab.specs.declared.run_report.TextReport.{TextReport}
+use Rattle.algorithm_lab.specs.declared.run_report.TextReport.TheVariants.{Answered}
 
 pub record MonitorState : Type 0 where
-  pub world : WorldState
+  pub world : AlgorithmWorldState
   pub phases : List Phase
 
 -- a new world, in which all processes are out
@@ -26,15 +26,15 @@ abbrev pub first_monitor : Algorithm → ℕ → ℕ → MonitorState
 first_monitor a procs limit = record { world = first_world a procs limit; phases = replicate procs Out }
 
 -- the same world and its monitor at their beginning
-abbrev pub restarted : MonitorState → MonitorState
-restarted m = record { world = world_restarted m.world; phases = replicate (length m.phases) Out }
+abbrev pub monitor_at_beginning : MonitorState → MonitorState
+monitor_at_beginning m = record { world = world_restarted m.world; phases = replicate (length m.phases) Out }
 
 abbrev pub phase_of : MonitorState → ℕ → Phase
 phase_of m p = slice_index_or m.phases p Out
 
 -- what an event reports, whether a call ends with it, and what it leaves
-pub record Part : Type 0 where
-  pub told : List Told
+pub record EventPart : Type 0 where
+  pub reports : List TextReport
   pub ended : Bool
   pub left : MonitorState
 
@@ -46,25 +46,25 @@ then_in f (Err e) = Err (Refused e)
 -- ---- starts
 
 -- why a process in this phase may not start the call
-abbrev pub phase_refusal : Phase → Call → Option RunRefusal
+abbrev pub phase_refusal : Phase → AlgorithmCall → Option RunRefusal
 phase_refusal Inside Lock = Some AlreadyIn
 phase_refusal Inside Recover = Some AlreadyIn
 phase_refusal Inside call = None
 phase_refusal phase Unlock = Some NotOwner
 phase_refusal phase call = None
 
-abbrev pub is_idle : Place → Bool
+abbrev pub is_idle : AlgorithmPlace → Bool
 is_idle Rest = true
 is_idle Dead = true
 is_idle (At at) = false
 
 -- whether the process is there, with no call under way
-abbrev pub is_idle_process : Result Process AlgorithmRefusal → Bool
+abbrev pub is_idle_process : Result AlgorithmProcess AlgorithmRefusal → Bool
 is_idle_process (Ok process) = is_idle process.place
 is_idle_process (Err e) = false
 
 -- of a call that there is and that a process without a call under way starts, its phase decides too
-abbrev pub start_refusal : MonitorState → ℕ → Call → Option RunRefusal
+abbrev pub start_refusal : MonitorState → ℕ → AlgorithmCall → Option RunRefusal
 start_refusal m p call =
     if is_idle_process (process_of m.world p)
     then (if is_some (entry_of m.world.algorithm.entries call) then phase_refusal (phase_of m p) call else None)
@@ -75,47 +75,47 @@ unless None r = r
 unless (Some e) r = Err e
 
 -- a start
-abbrev pub start_on : MonitorState → ℕ → Call → Result MonitorState RunRefusal
+abbrev pub start_on : MonitorState → ℕ → AlgorithmCall → Result MonitorState RunRefusal
 start_on m p call = unless (start_refusal m p call) (then_in (λ w. record { world = w; phases = m.phases }) (start m.world p call))
 
 -- ---- steps and crashes
 
 -- the report of an answer of p, if there is one
-abbrev pub answered : ℕ → Option ℕ → List Told
-answered p None = []
-answered p (Some answer) = Answered p answer ∷ []
+abbrev pub answer_reports : ℕ → Option ℕ → List TextReport
+answer_reports p None = []
+answer_reports p (Some answer) = Answered p answer ∷ []
 
 -- an event of p that is heard so
-abbrev pub part_of : MonitorState → ℕ → WorldState → Heard → Option ℕ → Part
+abbrev pub part_of : MonitorState → ℕ → AlgorithmWorldState → Heard → Option ℕ → EventPart
 part_of m p world h answer =
     record {
-      told = h.told ++ answered p answer;
+      reports = h.reports ++ answer_reports p answer;
       ended = is_some answer;
       left = record { world = world; phases = slice_set m.phases p h.phase };
     }
 
 -- a step reports what is heard of it, and then the answer of its call
-abbrev pub step_on : MonitorState → ℕ → Result Part RunRefusal
+abbrev pub step_on : MonitorState → ℕ → Result EventPart RunRefusal
 step_on m p =
-    then_in (λ s. part_of m p s.1 (heard m.world.algorithm.promises p (phase_of m p) s.0.noted) s.0.answer) (advance m.world p)
+    then_in (λ s. part_of m p s.1 (deeds_heard m.world.algorithm.promises p (phase_of m p) s.0.noted) s.0.answer) (advance m.world p)
 
 -- what a step of p says
 abbrev pub advanced_on : MonitorState → ℕ → Result Advanced RunRefusal
 advanced_on m p = then_in (λ s. s.0) (advance m.world p)
 
 -- a crash
-abbrev pub crash_on : MonitorState → ℕ → Result Part RunRefusal
+abbrev pub crash_on : MonitorState → ℕ → Result EventPart RunRefusal
 crash_on m p = then_in (λ w. part_of m p w (heard_of_crash m.world.algorithm.promises p (phase_of m p)) None) (crash m.world p)
 
 -- ---- what a call that appends its report does
 
 -- it reports and leaves this part
-abbrev pub IsPart : Result Part RunRefusal → List Told → List Told → MonitorState → Type 0
-IsPart (Ok part) before now left = (now ≡ before ++ part.told) × (left ≡ part.left)
-IsPart (Err e) before now left = ⊥
+abbrev pub IsReportedPart : Result EventPart RunRefusal → List TextReport → List TextReport → MonitorState → Type 0
+IsReportedPart (Ok part) before now left = (now ≡ before ++ part.reports) × (left ≡ part.left)
+IsReportedPart (Err e) before now left = ⊥
 
 -- whether a call ends with it
-abbrev pub has_ended : Result Part RunRefusal → Bool
+abbrev pub has_ended : Result EventPart RunRefusal → Bool
 has_ended (Ok part) = part.ended
 has_ended (Err e) = false
 

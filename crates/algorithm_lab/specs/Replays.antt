@@ -7,8 +7,8 @@ use Rattle.algorithms.specs.Worlds.{new_refusal}
 use Rattle.algorithms.specs.declared.algorithm.Algorithm.{Algorithm}
 use Rattle.algorithms.specs.declared.refusal.AlgorithmRefusal.{AlgorithmRefusal}
 use Rattle.algorithm_lab.specs.Monitors.{MonitorState, first_monitor}
-use Rattle.algorithm_lab.specs.Reports.{told_text, report_text, verdict_of}
-use Rattle.algorithm_lab.specs.Runs.{Run, run_on}
+use Rattle.algorithm_lab.specs.Reports.{reports_text, report_text, verdict_of}
+use Rattle.algorithm_lab.specs.Runs.{AlgorithmRun, run_on}
 use Rattle.algorithm_lab.specs.declared.replay_fault.AlgorithmReplayFault.{AlgorithmReplayFault}
 use Rattle.algorithm_lab.specs.declared.replay_fault.AlgorithmReplayFault.TheVariants as faults
 use Rattle.algorithm_lab.specs.declared.run_refusal.RunRefusal.{RunRefusal}
@@ -20,31 +20,31 @@ world_fault None = faults.OutOfMemory
 world_fault (Some e) = faults.Refused 1 (Refused e)
 
 -- where there is no world of these sizes, line 1 is refused
-abbrev pub run_unless : Option AlgorithmRefusal → MonitorState → List Line → Run (ℕ × RunRefusal)
+abbrev pub run_unless : Option AlgorithmRefusal → MonitorState → List Line → AlgorithmRun (ℕ × RunRefusal)
 run_unless None m lines = run_on 2 m lines
-run_unless (Some e) m lines = record { told = []; left = m; refused = Some (1, Refused e) }
+run_unless (Some e) m lines = record { reports = []; left = m; refused = Some (1, Refused e) }
 
 -- the run of these lines on a new world of the algorithm
-abbrev pub run_of : Algorithm → ℕ → ℕ → List Line → Run (ℕ × RunRefusal)
+abbrev pub run_of : Algorithm → ℕ → ℕ → List Line → AlgorithmRun (ℕ × RunRefusal)
 run_of a procs limit lines = run_unless (new_refusal a procs limit) (first_monitor a procs limit) lines
 
 -- all that a replay writes of a run: its report, or what it reports before the refusal
-abbrev pub text_by : Option (ℕ × RunRefusal) → Run (ℕ × RunRefusal) → List ℕ
-text_by None run = report_text run.left.world run.told
-text_by (Some refusal) run = told_text run.left.world.algorithm run.told
+abbrev pub text_by : Option (ℕ × RunRefusal) → AlgorithmRun (ℕ × RunRefusal) → List ℕ
+text_by None run = report_text run.left.world run.reports
+text_by (Some refusal) run = reports_text run.left.world.algorithm run.reports
 
-abbrev pub text_of : Run (ℕ × RunRefusal) → List ℕ
+abbrev pub text_of : AlgorithmRun (ℕ × RunRefusal) → List ℕ
 text_of run = text_by run.refused run
 
 -- it is the text of this run, with its verdict or the line that is refused
-abbrev pub IsReplayed : Run (ℕ × RunRefusal) → List ℕ → Result Verdict (ℕ × RunRefusal) → Type 0
-IsReplayed run text (Ok verdict) = (text ≡ text_of run) × (run.refused ≡ None) × (verdict ≡ verdict_of run.left.world.procs run.told)
-IsReplayed run text (Err refusal) = (text ≡ text_of run) × (run.refused ≡ Some refusal)
+abbrev pub IsReplayText : AlgorithmRun (ℕ × RunRefusal) → List ℕ → Result Verdict (ℕ × RunRefusal) → Type 0
+IsReplayText run text (Ok verdict) = (text ≡ text_of run) × (run.refused ≡ None) × (verdict ≡ verdict_of run.left.world.procs run.reports)
+IsReplayText run text (Err refusal) = (text ≡ text_of run) × (run.refused ≡ Some refusal)
 
 -- the report is written and its verdict answered, or the reason why not. A sink that fails has taken a beginning of the text,
 -- and has failed once more
-abbrev pub Replays : Tape → Tape → Run (ℕ × RunRefusal) → Result Verdict AlgorithmReplayFault → Type 0
-Replays before now run (Ok verdict) = Writes before now (text_of run) × (run.refused ≡ None) × (verdict ≡ verdict_of run.left.world.procs run.told)
-Replays before now run (Err (faults.Refused line refusal)) = Writes before now (text_of run) × (run.refused ≡ Some (line, refusal))
-Replays before now run (Err faults.Write) = Begins before.taken now.taken (text_of run) × (now.failures ≡ min (before.failures + 1) (2 ^ 64 - 1))
-Replays before now run (Err faults.OutOfMemory) = now ≡ before
+abbrev pub ReplaysAlgorithm : Tape → Tape → AlgorithmRun (ℕ × RunRefusal) → Result Verdict AlgorithmReplayFault → Type 0
+ReplaysAlgorithm before now run (Ok verdict) = Writes before now (text_of run) × (run.refused ≡ None) × (verdict ≡ verdict_of run.left.world.procs run.reports)
+ReplaysAlgorithm before now run (Err (faults.Refused line refusal)) = Writes before now (text_of run) × (run.refused ≡ Some (line, refusal))
+ReplaysAlgorithm before now run (Err faults.Write) = Begins before.taken now.taken (text_of run) × (now.failures ≡ min (before.failures + 1) (2 ^ 64 - 1))
+ReplaysAlgorithm before now run (Err faults.OutOfMemory) = now ≡ before

@@ -4,19 +4,19 @@
 #![tactic(auto)]
 
 mod heard;
-pub mod judging;
 pub mod laws;
+pub mod line_play;
 pub mod monitor;
-pub mod playing;
+pub mod replay;
 pub mod replay_fault;
-pub mod replaying;
 pub mod report;
 pub mod run_refusal;
-pub mod told;
+pub mod run_report;
+pub mod verdict;
 
+pub use line_play::{play_line, play_lines};
 pub use monitor::{Monitor, MonitorCheckpoint};
-pub use playing::{play_line, play_lines};
+pub use replay::replay_algorithm;
 pub use replay_fault::AlgorithmReplayFault;
-pub use replaying::replay_algorithm;
 pub use run_refusal::RunRefusal;
-pub use told::Told;
+pub use run_report::TextReport;

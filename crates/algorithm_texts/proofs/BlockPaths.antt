@@ -9,9 +9,9 @@ use Rattle.algorithm_texts.specs.declared.tokens.Token.{Token}
 use Rattle.algorithm_texts.specs.Parts.{◌>>=◌}
 use Rattle.algorithm_texts.specs.Fronts.{is_the_word, is_the_sign, is_over, begins_no_simple}
 use Rattle.algorithm_texts.specs.Drafts.{Drafted}
-use Rattle.algorithm_texts.specs.LineReading.{read_simple, opening, read_test, read_then, read_if, read_for, else_after, read_else, read_end, read_label, read_statement}
-use Rattle.algorithm_texts.specs.TextReading.{Spoken, with_number}
-use Rattle.algorithm_texts.specs.Blocks.{Block, Empty, Line, Enclosed, Divided, lines_in, read_if_block, read_if_line, begins_block, read_alone, divides, ends, alone, beginning, dividing, ending, compiled, read_statements, MakeBlocks}
+use Rattle.algorithm_texts.specs.LineDrafts.{read_simple, opening, read_test, read_then, read_if, read_for, else_after, read_else, read_end, read_label, read_statement}
+use Rattle.algorithm_texts.specs.TextDrafts.{Spoken, with_number}
+use Rattle.algorithm_texts.specs.Blocks.{Block, Empty, Line, Enclosed, Divided, lines_in, read_if_block, read_if_line, begins_block, read_alone, divides, ends, draft_after_statement, beginning, dividing, ending, draft_after_block, read_statements, MakeBlocks}
 use Rattle.algorithm_texts.proofs.BlockTrees.{some_of, bind_same, if_of, compiled_keeps, begins_opens, divides_open}
 
 -- ---- blocks after blocks
@@ -32,23 +32,23 @@ lines_append (Divided s body o other e rest) c =
     ∙ ap (λ ss. s ∷ (lines_in body ++ (o ∷ ss))) (sym (append_assoc (lines_in other) (e ∷ lines_in rest) (lines_in c)))
     ∙ ap (λ ss. s ∷ ss) (sym (append_assoc (lines_in body) (o ∷ (lines_in other ++ (e ∷ lines_in rest))) (lines_in c)))
 
-compiled_append : (b c : Block) (d : Drafted) → compiled (append b c) d ≡ (compiled b d >>= compiled c)
+compiled_append : (b c : Block) (d : Drafted) → draft_after_block (append b c) d ≡ (draft_after_block b d >>= draft_after_block c)
 compiled_append Empty c d = refl
-compiled_append (Line s rest) c d = bind_same (alone d s) (compiled (append rest c)) (compiled rest) (compiled c) (compiled_append rest c)
+compiled_append (Line s rest) c d = bind_same (draft_after_statement d s) (draft_after_block (append rest c)) (draft_after_block rest) (draft_after_block c) (compiled_append rest c)
 compiled_append (Enclosed s body e rest) c d =
-    bind_same (beginning d s) _ _ (compiled c)
-    (λ begun. bind_same (compiled body begun) _ _ (compiled c)
-    (λ inner. bind_same (ending begun.opened inner e) (compiled (append rest c)) (compiled rest) (compiled c) (compiled_append rest c)))
+    bind_same (beginning d s) _ _ (draft_after_block c)
+    (λ begun. bind_same (draft_after_block body begun) _ _ (draft_after_block c)
+    (λ inner. bind_same (ending begun.opened inner e) (draft_after_block (append rest c)) (draft_after_block rest) (draft_after_block c) (compiled_append rest c)))
 compiled_append (Divided s body o other e rest) c d =
-    bind_same (beginning d s) _ _ (compiled c)
-    (λ begun. bind_same (compiled body begun) _ _ (compiled c)
-    (λ inner. bind_same (dividing begun.opened inner o) _ _ (compiled c)
-    (λ divided. bind_same (compiled other divided) _ _ (compiled c)
-    (λ second. bind_same (ending divided.opened second e) (compiled (append rest c)) (compiled rest) (compiled c) (compiled_append rest c)))))
+    bind_same (beginning d s) _ _ (draft_after_block c)
+    (λ begun. bind_same (draft_after_block body begun) _ _ (draft_after_block c)
+    (λ inner. bind_same (dividing begun.opened inner o) _ _ (draft_after_block c)
+    (λ divided. bind_same (draft_after_block other divided) _ _ (draft_after_block c)
+    (λ second. bind_same (ending divided.opened second e) (draft_after_block (append rest c)) (draft_after_block rest) (draft_after_block c) (compiled_append rest c)))))
 
 -- a block, and then one more
-then_block : (b c : Block) (x d now : Drafted) → compiled b x ≡ Some d → compiled c d ≡ Some now → compiled (append b c) x ≡ Some now
-then_block b c x d now e h = compiled_append b c x ∙ ap (λ o. o >>= compiled c) e ∙ h
+then_block : (b c : Block) (x d now : Drafted) → draft_after_block b x ≡ Some d → draft_after_block c d ≡ Some now → draft_after_block (append b c) x ≡ Some now
+then_block b c x d now e h = compiled_append b c x ∙ ap (λ o. o >>= draft_after_block c) e ∙ h
 
 -- ---- the kinds of lines
 
@@ -109,13 +109,13 @@ abbrev begun_at : Option Drafted → Spoken → Option Drafted
 begun_at o s = o >>= (λ d. beginning d s)
 
 abbrev divided_at : Option Drafted → Block → Spoken → Option Drafted
-divided_at o body s = o >>= (λ begun. compiled body begun >>= (λ inner. dividing begun.opened inner s))
+divided_at o body s = o >>= (λ begun. draft_after_block body begun >>= (λ inner. dividing begun.opened inner s))
 
 -- the draft at the place
 abbrev entered : List Frame → Drafted → Option Drafted
 entered [] d = Some d
-entered (One before s ∷ fs) d = begun_at (entered fs d >>= compiled before) s
-entered (Two before s body o ∷ fs) d = divided_at (begun_at (entered fs d >>= compiled before) s) body o
+entered (One before s ∷ fs) d = begun_at (entered fs d >>= draft_after_block before) s
+entered (Two before s body o ∷ fs) d = divided_at (begun_at (entered fs d >>= draft_after_block before) s) body o
 
 -- what was read so far
 record Held (first : Drafted) (lines : List Spoken) (d : Drafted) : Type 0 where
@@ -124,13 +124,13 @@ record Held (first : Drafted) (lines : List Spoken) (d : Drafted) : Type 0 where
   start : Drafted
   all : lines ≡ framed frames ++ lines_in current
   runs : entered frames first ≡ Some start
-  makes : compiled current start ≡ Some d
+  makes : draft_after_block current start ≡ Some d
 
-pub still_open : (b : Block) (start d : Drafted) → compiled b start ≡ Some d → d.opened ≡ start.opened
-still_open b start d e = if_of (λ x. x.opened ≡ start.opened) (compiled b start) d (compiled_keeps b start) e
+pub still_open : (b : Block) (start d : Drafted) → draft_after_block b start ≡ Some d → d.opened ≡ start.opened
+still_open b start d e = if_of (λ x. x.opened ≡ start.opened) (draft_after_block b start) d (compiled_keeps b start) e
 
 -- a line alone
-held_alone : (first d now : Drafted) (lines : List Spoken) (s : Spoken) → Held first lines d → alone d s ≡ Some now → Held first (lines ++ s ∷ []) now
+held_alone : (first d now : Drafted) (lines : List Spoken) (s : Spoken) → Held first lines d → draft_after_statement d s ≡ Some now → Held first (lines ++ s ∷ []) now
 held_alone first d now lines s h e = record {
   frames = h.frames;
   current = append h.current (Line s Empty);
@@ -138,7 +138,7 @@ held_alone first d now lines s h e = record {
   all = ap (λ ss. ss ++ s ∷ []) h.all ∙ append_assoc (framed h.frames) (lines_in h.current) (s ∷ [])
       ∙ ap (λ ss. framed h.frames ++ ss) (sym (lines_append h.current (Line s Empty)));
   runs = h.runs;
-  makes = then_block h.current (Line s Empty) h.start d now h.makes (ap (λ o. o >>= compiled Empty) e);
+  makes = then_block h.current (Line s Empty) h.start d now h.makes (ap (λ o. o >>= draft_after_block Empty) e);
 }
 
 -- a line that begins a block
@@ -148,7 +148,7 @@ held_begun first d now lines s h e = record {
   current = Empty;
   start = now;
   all = ap (λ ss. ss ++ s ∷ []) h.all ∙ append_assoc (framed h.frames) (lines_in h.current) (s ∷ []) ∙ sym (append-nil (framed h.frames ++ (lines_in h.current ++ (s ∷ []))));
-  runs = ap (λ o. begun_at (o >>= compiled h.current) s) h.runs ∙ ap (λ o. begun_at o s) h.makes ∙ e;
+  runs = ap (λ o. begun_at (o >>= draft_after_block h.current) s) h.runs ∙ ap (λ o. begun_at o s) h.makes ∙ e;
   makes = refl;
 }
 
@@ -186,13 +186,13 @@ record Entered (o : Option Drafted) (before : Block) (s : Spoken) (start : Draft
   round : Drafted
   outer : Drafted
   is_round : o ≡ Some round
-  comes : compiled before round ≡ Some outer
+  comes : draft_after_block before round ≡ Some outer
   begins : beginning outer s ≡ Some start
 
-entered_one : (o : Option Drafted) (before : Block) (s : Spoken) (start : Drafted) → begun_at (o >>= compiled before) s ≡ Some start → Entered o before s start
+entered_one : (o : Option Drafted) (before : Block) (s : Spoken) (start : Drafted) → begun_at (o >>= draft_after_block before) s ≡ Some start → Entered o before s start
 entered_one o before s start e =
-    let x = some_of (o >>= compiled before) (λ d. beginning d s) start e in
-    let y = some_of o (compiled before) x.0 x.1 in
+    let x = some_of (o >>= draft_after_block before) (λ d. beginning d s) start e in
+    let y = some_of o (draft_after_block before) x.0 x.1 in
     record { round = y.0; outer = x.0; is_round = y.1; comes = y.2; begins = x.2 }
 
 -- the same with its first part and the `else` after it
@@ -200,39 +200,39 @@ record Parted (o : Option Drafted) (before : Block) (s : Spoken) (body : Block) 
   begun : Drafted
   inner : Drafted
   enters : Entered o before s begun
-  comes : compiled body begun ≡ Some inner
+  comes : draft_after_block body begun ≡ Some inner
   parts : dividing begun.opened inner other ≡ Some start
 
-parted_two : (o : Option Drafted) (before : Block) (s : Spoken) (body : Block) (other : Spoken) (start : Drafted) → divided_at (begun_at (o >>= compiled before) s) body other ≡ Some start
+parted_two : (o : Option Drafted) (before : Block) (s : Spoken) (body : Block) (other : Spoken) (start : Drafted) → divided_at (begun_at (o >>= draft_after_block before) s) body other ≡ Some start
     → Parted o before s body other start
 parted_two o before s body other start e =
-    let x = some_of (begun_at (o >>= compiled before) s) (λ begun. compiled body begun >>= (λ inner. dividing begun.opened inner other)) start e in
-    let y = some_of (compiled body x.0) (λ inner. dividing x.0.opened inner other) start x.2 in
+    let x = some_of (begun_at (o >>= draft_after_block before) s) (λ begun. draft_after_block body begun >>= (λ inner. dividing begun.opened inner other)) start e in
+    let y = some_of (draft_after_block body x.0) (λ inner. dividing x.0.opened inner other) start x.2 in
     record { begun = x.0; inner = y.0; enters = entered_one o before s x.0 x.1; comes = y.1; parts = y.2 }
 
 -- a block is a step after what comes before it
-enclosed_makes : (before body : Block) (s e : Spoken) (round outer begun inner now : Drafted) → compiled before round ≡ Some outer → beginning outer s ≡ Some begun
-    → compiled body begun ≡ Some inner → ending begun.opened inner e ≡ Some now → compiled (append before (Enclosed s body e Empty)) round ≡ Some now
+enclosed_makes : (before body : Block) (s e : Spoken) (round outer begun inner now : Drafted) → draft_after_block before round ≡ Some outer → beginning outer s ≡ Some begun
+    → draft_after_block body begun ≡ Some inner → ending begun.opened inner e ≡ Some now → draft_after_block (append before (Enclosed s body e Empty)) round ≡ Some now
 enclosed_makes before body s e round outer begun inner now h1 h2 h3 h4 =
     then_block before (Enclosed s body e Empty) round outer now h1
-    (ap (λ o. o >>= (λ b. compiled body b >>= (λ i. ending b.opened i e >>= compiled Empty))) h2
-    ∙ ap (λ o. o >>= (λ i. ending begun.opened i e >>= compiled Empty)) h3
-    ∙ ap (λ o. o >>= compiled Empty) h4)
+    (ap (λ o. o >>= (λ b. draft_after_block body b >>= (λ i. ending b.opened i e >>= draft_after_block Empty))) h2
+    ∙ ap (λ o. o >>= (λ i. ending begun.opened i e >>= draft_after_block Empty)) h3
+    ∙ ap (λ o. o >>= draft_after_block Empty) h4)
 
-divided_makes : (before body other : Block) (s o e : Spoken) (round outer begun inner divided second now : Drafted) → compiled before round ≡ Some outer → beginning outer s ≡ Some begun
-    → compiled body begun ≡ Some inner → dividing begun.opened inner o ≡ Some divided → compiled other divided ≡ Some second → ending divided.opened second e ≡ Some now
-    → compiled (append before (Divided s body o other e Empty)) round ≡ Some now
+divided_makes : (before body other : Block) (s o e : Spoken) (round outer begun inner divided second now : Drafted) → draft_after_block before round ≡ Some outer → beginning outer s ≡ Some begun
+    → draft_after_block body begun ≡ Some inner → dividing begun.opened inner o ≡ Some divided → draft_after_block other divided ≡ Some second → ending divided.opened second e ≡ Some now
+    → draft_after_block (append before (Divided s body o other e Empty)) round ≡ Some now
 divided_makes before body other s o e round outer begun inner divided second now h1 h2 h3 h4 h5 h6 =
     then_block before (Divided s body o other e Empty) round outer now h1
-    (ap (λ r. r >>= (λ b. compiled body b >>= (λ i. dividing b.opened i o >>= (λ v. compiled other v >>= (λ w. ending v.opened w e >>= compiled Empty))))) h2
-    ∙ ap (λ r. r >>= (λ i. dividing begun.opened i o >>= (λ v. compiled other v >>= (λ w. ending v.opened w e >>= compiled Empty)))) h3
-    ∙ ap (λ r. r >>= (λ v. compiled other v >>= (λ w. ending v.opened w e >>= compiled Empty))) h4
-    ∙ ap (λ r. r >>= (λ w. ending divided.opened w e >>= compiled Empty)) h5
-    ∙ ap (λ r. r >>= compiled Empty) h6)
+    (ap (λ r. r >>= (λ b. draft_after_block body b >>= (λ i. dividing b.opened i o >>= (λ v. draft_after_block other v >>= (λ w. ending v.opened w e >>= draft_after_block Empty))))) h2
+    ∙ ap (λ r. r >>= (λ i. dividing begun.opened i o >>= (λ v. draft_after_block other v >>= (λ w. ending v.opened w e >>= draft_after_block Empty)))) h3
+    ∙ ap (λ r. r >>= (λ v. draft_after_block other v >>= (λ w. ending v.opened w e >>= draft_after_block Empty))) h4
+    ∙ ap (λ r. r >>= (λ w. ending divided.opened w e >>= draft_after_block Empty)) h5
+    ∙ ap (λ r. r >>= draft_after_block Empty) h6)
 
 -- an `else`
 held_divided : (frames : List Frame) (current : Block) (first start d now : Drafted) (lines : List Spoken) (s : Spoken) → first.opened ≡ [] → lines ≡ framed frames ++ lines_in current
-    → entered frames first ≡ Some start → compiled current start ≡ Some d → dividing d.opened d s ≡ Some now → Held first (lines ++ s ∷ []) now
+    → entered frames first ≡ Some start → draft_after_block current start ≡ Some d → dividing d.opened d s ≡ Some now → Held first (lines ++ s ∷ []) now
 held_divided [] current first start d now lines s empty all runs makes e =
     let same : first ≡ start = cc in
     let none : d.opened ≡ [] = still_open current start d makes ∙ ap (λ x. x.opened) (sym same) ∙ empty in
@@ -257,7 +257,7 @@ held_divided (Two before t body o ∷ fs) current first start d now lines s empt
 
 -- an `end`
 held_ended : (frames : List Frame) (current : Block) (first start d now : Drafted) (lines : List Spoken) (s : Spoken) → first.opened ≡ [] → lines ≡ framed frames ++ lines_in current
-    → entered frames first ≡ Some start → compiled current start ≡ Some d → ending d.opened d s ≡ Some now → Held first (lines ++ s ∷ []) now
+    → entered frames first ≡ Some start → draft_after_block current start ≡ Some d → ending d.opened d s ≡ Some now → Held first (lines ++ s ∷ []) now
 held_ended [] current first start d now lines s empty all runs makes e =
     let same : first ≡ start = cc in
     let none : d.opened ≡ [] = still_open current start d makes ∙ ap (λ x. x.opened) (sym same) ∙ empty in
@@ -327,10 +327,10 @@ no_frames (Two before t body o ∷ fs) first start runs none =
     absurd (cc (sym none ∙ v.2))
 
 whole : (frames : List Frame) (current : Block) (first start now : Drafted) (lines : List Spoken) → frames ≡ [] → lines ≡ framed frames ++ lines_in current
-    → entered frames first ≡ Some start → compiled current start ≡ Some now → (block : Block) × (lines_in block ≡ lines) × (compiled block first ≡ Some now)
+    → entered frames first ≡ Some start → draft_after_block current start ≡ Some now → (block : Block) × (lines_in block ≡ lines) × (draft_after_block block first ≡ Some now)
 whole [] current first start now lines none all runs makes =
     let same : first ≡ start = cc in
-    (current, sym all, subst (λ x. compiled current x ≡ Some now) (sym same) makes)
+    (current, sym all, subst (λ x. draft_after_block current x ≡ Some now) (sym same) makes)
 whole (f ∷ fs) current first start now lines none all runs makes = absurd (cc)
 
 -- lines of a call are those of a block

@@ -10,10 +10,10 @@ use Rattle.algorithm_texts.specs.declared.tokens.Token.{Token}
 use Rattle.algorithm_texts.specs.Parts.{◌>>=◌}
 use Rattle.algorithm_texts.specs.Grammar.{is_among}
 use Rattle.algorithm_texts.specs.Fronts.{is_the_word, is_the_sign, letters_of, past_word, past_sign, is_over, deed_said, members_said, past_withdraw, value_tokens, value_rest, begins_no_simple}
-use Rattle.algorithm_texts.specs.Drafts.{SharedWord, Act, Loading, Storing, Awaiting, Accessing, Noting, Going, Beginning, Drafted}
-use Rattle.algorithm_texts.specs.LineReading.{read_value, read_condition, scope_in, new_name, name_set, index_in, with_names, with_form, read_word, read_until, read_deed, read_access, read_await, read_store, is_no_word, read_load, begins_word, read_assigned_value, read_assigned, read_private_assignment, read_assignment, read_done, read_goto, read_simple, opening, closing, landing, read_test, read_then, is_looping, loops, loop_opened, read_for, else_after, else_in, going_round, end_in, read_label}
-use Rattle.algorithm_texts.specs.TextReading.{with_number}
-use Rattle.algorithm_texts.specs.Blocks.{Block, Empty, Line, Enclosed, Divided, read_if_block, read_if_line, begins_block, read_alone, divides, ends, alone, beginning, dividing, ending, compiled}
+use Rattle.algorithm_texts.specs.Drafts.{SharedWord, DraftAction, Loading, Storing, Awaiting, Accessing, Noting, Going, Beginning, Drafted}
+use Rattle.algorithm_texts.specs.LineDrafts.{read_value, read_condition, scope_in, new_name, name_set, index_in, with_names, with_form, read_word, read_until, read_deed, read_access, read_await, read_store, is_no_word, read_load, begins_word, read_assigned_value, read_assigned, read_private_assignment, read_assignment, read_done, read_goto, read_simple, opening, closing, landing, read_test, read_then, is_looping, loops, loop_opened, read_for, else_after, else_in, going_round, end_in, read_label}
+use Rattle.algorithm_texts.specs.TextDrafts.{with_number}
+use Rattle.algorithm_texts.specs.Blocks.{Block, Empty, Line, Enclosed, Divided, read_if_block, read_if_line, begins_block, read_alone, divides, ends, draft_after_statement, beginning, dividing, ending, draft_after_block}
 
 -- ---- steps that may fail
 
@@ -73,10 +73,10 @@ choice_stays r b x y h k = if_cond (λ d. round d ≡ r) b x y h k
 deed_stays : (d : Drafted) (tokens : List Token) → Stays (round d) (read_deed d tokens)
 deed_stays d tokens = stays (round d) (deed_said tokens) (λ deed. Some (with_form (Noting deed) d)) (λ deed. refl)
 
-abbrev accessed : Drafted → SharedWord → Act → List Token → Drafted
+abbrev accessed : Drafted → SharedWord → DraftAction → List Token → Drafted
 accessed d word act tokens = with_form (Accessing (record { word = word; act = act; may_withdraw = is_the_word (slice_get tokens 0) (codes "may") })) d
 
-access_stays : (d : Drafted) (word : SharedWord) (act : Act) (tokens : List Token) → Stays (round d) (read_access d word act tokens)
+access_stays : (d : Drafted) (word : SharedWord) (act : DraftAction) (tokens : List Token) → Stays (round d) (read_access d word act tokens)
 access_stays d word act tokens =
     stays (round d) (past_withdraw tokens) (λ rest. cond (is_over rest) (Some (accessed d word act tokens)) (read_deed (accessed d word act tokens) rest))
     (λ rest. choice_stays (round d) (is_over rest) (Some (accessed d word act tokens)) (read_deed (accessed d word act tokens) rest) refl (deed_stays (accessed d word act tokens) rest))
@@ -246,26 +246,26 @@ pub divides_open : (around os : List Opened) (o : Opened) (d : Drafted) (tokens 
 divides_open around os o d tokens e = subst (λ ps. Divides os (divides ps d tokens)) (sym e) (divides_opens o os d tokens)
 
 -- a block leaves the blocks that are open round it
-pub compiled_keeps : (b : Block) (d : Drafted) → Keeps d.opened (compiled b d)
+pub compiled_keeps : (b : Block) (d : Drafted) → Keeps d.opened (draft_after_block b d)
 compiled_keeps Empty d = refl
 compiled_keeps (Line s rest) d =
-    if_bind (λ now. now.opened ≡ d.opened) (λ now. now.opened ≡ d.opened) (alone d s) (compiled rest) (alone_keeps (with_number s.number d) s.tokens s.answer)
-    (λ now e. subst (λ os. Keeps os (compiled rest now)) e (compiled_keeps rest now))
+    if_bind (λ now. now.opened ≡ d.opened) (λ now. now.opened ≡ d.opened) (draft_after_statement d s) (draft_after_block rest) (alone_keeps (with_number s.number d) s.tokens s.answer)
+    (λ now e. subst (λ os. Keeps os (draft_after_block rest now)) e (compiled_keeps rest now))
 compiled_keeps (Enclosed s body e rest) d =
     if_bind (λ begun. (x : Opened) × (begun.opened ≡ x ∷ d.opened)) (λ now. now.opened ≡ d.opened) (beginning d s) _ (begins_opens (with_number s.number d) s.tokens)
-    (λ begun h. keeps d.opened (compiled body begun) _
-    (λ inner. if_bind (λ now. now.opened ≡ d.opened) (λ now. now.opened ≡ d.opened) (ending begun.opened inner e) (compiled rest)
+    (λ begun h. keeps d.opened (draft_after_block body begun) _
+    (λ inner. if_bind (λ now. now.opened ≡ d.opened) (λ now. now.opened ≡ d.opened) (ending begun.opened inner e) (draft_after_block rest)
     (ends_keep begun.opened d.opened h.0 (with_number e.number inner) e.tokens h.1)
-    (λ now k. subst (λ os. Keeps os (compiled rest now)) k (compiled_keeps rest now))))
+    (λ now k. subst (λ os. Keeps os (draft_after_block rest now)) k (compiled_keeps rest now))))
 compiled_keeps (Divided s body o other e rest) d =
     if_bind (λ begun. (x : Opened) × (begun.opened ≡ x ∷ d.opened)) (λ now. now.opened ≡ d.opened) (beginning d s) _ (begins_opens (with_number s.number d) s.tokens)
-    (λ begun h. keeps d.opened (compiled body begun) _
+    (λ begun h. keeps d.opened (draft_after_block body begun) _
     (λ inner. if_bind (λ now. (x : Opened) × (x.kind ≡ Else) × (now.opened ≡ x ∷ d.opened)) (λ now. now.opened ≡ d.opened) (dividing begun.opened inner o) _
     (divides_open begun.opened d.opened h.0 (with_number o.number inner) o.tokens h.1)
-    (λ divided g. keeps d.opened (compiled other divided) _
-    (λ second. if_bind (λ now. now.opened ≡ d.opened) (λ now. now.opened ≡ d.opened) (ending divided.opened second e) (compiled rest)
+    (λ divided g. keeps d.opened (draft_after_block other divided) _
+    (λ second. if_bind (λ now. now.opened ≡ d.opened) (λ now. now.opened ≡ d.opened) (ending divided.opened second e) (draft_after_block rest)
     (ends_keep divided.opened d.opened g.0 (with_number e.number second) e.tokens g.2)
-    (λ now k. subst (λ os. Keeps os (compiled rest now)) k (compiled_keeps rest now))))))
+    (λ now k. subst (λ os. Keeps os (draft_after_block rest now)) k (compiled_keeps rest now))))))
 
 -- ---- the calls
 

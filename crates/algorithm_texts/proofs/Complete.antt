@@ -9,9 +9,9 @@ use Rattle.algorithm_texts.specs.declared.operands.Bracket.{Bracket}
 use Rattle.algorithm_texts.specs.declared.operands.Bracket.TheVariants.{Plain, Not, Max, Min}
 use Rattle.algorithm_texts.specs.declared.operands.Joint.{Joint}
 use Rattle.algorithm_texts.specs.declared.operands.Joint.TheVariants.{Operator as ByOperator, Comparison as ByComparison, And, Or}
-use Rattle.algorithm_texts.specs.Parts.{Part, Value, Number, joined, enclosed, enclosed_two, ◌>>=◌}
-use Rattle.algorithm_texts.specs.Grammar.{Scope, Tree, Numeral, Name, One, Two, Between, head_tokens, joint_token, written, strength, Binds, depth, is_among, word_value, meaning, Says}
-use Rattle.algorithm_texts.specs.Stacks.{Waits, Joining, Opened, Halfway, Begins, Follows, Reading, reading, brackets, reduced, head_of, worded, valued, enclosing, closes, halves, joining, followed, turn, run, alone, ended, read_part}
+use Rattle.algorithm_texts.specs.Parts.{OperandPart, Value, Number, join_of, enclosed_part, enclosed_two, ◌>>=◌}
+use Rattle.algorithm_texts.specs.Grammar.{Scope, Tree, Numeral, Name, One, Two, Between, head_tokens, joint_token, tokens_of_tree, strength, Binds, depth, is_among, word_value, meaning, Says}
+use Rattle.algorithm_texts.specs.Stacks.{Waits, Joining, Opened, Halfway, Begins, Follows, OperandReading, reading, brackets, stack_reduction, head_of, reading_after_word, reading_after_value, enclosing, closes, halves, joining, reading_after_part, turn, run, sole_part, part_at_end, read_part}
 
 -- ---- what is waiting
 
@@ -28,30 +28,30 @@ ends_more n m (Joining part joint ∷ ws) le h = omega arith
 ends_more n m (Opened head ∷ ws) le h = tt
 ends_more n m (Halfway head part ∷ ws) le h = tt
 
-pub stays : (n : ℕ) (ws : List Waits) (part : Part) → Ends n ws → reduced n ws part ≡ Some (ws, part)
+pub stays : (n : ℕ) (ws : List Waits) (part : OperandPart) → Ends n ws → stack_reduction n ws part ≡ Some (ws, part)
 stays n [] part h = refl
 stays n (Joining left joint ∷ ws) part h = rw (lt-leb n (strength joint) h) refl
 stays n (Opened head ∷ ws) part h = refl
 stays n (Halfway head first ∷ ws) part h = refl
 
 -- what is joined down to the stronger operators can be joined on
-abbrev again : ℕ → List Waits × Part → Option (List Waits × Part)
-again n x = reduced n x.0 x.1
+abbrev again : ℕ → List Waits × OperandPart → Option (List Waits × OperandPart)
+again n x = stack_reduction n x.0 x.1
 
-twice_joined : (n m : ℕ) (ws : List Waits) (o : Option Part) → ((q : Part) → (reduced m ws q >>= again n) ≡ reduced n ws q)
-    → ((o >>= reduced m ws) >>= again n) ≡ (o >>= reduced n ws)
+twice_joined : (n m : ℕ) (ws : List Waits) (o : Option OperandPart) → ((q : OperandPart) → (stack_reduction m ws q >>= again n) ≡ stack_reduction n ws q)
+    → ((o >>= stack_reduction m ws) >>= again n) ≡ (o >>= stack_reduction n ws)
 twice_joined n m ws None h = refl
 twice_joined n m ws (Some q) h = h q
 
-twice_at : (n m : ℕ) (left : Part) (joint : Joint) (ws : List Waits) (part : Part) (b : Bool) → leb m (strength joint) ≡ b → n ≤ m
-    → ((o : Option Part) → ((o >>= reduced m ws) >>= again n) ≡ (o >>= reduced n ws))
-    → (cond b (joined joint left part >>= reduced m ws) (Some (Joining left joint ∷ ws, part)) >>= again n) ≡ reduced n (Joining left joint ∷ ws) part
+twice_at : (n m : ℕ) (left : OperandPart) (joint : Joint) (ws : List Waits) (part : OperandPart) (b : Bool) → leb m (strength joint) ≡ b → n ≤ m
+    → ((o : Option OperandPart) → ((o >>= stack_reduction m ws) >>= again n) ≡ (o >>= stack_reduction n ws))
+    → (cond b (join_of joint left part >>= stack_reduction m ws) (Some (Joining left joint ∷ ws, part)) >>= again n) ≡ stack_reduction n (Joining left joint ∷ ws) part
 twice_at n m left joint ws part true e le h =
     let weaker : leb n (strength joint) ≡ true = le-leb n (strength joint) (omega (arith, leb-true m (strength joint) e)) in
-    rw weaker (h (joined joint left part))
+    rw weaker (h (join_of joint left part))
 twice_at n m left joint ws part false e le h = refl
 
-pub twice : (n m : ℕ) (ws : List Waits) (part : Part) → n ≤ m → (reduced m ws part >>= again n) ≡ reduced n ws part
+pub twice : (n m : ℕ) (ws : List Waits) (part : OperandPart) → n ≤ m → (stack_reduction m ws part >>= again n) ≡ stack_reduction n ws part
 twice n m [] part le = refl
 twice n m (Joining left joint ∷ ws) part le =
     twice_at n m left joint ws part (leb m (strength joint)) refl le (λ o. twice_joined n m ws o (λ q. twice n m ws q le))
@@ -60,12 +60,12 @@ twice n m (Halfway head first ∷ ws) part le = refl
 
 -- ---- a list of tokens after another
 
-append_bind : (scope : Scope) (xs ys : List Token) (o : Option Reading) → ((r : Reading) → run scope (xs ++ ys) r ≡ (run scope xs r >>= run scope ys))
+append_bind : (scope : Scope) (xs ys : List Token) (o : Option OperandReading) → ((r : OperandReading) → run scope (xs ++ ys) r ≡ (run scope xs r >>= run scope ys))
     → (o >>= run scope (xs ++ ys)) ≡ ((o >>= run scope xs) >>= run scope ys)
 append_bind scope xs ys None h = refl
 append_bind scope xs ys (Some r) h = h r
 
-pub run_append : (scope : Scope) (xs ys : List Token) (r : Reading) → run scope (xs ++ ys) r ≡ (run scope xs r >>= run scope ys)
+pub run_append : (scope : Scope) (xs ys : List Token) (r : OperandReading) → run scope (xs ++ ys) r ≡ (run scope xs r >>= run scope ys)
 run_append scope [] ys r = refl
 run_append scope (x ∷ xs) ys r = append_bind scope xs ys (turn scope r x) (λ s. run_append scope xs ys s)
 
@@ -76,26 +76,26 @@ abbrev pub KnowsHeads : Scope → Type 0
 KnowsHeads scope = (is_among scope.reserved (codes "not") ≡ true) × (is_among scope.reserved (codes "max") ≡ true) × (is_among scope.reserved (codes "min") ≡ true)
 
 -- after these tokens the part is read, up to joining it with operators at least this strong
-pub record Comes (scope : Scope) (n : ℕ) (ws : List Waits) (tokens : List Token) (names : List (List ℕ)) (part : Part) (after : List (List ℕ)) : Type 0 where
+pub record Comes (scope : Scope) (n : ℕ) (ws : List Waits) (tokens : List Token) (names : List (List ℕ)) (part : OperandPart) (after : List (List ℕ)) : Type 0 where
   pub waiting : List Waits
-  pub last : Part
+  pub last : OperandPart
   pub runs : run scope tokens (reading names ws Begins) ≡ Some (reading after waiting (Follows last))
-  pub reduces : reduced n waiting last ≡ Some (ws, part)
+  pub reduces : stack_reduction n waiting last ≡ Some (ws, part)
 
-abbrev pub Reads : Scope → ℕ → List Waits → List Token → List (List ℕ) → Option (Part × List (List ℕ)) → Type 0
+abbrev pub Reads : Scope → ℕ → List Waits → List Token → List (List ℕ) → Option (OperandPart × List (List ℕ)) → Type 0
 Reads scope n ws tokens names None = Unit {0}
 Reads scope n ws tokens names (Some x) = Comes scope n ws tokens names x.0 x.1
 
 -- a part that is one token, or is in brackets
-at_once : (scope : Scope) (n : ℕ) (ws : List Waits) (tokens : List Token) (names : List (List ℕ)) (part : Part) (after : List (List ℕ)) → Ends n ws
+at_once : (scope : Scope) (n : ℕ) (ws : List Waits) (tokens : List Token) (names : List (List ℕ)) (part : OperandPart) (after : List (List ℕ)) → Ends n ws
     → run scope tokens (reading names ws Begins) ≡ Some (reading after ws (Follows part)) → Comes scope n ws tokens names part after
 at_once scope n ws tokens names part after h e = record { waiting = ws; last = part; runs = e; reduces = stays n ws part h }
 
-valued_so : (scope : Scope) (n : ℕ) (ws : List Waits) (word : List ℕ) (names : List (List ℕ)) (o : Option (Part × List (List ℕ))) → Ends n ws → word_value scope names word ≡ o → head_of word ≡ None
+valued_so : (scope : Scope) (n : ℕ) (ws : List Waits) (word : List ℕ) (names : List (List ℕ)) (o : Option (OperandPart × List (List ℕ))) → Ends n ws → word_value scope names word ≡ o → head_of word ≡ None
     → Reads scope n ws (Word word ∷ []) names o
 valued_so scope n ws word names None h e plain = tt
 valued_so scope n ws word names (Some x) h e plain =
-    at_once scope n ws (Word word ∷ []) names x.0 x.1 h (ap (λ o. worded scope names ws word o >>= run scope []) plain ∙ ap (λ o. valued ws o >>= run scope []) e)
+    at_once scope n ws (Word word ∷ []) names x.0 x.1 h (ap (λ o. reading_after_word scope names ws word o >>= run scope []) plain ∙ ap (λ o. reading_after_value ws o >>= run scope []) e)
 
 not_value : (scope : Scope) → KnowsHeads scope → (names : List (List ℕ)) → word_value scope names (codes "not") ≡ None
 not_value scope h names = rw h.0 refl
@@ -131,115 +131,115 @@ opens scope Max names ws rest few = rw (lt-ltb (brackets ws) 16 few) refl
 opens scope Min names ws rest few = rw (lt-ltb (brackets ws) 16 few) refl
 
 -- a part comes, and then what follows it
-after_part : (scope : Scope) (n : ℕ) (ws : List Waits) (tokens rest : List Token) (names : List (List ℕ)) (part : Part) (after : List (List ℕ)) → (c : Comes scope n ws tokens names part after)
+after_part : (scope : Scope) (n : ℕ) (ws : List Waits) (tokens rest : List Token) (names : List (List ℕ)) (part : OperandPart) (after : List (List ℕ)) → (c : Comes scope n ws tokens names part after)
     → run scope (tokens ++ rest) (reading names ws Begins) ≡ run scope rest (reading after c.waiting (Follows c.last))
 after_part scope n ws tokens rest names part after c = run_append scope tokens rest (reading names ws Begins) ∙ ap (λ o. o >>= run scope rest) c.runs
 
-bind_run : (scope : Scope) (rest : List Token) (o p : Option Reading) → o ≡ p → (o >>= run scope rest) ≡ (p >>= run scope rest)
+bind_run : (scope : Scope) (rest : List Token) (o p : Option OperandReading) → o ≡ p → (o >>= run scope rest) ≡ (p >>= run scope rest)
 bind_run scope rest o p e = ap (λ x. x >>= run scope rest) e
 
-one_closed : (scope : Scope) (n : ℕ) (ws : List Waits) (head : Bracket) (tree : Tree) (names : List (List ℕ)) (part : Part) (after : List (List ℕ)) (o : Option Part) → brackets ws < 16 → Ends n ws
-    → enclosed head part ≡ o → Comes scope 1 (Opened head ∷ ws) (written tree) names part after
-    → Reads scope n ws (written (One head tree)) names (o >>= λ q. Some (q, after))
+one_closed : (scope : Scope) (n : ℕ) (ws : List Waits) (head : Bracket) (tree : Tree) (names : List (List ℕ)) (part : OperandPart) (after : List (List ℕ)) (o : Option OperandPart) → brackets ws < 16 → Ends n ws
+    → enclosed_part head part ≡ o → Comes scope 1 (Opened head ∷ ws) (tokens_of_tree tree) names part after
+    → Reads scope n ws (tokens_of_tree (One head tree)) names (o >>= λ q. Some (q, after))
 one_closed scope n ws head tree names part after None few h e c = tt
 one_closed scope n ws head tree names part after (Some q) few h e c =
-    at_once scope n ws (written (One head tree)) names q after h
-    (opens scope head names ws (written tree ++ (Sign Close ∷ [])) few
-    ∙ after_part scope 1 (Opened head ∷ ws) (written tree) (Sign Close ∷ []) names part after c
+    at_once scope n ws (tokens_of_tree (One head tree)) names q after h
+    (opens scope head names ws (tokens_of_tree tree ++ (Sign Close ∷ [])) few
+    ∙ after_part scope 1 (Opened head ∷ ws) (tokens_of_tree tree) (Sign Close ∷ []) names part after c
     ∙ ap (λ o. (o >>= λ r. closes after r.0 r.1) >>= run scope []) c.reduces
     ∙ ap (λ o. enclosing after ws o >>= run scope []) e)
 
-one_read : (scope : Scope) (n : ℕ) (ws : List Waits) (head : Bracket) (tree : Tree) (names : List (List ℕ)) (o : Option (Part × List (List ℕ))) → brackets ws < 16 → Ends n ws
-    → Reads scope 1 (Opened head ∷ ws) (written tree) names o
-    → Reads scope n ws (written (One head tree)) names (o >>= λ x. (enclosed head x.0 >>= λ q. Some (q, x.1)))
+one_read : (scope : Scope) (n : ℕ) (ws : List Waits) (head : Bracket) (tree : Tree) (names : List (List ℕ)) (o : Option (OperandPart × List (List ℕ))) → brackets ws < 16 → Ends n ws
+    → Reads scope 1 (Opened head ∷ ws) (tokens_of_tree tree) names o
+    → Reads scope n ws (tokens_of_tree (One head tree)) names (o >>= λ x. (enclosed_part head x.0 >>= λ q. Some (q, x.1)))
 one_read scope n ws head tree names None few h c = tt
-one_read scope n ws head tree names (Some x) few h c = one_closed scope n ws head tree names x.0 x.1 (enclosed head x.0) few h refl c
+one_read scope n ws head tree names (Some x) few h c = one_closed scope n ws head tree names x.0 x.1 (enclosed_part head x.0) few h refl c
 
 -- the bracket takes a comma
 abbrev Halves : Bracket → Type 0
-Halves head = (names : List (List ℕ)) (ws : List Waits) (part : Part) → halves names (Opened head ∷ ws) part ≡ Some (reading names (Halfway head part ∷ ws) Begins)
+Halves head = (names : List (List ℕ)) (ws : List Waits) (part : OperandPart) → halves names (Opened head ∷ ws) part ≡ Some (reading names (Halfway head part ∷ ws) Begins)
 
-two_closed : (scope : Scope) (n : ℕ) (ws : List Waits) (head : Bracket) (a b : Tree) (names mid : List (List ℕ)) (first second : Part) (after : List (List ℕ)) (o : Option Part) → Halves head
+two_closed : (scope : Scope) (n : ℕ) (ws : List Waits) (head : Bracket) (a b : Tree) (names mid : List (List ℕ)) (first second : OperandPart) (after : List (List ℕ)) (o : Option OperandPart) → Halves head
     → brackets ws < 16 → Ends n ws → enclosed_two head first second ≡ o
-    → Comes scope 1 (Opened head ∷ ws) (written a) names first mid → Comes scope 1 (Halfway head first ∷ ws) (written b) mid second after
-    → Reads scope n ws (written (Two head a b)) names (o >>= λ q. Some (q, after))
+    → Comes scope 1 (Opened head ∷ ws) (tokens_of_tree a) names first mid → Comes scope 1 (Halfway head first ∷ ws) (tokens_of_tree b) mid second after
+    → Reads scope n ws (tokens_of_tree (Two head a b)) names (o >>= λ q. Some (q, after))
 two_closed scope n ws head a b names mid first second after None takes few h e c d = tt
 two_closed scope n ws head a b names mid first second after (Some q) takes few h e c d =
-    at_once scope n ws (written (Two head a b)) names q after h
-    (opens scope head names ws (written a ++ (Sign Comma ∷ (written b ++ (Sign Close ∷ [])))) few
-    ∙ after_part scope 1 (Opened head ∷ ws) (written a) (Sign Comma ∷ (written b ++ (Sign Close ∷ []))) names first mid c
-    ∙ ap (λ o. (o >>= λ r. halves mid r.0 r.1) >>= run scope (written b ++ (Sign Close ∷ []))) c.reduces
-    ∙ bind_run scope (written b ++ (Sign Close ∷ [])) _ _ (takes mid ws first)
-    ∙ after_part scope 1 (Halfway head first ∷ ws) (written b) (Sign Close ∷ []) mid second after d
+    at_once scope n ws (tokens_of_tree (Two head a b)) names q after h
+    (opens scope head names ws (tokens_of_tree a ++ (Sign Comma ∷ (tokens_of_tree b ++ (Sign Close ∷ [])))) few
+    ∙ after_part scope 1 (Opened head ∷ ws) (tokens_of_tree a) (Sign Comma ∷ (tokens_of_tree b ++ (Sign Close ∷ []))) names first mid c
+    ∙ ap (λ o. (o >>= λ r. halves mid r.0 r.1) >>= run scope (tokens_of_tree b ++ (Sign Close ∷ []))) c.reduces
+    ∙ bind_run scope (tokens_of_tree b ++ (Sign Close ∷ [])) _ _ (takes mid ws first)
+    ∙ after_part scope 1 (Halfway head first ∷ ws) (tokens_of_tree b) (Sign Close ∷ []) mid second after d
     ∙ ap (λ o. (o >>= λ r. closes after r.0 r.1) >>= run scope []) d.reduces
     ∙ ap (λ o. enclosing after ws o >>= run scope []) e)
 
-two_second : (scope : Scope) (n : ℕ) (ws : List Waits) (head : Bracket) (a b : Tree) (names mid : List (List ℕ)) (first : Part) (o : Option (Part × List (List ℕ))) → Halves head → brackets ws < 16 → Ends n ws
-    → Comes scope 1 (Opened head ∷ ws) (written a) names first mid → Reads scope 1 (Halfway head first ∷ ws) (written b) mid o
-    → Reads scope n ws (written (Two head a b)) names (o >>= λ y. (enclosed_two head first y.0 >>= λ q. Some (q, y.1)))
+two_second : (scope : Scope) (n : ℕ) (ws : List Waits) (head : Bracket) (a b : Tree) (names mid : List (List ℕ)) (first : OperandPart) (o : Option (OperandPart × List (List ℕ))) → Halves head → brackets ws < 16 → Ends n ws
+    → Comes scope 1 (Opened head ∷ ws) (tokens_of_tree a) names first mid → Reads scope 1 (Halfway head first ∷ ws) (tokens_of_tree b) mid o
+    → Reads scope n ws (tokens_of_tree (Two head a b)) names (o >>= λ y. (enclosed_two head first y.0 >>= λ q. Some (q, y.1)))
 two_second scope n ws head a b names mid first None takes few h c d = tt
 two_second scope n ws head a b names mid first (Some y) takes few h c d = two_closed scope n ws head a b names mid first y.0 y.1 (enclosed_two head first y.0) takes few h refl c d
 
-two_read : (scope : Scope) (n : ℕ) (ws : List Waits) (head : Bracket) (a b : Tree) (names : List (List ℕ)) (o : Option (Part × List (List ℕ))) → Halves head → brackets ws < 16 → Ends n ws
-    → Reads scope 1 (Opened head ∷ ws) (written a) names o
-    → ((first : Part) (mid : List (List ℕ)) → Reads scope 1 (Halfway head first ∷ ws) (written b) mid (meaning scope b mid))
-    → Reads scope n ws (written (Two head a b)) names (o >>= λ x. (meaning scope b x.1 >>= λ y. (enclosed_two head x.0 y.0 >>= λ q. Some (q, y.1))))
+two_read : (scope : Scope) (n : ℕ) (ws : List Waits) (head : Bracket) (a b : Tree) (names : List (List ℕ)) (o : Option (OperandPart × List (List ℕ))) → Halves head → brackets ws < 16 → Ends n ws
+    → Reads scope 1 (Opened head ∷ ws) (tokens_of_tree a) names o
+    → ((first : OperandPart) (mid : List (List ℕ)) → Reads scope 1 (Halfway head first ∷ ws) (tokens_of_tree b) mid (meaning scope b mid))
+    → Reads scope n ws (tokens_of_tree (Two head a b)) names (o >>= λ x. (meaning scope b x.1 >>= λ y. (enclosed_two head x.0 y.0 >>= λ q. Some (q, y.1))))
 two_read scope n ws head a b names None takes few h c d = tt
 two_read scope n ws head a b names (Some x) takes few h c d = two_second scope n ws head a b names x.1 x.0 (meaning scope b x.1) takes few h c (d x.0 x.1)
 
 -- `not` takes one part alone
-two_of_not : (scope : Scope) (n : ℕ) (ws : List Waits) (a b : Tree) (names : List (List ℕ)) (tokens : List Token) (o : Option (Part × List (List ℕ)))
+two_of_not : (scope : Scope) (n : ℕ) (ws : List Waits) (a b : Tree) (names : List (List ℕ)) (tokens : List Token) (o : Option (OperandPart × List (List ℕ)))
     → Reads scope n ws tokens names (o >>= λ x. (meaning scope b x.1 >>= λ y. (enclosed_two Not x.0 y.0 >>= λ q. Some (q, y.1))))
 two_of_not scope n ws a b names tokens None = tt
-two_of_not scope n ws a b names tokens (Some x) = elim (meaning scope b x.1) as (λ (o : Option (Part × List (List ℕ))). Reads scope n ws tokens names (o >>= λ y. (enclosed_two Not x.0 y.0 >>= λ q. Some (q, y.1)))) [ None ↦ tt | Some y ↦ tt ]
+two_of_not scope n ws a b names tokens (Some x) = elim (meaning scope b x.1) as (λ (o : Option (OperandPart × List (List ℕ))). Reads scope n ws tokens names (o >>= λ y. (enclosed_two Not x.0 y.0 >>= λ q. Some (q, y.1)))) [ None ↦ tt | Some y ↦ tt ]
 
 -- an operator after a part
-at_joint : (names : List (List ℕ)) (ws : List Waits) (part : Part) (joint : Joint) → followed names ws part (joint_token joint) ≡ joining names ws part (Some joint)
+at_joint : (names : List (List ℕ)) (ws : List Waits) (part : OperandPart) (joint : Joint) → reading_after_part names ws part (joint_token joint) ≡ joining names ws part (Some joint)
 at_joint names ws part (ByOperator o) = refl
 at_joint names ws part (ByComparison c) = refl
 at_joint names ws part And = refl
 at_joint names ws part Or = refl
 
-between_joined : (scope : Scope) (n : ℕ) (ws : List Waits) (joint : Joint) (a b : Tree) (names mid : List (List ℕ)) (left right : Part) (after : List (List ℕ)) (o : Option Part) → n ≤ strength joint → Ends n ws
-    → joined joint left right ≡ o
-    → Comes scope (strength joint) ws (written a) names left mid → Comes scope (strength joint + 1) (Joining left joint ∷ ws) (written b) mid right after
-    → Reads scope n ws (written (Between joint a b)) names (o >>= λ q. Some (q, after))
+between_joined : (scope : Scope) (n : ℕ) (ws : List Waits) (joint : Joint) (a b : Tree) (names mid : List (List ℕ)) (left right : OperandPart) (after : List (List ℕ)) (o : Option OperandPart) → n ≤ strength joint → Ends n ws
+    → join_of joint left right ≡ o
+    → Comes scope (strength joint) ws (tokens_of_tree a) names left mid → Comes scope (strength joint + 1) (Joining left joint ∷ ws) (tokens_of_tree b) mid right after
+    → Reads scope n ws (tokens_of_tree (Between joint a b)) names (o >>= λ q. Some (q, after))
 between_joined scope n ws joint a b names mid left right after None le h e c d = tt
 between_joined scope n ws joint a b names mid left right after (Some q) le h e c d =
     let strong : leb n (strength joint) ≡ true = le-leb n (strength joint) le in
-    let whole : reduced n (Joining left joint ∷ ws) right ≡ Some (ws, q) = rw strong (ap (λ o. o >>= reduced n ws) e ∙ stays n ws q h) in
+    let whole : stack_reduction n (Joining left joint ∷ ws) right ≡ Some (ws, q) = rw strong (ap (λ o. o >>= stack_reduction n ws) e ∙ stays n ws q h) in
     record {
       waiting = d.waiting;
       last = d.last;
-      runs = after_part scope (strength joint) ws (written a) (joint_token joint ∷ written b) names left mid c
-          ∙ bind_run scope (written b) _ _ (at_joint mid c.waiting c.last joint)
-          ∙ ap (λ o. (o >>= λ r. Some (reading mid (Joining r.1 joint ∷ r.0) Begins)) >>= run scope (written b)) c.reduces
+      runs = after_part scope (strength joint) ws (tokens_of_tree a) (joint_token joint ∷ tokens_of_tree b) names left mid c
+          ∙ bind_run scope (tokens_of_tree b) _ _ (at_joint mid c.waiting c.last joint)
+          ∙ ap (λ o. (o >>= λ r. Some (reading mid (Joining r.1 joint ∷ r.0) Begins)) >>= run scope (tokens_of_tree b)) c.reduces
           ∙ d.runs;
       reduces = sym (twice n (strength joint + 1) d.waiting d.last (omega arith)) ∙ ap (λ o. o >>= again n) d.reduces ∙ whole;
     }
 
-between_second : (scope : Scope) (n : ℕ) (ws : List Waits) (joint : Joint) (a b : Tree) (names mid : List (List ℕ)) (left : Part) (o : Option (Part × List (List ℕ))) → n ≤ strength joint → Ends n ws
-    → Comes scope (strength joint) ws (written a) names left mid → Reads scope (strength joint + 1) (Joining left joint ∷ ws) (written b) mid o
-    → Reads scope n ws (written (Between joint a b)) names (o >>= λ y. (joined joint left y.0 >>= λ q. Some (q, y.1)))
+between_second : (scope : Scope) (n : ℕ) (ws : List Waits) (joint : Joint) (a b : Tree) (names mid : List (List ℕ)) (left : OperandPart) (o : Option (OperandPart × List (List ℕ))) → n ≤ strength joint → Ends n ws
+    → Comes scope (strength joint) ws (tokens_of_tree a) names left mid → Reads scope (strength joint + 1) (Joining left joint ∷ ws) (tokens_of_tree b) mid o
+    → Reads scope n ws (tokens_of_tree (Between joint a b)) names (o >>= λ y. (join_of joint left y.0 >>= λ q. Some (q, y.1)))
 between_second scope n ws joint a b names mid left None le h c d = tt
-between_second scope n ws joint a b names mid left (Some y) le h c d = between_joined scope n ws joint a b names mid left y.0 y.1 (joined joint left y.0) le h refl c d
+between_second scope n ws joint a b names mid left (Some y) le h c d = between_joined scope n ws joint a b names mid left y.0 y.1 (join_of joint left y.0) le h refl c d
 
-between_read : (scope : Scope) (n : ℕ) (ws : List Waits) (joint : Joint) (a b : Tree) (names : List (List ℕ)) (o : Option (Part × List (List ℕ))) → n ≤ strength joint → Ends n ws
-    → Reads scope (strength joint) ws (written a) names o
-    → ((left : Part) (mid : List (List ℕ)) → Reads scope (strength joint + 1) (Joining left joint ∷ ws) (written b) mid (meaning scope b mid))
-    → Reads scope n ws (written (Between joint a b)) names (o >>= λ x. (meaning scope b x.1 >>= λ y. (joined joint x.0 y.0 >>= λ q. Some (q, y.1))))
+between_read : (scope : Scope) (n : ℕ) (ws : List Waits) (joint : Joint) (a b : Tree) (names : List (List ℕ)) (o : Option (OperandPart × List (List ℕ))) → n ≤ strength joint → Ends n ws
+    → Reads scope (strength joint) ws (tokens_of_tree a) names o
+    → ((left : OperandPart) (mid : List (List ℕ)) → Reads scope (strength joint + 1) (Joining left joint ∷ ws) (tokens_of_tree b) mid (meaning scope b mid))
+    → Reads scope n ws (tokens_of_tree (Between joint a b)) names (o >>= λ x. (meaning scope b x.1 >>= λ y. (join_of joint x.0 y.0 >>= λ q. Some (q, y.1))))
 between_read scope n ws joint a b names None le h c d = tt
 between_read scope n ws joint a b names (Some x) le h c d = between_second scope n ws joint a b names x.1 x.0 (meaning scope b x.1) le h c (d x.0 x.1)
 
 -- each tree that binds is read
 pub tree_read : (scope : Scope) → KnowsHeads scope → (tree : Tree) (n : ℕ) (ws : List Waits) (names : List (List ℕ)) → Binds n tree → depth tree + brackets ws ≤ 16 → Ends n ws
-    → Reads scope n ws (written tree) names (meaning scope tree names)
+    → Reads scope n ws (tokens_of_tree tree) names (meaning scope tree names)
 tree_read scope k (Numeral m) n ws names binds few h = at_once scope n ws (NumberToken m ∷ []) names (Value (Number m)) names h refl
 tree_read scope k (Name word) n ws names binds few h =
     name_read scope n ws word names h (no_value scope k names word (bytes_eq word (codes "not")) (bytes_eq word (codes "max")) (bytes_eq word (codes "min")) refl refl refl)
 tree_read scope k (One head tree) n ws names binds few h =
     one_read scope n ws head tree names (meaning scope tree names) (omega arith) h (tree_read scope k tree 1 (Opened head ∷ ws) names binds (omega arith) tt)
-tree_read scope k (Two Not a b) n ws names binds few h = two_of_not scope n ws a b names (written (Two Not a b)) (meaning scope a names)
+tree_read scope k (Two Not a b) n ws names binds few h = two_of_not scope n ws a b names (tokens_of_tree (Two Not a b)) (meaning scope a names)
 tree_read scope k (Two Plain a b) n ws names binds few h =
     two_read scope n ws Plain a b names (meaning scope a names) (λ ns us p. refl) (omega arith) h
     (tree_read scope k a 1 (Opened Plain ∷ ws) names binds.0 (omega arith) tt)
@@ -257,16 +257,16 @@ tree_read scope k (Between joint a b) n ws names binds few h =
     (tree_read scope k a (strength joint) ws names binds.1 (omega arith) (ends_more n (strength joint) ws binds.0 h))
     (λ left mid. tree_read scope k b (strength joint + 1) (Joining left joint ∷ ws) mid binds.2 (omega arith) (omega arith))
 
-came_so : (scope : Scope) (tokens : List Token) (names : List (List ℕ)) (o : Option (Part × List (List ℕ))) (part : Part) (after : List (List ℕ)) → o ≡ Some (part, after)
+came_so : (scope : Scope) (tokens : List Token) (names : List (List ℕ)) (o : Option (OperandPart × List (List ℕ))) (part : OperandPart) (after : List (List ℕ)) → o ≡ Some (part, after)
     → Reads scope 1 [] tokens names o → Comes scope 1 [] tokens names part after
 came_so scope tokens names o part after e h = subst (Reads scope 1 [] tokens names) e h
 
 -- what the grammar says is read
-pub complete : (scope : Scope) → KnowsHeads scope → (names : List (List ℕ)) (tokens : List Token) (part : Part) (after : List (List ℕ)) → Says scope names tokens part after
+pub complete : (scope : Scope) → KnowsHeads scope → (names : List (List ℕ)) (tokens : List Token) (part : OperandPart) (after : List (List ℕ)) → Says scope names tokens part after
     → read_part scope names tokens ≡ Some (part, after)
 complete scope k names tokens part after s =
     let few : depth s.tree + brackets [] ≤ 16 = omega (arith, s.shallow) in
-    let c = came_so scope (written s.tree) names (meaning scope s.tree names) part after s.means (tree_read scope k s.tree 1 [] names s.binds few tt) in
+    let c = came_so scope (tokens_of_tree s.tree) names (meaning scope s.tree names) part after s.means (tree_read scope k s.tree 1 [] names s.binds few tt) in
     ap (read_part scope names) s.tokens_of
-    ∙ ap (λ o. o >>= λ r. ended r.names r.waiting r.next) c.runs
-    ∙ ap (λ o. o >>= alone after) c.reduces
+    ∙ ap (λ o. o >>= λ r. part_at_end r.names r.waiting r.next) c.runs
+    ∙ ap (λ o. o >>= sole_part after) c.reduces

@@ -1,8 +1,8 @@
 -- Lines that end a call in place of a way.
 use Rattle.std.proofs.Common.{◌≡◌, ℕ, zero, suc, ◌+◌, Bool, true, false, List, [], ◌∷◌, map, set, get_or, refl, ap, ◌∙◌, subst, inl, inr, arith}
-use Rattle.algorithms.specs.declared.line.Line.{Line}
+use Rattle.algorithms.specs.declared.line.AlgorithmLine.{AlgorithmLine}
 use Rattle.algorithm_texts.specs.Drafts.{PlacedLine, Ending, line_of}
-use Rattle.algorithm_texts.specs.Finishing.{is_way, is_in, EndsAt, EndSome}
+use Rattle.algorithm_texts.specs.FinishedDrafts.{is_way, is_in, EndsAt, EndSome}
 
 pub none_end : (marks : List Bool) (place : ℕ) (lines : List PlacedLine) → EndSome marks place lines lines
 none_end marks place [] = tt
@@ -22,7 +22,7 @@ end_more marks place (x ∷ xs) [] c h k = absurd h
 end_more marks place (x ∷ xs) (y ∷ ys) [] h k = absurd k
 end_more marks place (x ∷ xs) (y ∷ ys) (z ∷ zs) h k = (ends_on (is_in marks place) x y z h.0 k.0, end_more marks (place + 1) xs ys zs h.1 k.1)
 
-set_from : (marks : List Bool) (place : ℕ) (lines : List Line) (i at : ℕ) (old new : Line) → at ≡ place + i → old ≡ get_or lines i old
+set_from : (marks : List Bool) (place : ℕ) (lines : List AlgorithmLine) (i at : ℕ) (old new : AlgorithmLine) → at ≡ place + i → old ≡ get_or lines i old
     → EndsAt (is_in marks at) (line_of old) (line_of new) → EndSome marks place (map line_of lines) (map line_of (set lines i new))
 set_from marks place [] i at old new p e h = tt
 set_from marks place (x ∷ xs) zero at old new p e h =
@@ -31,6 +31,6 @@ set_from marks place (x ∷ xs) zero at old new p e h =
 set_from marks place (x ∷ xs) (suc k) at old new p e h = (inl refl, set_from marks (place + 1) xs k at old new (omega (arith, p)) e h)
 
 -- one line ends a call
-pub end_set : (marks : List Bool) (lines : List Line) (i : ℕ) (old new : Line) → old ≡ get_or lines i old → EndsAt (is_in marks i) (line_of old) (line_of new)
+pub end_set : (marks : List Bool) (lines : List AlgorithmLine) (i : ℕ) (old new : AlgorithmLine) → old ≡ get_or lines i old → EndsAt (is_in marks i) (line_of old) (line_of new)
     → EndSome marks 0 (map line_of lines) (map line_of (set lines i new))
 end_set marks lines i old new e h = set_from marks 0 lines i i old new (omega arith) e h

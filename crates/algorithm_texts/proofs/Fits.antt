@@ -4,13 +4,13 @@ use Rattle.std.specs.Prelude.{bytes_eq, OnOk}
 use Rattle.std.proofs.lemmas.Bool.{false≢true, both_ways, not-true}
 use Rattle.std.proofs.lemmas.List.Quantifiers.{position-Some}
 use Rattle.std.proofs.lemmas.Option.{same_Some, none-some, slice_get_within, get_or_from_slice_get}
-use Rattle.algorithms.specs.declared.algorithm.Call.{Call}
-use Rattle.algorithms.specs.declared.algorithm.Call.TheVariants.{Lock, Unlock, Recover, Withdraw}
+use Rattle.algorithms.specs.declared.algorithm.AlgorithmCall.{AlgorithmCall}
+use Rattle.algorithms.specs.declared.algorithm.AlgorithmCall.TheVariants.{Lock, Unlock, Recover, Withdraw}
 use Rattle.algorithms.specs.declared.algorithm.Promises.{Promises}
 use Rattle.algorithm_texts.specs.declared.lines.CallRead.{CallRead}
 use Rattle.algorithm_texts.specs.declared.lines.Label.{Label}
 use Rattle.algorithm_texts.specs.Drafts.{LineForm, PlacedLine, Drafted}
-use Rattle.algorithm_texts.specs.Finishing.{is_label_in, jumps_led, with_lines, call_led, call_in, led_where, kind_led}
+use Rattle.algorithm_texts.specs.FinishedDrafts.{is_label_in, jumps_led, with_lines, call_led, call_in, led_where, kind_led}
 use Rattle.algorithm_texts.specs.Lawful.{LabelsDiffer, IsInLoop, LineFits, LinesFit}
 use Rattle.algorithm_texts.specs.Runs.{RunsFit}
 use Rattle.algorithm_texts.specs.Usage.{reads, sets, begins_loop, ends_loop, uses, passes_where, passes_at}
@@ -38,7 +38,7 @@ where_redirects d now None e = record { lines = d.lines; is = sym (same_Some d n
 where_redirects d now (Some call) e = call_redirects d now call e
 
 -- the call of this kind is as is asked of it
-abbrev pub KindFits : Drafted → Call → Type 0
+abbrev pub KindFits : Drafted → AlgorithmCall → Type 0
 KindFits d kind = (read : CallRead) → call_in kind d.calls ≡ Some read → LinesFit d read
 
 fits_with : (d : Drafted) (lines : List PlacedLine) → uses lines ≡ uses d.lines → (read : CallRead) → LinesFit d read → LinesFit (with_lines lines d) read
@@ -48,7 +48,7 @@ fits_with d lines same read h = record {
 }
 
 -- it is so where the gotos of a kind lead to their labels
-pub kind_stays : (d now : Drafted) (kind other : Call) → kind_led other d ≡ Some now → KindFits d kind → KindFits now kind
+pub kind_stays : (d now : Drafted) (kind other : AlgorithmCall) → kind_led other d ≡ Some now → KindFits d kind → KindFits now kind
 kind_stays d now kind other e h =
     let r = where_redirects d now (call_in other d.calls) e in
     subst (λ x. KindFits x kind) (sym r.is) (λ read f. fits_with d r.lines r.same read (h read f))
@@ -73,35 +73,35 @@ on_both (Ok x) f p q = f p q
 on_both (Err e) f p q = tt
 
 -- the call of this kind that is there is as is asked of it
-pub one_fits : (d now : Drafted) (kind : Call) (found : CallRead) → call_in kind d.calls ≡ Some found → call_led d found ≡ Some now → LinesFit now found
+pub one_fits : (d now : Drafted) (kind : AlgorithmCall) (found : CallRead) → call_in kind d.calls ≡ Some found → call_led d found ≡ Some now → LinesFit now found
     → KindFits now kind
 one_fits d now kind found e led h read f =
     let r = call_redirects d now found led in
     let same : call_in kind now.calls ≡ call_in kind d.calls = ap (λ x. call_in kind x.calls) r.is in
     subst (λ c. LinesFit now c) (same_Some found read (sym e ∙ sym same ∙ f)) h
 
-pub none_fits : (d : Drafted) (kind : Call) → call_in kind d.calls ≡ None → KindFits d kind
+pub none_fits : (d : Drafted) (kind : AlgorithmCall) → call_in kind d.calls ≡ None → KindFits d kind
 none_fits d kind e read f = absurd (none-some read (sym e ∙ f))
 
 pub all_fit : (begun lock unlock recover withdraw : Drafted) → kind_led Lock begun ≡ Some lock → kind_led Unlock lock ≡ Some unlock → kind_led Recover unlock ≡ Some recover
     → kind_led Withdraw recover ≡ Some withdraw → KindFits lock Lock → KindFits unlock Unlock → KindFits recover Recover → KindFits withdraw Withdraw
-    → (kind : Call) → KindFits withdraw kind
+    → (kind : AlgorithmCall) → KindFits withdraw kind
 all_fit begun lock unlock recover withdraw a b c d l u r w Lock = kind_stays recover withdraw Lock Withdraw d (kind_stays unlock recover Lock Recover c (kind_stays lock unlock Lock Unlock b l))
 all_fit begun lock unlock recover withdraw a b c d l u r w Unlock = kind_stays recover withdraw Unlock Withdraw d (kind_stays unlock recover Unlock Recover c u)
 all_fit begun lock unlock recover withdraw a b c d l u r w Recover = kind_stays recover withdraw Recover Withdraw d r
 all_fit begun lock unlock recover withdraw a b c d l u r w Withdraw = w
 
 -- the runs of the call of this kind do what they may
-abbrev pub KindRuns : Drafted → Call → Type 0
+abbrev pub KindRuns : Drafted → AlgorithmCall → Type 0
 KindRuns d kind = (read : CallRead) → call_in kind d.calls ≡ Some read → RunsFit d read
 
-pub one_runs : (d : Drafted) (kind : Call) (found : CallRead) → call_in kind d.calls ≡ Some found → RunsFit d found → KindRuns d kind
+pub one_runs : (d : Drafted) (kind : AlgorithmCall) (found : CallRead) → call_in kind d.calls ≡ Some found → RunsFit d found → KindRuns d kind
 one_runs d kind found e h read f = subst (λ c. RunsFit d c) (same_Some found read (sym e ∙ f)) h
 
-pub none_runs : (d : Drafted) (kind : Call) → call_in kind d.calls ≡ None → KindRuns d kind
+pub none_runs : (d : Drafted) (kind : AlgorithmCall) → call_in kind d.calls ≡ None → KindRuns d kind
 none_runs d kind e read f = absurd (none-some read (sym e ∙ f))
 
-pub all_run : (d : Drafted) → KindRuns d Lock → KindRuns d Unlock → KindRuns d Recover → KindRuns d Withdraw → (kind : Call) → KindRuns d kind
+pub all_run : (d : Drafted) → KindRuns d Lock → KindRuns d Unlock → KindRuns d Recover → KindRuns d Withdraw → (kind : AlgorithmCall) → KindRuns d kind
 all_run d l u r w Lock = l
 all_run d l u r w Unlock = u
 all_run d l u r w Recover = r

@@ -3,14 +3,14 @@ use Rattle.std.proofs.Common.{◌≡◌, ℕ, List, map, set, Some, None, slice_
 use Rattle.std.proofs.lemmas.List.{map-set}
 use Rattle.std.proofs.lemmas.Option.{slice_get-map}
 use Rattle.std.specs.Option.{option_map}
-use Rattle.algorithms.specs.declared.line.Line.{Line}
-use Rattle.algorithm_texts.specs.Drafts.{PlacedLine, form_of, line_of, led, leading}
+use Rattle.algorithms.specs.declared.line.AlgorithmLine.{AlgorithmLine}
+use Rattle.algorithm_texts.specs.Drafts.{PlacedLine, form_of, line_of, form_with_place, leading}
 
 abbrev placed_at : ℕ → PlacedLine → PlacedLine
-placed_at place line = record { number = line.number; form = led place line.form }
+placed_at place line = record { number = line.number; form = form_with_place place line.form }
 
 -- the line at a place leads to another one
-pub led_lines : (lines : List Line) (i to : ℕ) (old new : Line) → slice_get lines i ≡ Some old → new.number ≡ old.number → form_of new.form ≡ led to (form_of old.form)
+pub led_lines : (lines : List AlgorithmLine) (i to : ℕ) (old new : AlgorithmLine) → slice_get lines i ≡ Some old → new.number ≡ old.number → form_of new.form ≡ form_with_place to (form_of old.form)
     → map line_of (set lines i new) ≡ leading (map line_of lines) i to (slice_get (map line_of lines) i)
 led_lines lines i to old new e n f =
     let here : slice_get (map line_of lines) i ≡ Some (line_of old) = slice_get-map line_of lines i ∙ ap (option_map line_of) e in
@@ -18,5 +18,5 @@ led_lines lines i to old new e n f =
     map-set line_of lines i new ∙ ap (λ l. set (map line_of lines) i l) line ∙ ap (leading (map line_of lines) i to) (sym here)
 
 -- there is no line
-pub none_led : (lines : List Line) (i to : ℕ) → slice_get lines i ≡ None → map line_of lines ≡ leading (map line_of lines) i to (slice_get (map line_of lines) i)
+pub none_led : (lines : List AlgorithmLine) (i to : ℕ) → slice_get lines i ≡ None → map line_of lines ≡ leading (map line_of lines) i to (slice_get (map line_of lines) i)
 none_led lines i to e = ap (leading (map line_of lines) i to) (sym (slice_get-map line_of lines i ∙ ap (option_map line_of) e))

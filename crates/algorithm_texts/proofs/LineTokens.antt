@@ -8,10 +8,10 @@ use Rattle.std.proofs.lemmas.Str.Parse.{IsNumeralModel, numerals_by_value}
 use Rattle.std.specs.Char.{is_ascii_digit}
 use Rattle.std.specs.List.{list_all, take_while, prefix_len, position_or_len}
 use Rattle.std.specs.Str.Parse.{digits_value, AllDigits}
-use Rattle.algorithms.specs.declared.fault.LineFault.{LineFault}
+use Rattle.algorithms.specs.declared.fault.ReadFault.{ReadFault}
 use Rattle.algorithm_texts.specs.declared.tokens.Token.{Token}
-use Rattle.algorithms.specs.declared.fault.LineFault.TheVariants.{BadCharacter}
-use Rattle.algorithm_texts.specs.Tokens.{Scans, Stops, unspaced, done, is_name_byte, before_comment, said, answered, LineSays, SaysOnce}
+use Rattle.algorithms.specs.declared.fault.ReadFault.TheVariants.{BadCharacter}
+use Rattle.algorithm_texts.specs.Tokens.{Scans, EndsTokens, without_front_spaces, done_word, is_name_byte, before_comment, tokens_with_answer, answer_at_end, LineSays, SaysOnce}
 unfoldable use Rattle.algorithm_texts.specs.Tokens.{first_token}
 
 not_not : (b : Bool) → not (not b) ≡ b
@@ -78,29 +78,29 @@ run_whole kind bs h = nowhere_at kind bs (ltb (position_or_len (λ c. not (kind 
 -- ---- one token after the other
 
 -- what comes depends on the bytes after the spaces alone
-same_after : (a b : List ℕ) (ts : List Token) (end : Result (List ℕ) LineFault) → unspaced a ≡ unspaced b → Scans a ts end → Scans b ts end
-same_after a b [] end e h = subst (λ u. Stops u end) e h
+same_after : (a b : List ℕ) (ts : List Token) (end : Result (List ℕ) ReadFault) → without_front_spaces a ≡ without_front_spaces b → Scans a ts end → Scans b ts end
+same_after a b [] end e h = subst (λ u. EndsTokens u end) e h
 same_after a b (t ∷ ts) end e h =
-    subst (λ u. (size : ℕ) × (first_token u ≡ Ok (t, size)) × (((t ≢ done) × Scans (drop size u) ts end) ⊎ ((t ≡ done) × (ts ≡ []) × (end ≡ Ok (drop size u))))) e h
+    subst (λ u. (size : ℕ) × (first_token u ≡ Ok (t, size)) × (((t ≢ done_word) × Scans (drop size u) ts end) ⊎ ((t ≡ done_word) × (ts ≡ []) × (end ≡ Ok (drop size u))))) e h
 
-spaced : (b : ℕ) (bs : List ℕ) → b ≡ 32 → unspaced (b ∷ bs) ≡ unspaced bs
+spaced : (b : ℕ) (bs : List ℕ) → b ≡ 32 → without_front_spaces (b ∷ bs) ≡ without_front_spaces bs
 spaced b bs e = rw e refl
 
-not_spaced : (b : ℕ) (bs : List ℕ) → b ≢ 32 → unspaced (b ∷ bs) ≡ b ∷ bs
+not_spaced : (b : ℕ) (bs : List ℕ) → b ≢ 32 → without_front_spaces (b ∷ bs) ≡ b ∷ bs
 not_spaced b bs e = rw (ne_eqb b 32 e) refl
 
 no_bytes : (bs : List ℕ) → length bs ≡ 0 → bs ≡ []
 no_bytes [] e = refl
 no_bytes (b ∷ bs) e = absurd (omega (arith, e))
 
-pub not_done : (t : Token) (b : Bool) → b ≡ false → (Some t ≡ Some done → b ≡ true) → t ≢ done
+pub not_done : (t : Token) (b : Bool) → b ≡ false → (Some t ≡ Some done_word → b ≡ true) → t ≢ done_word
 not_done t b other h = λ e. absurd (false≢true (sym other ∙ h (ap (λ x. Some x) e)))
 
 -- the tokens that are read so far: what completes the rest completes the whole
 pub record AreRead (old : List Token) (bytes : List ℕ) (all : List Token) (rest : List ℕ) : Type 0 where
   pub read : List Token
   pub added : all ≡ old ++ read
-  pub completes : (ts : List Token) (end : Result (List ℕ) LineFault) → Scans rest ts end → Scans bytes (read ++ ts) end
+  pub completes : (ts : List Token) (end : Result (List ℕ) ReadFault) → Scans rest ts end → Scans bytes (read ++ ts) end
 
 pub none_read : (old : List Token) (bytes : List ℕ) → AreRead old bytes old bytes
 none_read old bytes = record { read = []; added = sym (append-nil old); completes = λ ts end h. h }
@@ -109,18 +109,18 @@ pub space_read : (old : List Token) (bytes : List ℕ) (all : List Token) (rest 
 space_read old bytes all rest after b front e h = record {
   read = h.read;
   added = h.added;
-  completes = λ ts end s. h.completes ts end (same_after after rest ts end (sym (ap unspaced front ∙ spaced b after e)) s);
+  completes = λ ts end s. h.completes ts end (same_after after rest ts end (sym (ap without_front_spaces front ∙ spaced b after e)) s);
 }
 
 -- a token and what comes after it
-with_token : (rest after : List ℕ) (b : ℕ) (t : Token) (size : ℕ) (ts : List Token) (end : Result (List ℕ) LineFault) → rest ≡ b ∷ after → b ≢ 32 → first_token rest ≡ Ok (t, size)
-    → ((t ≢ done) × Scans (drop size rest) ts end) ⊎ ((t ≡ done) × (ts ≡ []) × (end ≡ Ok (drop size rest))) → Scans rest (t ∷ ts) end
+with_token : (rest after : List ℕ) (b : ℕ) (t : Token) (size : ℕ) (ts : List Token) (end : Result (List ℕ) ReadFault) → rest ≡ b ∷ after → b ≢ 32 → first_token rest ≡ Ok (t, size)
+    → ((t ≢ done_word) × Scans (drop size rest) ts end) ⊎ ((t ≡ done_word) × (ts ≡ []) × (end ≡ Ok (drop size rest))) → Scans rest (t ∷ ts) end
 with_token rest after b t size ts end front e token h =
-    let whole : rest ≡ unspaced rest = sym (ap unspaced front ∙ not_spaced b after e ∙ sym front) in
-    subst (λ u. (n : ℕ) × (first_token u ≡ Ok (t, n)) × (((t ≢ done) × Scans (drop n u) ts end) ⊎ ((t ≡ done) × (ts ≡ []) × (end ≡ Ok (drop n u))))) whole (size, token, h)
+    let whole : rest ≡ without_front_spaces rest = sym (ap without_front_spaces front ∙ not_spaced b after e ∙ sym front) in
+    subst (λ u. (n : ℕ) × (first_token u ≡ Ok (t, n)) × (((t ≢ done_word) × Scans (drop n u) ts end) ⊎ ((t ≡ done_word) × (ts ≡ []) × (end ≡ Ok (drop n u))))) whole (size, token, h)
 
 pub token_read : (old : List Token) (bytes : List ℕ) (all now : List Token) (rest after next : List ℕ) (b : ℕ) (t : Token) (size : ℕ) → rest ≡ b ∷ after → b ≢ 32
-    → first_token rest ≡ Ok (t, size) → t ≢ done → now ≡ all ++ t ∷ [] → next ≡ drop size rest → AreRead old bytes all rest → AreRead old bytes now next
+    → first_token rest ≡ Ok (t, size) → t ≢ done_word → now ≡ all ++ t ∷ [] → next ≡ drop size rest → AreRead old bytes all rest → AreRead old bytes now next
 token_read old bytes all now rest after next b t size front e token other pushed left h = record {
   read = h.read ++ t ∷ [];
   added = pushed ∙ ap (λ ts. ts ++ t ∷ []) h.added ∙ append_assoc old h.read (t ∷ []);
@@ -133,11 +133,11 @@ pub read_to_end : (old : List Token) (bytes : List ℕ) (all : List Token) (rest
     → (read : List Token) × (all ≡ old ++ read) × Scans bytes read (Ok rest)
 read_to_end old bytes all rest none h =
     let e : rest ≡ [] = no_bytes rest none in
-    (h.read, h.added, subst (λ us. Scans bytes us (Ok rest)) (append-nil h.read) (h.completes [] (Ok rest) (subst (λ u. Stops (unspaced u) (Ok u)) (sym e) refl)))
+    (h.read, h.added, subst (λ us. Scans bytes us (Ok rest)) (append-nil h.read) (h.completes [] (Ok rest) (subst (λ u. EndsTokens (without_front_spaces u) (Ok u)) (sym e) refl)))
 
--- the word `done` comes
+-- the word `done_word` comes
 pub read_to_done : (old : List Token) (bytes : List ℕ) (all now : List Token) (rest after next : List ℕ) (b : ℕ) (t : Token) (size : ℕ) → rest ≡ b ∷ after → b ≢ 32
-    → first_token rest ≡ Ok (t, size) → t ≡ done → now ≡ all ++ t ∷ [] → next ≡ drop size rest → AreRead old bytes all rest
+    → first_token rest ≡ Ok (t, size) → t ≡ done_word → now ≡ all ++ t ∷ [] → next ≡ drop size rest → AreRead old bytes all rest
     → (read : List Token) × (now ≡ old ++ read) × Scans bytes read (Ok next)
 read_to_done old bytes all now rest after next b t size front e token last pushed left h = (
   h.read ++ t ∷ [],
@@ -146,37 +146,37 @@ read_to_done old bytes all now rest after next b t size front e token last pushe
 )
 
 -- a fault comes
-pub read_to_fault : (old : List Token) (bytes : List ℕ) (all : List Token) (rest after : List ℕ) (b : ℕ) (fault : LineFault) → rest ≡ b ∷ after → b ≢ 32
+pub read_to_fault : (old : List Token) (bytes : List ℕ) (all : List Token) (rest after : List ℕ) (b : ℕ) (fault : ReadFault) → rest ≡ b ∷ after → b ≢ 32
     → first_token rest ≡ Err fault → AreRead old bytes all rest → (read : List Token) × Scans bytes read (Err fault)
 read_to_fault old bytes all rest after b fault front e token h =
-    let whole : b ∷ after ≡ unspaced rest = sym (ap unspaced front ∙ not_spaced b after e) in
-    let stops : Stops (b ∷ after) (Err fault) = (fault, ap first_token (sym front) ∙ token, refl) in
-    (h.read ++ [], h.completes [] (Err fault) (subst (λ u. Stops u (Err fault)) whole stops))
+    let whole : b ∷ after ≡ without_front_spaces rest = sym (ap without_front_spaces front ∙ not_spaced b after e) in
+    let stops : EndsTokens (b ∷ after) (Err fault) = (fault, ap first_token (sym front) ∙ token, refl) in
+    (h.read ++ [], h.completes [] (Err fault) (subst (λ u. EndsTokens u (Err fault)) whole stops))
 
 -- ---- a line says one thing
 
-not_both : {A : Type 0} (fault : LineFault) (x : A) → Err fault ≡ Ok x → ⊥
+not_both : {A : Type 0} (fault : ReadFault) (x : A) → Err fault ≡ Ok x → ⊥
 not_both fault x e = cc
 
-ok_same : {A : Type 0} (x y : A) → (let r : Result A LineFault = Ok x in r) ≡ Ok y → x ≡ y
+ok_same : {A : Type 0} (x y : A) → (let r : Result A ReadFault = Ok x in r) ≡ Ok y → x ≡ y
 ok_same x y e = cc
 
 no_first : first_token [] ≡ Err BadCharacter
 unfolding first_token
 no_first = refl
 
-stops_once : (bs : List ℕ) (a b : Result (List ℕ) LineFault) → Stops bs a → Stops bs b → a ≡ b
+stops_once : (bs : List ℕ) (a b : Result (List ℕ) ReadFault) → EndsTokens bs a → EndsTokens bs b → a ≡ b
 stops_once [] a b h k = h ∙ sym k
 stops_once (x ∷ xs) a b h k = let same : h.0 ≡ k.0 = cc in h.2 ∙ ap (λ f. Err f) same ∙ sym k.2
 
-stops_not : (bs : List ℕ) (a : Result (List ℕ) LineFault) (t : Token) (size : ℕ) → Stops bs a → first_token bs ≡ Ok (t, size) → ⊥
+stops_not : (bs : List ℕ) (a : Result (List ℕ) ReadFault) (t : Token) (size : ℕ) → EndsTokens bs a → first_token bs ≡ Ok (t, size) → ⊥
 stops_not [] a t size h e = not_both BadCharacter (t, size) (sym no_first ∙ e)
 stops_not (x ∷ xs) a t size h e = not_both h.0 (t, size) (sym h.1 ∙ e)
 
-abbrev Goes : List ℕ → Token → List Token → Result (List ℕ) LineFault → Type 0
-Goes rest t ts end = ((t ≢ done) × Scans rest ts end) ⊎ ((t ≡ done) × (ts ≡ []) × (end ≡ Ok rest))
+abbrev Goes : List ℕ → Token → List Token → Result (List ℕ) ReadFault → Type 0
+Goes rest t ts end = ((t ≢ done_word) × Scans rest ts end) ⊎ ((t ≡ done_word) × (ts ≡ []) × (end ≡ Ok rest))
 
-goes_once : (rest : List ℕ) (t : Token) (ts us : List Token) (a b : Result (List ℕ) LineFault) → Goes rest t ts a → Goes rest t us b
+goes_once : (rest : List ℕ) (t : Token) (ts us : List Token) (a b : Result (List ℕ) ReadFault) → Goes rest t ts a → Goes rest t us b
     → (Scans rest ts a → Scans rest us b → (ts ≡ us) × (a ≡ b)) → (ts ≡ us) × (a ≡ b)
 goes_once rest t ts us a b (inl h) (inl k) f = f h.1 k.1
 goes_once rest t ts us a b (inl h) (inr k) f = absurd (h.0 k.0)
@@ -184,25 +184,25 @@ goes_once rest t ts us a b (inr h) (inl k) f = absurd (k.0 h.0)
 goes_once rest t ts us a b (inr h) (inr k) f = (h.1 ∙ sym k.1, h.2 ∙ sym k.2)
 
 -- the tokens and the end are determined
-scans_once : (ts us : List Token) (bytes : List ℕ) (a b : Result (List ℕ) LineFault) → Scans bytes ts a → Scans bytes us b → (ts ≡ us) × (a ≡ b)
-scans_once [] [] bytes a b h k = (refl, stops_once (unspaced bytes) a b h k)
-scans_once [] (u ∷ us) bytes a b h k = absurd (stops_not (unspaced bytes) a u k.0 h k.1)
-scans_once (t ∷ ts) [] bytes a b h k = absurd (stops_not (unspaced bytes) b t h.0 k h.1)
+scans_once : (ts us : List Token) (bytes : List ℕ) (a b : Result (List ℕ) ReadFault) → Scans bytes ts a → Scans bytes us b → (ts ≡ us) × (a ≡ b)
+scans_once [] [] bytes a b h k = (refl, stops_once (without_front_spaces bytes) a b h k)
+scans_once [] (u ∷ us) bytes a b h k = absurd (stops_not (without_front_spaces bytes) a u k.0 h k.1)
+scans_once (t ∷ ts) [] bytes a b h k = absurd (stops_not (without_front_spaces bytes) b t h.0 k h.1)
 scans_once (t ∷ ts) (u ∷ us) bytes a b h k =
     let same : (t, h.0) ≡ (u, k.0) = ok_same (t, h.0) (u, k.0) (sym h.1 ∙ k.1) in
     let first : t ≡ u = ap (λ x. x.0) same in
     let size : h.0 ≡ k.0 = ap (λ x. x.1) same in
-    let goes : Goes (drop h.0 (unspaced bytes)) t us b = subst (λ (n : ℕ). Goes (drop n (unspaced bytes)) t us b) (sym size) (subst (λ (v : Token). Goes (drop k.0 (unspaced bytes)) v us b) (sym first) k.2) in
-    let rest = goes_once (drop h.0 (unspaced bytes)) t ts us a b h.2 goes (λ x y. scans_once ts us (drop h.0 (unspaced bytes)) a b x y) in
+    let goes : Goes (drop h.0 (without_front_spaces bytes)) t us b = subst (λ (n : ℕ). Goes (drop n (without_front_spaces bytes)) t us b) (sym size) (subst (λ (v : Token). Goes (drop k.0 (without_front_spaces bytes)) v us b) (sym first) k.2) in
+    let rest = goes_once (drop h.0 (without_front_spaces bytes)) t ts us a b h.2 goes (λ x y. scans_once ts us (drop h.0 (without_front_spaces bytes)) a b x y) in
     (ap (λ (v : Token). v ∷ ts) first ∙ ap (λ vs. u ∷ vs) rest.0, rest.1)
 
-says_once : (line : List ℕ) (a b : Result (List Token × List ℕ) LineFault) → LineSays line a → LineSays line b → a ≡ b
+says_once : (line : List ℕ) (a b : Result (List Token × List ℕ) ReadFault) → LineSays line a → LineSays line b → a ≡ b
 says_once line a b (inl h) (inl k) = h.1 ∙ sym k.1
 says_once line a b (inl h) (inr k) = absurd (false≢true (sym h.0 ∙ k.0))
 says_once line a b (inr h) (inl k) = absurd (false≢true (sym k.0 ∙ h.0))
 says_once line a b (inr h) (inr k) =
     let same = scans_once h.1 k.1 (before_comment line) h.2 k.2 h.3 k.3 in
-    h.4 ∙ ap (λ ts. said ts (answered h.2)) same.0 ∙ ap (λ e. said k.1 (answered e)) same.1 ∙ sym k.4
+    h.4 ∙ ap (λ ts. tokens_with_answer ts (answer_at_end h.2)) same.0 ∙ ap (λ e. tokens_with_answer k.1 (answer_at_end e)) same.1 ∙ sym k.4
 
 -- a line says one thing
 pub line_says_once : SaysOnce

@@ -4,11 +4,11 @@ use Rattle.std.proofs.lemmas.Bool.{and_parts, false≢true}
 use Rattle.std.proofs.lemmas.Bool.Decides.{nat_tests}
 use Rattle.std.proofs.lemmas.List.{append-nil}
 use Rattle.std.specs.List.{list_all}
-use Rattle.algorithms.specs.declared.fault.LineFault.{LineFault}
+use Rattle.algorithms.specs.declared.fault.ReadFault.{ReadFault}
 use Rattle.algorithm_texts.specs.declared.tokens.Token.{Token}
 use Rattle.algorithm_texts.specs.Fronts.{is_over}
 use Rattle.algorithm_texts.specs.TextLines.{ended_lines, and_line, SayLines, TextSays}
-use Rattle.algorithm_texts.specs.TextReading.{Spoken}
+use Rattle.algorithm_texts.specs.TextDrafts.{Spoken}
 use Rattle.algorithm_texts.specs.Tokens.{is_printable, LineSays}
 use Rattle.algorithm_texts.proofs.LineTokens.{line_says_once}
 use Rattle.algorithm_texts.proofs.SpokenLines.{and_at}
@@ -63,7 +63,7 @@ pub some_bytes : (x after : List ℕ) → x ++ (10 ∷ after) ≡ [] → ⊥
 some_bytes [] after e = cc
 some_bytes (b ∷ x) after e = cc
 
-pub same_ok : (a b : List Token × List ℕ) → ◌≡◌ {A = Result (List Token × List ℕ) LineFault} (Ok a) (Ok b) → a ≡ b
+pub same_ok : (a b : List Token × List ℕ) → ◌≡◌ {A = Result (List Token × List ℕ) ReadFault} (Ok a) (Ok b) → a ≡ b
 same_ok a b e = cc
 
 -- ---- lines after lines

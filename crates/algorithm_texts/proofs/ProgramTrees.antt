@@ -9,14 +9,14 @@ use Rattle.algorithm_texts.specs.declared.lines.Opened.{Opened}
 use Rattle.algorithm_texts.specs.declared.tokens.Token.{Token}
 use Rattle.algorithm_texts.specs.Parts.{◌>>=◌}
 use Rattle.algorithm_texts.specs.Fronts.{is_the_word, is_over, named_by}
-use Rattle.algorithm_texts.specs.Drafts.{Drafted, drafted}
-use Rattle.algorithm_texts.specs.LineReading.{read_statement, scope_in}
-use Rattle.algorithm_texts.specs.TextReading.{Spoken, with_number, begun, call_words, has_call, with_call, end_call_in, end_call, ended_calls, read_call, undeclared, read_each, read_bound, with_lasting, read_shared, read_private, read_declaration, read_line, read_lines, read_head, read_promises, read_text}
+use Rattle.algorithm_texts.specs.Drafts.{Drafted, draft_view}
+use Rattle.algorithm_texts.specs.LineDrafts.{read_statement, scope_in}
+use Rattle.algorithm_texts.specs.TextDrafts.{Spoken, with_number, empty_draft, call_words, has_call, with_call, end_call_in, end_call, ended_calls, read_call, undeclared_name, read_each, read_bound, with_lasting, read_shared, read_private, read_declaration, read_line, read_lines, read_head, read_promises, read_text}
 use Rattle.algorithm_texts.specs.TextLines.{TextSays}
-use Rattle.algorithm_texts.specs.Blocks.{Block, lines_in, begins_block, divides, ends, compiled, read_statements}
-use Rattle.algorithm_texts.specs.Finishing.{finished, EndUnreached, with_lines}
+use Rattle.algorithm_texts.specs.Blocks.{Block, lines_in, begins_block, divides, ends, draft_after_block, read_statements}
+use Rattle.algorithm_texts.specs.FinishedDrafts.{finished_draft, EndUnreached, with_lines}
 use Rattle.algorithm_texts.specs.Lawful.{IsLawfulDraft}
-use Rattle.algorithm_texts.specs.Programs.{CallLines, Program, calls_lines, program_lines, declarations_made, call_begun, calls_made, meant, Spells}
+use Rattle.algorithm_texts.specs.Programs.{CallLines, Program, calls_lines, program_lines, declarations_made, call_begun, calls_made, meaning_of, SpellsAlgorithm}
 use Rattle.algorithm_texts.proofs.BlockTrees.{some_of, if_of, if_cond, on_all, rest_of, alone_rest, begins_calls, divides_calls, ends_calls}
 use Rattle.algorithm_texts.proofs.BlockPaths.{kinds, make_blocks}
 
@@ -41,13 +41,13 @@ around d = (d.opened, d.calls)
 
 shared_stays : (d : Drafted) (tokens : List Token) → IfSome (read_shared d tokens) (λ now. around now ≡ around d)
 shared_stays d tokens =
-    on_all (λ now. around now ≡ around d) (undeclared d.declared d.names (slice_get tokens 0)) _
+    on_all (λ now. around now ≡ around d) (undeclared_name d.declared d.names (slice_get tokens 0)) _
     (λ name. on_all (λ now. around now ≡ around d) (cond (ltb (length d.declared) 64) (read_each (drop 1 tokens)) None) _
     (λ each. on_all (λ now. around now ≡ around d) (read_bound (scope_in d) d.names each.1) _ (λ bound. refl)))
 
 private_stays : (d : Drafted) (tokens : List Token) → IfSome (read_private d tokens) (λ now. around now ≡ around d)
 private_stays d tokens =
-    on_all (λ now. around now ≡ around d) (undeclared d.declared d.names (slice_get tokens 0)) _
+    on_all (λ now. around now ≡ around d) (undeclared_name d.declared d.names (slice_get tokens 0)) _
     (λ name. if_cond (λ now. around now ≡ around d) (ltb (length d.names) 32) (cond (is_over (drop 1 tokens)) (Some (with_lasting name d)) None) None
     (if_cond (λ now. around now ≡ around d) (is_over (drop 1 tokens)) (Some (with_lasting name d)) None refl tt) tt)
 
@@ -139,14 +139,14 @@ record CallsFrom (start : Drafted) (all : List Spoken) (now : Drafted) : Type 0 
   block : Block
   calls : List CallLines
   spells : lines_in block ++ calls_lines calls ≡ all
-  means : (compiled block start >>= calls_made calls) ≡ Some now
+  means : (draft_after_block block start >>= calls_made calls) ≡ Some now
 
-call_then : (d begun now : Drafted) (s : Spoken) (block : Block) (calls : List CallLines) → is_the_word (slice_get s.tokens 0) (codes "call") ≡ true
-    → read_call (with_number s.number d) (drop 1 s.tokens) d.number ≡ Some begun → (compiled block begun >>= calls_made calls) ≡ Some now
+call_then : (d empty_draft now : Drafted) (s : Spoken) (block : Block) (calls : List CallLines) → is_the_word (slice_get s.tokens 0) (codes "call") ≡ true
+    → read_call (with_number s.number d) (drop 1 s.tokens) d.number ≡ Some empty_draft → (draft_after_block block empty_draft >>= calls_made calls) ≡ Some now
     → calls_made (record { first = s; block = block } ∷ calls) d ≡ Some now
-call_then d begun now s block calls word e h =
-    let here : call_begun d s ≡ Some begun = ap (λ (b : Bool). cond b (read_call (with_number s.number d) (drop 1 s.tokens) d.number) None) word ∙ e in
-    ap (λ o. o >>= (λ b. compiled block b >>= calls_made calls)) here ∙ h
+call_then d empty_draft now s block calls word e h =
+    let here : call_begun d s ≡ Some empty_draft = ap (λ (b : Bool). cond b (read_call (with_number s.number d) (drop 1 s.tokens) d.number) None) word ∙ e in
+    ap (λ o. o >>= (λ b. draft_after_block block b >>= calls_made calls)) here ∙ h
 
 calls_from : (ss : List Spoken) (start d now : Drafted) (lines : List Spoken) (x : CallRead) (xs : List CallRead) → start.opened ≡ [] → read_statements start lines ≡ Some d
     → d.calls ≡ x ∷ xs → read_lines d ss ≡ Some now → CallsFrom start (lines ++ ss) now
@@ -228,33 +228,33 @@ two_first (x ∷ (y ∷ ys)) a b e f =
     ap (λ z. z ∷ (b ∷ ys)) p ∙ ap (λ z. x ∷ (z ∷ ys)) q
 
 -- lines that are read are those of a program
-text_makes_program : (spoken : List Spoken) (d : Drafted) → read_text spoken ≡ Some d → (p : Program) × (program_lines p ≡ spoken) × (meant p ≡ Some d)
+text_makes_program : (spoken : List Spoken) (d : Drafted) → read_text spoken ≡ Some d → (p : Program) × (program_lines p ≡ spoken) × (meaning_of p ≡ Some d)
 text_makes_program spoken d e =
     let f = some_of (slice_get spoken 0) (λ first. slice_get spoken 1 >>= (λ second. read_head first.tokens >>= (λ head. read_promises second.tokens >>= (λ promises.
-    read_lines (begun head promises second.number) (drop 2 spoken))))) d e in
+    read_lines (empty_draft head promises second.number) (drop 2 spoken))))) d e in
     let g = some_of (slice_get spoken 1) (λ second. read_head f.0.tokens >>= (λ head. read_promises second.tokens >>= (λ promises.
-    read_lines (begun head promises second.number) (drop 2 spoken)))) d f.2 in
-    let h = some_of (read_head f.0.tokens) (λ head. read_promises g.0.tokens >>= (λ promises. read_lines (begun head promises g.0.number) (drop 2 spoken))) d g.2 in
-    let k = some_of (read_promises g.0.tokens) (λ promises. read_lines (begun h.0 promises g.0.number) (drop 2 spoken)) d h.2 in
-    let r = program_from (drop 2 spoken) (begun h.0 k.0 g.0.number) d refl refl k.2 in (
+    read_lines (empty_draft head promises second.number) (drop 2 spoken)))) d f.2 in
+    let h = some_of (read_head f.0.tokens) (λ head. read_promises g.0.tokens >>= (λ promises. read_lines (empty_draft head promises g.0.number) (drop 2 spoken))) d g.2 in
+    let k = some_of (read_promises g.0.tokens) (λ promises. read_lines (empty_draft h.0 promises g.0.number) (drop 2 spoken)) d h.2 in
+    let r = program_from (drop 2 spoken) (empty_draft h.0 k.0 g.0.number) d refl refl k.2 in (
       record { head = f.0; promises = g.0; declarations = r.declarations; calls = r.calls },
       ap (λ ss. f.0 ∷ (g.0 ∷ ss)) r.spells ∙ two_first spoken f.0 g.0 f.1 g.1,
-      ap (λ o. o >>= (λ head. read_promises g.0.tokens >>= (λ promises. declarations_made r.declarations (begun head promises g.0.number) >>= calls_made r.calls))) h.1
-          ∙ ap (λ o. o >>= (λ promises. declarations_made r.declarations (begun h.0 promises g.0.number) >>= calls_made r.calls)) k.1
+      ap (λ o. o >>= (λ head. read_promises g.0.tokens >>= (λ promises. declarations_made r.declarations (empty_draft head promises g.0.number) >>= calls_made r.calls))) h.1
+          ∙ ap (λ o. o >>= (λ promises. declarations_made r.declarations (empty_draft h.0 promises g.0.number) >>= calls_made r.calls)) k.1
           ∙ r.means,
     )
 
 -- the algorithm of a draft that is finished
-pub spelled : (text : List ℕ) (read ready checked : Draft) (spoken : List Spoken) → TextSays text spoken → read_text spoken ≡ Some (drafted read)
-    → finished (drafted read) ≡ Some (drafted ready) → IsLawfulDraft (drafted ready) → EndUnreached (drafted ready) (drafted checked).lines
-    → drafted checked ≡ with_lines (drafted checked).lines (drafted ready) → Spells text checked.algorithm
+pub spelled : (text : List ℕ) (read ready checked : Draft) (spoken : List Spoken) → TextSays text spoken → read_text spoken ≡ Some (draft_view read)
+    → finished_draft (draft_view read) ≡ Some (draft_view ready) → IsLawfulDraft (draft_view ready) → EndUnreached (draft_view ready) (draft_view checked).lines
+    → draft_view checked ≡ with_lines (draft_view checked).lines (draft_view ready) → SpellsAlgorithm text checked.algorithm
 spelled text read ready checked spoken says reads finishes lawful ends kept =
-    let p = text_makes_program spoken (drafted read) reads in
+    let p = text_makes_program spoken (draft_view read) reads in
     record {
       program = p.0;
       says = subst (λ ss. TextSays text ss) (sym p.1) says;
-      draft = drafted ready;
-      means = ap (λ o. o >>= finished) p.2 ∙ finishes;
+      draft = draft_view ready;
+      means = ap (λ o. o >>= finished_draft) p.2 ∙ finishes;
       lawful = lawful;
       is_of = record {
         head = ap (λ d. d.head) kept;

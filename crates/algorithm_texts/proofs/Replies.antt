@@ -8,7 +8,7 @@ use Rattle.std.proofs.lemmas.Str.{IsAscii-append}
 use Rattle.std.proofs.lemmas.Str.Ascii.{IsAscii-nil, IsAscii-cons}
 use Rattle.std.specs.Char.{is_ascii_lowercase}
 use Rattle.std.specs.List.{list_all, join_with_byte, slice_split, onto_first}
-use Rattle.algorithms.specs.declared.fault.LineFault.TheVariants.{BadForm}
+use Rattle.algorithms.specs.declared.fault.ReadFault.TheVariants.{BadForm}
 use Rattle.algorithm_texts.specs.Tokens.{is_filled, is_answer_part, is_answer_word}
 unfoldable use Rattle.algorithm_texts.specs.Tokens.{answer_from}
 

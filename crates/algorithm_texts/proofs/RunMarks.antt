@@ -5,12 +5,12 @@ use Rattle.std.proofs.lemmas.Bool.{false≢true, both_ways, not-true, ltb-true, 
 use Rattle.std.proofs.lemmas.Option.{slice_get-get_or, slice_get_past, slice_get_within, none-some, same_Some, cond_some}
 use Rattle.std.proofs.lemmas.List.{length-set, length-replicate}
 use Rattle.std.proofs.lemmas.List.Sums.{sum_by-set}
-use Rattle.algorithm_texts.specs.declared.flow.Runs.{Runs}
+use Rattle.algorithm_texts.specs.declared.flow.RunKind.{RunKind}
 use Rattle.algorithm_texts.specs.declared.lines.CallRead.{CallRead}
 use Rattle.algorithm_texts.specs.Drafts.{Drafted, PlacedLine}
-use Rattle.algorithm_texts.specs.Finishing.{is_in, is_marked, is_within}
-use Rattle.algorithm_texts.specs.Marks.{is_free, free_way, past_marked, marks_from, IsClosed, Keeps}
-use Rattle.algorithm_texts.specs.Runs.{ways_after, ways_from, leads_to, Comes, ComesOver, past_where, past_from, IsReached, HasNot}
+use Rattle.algorithm_texts.specs.FinishedDrafts.{is_in, is_marked, is_within}
+use Rattle.algorithm_texts.specs.Marks.{is_free, free_way, past_marked, marks_from, IsClosed, KeepsMarks}
+use Rattle.algorithm_texts.specs.Runs.{ways_after, ways_from, leads_to, RunComesTo, ComesOver, past_where, past_from, IsPlaceReached, HasNot}
 
 -- ---- tests
 
@@ -44,7 +44,7 @@ marked_set (m ∷ ms) zero (suc at) h = inr h
 marked_set (m ∷ ms) (suc place) zero h = inr h
 marked_set (m ∷ ms) (suc place) (suc at) h = elim (marked_set ms place at h) [ inl e ↦ inl (ap suc e) | inr k ↦ inr k ]
 
-pub set_keeps : (marks : List Bool) (place : ℕ) → Keeps marks (set marks place true)
+pub set_keeps : (marks : List Bool) (place : ℕ) → KeepsMarks marks (set marks place true)
 set_keeps [] place at h = h
 set_keeps (m ∷ ms) zero zero h = refl
 set_keeps (m ∷ ms) zero (suc at) h = h
@@ -112,21 +112,21 @@ find_none test (w ∷ ws) way e h = elim (true_or_false (test w)) [
 ]
 
 -- a place that leads somewhere has a line
-line_after : (least : ℕ) (runs : Runs) (at way : ℕ) (lines : List PlacedLine) → leads_to (ways_after least runs at (slice_get lines at)) way ≡ true → at < length lines
+line_after : (least : ℕ) (runs : RunKind) (at way : ℕ) (lines : List PlacedLine) → leads_to (ways_after least runs at (slice_get lines at)) way ≡ true → at < length lines
 line_after least runs at way lines h = elim (true_or_false (ltb at (length lines))) [
   | inl t ↦ ltb-true at (length lines) t
   | inr f ↦ absurd (false≢true (sym (ap (λ o. leads_to (ways_after least runs at o) way) (slice_get_past lines at (ltb-false at (length lines) f))) ∙ h))
 ]
 
 -- such a line is of the call
-leads_within : (d : Drafted) (call : CallRead) (runs : Runs) (at way : ℕ) → leads_to (ways_from d call runs at) way ≡ true → at < length d.lines
+leads_within : (d : Drafted) (call : CallRead) (runs : RunKind) (at way : ℕ) → leads_to (ways_from d call runs at) way ≡ true → at < length d.lines
 leads_within d call runs at way h = elim (true_or_false (is_within (call.«from», call.to) at)) [
   | inl t ↦ line_after d.head.least runs at way d.lines (sym (ap (λ b. leads_to (cond b (ways_after d.head.least runs at (slice_get d.lines at)) []) way) t) ∙ h)
   | inr f ↦ absurd (false≢true (sym (ap (λ b. leads_to (cond b (ways_after d.head.least runs at (slice_get d.lines at)) []) way) f) ∙ h))
 ]
 
 -- no line of another call leads anywhere
-pub no_way_outside : (d : Drafted) (call : CallRead) (runs : Runs) (marks : List Bool) (at : ℕ) → is_within (call.«from», call.to) at ≡ false
+pub no_way_outside : (d : Drafted) (call : CallRead) (runs : RunKind) (marks : List Bool) (at : ℕ) → is_within (call.«from», call.to) at ≡ false
     → free_way d call runs marks at ≡ None
 no_way_outside d call runs marks at f = elim (true_or_false (is_in marks at)) [
   | inl t ↦
@@ -135,7 +135,7 @@ no_way_outside d call runs marks at f = elim (true_or_false (is_in marks at)) [
   | inr e ↦ ap (λ b. cond b (find (is_free marks) (ways_from d call runs at)) None) e
 ]
 
-pub free_way_leads : (d : Drafted) (call : CallRead) (runs : Runs) (marks : List Bool) (at way : ℕ) → free_way d call runs marks at ≡ Some way
+pub free_way_leads : (d : Drafted) (call : CallRead) (runs : RunKind) (marks : List Bool) (at way : ℕ) → free_way d call runs marks at ≡ Some way
     → (is_in marks at ≡ true) × (is_free marks way ≡ true) × (leads_to (ways_from d call runs at) way ≡ true)
 free_way_leads d call runs marks at way e = elim (true_or_false (is_in marks at)) [
   | inl t ↦
@@ -145,7 +145,7 @@ free_way_leads d call runs marks at way e = elim (true_or_false (is_in marks at)
 ]
 
 -- places that lead to none that is left are closed
-pub closed_where : (d : Drafted) (call : CallRead) (runs : Runs) (marks : List Bool) → ((at : ℕ) → free_way d call runs marks at ≡ None)
+pub closed_where : (d : Drafted) (call : CallRead) (runs : RunKind) (marks : List Bool) → ((at : ℕ) → free_way d call runs marks at ≡ None)
     → IsClosed d call runs marks
 closed_where d call runs marks none at way marked leads within =
     let found : find (is_free marks) (ways_from d call runs at) ≡ None = sym (ap (λ b. cond b (find (is_free marks) (ways_from d call runs at)) None) marked) ∙ none at in
@@ -154,32 +154,32 @@ closed_where d call runs marks none at way marked leads within =
 -- ---- runs
 
 -- a run goes on to a place to which its last one leads
-pub comes_on : (d : Drafted) (call : CallRead) (runs : Runs) (Start : ℕ → Type 0) (at way : ℕ) → Comes d call runs Start at
-    → leads_to (ways_from d call runs at) way ≡ true → Comes d call runs Start way
+pub comes_on : (d : Drafted) (call : CallRead) (runs : RunKind) (Start : ℕ → Type 0) (at way : ℕ) → RunComesTo d call runs Start at
+    → leads_to (ways_from d call runs at) way ≡ true → RunComesTo d call runs Start way
 comes_on d call runs Start at way h leads = (suc h.0, (at, h.1, leads))
 
 -- all marks are of places to which runs come, where one more is marked to which a line leads
-pub comes_more : (d : Drafted) (call : CallRead) (runs : Runs) (Start : ℕ → Type 0) (marks : List Bool) (from place : ℕ)
-    → ((at : ℕ) → is_in marks at ≡ true → Comes d call runs Start at) → free_way d call runs marks from ≡ Some place
-    → (at : ℕ) → is_in (set marks place true) at ≡ true → Comes d call runs Start at
+pub comes_more : (d : Drafted) (call : CallRead) (runs : RunKind) (Start : ℕ → Type 0) (marks : List Bool) (from place : ℕ)
+    → ((at : ℕ) → is_in marks at ≡ true → RunComesTo d call runs Start at) → free_way d call runs marks from ≡ Some place
+    → (at : ℕ) → is_in (set marks place true) at ≡ true → RunComesTo d call runs Start at
 comes_more d call runs Start marks from place all e at h =
     let w = free_way_leads d call runs marks from place e in
     elim (marked_set marks place at h) [
-      | inl same ↦ subst (λ x. Comes d call runs Start x) (sym same) (comes_on d call runs Start from place (all from w.0) w.2)
+      | inl same ↦ subst (λ x. RunComesTo d call runs Start x) (sym same) (comes_on d call runs Start from place (all from w.0) w.2)
       | inr k ↦ all at k
     ]
 
-over_other : (d : Drafted) (call : CallRead) (runs : Runs) (S T : ℕ → Type 0) → ((at : ℕ) → S at → T at) → (n at : ℕ) → ComesOver d call runs S n at
+over_other : (d : Drafted) (call : CallRead) (runs : RunKind) (S T : ℕ → Type 0) → ((at : ℕ) → S at → T at) → (n at : ℕ) → ComesOver d call runs S n at
     → ComesOver d call runs T n at
 over_other d call runs S T all zero at h = all at h
 over_other d call runs S T all (suc n) at h = (h.0, over_other d call runs S T all n h.0 h.1, h.2)
 
 -- runs from some places are runs from others
-pub comes_other : (d : Drafted) (call : CallRead) (runs : Runs) (S T : ℕ → Type 0) → ((at : ℕ) → S at → T at) → (at : ℕ) → Comes d call runs S at
-    → Comes d call runs T at
+pub comes_other : (d : Drafted) (call : CallRead) (runs : RunKind) (S T : ℕ → Type 0) → ((at : ℕ) → S at → T at) → (at : ℕ) → RunComesTo d call runs S at
+    → RunComesTo d call runs T at
 comes_other d call runs S T all at h = (h.0, over_other d call runs S T all h.0 at h.1)
 
-over_marked : (d : Drafted) (call : CallRead) (runs : Runs) (Start : ℕ → Type 0) (marks : List Bool) → length marks ≡ length d.lines + 1
+over_marked : (d : Drafted) (call : CallRead) (runs : RunKind) (Start : ℕ → Type 0) (marks : List Bool) → length marks ≡ length d.lines + 1
     → IsClosed d call runs marks → ((at : ℕ) → at ≤ length d.lines → Start at → is_in marks at ≡ true)
     → (n at : ℕ) → at ≤ length d.lines → ComesOver d call runs Start n at → is_in marks at ≡ true
 over_marked d call runs Start marks size closed start zero at within h = start at within h
@@ -188,9 +188,9 @@ over_marked d call runs Start marks size closed start (suc n) at within h =
     closed h.0 at (over_marked d call runs Start marks size closed start n h.0 (omega (arith, line)) h.1) h.2 (omega (arith, size, within))
 
 -- marks that are closed are on all places to which runs come
-pub comes_marked : (d : Drafted) (call : CallRead) (runs : Runs) (Start : ℕ → Type 0) (marks : List Bool) → length marks ≡ length d.lines + 1
+pub comes_marked : (d : Drafted) (call : CallRead) (runs : RunKind) (Start : ℕ → Type 0) (marks : List Bool) → length marks ≡ length d.lines + 1
     → IsClosed d call runs marks → ((at : ℕ) → at ≤ length d.lines → Start at → is_in marks at ≡ true)
-    → (at : ℕ) → at ≤ length d.lines → Comes d call runs Start at → is_in marks at ≡ true
+    → (at : ℕ) → at ≤ length d.lines → RunComesTo d call runs Start at → is_in marks at ≡ true
 comes_marked d call runs Start marks size closed start at within h = over_marked d call runs Start marks size closed start h.0 at within h.1
 
 -- ---- loops
@@ -213,7 +213,7 @@ all_within P call place all end at h =
     let before : at < call.to = ltb-true at call.to k.1 in
     all at (leb-true call.«from» at k.0) (omega (arith, before, end))
 
-pub none_everywhere : (d : Drafted) (call : CallRead) (runs : Runs) (marks : List Bool) (place : ℕ)
+pub none_everywhere : (d : Drafted) (call : CallRead) (runs : RunKind) (marks : List Bool) (place : ℕ)
     → ((at : ℕ) → call.«from» ≤ at → at < place → free_way d call runs marks at ≡ None) → call.to ≤ place → (at : ℕ) → free_way d call runs marks at ≡ None
 none_everywhere d call runs marks place all end at = elim (true_or_false (is_within (call.«from», call.to) at)) [
   | inl t ↦ all_within (λ x. free_way d call runs marks x ≡ None) call place all end at t
@@ -221,15 +221,15 @@ none_everywhere d call runs marks place all end at = elim (true_or_false (is_wit
 ]
 
 -- marks that have been spread so far
-pub record Spreads (d : Drafted) (call : CallRead) (runs : Runs) (old marks : List Bool) : Type 0 where
+pub record Spreads (d : Drafted) (call : CallRead) (runs : RunKind) (old marks : List Bool) : Type 0 where
   pub size : length marks ≡ length old
-  pub kept : Keeps old marks
-  pub comes : (at : ℕ) → is_in marks at ≡ true → Comes d call runs (λ first. is_in old first ≡ true) at
+  pub kept : KeepsMarks old marks
+  pub comes : (at : ℕ) → is_in marks at ≡ true → RunComesTo d call runs (λ first. is_in old first ≡ true) at
 
-pub spreads_first : (d : Drafted) (call : CallRead) (runs : Runs) (old : List Bool) → Spreads d call runs old old
+pub spreads_first : (d : Drafted) (call : CallRead) (runs : RunKind) (old : List Bool) → Spreads d call runs old old
 spreads_first d call runs old = record { size = refl; kept = λ at h. h; comes = λ at h. (zero, h) }
 
-pub spreads_on : (d : Drafted) (call : CallRead) (runs : Runs) (old marks : List Bool) (from place : ℕ) → Spreads d call runs old marks
+pub spreads_on : (d : Drafted) (call : CallRead) (runs : RunKind) (old marks : List Bool) (from place : ℕ) → Spreads d call runs old marks
     → free_way d call runs marks from ≡ Some place → Spreads d call runs old (set marks place true)
 spreads_on d call runs old marks from place s e = record {
   size = length-set marks place true ∙ s.size;
@@ -240,7 +240,7 @@ spreads_on d call runs old marks from place s e = record {
 -- marks of the places after loops, of which the places so far are asked
 pub record PastMarked (d : Drafted) (call : CallRead) (name : ℕ) (reached old marks : List Bool) (place : ℕ) : Type 0 where
   pub size : length marks ≡ length old
-  pub kept : Keeps old marks
+  pub kept : KeepsMarks old marks
   pub marked : (at : ℕ) → call.«from» ≤ at → at < place → (way : ℕ) → past_marked d call name reached at ≡ Some way → way < length marks → is_in marks way ≡ true
 
 pub past_first : (d : Drafted) (call : CallRead) (name : ℕ) (reached old : List Bool) → PastMarked d call name reached old old call.«from»
@@ -314,9 +314,9 @@ past_line d call name at way e = elim (true_or_false (ltb at (length d.lines))) 
 
 -- where a run has not set the name is marked
 pub start_marked : (d : Drafted) (call : CallRead) (name : ℕ) (reached items past marks : List Bool) (n : ℕ) → n ≡ length d.lines + 1
-    → items ≡ marks_from n call.«from» (leb d.lasting name) → Keeps items past
+    → items ≡ marks_from n call.«from» (leb d.lasting name) → KeepsMarks items past
     → ((at way : ℕ) → past_marked d call name reached at ≡ Some way → way < length past → is_in past way ≡ true)
-    → length past ≡ n → Keeps past marks → ((before : ℕ) → before ≤ length d.lines → IsReached d call before → is_in reached before ≡ true)
+    → length past ≡ n → KeepsMarks past marks → ((before : ℕ) → before ≤ length d.lines → IsPlaceReached d call before → is_in reached before ≡ true)
     → (at : ℕ) → at ≤ length d.lines → HasNot d call name at → is_in marks at ≡ true
 start_marked d call name reached items past marks n size begun kept marked long keeps all at within (inl h) =
     keeps at (kept at (subst (λ ms. is_in ms at ≡ true) (sym (begun ∙ ap (marks_from n call.«from») (le-leb d.lasting name h.1))) (first_marked n call.«from» at h.0 (omega (arith, within, size)))))

@@ -6,7 +6,7 @@ use Rattle.algorithm_texts.specs.Grammar.{Says}
 unfoldable use Rattle.algorithm_texts.specs.Operands.{reserved}
 use Rattle.algorithm_texts.specs.Stacks.{read_part}
 use Rattle.algorithm_texts.specs.Drafts.{Drafted}
-use Rattle.algorithm_texts.specs.LineReading.{scope_in, read_value, read_condition}
+use Rattle.algorithm_texts.specs.LineDrafts.{scope_in, read_value, read_condition}
 use Rattle.algorithm_texts.specs.Sayings.{AreReadAsSaid}
 use Rattle.algorithm_texts.proofs.BlockTrees.{some_of}
 use Rattle.algorithm_texts.proofs.Complete.{KnowsHeads, complete}

@@ -9,9 +9,9 @@ use Rattle.algorithm_texts.specs.declared.operands.Bracket.{Bracket}
 use Rattle.algorithm_texts.specs.declared.operands.Bracket.TheVariants.{Plain, Not, Max, Min}
 use Rattle.algorithm_texts.specs.declared.operands.Joint.{Joint}
 use Rattle.algorithm_texts.specs.declared.operands.Joint.TheVariants.{Operator as ByOperator, Comparison as ByComparison, And, Or}
-use Rattle.algorithm_texts.specs.Parts.{Part, joined, enclosed, enclosed_two, ◌>>=◌}
-use Rattle.algorithm_texts.specs.Grammar.{Scope, Tree, Numeral, Name, One, Two, Between, head_tokens, joint_token, written, strength, Binds, depth, word_value, meaning, Says}
-use Rattle.algorithm_texts.specs.Stacks.{Waits, Joining, Opened, Halfway, Next, Begins, Heads, Follows, Reading, reading, brackets, reduced, opened, head_of, worded, valued, begun, headed, enclosing, closes, halves, joint_of, joining, followed, turned, turn, run, alone, ended, read_part}
+use Rattle.algorithm_texts.specs.Parts.{OperandPart, join_of, enclosed_part, enclosed_two, ◌>>=◌}
+use Rattle.algorithm_texts.specs.Grammar.{Scope, Tree, Numeral, Name, One, Two, Between, head_tokens, joint_token, tokens_of_tree, strength, Binds, depth, word_value, meaning, Says}
+use Rattle.algorithm_texts.specs.Stacks.{Waits, Joining, Opened, Halfway, NextToken, Begins, Heads, Follows, OperandReading, reading, brackets, stack_reduction, reading_after_bracket, head_of, reading_after_word, reading_after_value, reading_at_part, reading_after_head, enclosing, closes, halves, joint_of, joining, reading_after_part, reading_after_token, turn, run, sole_part, part_at_end, read_part}
 use Rattle.algorithm_texts.proofs.Complete.{Ends, is_word}
 
 -- ---- trees
@@ -27,12 +27,12 @@ weaker m n (Between joint a b) le h = (omega (arith, h.0), h.1, h.2)
 -- ---- what the tokens so far say
 
 -- a tree stands after these tokens, with an operator after it
-pub record Joins (Before : List Token → List (List ℕ) → Type 0) (scope : Scope) (ws : List Waits) (tokens : List Token) (names : List (List ℕ)) (part : Part) (joint : Joint) : Type 0 where
+pub record Joins (Before : List Token → List (List ℕ) → Type 0) (scope : Scope) (ws : List Waits) (tokens : List Token) (names : List (List ℕ)) (part : OperandPart) (joint : Joint) : Type 0 where
   pub before : List Token
   pub old : List (List ℕ)
   pub tree : Tree
   pub so_far : Before before old
-  pub tokens_of : tokens ≡ before ++ (written tree ++ (joint_token joint ∷ []))
+  pub tokens_of : tokens ≡ before ++ (tokens_of_tree tree ++ (joint_token joint ∷ []))
   pub means : meaning scope tree old ≡ Some (part, names)
   pub binds : Binds (strength joint) tree
   pub ends : Ends (strength joint) ws
@@ -46,12 +46,12 @@ pub record Opens (Before : List Token → List (List ℕ) → Type 0) (ws : List
   pub few : brackets ws < 16
 
 -- a bracket opens after these tokens, with a tree and a comma in it
-pub record Halves (Before : List Token → List (List ℕ) → Type 0) (scope : Scope) (ws : List Waits) (tokens : List Token) (names : List (List ℕ)) (head : Bracket) (part : Part) : Type 0 where
+pub record Halves (Before : List Token → List (List ℕ) → Type 0) (scope : Scope) (ws : List Waits) (tokens : List Token) (names : List (List ℕ)) (head : Bracket) (part : OperandPart) : Type 0 where
   pub before : List Token
   pub old : List (List ℕ)
   pub tree : Tree
   pub so_far : Before before old
-  pub tokens_of : tokens ≡ before ++ (head_tokens head ++ (Sign Open ∷ (written tree ++ (Sign Comma ∷ []))))
+  pub tokens_of : tokens ≡ before ++ (head_tokens head ++ (Sign Open ∷ (tokens_of_tree tree ++ (Sign Comma ∷ []))))
   pub means : meaning scope tree old ≡ Some (part, names)
   pub binds : Binds 1 tree
   pub shallow : depth tree + brackets ws + 1 ≤ 16
@@ -89,29 +89,29 @@ over_between (Opened head ∷ ws) joint a b h left right = tt
 over_between (Halfway head part ∷ ws) joint a b h left right = tt
 
 -- a tree ends these tokens, with operators at least so strong
-pub record Stands (scope : Scope) (start : List (List ℕ)) (least : ℕ) (ws : List Waits) (tokens : List Token) (names : List (List ℕ)) (part : Part) : Type 0 where
+pub record Stands (scope : Scope) (start : List (List ℕ)) (least : ℕ) (ws : List Waits) (tokens : List Token) (names : List (List ℕ)) (part : OperandPart) : Type 0 where
   pub before : List Token
   pub old : List (List ℕ)
   pub tree : Tree
   pub so_far : Leaves scope start ws before old
-  pub tokens_of : tokens ≡ before ++ written tree
+  pub tokens_of : tokens ≡ before ++ tokens_of_tree tree
   pub means : meaning scope tree old ≡ Some (part, names)
   pub binds : Binds least tree
   pub over : Over ws tree
   pub shallow : depth tree + brackets ws ≤ 16
 
 -- a tree of one token, or in brackets, ends these tokens
-pub record Stood (scope : Scope) (start : List (List ℕ)) (ws : List Waits) (tokens : List Token) (names : List (List ℕ)) (part : Part) : Type 0 where
+pub record Stood (scope : Scope) (start : List (List ℕ)) (ws : List Waits) (tokens : List Token) (names : List (List ℕ)) (part : OperandPart) : Type 0 where
   pub before : List Token
   pub old : List (List ℕ)
   pub tree : Tree
   pub so_far : Leaves scope start ws before old
-  pub tokens_of : tokens ≡ before ++ written tree
+  pub tokens_of : tokens ≡ before ++ tokens_of_tree tree
   pub means : meaning scope tree old ≡ Some (part, names)
   pub binds : (n : ℕ) → Binds n tree
   pub shallow : depth tree + brackets ws ≤ 16
 
-stands : (scope : Scope) (start : List (List ℕ)) (least : ℕ) (ws : List Waits) (tokens : List Token) (names : List (List ℕ)) (part : Part) → Stood scope start ws tokens names part
+stands : (scope : Scope) (start : List (List ℕ)) (least : ℕ) (ws : List Waits) (tokens : List Token) (names : List (List ℕ)) (part : OperandPart) → Stood scope start ws tokens names part
     → Stands scope start least ws tokens names part
 stands scope start least ws tokens names part s = record {
   before = s.before;
@@ -125,16 +125,16 @@ stands scope start least ws tokens names part s = record {
   shallow = s.shallow;
 }
 
-between_means : (scope : Scope) (joint : Joint) (a b : Tree) (old mid names : List (List ℕ)) (left right part : Part) → meaning scope a old ≡ Some (left, mid) → meaning scope b mid ≡ Some (right, names)
-    → joined joint left right ≡ Some part → meaning scope (Between joint a b) old ≡ Some (part, names)
+between_means : (scope : Scope) (joint : Joint) (a b : Tree) (old mid names : List (List ℕ)) (left right part : OperandPart) → meaning scope a old ≡ Some (left, mid) → meaning scope b mid ≡ Some (right, names)
+    → join_of joint left right ≡ Some part → meaning scope (Between joint a b) old ≡ Some (part, names)
 between_means scope joint a b old mid names left right part x y z =
-    ap (λ o. o >>= λ x. (meaning scope b x.1 >>= λ y. (joined joint x.0 y.0 >>= λ q. Some (q, y.1)))) x
-    ∙ ap (λ o. o >>= λ y. (joined joint left y.0 >>= λ q. Some (q, y.1))) y
+    ap (λ o. o >>= λ x. (meaning scope b x.1 >>= λ y. (join_of joint x.0 y.0 >>= λ q. Some (q, y.1)))) x
+    ∙ ap (λ o. o >>= λ y. (join_of joint left y.0 >>= λ q. Some (q, y.1))) y
     ∙ ap (λ o. o >>= λ q. Some (q, names)) z
 
 -- a part is joined to what waits
-join_stands : (scope : Scope) (start : List (List ℕ)) (least : ℕ) (left : Part) (joint : Joint) (ws : List Waits) (tokens : List Token) (names : List (List ℕ)) (part whole : Part) → least ≤ strength joint
-    → joined joint left part ≡ Some whole → Stands scope start least (Joining left joint ∷ ws) tokens names part → Stands scope start least ws tokens names whole
+join_stands : (scope : Scope) (start : List (List ℕ)) (least : ℕ) (left : OperandPart) (joint : Joint) (ws : List Waits) (tokens : List Token) (names : List (List ℕ)) (part whole : OperandPart) → least ≤ strength joint
+    → join_of joint left part ≡ Some whole → Stands scope start least (Joining left joint ∷ ws) tokens names part → Stands scope start least ws tokens names whole
 join_stands scope start least left joint ws tokens names part whole le e s =
     let j = s.so_far in
     record {
@@ -142,35 +142,35 @@ join_stands scope start least left joint ws tokens names part whole le e s =
       old = j.old;
       tree = Between joint j.tree s.tree;
       so_far = j.so_far;
-      tokens_of = s.tokens_of ∙ ap (λ ts. ts ++ written s.tree) j.tokens_of ∙ append_assoc j.before (written j.tree ++ (joint_token joint ∷ [])) (written s.tree)
-          ∙ ap (λ ts. j.before ++ ts) (append_assoc (written j.tree) (joint_token joint ∷ []) (written s.tree));
+      tokens_of = s.tokens_of ∙ ap (λ ts. ts ++ tokens_of_tree s.tree) j.tokens_of ∙ append_assoc j.before (tokens_of_tree j.tree ++ (joint_token joint ∷ [])) (tokens_of_tree s.tree)
+          ∙ ap (λ ts. j.before ++ ts) (append_assoc (tokens_of_tree j.tree) (joint_token joint ∷ []) (tokens_of_tree s.tree));
       means = between_means scope joint j.tree s.tree j.old s.old names left part whole j.means s.means e;
       binds = (le, j.binds, s.over);
       over = over_between ws joint j.tree s.tree j.ends j.binds s.over;
       shallow = omega (arith, j.shallow, s.shallow);
     }
 
-abbrev Done : Scope → List (List ℕ) → ℕ → List Token → List (List ℕ) → List Waits × Part → Type 0
+abbrev Done : Scope → List (List ℕ) → ℕ → List Token → List (List ℕ) → List Waits × OperandPart → Type 0
 Done scope start least tokens names r = Stands scope start least r.0 tokens names r.1 × Ends least r.0
 
-reduced_some : (scope : Scope) (start : List (List ℕ)) (least : ℕ) (left : Part) (joint : Joint) (ws : List Waits) (tokens : List Token) (names : List (List ℕ)) (part : Part) (o : Option Part)
-    → least ≤ strength joint → joined joint left part ≡ o → Stands scope start least (Joining left joint ∷ ws) tokens names part
-    → ((whole : Part) → Stands scope start least ws tokens names whole → IfSome (reduced least ws whole) (Done scope start least tokens names))
-    → IfSome (o >>= reduced least ws) (Done scope start least tokens names)
+reduced_some : (scope : Scope) (start : List (List ℕ)) (least : ℕ) (left : OperandPart) (joint : Joint) (ws : List Waits) (tokens : List Token) (names : List (List ℕ)) (part : OperandPart) (o : Option OperandPart)
+    → least ≤ strength joint → join_of joint left part ≡ o → Stands scope start least (Joining left joint ∷ ws) tokens names part
+    → ((whole : OperandPart) → Stands scope start least ws tokens names whole → IfSome (stack_reduction least ws whole) (Done scope start least tokens names))
+    → IfSome (o >>= stack_reduction least ws) (Done scope start least tokens names)
 reduced_some scope start least left joint ws tokens names part None le e s h = tt
 reduced_some scope start least left joint ws tokens names part (Some whole) le e s h = h whole (join_stands scope start least left joint ws tokens names part whole le e s)
 
-reduced_at : (scope : Scope) (start : List (List ℕ)) (least : ℕ) (left : Part) (joint : Joint) (ws : List Waits) (tokens : List Token) (names : List (List ℕ)) (part : Part) (b : Bool)
+reduced_at : (scope : Scope) (start : List (List ℕ)) (least : ℕ) (left : OperandPart) (joint : Joint) (ws : List Waits) (tokens : List Token) (names : List (List ℕ)) (part : OperandPart) (b : Bool)
     → leb least (strength joint) ≡ b → Stands scope start least (Joining left joint ∷ ws) tokens names part
-    → ((whole : Part) → Stands scope start least ws tokens names whole → IfSome (reduced least ws whole) (Done scope start least tokens names))
-    → IfSome (cond b (joined joint left part >>= reduced least ws) (Some (Joining left joint ∷ ws, part))) (Done scope start least tokens names)
+    → ((whole : OperandPart) → Stands scope start least ws tokens names whole → IfSome (stack_reduction least ws whole) (Done scope start least tokens names))
+    → IfSome (cond b (join_of joint left part >>= stack_reduction least ws) (Some (Joining left joint ∷ ws, part))) (Done scope start least tokens names)
 reduced_at scope start least left joint ws tokens names part true e s h =
-    reduced_some scope start least left joint ws tokens names part (joined joint left part) (leb-true least (strength joint) e) refl s h
+    reduced_some scope start least left joint ws tokens names part (join_of joint left part) (leb-true least (strength joint) e) refl s h
 reduced_at scope start least left joint ws tokens names part false e s h = (s, leb-false least (strength joint) e)
 
 -- what waits is joined, as far as it is strong enough
-reduced_so : (scope : Scope) (start : List (List ℕ)) (least : ℕ) (ws : List Waits) (tokens : List Token) (names : List (List ℕ)) (part : Part) → Stands scope start least ws tokens names part
-    → IfSome (reduced least ws part) (Done scope start least tokens names)
+reduced_so : (scope : Scope) (start : List (List ℕ)) (least : ℕ) (ws : List Waits) (tokens : List Token) (names : List (List ℕ)) (part : OperandPart) → Stands scope start least ws tokens names part
+    → IfSome (stack_reduction least ws part) (Done scope start least tokens names)
 reduced_so scope start least [] tokens names part s = (s, tt)
 reduced_so scope start least (Joining left joint ∷ ws) tokens names part s =
     reduced_at scope start least left joint ws tokens names part (leb least (strength joint)) refl s (λ whole t. reduced_so scope start least ws tokens names whole t)
@@ -186,12 +186,12 @@ pub record Headed (scope : Scope) (start : List (List ℕ)) (ws : List Waits) (t
   pub tokens_of : tokens ≡ before ++ head_tokens head
 
 -- these tokens lead to this place
-abbrev pub Leads : Scope → List (List ℕ) → List Token → List (List ℕ) → List Waits → Next → Type 0
+abbrev pub Leads : Scope → List (List ℕ) → List Token → List (List ℕ) → List Waits → NextToken → Type 0
 Leads scope start tokens names ws Begins = Leaves scope start ws tokens names
 Leads scope start tokens names ws (Heads head) = Headed scope start ws tokens names head
 Leads scope start tokens names ws (Follows part) = Stood scope start ws tokens names part
 
-abbrev pub LeadsTo : Scope → List (List ℕ) → List Token → Reading → Type 0
+abbrev pub LeadsTo : Scope → List (List ℕ) → List Token → OperandReading → Type 0
 LeadsTo scope start tokens r = Leads scope start tokens r.names r.waiting r.next
 
 opened_at : (scope : Scope) (start : List (List ℕ)) (tokens : List Token) (names : List (List ℕ)) (ws : List Waits) (head : Bracket) (before : List Token) (b : Bool) → ltb (brackets ws) 16 ≡ b
@@ -201,7 +201,7 @@ opened_at scope start tokens names ws head before true e h front = record { befo
 opened_at scope start tokens names ws head before false e h front = tt
 
 opened_so : (scope : Scope) (start : List (List ℕ)) (tokens : List Token) (names : List (List ℕ)) (ws : List Waits) (head : Bracket) (before : List Token)
-    → Leaves scope start ws before names → tokens ≡ before ++ (head_tokens head ++ (Sign Open ∷ [])) → IfSome (opened names ws head) (LeadsTo scope start tokens)
+    → Leaves scope start ws before names → tokens ≡ before ++ (head_tokens head ++ (Sign Open ∷ [])) → IfSome (reading_after_bracket names ws head) (LeadsTo scope start tokens)
 opened_so scope start tokens names ws head before h front = opened_at scope start tokens names ws head before (ltb (brackets ws) 16) refl h front
 
 head_said : (word : List ℕ) (head : Bracket) (a b c : Bool) → bytes_eq word (codes "not") ≡ a → bytes_eq word (codes "max") ≡ b → bytes_eq word (codes "min") ≡ c
@@ -211,8 +211,8 @@ head_said word head false true c x y z e = let h : Max ≡ head = cc in ap (λ w
 head_said word head false false true x y z e = let h : Min ≡ head = cc in ap (λ w. Word w ∷ []) (is_word word (codes "min") z) ∙ ap head_tokens h
 head_said word head false false false x y z e = absurd (cc)
 
-valued_so : (scope : Scope) (start : List (List ℕ)) (tokens : List Token) (names : List (List ℕ)) (ws : List Waits) (word : List ℕ) (o : Option (Part × List (List ℕ))) → word_value scope names word ≡ o
-    → Leaves scope start ws tokens names → IfSome (valued ws o) (LeadsTo scope start (tokens ++ Word word ∷ []))
+valued_so : (scope : Scope) (start : List (List ℕ)) (tokens : List Token) (names : List (List ℕ)) (ws : List Waits) (word : List ℕ) (o : Option (OperandPart × List (List ℕ))) → word_value scope names word ≡ o
+    → Leaves scope start ws tokens names → IfSome (reading_after_value ws o) (LeadsTo scope start (tokens ++ Word word ∷ []))
 valued_so scope start tokens names ws word None e h = tt
 valued_so scope start tokens names ws word (Some x) e h = record {
   before = tokens;
@@ -226,7 +226,7 @@ valued_so scope start tokens names ws word (Some x) e h = record {
 }
 
 worded_so : (scope : Scope) (start : List (List ℕ)) (tokens : List Token) (names : List (List ℕ)) (ws : List Waits) (word : List ℕ) (o : Option Bracket) → head_of word ≡ o
-    → Leaves scope start ws tokens names → IfSome (worded scope names ws word o) (LeadsTo scope start (tokens ++ Word word ∷ []))
+    → Leaves scope start ws tokens names → IfSome (reading_after_word scope names ws word o) (LeadsTo scope start (tokens ++ Word word ∷ []))
 worded_so scope start tokens names ws word None e h = valued_so scope start tokens names ws word (word_value scope names word) refl h
 worded_so scope start tokens names ws word (Some head) e h = record {
   before = tokens;
@@ -235,7 +235,7 @@ worded_so scope start tokens names ws word (Some head) e h = record {
 }
 
 begun_so : (scope : Scope) (start : List (List ℕ)) (tokens : List Token) (names : List (List ℕ)) (ws : List Waits) (token : Token) → Leaves scope start ws tokens names
-    → IfSome (begun scope names ws token) (LeadsTo scope start (tokens ++ token ∷ []))
+    → IfSome (reading_at_part scope names ws token) (LeadsTo scope start (tokens ++ token ∷ []))
 begun_so scope start tokens names ws (NumberToken n) h = record {
   before = tokens;
   old = names;
@@ -251,7 +251,7 @@ begun_so scope start tokens names ws (Sign Open) h = opened_so scope start (toke
 begun_so scope start tokens names ws (Sign other) h = tt
 
 headed_so : (scope : Scope) (start : List (List ℕ)) (tokens : List Token) (names : List (List ℕ)) (ws : List Waits) (head : Bracket) (token : Token) → Headed scope start ws tokens names head
-    → IfSome (headed names ws head token) (LeadsTo scope start (tokens ++ token ∷ []))
+    → IfSome (reading_after_head names ws head token) (LeadsTo scope start (tokens ++ token ∷ []))
 headed_so scope start tokens names ws head (Sign Open) h =
     opened_so scope start (tokens ++ Sign Open ∷ []) names ws head h.before h.so_far (ap (λ ts. ts ++ Sign Open ∷ []) h.tokens_of ∙ append_assoc h.before (head_tokens head) (Sign Open ∷ []))
 headed_so scope start tokens names ws head other h = tt
@@ -277,11 +277,11 @@ word_joint word joint false false x y e = absurd (cc)
 
 -- ---- after a part
 
-one_means : (scope : Scope) (head : Bracket) (tree : Tree) (old names : List (List ℕ)) (part whole : Part) → meaning scope tree old ≡ Some (part, names) → enclosed head part ≡ Some whole
+one_means : (scope : Scope) (head : Bracket) (tree : Tree) (old names : List (List ℕ)) (part whole : OperandPart) → meaning scope tree old ≡ Some (part, names) → enclosed_part head part ≡ Some whole
     → meaning scope (One head tree) old ≡ Some (whole, names)
-one_means scope head tree old names part whole x y = ap (λ o. o >>= λ x. (enclosed head x.0 >>= λ q. Some (q, x.1))) x ∙ ap (λ o. o >>= λ q. Some (q, names)) y
+one_means scope head tree old names part whole x y = ap (λ o. o >>= λ x. (enclosed_part head x.0 >>= λ q. Some (q, x.1))) x ∙ ap (λ o. o >>= λ q. Some (q, names)) y
 
-one_so : (scope : Scope) (start : List (List ℕ)) (tokens : List Token) (names : List (List ℕ)) (ws : List Waits) (head : Bracket) (part : Part) (o : Option Part) → enclosed head part ≡ o
+one_so : (scope : Scope) (start : List (List ℕ)) (tokens : List Token) (names : List (List ℕ)) (ws : List Waits) (head : Bracket) (part : OperandPart) (o : Option OperandPart) → enclosed_part head part ≡ o
     → Stands scope start 1 (Opened head ∷ ws) tokens names part → IfSome (enclosing names ws o) (LeadsTo scope start (tokens ++ Sign Close ∷ []))
 one_so scope start tokens names ws head part None e s = tt
 one_so scope start tokens names ws head part (Some whole) e s =
@@ -291,21 +291,21 @@ one_so scope start tokens names ws head part (Some whole) e s =
       old = s.old;
       tree = One head s.tree;
       so_far = o.so_far;
-      tokens_of = ap (λ ts. ts ++ Sign Close ∷ []) (s.tokens_of ∙ ap (λ ts. ts ++ written s.tree) o.tokens_of)
-          ∙ regroup_one o.before (head_tokens head) (Sign Open) (written s.tree) (Sign Close);
+      tokens_of = ap (λ ts. ts ++ Sign Close ∷ []) (s.tokens_of ∙ ap (λ ts. ts ++ tokens_of_tree s.tree) o.tokens_of)
+          ∙ regroup_one o.before (head_tokens head) (Sign Open) (tokens_of_tree s.tree) (Sign Close);
       means = one_means scope head s.tree s.old names part whole s.means e;
       binds = λ n. s.binds;
       shallow = omega (arith, s.shallow);
     }
 
-two_means : (scope : Scope) (head : Bracket) (a b : Tree) (old mid names : List (List ℕ)) (first second whole : Part) → meaning scope a old ≡ Some (first, mid) → meaning scope b mid ≡ Some (second, names)
+two_means : (scope : Scope) (head : Bracket) (a b : Tree) (old mid names : List (List ℕ)) (first second whole : OperandPart) → meaning scope a old ≡ Some (first, mid) → meaning scope b mid ≡ Some (second, names)
     → enclosed_two head first second ≡ Some whole → meaning scope (Two head a b) old ≡ Some (whole, names)
 two_means scope head a b old mid names first second whole x y z =
     ap (λ o. o >>= λ x. (meaning scope b x.1 >>= λ y. (enclosed_two head x.0 y.0 >>= λ q. Some (q, y.1)))) x
     ∙ ap (λ o. o >>= λ y. (enclosed_two head first y.0 >>= λ q. Some (q, y.1))) y
     ∙ ap (λ o. o >>= λ q. Some (q, names)) z
 
-two_so : (scope : Scope) (start : List (List ℕ)) (tokens : List Token) (names : List (List ℕ)) (ws : List Waits) (head : Bracket) (first part : Part) (o : Option Part) → enclosed_two head first part ≡ o
+two_so : (scope : Scope) (start : List (List ℕ)) (tokens : List Token) (names : List (List ℕ)) (ws : List Waits) (head : Bracket) (first part : OperandPart) (o : Option OperandPart) → enclosed_two head first part ≡ o
     → Stands scope start 1 (Halfway head first ∷ ws) tokens names part → IfSome (enclosing names ws o) (LeadsTo scope start (tokens ++ Sign Close ∷ []))
 two_so scope start tokens names ws head first part None e s = tt
 two_so scope start tokens names ws head first part (Some whole) e s =
@@ -315,21 +315,21 @@ two_so scope start tokens names ws head first part (Some whole) e s =
       old = o.old;
       tree = Two head o.tree s.tree;
       so_far = o.so_far;
-      tokens_of = ap (λ ts. ts ++ Sign Close ∷ []) (s.tokens_of ∙ ap (λ ts. ts ++ written s.tree) o.tokens_of)
-          ∙ regroup_two o.before (head_tokens head) (Sign Open) (written o.tree) (Sign Comma) (written s.tree) (Sign Close);
+      tokens_of = ap (λ ts. ts ++ Sign Close ∷ []) (s.tokens_of ∙ ap (λ ts. ts ++ tokens_of_tree s.tree) o.tokens_of)
+          ∙ regroup_two o.before (head_tokens head) (Sign Open) (tokens_of_tree o.tree) (Sign Comma) (tokens_of_tree s.tree) (Sign Close);
       means = two_means scope head o.tree s.tree o.old s.old names first part whole o.means s.means e;
       binds = λ n. (o.binds, s.binds);
       shallow = omega (arith, o.shallow, s.shallow);
     }
 
-closes_so : (scope : Scope) (start : List (List ℕ)) (tokens : List Token) (names : List (List ℕ)) (ws : List Waits) (part : Part) → Stands scope start 1 ws tokens names part
+closes_so : (scope : Scope) (start : List (List ℕ)) (tokens : List Token) (names : List (List ℕ)) (ws : List Waits) (part : OperandPart) → Stands scope start 1 ws tokens names part
     → IfSome (closes names ws part) (LeadsTo scope start (tokens ++ Sign Close ∷ []))
 closes_so scope start tokens names [] part s = tt
 closes_so scope start tokens names (Joining left joint ∷ ws) part s = tt
-closes_so scope start tokens names (Opened head ∷ ws) part s = one_so scope start tokens names ws head part (enclosed head part) refl s
+closes_so scope start tokens names (Opened head ∷ ws) part s = one_so scope start tokens names ws head part (enclosed_part head part) refl s
 closes_so scope start tokens names (Halfway head first ∷ ws) part s = two_so scope start tokens names ws head first part (enclosed_two head first part) refl s
 
-half_so : (scope : Scope) (start : List (List ℕ)) (tokens : List Token) (names : List (List ℕ)) (ws : List Waits) (head : Bracket) (part : Part) → Stands scope start 1 (Opened head ∷ ws) tokens names part
+half_so : (scope : Scope) (start : List (List ℕ)) (tokens : List Token) (names : List (List ℕ)) (ws : List Waits) (head : Bracket) (part : OperandPart) → Stands scope start 1 (Opened head ∷ ws) tokens names part
     → Leaves scope start (Halfway head part ∷ ws) (tokens ++ Sign Comma ∷ []) names
 half_so scope start tokens names ws head part s =
     let o = s.so_far in
@@ -338,14 +338,14 @@ half_so scope start tokens names ws head part s =
       old = s.old;
       tree = s.tree;
       so_far = o.so_far;
-      tokens_of = ap (λ ts. ts ++ Sign Comma ∷ []) (s.tokens_of ∙ ap (λ ts. ts ++ written s.tree) o.tokens_of)
-          ∙ regroup_one o.before (head_tokens head) (Sign Open) (written s.tree) (Sign Comma);
+      tokens_of = ap (λ ts. ts ++ Sign Comma ∷ []) (s.tokens_of ∙ ap (λ ts. ts ++ tokens_of_tree s.tree) o.tokens_of)
+          ∙ regroup_one o.before (head_tokens head) (Sign Open) (tokens_of_tree s.tree) (Sign Comma);
       means = s.means;
       binds = s.binds;
       shallow = omega (arith, s.shallow);
     }
 
-halves_so : (scope : Scope) (start : List (List ℕ)) (tokens : List Token) (names : List (List ℕ)) (ws : List Waits) (part : Part) → Stands scope start 1 ws tokens names part
+halves_so : (scope : Scope) (start : List (List ℕ)) (tokens : List Token) (names : List (List ℕ)) (ws : List Waits) (part : OperandPart) → Stands scope start 1 ws tokens names part
     → IfSome (halves names ws part) (LeadsTo scope start (tokens ++ Sign Comma ∷ []))
 halves_so scope start tokens names [] part s = tt
 halves_so scope start tokens names (Joining left joint ∷ ws) part s = tt
@@ -356,8 +356,8 @@ halves_so scope start tokens names (Opened Min ∷ ws) part s = half_so scope st
 halves_so scope start tokens names (Halfway head first ∷ ws) part s = tt
 
 -- what follows where what waits is joined
-then_so : (scope : Scope) (start : List (List ℕ)) (least : ℕ) (tokens more : List Token) (names : List (List ℕ)) (next : List Waits × Part → Option Reading) (o : Option (List Waits × Part))
-    → IfSome o (Done scope start least tokens names) → ((r : List Waits × Part) → Done scope start least tokens names r → IfSome (next r) (LeadsTo scope start more))
+then_so : (scope : Scope) (start : List (List ℕ)) (least : ℕ) (tokens more : List Token) (names : List (List ℕ)) (next : List Waits × OperandPart → Option OperandReading) (o : Option (List Waits × OperandPart))
+    → IfSome o (Done scope start least tokens names) → ((r : List Waits × OperandPart) → Done scope start least tokens names r → IfSome (next r) (LeadsTo scope start more))
     → IfSome (o >>= next) (LeadsTo scope start more)
 then_so scope start least tokens more names next None h f = tt
 then_so scope start least tokens more names next (Some r) h f = f r h
@@ -375,84 +375,84 @@ joint_said (Sign Close) joint e = absurd (cc)
 joint_said (Sign OpenIndex) joint e = absurd (cc)
 joint_said (Sign CloseIndex) joint e = absurd (cc)
 
-joining_so : (scope : Scope) (start : List (List ℕ)) (tokens : List Token) (names : List (List ℕ)) (ws : List Waits) (part : Part) (token : Token) (o : Option Joint) → joint_of token ≡ o
+joining_so : (scope : Scope) (start : List (List ℕ)) (tokens : List Token) (names : List (List ℕ)) (ws : List Waits) (part : OperandPart) (token : Token) (o : Option Joint) → joint_of token ≡ o
     → Stood scope start ws tokens names part → IfSome (joining names ws part o) (LeadsTo scope start (tokens ++ token ∷ []))
 joining_so scope start tokens names ws part token None e s = tt
 joining_so scope start tokens names ws part token (Some joint) e s =
-    then_so scope start (strength joint) tokens (tokens ++ token ∷ []) names (λ r. Some (reading names (Joining r.1 joint ∷ r.0) Begins)) (reduced (strength joint) ws part)
+    then_so scope start (strength joint) tokens (tokens ++ token ∷ []) names (λ r. Some (reading names (Joining r.1 joint ∷ r.0) Begins)) (stack_reduction (strength joint) ws part)
     (reduced_so scope start (strength joint) ws tokens names part (stands scope start (strength joint) ws tokens names part s))
     (λ r d. record {
       before = d.0.before;
       old = d.0.old;
       tree = d.0.tree;
       so_far = d.0.so_far;
-      tokens_of = ap (λ ts. ts ++ token ∷ []) d.0.tokens_of ∙ append_assoc d.0.before (written d.0.tree) (token ∷ []) ∙ ap (λ t. d.0.before ++ (written d.0.tree ++ t ∷ [])) (joint_said token joint e);
+      tokens_of = ap (λ ts. ts ++ token ∷ []) d.0.tokens_of ∙ append_assoc d.0.before (tokens_of_tree d.0.tree) (token ∷ []) ∙ ap (λ t. d.0.before ++ (tokens_of_tree d.0.tree ++ t ∷ [])) (joint_said token joint e);
       means = d.0.means;
       binds = d.0.binds;
       ends = d.1;
       shallow = d.0.shallow;
     })
 
-followed_so : (scope : Scope) (start : List (List ℕ)) (tokens : List Token) (names : List (List ℕ)) (ws : List Waits) (part : Part) (token : Token) → Stood scope start ws tokens names part
-    → IfSome (followed names ws part token) (LeadsTo scope start (tokens ++ token ∷ []))
+followed_so : (scope : Scope) (start : List (List ℕ)) (tokens : List Token) (names : List (List ℕ)) (ws : List Waits) (part : OperandPart) (token : Token) → Stood scope start ws tokens names part
+    → IfSome (reading_after_part names ws part token) (LeadsTo scope start (tokens ++ token ∷ []))
 followed_so scope start tokens names ws part (Sign Close) s =
-    then_so scope start 1 tokens (tokens ++ Sign Close ∷ []) names (λ r. closes names r.0 r.1) (reduced 1 ws part)
+    then_so scope start 1 tokens (tokens ++ Sign Close ∷ []) names (λ r. closes names r.0 r.1) (stack_reduction 1 ws part)
     (reduced_so scope start 1 ws tokens names part (stands scope start 1 ws tokens names part s)) (λ r d. closes_so scope start tokens names r.0 r.1 d.0)
 followed_so scope start tokens names ws part (Sign Comma) s =
-    then_so scope start 1 tokens (tokens ++ Sign Comma ∷ []) names (λ r. halves names r.0 r.1) (reduced 1 ws part)
+    then_so scope start 1 tokens (tokens ++ Sign Comma ∷ []) names (λ r. halves names r.0 r.1) (stack_reduction 1 ws part)
     (reduced_so scope start 1 ws tokens names part (stands scope start 1 ws tokens names part s)) (λ r d. halves_so scope start tokens names r.0 r.1 d.0)
 followed_so scope start tokens names ws part token s = joining_so scope start tokens names ws part token (joint_of token) refl s
 
-turned_so : (scope : Scope) (start : List (List ℕ)) (tokens : List Token) (names : List (List ℕ)) (ws : List Waits) (next : Next) (token : Token) → Leads scope start tokens names ws next
-    → IfSome (turned scope names ws next token) (LeadsTo scope start (tokens ++ token ∷ []))
+turned_so : (scope : Scope) (start : List (List ℕ)) (tokens : List Token) (names : List (List ℕ)) (ws : List Waits) (next : NextToken) (token : Token) → Leads scope start tokens names ws next
+    → IfSome (reading_after_token scope names ws next token) (LeadsTo scope start (tokens ++ token ∷ []))
 turned_so scope start tokens names ws Begins token h = begun_so scope start tokens names ws token h
 turned_so scope start tokens names ws (Heads head) token h = headed_so scope start tokens names ws head token h
 turned_so scope start tokens names ws (Follows part) token h = followed_so scope start tokens names ws part token h
 
 -- ---- all tokens
 
-run_on : (scope : Scope) (start : List (List ℕ)) (tokens rest : List Token) (o : Option Reading) → IfSome o (LeadsTo scope start tokens)
-    → ((r : Reading) → LeadsTo scope start tokens r → IfSome (run scope rest r) (LeadsTo scope start (tokens ++ rest))) → IfSome (o >>= run scope rest) (LeadsTo scope start (tokens ++ rest))
+run_on : (scope : Scope) (start : List (List ℕ)) (tokens rest : List Token) (o : Option OperandReading) → IfSome o (LeadsTo scope start tokens)
+    → ((r : OperandReading) → LeadsTo scope start tokens r → IfSome (run scope rest r) (LeadsTo scope start (tokens ++ rest))) → IfSome (o >>= run scope rest) (LeadsTo scope start (tokens ++ rest))
 run_on scope start tokens rest None h f = tt
 run_on scope start tokens rest (Some r) h f = f r h
 
-run_so : (scope : Scope) (start : List (List ℕ)) (rest : List Token) (tokens : List Token) (r : Reading) → LeadsTo scope start tokens r → IfSome (run scope rest r) (LeadsTo scope start (tokens ++ rest))
+run_so : (scope : Scope) (start : List (List ℕ)) (rest : List Token) (tokens : List Token) (r : OperandReading) → LeadsTo scope start tokens r → IfSome (run scope rest r) (LeadsTo scope start (tokens ++ rest))
 run_so scope start [] tokens r h = subst (λ ts. LeadsTo scope start ts r) (sym (append-nil tokens)) h
 run_so scope start (token ∷ rest) tokens r h =
     subst (λ ts. IfSome (turn scope r token >>= run scope rest) (LeadsTo scope start ts)) (append_assoc tokens (token ∷ []) rest)
     (run_on scope start (tokens ++ token ∷ []) rest (turn scope r token) (turned_so scope start tokens r.names r.waiting r.next token h) (λ s t. run_so scope start rest (tokens ++ token ∷ []) s t))
 
-alone_so : (scope : Scope) (start : List (List ℕ)) (tokens : List Token) (names : List (List ℕ)) (ws : List Waits) (last part : Part) (after : List (List ℕ)) → Stands scope start 1 ws tokens names last
-    → alone names (ws, last) ≡ Some (part, after) → Says scope start tokens part after
+alone_so : (scope : Scope) (start : List (List ℕ)) (tokens : List Token) (names : List (List ℕ)) (ws : List Waits) (last part : OperandPart) (after : List (List ℕ)) → Stands scope start 1 ws tokens names last
+    → sole_part names (ws, last) ≡ Some (part, after) → Says scope start tokens part after
 alone_so scope start tokens names [] last part after s e =
     let same : (last, names) ≡ (part, after) = some_same (last, names) (part, after) e in
     record {
       tree = s.tree;
-      tokens_of = s.tokens_of ∙ ap (λ ts. ts ++ written s.tree) s.so_far.0;
+      tokens_of = s.tokens_of ∙ ap (λ ts. ts ++ tokens_of_tree s.tree) s.so_far.0;
       binds = s.binds;
       shallow = omega (arith, s.shallow);
       means = ap (meaning scope s.tree) (sym s.so_far.1) ∙ s.means ∙ ap (λ x. Some x) same;
     }
 alone_so scope start tokens names (w ∷ ws) last part after s e = absurd (cc)
 
-ended_some : (scope : Scope) (start : List (List ℕ)) (tokens : List Token) (names : List (List ℕ)) (o : Option (List Waits × Part)) (part : Part) (after : List (List ℕ))
-    → IfSome o (Done scope start 1 tokens names) → (o >>= alone names) ≡ Some (part, after) → Says scope start tokens part after
+ended_some : (scope : Scope) (start : List (List ℕ)) (tokens : List Token) (names : List (List ℕ)) (o : Option (List Waits × OperandPart)) (part : OperandPart) (after : List (List ℕ))
+    → IfSome o (Done scope start 1 tokens names) → (o >>= sole_part names) ≡ Some (part, after) → Says scope start tokens part after
 ended_some scope start tokens names None part after h e = absurd (cc)
 ended_some scope start tokens names (Some r) part after h e = alone_so scope start tokens names r.0 r.1 part after h.0 e
 
-ended_so : (scope : Scope) (start : List (List ℕ)) (tokens : List Token) (names : List (List ℕ)) (ws : List Waits) (next : Next) (part : Part) (after : List (List ℕ)) → Leads scope start tokens names ws next
-    → ended names ws next ≡ Some (part, after) → Says scope start tokens part after
+ended_so : (scope : Scope) (start : List (List ℕ)) (tokens : List Token) (names : List (List ℕ)) (ws : List Waits) (next : NextToken) (part : OperandPart) (after : List (List ℕ)) → Leads scope start tokens names ws next
+    → part_at_end names ws next ≡ Some (part, after) → Says scope start tokens part after
 ended_so scope start tokens names ws Begins part after h e = absurd (cc)
 ended_so scope start tokens names ws (Heads head) part after h e = absurd (cc)
 ended_so scope start tokens names ws (Follows last) part after h e =
-    ended_some scope start tokens names (reduced 1 ws last) part after (reduced_so scope start 1 ws tokens names last (stands scope start 1 ws tokens names last h)) e
+    ended_some scope start tokens names (stack_reduction 1 ws last) part after (reduced_so scope start 1 ws tokens names last (stands scope start 1 ws tokens names last h)) e
 
-read_so : (scope : Scope) (start : List (List ℕ)) (tokens : List Token) (o : Option Reading) (part : Part) (after : List (List ℕ)) → IfSome o (LeadsTo scope start tokens)
-    → (o >>= λ r. ended r.names r.waiting r.next) ≡ Some (part, after) → Says scope start tokens part after
+read_so : (scope : Scope) (start : List (List ℕ)) (tokens : List Token) (o : Option OperandReading) (part : OperandPart) (after : List (List ℕ)) → IfSome o (LeadsTo scope start tokens)
+    → (o >>= λ r. part_at_end r.names r.waiting r.next) ≡ Some (part, after) → Says scope start tokens part after
 read_so scope start tokens None part after h e = absurd (cc)
 read_so scope start tokens (Some r) part after h e = ended_so scope start tokens r.names r.waiting r.next part after h e
 
 -- what is read is what the grammar says
-pub sound : (scope : Scope) (names : List (List ℕ)) (tokens : List Token) (part : Part) (after : List (List ℕ)) → read_part scope names tokens ≡ Some (part, after) → Says scope names tokens part after
+pub sound : (scope : Scope) (names : List (List ℕ)) (tokens : List Token) (part : OperandPart) (after : List (List ℕ)) → read_part scope names tokens ≡ Some (part, after) → Says scope names tokens part after
 sound scope names tokens part after e =
     read_so scope names tokens (run scope tokens (reading names [] Begins)) part after (run_so scope names tokens [] (reading names [] Begins) (refl, refl)) e

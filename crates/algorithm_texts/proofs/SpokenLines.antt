@@ -6,7 +6,7 @@ use Rattle.std.specs.List.{All}
 use Rattle.algorithm_texts.specs.declared.tokens.Token.{Token}
 use Rattle.algorithm_texts.specs.Fronts.{is_over}
 use Rattle.algorithm_texts.specs.TextLines.{ended_lines, and_line, SayLines, TextSays}
-use Rattle.algorithm_texts.specs.TextReading.{Spoken}
+use Rattle.algorithm_texts.specs.TextDrafts.{Spoken}
 use Rattle.algorithm_texts.specs.Tokens.{LineSays}
 
 pub and_at : (b : Bool) (s : Spoken) (rest more : List Spoken) → cond b rest (s ∷ rest) ++ more ≡ cond b (rest ++ more) (s ∷ (rest ++ more))

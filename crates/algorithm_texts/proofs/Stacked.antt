@@ -6,15 +6,15 @@ use Rattle.std.specs.declared.alloc.Global.{Global}
 use Rattle.algorithms.specs.declared.algorithm.Algorithm.{Algorithm}
 use Rattle.algorithms.specs.declared.condition.Condition.{Condition as ConditionOf}
 use Rattle.algorithms.specs.declared.expression.Expression.{Expression}
-use Rattle.algorithms.specs.declared.fault.LineFault.{LineFault}
-use Rattle.algorithms.specs.declared.fault.LineFault.TheVariants.{OutOfMemory}
+use Rattle.algorithms.specs.declared.fault.ReadFault.{ReadFault}
+use Rattle.algorithms.specs.declared.fault.ReadFault.TheVariants.{OutOfMemory}
 use Rattle.algorithm_texts.specs.declared.tokens.Token.{Token}
 use Rattle.algorithm_texts.specs.declared.operands.Joint.{Joint}
 use Rattle.algorithm_texts.specs.declared.stack.Waiting.{Waiting}
-use Rattle.algorithm_texts.specs.Parts.{Part, Value, Condition, Pair, Private, Term, Formula, term_of, formula_of, joined, value_in, condition_in, ◌>>=◌}
-use Rattle.algorithm_texts.specs.Grammar.{Scope, strength, placed, Says}
-use Rattle.algorithm_texts.specs.Stacks.{Waits, Joining, Opened, Halfway, Reading, brackets, is_open, reduced, turn, run, read_part}
-use Rattle.algorithm_texts.specs.Operands.{waits_of, Refuses, MakesValue, MakesCondition, scope_of, SayNoValue, SayNoCondition, SayOnePart}
+use Rattle.algorithm_texts.specs.Parts.{OperandPart, Value, Condition, Pair, Private, Term, Formula, term_of, formula_of, join_of, value_in, condition_in, ◌>>=◌}
+use Rattle.algorithm_texts.specs.Grammar.{Scope, strength, private_name_part, Says}
+use Rattle.algorithm_texts.specs.Stacks.{Waits, Joining, Opened, Halfway, OperandReading, brackets, is_open, stack_reduction, turn, run, read_part}
+use Rattle.algorithm_texts.specs.Operands.{waits_of, RefusesOperand, MakesValue, MakesCondition, scope_of, SayNoValue, SayNoCondition, SayOnePart}
 unfoldable use Rattle.algorithm_texts.specs.Operands.{reserved}
 use Rattle.algorithm_texts.proofs.Complete.{KnowsHeads, complete}
 use Rattle.algorithm_texts.proofs.Sound.{sound, some_same}
@@ -42,43 +42,43 @@ counted all i w b lt here e =
 
 -- ---- joining
 
-step_at : (least : ℕ) (left part whole : Part) (joint : Joint) (ws : List Waits) → leb least (strength joint) ≡ true → joined joint left part ≡ Some whole
-    → reduced least (Joining left joint ∷ ws) part ≡ reduced least ws whole
-step_at least left part whole joint ws strong e = rw strong (ap (λ o. o >>= reduced least ws) e)
+step_at : (least : ℕ) (left part whole : OperandPart) (joint : Joint) (ws : List Waits) → leb least (strength joint) ≡ true → join_of joint left part ≡ Some whole
+    → stack_reduction least (Joining left joint ∷ ws) part ≡ stack_reduction least ws whole
+step_at least left part whole joint ws strong e = rw strong (ap (λ o. o >>= stack_reduction least ws) e)
 
 -- a part is joined
-pub reduced_step : (least : ℕ) (stack ws : List Waits) (left part whole : Part) (joint : Joint) → stack ≡ Joining left joint ∷ ws → least ≤ strength joint → joined joint left part ≡ Some whole
-    → reduced least stack part ≡ reduced least ws whole
-reduced_step least stack ws left part whole joint top le e = ap (λ s. reduced least s part) top ∙ step_at least left part whole joint ws (le-leb least (strength joint) le) e
+pub reduced_step : (least : ℕ) (stack ws : List Waits) (left part whole : OperandPart) (joint : Joint) → stack ≡ Joining left joint ∷ ws → least ≤ strength joint → join_of joint left part ≡ Some whole
+    → stack_reduction least stack part ≡ stack_reduction least ws whole
+reduced_step least stack ws left part whole joint top le e = ap (λ s. stack_reduction least s part) top ∙ step_at least left part whole joint ws (le-leb least (strength joint) le) e
 
-fail_at : (least : ℕ) (left part : Part) (joint : Joint) (ws : List Waits) → leb least (strength joint) ≡ true → joined joint left part ≡ None
-    → reduced least (Joining left joint ∷ ws) part ≡ None
-fail_at least left part joint ws strong e = rw strong (ap (λ o. o >>= reduced least ws) e)
+fail_at : (least : ℕ) (left part : OperandPart) (joint : Joint) (ws : List Waits) → leb least (strength joint) ≡ true → join_of joint left part ≡ None
+    → stack_reduction least (Joining left joint ∷ ws) part ≡ None
+fail_at least left part joint ws strong e = rw strong (ap (λ o. o >>= stack_reduction least ws) e)
 
 -- parts that do not go together
-pub reduced_fail : (least : ℕ) (stack ws : List Waits) (left part : Part) (joint : Joint) → stack ≡ Joining left joint ∷ ws → least ≤ strength joint → joined joint left part ≡ None
-    → reduced least stack part ≡ None
-reduced_fail least stack ws left part joint top le e = ap (λ s. reduced least s part) top ∙ fail_at least left part joint ws (le-leb least (strength joint) le) e
+pub reduced_fail : (least : ℕ) (stack ws : List Waits) (left part : OperandPart) (joint : Joint) → stack ≡ Joining left joint ∷ ws → least ≤ strength joint → join_of joint left part ≡ None
+    → stack_reduction least stack part ≡ None
+reduced_fail least stack ws left part joint top le e = ap (λ s. stack_reduction least s part) top ∙ fail_at least left part joint ws (le-leb least (strength joint) le) e
 
-weak_at : (least : ℕ) (left part : Part) (joint : Joint) (ws : List Waits) → leb least (strength joint) ≡ false → reduced least (Joining left joint ∷ ws) part ≡ Some (Joining left joint ∷ ws, part)
+weak_at : (least : ℕ) (left part : OperandPart) (joint : Joint) (ws : List Waits) → leb least (strength joint) ≡ false → stack_reduction least (Joining left joint ∷ ws) part ≡ Some (Joining left joint ∷ ws, part)
 weak_at least left part joint ws weak = rw weak refl
 
 -- an operator that is weaker waits on
-pub reduced_weak : (least : ℕ) (stack ws : List Waits) (left part : Part) (joint : Joint) → stack ≡ Joining left joint ∷ ws → strength joint < least
-    → reduced least stack part ≡ Some (Joining left joint ∷ ws, part)
-reduced_weak least stack ws left part joint top lt = ap (λ s. reduced least s part) top ∙ weak_at least left part joint ws (lt-leb least (strength joint) lt)
+pub reduced_weak : (least : ℕ) (stack ws : List Waits) (left part : OperandPart) (joint : Joint) → stack ≡ Joining left joint ∷ ws → strength joint < least
+    → stack_reduction least stack part ≡ Some (Joining left joint ∷ ws, part)
+reduced_weak least stack ws left part joint top lt = ap (λ s. stack_reduction least s part) top ∙ weak_at least left part joint ws (lt-leb least (strength joint) lt)
 
 -- ---- all tokens
 
-turned_run : (scope : Scope) (token : Token) (rest : List Token) (r s : Reading) → turn scope r token ≡ Some s → run scope (token ∷ rest) r ≡ run scope rest s
+turned_run : (scope : Scope) (token : Token) (rest : List Token) (r s : OperandReading) → turn scope r token ≡ Some s → run scope (token ∷ rest) r ≡ run scope rest s
 turned_run scope token rest r s e = ap (λ o. o >>= run scope rest) e
 
 -- one more token is read
-pub run_step : (scope : Scope) (tokens rest : List Token) (token : Token) (r s : Reading) → tokens ≡ token ∷ rest → turn scope r token ≡ Some s → run scope tokens r ≡ run scope rest s
+pub run_step : (scope : Scope) (tokens rest : List Token) (token : Token) (r s : OperandReading) → tokens ≡ token ∷ rest → turn scope r token ≡ Some s → run scope tokens r ≡ run scope rest s
 run_step scope tokens rest token r s front e = ap (λ ts. run scope ts r) front ∙ turned_run scope token rest r s e
 
 -- a token is refused
-pub run_fail : (scope : Scope) (tokens rest : List Token) (token : Token) (r : Reading) → tokens ≡ token ∷ rest → turn scope r token ≡ None → run scope tokens r ≡ None
+pub run_fail : (scope : Scope) (tokens rest : List Token) (token : Token) (r : OperandReading) → tokens ≡ token ∷ rest → turn scope r token ≡ None → run scope tokens r ≡ None
 run_fail scope tokens rest token r front e = ap (λ ts. run scope ts r) front ∙ ap (λ o. o >>= run scope rest) e
 
 -- ---- values and conditions
@@ -90,13 +90,13 @@ knows_heads a = (refl, refl, refl)
 none_some : {A : Type 0} {x : A} → None ≡ Some x → ⊥
 none_some e = cc
 
-other_value : (x y : Part × List (List ℕ)) (v : Term) → Some x ≡ Some y → y.0 ≡ Value v → value_in x.0 ≡ None → ⊥
+other_value : (x y : OperandPart × List (List ℕ)) (v : Term) → Some x ≡ Some y → y.0 ≡ Value v → value_in x.0 ≡ None → ⊥
 other_value x y v e is none = let same : x ≡ y = some_same x y e in none_some (sym none ∙ ap (λ z. value_in z.0) same ∙ ap value_in is)
 
-other_condition : (x y : Part × List (List ℕ)) (c : Formula) → Some x ≡ Some y → y.0 ≡ Condition c → condition_in x.0 ≡ None → ⊥
+other_condition : (x y : OperandPart × List (List ℕ)) (c : Formula) → Some x ≡ Some y → y.0 ≡ Condition c → condition_in x.0 ≡ None → ⊥
 other_condition x y c e is none = let same : x ≡ y = some_same x y e in none_some (sym none ∙ ap (λ z. condition_in z.0) same ∙ ap condition_in is)
 
-no_part : (scope : Scope) → KnowsHeads scope → (names : List (List ℕ)) (tokens : List Token) (part : Part) (after : List (List ℕ)) → read_part scope names tokens ≡ None → Says scope names tokens part after → ⊥
+no_part : (scope : Scope) → KnowsHeads scope → (names : List (List ℕ)) (tokens : List Token) (part : OperandPart) (after : List (List ℕ)) → read_part scope names tokens ≡ None → Says scope names tokens part after → ⊥
 no_part scope k names tokens part after e s = let h = complete scope k names tokens part after s in none_some (sym e ∙ h)
 
 -- where nothing is read, nothing is said
@@ -107,63 +107,63 @@ pub no_condition_read : (a : Algorithm) (names : List (List ℕ)) (tokens : List
 no_condition_read a names tokens e = λ c after s. no_part (scope_of a) (knows_heads a) names tokens (Condition c) after e s
 
 -- where another part is read, no value is said
-pub other_than_value : (a : Algorithm) (names after : List (List ℕ)) (tokens : List Token) (part : Part) → read_part (scope_of a) names tokens ≡ Some (part, after) → value_in part ≡ None
+pub other_than_value : (a : Algorithm) (names after : List (List ℕ)) (tokens : List Token) (part : OperandPart) → read_part (scope_of a) names tokens ≡ Some (part, after) → value_in part ≡ None
     → SayNoValue (scope_of a) names tokens
 other_than_value a names after tokens part e none = λ v now s. other_value (part, after) (Value v, now) v (sym e ∙ complete (scope_of a) (knows_heads a) names tokens (Value v) now s) refl none
 
-pub other_than_condition : (a : Algorithm) (names after : List (List ℕ)) (tokens : List Token) (part : Part) → read_part (scope_of a) names tokens ≡ Some (part, after) → condition_in part ≡ None
+pub other_than_condition : (a : Algorithm) (names after : List (List ℕ)) (tokens : List Token) (part : OperandPart) → read_part (scope_of a) names tokens ≡ Some (part, after) → condition_in part ≡ None
     → SayNoCondition (scope_of a) names tokens
 other_than_condition a names after tokens part e none = λ c now s. other_condition (part, after) (Condition c, now) c (sym e ∙ complete (scope_of a) (knows_heads a) names tokens (Condition c) now s) refl none
 
-only_value : (part : Part) (v : Term) → value_in part ≡ Some v → part ≡ Value v
+only_value : (part : OperandPart) (v : Term) → value_in part ≡ Some v → part ≡ Value v
 only_value (Value x) v e = let h : x ≡ v = cc in ap Value h
 only_value (Pair x y) v e = absurd (cc)
 only_value (Condition c) v e = absurd (cc)
 
-only_condition : (part : Part) (c : Formula) → condition_in part ≡ Some c → part ≡ Condition c
+only_condition : (part : OperandPart) (c : Formula) → condition_in part ≡ Some c → part ≡ Condition c
 only_condition (Value x) c e = absurd (cc)
 only_condition (Pair x y) c e = absurd (cc)
 only_condition (Condition d) c e = let h : d ≡ c = cc in ap Condition h
 
 -- the value that is read is said
-pub value_read : (scope : Scope) (names after : List (List ℕ)) (tokens : List Token) (part : Part) (v : Term) → read_part scope names tokens ≡ Some (part, after) → value_in part ≡ Some v
+pub value_read : (scope : Scope) (names after : List (List ℕ)) (tokens : List Token) (part : OperandPart) (v : Term) → read_part scope names tokens ≡ Some (part, after) → value_in part ≡ Some v
     → Says scope names tokens (Value v) after
 value_read scope names after tokens part v e in_it = subst (λ p. Says scope names tokens p after) (only_value part v in_it) (sound scope names tokens part after e)
 
-pub condition_read : (scope : Scope) (names after : List (List ℕ)) (tokens : List Token) (part : Part) (c : Formula) → read_part scope names tokens ≡ Some (part, after) → condition_in part ≡ Some c
+pub condition_read : (scope : Scope) (names after : List (List ℕ)) (tokens : List Token) (part : OperandPart) (c : Formula) → read_part scope names tokens ≡ Some (part, after) → condition_in part ≡ Some c
     → Says scope names tokens (Condition c) after
 condition_read scope names after tokens part c e in_it = subst (λ p. Says scope names tokens p after) (only_condition part c in_it) (sound scope names tokens part after e)
 
 -- ---- what the readers answer
 
-pub value_made : (a : Algorithm) (names after : List (List ℕ)) (tokens : List Token) (part : Part) (r : Result Expression LineFault) → read_part (scope_of a) names tokens ≡ Some (part, after)
+pub value_made : (a : Algorithm) (names after : List (List ℕ)) (tokens : List Token) (part : OperandPart) (r : Result Expression ReadFault) → read_part (scope_of a) names tokens ≡ Some (part, after)
     → MakesValue r (value_in part) → IfOk r (λ v. Says (scope_of a) names tokens (Value (term_of v)) after)
 value_made a names after tokens part (Ok v) e h = value_read (scope_of a) names after tokens part (term_of v) e h
 value_made a names after tokens part (Err fault) e h = tt
 
-pub value_refused : (a : Algorithm) (names after : List (List ℕ)) (tokens : List Token) (part : Part) (r : Result Expression LineFault) → read_part (scope_of a) names tokens ≡ Some (part, after)
+pub value_refused : (a : Algorithm) (names after : List (List ℕ)) (tokens : List Token) (part : OperandPart) (r : Result Expression ReadFault) → read_part (scope_of a) names tokens ≡ Some (part, after)
     → MakesValue r (value_in part) → IfErr r (λ fault. (fault ≡ OutOfMemory) ⊎ SayNoValue (scope_of a) names tokens)
 value_refused a names after tokens part (Ok v) e h = tt
 value_refused a names after tokens part (Err fault) e (inl h) = inl h
 value_refused a names after tokens part (Err fault) e (inr h) = inr (other_than_value a names after tokens part e h)
 
-pub condition_made : (a : Algorithm) (names after : List (List ℕ)) (tokens : List Token) (part : Part) (r : Result ConditionOf LineFault) → read_part (scope_of a) names tokens ≡ Some (part, after)
+pub condition_made : (a : Algorithm) (names after : List (List ℕ)) (tokens : List Token) (part : OperandPart) (r : Result ConditionOf ReadFault) → read_part (scope_of a) names tokens ≡ Some (part, after)
     → MakesCondition r (condition_in part) → IfOk r (λ c. Says (scope_of a) names tokens (Condition (formula_of c)) after)
 condition_made a names after tokens part (Ok c) e h = condition_read (scope_of a) names after tokens part (formula_of c) e h
 condition_made a names after tokens part (Err fault) e h = tt
 
-pub condition_refused : (a : Algorithm) (names after : List (List ℕ)) (tokens : List Token) (part : Part) (r : Result ConditionOf LineFault) → read_part (scope_of a) names tokens ≡ Some (part, after)
+pub condition_refused : (a : Algorithm) (names after : List (List ℕ)) (tokens : List Token) (part : OperandPart) (r : Result ConditionOf ReadFault) → read_part (scope_of a) names tokens ≡ Some (part, after)
     → MakesCondition r (condition_in part) → IfErr r (λ fault. (fault ≡ OutOfMemory) ⊎ SayNoCondition (scope_of a) names tokens)
 condition_refused a names after tokens part (Ok c) e h = tt
 condition_refused a names after tokens part (Err fault) e (inl h) = inl h
 condition_refused a names after tokens part (Err fault) e (inr h) = inr (other_than_condition a names after tokens part e h)
 
-pub no_value_said : (a : Algorithm) (names : List (List ℕ)) (tokens : List Token) (fault : LineFault) → Refuses fault (read_part (scope_of a) names tokens)
+pub no_value_said : (a : Algorithm) (names : List (List ℕ)) (tokens : List Token) (fault : ReadFault) → RefusesOperand fault (read_part (scope_of a) names tokens)
     → (fault ≡ OutOfMemory) ⊎ SayNoValue (scope_of a) names tokens
 no_value_said a names tokens fault (inl h) = inl h
 no_value_said a names tokens fault (inr h) = inr (no_value_read a names tokens h)
 
-pub no_condition_said : (a : Algorithm) (names : List (List ℕ)) (tokens : List Token) (fault : LineFault) → Refuses fault (read_part (scope_of a) names tokens)
+pub no_condition_said : (a : Algorithm) (names : List (List ℕ)) (tokens : List Token) (fault : ReadFault) → RefusesOperand fault (read_part (scope_of a) names tokens)
     → (fault ≡ OutOfMemory) ⊎ SayNoCondition (scope_of a) names tokens
 no_condition_said a names tokens fault (inl h) = inl h
 no_condition_said a names tokens fault (inr h) = inr (no_condition_read a names tokens h)
@@ -176,7 +176,7 @@ Text = String Global
 
 -- a name that is added is the last
 pub name_added : (names : List Text) (word : List ℕ) (text : Text) (index : ℕ) → string_bytes text ≡ word → index ≡ length names → index < 32
-    → placed 32 (map (λ name. string_bytes name) names) word None ≡ Some (Value (Private index), map (λ name. string_bytes name) (names ++ text ∷ []))
+    → private_name_part 32 (map (λ name. string_bytes name) names) word None ≡ Some (Value (Private index), map (λ name. string_bytes name) (names ++ text ∷ []))
 name_added names word text index e len few =
     let many : length (map (λ name. string_bytes name) names) ≡ index = length-map names (λ name. string_bytes name) ∙ sym len in
     let fits : ltb (length (map (λ name. string_bytes name) names)) 32 ≡ true = lt-ltb _ _ (omega (arith, many)) in
@@ -185,7 +185,7 @@ name_added names word text index e len few =
     rw fits (ap (λ (k : ℕ). Some (Value (Private k), map (λ name. string_bytes name) names ++ word ∷ [])) many ∙ ap (λ (ns : List (List ℕ)). Some (Value (Private index), ns)) (sym more))
 
 -- no name is added to as many as there may be
-pub name_refused : (names : List Text) (word : List ℕ) → 32 ≤ length names → placed 32 (map (λ name. string_bytes name) names) word None ≡ None
+pub name_refused : (names : List Text) (word : List ℕ) → 32 ≤ length names → private_name_part 32 (map (λ name. string_bytes name) names) word None ≡ None
 name_refused names word many =
     let full : ltb (length (map (λ name. string_bytes name) names)) 32 ≡ false = le-ltb _ _ (omega (arith, length-map names (λ name. string_bytes name))) in
     rw full refl

@@ -6,7 +6,7 @@ use Rattle.algorithms.specs.declared.algorithm.Promises.{Promises}
 use Rattle.algorithm_texts.specs.declared.filled.Filled.{Filled}
 use Rattle.algorithm_texts.specs.Parts.{◌>>=◌}
 use Rattle.algorithm_texts.specs.Drafts.{Drafted}
-use Rattle.algorithm_texts.specs.TextReading.{begun, read_head, read_promises, read_lines, read_text}
+use Rattle.algorithm_texts.specs.TextDrafts.{empty_draft, read_head, read_promises, read_lines, read_text}
 use Rattle.algorithm_texts.specs.TextLines.{second_said, spoken_of}
 use Rattle.algorithm_texts.proofs.BlockTrees.{some_of}
 use Rattle.algorithm_texts.proofs.Sound.{some_same}
@@ -21,16 +21,16 @@ second_line (Some line) p number e =
 
 -- the lines after the first two make the rest of the draft
 pub text_begun : (lines : List Filled) (first : Filled) (h : List ℕ × ℕ × ℕ) (p : Promises) (number : ℕ) (d : Drafted) → slice_get lines 0 ≡ Some first
-    → read_head first.tokens.all.items ≡ Some h → second_said (slice_get lines 1) ≡ Some (p, number) → d ≡ begun h p number
+    → read_head first.tokens.all.items ≡ Some h → second_said (slice_get lines 1) ≡ Some (p, number) → d ≡ empty_draft h p number
     → read_text (map spoken_of lines) ≡ read_lines d (drop 2 (map spoken_of lines))
 text_begun lines first h p number d e f g k =
     let s = second_line (slice_get lines 1) p number g in
     let one : slice_get (map spoken_of lines) 0 ≡ Some (spoken_of first) = slice_get-map spoken_of lines 0 ∙ ap (option_map spoken_of) e in
     let two : slice_get (map spoken_of lines) 1 ≡ Some (spoken_of s.0) = slice_get-map spoken_of lines 1 ∙ ap (option_map spoken_of) s.1 in
     let rest = drop 2 (map spoken_of lines) in
-    ap (λ o. o >>= (λ a. slice_get (map spoken_of lines) 1 >>= (λ b. read_head a.tokens >>= (λ head. read_promises b.tokens >>= (λ q. read_lines (begun head q b.number) rest))))) one
-    ∙ ap (λ o. o >>= (λ b. read_head first.tokens.all.items >>= (λ head. read_promises b.tokens >>= (λ q. read_lines (begun head q b.number) rest)))) two
-    ∙ ap (λ o. o >>= (λ head. read_promises s.0.tokens.all.items >>= (λ q. read_lines (begun head q s.0.number) rest))) f
-    ∙ ap (λ o. o >>= (λ q. read_lines (begun h q s.0.number) rest)) s.2
-    ∙ ap (λ (n : ℕ). read_lines (begun h p n) rest) s.3
+    ap (λ o. o >>= (λ a. slice_get (map spoken_of lines) 1 >>= (λ b. read_head a.tokens >>= (λ head. read_promises b.tokens >>= (λ q. read_lines (empty_draft head q b.number) rest))))) one
+    ∙ ap (λ o. o >>= (λ b. read_head first.tokens.all.items >>= (λ head. read_promises b.tokens >>= (λ q. read_lines (empty_draft head q b.number) rest)))) two
+    ∙ ap (λ o. o >>= (λ head. read_promises s.0.tokens.all.items >>= (λ q. read_lines (empty_draft head q s.0.number) rest))) f
+    ∙ ap (λ o. o >>= (λ q. read_lines (empty_draft h q s.0.number) rest)) s.2
+    ∙ ap (λ (n : ℕ). read_lines (empty_draft h p n) rest) s.3
     ∙ ap (λ x. read_lines x rest) (sym k)

@@ -14,10 +14,10 @@ use Rattle.algorithm_texts.specs.Grammar.{is_among}
 unfoldable use Rattle.algorithm_texts.specs.Operands.{reserved}
 use Rattle.algorithm_texts.specs.Fronts.{is_the_word, is_the_sign, letters_of, is_over, begins_no_simple}
 use Rattle.algorithm_texts.specs.Drafts.{Drafted}
-use Rattle.algorithm_texts.specs.LineReading.{new_name_in, new_name, name_set, is_constant, scope_in, read_goto, read_done, read_deed, read_await, read_store, read_private_assignment, read_assignment, read_simple, opening, read_test, read_then, read_if, read_for, read_else, read_end, read_label, read_statement}
-use Rattle.algorithm_texts.specs.TextReading.{Spoken, with_number, begun, undeclared, read_each, read_bound, with_lasting, read_shared, read_private, read_declaration, read_call, read_line, read_lines, read_head, read_promises, read_text}
-use Rattle.algorithm_texts.specs.Blocks.{Block, Empty, Line, Enclosed, Divided, lines_in, read_if_block, read_if_line, begins_block, read_alone, divides, ends, alone, beginning, dividing, ending, compiled}
-use Rattle.algorithm_texts.specs.Programs.{CallLines, Program, calls_lines, program_lines, declarations_made, call_begun, calls_made, meant}
+use Rattle.algorithm_texts.specs.LineDrafts.{new_name_in, new_name, name_set, is_constant, scope_in, read_goto, read_done, read_deed, read_await, read_store, read_private_assignment, read_assignment, read_simple, opening, read_test, read_then, read_if, read_for, read_else, read_end, read_label, read_statement}
+use Rattle.algorithm_texts.specs.TextDrafts.{Spoken, with_number, empty_draft, undeclared_name, read_each, read_bound, with_lasting, read_shared, read_private, read_declaration, read_call, read_line, read_lines, read_head, read_promises, read_text}
+use Rattle.algorithm_texts.specs.Blocks.{Block, Empty, Line, Enclosed, Divided, lines_in, read_if_block, read_if_line, begins_block, read_alone, divides, ends, draft_after_statement, beginning, dividing, ending, draft_after_block}
+use Rattle.algorithm_texts.specs.Programs.{CallLines, Program, calls_lines, program_lines, declarations_made, call_begun, calls_made, meaning_of}
 use Rattle.algorithm_texts.proofs.BlockTrees.{some_of, if_of, if_bind, if_cond, on_all, rest_of, alone_rest, begins_calls, divides_calls, ends_calls}
 use Rattle.algorithm_texts.proofs.BlockPaths.{still_open}
 use Rattle.algorithm_texts.proofs.ProgramTrees.{around, begins_call, declaration_stays, some_calls}
@@ -219,13 +219,13 @@ calls_begun cs xs x e = elim (true_or_false (eqb (length cs) 0)) [
 statement_line : (d now : Drafted) (s : Spoken) → IsIn (rest_of d) → is_the_word (slice_get s.tokens 0) (codes "call") ≡ false
     → read_statement (with_number s.number d) s.tokens s.answer ≡ Some now → read_line (with_number s.number d) s.tokens s.answer d.number ≡ Some now
 statement_line d now s h other e =
-    let begun : eqb (length d.calls) 0 ≡ false = calls_begun d.calls h.0.1 h.0.0 h.0.2 in
+    let empty_draft : eqb (length d.calls) 0 ≡ false = calls_begun d.calls h.0.1 h.0.0 h.0.2 in
     ap (λ b. cond b (read_call (with_number s.number d) (drop 1 s.tokens) d.number)
     (cond (eqb (length d.calls) 0) (read_declaration (with_number s.number d) s.tokens) (read_statement (with_number s.number d) s.tokens s.answer))) other
-    ∙ ap (λ b. cond b (read_declaration (with_number s.number d) s.tokens) (read_statement (with_number s.number d) s.tokens s.answer)) begun
+    ∙ ap (λ b. cond b (read_declaration (with_number s.number d) s.tokens) (read_statement (with_number s.number d) s.tokens s.answer)) empty_draft
     ∙ e
 
-alone_line : (d now : Drafted) (s : Spoken) → IsIn (rest_of d) → alone d s ≡ Some now → read_line (with_number s.number d) s.tokens s.answer d.number ≡ Some now
+alone_line : (d now : Drafted) (s : Spoken) → IsIn (rest_of d) → draft_after_statement d s ≡ Some now → read_line (with_number s.number d) s.tokens s.answer d.number ≡ Some now
 alone_line d now s h e =
     statement_line d now s h (alone_no_call (with_number s.number d) s.tokens s.answer now h.1 e) (alone_statement (with_number s.number d) s.tokens s.answer now e)
 
@@ -251,17 +251,17 @@ ends_line d now s h e =
 abbrev IsRead : Block → Drafted → Drafted → List Spoken → Type 0
 IsRead b d now ss = (read_lines d (lines_in b ++ ss) ≡ read_lines now ss) × (rest_of now ≡ rest_of d)
 
-pub block_lines : (b : Block) (d now : Drafted) (ss : List Spoken) → IsIn (rest_of d) → compiled b d ≡ Some now → IsRead b d now ss
+pub block_lines : (b : Block) (d now : Drafted) (ss : List Spoken) → IsIn (rest_of d) → draft_after_block b d ≡ Some now → IsRead b d now ss
 block_lines Empty d now ss h e = let same = same_Some d now e in (ap (λ x. read_lines x ss) same, ap rest_of (sym same))
 block_lines (Line s rest) d now ss h e =
-    let x = some_of (alone d s) (compiled rest) now e in
+    let x = some_of (draft_after_statement d s) (draft_after_block rest) now e in
     let one : rest_of x.0 ≡ rest_of d = alone_rest (with_number s.number d) s.tokens s.answer x.0 x.1 in
     let r = block_lines rest x.0 now ss (subst IsIn (sym one) h) x.2 in
     (line_more d x.0 s (lines_in rest ++ ss) (alone_line d x.0 s h x.1) ∙ r.0, r.1 ∙ one)
 block_lines (Enclosed s body t rest) d now ss h e =
-    let x = some_of (beginning d s) (λ begun. compiled body begun >>= (λ inner. ending begun.opened inner t >>= compiled rest)) now e in
-    let y = some_of (compiled body x.0) (λ inner. ending x.0.opened inner t >>= compiled rest) now x.2 in
-    let z = some_of (ending x.0.opened y.0 t) (compiled rest) now y.2 in
+    let x = some_of (beginning d s) (λ empty_draft. draft_after_block body empty_draft >>= (λ inner. ending empty_draft.opened inner t >>= draft_after_block rest)) now e in
+    let y = some_of (draft_after_block body x.0) (λ inner. ending x.0.opened inner t >>= draft_after_block rest) now x.2 in
+    let z = some_of (ending x.0.opened y.0 t) (draft_after_block rest) now y.2 in
     let one : rest_of x.0 ≡ rest_of d = if_of (λ n. rest_of n ≡ rest_of d) (beginning d s) x.0 (begins_calls (with_number s.number d) s.tokens) x.1 in
     let b = block_lines body x.0 y.0 (t ∷ (lines_in rest ++ ss)) (subst IsIn (sym one) h) y.1 in
     let two : rest_of y.0 ≡ rest_of d = b.1 ∙ one in
@@ -276,12 +276,12 @@ block_lines (Enclosed s body t rest) d now ss h e =
       r.1 ∙ three,
     )
 block_lines (Divided s body o other t rest) d now ss h e =
-    let x = some_of (beginning d s) (λ begun. compiled body begun >>= (λ inner. dividing begun.opened inner o >>= (λ divided. compiled other divided >>= (λ second.
-    ending divided.opened second t >>= compiled rest)))) now e in
-    let y = some_of (compiled body x.0) (λ inner. dividing x.0.opened inner o >>= (λ divided. compiled other divided >>= (λ second. ending divided.opened second t >>= compiled rest))) now x.2 in
-    let v = some_of (dividing x.0.opened y.0 o) (λ divided. compiled other divided >>= (λ second. ending divided.opened second t >>= compiled rest)) now y.2 in
-    let w = some_of (compiled other v.0) (λ second. ending v.0.opened second t >>= compiled rest) now v.2 in
-    let z = some_of (ending v.0.opened w.0 t) (compiled rest) now w.2 in
+    let x = some_of (beginning d s) (λ empty_draft. draft_after_block body empty_draft >>= (λ inner. dividing empty_draft.opened inner o >>= (λ divided. draft_after_block other divided >>= (λ second.
+    ending divided.opened second t >>= draft_after_block rest)))) now e in
+    let y = some_of (draft_after_block body x.0) (λ inner. dividing x.0.opened inner o >>= (λ divided. draft_after_block other divided >>= (λ second. ending divided.opened second t >>= draft_after_block rest))) now x.2 in
+    let v = some_of (dividing x.0.opened y.0 o) (λ divided. draft_after_block other divided >>= (λ second. ending divided.opened second t >>= draft_after_block rest)) now y.2 in
+    let w = some_of (draft_after_block other v.0) (λ second. ending v.0.opened second t >>= draft_after_block rest) now v.2 in
+    let z = some_of (ending v.0.opened w.0 t) (draft_after_block rest) now w.2 in
     let after : List Spoken = t ∷ (lines_in rest ++ ss) in
     let one : rest_of x.0 ≡ rest_of d = if_of (λ n. rest_of n ≡ rest_of d) (beginning d s) x.0 (begins_calls (with_number s.number d) s.tokens) x.1 in
     let b = block_lines body x.0 y.0 (o ∷ (lines_in other ++ after)) (subst IsIn (sym one) h) y.1 in
@@ -309,8 +309,8 @@ block_lines (Divided s body o other t rest) d now ss h e =
 calls_read : (calls : List CallLines) (d now : Drafted) → NoCall d.declared → calls_made calls d ≡ Some now → read_lines d (calls_lines calls) ≡ Some now
 calls_read [] d now none e = e
 calls_read (c ∷ cs) d now none e =
-    let x = some_of (call_begun d c.first) (λ begun. compiled c.block begun >>= calls_made cs) now e in
-    let y = some_of (compiled c.block x.0) (calls_made cs) now x.2 in
+    let x = some_of (call_begun d c.first) (λ empty_draft. draft_after_block c.block empty_draft >>= calls_made cs) now e in
+    let y = some_of (draft_after_block c.block x.0) (calls_made cs) now x.2 in
     let w = cond_parts (is_the_word (slice_get c.first.tokens 0) (codes "call")) (read_call (with_number c.first.number d) (drop 1 c.first.tokens) d.number) x.0 x.1 in
     let begins = begins_call (with_number c.first.number d) (drop 1 c.first.tokens) d.number x.0 w.1 in
     let free : NoCall x.0.declared = subst NoCall (sym begins.declared) none in
@@ -355,20 +355,20 @@ name_in_other word = elim (true_or_false (bytes_eq word (codes "call"))) [
   | inr f ↦ if_cond IsOther (is_constant word) None (cond (is_among reserved word) None (Some word)) tt (if_cond IsOther (is_among reserved word) None (Some word) tt f)
 ]
 
-undeclared_other : (declared names : List (List ℕ)) (token : Option Token) → IfSome (undeclared declared names token) IsOther
+undeclared_other : (declared names : List (List ℕ)) (token : Option Token) → IfSome (undeclared_name declared names token) IsOther
 undeclared_other declared names token =
     if_bind IsOther IsOther (new_name token) _ (on_all IsOther (letters_of token) new_name_in name_in_other)
     (λ word h. if_cond IsOther (is_among declared word || is_among names word) None (Some word) tt h)
 
 shared_other : (d : Drafted) (tokens : List Token) → NoCall d.declared → IfSome (read_shared d tokens) (λ now. NoCall now.declared)
 shared_other d tokens none =
-    if_bind IsOther (λ now. NoCall now.declared) (undeclared d.declared d.names (slice_get tokens 0)) _ (undeclared_other d.declared d.names (slice_get tokens 0))
+    if_bind IsOther (λ now. NoCall now.declared) (undeclared_name d.declared d.names (slice_get tokens 0)) _ (undeclared_other d.declared d.names (slice_get tokens 0))
     (λ name other. on_all (λ now. NoCall now.declared) (cond (ltb (length d.declared) 64) (read_each (drop 1 tokens)) None) _
     (λ each. on_all (λ now. NoCall now.declared) (read_bound (scope_in d) d.names each.1) _ (λ bound. among_more d.declared name (codes "call") none other)))
 
 private_other : (d : Drafted) (tokens : List Token) → NoCall d.declared → IfSome (read_private d tokens) (λ now. NoCall now.declared)
 private_other d tokens none =
-    on_all (λ now. NoCall now.declared) (undeclared d.declared d.names (slice_get tokens 0)) _
+    on_all (λ now. NoCall now.declared) (undeclared_name d.declared d.names (slice_get tokens 0)) _
     (λ name. if_cond (λ now. NoCall now.declared) (ltb (length d.names) 32) (cond (is_over (drop 1 tokens)) (Some (with_lasting name d)) None) None
     (if_cond (λ now. NoCall now.declared) (is_over (drop 1 tokens)) (Some (with_lasting name d)) None none tt) tt)
 
@@ -404,19 +404,19 @@ first_two a b rest = (
 )
 
 -- what a program means is read from its lines
-pub program_read : (p : Program) (d : Drafted) → meant p ≡ Some d → read_text (program_lines p) ≡ Some d
+pub program_read : (p : Program) (d : Drafted) → meaning_of p ≡ Some d → read_text (program_lines p) ≡ Some d
 program_read p d e =
-    let f = some_of (read_head p.head.tokens) (λ head. read_promises p.promises.tokens >>= (λ promises. declarations_made p.declarations (begun head promises p.promises.number)
+    let f = some_of (read_head p.head.tokens) (λ head. read_promises p.promises.tokens >>= (λ promises. declarations_made p.declarations (empty_draft head promises p.promises.number)
     >>= calls_made p.calls)) d e in
-    let g = some_of (read_promises p.promises.tokens) (λ promises. declarations_made p.declarations (begun f.0 promises p.promises.number) >>= calls_made p.calls) d f.2 in
-    let k = some_of (declarations_made p.declarations (begun f.0 g.0 p.promises.number)) (calls_made p.calls) d g.2 in
-    let declared = declarations_read p.declarations (begun f.0 g.0 p.promises.number) k.0 (calls_lines p.calls) refl refl k.1 in
+    let g = some_of (read_promises p.promises.tokens) (λ promises. declarations_made p.declarations (empty_draft f.0 promises p.promises.number) >>= calls_made p.calls) d f.2 in
+    let k = some_of (declarations_made p.declarations (empty_draft f.0 g.0 p.promises.number)) (calls_made p.calls) d g.2 in
+    let declared = declarations_read p.declarations (empty_draft f.0 g.0 p.promises.number) k.0 (calls_lines p.calls) refl refl k.1 in
     let rest : List Spoken = p.declarations ++ calls_lines p.calls in
     let two = first_two p.head p.promises rest in
     ap (λ o. o >>= (λ first. slice_get (program_lines p) 1 >>= (λ second. read_head first.tokens >>= (λ head. read_promises second.tokens >>= (λ promises.
-    read_lines (begun head promises second.number) rest))))) two.0
-    ∙ ap (λ o. o >>= (λ second. read_head p.head.tokens >>= (λ head. read_promises second.tokens >>= (λ promises. read_lines (begun head promises second.number) rest)))) two.1
-    ∙ ap (λ o. o >>= (λ head. read_promises p.promises.tokens >>= (λ promises. read_lines (begun head promises p.promises.number) rest))) f.1
-    ∙ ap (λ o. o >>= (λ promises. read_lines (begun f.0 promises p.promises.number) rest)) g.1
+    read_lines (empty_draft head promises second.number) rest))))) two.0
+    ∙ ap (λ o. o >>= (λ second. read_head p.head.tokens >>= (λ head. read_promises second.tokens >>= (λ promises. read_lines (empty_draft head promises second.number) rest)))) two.1
+    ∙ ap (λ o. o >>= (λ head. read_promises p.promises.tokens >>= (λ promises. read_lines (empty_draft head promises p.promises.number) rest))) f.1
+    ∙ ap (λ o. o >>= (λ promises. read_lines (empty_draft f.0 promises p.promises.number) rest)) g.1
     ∙ declared.0
     ∙ calls_read p.calls k.0 d declared.1 k.2

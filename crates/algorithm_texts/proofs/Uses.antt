@@ -3,41 +3,41 @@ use Rattle.std.proofs.Common.{◌≡◌, ℕ, zero, suc, ◌<◌, Bool, true, fa
 use Rattle.std.specs.Option.{option_map}
 use Rattle.std.proofs.lemmas.Bool.{false≢true, ltb-true, ltb-false}
 use Rattle.std.proofs.lemmas.Option.{slice_get-map, slice_get_past, same_Some}
-use Rattle.algorithms.specs.declared.algorithm.Call.{Call}
+use Rattle.algorithms.specs.declared.algorithm.AlgorithmCall.{AlgorithmCall}
 use Rattle.algorithms.specs.declared.algorithm.Promises.{Promises}
-use Rattle.algorithms.specs.declared.line.Line.{Line}
+use Rattle.algorithms.specs.declared.line.AlgorithmLine.{AlgorithmLine}
 use Rattle.algorithm_texts.specs.declared.lines.CallRead.{CallRead}
 use Rattle.algorithm_texts.specs.declared.lines.Jump.{Jump}
 use Rattle.algorithm_texts.specs.declared.lines.Label.{Label}
 use Rattle.algorithm_texts.specs.declared.usage.Usage.{Usage}
 use Rattle.algorithm_texts.specs.declared.usage.Usage.TheVariants.{Reads, Sets, Begins, Ends}
 use Rattle.algorithm_texts.specs.Parts.{◌>>=◌}
-use Rattle.algorithm_texts.specs.Drafts.{LineForm, Accessing, Assigning, Noting, Going, Branching, Beginning, Repeating, Ending, PlacedLine, form_of, line_of, led, leading}
-use Rattle.algorithm_texts.specs.Finishing.{is_within, target_of, jump_led, jumps_led}
+use Rattle.algorithm_texts.specs.Drafts.{LineForm, Accessing, Assigning, Noting, Going, Branching, Beginning, Repeating, Ending, PlacedLine, form_of, line_of, form_with_place, leading}
+use Rattle.algorithm_texts.specs.FinishedDrafts.{is_within, target_of, jump_led, jumps_led}
 use Rattle.algorithm_texts.specs.Usage.{reads, sets, begins_loop, ends_loop, has_usage, fits, uses, passes_where, passes_at}
 use Rattle.algorithm_texts.specs.Runs.{is_own, is_seen}
 use Rattle.algorithm_texts.proofs.BlockTrees.{some_of}
 use Rattle.algorithm_texts.proofs.RunMarks.{true_or_false}
 
 -- the use of a line
-pub use_at : (lines : List Line) (at : ℕ) (line : Line) → slice_get lines at ≡ Some line → slice_get (uses (map line_of lines)) at ≡ Some (led 0 (form_of line.form))
+pub use_at : (lines : List AlgorithmLine) (at : ℕ) (line : AlgorithmLine) → slice_get lines at ≡ Some line → slice_get (uses (map line_of lines)) at ≡ Some (form_with_place 0 (form_of line.form))
 use_at lines at line e =
-    slice_get-map (λ l. led 0 l.form) (map line_of lines) at
-    ∙ ap (option_map (λ l. led 0 l.form)) (slice_get-map line_of lines at)
-    ∙ ap (λ o. option_map (λ l. led 0 l.form) (option_map line_of o)) e
+    slice_get-map (λ l. form_with_place 0 l.form) (map line_of lines) at
+    ∙ ap (option_map (λ l. form_with_place 0 l.form)) (slice_get-map line_of lines at)
+    ∙ ap (λ o. option_map (λ l. form_with_place 0 l.form) (option_map line_of o)) e
 
-pub no_use_at : (lines : List Line) (at : ℕ) → slice_get lines at ≡ None → slice_get (uses (map line_of lines)) at ≡ None
+pub no_use_at : (lines : List AlgorithmLine) (at : ℕ) → slice_get lines at ≡ None → slice_get (uses (map line_of lines)) at ≡ None
 no_use_at lines at e =
-    slice_get-map (λ l. led 0 l.form) (map line_of lines) at
-    ∙ ap (option_map (λ l. led 0 l.form)) (slice_get-map line_of lines at)
-    ∙ ap (λ o. option_map (λ l. led 0 l.form) (option_map line_of o)) e
+    slice_get-map (λ l. form_with_place 0 l.form) (map line_of lines) at
+    ∙ ap (option_map (λ l. form_with_place 0 l.form)) (slice_get-map line_of lines at)
+    ∙ ap (λ o. option_map (λ l. form_with_place 0 l.form) (option_map line_of o)) e
 
 -- a test that does not ask where a line leads
-pub passes_line : (test : LineForm → Bool) → ((form : LineForm) → test (led 0 form) ≡ test form) → (lines : List Line) (at : ℕ) (line : Line)
+pub passes_line : (test : LineForm → Bool) → ((form : LineForm) → test (form_with_place 0 form) ≡ test form) → (lines : List AlgorithmLine) (at : ℕ) (line : AlgorithmLine)
     → slice_get lines at ≡ Some line → test (form_of line.form) ≡ passes_at test (uses (map line_of lines)) at
 passes_line test same lines at line e = sym (ap (passes_where test) (use_at lines at line e) ∙ same (form_of line.form))
 
-pub passes_none : (test : LineForm → Bool) (lines : List Line) (at : ℕ) → slice_get lines at ≡ None → false ≡ passes_at test (uses (map line_of lines)) at
+pub passes_none : (test : LineForm → Bool) (lines : List AlgorithmLine) (at : ℕ) → slice_get lines at ≡ None → false ≡ passes_at test (uses (map line_of lines)) at
 passes_none test lines at e = sym (ap (passes_where test) (no_use_at lines at e))
 
 -- a place that passes has a line
@@ -49,7 +49,7 @@ passes_within test forms at h = elim (true_or_false (ltb at (length forms))) [
 
 -- ---- gotos
 
-led_twice : (place : ℕ) (form : LineForm) → led 0 (led place form) ≡ led 0 form
+led_twice : (place : ℕ) (form : LineForm) → form_with_place 0 (form_with_place place form) ≡ form_with_place 0 form
 led_twice place (Accessing a) = refl
 led_twice place (Assigning name value) = refl
 led_twice place (Noting deed) = refl
@@ -68,7 +68,7 @@ leading_uses : (lines : List PlacedLine) (at place : ℕ) → uses (leading line
 leading_uses [] at place = refl
 leading_uses (line ∷ lines) zero place = ap (λ form. form ∷ uses lines) (led_twice place line.form)
 leading_uses (line ∷ lines) (suc at) place =
-    ap uses (leading_cons line lines at place (slice_get lines at)) ∙ ap (λ forms. led 0 line.form ∷ forms) (leading_uses lines at place)
+    ap uses (leading_cons line lines at place (slice_get lines at)) ∙ ap (λ forms. form_with_place 0 line.form ∷ forms) (leading_uses lines at place)
 
 jump_uses : (labels : List Label) (blocks : List (ℕ × ℕ)) (call : CallRead) (lines out : List PlacedLine) (jump : Jump)
     → jump_led labels blocks call lines jump ≡ Some out → uses out ≡ uses lines
@@ -91,7 +91,7 @@ jumps_uses labels blocks call (jump ∷ jumps) lines out e = elim (true_or_false
 
 -- ---- tests that do not ask where a line leads
 
-reads_same : (name : ℕ) (form : LineForm) → reads name (led 0 form) ≡ reads name form
+reads_same : (name : ℕ) (form : LineForm) → reads name (form_with_place 0 form) ≡ reads name form
 reads_same name (Accessing a) = refl
 reads_same name (Assigning k value) = refl
 reads_same name (Noting deed) = refl
@@ -101,7 +101,7 @@ reads_same name (Beginning k members after) = refl
 reads_same name (Repeating k members body) = refl
 reads_same name (Ending answer) = refl
 
-sets_same : (name : ℕ) (form : LineForm) → sets name (led 0 form) ≡ sets name form
+sets_same : (name : ℕ) (form : LineForm) → sets name (form_with_place 0 form) ≡ sets name form
 sets_same name (Accessing a) = refl
 sets_same name (Assigning k value) = refl
 sets_same name (Noting deed) = refl
@@ -111,7 +111,7 @@ sets_same name (Beginning k members after) = refl
 sets_same name (Repeating k members body) = refl
 sets_same name (Ending answer) = refl
 
-begins_same : (name : ℕ) (form : LineForm) → begins_loop name (led 0 form) ≡ begins_loop name form
+begins_same : (name : ℕ) (form : LineForm) → begins_loop name (form_with_place 0 form) ≡ begins_loop name form
 begins_same name (Accessing a) = refl
 begins_same name (Assigning k value) = refl
 begins_same name (Noting deed) = refl
@@ -121,7 +121,7 @@ begins_same name (Beginning k members after) = refl
 begins_same name (Repeating k members body) = refl
 begins_same name (Ending answer) = refl
 
-ends_same : (name : ℕ) (form : LineForm) → ends_loop name (led 0 form) ≡ ends_loop name form
+ends_same : (name : ℕ) (form : LineForm) → ends_loop name (form_with_place 0 form) ≡ ends_loop name form
 ends_same name (Accessing a) = refl
 ends_same name (Assigning k value) = refl
 ends_same name (Noting deed) = refl
@@ -131,13 +131,13 @@ ends_same name (Beginning k members after) = refl
 ends_same name (Repeating k members body) = refl
 ends_same name (Ending answer) = refl
 
-pub usage_same : (usage : Usage) (name : ℕ) (form : LineForm) → has_usage usage name (led 0 form) ≡ has_usage usage name form
+pub usage_same : (usage : Usage) (name : ℕ) (form : LineForm) → has_usage usage name (form_with_place 0 form) ≡ has_usage usage name form
 usage_same Reads name form = reads_same name form
 usage_same Sets name form = sets_same name form
 usage_same Begins name form = begins_same name form
 usage_same Ends name form = ends_same name form
 
-pub seen_same : (form : LineForm) → is_seen (led 0 form) ≡ is_seen form
+pub seen_same : (form : LineForm) → is_seen (form_with_place 0 form) ≡ is_seen form
 seen_same (Accessing a) = refl
 seen_same (Assigning k value) = refl
 seen_same (Noting deed) = refl
@@ -147,7 +147,7 @@ seen_same (Beginning k members after) = refl
 seen_same (Repeating k members body) = refl
 seen_same (Ending answer) = refl
 
-pub own_same : (jumps : List Jump) (at : ℕ) (form : LineForm) → is_own jumps at (led 0 form) ≡ is_own jumps at form
+pub own_same : (jumps : List Jump) (at : ℕ) (form : LineForm) → is_own jumps at (form_with_place 0 form) ≡ is_own jumps at form
 own_same jumps at (Accessing a) = refl
 own_same jumps at (Assigning k value) = refl
 own_same jumps at (Noting deed) = refl
@@ -157,7 +157,7 @@ own_same jumps at (Beginning k members after) = refl
 own_same jumps at (Repeating k members body) = refl
 own_same jumps at (Ending answer) = refl
 
-pub fits_same : (promises : Promises) (call : Call) (form : LineForm) → fits promises call (led 0 form) ≡ fits promises call form
+pub fits_same : (promises : Promises) (call : AlgorithmCall) (form : LineForm) → fits promises call (form_with_place 0 form) ≡ fits promises call form
 fits_same promises call (Accessing a) = refl
 fits_same promises call (Assigning k value) = refl
 fits_same promises call (Noting deed) = refl

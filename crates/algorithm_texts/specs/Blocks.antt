@@ -5,10 +5,10 @@ use Rattle.algorithm_texts.specs.declared.lines.Opened.{Opened}
 use Rattle.algorithm_texts.specs.declared.tokens.Sign.TheVariants.{Colon}
 use Rattle.algorithm_texts.specs.declared.tokens.Token.{Token}
 use Rattle.algorithm_texts.specs.Parts.{◌>>=◌}
-use Rattle.algorithm_texts.specs.Fronts.{is_the_word, is_the_sign, provided, is_over, begins_no_simple}
+use Rattle.algorithm_texts.specs.Fronts.{is_the_word, is_the_sign, value_if, is_over, begins_no_simple}
 use Rattle.algorithm_texts.specs.Drafts.{Drafted}
-use Rattle.algorithm_texts.specs.LineReading.{opening, read_test, read_then, read_for, else_in, end_in, read_label, read_simple, read_statement}
-use Rattle.algorithm_texts.specs.TextReading.{Spoken, with_number}
+use Rattle.algorithm_texts.specs.LineDrafts.{opening, read_test, read_then, read_for, else_in, end_in, read_label, read_simple, read_statement}
+use Rattle.algorithm_texts.specs.TextDrafts.{Spoken, with_number}
 
 -- lines, one after the other: a line alone, lines from an `if` or a `for` to their `end`, and lines with an `else` between
 pub data Block : Type 0 where
@@ -58,16 +58,16 @@ read_alone d tokens answer =
 -- an `else`, where these blocks are open
 abbrev pub divides : List Opened → Drafted → List Token → Option Drafted
 divides opened d tokens =
-    if is_the_word (slice_get tokens 0) (codes "else") then provided (is_over (drop 1 tokens)) (else_in opened d) else None
+    if is_the_word (slice_get tokens 0) (codes "else") then value_if (is_over (drop 1 tokens)) (else_in opened d) else None
 
 -- an `end`, where these blocks are open
 abbrev pub ends : List Opened → Drafted → List Token → Option Drafted
-ends opened d tokens = if is_the_word (slice_get tokens 0) (codes "end") then provided (is_over (drop 1 tokens)) (end_in opened d) else None
+ends opened d tokens = if is_the_word (slice_get tokens 0) (codes "end") then value_if (is_over (drop 1 tokens)) (end_in opened d) else None
 
 -- ---- what they make
 
-abbrev pub alone : Drafted → Spoken → Option Drafted
-alone d s = read_alone (with_number s.number d) s.tokens s.answer
+abbrev pub draft_after_statement : Drafted → Spoken → Option Drafted
+draft_after_statement d s = read_alone (with_number s.number d) s.tokens s.answer
 
 abbrev pub beginning : Drafted → Spoken → Option Drafted
 beginning d s = begins_block (with_number s.number d) s.tokens
@@ -79,21 +79,21 @@ abbrev pub ending : List Opened → Drafted → Spoken → Option Drafted
 ending opened d s = ends opened (with_number s.number d) s.tokens
 
 -- the draft after the lines of a block
-abbrev pub compiled : Block → Drafted → Option Drafted
-compiled Empty d = Some d
-compiled (Line s rest) d = alone d s >>= compiled rest
-compiled (Enclosed s body e rest) d = do
+abbrev pub draft_after_block : Block → Drafted → Option Drafted
+draft_after_block Empty d = Some d
+draft_after_block (Line s rest) d = draft_after_statement d s >>= draft_after_block rest
+draft_after_block (Enclosed s body e rest) d = do
   begun ← beginning d s
-  inner ← compiled body begun
+  inner ← draft_after_block body begun
   after ← ending begun.opened inner e
-  compiled rest after
-compiled (Divided s body o other e rest) d = do
+  draft_after_block rest after
+draft_after_block (Divided s body o other e rest) d = do
   begun ← beginning d s
-  inner ← compiled body begun
+  inner ← draft_after_block body begun
   divided ← dividing begun.opened inner o
-  second ← compiled other divided
+  second ← draft_after_block other divided
   after ← ending divided.opened second e
-  compiled rest after
+  draft_after_block rest after
 
 -- lines that are read one after the other
 abbrev pub read_statements : Drafted → List Spoken → Option Drafted
@@ -105,4 +105,4 @@ read_statements d (s ∷ ss) = do
 -- lines of a call that are read to its end are those of a block, and make of the draft what the block does
 abbrev pub MakeBlocks : Type 0
 MakeBlocks = (d now : Drafted) (lines : List Spoken) → d.opened ≡ [] → read_statements d lines ≡ Some now → now.opened ≡ []
-    → (block : Block) × (lines_in block ≡ lines) × (compiled block d ≡ Some now)
+    → (block : Block) × (lines_in block ≡ lines) × (draft_after_block block d ≡ Some now)

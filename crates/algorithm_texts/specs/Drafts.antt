@@ -7,10 +7,10 @@ use Rattle.algorithms.specs.declared.algorithm.Promises.{Promises}
 use Rattle.algorithms.specs.declared.line.AccessLine.{AccessLine}
 use Rattle.algorithms.specs.declared.line.Action.{Action}
 use Rattle.algorithms.specs.declared.line.Action.TheVariants.{Load, Store, Await}
-use Rattle.algorithms.specs.declared.line.Deed.{Deed}
-use Rattle.algorithms.specs.declared.line.Form.{Form}
-use Rattle.algorithms.specs.declared.line.Form.TheVariants.{Access, Local, Done}
-use Rattle.algorithms.specs.declared.line.Line.{Line}
+use Rattle.algorithms.specs.declared.line.AlgorithmDeed.{AlgorithmDeed}
+use Rattle.algorithms.specs.declared.line.LineKind.{LineKind}
+use Rattle.algorithms.specs.declared.line.LineKind.TheVariants.{Access, Local, Done}
+use Rattle.algorithms.specs.declared.line.AlgorithmLine.{AlgorithmLine}
 use Rattle.algorithms.specs.declared.line.LocalLine.{LocalLine}
 use Rattle.algorithms.specs.declared.line.LocalLine.TheVariants.{Assign, Note, Goto, Branch, First, Next}
 use Rattle.algorithms.specs.declared.line.Members.{Members}
@@ -31,21 +31,21 @@ pub record SharedWord : Type 0 where
   pub index : Option Term
 
 -- what an access does with its word
-pub data Act : Type 0 where
-  Loading : ℕ → Act
-  Storing : Term → Act
-  Awaiting : ℕ → Formula → Act
+pub data DraftAction : Type 0 where
+  Loading : ℕ → DraftAction
+  Storing : Term → DraftAction
+  Awaiting : ℕ → Formula → DraftAction
 
 pub record AccessForm : Type 0 where
   pub word : SharedWord
-  pub act : Act
+  pub act : DraftAction
   pub may_withdraw : Bool
 
 -- what a line is
 pub data LineForm : Type 0 where
   Accessing : AccessForm → LineForm
   Assigning : ℕ → Term → LineForm
-  Noting : Deed → LineForm
+  Noting : AlgorithmDeed → LineForm
   Going : ℕ → LineForm
   Branching : Formula → ℕ → LineForm
   Beginning : ℕ → Members → ℕ → LineForm
@@ -60,7 +60,7 @@ pub record PlacedLine : Type 0 where
 abbrev pub word_of : WordOf → SharedWord
 word_of w = record { declaration = w.declaration; index = option_map (λ i. term_of i) w.index }
 
-abbrev pub act_of : Action → Act
+abbrev pub act_of : Action → DraftAction
 act_of (Load name) = Loading name
 act_of (Store value) = Storing (term_of value)
 act_of (Await name until) = Awaiting name (formula_of until)
@@ -76,12 +76,12 @@ local_form (Branch condition otherwise) = Branching (formula_of condition) other
 local_form (First name members after) = Beginning name members after
 local_form (Next name members body) = Repeating name members body
 
-abbrev pub form_of : Form → LineForm
+abbrev pub form_of : LineKind → LineForm
 form_of (Access a) = Accessing (access_of a)
 form_of (Local l) = local_form l
 form_of (Done answer) = Ending answer
 
-abbrev pub line_of : Line → PlacedLine
+abbrev pub line_of : AlgorithmLine → PlacedLine
 line_of l = record { number = l.number; form = form_of l.form }
 
 abbrev pub lines_of : Algorithm → List PlacedLine
@@ -95,24 +95,24 @@ abbrev pub each_of : Algorithm → List Bool
 each_of a = map (λ d. d.each) a.declarations.items
 
 -- a line that leads past a block, or a goto, leads to this place
-abbrev pub led : ℕ → LineForm → LineForm
-led place (Accessing a) = Accessing a
-led place (Assigning name value) = Assigning name value
-led place (Noting deed) = Noting deed
-led place (Going target) = Going place
-led place (Branching condition otherwise) = Branching condition place
-led place (Beginning name members after) = Beginning name members place
-led place (Repeating name members body) = Repeating name members body
-led place (Ending answer) = Ending answer
+abbrev pub form_with_place : ℕ → LineForm → LineForm
+form_with_place place (Accessing a) = Accessing a
+form_with_place place (Assigning name value) = Assigning name value
+form_with_place place (Noting deed) = Noting deed
+form_with_place place (Going target) = Going place
+form_with_place place (Branching condition otherwise) = Branching condition place
+form_with_place place (Beginning name members after) = Beginning name members place
+form_with_place place (Repeating name members body) = Repeating name members body
+form_with_place place (Ending answer) = Ending answer
 
 abbrev pub leading : List PlacedLine → ℕ → ℕ → Option PlacedLine → List PlacedLine
 leading lines at place None = lines
-leading lines at place (Some line) = slice_set lines at (record { number = line.number; form = led place line.form })
+leading lines at place (Some line) = slice_set lines at (record { number = line.number; form = form_with_place place line.form })
 
 -- ---- drafts
 
 -- what the lines of a call leave alone
-pub record Head : Type 0 where
+pub record DraftHead : Type 0 where
   pub name : List ℕ
   pub least : ℕ
   pub most : ℕ
@@ -120,7 +120,7 @@ pub record Head : Type 0 where
   pub bounds : List (Option Term)
   pub entries : Entries
 
-abbrev pub head_of : Algorithm → Head
+abbrev pub head_of : Algorithm → DraftHead
 head_of a = record {
   name = string_bytes a.name;
   least = a.least;
@@ -132,7 +132,7 @@ head_of a = record {
 
 -- what was read so far
 pub record Drafted : Type 0 where
-  pub head : Head
+  pub head : DraftHead
   pub declared : List (List ℕ)
   pub each : List Bool
   pub lasting : ℕ
@@ -146,8 +146,8 @@ pub record Drafted : Type 0 where
   pub jumps : List Jump
   pub calls : List CallRead
 
-abbrev pub drafted : Draft → Drafted
-drafted d = record {
+abbrev pub draft_view : Draft → Drafted
+draft_view d = record {
   head = head_of d.algorithm;
   declared = declared_of d.algorithm;
   each = each_of d.algorithm;

@@ -5,8 +5,8 @@ use Rattle.algorithms.specs.declared.condition.Comparison.{Comparison}
 use Rattle.algorithms.specs.declared.condition.Comparison.TheVariants.{Equal, NotEqual, Less, AtMost, Greater, AtLeast}
 use Rattle.algorithms.specs.declared.expression.Operator.{Operator}
 use Rattle.algorithms.specs.declared.expression.Operator.TheVariants.{Sum, Difference, Product, Quotient, Remainder, Maximum, Minimum}
-use Rattle.algorithms.specs.declared.line.Deed.{Deed}
-use Rattle.algorithms.specs.declared.line.Deed.TheVariants.{Begin, Ready, Enter, Reenter, Leave, Quit}
+use Rattle.algorithms.specs.declared.line.AlgorithmDeed.{AlgorithmDeed}
+use Rattle.algorithms.specs.declared.line.AlgorithmDeed.TheVariants.{Begin, Ready, Enter, Reenter, Leave, Quit}
 use Rattle.algorithms.specs.declared.line.Members.{Members}
 use Rattle.algorithms.specs.declared.line.Members.TheVariants.{All, Others, Lower, Higher}
 use Rattle.algorithm_texts.specs.declared.tokens.Sign.{Sign}
@@ -14,7 +14,7 @@ use Rattle.algorithm_texts.specs.declared.tokens.Sign.TheVariants.{Assign, Colon
 use Rattle.algorithm_texts.specs.declared.tokens.Token.{Token}
 use Rattle.algorithm_texts.specs.declared.tokens.Token.TheVariants.{Number, Word, Sign as Mark}
 use Rattle.algorithm_texts.specs.Parts.{◌>>=◌}
-use Rattle.algorithm_texts.specs.Tokens.{named}
+use Rattle.algorithm_texts.specs.Tokens.{value_of_name}
 
 -- ---- tests of one token
 
@@ -69,25 +69,25 @@ letters_of (Some (Mark sign)) = None
 -- ---- what has to come next
 
 -- a value where the test holds
-abbrev pub provided : {A : Type 0} → Bool → Option A → Option A
-provided test o = if test then o else None
+abbrev pub value_if : {A : Type 0} → Bool → Option A → Option A
+value_if test o = if test then o else None
 
 -- the tokens after a word that comes next
 abbrev pub past_word : List Token → List ℕ → Option (List Token)
-past_word tokens word = provided (is_the_word (slice_get tokens 0) word) (Some (drop 1 tokens))
+past_word tokens word = value_if (is_the_word (slice_get tokens 0) word) (Some (drop 1 tokens))
 
 -- the tokens after a sign that comes next
 abbrev pub past_sign : List Token → Sign → Option (List Token)
-past_sign tokens sign = provided (is_the_sign (slice_get tokens 0) sign) (Some (drop 1 tokens))
+past_sign tokens sign = value_if (is_the_sign (slice_get tokens 0) sign) (Some (drop 1 tokens))
 
 abbrev pub is_over : List Token → Bool
 is_over tokens = length tokens == 0
 
 -- what a word names
 abbrev pub named_by : {A : Type 0} → List (List ℕ × A) → Option Token → Option A
-named_by names token = letters_of token >>= named names
+named_by names token = letters_of token >>= value_of_name names
 
-abbrev pub deed_words : List (List ℕ × Deed)
+abbrev pub deed_words : List (List ℕ × AlgorithmDeed)
 deed_words =
     (codes "begin", Begin)
     ∷ (codes "ready", Ready)
@@ -106,19 +106,19 @@ members_words =
     ∷ []
 
 -- `this is DEED`
-abbrev pub deed_said : List Token → Option Deed
+abbrev pub deed_said : List Token → Option AlgorithmDeed
 deed_said tokens = do
   this ← past_word tokens (codes "this")
   rest ← past_word this (codes "is")
   deed ← named_by deed_words (slice_get rest 0)
-  provided (is_over (drop 1 rest)) (Some deed)
+  value_if (is_over (drop 1 rest)) (Some deed)
 
 -- `in MEMBERS`
 abbrev pub members_said : List Token → Option Members
 members_said tokens = do
   rest ← past_word tokens (codes "in")
   members ← named_by members_words (slice_get rest 0)
-  provided (is_over (drop 1 rest)) (Some members)
+  value_if (is_over (drop 1 rest)) (Some members)
 
 -- the tokens after `may withdraw`, where it comes next
 abbrev pub past_withdraw : List Token → Option (List Token)

@@ -10,7 +10,7 @@ use Rattle.algorithm_texts.specs.declared.operands.Bracket.{Bracket}
 use Rattle.algorithm_texts.specs.declared.operands.Bracket.TheVariants.{Plain, Not, Max, Min}
 use Rattle.algorithm_texts.specs.declared.operands.Joint.{Joint}
 use Rattle.algorithm_texts.specs.declared.operands.Joint.TheVariants.{Operator as ByOperator, Comparison as ByComparison, And, Or}
-use Rattle.algorithm_texts.specs.Parts.{Number, Private, Me, Procs, Limit, Part, Value, joined, enclosed, enclosed_two, ◌>>=◌}
+use Rattle.algorithm_texts.specs.Parts.{Number, Private, Me, Procs, Limit, OperandPart, Value, join_of, enclosed_part, enclosed_two, ◌>>=◌}
 
 -- ---- trees and their tokens
 
@@ -37,12 +37,12 @@ joint_token And = Word (codes "and")
 joint_token Or = Word (codes "or")
 
 -- the tokens of a tree
-abbrev pub written : Tree → List Token
-written (Numeral n) = NumberToken n ∷ []
-written (Name word) = Word word ∷ []
-written (One head tree) = head_tokens head ++ (Sign Open ∷ (written tree ++ (Sign Close ∷ [])))
-written (Two head a b) = head_tokens head ++ (Sign Open ∷ (written a ++ (Sign Comma ∷ (written b ++ (Sign Close ∷ [])))))
-written (Between joint a b) = written a ++ (joint_token joint ∷ written b)
+abbrev pub tokens_of_tree : Tree → List Token
+tokens_of_tree (Numeral n) = NumberToken n ∷ []
+tokens_of_tree (Name word) = Word word ∷ []
+tokens_of_tree (One head tree) = head_tokens head ++ (Sign Open ∷ (tokens_of_tree tree ++ (Sign Close ∷ [])))
+tokens_of_tree (Two head a b) = head_tokens head ++ (Sign Open ∷ (tokens_of_tree a ++ (Sign Comma ∷ (tokens_of_tree b ++ (Sign Close ∷ [])))))
+tokens_of_tree (Between joint a b) = tokens_of_tree a ++ (joint_token joint ∷ tokens_of_tree b)
 
 -- ---- which trees are meant: stronger operators bind first, and equal ones from the left
 
@@ -91,26 +91,26 @@ abbrev pub is_among : List (List ℕ) → List ℕ → Bool
 is_among names word = list_any (λ name. bytes_eq name word) names
 
 -- a private name: the place where it stands, else a new one at the end
-abbrev pub placed : ℕ → List (List ℕ) → List ℕ → Option ℕ → Option (Part × List (List ℕ))
-placed most names word (Some k) = Some (Value (Private k), names)
-placed most names word None = if nat_lt (length names) most then Some (Value (Private (length names)), names ++ word ∷ []) else None
+abbrev pub private_name_part : ℕ → List (List ℕ) → List ℕ → Option ℕ → Option (OperandPart × List (List ℕ))
+private_name_part most names word (Some k) = Some (Value (Private k), names)
+private_name_part most names word None = if nat_lt (length names) most then Some (Value (Private (length names)), names ++ word ∷ []) else None
 
 -- what a word is as a value, and the private names after it
-abbrev pub word_value : Scope → List (List ℕ) → List ℕ → Option (Part × List (List ℕ))
+abbrev pub word_value : Scope → List (List ℕ) → List ℕ → Option (OperandPart × List (List ℕ))
 word_value scope names word =
     if bytes_eq word (codes "me") then Some (Value Me, names)
     else if bytes_eq word (codes "procs") then Some (Value Procs, names)
     else if bytes_eq word (codes "limit") then Some (Value Limit, names)
     else if is_among scope.reserved word || is_among scope.declared word then None
-    else placed scope.most names word (position (λ name. bytes_eq name word) names)
+    else private_name_part scope.most names word (position (λ name. bytes_eq name word) names)
 
 -- what a tree means, and the private names after it. None where a part is not of the kind that is needed there
-abbrev pub meaning : Scope → Tree → List (List ℕ) → Option (Part × List (List ℕ))
+abbrev pub meaning : Scope → Tree → List (List ℕ) → Option (OperandPart × List (List ℕ))
 meaning scope (Numeral n) names = Some (Value (Number n), names)
 meaning scope (Name word) names = word_value scope names word
 meaning scope (One head tree) names = do
   x ← meaning scope tree names
-  part ← enclosed head x.0
+  part ← enclosed_part head x.0
   Some (part, x.1)
 meaning scope (Two head a b) names = do
   x ← meaning scope a names
@@ -120,13 +120,13 @@ meaning scope (Two head a b) names = do
 meaning scope (Between joint a b) names = do
   x ← meaning scope a names
   y ← meaning scope b x.1
-  part ← joined joint x.0 y.0
+  part ← join_of joint x.0 y.0
   Some (part, y.1)
 
 -- the tokens say this value, pair or condition, with these private names before it and after it
-pub record Says (scope : Scope) (names : List (List ℕ)) (tokens : List Token) (part : Part) (after : List (List ℕ)) : Type 0 where
+pub record Says (scope : Scope) (names : List (List ℕ)) (tokens : List Token) (part : OperandPart) (after : List (List ℕ)) : Type 0 where
   pub tree : Tree
-  pub tokens_of : tokens ≡ written tree
+  pub tokens_of : tokens ≡ tokens_of_tree tree
   pub binds : Binds 1 tree
   pub shallow : depth tree ≤ 16
   pub means : meaning scope tree names ≡ Some (part, after)

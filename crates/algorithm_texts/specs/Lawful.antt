@@ -1,13 +1,13 @@
 -- What a text may not do wrong, apart from its form: labels, names, deeds, withdraws, and what runs may do.
 use Rattle.std.specs.Prelude.{◌≡◌, ◌⊎◌, ℕ, ◌≤◌, ◌<◌, Bool, true, List, length, slice_get, Some, bytes_eq, is_some}
 use Rattle.std.specs.List.{list_any}
-use Rattle.algorithms.specs.declared.algorithm.Call.{Call}
-use Rattle.algorithms.specs.declared.algorithm.Call.TheVariants.{Withdraw}
+use Rattle.algorithms.specs.declared.algorithm.AlgorithmCall.{AlgorithmCall}
+use Rattle.algorithms.specs.declared.algorithm.AlgorithmCall.TheVariants.{Withdraw}
 use Rattle.algorithms.specs.declared.algorithm.Promises.{Promises}
 use Rattle.algorithm_texts.specs.declared.lines.CallRead.{CallRead}
 use Rattle.algorithm_texts.specs.declared.lines.Label.{Label}
 use Rattle.algorithm_texts.specs.Drafts.{LineForm, Drafted}
-use Rattle.algorithm_texts.specs.Finishing.{is_label_in, is_within, call_in}
+use Rattle.algorithm_texts.specs.FinishedDrafts.{is_label_in, is_within, call_in}
 use Rattle.algorithm_texts.specs.Usage.{reads, sets, begins_loop, ends_loop, fits, may_withdraw, uses, passes_at}
 use Rattle.algorithm_texts.specs.Runs.{RunsFit}
 
@@ -56,6 +56,6 @@ pub record LinesFit (d : Drafted) (call : CallRead) : Type 0 where
 
 -- what is asked of a draft whose gotos lead to their labels. It has a withdraw just where a line may withdraw
 pub record IsLawfulDraft (d : Drafted) : Type 0 where
-  pub lines : (kind : Call) (call : CallRead) → call_in kind d.calls ≡ Some call → LinesFit d call
-  pub runs : (kind : Call) (call : CallRead) → call_in kind d.calls ≡ Some call → RunsFit d call
+  pub lines : (kind : AlgorithmCall) (call : CallRead) → call_in kind d.calls ≡ Some call → LinesFit d call
+  pub runs : (kind : AlgorithmCall) (call : CallRead) → call_in kind d.calls ≡ Some call → RunsFit d call
   pub withdraw : is_some (call_in Withdraw d.calls) ≡ list_any (λ line. may_withdraw line.form) d.lines

@@ -6,10 +6,10 @@ pub mod Stacks
 pub mod Operands
 pub mod Fronts
 pub mod Drafts
-pub mod LineReading
-pub mod TextReading
+pub mod LineDrafts
+pub mod TextDrafts
 pub mod TextLines
-pub mod Finishing
+pub mod FinishedDrafts
 pub mod Usage
 pub mod Runs
 pub mod Marks

@@ -1,11 +1,11 @@
 -- Marks of places, as the runs of a call are followed.
 use Rattle.std.specs.Prelude.{◌≡◌, ℕ, ◌<◌, nat_lt, Bool, true, false, not, ◌&&◌, List, [], ◌∷◌, length, replicate, slice_set, Option, Some, None, if◌then◌else◌}
 use Rattle.std.specs.List.{find}
-use Rattle.algorithm_texts.specs.declared.flow.Runs.{Runs}
+use Rattle.algorithm_texts.specs.declared.flow.RunKind.{RunKind}
 use Rattle.algorithm_texts.specs.declared.flow.Ways.{Ways}
 use Rattle.algorithm_texts.specs.declared.lines.CallRead.{CallRead}
 use Rattle.algorithm_texts.specs.Drafts.{Drafted}
-use Rattle.algorithm_texts.specs.Finishing.{is_in}
+use Rattle.algorithm_texts.specs.FinishedDrafts.{is_in}
 use Rattle.algorithm_texts.specs.Runs.{ways_from, leads_to, past_from}
 
 abbrev pub and_then : Option ℕ → List ℕ → List ℕ
@@ -13,8 +13,8 @@ and_then None rest = rest
 and_then (Some place) rest = place ∷ rest
 
 -- the places of ways
-abbrev pub listed : Ways → List ℕ
-listed ways = and_then ways.first (and_then ways.second [])
+abbrev pub places_of_ways : Ways → List ℕ
+places_of_ways ways = and_then ways.first (and_then ways.second [])
 
 -- a place that is not marked, and for which there is a mark
 abbrev pub is_free : List Bool → ℕ → Bool
@@ -25,20 +25,20 @@ free_of marks None = None
 free_of marks (Some place) = if is_free marks place then Some place else None
 
 -- the first place that is not marked, to which this place leads, where its own is marked
-abbrev pub free_way : Drafted → CallRead → Runs → List Bool → ℕ → Option ℕ
+abbrev pub free_way : Drafted → CallRead → RunKind → List Bool → ℕ → Option ℕ
 free_way d call runs marks at = if is_in marks at then find (is_free marks) (ways_from d call runs at) else None
 
 abbrev pub past_marked : Drafted → CallRead → ℕ → List Bool → ℕ → Option ℕ
 past_marked d call name marks at = if is_in marks at then past_from d call name at else None
 
 -- places that are marked lead to such places
-abbrev pub IsClosed : Drafted → CallRead → Runs → List Bool → Type 0
+abbrev pub IsClosed : Drafted → CallRead → RunKind → List Bool → Type 0
 IsClosed d call runs marks =
     (at way : ℕ) → is_in marks at ≡ true → leads_to (ways_from d call runs at) way ≡ true → way < length marks → is_in marks way ≡ true
 
 -- what was marked is marked
-abbrev pub Keeps : List Bool → List Bool → Type 0
-Keeps old new = (at : ℕ) → is_in old at ≡ true → is_in new at ≡ true
+abbrev pub KeepsMarks : List Bool → List Bool → Type 0
+KeepsMarks old new = (at : ℕ) → is_in old at ≡ true → is_in new at ≡ true
 
 -- that many marks, of which the one at this place is set where the test holds
 abbrev pub marks_from : ℕ → ℕ → Bool → List Bool

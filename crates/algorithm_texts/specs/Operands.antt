@@ -3,19 +3,19 @@ use Rattle.std.specs.Prelude.{◌≡◌, ◌⊎◌, ℕ, List, map, reverse, Opt
 use Rattle.algorithms.specs.declared.algorithm.Algorithm.{Algorithm}
 use Rattle.algorithms.specs.declared.condition.Condition.{Condition}
 use Rattle.algorithms.specs.declared.expression.Expression.{Expression}
-use Rattle.algorithms.specs.declared.fault.LineFault.{LineFault}
-use Rattle.algorithms.specs.declared.fault.LineFault.TheVariants.{OutOfMemory}
+use Rattle.algorithms.specs.declared.fault.ReadFault.{ReadFault}
+use Rattle.algorithms.specs.declared.fault.ReadFault.TheVariants.{OutOfMemory}
 use Rattle.algorithm_texts.specs.declared.operands.Operand.{Operand}
-use Rattle.algorithm_texts.specs.declared.stack.Place.{Place}
-use Rattle.algorithm_texts.specs.declared.stack.Place.TheVariants.{Start, Head, After}
+use Rattle.algorithm_texts.specs.declared.stack.StackPlace.{StackPlace}
+use Rattle.algorithm_texts.specs.declared.stack.StackPlace.TheVariants.{Start, Head, After}
 use Rattle.algorithm_texts.specs.declared.stack.Stack.{Stack}
 use Rattle.algorithm_texts.specs.declared.stack.Waiting.{Waiting}
 use Rattle.algorithm_texts.specs.declared.stack.Waiting.TheVariants.{Joint, Bracket, Half}
-use Rattle.algorithm_texts.specs.Parts.{Part, Value, Condition as ConditionPart, Private, Term, Formula, part_of, term_of, formula_of}
+use Rattle.algorithm_texts.specs.Parts.{OperandPart, Value, Condition as ConditionPart, Private, Term, Formula, part_of, term_of, formula_of}
 use Rattle.algorithm_texts.specs.declared.names.TheConstants.{RESERVED}
 use Rattle.algorithm_texts.specs.declared.tokens.Token.{Token}
 use Rattle.algorithm_texts.specs.Grammar.{Scope, Says}
-use Rattle.algorithm_texts.specs.Stacks.{Waits, Joining, Opened, Halfway, Next, Begins, Heads, Follows, Reading, reading}
+use Rattle.algorithm_texts.specs.Stacks.{Waits, Joining, Opened, Halfway, NextToken, Begins, Heads, Follows, OperandReading, reading}
 
 abbrev pub waits_of : Waiting → Waits
 waits_of (Joint left joint) = Joining (part_of left) joint
@@ -26,48 +26,48 @@ waits_of (Half head first) = Halfway head (part_of first)
 unfoldable pub stack_of : Stack → List Waits
 stack_of stack = reverse (map waits_of stack.all.items)
 
-abbrev pub next_of : Place → Next
+abbrev pub next_of : StackPlace → NextToken
 next_of Start = Begins
 next_of (Head head) = Heads head
 next_of (After part) = Follows (part_of part)
 
 -- a fault comes where there is nothing, or memory runs out
-abbrev pub Refuses : {A : Type 0} → LineFault → Option A → Type 0
-Refuses fault o = (fault ≡ OutOfMemory) ⊎ (o ≡ None)
+abbrev pub RefusesOperand : {A : Type 0} → ReadFault → Option A → Type 0
+RefusesOperand fault o = (fault ≡ OutOfMemory) ⊎ (o ≡ None)
 
 -- what a function returns is what the definition gives, where that is something
 
-abbrev pub Makes : Result Operand LineFault → Option Part → Type 0
+abbrev pub Makes : Result Operand ReadFault → Option OperandPart → Type 0
 Makes (Ok operand) o = o ≡ Some (part_of operand)
-Makes (Err fault) o = Refuses fault o
+Makes (Err fault) o = RefusesOperand fault o
 
-abbrev pub MakesValue : Result Expression LineFault → Option Term → Type 0
+abbrev pub MakesValue : Result Expression ReadFault → Option Term → Type 0
 MakesValue (Ok value) o = o ≡ Some (term_of value)
-MakesValue (Err fault) o = Refuses fault o
+MakesValue (Err fault) o = RefusesOperand fault o
 
-abbrev pub MakesCondition : Result Condition LineFault → Option Formula → Type 0
+abbrev pub MakesCondition : Result Condition ReadFault → Option Formula → Type 0
 MakesCondition (Ok condition) o = o ≡ Some (formula_of condition)
-MakesCondition (Err fault) o = Refuses fault o
+MakesCondition (Err fault) o = RefusesOperand fault o
 
-abbrev pub Reduces : List Waits → Result Operand LineFault → Option (List Waits × Part) → Type 0
+abbrev pub Reduces : List Waits → Result Operand ReadFault → Option (List Waits × OperandPart) → Type 0
 Reduces ws (Ok operand) o = o ≡ Some (ws, part_of operand)
-Reduces ws (Err fault) o = Refuses fault o
+Reduces ws (Err fault) o = RefusesOperand fault o
 
-abbrev pub Turns : List (List ℕ) → List Waits → Result Place LineFault → Option Reading → Type 0
+abbrev pub Turns : List (List ℕ) → List Waits → Result StackPlace ReadFault → Option OperandReading → Type 0
 Turns names ws (Ok place) o = o ≡ Some (reading names ws (next_of place))
-Turns names ws (Err fault) o = Refuses fault o
+Turns names ws (Err fault) o = RefusesOperand fault o
 
-abbrev pub MakesWord : List (List ℕ) → Result Expression LineFault → Option (Part × List (List ℕ)) → Type 0
+abbrev pub MakesWord : List (List ℕ) → Result Expression ReadFault → Option (OperandPart × List (List ℕ)) → Type 0
 MakesWord names (Ok value) o = o ≡ Some (Value (term_of value), names)
-MakesWord names (Err fault) o = Refuses fault o
+MakesWord names (Err fault) o = RefusesOperand fault o
 
-abbrev pub MakesName : List (List ℕ) → Result ℕ LineFault → Option (Part × List (List ℕ)) → Type 0
+abbrev pub MakesName : List (List ℕ) → Result ℕ ReadFault → Option (OperandPart × List (List ℕ)) → Type 0
 MakesName names (Ok k) o = o ≡ Some (Value (Private k), names)
-MakesName names (Err fault) o = Refuses fault o
+MakesName names (Err fault) o = RefusesOperand fault o
 
-abbrev pub Ends : List (List ℕ) → Result Operand LineFault → Option (Part × List (List ℕ)) → Type 0
-Ends names (Ok operand) o = o ≡ Some (part_of operand, names)
-Ends names (Err fault) o = Refuses fault o
+abbrev pub EndsOperand : List (List ℕ) → Result Operand ReadFault → Option (OperandPart × List (List ℕ)) → Type 0
+EndsOperand names (Ok operand) o = o ≡ Some (part_of operand, names)
+EndsOperand names (Err fault) o = RefusesOperand fault o
 
 -- ---- the names of an algorithm
 
@@ -94,5 +94,5 @@ SayNoCondition scope names tokens = (c : Formula) (after : List (List ℕ)) → 
 
 -- tokens say one thing
 abbrev pub SayOnePart : Type 0
-SayOnePart = (a : Algorithm) (names after now : List (List ℕ)) (tokens : List Token) (p q : Part)
+SayOnePart = (a : Algorithm) (names after now : List (List ℕ)) (tokens : List Token) (p q : OperandPart)
     → Says (scope_of a) names tokens p after → Says (scope_of a) names tokens q now → (p ≡ q) × (after ≡ now)

@@ -34,10 +34,10 @@ pub data Formula : Type 0 where
   Negated : Formula → Formula
 
 -- a value, a pair of values, or a condition
-pub data Part : Type 0 where
-  Value : Term → Part
-  Pair : Term → Term → Part
-  Condition : Formula → Part
+pub data OperandPart : Type 0 where
+  Value : Term → OperandPart
+  Pair : Term → Term → OperandPart
+  Condition : Formula → OperandPart
 
 -- ---- the parts of the program, without their memory
 
@@ -56,76 +56,76 @@ formula_of (AndOf p a q b) = Both (formula_of a) (formula_of b)
 formula_of (OrOf p a q b) = Either (formula_of a) (formula_of b)
 formula_of (NotOf p a) = Negated (formula_of a)
 
-abbrev pub part_of : Operand → Part
+abbrev pub part_of : Operand → OperandPart
 part_of (ValueIn v) = Value (term_of v)
 part_of (PairIn p) = Pair (term_of p.first) (term_of p.second)
 part_of (ConditionIn c) = Condition (formula_of c)
 
 -- ---- how parts go together. None where one is not of the kind that is needed
 
-abbrev pub value_in : Part → Option Term
+abbrev pub value_in : OperandPart → Option Term
 value_in (Value v) = Some v
 value_in (Pair a b) = None
 value_in (Condition c) = None
 
-abbrev pub condition_in : Part → Option Formula
+abbrev pub condition_in : OperandPart → Option Formula
 condition_in (Value v) = None
 condition_in (Pair a b) = None
 condition_in (Condition c) = Some c
 
 -- values are compared, and pairs
-abbrev pub compared : Comparison → Part → Part → Option Part
-compared c (Value a) (Value b) = Some (Condition (Compare c a b))
-compared c (Pair a b) (Pair x y) = Some (Condition (ComparePairs c a b x y))
-compared c (Value a) (Pair x y) = None
-compared c (Value a) (Condition d) = None
-compared c (Pair a b) (Value x) = None
-compared c (Pair a b) (Condition d) = None
-compared c (Condition d) right = None
+abbrev pub comparison_of : Comparison → OperandPart → OperandPart → Option OperandPart
+comparison_of c (Value a) (Value b) = Some (Condition (Compare c a b))
+comparison_of c (Pair a b) (Pair x y) = Some (Condition (ComparePairs c a b x y))
+comparison_of c (Value a) (Pair x y) = None
+comparison_of c (Value a) (Condition d) = None
+comparison_of c (Pair a b) (Value x) = None
+comparison_of c (Pair a b) (Condition d) = None
+comparison_of c (Condition d) right = None
 
-abbrev pub operated : Operator → Part → Part → Option Part
-operated o left right = do
+abbrev pub operation_of : Operator → OperandPart → OperandPart → Option OperandPart
+operation_of o left right = do
   a ← value_in left
   b ← value_in right
   Some (Value (Joined o a b))
 
 -- two parts with what is written between them
-abbrev pub joined : Joint → Part → Part → Option Part
-joined (ByOperator o) left right = operated o left right
-joined (ByComparison c) left right = compared c left right
-joined And left right = do
+abbrev pub join_of : Joint → OperandPart → OperandPart → Option OperandPart
+join_of (ByOperator o) left right = operation_of o left right
+join_of (ByComparison c) left right = comparison_of c left right
+join_of And left right = do
   a ← condition_in left
   b ← condition_in right
   Some (Condition (Both a b))
-joined Or left right = do
+join_of Or left right = do
   a ← condition_in left
   b ← condition_in right
   Some (Condition (Either a b))
 
 -- brackets round a value or a condition are that part itself
-abbrev pub plain : Part → Option Part
-plain (Value v) = Some (Value v)
-plain (Pair a b) = None
-plain (Condition c) = Some (Condition c)
+abbrev pub part_in_brackets : OperandPart → Option OperandPart
+part_in_brackets (Value v) = Some (Value v)
+part_in_brackets (Pair a b) = None
+part_in_brackets (Condition c) = Some (Condition c)
 
 -- one part in brackets, after the word before them
-abbrev pub enclosed : Bracket → Part → Option Part
-enclosed Plain part = plain part
-enclosed Not part = do
+abbrev pub enclosed_part : Bracket → OperandPart → Option OperandPart
+enclosed_part Plain part = part_in_brackets part
+enclosed_part Not part = do
   c ← condition_in part
   Some (Condition (Negated c))
-enclosed Max part = None
-enclosed Min part = None
+enclosed_part Max part = None
+enclosed_part Min part = None
 
-abbrev pub paired : Part → Part → Option Part
-paired first second = do
+abbrev pub pair_of_parts : OperandPart → OperandPart → Option OperandPart
+pair_of_parts first second = do
   a ← value_in first
   b ← value_in second
   Some (Pair a b)
 
 -- two parts in brackets, with a comma between them
-abbrev pub enclosed_two : Bracket → Part → Part → Option Part
-enclosed_two Plain first second = paired first second
+abbrev pub enclosed_two : Bracket → OperandPart → OperandPart → Option OperandPart
+enclosed_two Plain first second = pair_of_parts first second
 enclosed_two Not first second = None
-enclosed_two Max first second = operated Maximum first second
-enclosed_two Min first second = operated Minimum first second
+enclosed_two Max first second = operation_of Maximum first second
+enclosed_two Min first second = operation_of Minimum first second

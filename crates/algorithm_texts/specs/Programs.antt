@@ -4,10 +4,10 @@ use Rattle.algorithms.specs.declared.algorithm.Algorithm.{Algorithm}
 use Rattle.algorithm_texts.specs.Parts.{◌>>=◌}
 use Rattle.algorithm_texts.specs.Fronts.{is_the_word}
 use Rattle.algorithm_texts.specs.Drafts.{Drafted}
-use Rattle.algorithm_texts.specs.TextReading.{Spoken, with_number, begun, end_call, read_call, read_declaration, read_head, read_promises}
+use Rattle.algorithm_texts.specs.TextDrafts.{Spoken, with_number, empty_draft, end_call, read_call, read_declaration, read_head, read_promises}
 use Rattle.algorithm_texts.specs.TextLines.{TextSays}
-use Rattle.algorithm_texts.specs.Blocks.{Block, lines_in, compiled}
-use Rattle.algorithm_texts.specs.Finishing.{finished, IsOf}
+use Rattle.algorithm_texts.specs.Blocks.{Block, lines_in, draft_after_block}
+use Rattle.algorithm_texts.specs.FinishedDrafts.{finished_draft, IsDraftOf}
 use Rattle.algorithm_texts.specs.Lawful.{IsLawfulDraft}
 
 -- the line that begins a call, and the lines after it
@@ -39,27 +39,27 @@ call_begun d s = if is_the_word (slice_get s.tokens 0) (codes "call") then read_
 abbrev pub calls_made : List CallLines → Drafted → Option Drafted
 calls_made [] d = end_call d.number d
 calls_made (c ∷ cs) d = do
-  begun ← call_begun d c.first
-  now ← compiled c.block begun
+  empty_draft ← call_begun d c.first
+  now ← draft_after_block c.block empty_draft
   calls_made cs now
 
 -- what a program means, with gotos that lead nowhere yet
-abbrev pub meant : Program → Option Drafted
-meant p = do
+abbrev pub meaning_of : Program → Option Drafted
+meaning_of p = do
   head ← read_head p.head.tokens
   promises ← read_promises p.promises.tokens
-  declared ← declarations_made p.declarations (begun head promises p.promises.number)
+  declared ← declarations_made p.declarations (empty_draft head promises p.promises.number)
   calls_made p.calls declared
 
 -- the lines of a text are those of a program that keeps the rules, and the algorithm is what it means
-pub record Spells (text : List ℕ) (a : Algorithm) : Type 0 where
+pub record SpellsAlgorithm (text : List ℕ) (a : Algorithm) : Type 0 where
   pub program : Program
   pub says : TextSays text (program_lines program)
   pub draft : Drafted
-  pub means : (meant program >>= finished) ≡ Some draft
+  pub means : (meaning_of program >>= finished_draft) ≡ Some draft
   pub lawful : IsLawfulDraft draft
-  pub is_of : IsOf draft a
+  pub is_of : IsDraftOf draft a
 
 -- the algorithms that a text spells are all what one draft says
 abbrev pub SpellOne : Type 0
-SpellOne = (text : List ℕ) (a b : Algorithm) → Spells text a → Spells text b → (d : Drafted) × IsOf d a × IsOf d b
+SpellOne = (text : List ℕ) (a b : Algorithm) → SpellsAlgorithm text a → SpellsAlgorithm text b → (d : Drafted) × IsDraftOf d a × IsDraftOf d b

@@ -2,12 +2,12 @@
 use Rattle.std.specs.Prelude.{◌≡◌, ◌⊎◌, ℕ, zero, suc, ◌+◌, ◌≤◌, ◌<◌, nat_eq, Bool, true, false, not, ◌||◌, List, [], ◌∷◌, slice_get, length, Option, Some, None, if◌then◌else◌}
 use Rattle.std.specs.List.{list_any}
 use Rattle.algorithms.specs.Ranked.{has_round}
-use Rattle.algorithm_texts.specs.declared.flow.Runs.{Runs}
-use Rattle.algorithm_texts.specs.declared.flow.Runs.TheVariants.{All, Silent, Without}
+use Rattle.algorithm_texts.specs.declared.flow.RunKind.{RunKind}
+use Rattle.algorithm_texts.specs.declared.flow.RunKind.TheVariants.{All, Silent, Without}
 use Rattle.algorithm_texts.specs.declared.lines.CallRead.{CallRead}
 use Rattle.algorithm_texts.specs.declared.lines.Jump.{Jump}
 use Rattle.algorithm_texts.specs.Drafts.{LineForm, Accessing, Assigning, Noting, Going, Branching, Beginning, Repeating, Ending, PlacedLine, Drafted}
-use Rattle.algorithm_texts.specs.Finishing.{is_within, ways}
+use Rattle.algorithm_texts.specs.FinishedDrafts.{is_within, ways}
 use Rattle.algorithm_texts.specs.Usage.{reads, sets, begins_loop, ends_loop, uses, passes_at}
 
 -- ---- ways
@@ -17,17 +17,17 @@ is_access (Accessing a) = true
 is_access other = false
 
 -- whether a run of this kind goes on after a line: all do, those without an access, or those that do not set a name
-abbrev pub goes_on : Runs → LineForm → Bool
+abbrev pub goes_on : RunKind → LineForm → Bool
 goes_on All form = true
 goes_on Silent form = not (is_access form)
 goes_on (Without name) form = not (sets name form || (begins_loop name form || ends_loop name form))
 
-abbrev pub ways_after : ℕ → Runs → ℕ → Option PlacedLine → List ℕ
+abbrev pub ways_after : ℕ → RunKind → ℕ → Option PlacedLine → List ℕ
 ways_after least runs at None = []
 ways_after least runs at (Some line) = if goes_on runs line.form then ways least (at + 1) line.form else []
 
 -- the places to which a line of the call leads
-abbrev pub ways_from : Drafted → CallRead → Runs → ℕ → List ℕ
+abbrev pub ways_from : Drafted → CallRead → RunKind → ℕ → List ℕ
 ways_from d call runs at = if is_within (call.«from», call.to) at then ways_after d.head.least runs at (slice_get d.lines at) else []
 
 abbrev pub leads_to : List ℕ → ℕ → Bool
@@ -36,22 +36,22 @@ leads_to places at = list_any (λ place. nat_eq place at) places
 -- ---- runs
 
 -- a run over that many lines comes to this place
-abbrev pub ComesOver : Drafted → CallRead → Runs → (ℕ → Type 0) → ℕ → ℕ → Type 0
+abbrev pub ComesOver : Drafted → CallRead → RunKind → (ℕ → Type 0) → ℕ → ℕ → Type 0
 ComesOver d call runs Start zero at = Start at
 ComesOver d call runs Start (suc n) at =
     (before : ℕ) × ComesOver d call runs Start n before × (leads_to (ways_from d call runs before) at ≡ true)
 
 -- a run comes to this place
-abbrev pub Comes : Drafted → CallRead → Runs → (ℕ → Type 0) → ℕ → Type 0
-Comes d call runs Start at = (n : ℕ) × ComesOver d call runs Start n at
+abbrev pub RunComesTo : Drafted → CallRead → RunKind → (ℕ → Type 0) → ℕ → Type 0
+RunComesTo d call runs Start at = (n : ℕ) × ComesOver d call runs Start n at
 
 -- a run of the call comes to this place
-abbrev pub IsReached : Drafted → CallRead → ℕ → Type 0
-IsReached d call at = Comes d call All (λ first. first ≡ call.«from») at
+abbrev pub IsPlaceReached : Drafted → CallRead → ℕ → Type 0
+IsPlaceReached d call at = RunComesTo d call All (λ first. first ≡ call.«from») at
 
 -- a run of the call comes to this place before its first access
 abbrev pub IsReachedSilently : Drafted → CallRead → ℕ → Type 0
-IsReachedSilently d call at = Comes d call Silent (λ first. first ≡ call.«from») at
+IsReachedSilently d call at = RunComesTo d call Silent (λ first. first ≡ call.«from») at
 
 -- the place after a loop with this name, at the lines from which a run can go on there
 abbrev pub way_past : ℕ → ℕ → ℕ → LineForm → Option ℕ
@@ -70,11 +70,11 @@ past_from d call name at = if is_within (call.«from», call.to) at then past_wh
 -- here a run has not set the name: at its first line, unless the name lasts, and after a loop with this name
 abbrev pub HasNot : Drafted → CallRead → ℕ → ℕ → Type 0
 HasNot d call name at =
-    ((at ≡ call.«from») × (d.lasting ≤ name)) ⊎ ((before : ℕ) × IsReached d call before × (past_from d call name before ≡ Some at))
+    ((at ≡ call.«from») × (d.lasting ≤ name)) ⊎ ((before : ℕ) × IsPlaceReached d call before × (past_from d call name before ≡ Some at))
 
 -- a run of the call comes to this place and has not set the name
 abbrev pub IsReachedWithout : Drafted → CallRead → ℕ → ℕ → Type 0
-IsReachedWithout d call name at = Comes d call (Without name) (HasNot d call name) at
+IsReachedWithout d call name at = RunComesTo d call (Without name) (HasNot d call name) at
 
 -- ---- what runs may do
 
@@ -97,8 +97,8 @@ is_seen other = false
 -- runs of a call come to each line of the text, come to none after the last, have set each name before they read it, and make an
 -- access before the first end or deed
 pub record RunsFit (d : Drafted) (call : CallRead) : Type 0 where
-  pub reached : (at : ℕ) → is_within (call.«from», call.to) at ≡ true → passes_at (is_own d.jumps at) (uses d.lines) at ≡ true → IsReached d call at
-  pub ends : IsReached d call call.to → ⊥
+  pub reached : (at : ℕ) → is_within (call.«from», call.to) at ≡ true → passes_at (is_own d.jumps at) (uses d.lines) at ≡ true → IsPlaceReached d call at
+  pub ends : IsPlaceReached d call call.to → ⊥
   pub set : (name at : ℕ) → name < length d.names → is_within (call.«from», call.to) at ≡ true → passes_at (reads name) (uses d.lines) at ≡ true
       → IsReachedWithout d call name at → ⊥
   pub steps : (at : ℕ) → is_within (call.«from», call.to) at ≡ true → passes_at is_seen (uses d.lines) at ≡ true → IsReachedSilently d call at → ⊥

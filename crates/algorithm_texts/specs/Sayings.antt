@@ -4,7 +4,7 @@ use Rattle.algorithm_texts.specs.declared.tokens.Token.{Token}
 use Rattle.algorithm_texts.specs.Parts.{Term, Formula, Value, Condition}
 use Rattle.algorithm_texts.specs.Grammar.{Says}
 use Rattle.algorithm_texts.specs.Drafts.{Drafted}
-use Rattle.algorithm_texts.specs.LineReading.{scope_in, read_value, read_condition}
+use Rattle.algorithm_texts.specs.LineDrafts.{scope_in, read_value, read_condition}
 
 -- where a line is read, tokens are a value or a condition just where the grammar says it of them
 abbrev pub AreReadAsSaid : Type 0

@@ -8,28 +8,28 @@ use Rattle.algorithm_texts.specs.declared.operands.Bracket.{Bracket}
 use Rattle.algorithm_texts.specs.declared.operands.Bracket.TheVariants.{Plain, Not, Max, Min}
 use Rattle.algorithm_texts.specs.declared.operands.Joint.{Joint}
 use Rattle.algorithm_texts.specs.declared.operands.Joint.TheVariants.{Operator as ByOperator, Comparison as ByComparison, And, Or}
-use Rattle.algorithm_texts.specs.Parts.{Part, Value, Number, joined, enclosed, enclosed_two, ◌>>=◌}
+use Rattle.algorithm_texts.specs.Parts.{OperandPart, Value, Number, join_of, enclosed_part, enclosed_two, ◌>>=◌}
 use Rattle.algorithm_texts.specs.Grammar.{Scope, strength, word_value}
 
 -- what waits for the part after it: a part with an operator after it, an open bracket, or one with a part and a comma after it
 pub data Waits : Type 0 where
-  Joining : Part → Joint → Waits
+  Joining : OperandPart → Joint → Waits
   Opened : Bracket → Waits
-  Halfway : Bracket → Part → Waits
+  Halfway : Bracket → OperandPart → Waits
 
 -- what comes next: a part, the bracket after a word, or what follows this part
-pub data Next : Type 0 where
-  Begins : Next
-  Heads : Bracket → Next
-  Follows : Part → Next
+pub data NextToken : Type 0 where
+  Begins : NextToken
+  Heads : Bracket → NextToken
+  Follows : OperandPart → NextToken
 
 -- the private names, what waits, the last first, and what comes next
-pub record Reading : Type 0 where
+pub record OperandReading : Type 0 where
   pub names : List (List ℕ)
   pub waiting : List Waits
-  pub next : Next
+  pub next : NextToken
 
-abbrev pub reading : List (List ℕ) → List Waits → Next → Reading
+abbrev pub reading : List (List ℕ) → List Waits → NextToken → OperandReading
 reading names waiting next = record { names = names; waiting = waiting; next = next }
 
 -- whether it is a bracket
@@ -46,15 +46,15 @@ brackets (Opened head ∷ ws) = brackets ws + 1
 brackets (Halfway head part ∷ ws) = brackets ws + 1
 
 -- a part is joined to what waits for it, as far as the operators are at least this strong
-abbrev pub reduced : ℕ → List Waits → Part → Option (List Waits × Part)
-reduced least [] part = Some ([], part)
-reduced least (Joining left joint ∷ ws) part =
-    if nat_le least (strength joint) then (joined joint left part >>= reduced least ws) else Some (Joining left joint ∷ ws, part)
-reduced least (Opened head ∷ ws) part = Some (Opened head ∷ ws, part)
-reduced least (Halfway head first ∷ ws) part = Some (Halfway head first ∷ ws, part)
+abbrev pub stack_reduction : ℕ → List Waits → OperandPart → Option (List Waits × OperandPart)
+stack_reduction least [] part = Some ([], part)
+stack_reduction least (Joining left joint ∷ ws) part =
+    if nat_le least (strength joint) then (join_of joint left part >>= stack_reduction least ws) else Some (Joining left joint ∷ ws, part)
+stack_reduction least (Opened head ∷ ws) part = Some (Opened head ∷ ws, part)
+stack_reduction least (Halfway head first ∷ ws) part = Some (Halfway head first ∷ ws, part)
 
-abbrev pub opened : List (List ℕ) → List Waits → Bracket → Option Reading
-opened names ws head = if nat_lt (brackets ws) 16 then Some (reading names (Opened head ∷ ws) Begins) else None
+abbrev pub reading_after_bracket : List (List ℕ) → List Waits → Bracket → Option OperandReading
+reading_after_bracket names ws head = if nat_lt (brackets ws) 16 then Some (reading names (Opened head ∷ ws) Begins) else None
 
 -- the bracket that comes next after this word
 abbrev pub head_of : List ℕ → Option Bracket
@@ -64,39 +64,39 @@ head_of word =
     else if bytes_eq word (codes "min") then Some Min
     else None
 
-abbrev pub valued : List Waits → Option (Part × List (List ℕ)) → Option Reading
-valued ws (Some x) = Some (reading x.1 ws (Follows x.0))
-valued ws None = None
+abbrev pub reading_after_value : List Waits → Option (OperandPart × List (List ℕ)) → Option OperandReading
+reading_after_value ws (Some x) = Some (reading x.1 ws (Follows x.0))
+reading_after_value ws None = None
 
-abbrev pub worded : Scope → List (List ℕ) → List Waits → List ℕ → Option Bracket → Option Reading
-worded scope names ws word (Some head) = Some (reading names ws (Heads head))
-worded scope names ws word None = valued ws (word_value scope names word)
+abbrev pub reading_after_word : Scope → List (List ℕ) → List Waits → List ℕ → Option Bracket → Option OperandReading
+reading_after_word scope names ws word (Some head) = Some (reading names ws (Heads head))
+reading_after_word scope names ws word None = reading_after_value ws (word_value scope names word)
 
 -- a token where a part begins
-abbrev pub begun : Scope → List (List ℕ) → List Waits → Token → Option Reading
-begun scope names ws (NumberToken n) = Some (reading names ws (Follows (Value (Number n))))
-begun scope names ws (Word word) = worded scope names ws word (head_of word)
-begun scope names ws (Sign Open) = opened names ws Plain
-begun scope names ws (Sign other) = None
+abbrev pub reading_at_part : Scope → List (List ℕ) → List Waits → Token → Option OperandReading
+reading_at_part scope names ws (NumberToken n) = Some (reading names ws (Follows (Value (Number n))))
+reading_at_part scope names ws (Word word) = reading_after_word scope names ws word (head_of word)
+reading_at_part scope names ws (Sign Open) = reading_after_bracket names ws Plain
+reading_at_part scope names ws (Sign other) = None
 
 -- a token after the word before a bracket
-abbrev pub headed : List (List ℕ) → List Waits → Bracket → Token → Option Reading
-headed names ws head (Sign Open) = opened names ws head
-headed names ws head other = None
+abbrev pub reading_after_head : List (List ℕ) → List Waits → Bracket → Token → Option OperandReading
+reading_after_head names ws head (Sign Open) = reading_after_bracket names ws head
+reading_after_head names ws head other = None
 
-abbrev pub enclosing : List (List ℕ) → List Waits → Option Part → Option Reading
+abbrev pub enclosing : List (List ℕ) → List Waits → Option OperandPart → Option OperandReading
 enclosing names ws None = None
 enclosing names ws (Some part) = Some (reading names ws (Follows part))
 
 -- a bracket ends
-abbrev pub closes : List (List ℕ) → List Waits → Part → Option Reading
+abbrev pub closes : List (List ℕ) → List Waits → OperandPart → Option OperandReading
 closes names [] part = None
 closes names (Joining left joint ∷ ws) part = None
-closes names (Opened head ∷ ws) part = enclosing names ws (enclosed head part)
+closes names (Opened head ∷ ws) part = enclosing names ws (enclosed_part head part)
 closes names (Halfway head first ∷ ws) part = enclosing names ws (enclosed_two head first part)
 
 -- a comma comes, after the first of two parts
-abbrev pub halves : List (List ℕ) → List Waits → Part → Option Reading
+abbrev pub halves : List (List ℕ) → List Waits → OperandPart → Option OperandReading
 halves names [] part = None
 halves names (Joining left joint ∷ ws) part = None
 halves names (Opened Not ∷ ws) part = None
@@ -111,48 +111,48 @@ joint_of (Sign other) = None
 joint_of (Word word) = if bytes_eq word (codes "and") then Some And else if bytes_eq word (codes "or") then Some Or else None
 joint_of (NumberToken n) = None
 
-abbrev pub joining : List (List ℕ) → List Waits → Part → Option Joint → Option Reading
+abbrev pub joining : List (List ℕ) → List Waits → OperandPart → Option Joint → Option OperandReading
 joining names ws part None = None
 joining names ws part (Some joint) = do
-  r ← reduced (strength joint) ws part
+  r ← stack_reduction (strength joint) ws part
   Some (reading names (Joining r.1 joint ∷ r.0) Begins)
 
 -- a token after a part
-abbrev pub followed : List (List ℕ) → List Waits → Part → Token → Option Reading
-followed names ws part (Sign Close) = do
-  r ← reduced 1 ws part
+abbrev pub reading_after_part : List (List ℕ) → List Waits → OperandPart → Token → Option OperandReading
+reading_after_part names ws part (Sign Close) = do
+  r ← stack_reduction 1 ws part
   closes names r.0 r.1
-followed names ws part (Sign Comma) = do
-  r ← reduced 1 ws part
+reading_after_part names ws part (Sign Comma) = do
+  r ← stack_reduction 1 ws part
   halves names r.0 r.1
-followed names ws part token = joining names ws part (joint_of token)
+reading_after_part names ws part token = joining names ws part (joint_of token)
 
-abbrev pub turned : Scope → List (List ℕ) → List Waits → Next → Token → Option Reading
-turned scope names ws Begins token = begun scope names ws token
-turned scope names ws (Heads head) token = headed names ws head token
-turned scope names ws (Follows part) token = followed names ws part token
+abbrev pub reading_after_token : Scope → List (List ℕ) → List Waits → NextToken → Token → Option OperandReading
+reading_after_token scope names ws Begins token = reading_at_part scope names ws token
+reading_after_token scope names ws (Heads head) token = reading_after_head names ws head token
+reading_after_token scope names ws (Follows part) token = reading_after_part names ws part token
 
 -- one more token
-abbrev pub turn : Scope → Reading → Token → Option Reading
-turn scope r token = turned scope r.names r.waiting r.next token
+abbrev pub turn : Scope → OperandReading → Token → Option OperandReading
+turn scope r token = reading_after_token scope r.names r.waiting r.next token
 
 -- all tokens, one after the other
-abbrev pub run : Scope → List Token → Reading → Option Reading
+abbrev pub run : Scope → List Token → OperandReading → Option OperandReading
 run scope [] r = Some r
 run scope (token ∷ tokens) r = turn scope r token >>= run scope tokens
 
-abbrev pub alone : List (List ℕ) → List Waits × Part → Option (Part × List (List ℕ))
-alone names ([], part) = Some (part, names)
-alone names (w ∷ ws, part) = None
+abbrev pub sole_part : List (List ℕ) → List Waits × OperandPart → Option (OperandPart × List (List ℕ))
+sole_part names ([], part) = Some (part, names)
+sole_part names (w ∷ ws, part) = None
 
 -- the one part that is left at the end, and the private names
-abbrev pub ended : List (List ℕ) → List Waits → Next → Option (Part × List (List ℕ))
-ended names ws Begins = None
-ended names ws (Heads head) = None
-ended names ws (Follows part) = reduced 1 ws part >>= alone names
+abbrev pub part_at_end : List (List ℕ) → List Waits → NextToken → Option (OperandPart × List (List ℕ))
+part_at_end names ws Begins = None
+part_at_end names ws (Heads head) = None
+part_at_end names ws (Follows part) = stack_reduction 1 ws part >>= sole_part names
 
 -- what all tokens say
-abbrev pub read_part : Scope → List (List ℕ) → List Token → Option (Part × List (List ℕ))
+abbrev pub read_part : Scope → List (List ℕ) → List Token → Option (OperandPart × List (List ℕ))
 read_part scope names tokens = do
   r ← run scope tokens (reading names [] Begins)
-  ended r.names r.waiting r.next
+  part_at_end r.names r.waiting r.next

@@ -6,7 +6,7 @@ use Rattle.algorithm_texts.specs.declared.tokens.Token.{Token}
 use Rattle.algorithm_texts.specs.declared.filled.Filled.{Filled}
 use Rattle.algorithm_texts.specs.Parts.{◌>>=◌}
 use Rattle.algorithm_texts.specs.Fronts.{is_over}
-use Rattle.algorithm_texts.specs.TextReading.{Spoken, read_promises}
+use Rattle.algorithm_texts.specs.TextDrafts.{Spoken, read_promises}
 use Rattle.algorithm_texts.specs.Tokens.{LineSays}
 
 -- the bytes of lines, each ended by a line feed

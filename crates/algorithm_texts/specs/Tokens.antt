@@ -5,8 +5,8 @@ use Rattle.std.specs.Char.{is_ascii_digit, is_ascii_alphanumeric, is_ascii_lower
 use Rattle.std.specs.Str.Parse.{digits_value}
 use Rattle.algorithms.specs.declared.condition.Comparison.TheVariants.{Equal, NotEqual, Less, AtMost, Greater, AtLeast}
 use Rattle.algorithms.specs.declared.expression.Operator.TheVariants.{Sum, Difference, Product, Quotient, Remainder}
-use Rattle.algorithms.specs.declared.fault.LineFault.{LineFault}
-use Rattle.algorithms.specs.declared.fault.LineFault.TheVariants.{BadCharacter, BadForm, TooBig}
+use Rattle.algorithms.specs.declared.fault.ReadFault.{ReadFault}
+use Rattle.algorithms.specs.declared.fault.ReadFault.TheVariants.{BadCharacter, BadForm, TooBig}
 use Rattle.algorithm_texts.specs.declared.tokens.Sign.{Sign}
 use Rattle.algorithm_texts.specs.declared.tokens.Sign.TheVariants.{Assign, Colon, Comma, Open, Close, OpenIndex, CloseIndex, Operator, Comparison}
 use Rattle.algorithm_texts.specs.declared.tokens.Token.{Token}
@@ -19,9 +19,9 @@ abbrev pub is_name_byte : ℕ → Bool
 is_name_byte b = is_ascii_alphanumeric b || b == 95
 
 -- what a word names in this list
-abbrev pub named : {A : Type 0} → List (List ℕ × A) → List ℕ → Option A
-named [] word = None
-named (entry ∷ entries) word = if bytes_eq word entry.0 then Some entry.1 else named entries word
+abbrev pub value_of_name : {A : Type 0} → List (List ℕ × A) → List ℕ → Option A
+value_of_name [] word = None
+value_of_name (entry ∷ entries) word = if bytes_eq word entry.0 then Some entry.1 else value_of_name entries word
 
 -- the signs of two characters
 abbrev pub long_signs : List (List ℕ × Sign)
@@ -51,63 +51,63 @@ short_signs =
     ∷ []
 
 -- the token of these digits: no leading zero, and at most 64 bits
-unfoldable pub number_token : List ℕ → Result Token LineFault
+unfoldable pub number_token : List ℕ → Result Token ReadFault
 number_token digits =
     if nat_lt 1 (length digits) && slice_index digits 0 == 48 then Err BadForm
     else if nat_lt (digits_value 10 digits) (2 ^ 64) then Ok (Number (digits_value 10 digits))
     else Err TooBig
 
 -- the token of these letters, digits and `_`: a name of at most 32, but `mod` is a sign
-unfoldable pub word_token : List ℕ → Result Token LineFault
+unfoldable pub word_token : List ℕ → Result Token ReadFault
 word_token letters =
     if nat_lt 32 (length letters) then Err TooBig
     else if bytes_eq letters (codes "mod") then Ok (Mark (Operator Remainder))
     else Ok (Word letters)
 
 -- a sign that is found, of this size
-abbrev pub as_token : Option Sign → Result (Token × ℕ) LineFault → ℕ → Result (Token × ℕ) LineFault
+abbrev pub as_token : Option Sign → Result (Token × ℕ) ReadFault → ℕ → Result (Token × ℕ) ReadFault
 as_token (Some sign) other size = Ok (Mark sign, size)
 as_token None other size = other
 
 -- the longer sign of two characters, else that of one
-abbrev pub sign_token : List ℕ → Result (Token × ℕ) LineFault
-sign_token bytes = as_token (named long_signs (take 2 bytes)) (as_token (named short_signs (take 1 bytes)) (Err BadCharacter) 1) 2
+abbrev pub sign_token : List ℕ → Result (Token × ℕ) ReadFault
+sign_token bytes = as_token (value_of_name long_signs (take 2 bytes)) (as_token (value_of_name short_signs (take 1 bytes)) (Err BadCharacter) 1) 2
 
 -- a token of all of these bytes, and how many there are
-abbrev pub whole : List ℕ → Result Token LineFault → Result (Token × ℕ) LineFault
-whole bytes (Ok token) = Ok (token, length bytes)
-whole bytes (Err fault) = Err fault
+abbrev pub token_of_all_bytes : List ℕ → Result Token ReadFault → Result (Token × ℕ) ReadFault
+token_of_all_bytes bytes (Ok token) = Ok (token, length bytes)
+token_of_all_bytes bytes (Err fault) = Err fault
 
 -- the first token, and how many bytes it takes: all digits that come first, else all letters, digits and `_`, else a sign
-unfoldable pub first_token : List ℕ → Result (Token × ℕ) LineFault
+unfoldable pub first_token : List ℕ → Result (Token × ℕ) ReadFault
 first_token bytes =
-    if is_ascii_digit (slice_index bytes 0) then whole (take_while is_ascii_digit bytes) (number_token (take_while is_ascii_digit bytes))
-    else if is_name_byte (slice_index bytes 0) then whole (take_while is_name_byte bytes) (word_token (take_while is_name_byte bytes))
+    if is_ascii_digit (slice_index bytes 0) then token_of_all_bytes (take_while is_ascii_digit bytes) (number_token (take_while is_ascii_digit bytes))
+    else if is_name_byte (slice_index bytes 0) then token_of_all_bytes (take_while is_name_byte bytes) (word_token (take_while is_name_byte bytes))
     else sign_token bytes
 
 -- ---- the tokens of a line
 
 -- the bytes without the spaces at their front
-abbrev pub unspaced : List ℕ → List ℕ
-unspaced [] = []
-unspaced (b ∷ bs) = if b == 32 then unspaced bs else b ∷ bs
+abbrev pub without_front_spaces : List ℕ → List ℕ
+without_front_spaces [] = []
+without_front_spaces (b ∷ bs) = if b == 32 then without_front_spaces bs else b ∷ bs
 
 -- the word that an answer follows
-abbrev pub done : Token
-done = Word (codes "done")
+abbrev pub done_word : Token
+done_word = Word (codes "done")
 
 -- no token comes: the bytes end, or at this fault
-abbrev pub Stops : List ℕ → Result (List ℕ) LineFault → Type 0
-Stops [] end = end ≡ Ok []
-Stops (b ∷ bs) end = (fault : LineFault) × (first_token (b ∷ bs) ≡ Err fault) × (end ≡ Err fault)
+abbrev pub EndsTokens : List ℕ → Result (List ℕ) ReadFault → Type 0
+EndsTokens [] end = end ≡ Ok []
+EndsTokens (b ∷ bs) end = (fault : ReadFault) × (first_token (b ∷ bs) ≡ Err fault) × (end ≡ Err fault)
 
--- these tokens come one after the other, and then the end: what follows the word `done`, nothing, or a fault
-abbrev pub Scans : List ℕ → List Token → Result (List ℕ) LineFault → Type 0
-Scans bytes [] end = Stops (unspaced bytes) end
+-- these tokens come one after the other, and then the end: what follows the word `done_word`, nothing, or a fault
+abbrev pub Scans : List ℕ → List Token → Result (List ℕ) ReadFault → Type 0
+Scans bytes [] end = EndsTokens (without_front_spaces bytes) end
 Scans bytes (t ∷ ts) end =
     (size : ℕ)
-    × (first_token (unspaced bytes) ≡ Ok (t, size))
-    × (((t ≢ done) × Scans (drop size (unspaced bytes)) ts end) ⊎ ((t ≡ done) × (ts ≡ []) × (end ≡ Ok (drop size (unspaced bytes)))))
+    × (first_token (without_front_spaces bytes) ≡ Ok (t, size))
+    × (((t ≢ done_word) × Scans (drop size (without_front_spaces bytes)) ts end) ⊎ ((t ≡ done_word) × (ts ≡ []) × (end ≡ Ok (drop size (without_front_spaces bytes)))))
 
 -- printable ASCII
 abbrev pub is_printable : ℕ → Bool
@@ -129,29 +129,29 @@ abbrev pub is_answer_word : List ℕ → Bool
 is_answer_word word = list_all is_answer_part (slice_split (λ b. b == 45) word)
 
 -- an answer of these words, with one space between two. Where spaces stand together, the part between them is no word
-unfoldable pub answer_from : List (List ℕ) → Result (List ℕ) LineFault
+unfoldable pub answer_from : List (List ℕ) → Result (List ℕ) ReadFault
 answer_from parts = if list_all is_answer_word (filter is_filled parts) then Ok (join_with_byte 32 (filter is_filled parts)) else Err BadForm
 
 -- the answer that bytes say
-abbrev pub answer_of : List ℕ → Result (List ℕ) LineFault
+abbrev pub answer_of : List ℕ → Result (List ℕ) ReadFault
 answer_of bytes = answer_from (slice_split (λ b. b == 32) bytes)
 
 -- the tokens of a line, with the answer at its end, where it has one
-abbrev pub said : List Token → Result (List ℕ) LineFault → Result (List Token × List ℕ) LineFault
-said tokens (Ok answer) = Ok (tokens, answer)
-said tokens (Err fault) = Err fault
+abbrev pub tokens_with_answer : List Token → Result (List ℕ) ReadFault → Result (List Token × List ℕ) ReadFault
+tokens_with_answer tokens (Ok answer) = Ok (tokens, answer)
+tokens_with_answer tokens (Err fault) = Err fault
 
-abbrev pub answered : Result (List ℕ) LineFault → Result (List ℕ) LineFault
-answered (Ok rest) = answer_of rest
-answered (Err fault) = Err fault
+abbrev pub answer_at_end : Result (List ℕ) ReadFault → Result (List ℕ) ReadFault
+answer_at_end (Ok rest) = answer_of rest
+answer_at_end (Err fault) = Err fault
 
--- what a line says: its tokens and the answer after `done`, or its first fault. A byte that is not printable is the first
-abbrev pub LineSays : List ℕ → Result (List Token × List ℕ) LineFault → Type 0
+-- what a line says: its tokens and the answer after `done_word`, or its first fault. A byte that is not printable is the first
+abbrev pub LineSays : List ℕ → Result (List Token × List ℕ) ReadFault → Type 0
 LineSays line read =
     ((list_all is_printable line ≡ false) × (read ≡ Err BadCharacter))
     ⊎ ((list_all is_printable line ≡ true)
-    × (tokens : List Token) × (end : Result (List ℕ) LineFault) × Scans (before_comment line) tokens end × (read ≡ said tokens (answered end)))
+    × (tokens : List Token) × (end : Result (List ℕ) ReadFault) × Scans (before_comment line) tokens end × (read ≡ tokens_with_answer tokens (answer_at_end end)))
 
 -- a line says one thing
 abbrev pub SaysOnce : Type 0
-SaysOnce = (line : List ℕ) (a b : Result (List Token × List ℕ) LineFault) → LineSays line a → LineSays line b → a ≡ b
+SaysOnce = (line : List ℕ) (a b : Result (List Token × List ℕ) ReadFault) → LineSays line a → LineSays line b → a ≡ b

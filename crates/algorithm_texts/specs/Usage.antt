@@ -1,15 +1,15 @@
 -- What a line does with private names, with the deeds and with a withdraw, wherever it leads.
 use Rattle.std.specs.Prelude.{ℕ, nat_eq, Bool, true, false, not, ◌&&◌, ◌||◌, List, map, slice_get, Option, Some, None}
-use Rattle.algorithms.specs.declared.algorithm.Call.{Call}
-use Rattle.algorithms.specs.declared.algorithm.Call.TheVariants.{Lock}
+use Rattle.algorithms.specs.declared.algorithm.AlgorithmCall.{AlgorithmCall}
+use Rattle.algorithms.specs.declared.algorithm.AlgorithmCall.TheVariants.{Lock}
 use Rattle.algorithms.specs.declared.algorithm.Promises.{Promises}
-use Rattle.algorithms.specs.declared.line.Deed.{Deed}
-use Rattle.algorithms.specs.declared.line.Deed.TheVariants.{Begin, Ready, Enter, Reenter, Leave, Quit}
+use Rattle.algorithms.specs.declared.line.AlgorithmDeed.{AlgorithmDeed}
+use Rattle.algorithms.specs.declared.line.AlgorithmDeed.TheVariants.{Begin, Ready, Enter, Reenter, Leave, Quit}
 use Rattle.algorithm_texts.specs.declared.usage.Usage.{Usage}
 use Rattle.algorithm_texts.specs.declared.usage.Usage.TheVariants.{Reads, Sets, Begins, Ends}
 use Rattle.algorithm_texts.specs.Parts.{Term, Number, Private, Me, Procs, Limit, Joined, Formula, Compare, ComparePairs, Both, Either, Negated}
-use Rattle.algorithm_texts.specs.Drafts.{Act, Loading, Storing, Awaiting, LineForm, Accessing, Assigning, Noting, Going, Branching, Beginning, Repeating, Ending, PlacedLine, led}
-use Rattle.algorithm_texts.specs.TextReading.{call_number}
+use Rattle.algorithm_texts.specs.Drafts.{DraftAction, Loading, Storing, Awaiting, LineForm, Accessing, Assigning, Noting, Going, Branching, Beginning, Repeating, Ending, PlacedLine, form_with_place}
+use Rattle.algorithm_texts.specs.TextDrafts.{call_number}
 
 -- ---- names
 
@@ -30,7 +30,7 @@ index_reads name None = false
 index_reads name (Some index) = term_reads name index
 
 -- an `await` reads its name after it has set it
-abbrev pub act_reads : ℕ → Act → Bool
+abbrev pub act_reads : ℕ → DraftAction → Bool
 act_reads name (Loading k) = false
 act_reads name (Storing value) = term_reads name value
 act_reads name (Awaiting k until) = not (nat_eq k name) && formula_reads name until
@@ -43,7 +43,7 @@ reads name (Branching condition otherwise) = formula_reads name condition
 reads name (Repeating k members body) = nat_eq k name
 reads name other = false
 
-abbrev pub act_sets : ℕ → Act → Bool
+abbrev pub act_sets : ℕ → DraftAction → Bool
 act_sets name (Loading k) = nat_eq k name
 act_sets name (Storing value) = false
 act_sets name (Awaiting k until) = nat_eq k name
@@ -74,7 +74,7 @@ has_usage Ends = ends_loop
 -- ---- deeds and withdraws
 
 -- without order there are `enter` and `leave` alone, and `reenter` needs re-entry too
-abbrev pub deed_fits : Promises → Deed → Bool
+abbrev pub deed_fits : Promises → AlgorithmDeed → Bool
 deed_fits promises Enter = true
 deed_fits promises Leave = true
 deed_fits promises Begin = promises.order
@@ -87,7 +87,7 @@ may_withdraw (Accessing a) = a.may_withdraw
 may_withdraw other = false
 
 -- the deed of a line fits the promises, and it may withdraw in the lock alone
-abbrev pub fits : Promises → Call → LineForm → Bool
+abbrev pub fits : Promises → AlgorithmCall → LineForm → Bool
 fits promises call (Accessing a) = not a.may_withdraw || nat_eq (call_number call) (call_number Lock)
 fits promises call (Noting deed) = deed_fits promises deed
 fits promises call other = true
@@ -96,7 +96,7 @@ fits promises call other = true
 
 -- lines, wherever they lead
 abbrev pub uses : List PlacedLine → List LineForm
-uses lines = map (λ line. led 0 line.form) lines
+uses lines = map (λ line. form_with_place 0 line.form) lines
 
 -- whether there is a line at a place that passes the test
 abbrev pub passes_where : (LineForm → Bool) → Option LineForm → Bool

@@ -1,18 +1,18 @@
 //! Blocks and labels, and all lines of a call.
 
 ghost use Rattle.std.specs.Prelude.{◌≡◌, ◌∷◌, [], List, length, reverse, slice_get, Some, MatchOption, MatchResult, OnOk, IfErr, IsAscii};
-ghost use Rattle.algorithms.specs.declared.fault.LineFault.TheVariants.{OutOfMemory as NoMemory};
+ghost use Rattle.algorithms.specs.declared.fault.ReadFault.TheVariants.{OutOfMemory as NoMemory};
 ghost use Rattle.algorithm_texts.specs.declared.lines.Opened.{Opened as OpenedOf};
-ghost use Rattle.algorithm_texts.specs.Operands.{Refuses};
-ghost use Rattle.algorithm_texts.specs.Drafts.{drafted};
-ghost use Rattle.algorithm_texts.specs.LineReading.{Drafts, opening, closing, ended_at, read_test, read_then, read_if, is_loop_of, is_loop, is_looping, loops, loop_opened, read_for, else_in, read_else, going_round, end_in, read_end, read_label, read_statement, block_in};
+ghost use Rattle.algorithm_texts.specs.Operands.{RefusesOperand};
+ghost use Rattle.algorithm_texts.specs.Drafts.{draft_view};
+ghost use Rattle.algorithm_texts.specs.LineDrafts.{Drafts, opening, closing, ended_at, read_test, read_then, read_if, is_loop_of, is_loop, is_looping, loops, loop_opened, read_for, else_in, read_else, going_round, end_in, read_end, read_label, read_statement, block_in};
 
 use crate::lines::{Block, Draft, Label, Opened};
 use crate::names::new_name;
-use crate::parts::{after, after_word, begins_no_simple, ended, members_said, split_value};
+use crate::parts::{after, after_word, begins_no_simple, check_end, members_said, split_value};
 use crate::tokens::{Sign, Token, Tokens, is_sign, is_word};
 use algorithms::condition::Condition;
-use algorithms::fault::LineFault;
+use algorithms::fault::ReadFault;
 use algorithms::line::{LocalLine, Members};
 use std::alloc::Global;
 
@@ -77,11 +77,11 @@ fn end_block(blocks: &mut Vec<(usize, usize)>, block: usize, place: usize)
 
 impl Draft {
     /// Opens a block whose head is the line at `place`. `TooBig`: too many blocks are open.
-    fn open(&mut self, place: usize, kind: Block) -> Result<(), LineFault>
-        ensures { Drafts (drafted self.new) result (opening place kind (drafted self.old)) }
+    fn open(&mut self, place: usize, kind: Block) -> Result<(), ReadFault>
+        ensures { Drafts (draft_view self.new) result (opening place kind (draft_view self.old)) }
     {
         if self.opened.len() >= DEEPEST_BLOCK {
-            return Err(LineFault::TooBig);
+            return Err(ReadFault::TooBig);
         }
         let block = self.blocks.len();
         let from = self.algorithm.lines.len();
@@ -96,18 +96,18 @@ impl Draft {
     }
 
     /// The innermost block.
-    pub fn innermost(&self) -> Option<Opened>
-        ensures { MatchOption result ((drafted self.now).opened ≡ [])
-            (λ o. (rest : List OpenedOf) × ((drafted self.now).opened ≡ o ∷ rest)) }
+    pub fn innermost_block(&self) -> Option<Opened>
+        ensures { MatchOption result ((draft_view self.now).opened ≡ [])
+            (λ o. (rest : List OpenedOf) × ((draft_view self.now).opened ≡ o ∷ rest)) }
     {
         self.opened.last().copied()
     }
 
     /// Ends the innermost block.
     fn close(&mut self) -> Option<Opened>
-        ensures { MatchOption result ((drafted self.old).opened ≡ [])
-            (λ o. ((drafted self.old).opened ≡ o ∷ (drafted self.new).opened)
-            × (drafted self.new ≡ closing o (drafted self.new).opened (drafted self.old))) }
+        ensures { MatchOption result ((draft_view self.old).opened ≡ [])
+            (λ o. ((draft_view self.old).opened ≡ o ∷ (draft_view self.new).opened)
+            × (draft_view self.new ≡ closing o (draft_view self.new).opened (draft_view self.old))) }
     {
         let opened = self.opened.pop()?;
         let to = self.algorithm.lines.len();
@@ -120,11 +120,11 @@ impl Draft {
         &mut self,
         alloc: Global,
         tokens: &'t [Token],
-    ) -> Result<(usize, &'t [Token]), LineFault>
+    ) -> Result<(usize, &'t [Token]), ReadFault>
         ensures { MatchResult result
-            (λ r. (r.0 ≡ length (drafted self.old).lines)
-            × (read_test (drafted self.old) tokens.now ≡ Some (drafted self.new, r.1.now)))
-            (λ fault. Refuses fault (read_test (drafted self.old) tokens.now)) }
+            (λ r. (r.0 ≡ length (draft_view self.old).lines)
+            × (read_test (draft_view self.old) tokens.now ≡ Some (draft_view self.new, r.1.now)))
+            (λ fault. RefusesOperand fault (read_test (draft_view self.old) tokens.now)) }
     {
         let (test, rest) = split_value(tokens);
         let condition: Condition = self.condition(alloc, test)?;
@@ -143,39 +143,39 @@ impl Draft {
         place: usize,
         tokens: &[Token],
         answer: &[u8],
-    ) -> Result<(), LineFault>
+    ) -> Result<(), ReadFault>
         requires { IsAscii answer.now }
-        ensures { Drafts (drafted self.new) result (read_then place (drafted self.old) tokens.now answer.now) }
+        ensures { Drafts (draft_view self.new) result (read_then place (draft_view self.old) tokens.now answer.now) }
     {
-        self.simple(alloc, tokens, answer)?;
+        self.take_simple(alloc, tokens, answer)?;
         self.land(place);
         Ok(())
     }
 
     /// `if CONDITION then`, with a statement in the same line or a block after it.
-    fn branch(&mut self, alloc: Global, tokens: &[Token], answer: &[u8]) -> Result<(), LineFault>
+    fn branch(&mut self, alloc: Global, tokens: &[Token], answer: &[u8]) -> Result<(), ReadFault>
         requires { IsAscii answer.now }
-        ensures { Drafts (drafted self.new) result (read_if (drafted self.old) tokens.now answer.now) }
+        ensures { Drafts (draft_view self.new) result (read_if (draft_view self.old) tokens.now answer.now) }
     {
         let (place, rest) = self.test(alloc, tokens)?;
         if rest.is_empty() {
             self.open(place, Block::If)
         } else if begins_no_simple(rest) {
-            Err(LineFault::BadForm)
+            Err(ReadFault::BadForm)
         } else {
             self.then(alloc, place, rest, answer)
         }
     }
 
     /// Begins a loop. `NameTaken` where one round it sets its name.
-    fn begin_loop(&mut self, name: usize, members: Members) -> Result<(), LineFault>
-        ensures { Drafts (drafted self.new) result (loop_opened name members (drafted self.old)) }
+    fn begin_loop(&mut self, name: usize, members: Members) -> Result<(), ReadFault>
+        ensures { Drafts (draft_view self.new) result (loop_opened name members (draft_view self.old)) }
     {
         if is_looping(self.opened.as_slice(), name) {
-            return Err(LineFault::NameTaken);
+            return Err(ReadFault::NameTaken);
         }
         if loops(self.opened.as_slice()) >= DEEPEST_LOOP {
-            return Err(LineFault::TooBig);
+            return Err(ReadFault::TooBig);
         }
         let place = self.add_local(LocalLine::First {
             name,
@@ -186,46 +186,46 @@ impl Draft {
     }
 
     /// `for NAME in MEMBERS`.
-    fn loop_head(&mut self, alloc: Global, tokens: &[Token]) -> Result<(), LineFault>
-        ensures { Drafts (drafted self.new) result (read_for (drafted self.old) tokens.now) }
+    fn loop_head(&mut self, alloc: Global, tokens: &[Token]) -> Result<(), ReadFault>
+        ensures { Drafts (draft_view self.new) result (read_for (draft_view self.old) tokens.now) }
     {
         let name = self.name(alloc, tokens.first())?;
         if name < self.algorithm.lasting {
-            return Err(LineFault::NameTaken);
+            return Err(ReadFault::NameTaken);
         }
         let members = members_said(after(tokens, 1))?;
         self.begin_loop(name, members)
     }
 
     /// Ends the first part of a condition, and begins the second.
-    fn begin_other(&mut self) -> Result<(), LineFault>
-        ensures { Drafts (drafted self.new) result (else_in (drafted self.old).opened (drafted self.old)) }
+    fn begin_other(&mut self) -> Result<(), ReadFault>
+        ensures { Drafts (draft_view self.new) result (else_in (draft_view self.old).opened (draft_view self.old)) }
     {
         let place = self.add_local(LocalLine::Goto(0))?;
         match self.close() {
-            None => Err(LineFault::BadBlock),
+            None => Err(ReadFault::BadBlock),
             Some(opened) => match opened.kind {
                 Block::If => {
                     self.land(opened.place);
                     self.open(place, Block::Else)
                 }
-                Block::Else => Err(LineFault::BadBlock),
-                Block::For { .. } => Err(LineFault::BadBlock),
+                Block::Else => Err(ReadFault::BadBlock),
+                Block::For { .. } => Err(ReadFault::BadBlock),
             },
         }
     }
 
     /// `else`.
-    fn other(&mut self, tokens: &[Token]) -> Result<(), LineFault>
-        ensures { Drafts (drafted self.new) result (read_else (drafted self.old) tokens.now) }
+    fn take_else(&mut self, tokens: &[Token]) -> Result<(), ReadFault>
+        ensures { Drafts (draft_view self.new) result (read_else (draft_view self.old) tokens.now) }
     {
-        ended(tokens)?;
+        check_end(tokens)?;
         self.begin_other()
     }
 
     /// Adds the line that begins the next round of a loop, where the block is one.
-    fn go_round(&mut self, opened: Opened) -> Result<(), LineFault>
-        ensures ok { OnOk result (drafted self.new ≡ going_round opened.first opened.kind (drafted self.old)) }
+    fn go_round(&mut self, opened: Opened) -> Result<(), ReadFault>
+        ensures ok { OnOk result (draft_view self.new ≡ going_round opened.first opened.kind (draft_view self.old)) }
         ensures err { IfErr result (λ fault. fault ≡ NoMemory) }
     {
         match opened.kind {
@@ -243,10 +243,10 @@ impl Draft {
     }
 
     /// Ends the innermost block, and lets its first line lead past it.
-    fn end_innermost(&mut self) -> Result<(), LineFault>
-        ensures { Drafts (drafted self.new) result (end_in (drafted self.old).opened (drafted self.old)) }
+    fn end_innermost(&mut self) -> Result<(), ReadFault>
+        ensures { Drafts (draft_view self.new) result (end_in (draft_view self.old).opened (draft_view self.old)) }
     {
-        let opened = self.innermost().ok_or(LineFault::BadBlock)?;
+        let opened = self.innermost_block().ok_or(ReadFault::BadBlock)?;
         self.go_round(opened)?;
         self.close();
         self.land(opened.place);
@@ -254,29 +254,29 @@ impl Draft {
     }
 
     /// `end`.
-    fn end(&mut self, tokens: &[Token]) -> Result<(), LineFault>
-        ensures { Drafts (drafted self.new) result (read_end (drafted self.old) tokens.now) }
+    fn end(&mut self, tokens: &[Token]) -> Result<(), ReadFault>
+        ensures { Drafts (draft_view self.new) result (read_end (draft_view self.old) tokens.now) }
     {
-        ended(tokens)?;
+        check_end(tokens)?;
         self.end_innermost()
     }
 
     /// The innermost block, by its index.
     fn block(&self) -> Option<usize>
-        ensures { result ≡ block_in (drafted self.now).opened }
+        ensures { result ≡ block_in (draft_view self.now).opened }
     {
-        match self.innermost() {
+        match self.innermost_block() {
             Some(opened) => Some(opened.block),
             None => None,
         }
     }
 
     /// `NAME:`.
-    fn label(&mut self, tokens: &[Token]) -> Result<(), LineFault>
-        ensures { Drafts (drafted self.new) result (read_label (drafted self.old) tokens.now) }
+    fn label(&mut self, tokens: &[Token]) -> Result<(), ReadFault>
+        ensures { Drafts (draft_view self.new) result (read_label (draft_view self.old) tokens.now) }
     {
         let name = new_name(tokens.first())?;
-        ended(after(tokens, 2))?;
+        check_end(after(tokens, 2))?;
         let place = self.algorithm.lines.len();
         let block = self.block();
         let number = self.number;
@@ -290,10 +290,10 @@ impl Draft {
     }
 
     /// Reads a line of a call.
-    pub fn statement(&mut self, alloc: Global, line: &Tokens) -> Result<(), LineFault>
+    pub fn statement(&mut self, alloc: Global, line: &Tokens) -> Result<(), ReadFault>
         requires { IsAscii line.now.answer.items }
-        ensures { Drafts (drafted self.new) result
-            (read_statement (drafted self.old) line.now.all.items line.now.answer.items) }
+        ensures { Drafts (draft_view self.new) result
+            (read_statement (draft_view self.old) line.now.all.items line.now.answer.items) }
     {
         let tokens = line.all.as_slice();
         let first = tokens.first();
@@ -302,13 +302,13 @@ impl Draft {
         } else if is_word(first, b"for") {
             self.loop_head(alloc, after(tokens, 1))
         } else if is_word(first, b"else") {
-            self.other(after(tokens, 1))
+            self.take_else(after(tokens, 1))
         } else if is_word(first, b"end") {
             self.end(after(tokens, 1))
         } else if is_sign(tokens.get(1), Sign::Colon) {
             self.label(tokens)
         } else {
-            self.simple(alloc, tokens, line.answer.as_slice())
+            self.take_simple(alloc, tokens, line.answer.as_slice())
         }
     }
 }

@@ -2,23 +2,23 @@
 
 ghost use Rattle.std.specs.Prelude.{◌≡◌, ◌==◌, List, ℕ, length, reverse, Some, None, MatchResult, MatchOption, OnOk, IfOk, IfErr, IsAscii};
 ghost use Rattle.std.specs.Option.{option_copied, option_map};
-ghost use Rattle.algorithms.specs.declared.fault.LineFault.TheVariants.{OutOfMemory as NoMemory};
+ghost use Rattle.algorithms.specs.declared.fault.ReadFault.TheVariants.{OutOfMemory as NoMemory};
 ghost use Rattle.algorithm_texts.specs.Fronts.{named_by};
 ghost use Rattle.algorithm_texts.specs.Parts.{term_of};
-ghost use Rattle.algorithm_texts.specs.Operands.{Refuses};
-ghost use Rattle.algorithm_texts.specs.Drafts.{drafted};
-ghost use Rattle.algorithm_texts.specs.LineReading.{Drafts, scope_in, with_names};
-ghost use Rattle.algorithm_texts.specs.Tokens.{named};
-ghost use Rattle.algorithm_texts.specs.TextReading.{IsEmpty, call_words, has_call, ended_calls, end_call, with_call, read_call, is_bound, read_each, read_limit, read_bound, with_declaration, read_shared, read_private, read_declaration, read_line, number_in, read_numbers, read_head_words, read_head, promised, read_promises};
+ghost use Rattle.algorithm_texts.specs.Operands.{RefusesOperand};
+ghost use Rattle.algorithm_texts.specs.Drafts.{draft_view};
+ghost use Rattle.algorithm_texts.specs.LineDrafts.{Drafts, scope_in, with_names};
+ghost use Rattle.algorithm_texts.specs.Tokens.{value_of_name};
+ghost use Rattle.algorithm_texts.specs.TextDrafts.{IsEmpty, call_words, has_call, ended_calls, end_call, with_call, read_call, is_bound, read_each, read_limit, read_bound, with_declaration, read_shared, read_private, read_declaration, read_line, number_in, read_numbers, read_head_words, read_head, promise_at_front, read_promises};
 
 use crate::lines::{CallRead, Draft};
-use crate::names::{declare_private, new_name, undeclared};
-use crate::parts::{after, after_word, ended, letters, split_value};
-use crate::tokens::{Sign, Token, Tokens, Word, is_sign, is_word};
-use algorithms::algorithm::{Algorithm, Call, Declaration, Entries, Promises};
+use crate::names::{declare_private, new_name, undeclared_name};
+use crate::parts::{after, after_word, check_end, letters, split_value};
+use crate::tokens::{LineWord, Sign, Token, Tokens, is_sign, is_word};
+use algorithms::algorithm::{Algorithm, AlgorithmCall, Declaration, Entries, Promises};
 use algorithms::constants::MOST_PROCS;
 use algorithms::expression::Expression;
-use algorithms::fault::LineFault;
+use algorithms::fault::ReadFault;
 use std::alloc::Global;
 
 /// The most declarations of shared words.
@@ -40,7 +40,7 @@ fn empty_algorithm(
     name: &[u8],
     least: u64,
     most: u64,
-) -> Result<Algorithm, LineFault>
+) -> Result<Algorithm, ReadFault>
     requires { IsAscii name.now }
     ensures ok { IfOk result (λ a. IsEmpty a name.now least most) }
     ensures err { IfErr result (λ fault. fault ≡ NoMemory) }
@@ -81,29 +81,29 @@ fn numbers(tokens: &[Token]) -> Option<(u64, u64, &[Token])>
 }
 
 /// What a first line says: the name, and the least and the greatest number of processes.
-fn head_words(tokens: &[Token]) -> Result<(Word, u64, u64), LineFault>
+fn head_words(tokens: &[Token]) -> Result<(LineWord, u64, u64), ReadFault>
     ensures { MatchResult result (λ h. read_head_words tokens.now ≡ Some (h.0, h.1, h.2))
         (λ _. read_head_words tokens.now ≡ None) }
 {
     let rest = after_word(tokens, b"algorithm")?;
     let name = new_name(rest.first())?;
     let (least, most, rest) = numbers(after_word(after(rest, 1), b"for")?).ok_or(
-        LineFault::NoHeader,
+        ReadFault::NoHeader,
     )?;
-    ended(after_word(rest, b"processes")?)?;
+    check_end(after_word(rest, b"processes")?)?;
     Ok((name, least, most))
 }
 
 /// What a first line says, where its numbers are within their limits.
-fn limited_head(tokens: &[Token]) -> Result<(Word, u64, u64), LineFault>
+fn limited_head(tokens: &[Token]) -> Result<(LineWord, u64, u64), ReadFault>
     ensures { MatchResult result (λ h. read_head tokens.now ≡ Some (h.0, h.1, h.2))
         (λ _. read_head tokens.now ≡ None) }
 {
     match head_words(tokens) {
-        Err(_) => Err(LineFault::NoHeader),
+        Err(_) => Err(ReadFault::NoHeader),
         Ok((name, least, most)) => {
             if least == 0 || least > most || most > MOST_PROCS as u64 {
-                Err(LineFault::TooBig)
+                Err(ReadFault::TooBig)
             } else {
                 Ok((name, least, most))
             }
@@ -112,18 +112,18 @@ fn limited_head(tokens: &[Token]) -> Result<(Word, u64, u64), LineFault>
 }
 
 /// Reads the first line: `algorithm NAME for LEAST to MOST processes`.
-pub fn head(alloc: Global, line: &Tokens) -> Result<Algorithm, LineFault>
+pub fn head(alloc: Global, line: &Tokens) -> Result<Algorithm, ReadFault>
     ensures { MatchResult result
         (λ a. (h : List ℕ × ℕ × ℕ) × (read_head line.now.all.items ≡ Some h) × IsEmpty a h.0 h.1 h.2)
-        (λ fault. Refuses fault (read_head line.now.all.items)) }
+        (λ fault. RefusesOperand fault (read_head line.now.all.items)) }
 {
     let (name, least, most) = limited_head(line.all.as_slice())?;
     empty_algorithm(alloc, name.as_bytes(), least, most)
 }
 
 /// Whether a further promise comes next, and the tokens after it.
-fn promised<'t>(tokens: &'t [Token], word: &[u8]) -> (bool, &'t [Token])
-    ensures { promised tokens.now word.now ≡ (result.0, result.1.now) }
+fn promise_at_front<'t>(tokens: &'t [Token], word: &[u8]) -> (bool, &'t [Token])
+    ensures { promise_at_front tokens.now word.now ≡ (result.0, result.1.now) }
 {
     if is_sign(tokens.first(), Sign::Comma) && is_word(tokens.get(1), word) {
         (true, after(tokens, 2))
@@ -133,18 +133,18 @@ fn promised<'t>(tokens: &'t [Token], word: &[u8]) -> (bool, &'t [Token])
 }
 
 /// Reads the second line: `promises exclusion, reentry, order`, of which the last two may be left out.
-pub fn promises(line: &Tokens) -> Result<Promises, LineFault>
+pub fn promises(line: &Tokens) -> Result<Promises, ReadFault>
     ensures { MatchResult result (λ p. read_promises line.now.all.items ≡ Some p)
         (λ _. read_promises line.now.all.items ≡ None) }
 {
     let rest = match after_word(line.all.as_slice(), b"promises") {
         Ok(rest) => rest,
-        Err(_) => return Err(LineFault::NoHeader),
+        Err(_) => return Err(ReadFault::NoHeader),
     };
     let rest = after_word(rest, b"exclusion")?;
-    let (reentry, rest) = promised(rest, b"reentry");
-    let (order, rest) = promised(rest, b"order");
-    ended(rest)?;
+    let (reentry, rest) = promise_at_front(rest, b"reentry");
+    let (order, rest) = promise_at_front(rest, b"order");
+    check_end(rest)?;
     Ok(Promises { reentry, order })
 }
 
@@ -160,7 +160,7 @@ fn is_bound(value: &Expression) -> bool
 }
 
 /// Whether there is a word for each process, and the tokens after `[procs]`.
-fn each(tokens: &[Token]) -> Result<(bool, &[Token]), LineFault>
+fn each(tokens: &[Token]) -> Result<(bool, &[Token]), ReadFault>
     ensures { MatchResult result (λ e. read_each tokens.now ≡ Some (e.0, e.1.now)) (λ _. read_each tokens.now ≡ None) }
 {
     if !is_sign(tokens.first(), Sign::OpenIndex) {
@@ -169,35 +169,35 @@ fn each(tokens: &[Token]) -> Result<(bool, &[Token]), LineFault>
     if is_word(tokens.get(1), b"procs") && is_sign(tokens.get(2), Sign::CloseIndex) {
         return Ok((true, after(tokens, 3)));
     }
-    Err(LineFault::BadForm)
+    Err(ReadFault::BadForm)
 }
 
 /// The call whose name is this word.
-fn call_named(word: &[u8]) -> Option<Call>
-    ensures { result ≡ named call_words word.now }
+fn call_named(word: &[u8]) -> Option<AlgorithmCall>
+    ensures { result ≡ value_of_name call_words word.now }
 {
     if word == b"lock".as_slice() {
-        Some(Call::Lock)
+        Some(AlgorithmCall::Lock)
     } else if word == b"unlock".as_slice() {
-        Some(Call::Unlock)
+        Some(AlgorithmCall::Unlock)
     } else if word == b"recover".as_slice() {
-        Some(Call::Recover)
+        Some(AlgorithmCall::Recover)
     } else if word == b"withdraw".as_slice() {
-        Some(Call::Withdraw)
+        Some(AlgorithmCall::Withdraw)
     } else {
         None
     }
 }
 
 /// The call that a token names.
-fn call_of(token: Option<&Token>) -> Option<Call>
+fn call_of(token: Option<&Token>) -> Option<AlgorithmCall>
     ensures { result ≡ named_by call_words (option_copied token.entry) }
 {
     call_named(letters(token)?.as_bytes())
 }
 
 /// Whether a call was read.
-fn has_call(calls: &[CallRead], call: Call) -> bool
+fn has_call(calls: &[CallRead], call: AlgorithmCall) -> bool
     ensures { result ≡ has_call call (reverse calls.now) }
 {
     let mut found = false;
@@ -208,7 +208,7 @@ fn has_call(calls: &[CallRead], call: Call) -> bool
 }
 
 /// Lets the last call end at a place.
-fn end_last(calls: &mut Vec<CallRead>, to: usize, last: u64) -> Result<(), LineFault>
+fn end_last(calls: &mut Vec<CallRead>, to: usize, last: u64) -> Result<(), ReadFault>
     ensures ok { OnOk result (reverse calls.new.items ≡ ended_calls to last (reverse calls.old.items)) }
     ensures err { IfErr result (λ fault. fault ≡ NoMemory) }
 {
@@ -223,12 +223,12 @@ fn end_last(calls: &mut Vec<CallRead>, to: usize, last: u64) -> Result<(), LineF
 
 impl Draft {
     /// A bound after `up to`, up to the end of the line.
-    fn limit(&mut self, alloc: Global, tokens: &[Token]) -> Result<Expression, LineFault>
+    fn limit(&mut self, alloc: Global, tokens: &[Token]) -> Result<Expression, ReadFault>
         ensures limit { MatchResult result
-            (λ v. read_limit (scope_in (drafted self.old)) (drafted self.old).names tokens.now
-            ≡ Some (Some (term_of v), (drafted self.new).names))
-            (λ fault. Refuses fault (read_limit (scope_in (drafted self.old)) (drafted self.old).names tokens.now)) }
-        ensures kept { drafted self.new ≡ with_names (drafted self.new).names (drafted self.old) }
+            (λ v. read_limit (scope_in (draft_view self.old)) (draft_view self.old).names tokens.now
+            ≡ Some (Some (term_of v), (draft_view self.new).names))
+            (λ fault. RefusesOperand fault (read_limit (scope_in (draft_view self.old)) (draft_view self.old).names tokens.now)) }
+        ensures kept { draft_view self.new ≡ with_names (draft_view self.new).names (draft_view self.old) }
     {
         let rest = after_word(after_word(tokens, b"up")?, b"to")?;
         let (part, rest) = split_value(rest);
@@ -237,17 +237,17 @@ impl Draft {
         if rest.is_empty() && (is_bound(&value) && self.algorithm.names.len() == known) {
             Ok(value)
         } else {
-            Err(LineFault::BadForm)
+            Err(ReadFault::BadForm)
         }
     }
 
     /// A bound, where there is one, up to the end of the line.
-    fn bound(&mut self, alloc: Global, tokens: &[Token]) -> Result<Option<Expression>, LineFault>
+    fn bound(&mut self, alloc: Global, tokens: &[Token]) -> Result<Option<Expression>, ReadFault>
         ensures bound { MatchResult result
-            (λ b. read_bound (scope_in (drafted self.old)) (drafted self.old).names tokens.now
-            ≡ Some (option_map (λ v. term_of v) b, (drafted self.new).names))
-            (λ fault. Refuses fault (read_bound (scope_in (drafted self.old)) (drafted self.old).names tokens.now)) }
-        ensures kept { drafted self.new ≡ with_names (drafted self.new).names (drafted self.old) }
+            (λ b. read_bound (scope_in (draft_view self.old)) (draft_view self.old).names tokens.now
+            ≡ Some (option_map (λ v. term_of v) b, (draft_view self.new).names))
+            (λ fault. RefusesOperand fault (read_bound (scope_in (draft_view self.old)) (draft_view self.old).names tokens.now)) }
+        ensures kept { draft_view self.new ≡ with_names (draft_view self.new).names (draft_view self.old) }
     {
         if tokens.is_empty() {
             Ok(None)
@@ -263,10 +263,10 @@ impl Draft {
         name: &[u8],
         each: bool,
         bound: Option<Expression>,
-    ) -> Result<(), LineFault>
+    ) -> Result<(), ReadFault>
         requires { IsAscii name.now }
-        ensures ok { OnOk result (drafted self.new
-            ≡ with_declaration name.now each (option_map (λ v. term_of v) bound) (drafted self.old)) }
+        ensures ok { OnOk result (draft_view self.new
+            ≡ with_declaration name.now each (option_map (λ v. term_of v) bound) (draft_view self.old)) }
         ensures err { IfErr result (λ fault. fault ≡ NoMemory) }
     {
         let name = String::from_utf8_lossy(alloc, name)?;
@@ -277,12 +277,12 @@ impl Draft {
     }
 
     /// Reads `shared NAME`, with `[procs]` and a bound where they are there.
-    fn shared(&mut self, alloc: Global, tokens: &[Token]) -> Result<(), LineFault>
-        ensures { Drafts (drafted self.new) result (read_shared (drafted self.old) tokens.now) }
+    fn take_shared(&mut self, alloc: Global, tokens: &[Token]) -> Result<(), ReadFault>
+        ensures { Drafts (draft_view self.new) result (read_shared (draft_view self.old) tokens.now) }
     {
-        let name = undeclared(&self.algorithm, tokens.first())?;
+        let name = undeclared_name(&self.algorithm, tokens.first())?;
         if self.algorithm.declarations.len() >= MOST_DECLARATIONS {
-            return Err(LineFault::TooBig);
+            return Err(ReadFault::TooBig);
         }
         let (each, rest) = each(after(tokens, 1))?;
         let bound = self.bound(alloc, rest)?;
@@ -290,33 +290,33 @@ impl Draft {
     }
 
     /// Reads `private NAME`.
-    fn private(&mut self, alloc: Global, tokens: &[Token]) -> Result<(), LineFault>
-        ensures { Drafts (drafted self.new) result (read_private (drafted self.old) tokens.now) }
+    fn take_private(&mut self, alloc: Global, tokens: &[Token]) -> Result<(), ReadFault>
+        ensures { Drafts (draft_view self.new) result (read_private (draft_view self.old) tokens.now) }
     {
-        let name = undeclared(&self.algorithm, tokens.first())?;
+        let name = undeclared_name(&self.algorithm, tokens.first())?;
         declare_private(alloc, &mut self.algorithm, name.as_bytes())?;
-        ended(after(tokens, 1))
+        check_end(after(tokens, 1))
     }
 
     /// Reads a declaration, which begins with `shared` or `private`.
-    fn declaration(&mut self, alloc: Global, tokens: &[Token]) -> Result<(), LineFault>
-        ensures { Drafts (drafted self.new) result (read_declaration (drafted self.old) tokens.now) }
+    fn declaration(&mut self, alloc: Global, tokens: &[Token]) -> Result<(), ReadFault>
+        ensures { Drafts (draft_view self.new) result (read_declaration (draft_view self.old) tokens.now) }
     {
         if is_word(tokens.first(), b"shared") {
-            self.shared(alloc, after(tokens, 1))
+            self.take_shared(alloc, after(tokens, 1))
         } else if is_word(tokens.first(), b"private") {
-            self.private(alloc, after(tokens, 1))
+            self.take_private(alloc, after(tokens, 1))
         } else {
-            Err(LineFault::BadForm)
+            Err(ReadFault::BadForm)
         }
     }
 
     /// Ends the call that was read last, if there is one. `BadBlock` where a block of it has no end.
-    pub fn end_call(&mut self, last: u64) -> Result<(), LineFault>
-        ensures { Drafts (drafted self.new) result (end_call last (drafted self.old)) }
+    pub fn end_call(&mut self, last: u64) -> Result<(), ReadFault>
+        ensures { Drafts (draft_view self.new) result (end_call last (draft_view self.old)) }
     {
-        match self.innermost() {
-            Some(_) => Err(LineFault::BadBlock),
+        match self.innermost_block() {
+            Some(_) => Err(ReadFault::BadBlock),
             None => {
                 let to = self.algorithm.lines.len();
                 end_last(&mut self.calls, to, last)
@@ -325,8 +325,8 @@ impl Draft {
     }
 
     /// Adds a call that begins at the next line.
-    fn add_call(&mut self, call: Call) -> Result<(), LineFault>
-        ensures ok { OnOk result (drafted self.new ≡ with_call call (drafted self.old)) }
+    fn add_call(&mut self, call: AlgorithmCall) -> Result<(), ReadFault>
+        ensures ok { OnOk result (draft_view self.new ≡ with_call call (draft_view self.old)) }
         ensures err { IfErr result (λ fault. fault ≡ NoMemory) }
     {
         let from = self.algorithm.lines.len();
@@ -342,30 +342,30 @@ impl Draft {
     }
 
     /// Begins a call.
-    fn begin_call(&mut self, tokens: &[Token], last: u64) -> Result<(), LineFault>
-        ensures { Drafts (drafted self.new) result (read_call (drafted self.old) tokens.now last) }
+    fn begin_call(&mut self, tokens: &[Token], last: u64) -> Result<(), ReadFault>
+        ensures { Drafts (draft_view self.new) result (read_call (draft_view self.old) tokens.now last) }
     {
         self.end_call(last)?;
-        let call = call_of(tokens.first()).ok_or(LineFault::BadForm)?;
-        ended(after(tokens, 1))?;
+        let call = call_of(tokens.first()).ok_or(ReadFault::BadForm)?;
+        check_end(after(tokens, 1))?;
         if has_call(self.calls.as_slice(), call) {
-            return Err(LineFault::BadCall);
+            return Err(ReadFault::BadCall);
         }
         self.add_call(call)
     }
 
     /// Whether no call was read yet.
     fn is_before_calls(&self) -> bool
-        ensures { result ≡ (length (drafted self.now).calls == 0) }
+        ensures { result ≡ (length (draft_view self.now).calls == 0) }
     {
         self.calls.is_empty()
     }
 
     /// Reads a line after the first two. `last` is the number of the line before it that is not empty.
-    pub fn line(&mut self, alloc: Global, line: &Tokens, last: u64) -> Result<(), LineFault>
+    pub fn line(&mut self, alloc: Global, line: &Tokens, last: u64) -> Result<(), ReadFault>
         requires { IsAscii line.now.answer.items }
-        ensures { Drafts (drafted self.new) result
-            (read_line (drafted self.old) line.now.all.items line.now.answer.items last) }
+        ensures { Drafts (draft_view self.new) result
+            (read_line (draft_view self.old) line.now.all.items line.now.answer.items last) }
     {
         let tokens = line.all.as_slice();
         if is_word(tokens.first(), b"call") {

@@ -1,25 +1,25 @@
 //! The labels, the names, the deeds and the withdraws of a call that was read.
 
 ghost use Rattle.std.specs.Prelude.{◌≡◌, ◌&&◌, ◌≤◌, ◌<◌, ◌↔◌, ℕ, true, map, length, slice_get, bytes_eq, position, Some, OnOk, IsTrue};
-ghost use Rattle.algorithm_texts.specs.Drafts.{drafted, form_of, led, line_of};
-ghost use Rattle.algorithm_texts.specs.Finishing.{is_label_in, label_named, is_within, reachable, target_of, jump_led, jumps_led, call_led};
+ghost use Rattle.algorithm_texts.specs.Drafts.{draft_view, form_of, form_with_place, line_of};
+ghost use Rattle.algorithm_texts.specs.FinishedDrafts.{is_label_in, label_named, is_within, reachable_place, target_of, jump_led, jumps_led, call_led};
 ghost use Rattle.algorithm_texts.specs.Lawful.{LabelsDiffer, HasLine, HasLoop, IsInLoop, IsKnown, LineFits, LinesFit};
 ghost use Rattle.algorithm_texts.specs.Usage.{reads, sets, has_usage, deed_fits, fits, uses, passes_at};
 
 use crate::lines::{CallRead, Draft, Jump, Label, lead_line};
 use crate::usage::{Usage, has_usage};
-use algorithms::algorithm::{Call, Promises};
-use algorithms::fault::{AlgorithmFault, LineFault};
-use algorithms::line::{Deed, Form, Line, LocalLine};
+use algorithms::algorithm::{AlgorithmCall, Promises};
+use algorithms::fault::{AlgorithmFault, ReadFault};
+use algorithms::line::{AlgorithmDeed, AlgorithmLine, LineKind, LocalLine};
 
 /// Whether a deed fits what is promised.
-fn deed_fits(deed: Deed, promises: Promises) -> bool
+fn deed_fits(deed: AlgorithmDeed, promises: Promises) -> bool
     ensures { result ≡ deed_fits promises deed }
 {
     match deed {
-        Deed::Enter | Deed::Leave => true,
-        Deed::Begin | Deed::Ready | Deed::Quit => promises.order,
-        Deed::Reenter => promises.order && promises.reentry,
+        AlgorithmDeed::Enter | AlgorithmDeed::Leave => true,
+        AlgorithmDeed::Begin | AlgorithmDeed::Ready | AlgorithmDeed::Quit => promises.order,
+        AlgorithmDeed::Reenter => promises.order && promises.reentry,
     }
 }
 
@@ -64,8 +64,8 @@ pub fn is_within(block: (usize, usize), at: usize) -> bool
 }
 
 /// The place of a label, where it can be reached from this place: it stands in no block that the place isn't in.
-fn reachable(blocks: &[(usize, usize)], at: usize, label: Label) -> Option<usize>
-    ensures { result ≡ reachable blocks.now at label.place label.block }
+fn reachable_place(blocks: &[(usize, usize)], at: usize, label: Label) -> Option<usize>
+    ensures { result ≡ reachable_place blocks.now at label.place label.block }
 {
     match label.block {
         None => Some(label.place),
@@ -85,11 +85,11 @@ fn target(labels: &[Label], blocks: &[(usize, usize)], call: CallRead, jump: Jum
     ensures { result ≡ target_of labels.now blocks.now call jump }
 {
     let label = label_named(labels, call, jump.name.as_bytes())?;
-    reachable(blocks, jump.place, label)
+    reachable_place(blocks, jump.place, label)
 }
 
 /// The number of the line at a place.
-fn number_at(lines: &[Line], place: usize) -> u64 {
+fn number_at(lines: &[AlgorithmLine], place: usize) -> u64 {
     match lines.get(place) {
         Some(line) => line.number,
         None => 0,
@@ -98,7 +98,7 @@ fn number_at(lines: &[Line], place: usize) -> u64 {
 
 /// Lets a goto of a call lead to its label.
 fn lead(
-    lines: &mut Vec<Line>,
+    lines: &mut Vec<AlgorithmLine>,
     labels: &[Label],
     blocks: &[(usize, usize)],
     call: CallRead,
@@ -113,13 +113,13 @@ fn lead(
             lead_line(lines, place, target);
             Ok(())
         }
-        None => Err(LineFault::BadLabel.at(number_at(lines.as_slice(), place))),
+        None => Err(ReadFault::BadLabel.at(number_at(lines.as_slice(), place))),
     }
 }
 
 /// Lets the gotos of a call lead to their labels.
 fn resolve(
-    lines: &mut Vec<Line>,
+    lines: &mut Vec<AlgorithmLine>,
     labels: &[Label],
     blocks: &[(usize, usize)],
     call: CallRead,
@@ -137,20 +137,20 @@ fn resolve(
 }
 
 /// The deed and the withdraw of one line.
-fn check_deed(promises: Promises, call: Call, form: &Form) -> Result<(), LineFault>
+fn check_deed(promises: Promises, call: AlgorithmCall, form: &LineKind) -> Result<(), ReadFault>
     ensures { OnOk result (fits promises call (form_of form.now) ≡ true) }
 {
     match form {
-        Form::Local(LocalLine::Note(deed)) => {
+        LineKind::Local(LocalLine::Note(deed)) => {
             if deed_fits(*deed, promises) {
                 Ok(())
             } else {
-                Err(LineFault::BadDeed)
+                Err(ReadFault::BadDeed)
             }
         }
-        Form::Access(access) => {
-            if access.may_withdraw && call != Call::Lock {
-                Err(LineFault::BadCall)
+        LineKind::Access(access) => {
+            if access.may_withdraw && call != AlgorithmCall::Lock {
+                Err(ReadFault::BadCall)
             } else {
                 Ok(())
             }
@@ -162,13 +162,13 @@ fn check_deed(promises: Promises, call: Call, form: &Form) -> Result<(), LineFau
 impl Draft {
     /// `NameTaken` at the first label whose name another one of the call has before it.
     fn check_labels(&self, call: CallRead) -> Result<(), AlgorithmFault>
-        ensures { OnOk result (LabelsDiffer (drafted self.now).labels call) }
+        ensures { OnOk result (LabelsDiffer (draft_view self.now).labels call) }
     {
         for (at, label) in self.labels.iter().enumerate() {
             if is_in(label, call)
                 && !is_first(self.labels.as_slice(), call, label.name.as_bytes(), at)
             {
-                return Err(LineFault::NameTaken.at(label.number));
+                return Err(ReadFault::NameTaken.at(label.number));
             }
         }
         Ok(())
@@ -176,7 +176,7 @@ impl Draft {
 
     /// Whether the line at a place uses a name so.
     pub fn uses_at(&self, usage: Usage, name: usize, place: usize) -> bool
-        ensures { result ≡ passes_at (has_usage usage name) (uses (drafted self.now).lines) place }
+        ensures { result ≡ passes_at (has_usage usage name) (uses (draft_view self.now).lines) place }
     {
         match self.algorithm.lines.get(place) {
             Some(line) => has_usage(&line.form, usage, name),
@@ -186,7 +186,7 @@ impl Draft {
 
     /// Whether a line of the call uses a name so.
     fn has_line(&self, call: CallRead, usage: Usage, name: usize) -> bool
-        ensures { IsTrue result ↔ HasLine (uses (drafted self.now).lines) call (has_usage usage name) }
+        ensures { IsTrue result ↔ HasLine (uses (draft_view self.now).lines) call (has_usage usage name) }
     {
         for place in call.from..call.to {
             if self.uses_at(usage, name, place) {
@@ -199,7 +199,7 @@ impl Draft {
     /// Whether a place is in a loop with this name.
     fn is_in_loop(&self, call: CallRead, name: usize, place: usize) -> bool
         requires { call.«from» ≤ place }
-        ensures { IsTrue result → IsInLoop (uses (drafted self.now).lines) call name place }
+        ensures { IsTrue result → IsInLoop (uses (draft_view self.now).lines) call name place }
     {
         let mut inside = false;
         for at in call.from..place {
@@ -212,7 +212,7 @@ impl Draft {
     /// Whether a place knows this name.
     fn is_known(&self, call: CallRead, name: usize, place: usize) -> bool
         requires { call.«from» ≤ place }
-        ensures { IsTrue result → IsKnown (uses (drafted self.now).lines) call (drafted self.now).lasting name place }
+        ensures { IsTrue result → IsKnown (uses (draft_view self.now).lines) call (draft_view self.now).lasting name place }
     {
         if self.has_line(call, Usage::Begins, name) {
             self.is_in_loop(call, name, place)
@@ -222,40 +222,40 @@ impl Draft {
     }
 
     /// `UnknownName` where a line reads a name that it does not know.
-    fn check_read(&self, call: CallRead, place: usize) -> Result<(), LineFault>
+    fn check_read(&self, call: CallRead, place: usize) -> Result<(), ReadFault>
         requires { call.«from» ≤ place }
-        ensures { OnOk result ((name : ℕ) → name < length (drafted self.now).names
-            → passes_at (reads name) (uses (drafted self.now).lines) place ≡ true
-            → IsKnown (uses (drafted self.now).lines) call (drafted self.now).lasting name place) }
+        ensures { OnOk result ((name : ℕ) → name < length (draft_view self.now).names
+            → passes_at (reads name) (uses (draft_view self.now).lines) place ≡ true
+            → IsKnown (uses (draft_view self.now).lines) call (draft_view self.now).lasting name place) }
     {
         for name in 0..self.algorithm.names.len() {
             if self.uses_at(Usage::Reads, name, place) && !self.is_known(call, name, place) {
-                return Err(LineFault::UnknownName);
+                return Err(ReadFault::UnknownName);
             }
         }
         Ok(())
     }
 
     /// `NotAssignable` where a line sets a name of a loop.
-    fn check_loops(&self, call: CallRead, place: usize) -> Result<(), LineFault>
-        ensures { OnOk result ((name : ℕ) → name < length (drafted self.now).names
-            → passes_at (sets name) (uses (drafted self.now).lines) place ≡ true
-            → HasLoop (uses (drafted self.now).lines) call name → ⊥) }
+    fn check_loops(&self, call: CallRead, place: usize) -> Result<(), ReadFault>
+        ensures { OnOk result ((name : ℕ) → name < length (draft_view self.now).names
+            → passes_at (sets name) (uses (draft_view self.now).lines) place ≡ true
+            → HasLoop (uses (draft_view self.now).lines) call name → ⊥) }
     {
         for name in 0..self.algorithm.names.len() {
             if self.uses_at(Usage::Sets, name, place) && self.has_line(call, Usage::Begins, name) {
-                return Err(LineFault::NotAssignable);
+                return Err(ReadFault::NotAssignable);
             }
         }
         Ok(())
     }
 
     /// The names, the deed and the withdraw of one line.
-    fn check_form(&self, call: CallRead, place: usize, form: &Form) -> Result<(), LineFault>
+    fn check_form(&self, call: CallRead, place: usize, form: &LineKind) -> Result<(), ReadFault>
         requires beginning { call.«from» ≤ place }
-        requires there { slice_get (uses (drafted self.now).lines) place ≡ Some (led 0 (form_of form.now)) }
-        ensures { OnOk result (LineFits (uses (drafted self.now).lines) (drafted self.now).head.promises (drafted self.now).lasting
-            (length (drafted self.now).names) call place) }
+        requires there { slice_get (uses (draft_view self.now).lines) place ≡ Some (form_with_place 0 (form_of form.now)) }
+        ensures { OnOk result (LineFits (uses (draft_view self.now).lines) (draft_view self.now).head.promises (draft_view self.now).lasting
+            (length (draft_view self.now).names) call place) }
     {
         self.check_read(call, place)?;
         self.check_loops(call, place)?;
@@ -265,8 +265,8 @@ impl Draft {
     /// The names, the deed and the withdraw of the line at a place.
     fn check_line(&self, call: CallRead, place: usize) -> Result<(), AlgorithmFault>
         requires { call.«from» ≤ place }
-        ensures { OnOk result (LineFits (uses (drafted self.now).lines) (drafted self.now).head.promises (drafted self.now).lasting
-            (length (drafted self.now).names) call place) }
+        ensures { OnOk result (LineFits (uses (draft_view self.now).lines) (draft_view self.now).head.promises (draft_view self.now).lasting
+            (length (draft_view self.now).names) call place) }
     {
         match self.algorithm.lines.get(place) {
             Some(line) => match self.check_form(call, place, &line.form) {
@@ -279,8 +279,8 @@ impl Draft {
 
     /// The names, the deeds and the withdraws of all lines of a call.
     fn check_lines(&self, call: CallRead) -> Result<(), AlgorithmFault>
-        ensures { OnOk result ((at : ℕ) → is_within (call.«from», call.to) at ≡ true → LineFits (uses (drafted self.now).lines)
-            (drafted self.now).head.promises (drafted self.now).lasting (length (drafted self.now).names) call at) }
+        ensures { OnOk result ((at : ℕ) → is_within (call.«from», call.to) at ≡ true → LineFits (uses (draft_view self.now).lines)
+            (draft_view self.now).head.promises (draft_view self.now).lasting (length (draft_view self.now).names) call at) }
     {
         for place in call.from..call.to {
             self.check_line(call, place)?;
@@ -290,8 +290,8 @@ impl Draft {
 
     /// The labels, the names, the deeds and the withdraws of a call.
     pub fn check_call(&mut self, call: CallRead) -> Result<(), AlgorithmFault>
-        ensures led { OnOk result (call_led (drafted self.old) call ≡ Some (drafted self.new)) }
-        ensures fits { OnOk result (LinesFit (drafted self.new) call) }
+        ensures led { OnOk result (call_led (draft_view self.old) call ≡ Some (draft_view self.new)) }
+        ensures fits { OnOk result (LinesFit (draft_view self.new) call) }
     {
         self.check_labels(call)?;
         resolve(

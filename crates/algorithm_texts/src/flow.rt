@@ -2,22 +2,22 @@
 
 ghost use Rattle.std.specs.Prelude.{◌≡◌, ◌+◌, ◌-◌, ◌^◌, ◌<◌, ◌≤◌, ℕ, true, [], ◌∷◌, None, Some, IfOk, MatchOption, length, slice_set, if◌then◌else◌};
 ghost use Rattle.std.specs.List.{find};
-ghost use Rattle.algorithm_texts.specs.Drafts.{drafted, form_of, line_of, local_form};
-ghost use Rattle.algorithm_texts.specs.Finishing.{is_in, is_within, ways};
-ghost use Rattle.algorithm_texts.specs.Marks.{listed, is_free, free_of, free_way, past_marked, marks_from, IsClosed, Keeps};
-ghost use Rattle.algorithm_texts.specs.Runs.{is_access, goes_on, ways_from, Comes, IsReached, IsReachedWithout, way_past, past_from};
+ghost use Rattle.algorithm_texts.specs.Drafts.{draft_view, form_of, line_of, local_form};
+ghost use Rattle.algorithm_texts.specs.FinishedDrafts.{is_in, is_within, ways};
+ghost use Rattle.algorithm_texts.specs.Marks.{places_of_ways, is_free, free_of, free_way, past_marked, marks_from, IsClosed, KeepsMarks};
+ghost use Rattle.algorithm_texts.specs.Runs.{is_access, goes_on, ways_from, RunComesTo, IsPlaceReached, IsReachedWithout, way_past, past_from};
 
 use crate::checks::is_within;
 use crate::lines::{CallRead, Draft};
 use crate::marks::is_in;
 use crate::usage::{begins_loop, ends_loop, sets};
-use algorithms::line::{Form, LocalLine};
+use algorithms::line::{LineKind, LocalLine};
 use algorithms::ranks::has_round;
 use std::alloc::{AllocError, Global};
 
 /// Which runs are asked for.
 #[derive(Clone, Copy)]
-pub enum Runs {
+pub enum RunKind {
     All,
     /// Those without an access.
     Silent,
@@ -34,7 +34,7 @@ pub struct Ways {
 
 /// No place: nothing follows.
 fn no_way() -> Ways
-    ensures { listed result ≡ [] }
+    ensures { places_of_ways result ≡ [] }
 {
     Ways {
         first: None,
@@ -44,7 +44,7 @@ fn no_way() -> Ways
 
 /// One place follows.
 fn one_way(place: usize) -> Ways
-    ensures { listed result ≡ place ∷ [] }
+    ensures { places_of_ways result ≡ place ∷ [] }
 {
     Ways {
         first: Some(place),
@@ -54,7 +54,7 @@ fn one_way(place: usize) -> Ways
 
 /// One of two places follows.
 fn two_ways(first: usize, second: usize) -> Ways
-    ensures { listed result ≡ first ∷ (second ∷ []) }
+    ensures { places_of_ways result ≡ first ∷ (second ∷ []) }
 {
     Ways {
         first: Some(first),
@@ -64,7 +64,7 @@ fn two_ways(first: usize, second: usize) -> Ways
 
 /// Where a local line leads, where `least` is the least number of processes and `next` the place of the line after it.
 fn local_ways(line: &LocalLine, least: u64, next: usize) -> Ways
-    ensures { listed result ≡ ways least next (local_form line.now) }
+    ensures { places_of_ways result ≡ ways least next (local_form line.now) }
 {
     match line {
         LocalLine::Assign { .. } => one_way(next),
@@ -83,46 +83,46 @@ fn local_ways(line: &LocalLine, least: u64, next: usize) -> Ways
 }
 
 /// Where a line leads.
-fn form_ways(form: &Form, least: u64, next: usize) -> Ways
-    ensures { listed result ≡ ways least next (form_of form.now) }
+fn form_ways(form: &LineKind, least: u64, next: usize) -> Ways
+    ensures { places_of_ways result ≡ ways least next (form_of form.now) }
 {
     match form {
-        Form::Access(_) => one_way(next),
-        Form::Local(line) => local_ways(line, least, next),
-        Form::Done(_) => no_way(),
+        LineKind::Access(_) => one_way(next),
+        LineKind::Local(line) => local_ways(line, least, next),
+        LineKind::Done(_) => no_way(),
     }
 }
 
 /// Whether a line loads or stores a word.
-pub fn is_access(form: &Form) -> bool
+pub fn is_access(form: &LineKind) -> bool
     ensures { result ≡ is_access (form_of form.now) }
 {
     match form {
-        Form::Access(_) => true,
-        Form::Local(_) | Form::Done(_) => false,
+        LineKind::Access(_) => true,
+        LineKind::Local(_) | LineKind::Done(_) => false,
     }
 }
 
 /// Whether runs of this kind go on after a line.
-fn goes_on(runs: Runs, form: &Form) -> bool
+fn goes_on(runs: RunKind, form: &LineKind) -> bool
     ensures { result ≡ goes_on runs (form_of form.now) }
 {
     match runs {
-        Runs::All => true,
-        Runs::Silent => !is_access(form),
-        Runs::Without(name) => {
+        RunKind::All => true,
+        RunKind::Silent => !is_access(form),
+        RunKind::Without(name) => {
             !(sets(form, name) || (begins_loop(form, name) || ends_loop(form, name)))
         }
     }
 }
 
 /// The place after a loop with this name, at the lines from which a run can go on there.
-fn way_past(form: &Form, name: usize, least: u64, next: usize) -> Option<usize>
+fn way_past(form: &LineKind, name: usize, least: u64, next: usize) -> Option<usize>
     ensures { result ≡ way_past name least next (form_of form.now) }
 {
     match form {
-        Form::Local(line) => local_way_past(line, name, least, next),
-        Form::Access(_) | Form::Done(_) => None,
+        LineKind::Local(line) => local_way_past(line, name, least, next),
+        LineKind::Access(_) | LineKind::Done(_) => None,
     }
 }
 
@@ -173,7 +173,7 @@ pub fn is_free(marks: &[bool], place: usize) -> bool
 
 /// The first of these places that is not marked.
 fn first_free(marks: &[bool], ways: Ways) -> Option<usize>
-    ensures { result ≡ find (is_free marks.now) (listed ways) }
+    ensures { result ≡ find (is_free marks.now) (places_of_ways ways) }
 {
     match ways.first {
         Some(way) => {
@@ -199,8 +199,8 @@ fn free_of(marks: &[bool], way: Option<usize>) -> Option<usize>
 
 impl Draft {
     /// The places to which a line of the call leads.
-    pub fn ways_from(&self, call: CallRead, runs: Runs, place: usize) -> Ways
-        ensures { listed result ≡ ways_from (drafted self.now) call runs place }
+    pub fn ways_from(&self, call: CallRead, runs: RunKind, place: usize) -> Ways
+        ensures { places_of_ways result ≡ ways_from (draft_view self.now) call runs place }
     {
         if !is_within((call.from, call.to), place) {
             return no_way();
@@ -212,10 +212,10 @@ impl Draft {
     }
 
     /// The places to which runs of this kind go from a line, if they go on after it.
-    fn ways_of(&self, runs: Runs, place: usize, form: &Form) -> Ways
+    fn ways_of(&self, runs: RunKind, place: usize, form: &LineKind) -> Ways
         requires { place < 2 ^ 64 - 1 }
-        ensures { listed result
-            ≡ (if goes_on runs (form_of form.now) then ways (drafted self.now).head.least (place + 1) (form_of form.now) else []) }
+        ensures { places_of_ways result
+            ≡ (if goes_on runs (form_of form.now) then ways (draft_view self.now).head.least (place + 1) (form_of form.now) else []) }
     {
         if goes_on(runs, form) {
             form_ways(form, self.algorithm.least, place + 1)
@@ -225,8 +225,8 @@ impl Draft {
     }
 
     /// A place that is not marked, to which a line that is marked leads.
-    fn free_way(&self, call: CallRead, runs: Runs, marks: &[bool], place: usize) -> Option<usize>
-        ensures { result ≡ free_way (drafted self.now) call runs marks.now place }
+    fn free_way(&self, call: CallRead, runs: RunKind, marks: &[bool], place: usize) -> Option<usize>
+        ensures { result ≡ free_way (draft_view self.now) call runs marks.now place }
     {
         if is_in(marks, place) {
             first_free(marks, self.ways_from(call, runs, place))
@@ -236,9 +236,9 @@ impl Draft {
     }
 
     /// A place that is not marked, to which one of the lines that are marked leads.
-    fn next_free(&self, call: CallRead, runs: Runs, marks: &[bool]) -> Option<usize>
-        ensures { MatchOption result ((at : ℕ) → free_way (drafted self.now) call runs marks.now at ≡ None)
-            (λ way. (at : ℕ) × (free_way (drafted self.now) call runs marks.now at ≡ Some way)) }
+    fn next_free(&self, call: CallRead, runs: RunKind, marks: &[bool]) -> Option<usize>
+        ensures { MatchOption result ((at : ℕ) → free_way (draft_view self.now) call runs marks.now at ≡ None)
+            (λ way. (at : ℕ) × (free_way (draft_view self.now) call runs marks.now at ≡ Some way)) }
     {
         for place in call.from..call.to {
             if let Some(way) = self.free_way(call, runs, marks, place) {
@@ -249,12 +249,12 @@ impl Draft {
     }
 
     /// Marks all places to which runs come from those that are marked.
-    fn spread(&self, call: CallRead, runs: Runs, marks: &mut [bool])
+    fn spread(&self, call: CallRead, runs: RunKind, marks: &mut [bool])
         ensures size { length marks.new ≡ length marks.old }
-        ensures kept { Keeps marks.old marks.new }
-        ensures closed { IsClosed (drafted self.now) call runs marks.new }
+        ensures kept { KeepsMarks marks.old marks.new }
+        ensures closed { IsClosed (draft_view self.now) call runs marks.new }
         ensures comes { (at : ℕ) → is_in marks.new at ≡ true
-            → Comes (drafted self.now) call runs (λ first. is_in marks.old first ≡ true) at }
+            → RunComesTo (draft_view self.now) call runs (λ first. is_in marks.old first ≡ true) at }
     {
         while let Some(place) = self.next_free(call, runs, marks) {
             mark(marks, place);
@@ -268,7 +268,7 @@ impl Draft {
         call: CallRead,
         first: bool,
     ) -> Result<Vec<bool>, AllocError>
-        ensures { IfOk result (λ marks. marks.items ≡ marks_from (length (drafted self.now).lines + 1) call.«from» first) }
+        ensures { IfOk result (λ marks. marks.items ≡ marks_from (length (draft_view self.now).lines + 1) call.«from» first) }
     {
         let mut marks = vec![in alloc; false; self.algorithm.lines.len() + 1]?;
         if first {
@@ -278,17 +278,17 @@ impl Draft {
     }
 
     /// The places to which runs of the call come, among those of lines and the place after the last.
-    pub fn reached(
+    pub fn reached_places(
         &self,
         alloc: Global,
         call: CallRead,
-        runs: Runs,
+        runs: RunKind,
     ) -> Result<Vec<bool>, AllocError>
-        ensures size { IfOk result (λ marks. length marks.items ≡ length (drafted self.now).lines + 1) }
+        ensures size { IfOk result (λ marks. length marks.items ≡ length (draft_view self.now).lines + 1) }
         ensures comes { IfOk result (λ marks. (at : ℕ) → is_in marks.items at ≡ true
-            → Comes (drafted self.now) call runs (λ first. first ≡ call.«from») at) }
-        ensures all { IfOk result (λ marks. (at : ℕ) → at ≤ length (drafted self.now).lines
-            → Comes (drafted self.now) call runs (λ first. first ≡ call.«from») at → is_in marks.items at ≡ true) }
+            → RunComesTo (draft_view self.now) call runs (λ first. first ≡ call.«from») at) }
+        ensures all { IfOk result (λ marks. (at : ℕ) → at ≤ length (draft_view self.now).lines
+            → RunComesTo (draft_view self.now) call runs (λ first. first ≡ call.«from») at → is_in marks.items at ≡ true) }
     {
         let mut marks = self.marks_from(alloc, call, true)?;
         self.spread(call, runs, marks.as_mut_slice());
@@ -297,7 +297,7 @@ impl Draft {
 
     /// The place after a loop with this name, where a run can go on there from this place.
     fn past_from(&self, call: CallRead, name: usize, place: usize) -> Option<usize>
-        ensures { result ≡ past_from (drafted self.now) call name place }
+        ensures { result ≡ past_from (draft_view self.now) call name place }
     {
         if !is_within((call.from, call.to), place) {
             return None;
@@ -311,8 +311,9 @@ impl Draft {
     /// Marks the places after loops with this name, where one of these places is a line from which a run can go on there.
     fn mark_past(&self, call: CallRead, name: usize, reached: &[bool], marks: &mut [bool])
         ensures size { length marks.new ≡ length marks.old }
-        ensures kept { Keeps marks.old marks.new }
-        ensures marked { (at way : ℕ) → past_marked (drafted self.now) call name reached.now at ≡ Some way → way < length marks.new
+        ensures kept { KeepsMarks marks.old marks.new }
+        ensures marked { (at way : ℕ) → past_marked (draft_view self.now) call name reached.now at ≡ Some way
+            → way < length marks.new
             → is_in marks.new way ≡ true }
     {
         for place in call.from..call.to {
@@ -330,7 +331,7 @@ impl Draft {
         reached: &[bool],
         place: usize,
     ) -> Option<usize>
-        ensures { result ≡ past_marked (drafted self.now) call name reached.now place }
+        ensures { result ≡ past_marked (draft_view self.now) call name reached.now place }
     {
         if is_in(reached, place) {
             self.past_from(call, name, place)
@@ -347,13 +348,14 @@ impl Draft {
         name: usize,
         reached: &[bool],
     ) -> Result<Vec<bool>, AllocError>
-        ensures { (at : ℕ) → ((before : ℕ) → before ≤ length (drafted self.now).lines → IsReached (drafted self.now) call before
-            → is_in reached.now before ≡ true) → IfOk result (λ marks. at ≤ length (drafted self.now).lines
-            → IsReachedWithout (drafted self.now) call name at → is_in marks.items at ≡ true) }
+        ensures { (at : ℕ)
+            → ((before : ℕ) → before ≤ length (draft_view self.now).lines → IsPlaceReached (draft_view self.now) call before
+            → is_in reached.now before ≡ true) → IfOk result (λ marks. at ≤ length (draft_view self.now).lines
+            → IsReachedWithout (draft_view self.now) call name at → is_in marks.items at ≡ true) }
     {
         let mut marks = self.marks_from(alloc, call, self.algorithm.lasting <= name)?;
         self.mark_past(call, name, reached, marks.as_mut_slice());
-        self.spread(call, Runs::Without(name), marks.as_mut_slice());
+        self.spread(call, RunKind::Without(name), marks.as_mut_slice());
         Ok(marks)
     }
 }

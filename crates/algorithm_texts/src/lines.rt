@@ -2,20 +2,20 @@
 
 ghost use Rattle.std.specs.Prelude.{◌≡◌, map, length, slice_get, Some, MatchResult, IfOk, IfErr, OnOk};
 ghost use Rattle.std.specs.Option.{option_copied};
-ghost use Rattle.algorithms.specs.declared.fault.LineFault.TheVariants.{OutOfMemory as NoMemory};
+ghost use Rattle.algorithms.specs.declared.fault.ReadFault.TheVariants.{OutOfMemory as NoMemory};
 ghost use Rattle.algorithm_texts.specs.Parts.{term_of, formula_of};
-ghost use Rattle.algorithm_texts.specs.Operands.{Refuses, MakesName};
-ghost use Rattle.algorithm_texts.specs.Drafts.{drafted, form_of, local_form, line_of, led, leading};
-ghost use Rattle.algorithm_texts.specs.LineReading.{scope_in, read_value, read_condition, name_set, with_names, with_form, landing, is_each};
+ghost use Rattle.algorithm_texts.specs.Operands.{RefusesOperand, MakesName};
+ghost use Rattle.algorithm_texts.specs.Drafts.{draft_view, form_of, local_form, line_of, form_with_place, leading};
+ghost use Rattle.algorithm_texts.specs.LineDrafts.{scope_in, read_value, read_condition, name_set, with_names, with_form, landing, is_each};
 
 use crate::names::name_set;
-use crate::tokens::{Token, Word};
+use crate::tokens::{LineWord, Token};
 use crate::values::{condition, value};
-use algorithms::algorithm::{Algorithm, Call};
+use algorithms::algorithm::{Algorithm, AlgorithmCall};
 use algorithms::condition::Condition;
 use algorithms::expression::Expression;
-use algorithms::fault::LineFault;
-use algorithms::line::{Form, Line, LocalLine, Members};
+use algorithms::fault::ReadFault;
+use algorithms::line::{AlgorithmLine, LineKind, LocalLine, Members};
 use std::alloc::Global;
 
 /// A block whose end is not read yet: the place of its first line, and what it is.
@@ -39,7 +39,7 @@ pub enum Block {
 /// A label: its name, its place, the block in which it stands, and its line.
 #[derive(Clone, Copy)]
 pub struct Label {
-    pub name: Word,
+    pub name: LineWord,
     pub place: usize,
     pub block: Option<usize>,
     pub number: u64,
@@ -49,13 +49,13 @@ pub struct Label {
 #[derive(Clone, Copy)]
 pub struct Jump {
     pub place: usize,
-    pub name: Word,
+    pub name: LineWord,
 }
 
 /// A call that was read: its lines, from a place to a place, and the number of the line that begins it.
 #[derive(Clone, Copy)]
 pub struct CallRead {
-    pub call: Call,
+    pub call: AlgorithmCall,
     pub from: usize,
     pub to: usize,
     pub number: u64,
@@ -79,7 +79,7 @@ pub struct Draft {
 
 /// Lets a goto, or a local line that leads past a block, lead to this place.
 fn lead_local(line: &mut LocalLine, place: usize)
-    ensures { local_form line.new ≡ led place (local_form line.old) }
+    ensures { local_form line.new ≡ form_with_place place (local_form line.old) }
 {
     match line {
         LocalLine::Branch { otherwise, .. } => *otherwise = place,
@@ -90,17 +90,17 @@ fn lead_local(line: &mut LocalLine, place: usize)
 }
 
 /// Lets a goto, or a line that leads past a block, lead to this place.
-fn lead_to(form: &mut Form, place: usize)
-    ensures { form_of form.new ≡ led place (form_of form.old) }
+fn lead_to(form: &mut LineKind, place: usize)
+    ensures { form_of form.new ≡ form_with_place place (form_of form.old) }
 {
     match form {
-        Form::Local(line) => lead_local(line, place),
-        Form::Access(_) | Form::Done(_) => {}
+        LineKind::Local(line) => lead_local(line, place),
+        LineKind::Access(_) | LineKind::Done(_) => {}
     }
 }
 
 /// Lets the line at a place lead to another one.
-pub fn lead_line(lines: &mut Vec<Line>, place: usize, target: usize)
+pub fn lead_line(lines: &mut Vec<AlgorithmLine>, place: usize, target: usize)
     ensures { map line_of lines.new.items
         ≡ leading (map line_of lines.old.items) place target (slice_get (map line_of lines.old.items) place) }
 {
@@ -111,68 +111,68 @@ pub fn lead_line(lines: &mut Vec<Line>, place: usize, target: usize)
 
 impl Draft {
     /// Adds a line, and answers its place.
-    pub fn add(&mut self, form: Form) -> Result<usize, LineFault>
-        ensures place { IfOk result (λ place. place ≡ length (drafted self.old).lines) }
-        ensures ok { OnOk result (drafted self.new ≡ with_form (form_of form) (drafted self.old)) }
+    pub fn add(&mut self, form: LineKind) -> Result<usize, ReadFault>
+        ensures place { IfOk result (λ place. place ≡ length (draft_view self.old).lines) }
+        ensures ok { OnOk result (draft_view self.new ≡ with_form (form_of form) (draft_view self.old)) }
         ensures err { IfErr result (λ fault. fault ≡ NoMemory) }
     {
         let place = self.algorithm.lines.len();
         let number = self.number;
-        self.algorithm.lines.push(Line { number, form })?;
+        self.algorithm.lines.push(AlgorithmLine { number, form })?;
         Ok(place)
     }
 
     /// Adds a line that touches no shared word, and answers its place.
-    pub fn add_local(&mut self, line: LocalLine) -> Result<usize, LineFault>
-        ensures place { IfOk result (λ place. place ≡ length (drafted self.old).lines) }
-        ensures ok { OnOk result (drafted self.new ≡ with_form (local_form line) (drafted self.old)) }
+    pub fn add_local(&mut self, line: LocalLine) -> Result<usize, ReadFault>
+        ensures place { IfOk result (λ place. place ≡ length (draft_view self.old).lines) }
+        ensures ok { OnOk result (draft_view self.new ≡ with_form (local_form line) (draft_view self.old)) }
         ensures err { IfErr result (λ fault. fault ≡ NoMemory) }
     {
-        self.add(Form::Local(line))
+        self.add(LineKind::Local(line))
     }
 
     /// Lets a line that leads past a block lead to the next place.
     pub fn land(&mut self, place: usize)
-        ensures { drafted self.new ≡ landing place (drafted self.old) }
+        ensures { draft_view self.new ≡ landing place (draft_view self.old) }
     {
         let next = self.algorithm.lines.len();
         lead_line(&mut self.algorithm.lines, place, next);
     }
 
     /// The value that the tokens say.
-    pub fn value(&mut self, alloc: Global, tokens: &[Token]) -> Result<Expression, LineFault>
+    pub fn value(&mut self, alloc: Global, tokens: &[Token]) -> Result<Expression, ReadFault>
         ensures value { MatchResult result
-            (λ v. read_value (scope_in (drafted self.old)) (drafted self.old).names tokens.now
-            ≡ Some (term_of v, (drafted self.new).names))
-            (λ fault. Refuses fault (read_value (scope_in (drafted self.old)) (drafted self.old).names tokens.now)) }
-        ensures kept { drafted self.new ≡ with_names (drafted self.new).names (drafted self.old) }
+            (λ v. read_value (scope_in (draft_view self.old)) (draft_view self.old).names tokens.now
+            ≡ Some (term_of v, (draft_view self.new).names))
+            (λ fault. RefusesOperand fault (read_value (scope_in (draft_view self.old)) (draft_view self.old).names tokens.now)) }
+        ensures kept { draft_view self.new ≡ with_names (draft_view self.new).names (draft_view self.old) }
     {
         value(alloc, &mut self.algorithm, tokens)
     }
 
     /// The condition that the tokens say.
-    pub fn condition(&mut self, alloc: Global, tokens: &[Token]) -> Result<Condition, LineFault>
+    pub fn condition(&mut self, alloc: Global, tokens: &[Token]) -> Result<Condition, ReadFault>
         ensures condition { MatchResult result
-            (λ c. read_condition (scope_in (drafted self.old)) (drafted self.old).names tokens.now
-            ≡ Some (formula_of c, (drafted self.new).names))
-            (λ fault. Refuses fault (read_condition (scope_in (drafted self.old)) (drafted self.old).names tokens.now)) }
-        ensures kept { drafted self.new ≡ with_names (drafted self.new).names (drafted self.old) }
+            (λ c. read_condition (scope_in (draft_view self.old)) (draft_view self.old).names tokens.now
+            ≡ Some (formula_of c, (draft_view self.new).names))
+            (λ fault. RefusesOperand fault (read_condition (scope_in (draft_view self.old)) (draft_view self.old).names tokens.now)) }
+        ensures kept { draft_view self.new ≡ with_names (draft_view self.new).names (draft_view self.old) }
     {
         condition(alloc, &mut self.algorithm, tokens)
     }
 
     /// The private name that a line sets.
-    pub fn name(&mut self, alloc: Global, token: Option<&Token>) -> Result<usize, LineFault>
-        ensures name { MakesName (drafted self.new).names result
-            (name_set (scope_in (drafted self.old)) (drafted self.old).names (option_copied token.entry)) }
-        ensures kept { drafted self.new ≡ with_names (drafted self.new).names (drafted self.old) }
+    pub fn name(&mut self, alloc: Global, token: Option<&Token>) -> Result<usize, ReadFault>
+        ensures name { MakesName (draft_view self.new).names result
+            (name_set (scope_in (draft_view self.old)) (draft_view self.old).names (option_copied token.entry)) }
+        ensures kept { draft_view self.new ≡ with_names (draft_view self.new).names (draft_view self.old) }
     {
         name_set(alloc, &mut self.algorithm, token)
     }
 
     /// Whether a declaration has a word for each process.
     pub fn has_index(&self, declaration: usize) -> bool
-        ensures { result ≡ is_each (slice_get (drafted self.now).each declaration) }
+        ensures { result ≡ is_each (slice_get (draft_view self.now).each declaration) }
     {
         match self.algorithm.declarations.get(declaration) {
             Some(declared) => declared.each,

@@ -4,11 +4,11 @@ ghost use Rattle.std.specs.Prelude.{◌≡◌, ◌&&◌, ◌+◌, not, map, slic
 ghost use Rattle.std.specs.List.{list_all};
 ghost use Rattle.std.specs.Option.{option_copied};
 ghost use Rattle.algorithm_texts.specs.Drafts.{form_of, head_of, line_of, lines_of, local_form};
-ghost use Rattle.algorithm_texts.specs.Finishing.{is_way, is_in, ways, line_stays, lines_stay, is_marked_where, entries_marked, EndsAt, EndSome};
+ghost use Rattle.algorithm_texts.specs.FinishedDrafts.{is_way, is_in, ways, line_stays, lines_stay, is_marked_where, entries_marked, EndsAt, EndSome};
 
 use crate::lines::CallRead;
 use algorithms::algorithm::{Algorithm, Entries};
-use algorithms::line::{Form, Line, LocalLine};
+use algorithms::line::{AlgorithmLine, LineKind, LocalLine};
 use algorithms::ranks::has_round;
 
 /// Marks the places of a call that are reached.
@@ -51,18 +51,18 @@ fn local_stays(least: u64, marks: &[bool], next: usize, line: &LocalLine) -> boo
 }
 
 /// Whether a line leads to places that are marked alone.
-fn form_stays(least: u64, marks: &[bool], next: usize, form: &Form) -> bool
+fn form_stays(least: u64, marks: &[bool], next: usize, form: &LineKind) -> bool
     ensures { result ≡ list_all (is_in marks.now) (ways least next (form_of form.now)) }
 {
     match form {
-        Form::Access(_) => is_in(marks, next),
-        Form::Local(line) => local_stays(least, marks, next, line),
-        Form::Done(_) => true,
+        LineKind::Access(_) => is_in(marks, next),
+        LineKind::Local(line) => local_stays(least, marks, next, line),
+        LineKind::Done(_) => true,
     }
 }
 
 /// Whether the line at a place leads to places that are marked alone, where its own is.
-fn line_stays(least: u64, marks: &[bool], place: usize, next: usize, line: &Line) -> bool
+fn line_stays(least: u64, marks: &[bool], place: usize, next: usize, line: &AlgorithmLine) -> bool
     requires { next ≡ place + 1 }
     ensures { result ≡ line_stays least marks.now place (form_of line.now.form) }
 {
@@ -70,7 +70,7 @@ fn line_stays(least: u64, marks: &[bool], place: usize, next: usize, line: &Line
 }
 
 /// Whether all lines lead from places that are marked to such places alone.
-fn lines_stay(least: u64, marks: &[bool], lines: &[Line]) -> bool
+fn lines_stay(least: u64, marks: &[bool], lines: &[AlgorithmLine]) -> bool
     ensures { result ≡ lines_stay least marks.now 0 (map line_of lines.now) }
 {
     let mut place = 0;
@@ -127,26 +127,26 @@ fn is_local_way(line: &LocalLine) -> bool
 }
 
 /// Whether it is such a way.
-fn is_way(form: &Form) -> bool
+fn is_way(form: &LineKind) -> bool
     ensures { result ≡ is_way (form_of form.now) }
 {
     match form {
-        Form::Local(line) => is_local_way(line),
-        Form::Access(_) | Form::Done(_) => false,
+        LineKind::Local(line) => is_local_way(line),
+        LineKind::Access(_) | LineKind::Done(_) => false,
     }
 }
 
 /// Lets a line end its call, where it is such a way and is not marked.
-fn end_way(line: &mut Line, mark: bool)
+fn end_way(line: &mut AlgorithmLine, mark: bool)
     ensures { EndsAt mark (line_of line.old) (line_of line.new) }
 {
     if !mark && is_way(&line.form) {
-        line.form = Form::Done(0);
+        line.form = LineKind::Done(0);
     }
 }
 
 /// Lets the line at a place end its call, where it is such a way and is not marked.
-fn end_at(lines: &mut Vec<Line>, place: usize, marks: &[bool])
+fn end_at(lines: &mut Vec<AlgorithmLine>, place: usize, marks: &[bool])
     ensures { EndSome marks.now 0 (map line_of lines.old.items) (map line_of lines.new.items) }
 {
     let mark = is_in(marks, place);
@@ -158,7 +158,7 @@ fn end_at(lines: &mut Vec<Line>, place: usize, marks: &[bool])
 /// Lets each line to which no run comes end its call, where it is such a way. It has no text of its own: after a block that
 /// always ends in `goto` or `done`, it is the way past an `else`, or back to the head of a loop. What it is does not matter,
 /// since no run comes there. But there may be no line to which it would lead, and an end leads to none.
-pub fn end_unmarked(lines: &mut Vec<Line>, marks: &[bool])
+pub fn end_unmarked(lines: &mut Vec<AlgorithmLine>, marks: &[bool])
     ensures { EndSome marks.now 0 (map line_of lines.old.items) (map line_of lines.new.items) }
 {
     for place in 0..marks.len() {

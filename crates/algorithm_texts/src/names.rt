@@ -3,16 +3,16 @@
 ghost use Rattle.std.specs.Prelude.{◌≡◌, ◌≤◌, ◌<◌, ◌+◌, ◌⊎◌, ◌++◌, ◌∷◌, [], ◌||◌, IsAscii, OnOk, position, bytes_eq, if◌then◌else◌, Some, None, length, MatchResult};
 ghost use Rattle.std.specs.List.{list_any};
 ghost use Rattle.std.specs.Option.{option_copied};
-ghost use Rattle.algorithm_texts.specs.Grammar.{is_among, placed};
+ghost use Rattle.algorithm_texts.specs.Grammar.{is_among, private_name_part};
 ghost use Rattle.algorithm_texts.specs.Operands.{MakesName, names_of, declared_of, scope_of, reserved};
-ghost use Rattle.algorithms.specs.declared.fault.LineFault.TheVariants.{OutOfMemory as NoMemory};
-ghost use Rattle.algorithm_texts.specs.LineReading.{is_constant, new_name, name_set};
-ghost use Rattle.algorithm_texts.specs.TextReading.{undeclared};
+ghost use Rattle.algorithms.specs.declared.fault.ReadFault.TheVariants.{OutOfMemory as NoMemory};
+ghost use Rattle.algorithm_texts.specs.LineDrafts.{is_constant, new_name, name_set};
+ghost use Rattle.algorithm_texts.specs.TextDrafts.{undeclared_name};
 
-use crate::tokens::{Token, Word};
+use crate::tokens::{LineWord, Token};
 use algorithms::algorithm::Algorithm;
 use algorithms::expression::NAMES;
-use algorithms::fault::LineFault;
+use algorithms::fault::ReadFault;
 use std::alloc::Global;
 
 /// The words of the format. The promises' words are not among them.
@@ -111,21 +111,21 @@ fn index_of(algorithm: &Algorithm, word: &[u8]) -> Option<usize>
 }
 
 /// A word as a new name: no word of the format.
-pub fn new_name(token: Option<&Token>) -> Result<Word, LineFault>
+pub fn new_name(token: Option<&Token>) -> Result<LineWord, ReadFault>
     ensures { MatchResult result (λ word. new_name (option_copied token.entry) ≡ Some word)
         (λ _. new_name (option_copied token.entry) ≡ None) }
 {
     match token {
         Some(Token::Word(word)) => {
             if is_constant(word.as_bytes()) {
-                Err(LineFault::NotAssignable)
+                Err(ReadFault::NotAssignable)
             } else if is_reserved(word.as_bytes()) {
-                Err(LineFault::NameTaken)
+                Err(ReadFault::NameTaken)
             } else {
                 Ok(*word)
             }
         }
-        Some(Token::Sign(_) | Token::Number(_)) | None => Err(LineFault::BadForm),
+        Some(Token::Sign(_) | Token::Number(_)) | None => Err(ReadFault::BadForm),
     }
 }
 
@@ -144,24 +144,24 @@ fn is_private(algorithm: &Algorithm, word: &[u8]) -> bool
 }
 
 /// Adds a private name, and answers its index. `TooBig` where there are as many as can be.
-fn add_name(alloc: Global, algorithm: &mut Algorithm, word: &[u8]) -> Result<usize, LineFault>
+fn add_name(alloc: Global, algorithm: &mut Algorithm, word: &[u8]) -> Result<usize, ReadFault>
     requires { IsAscii word.now }
-    ensures place { MakesName (names_of algorithm.new) result (placed 32 (names_of algorithm.old) word.now None) }
+    ensures place { MakesName (names_of algorithm.new) result (private_name_part 32 (names_of algorithm.old) word.now None) }
     ensures kept { algorithm.new ≡ record algorithm.old { names = algorithm.new.names } }
 {
     let index = algorithm.names.len();
     if index >= NAMES {
-        return Err(LineFault::TooBig);
+        return Err(ReadFault::TooBig);
     }
     algorithm.names.push(String::from_utf8_lossy(alloc, word)?)?;
     Ok(index)
 }
 
 /// The index of a private name, which is added where it is new.
-fn place_of(alloc: Global, algorithm: &mut Algorithm, word: &[u8]) -> Result<usize, LineFault>
+fn place_of(alloc: Global, algorithm: &mut Algorithm, word: &[u8]) -> Result<usize, ReadFault>
     requires { IsAscii word.now }
     ensures place { MakesName (names_of algorithm.new) result
-        (placed 32 (names_of algorithm.old) word.now (position (λ name. bytes_eq name word.now) (names_of algorithm.old))) }
+        (private_name_part 32 (names_of algorithm.old) word.now (position (λ name. bytes_eq name word.now) (names_of algorithm.old))) }
     ensures kept { algorithm.new ≡ record algorithm.old { names = algorithm.new.names } }
 {
     match index_of(algorithm, word) {
@@ -175,31 +175,31 @@ pub fn name_set(
     alloc: Global,
     algorithm: &mut Algorithm,
     token: Option<&Token>,
-) -> Result<usize, LineFault>
+) -> Result<usize, ReadFault>
     ensures name { MakesName (names_of algorithm.new) result
         (name_set (scope_of algorithm.old) (names_of algorithm.old) (option_copied token.entry)) }
     ensures kept { algorithm.new ≡ record algorithm.old { names = algorithm.new.names } }
 {
     let word = new_name(token)?;
     if is_declared(algorithm, word.as_bytes()) {
-        return Err(LineFault::NotAssignable);
+        return Err(ReadFault::NotAssignable);
     }
     place_of(alloc, algorithm, word.as_bytes())
 }
 
 /// The private name that a value reads.
-pub fn name_read(alloc: Global, algorithm: &mut Algorithm, word: &[u8]) -> Result<usize, LineFault>
+pub fn name_read(alloc: Global, algorithm: &mut Algorithm, word: &[u8]) -> Result<usize, ReadFault>
     requires { IsAscii word.now }
     ensures place { MakesName (names_of algorithm.new) result
         (if is_among reserved word.now || is_among (declared_of algorithm.old) word.now then None
-        else placed 32 (names_of algorithm.old) word.now (position (λ name. bytes_eq name word.now) (names_of algorithm.old))) }
+        else private_name_part 32 (names_of algorithm.old) word.now (position (λ name. bytes_eq name word.now) (names_of algorithm.old))) }
     ensures kept { algorithm.new ≡ record algorithm.old { names = algorithm.new.names } }
 {
     if is_reserved(word) {
-        return Err(LineFault::BadForm);
+        return Err(ReadFault::BadForm);
     }
     if is_declared(algorithm, word) {
-        return Err(LineFault::TwoAccesses);
+        return Err(ReadFault::TwoAccesses);
     }
     place_of(alloc, algorithm, word)
 }
@@ -209,7 +209,7 @@ pub fn declare_private(
     alloc: Global,
     algorithm: &mut Algorithm,
     word: &[u8],
-) -> Result<(), LineFault>
+) -> Result<(), ReadFault>
     requires { IsAscii word.now }
     ensures name { MatchResult result
         (λ _. (length (names_of algorithm.old) < 32) × (names_of algorithm.new ≡ names_of algorithm.old ++ word.now ∷ []))
@@ -223,14 +223,14 @@ pub fn declare_private(
 }
 
 /// A name that is not declared yet.
-pub fn undeclared(algorithm: &Algorithm, token: Option<&Token>) -> Result<Word, LineFault>
+pub fn undeclared_name(algorithm: &Algorithm, token: Option<&Token>) -> Result<LineWord, ReadFault>
     ensures { MatchResult result
-        (λ word. undeclared (declared_of algorithm.now) (names_of algorithm.now) (option_copied token.entry) ≡ Some word)
-        (λ _. undeclared (declared_of algorithm.now) (names_of algorithm.now) (option_copied token.entry) ≡ None) }
+        (λ word. undeclared_name (declared_of algorithm.now) (names_of algorithm.now) (option_copied token.entry) ≡ Some word)
+        (λ _. undeclared_name (declared_of algorithm.now) (names_of algorithm.now) (option_copied token.entry) ≡ None) }
 {
     let word = new_name(token)?;
     if is_declared(algorithm, word.as_bytes()) || is_private(algorithm, word.as_bytes()) {
-        return Err(LineFault::NameTaken);
+        return Err(ReadFault::NameTaken);
     }
     Ok(word)
 }

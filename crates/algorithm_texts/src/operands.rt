@@ -3,13 +3,13 @@
 ghost use Rattle.std.specs.Prelude.{◌≡◌};
 ghost use Rattle.algorithm_texts.specs.declared.operands.Bracket.TheVariants.{Not as NotHead};
 ghost use Rattle.algorithm_texts.specs.declared.operands.Joint.TheVariants.{And as AndJoint, Or as OrJoint};
-ghost use Rattle.algorithm_texts.specs.Parts.{part_of, value_in, condition_in, joined, operated, compared, enclosed, enclosed_two, paired};
+ghost use Rattle.algorithm_texts.specs.Parts.{part_of, value_in, condition_in, join_of, operation_of, comparison_of, enclosed_part, enclosed_two, pair_of_parts};
 ghost use Rattle.algorithm_texts.specs.Grammar.{strength};
 ghost use Rattle.algorithm_texts.specs.Operands.{Makes, MakesValue, MakesCondition};
 
 use algorithms::condition::{Comparison, Condition, Pair};
 use algorithms::expression::{Expression, Operator};
-use algorithms::fault::LineFault;
+use algorithms::fault::ReadFault;
 use std::alloc::Global;
 
 /// The word before a bracket.
@@ -55,22 +55,22 @@ impl Joint {
 
 impl Operand {
     /// The part as a value. `BadForm`: it is a pair or a condition.
-    pub fn value(self) -> Result<Expression, LineFault>
+    pub fn value(self) -> Result<Expression, ReadFault>
         ensures { MakesValue result (value_in (part_of self)) }
     {
         match self {
             Operand::Value(value) => Ok(value),
-            Operand::Pair(_) | Operand::Condition(_) => Err(LineFault::BadForm),
+            Operand::Pair(_) | Operand::Condition(_) => Err(ReadFault::BadForm),
         }
     }
 
     /// The part as a condition. `BadForm`: it is a pair or a value.
-    pub fn condition(self) -> Result<Condition, LineFault>
+    pub fn condition(self) -> Result<Condition, ReadFault>
         ensures { MakesCondition result (condition_in (part_of self)) }
     {
         match self {
             Operand::Condition(condition) => Ok(condition),
-            Operand::Pair(_) | Operand::Value(_) => Err(LineFault::BadForm),
+            Operand::Pair(_) | Operand::Value(_) => Err(ReadFault::BadForm),
         }
     }
 }
@@ -81,8 +81,8 @@ fn operation(
     operator: Operator,
     left: Operand,
     right: Operand,
-) -> Result<Operand, LineFault>
-    ensures { Makes result (operated operator (part_of left) (part_of right)) }
+) -> Result<Operand, ReadFault>
+    ensures { Makes result (operation_of operator (part_of left) (part_of right)) }
 {
     let left = Box::new(alloc, left.value()?)?;
     let right = Box::new(alloc, right.value()?)?;
@@ -90,29 +90,29 @@ fn operation(
 }
 
 /// The comparison of two values, or of two pairs.
-fn compare(comparison: Comparison, left: Operand, right: Operand) -> Result<Operand, LineFault>
-    ensures { Makes result (compared comparison (part_of left) (part_of right)) }
+fn compare(comparison: Comparison, left: Operand, right: Operand) -> Result<Operand, ReadFault>
+    ensures { Makes result (comparison_of comparison (part_of left) (part_of right)) }
 {
     match left {
         Operand::Value(left) => match right {
             Operand::Value(right) => Ok(Operand::Condition(Condition::Compare(
                 comparison, left, right,
             ))),
-            Operand::Pair(_) | Operand::Condition(_) => Err(LineFault::BadForm),
+            Operand::Pair(_) | Operand::Condition(_) => Err(ReadFault::BadForm),
         },
         Operand::Pair(left) => match right {
             Operand::Pair(right) => Ok(Operand::Condition(Condition::ComparePairs(
                 comparison, left, right,
             ))),
-            Operand::Value(_) | Operand::Condition(_) => Err(LineFault::BadForm),
+            Operand::Value(_) | Operand::Condition(_) => Err(ReadFault::BadForm),
         },
-        Operand::Condition(_) => Err(LineFault::BadForm),
+        Operand::Condition(_) => Err(ReadFault::BadForm),
     }
 }
 
 /// Two conditions, of which both have to hold.
-fn both(alloc: Global, left: Operand, right: Operand) -> Result<Operand, LineFault>
-    ensures { Makes result (joined AndJoint (part_of left) (part_of right)) }
+fn both(alloc: Global, left: Operand, right: Operand) -> Result<Operand, ReadFault>
+    ensures { Makes result (join_of AndJoint (part_of left) (part_of right)) }
 {
     let left = Box::new(alloc, left.condition()?)?;
     let right = Box::new(alloc, right.condition()?)?;
@@ -120,8 +120,8 @@ fn both(alloc: Global, left: Operand, right: Operand) -> Result<Operand, LineFau
 }
 
 /// Two conditions, of which one has to hold.
-fn either(alloc: Global, left: Operand, right: Operand) -> Result<Operand, LineFault>
-    ensures { Makes result (joined OrJoint (part_of left) (part_of right)) }
+fn either(alloc: Global, left: Operand, right: Operand) -> Result<Operand, ReadFault>
+    ensures { Makes result (join_of OrJoint (part_of left) (part_of right)) }
 {
     let left = Box::new(alloc, left.condition()?)?;
     let right = Box::new(alloc, right.condition()?)?;
@@ -134,8 +134,8 @@ pub fn join(
     joint: Joint,
     left: Operand,
     right: Operand,
-) -> Result<Operand, LineFault>
-    ensures { Makes result (joined joint (part_of left) (part_of right)) }
+) -> Result<Operand, ReadFault>
+    ensures { Makes result (join_of joint (part_of left) (part_of right)) }
 {
     match joint {
         Joint::Operator(operator) => operation(alloc, operator, left, right),
@@ -146,30 +146,30 @@ pub fn join(
 }
 
 /// The condition that does not hold where this one does.
-fn negation(alloc: Global, part: Operand) -> Result<Operand, LineFault>
-    ensures { Makes result (enclosed NotHead (part_of part)) }
+fn negation(alloc: Global, part: Operand) -> Result<Operand, ReadFault>
+    ensures { Makes result (enclosed_part NotHead (part_of part)) }
 {
     let condition = Box::new(alloc, part.condition()?)?;
     Ok(Operand::Condition(Condition::Not(condition)))
 }
 
 /// One part in brackets.
-pub fn enclose(alloc: Global, head: Bracket, part: Operand) -> Result<Operand, LineFault>
-    ensures { Makes result (enclosed head (part_of part)) }
+pub fn enclose(alloc: Global, head: Bracket, part: Operand) -> Result<Operand, ReadFault>
+    ensures { Makes result (enclosed_part head (part_of part)) }
 {
     match head {
         Bracket::Not => negation(alloc, part),
         Bracket::Plain => match part {
-            Operand::Pair(_) => Err(LineFault::BadForm),
+            Operand::Pair(_) => Err(ReadFault::BadForm),
             whole => Ok(whole),
         },
-        Bracket::Max | Bracket::Min => Err(LineFault::BadForm),
+        Bracket::Max | Bracket::Min => Err(ReadFault::BadForm),
     }
 }
 
 /// Two values as one pair.
-fn pair(first: Operand, second: Operand) -> Result<Operand, LineFault>
-    ensures { Makes result (paired (part_of first) (part_of second)) }
+fn pair(first: Operand, second: Operand) -> Result<Operand, ReadFault>
+    ensures { Makes result (pair_of_parts (part_of first) (part_of second)) }
 {
     let first = first.value()?;
     let second = second.value()?;
@@ -182,12 +182,12 @@ pub fn enclose_two(
     head: Bracket,
     first: Operand,
     second: Operand,
-) -> Result<Operand, LineFault>
+) -> Result<Operand, ReadFault>
     ensures { Makes result (enclosed_two head (part_of first) (part_of second)) }
 {
     match head {
         Bracket::Plain => pair(first, second),
-        Bracket::Not => Err(LineFault::BadForm),
+        Bracket::Not => Err(ReadFault::BadForm),
         Bracket::Max => operation(alloc, Operator::Maximum, first, second),
         Bracket::Min => operation(alloc, Operator::Minimum, first, second),
     }

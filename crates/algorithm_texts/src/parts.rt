@@ -3,11 +3,11 @@
 ghost use Rattle.std.specs.Prelude.{◌≡◌, drop, length, slice_get, OnErr, OnOk, IfOk, IfErr, Some, None, true, false, ◌||◌, codes, position};
 ghost use Rattle.std.specs.Option.{option_copied};
 ghost use Rattle.algorithm_texts.specs.Fronts.{past_word, past_sign, is_over, is_the_word, letters_of, named_by, deed_words, members_words, deed_said, members_said, past_withdraw, ends_value, value_tokens, value_rest, begins_no_simple};
-ghost use Rattle.algorithm_texts.specs.Tokens.{named};
+ghost use Rattle.algorithm_texts.specs.Tokens.{value_of_name};
 
-use crate::tokens::{Sign, Token, Word, is_sign, is_word};
-use algorithms::fault::LineFault;
-use algorithms::line::{Deed, Members};
+use crate::tokens::{LineWord, Sign, Token, is_sign, is_word};
+use algorithms::fault::ReadFault;
+use algorithms::line::{AlgorithmDeed, Members};
 
 /// The tokens after the first ones.
 pub fn after(tokens: &[Token], count: usize) -> &[Token]
@@ -21,50 +21,50 @@ pub fn after(tokens: &[Token], count: usize) -> &[Token]
 }
 
 /// The tokens after a word that has to come next.
-pub fn after_word<'t>(tokens: &'t [Token], word: &[u8]) -> Result<&'t [Token], LineFault>
+pub fn after_word<'t>(tokens: &'t [Token], word: &[u8]) -> Result<&'t [Token], ReadFault>
     ensures ok { IfOk result (λ rest. past_word tokens.now word.now ≡ Some rest.now) }
     ensures err { OnErr result (past_word tokens.now word.now ≡ None) }
 {
     if is_word(tokens.first(), word) {
         Ok(after(tokens, 1))
     } else {
-        Err(LineFault::BadForm)
+        Err(ReadFault::BadForm)
     }
 }
 
 /// The tokens after a sign that has to come next.
-pub fn after_sign(tokens: &[Token], sign: Sign) -> Result<&[Token], LineFault>
+pub fn after_sign(tokens: &[Token], sign: Sign) -> Result<&[Token], ReadFault>
     ensures ok { IfOk result (λ rest. past_sign tokens.now sign ≡ Some rest.now) }
     ensures err { OnErr result (past_sign tokens.now sign ≡ None) }
 {
     if is_sign(tokens.first(), sign) {
         Ok(after(tokens, 1))
     } else {
-        Err(LineFault::BadForm)
+        Err(ReadFault::BadForm)
     }
 }
 
 /// `BadForm` where a token is left.
-pub fn ended(tokens: &[Token]) -> Result<(), LineFault>
+pub fn check_end(tokens: &[Token]) -> Result<(), ReadFault>
     ensures ok { OnOk result (is_over tokens.now ≡ true) }
     ensures err { OnErr result (is_over tokens.now ≡ false) }
 {
     if tokens.is_empty() {
         Ok(())
     } else {
-        Err(LineFault::BadForm)
+        Err(ReadFault::BadForm)
     }
 }
 
 /// `BadDeed` where a deed or `may withdraw` is left, `BadForm` where another token is.
-pub fn ended_without_deed(tokens: &[Token]) -> Result<(), LineFault>
+pub fn ended_without_deed(tokens: &[Token]) -> Result<(), ReadFault>
     ensures ok { OnOk result (is_over tokens.now ≡ true) }
     ensures err { OnErr result (is_over tokens.now ≡ false) }
 {
     if is_word(tokens.first(), b"this") || is_word(tokens.first(), b"may") {
-        return Err(LineFault::BadDeed);
+        return Err(ReadFault::BadDeed);
     }
-    ended(tokens)
+    check_end(tokens)
 }
 
 /// Whether a value or a condition ends before this token.
@@ -92,7 +92,7 @@ pub fn split_value(tokens: &[Token]) -> (&[Token], &[Token])
 }
 
 /// The letters of a word.
-pub fn letters(token: Option<&Token>) -> Option<Word>
+pub fn letters(token: Option<&Token>) -> Option<LineWord>
     ensures { result ≡ letters_of (option_copied token.entry) }
 {
     match token {
@@ -102,28 +102,28 @@ pub fn letters(token: Option<&Token>) -> Option<Word>
 }
 
 /// The deed of this name.
-fn deed_named(word: &[u8]) -> Option<Deed>
-    ensures { result ≡ named deed_words word.now }
+fn deed_named(word: &[u8]) -> Option<AlgorithmDeed>
+    ensures { result ≡ value_of_name deed_words word.now }
 {
     if word == b"begin".as_slice() {
-        Some(Deed::Begin)
+        Some(AlgorithmDeed::Begin)
     } else if word == b"ready".as_slice() {
-        Some(Deed::Ready)
+        Some(AlgorithmDeed::Ready)
     } else if word == b"enter".as_slice() {
-        Some(Deed::Enter)
+        Some(AlgorithmDeed::Enter)
     } else if word == b"reenter".as_slice() {
-        Some(Deed::Reenter)
+        Some(AlgorithmDeed::Reenter)
     } else if word == b"leave".as_slice() {
-        Some(Deed::Leave)
+        Some(AlgorithmDeed::Leave)
     } else if word == b"quit".as_slice() {
-        Some(Deed::Quit)
+        Some(AlgorithmDeed::Quit)
     } else {
         None
     }
 }
 
 /// The deed that a token names.
-fn deed_of(token: Option<&Token>) -> Option<Deed>
+fn deed_of(token: Option<&Token>) -> Option<AlgorithmDeed>
     ensures { result ≡ named_by deed_words (option_copied token.entry) }
 {
     deed_named(letters(token)?.as_bytes())
@@ -131,7 +131,7 @@ fn deed_of(token: Option<&Token>) -> Option<Deed>
 
 /// The processes of this name.
 fn members_named(word: &[u8]) -> Option<Members>
-    ensures { result ≡ named members_words word.now }
+    ensures { result ≡ value_of_name members_words word.now }
 {
     if word == b"all".as_slice() {
         Some(Members::All)
@@ -161,29 +161,29 @@ fn value_end(tokens: &[Token]) -> Option<usize>
 }
 
 /// The processes that a loop goes over: `in MEMBERS`.
-pub fn members_said(tokens: &[Token]) -> Result<Members, LineFault>
+pub fn members_said(tokens: &[Token]) -> Result<Members, ReadFault>
     ensures ok { IfOk result (λ members. members_said tokens.now ≡ Some members) }
     ensures err { OnErr result (members_said tokens.now ≡ None) }
 {
     let rest = after_word(tokens, b"in")?;
-    let members = members_of(rest.first()).ok_or(LineFault::BadForm)?;
-    ended(after(rest, 1))?;
+    let members = members_of(rest.first()).ok_or(ReadFault::BadForm)?;
+    check_end(after(rest, 1))?;
     Ok(members)
 }
 
 /// The deed that a line says: `this is DEED`.
-pub fn deed_said(tokens: &[Token]) -> Result<Deed, LineFault>
+pub fn deed_said(tokens: &[Token]) -> Result<AlgorithmDeed, ReadFault>
     ensures ok { IfOk result (λ deed. deed_said tokens.now ≡ Some deed) }
     ensures err { OnErr result (deed_said tokens.now ≡ None) }
 {
     let rest = after_word(after_word(tokens, b"this")?, b"is")?;
-    let deed = deed_of(rest.first()).ok_or(LineFault::BadForm)?;
-    ended(after(rest, 1))?;
+    let deed = deed_of(rest.first()).ok_or(ReadFault::BadForm)?;
+    check_end(after(rest, 1))?;
     Ok(deed)
 }
 
 /// The tokens after `may withdraw`, where a line says it.
-pub fn after_withdraw(tokens: &[Token]) -> Result<&[Token], LineFault>
+pub fn after_withdraw(tokens: &[Token]) -> Result<&[Token], ReadFault>
     ensures ok { IfOk result (λ rest. past_withdraw tokens.now ≡ Some rest.now) }
     ensures err { OnErr result (past_withdraw tokens.now ≡ None) }
 {

@@ -1,10 +1,10 @@
 //! Where local lines of a call go round.
 
-use crate::flow::{Runs, Ways, is_access, mark};
+use crate::flow::{RunKind, Ways, is_access, mark};
 use crate::lines::{CallRead, Draft};
 use crate::marks::is_in;
-use algorithms::fault::{AlgorithmFault, LineFault};
-use algorithms::line::Form;
+use algorithms::fault::{AlgorithmFault, ReadFault};
+use algorithms::line::LineKind;
 use std::alloc::{AllocError, Global};
 
 /// The rank of the place to which a way leads. No way: 0.
@@ -32,7 +32,7 @@ fn unmark(marks: &mut [bool], place: usize) {
 impl Draft {
     /// The places to which a line leads.
     fn all_ways(&self, call: CallRead, place: usize) -> Ways {
-        self.ways_from(call, Runs::All, place)
+        self.ways_from(call, RunKind::All, place)
     }
 
     /// One more than the longest way from the places to which a line leads.
@@ -60,7 +60,7 @@ impl Draft {
     fn is_local(&self, place: usize) -> bool {
         match self.algorithm.lines.get(place) {
             Some(line) => match &line.form {
-                Form::Local(_) => true,
+                LineKind::Local(_) => true,
                 _ => false,
             },
             None => false,
@@ -141,7 +141,7 @@ impl Draft {
     fn check_none(&self, call: CallRead, left: &[bool]) -> Result<(), AlgorithmFault> {
         for place in call.from..call.to {
             if is_in(left, place) {
-                return Err(LineFault::Endless.at(self.number_in(call, place)));
+                return Err(ReadFault::Endless.at(self.number_in(call, place)));
             }
         }
         Ok(())

@@ -2,18 +2,18 @@
 
 ghost use Rattle.std.specs.Prelude.{◌≡◌, ◌≤◌, ◌<◌, ◌+◌, ℕ, true, None, Some, OnOk, IfOk, length, slice_get, map};
 ghost use Rattle.std.specs.List.{list_any};
-ghost use Rattle.algorithm_texts.specs.Drafts.{drafted, form_of, line_of, local_form};
-ghost use Rattle.algorithm_texts.specs.Finishing.{is_in, is_within};
+ghost use Rattle.algorithm_texts.specs.Drafts.{draft_view, form_of, line_of, local_form};
+ghost use Rattle.algorithm_texts.specs.FinishedDrafts.{is_in, is_within};
 ghost use Rattle.algorithm_texts.specs.Marks.{is_free};
-ghost use Rattle.algorithm_texts.specs.Runs.{IsReached, IsReachedSilently, IsReachedWithout, has_jump, is_own, is_seen, RunsFit};
+ghost use Rattle.algorithm_texts.specs.Runs.{IsPlaceReached, IsReachedSilently, IsReachedWithout, has_jump, is_own, is_seen, RunsFit};
 ghost use Rattle.algorithm_texts.specs.Usage.{reads, uses, passes_at};
 
-use crate::flow::{Runs, is_free};
+use crate::flow::{RunKind, is_free};
 use crate::lines::{CallRead, Draft, Jump};
 use crate::marks::is_in;
 use crate::usage::Usage;
-use algorithms::fault::{AlgorithmFault, LineFault};
-use algorithms::line::{Form, LocalLine};
+use algorithms::fault::{AlgorithmFault, ReadFault};
+use algorithms::line::{LineKind, LocalLine};
 use std::alloc::{AllocError, Global};
 
 /// Whether a goto of the text stands at this place.
@@ -24,12 +24,12 @@ fn has_jump(jumps: &[Jump], place: usize) -> bool
 }
 
 /// Whether the text has this line.
-fn is_own(jumps: &[Jump], place: usize, form: &Form) -> bool
+fn is_own(jumps: &[Jump], place: usize, form: &LineKind) -> bool
     ensures { result ≡ is_own jumps.now place (form_of form.now) }
 {
     match form {
-        Form::Access(_) | Form::Done(_) => true,
-        Form::Local(line) => is_own_local(jumps, place, line),
+        LineKind::Access(_) | LineKind::Done(_) => true,
+        LineKind::Local(line) => is_own_local(jumps, place, line),
     }
 }
 
@@ -48,11 +48,11 @@ fn is_own_local(jumps: &[Jump], place: usize, line: &LocalLine) -> bool
 }
 
 /// Whether a line is an end or a deed, which others see.
-fn is_seen(form: &Form) -> bool
+fn is_seen(form: &LineKind) -> bool
     ensures { result ≡ is_seen (form_of form.now) }
 {
     match form {
-        Form::Done(_) | Form::Local(LocalLine::Note(_)) => true,
+        LineKind::Done(_) | LineKind::Local(LocalLine::Note(_)) => true,
         _ => false,
     }
 }
@@ -79,7 +79,7 @@ impl Draft {
 
     /// Whether the text has the line at a place.
     fn is_own_at(&self, place: usize) -> bool
-        ensures { result ≡ passes_at (is_own (drafted self.now).jumps place) (uses (drafted self.now).lines) place }
+        ensures { result ≡ passes_at (is_own (draft_view self.now).jumps place) (uses (draft_view self.now).lines) place }
     {
         match self.algorithm.lines.get(place) {
             Some(line) => is_own(self.jumps.as_slice(), place, &line.form),
@@ -89,7 +89,7 @@ impl Draft {
 
     /// Whether the line at a place is an end or a deed.
     fn is_seen_at(&self, place: usize) -> bool
-        ensures { result ≡ passes_at is_seen (uses (drafted self.now).lines) place }
+        ensures { result ≡ passes_at is_seen (uses (draft_view self.now).lines) place }
     {
         match self.algorithm.lines.get(place) {
             Some(line) => is_seen(&line.form),
@@ -100,12 +100,12 @@ impl Draft {
     /// `NeverReached` at the first line of the text to which no run comes.
     fn check_reached(&self, call: CallRead, reached: &[bool]) -> Result<(), AlgorithmFault>
         ensures { OnOk result ((at : ℕ) → is_within (call.«from», call.to) at ≡ true
-            → passes_at (is_own (drafted self.now).jumps at) (uses (drafted self.now).lines) at ≡ true
+            → passes_at (is_own (draft_view self.now).jumps at) (uses (draft_view self.now).lines) at ≡ true
             → is_in reached.now at ≡ true) }
     {
         for place in call.from..call.to {
             if self.is_own_at(place) && !is_in(reached, place) {
-                return Err(LineFault::NeverReached.at(self.number_in(call, place)));
+                return Err(ReadFault::NeverReached.at(self.number_in(call, place)));
             }
         }
         Ok(())
@@ -118,14 +118,14 @@ impl Draft {
         if is_free(reached, call.to) {
             Ok(())
         } else {
-            Err(LineFault::FallsOff.at(call.last))
+            Err(ReadFault::FallsOff.at(call.last))
         }
     }
 
     /// The first of these places whose line reads a name.
     fn first_read(&self, call: CallRead, name: usize, places: &[bool]) -> Option<usize>
         ensures { result ≡ None → (at : ℕ) → is_within (call.«from», call.to) at ≡ true
-            → passes_at (reads name) (uses (drafted self.now).lines) at ≡ true → is_in places.now at ≡ true → ⊥ }
+            → passes_at (reads name) (uses (draft_view self.now).lines) at ≡ true → is_in places.now at ≡ true → ⊥ }
     {
         for place in call.from..call.to {
             if is_in(places, place) && self.uses_at(Usage::Reads, name, place) {
@@ -143,11 +143,11 @@ impl Draft {
         name: usize,
         reached: &[bool],
     ) -> Result<Option<usize>, AllocError>
-        requires { (at : ℕ) → at ≤ length (drafted self.now).lines → IsReached (drafted self.now) call at
+        requires { (at : ℕ) → at ≤ length (draft_view self.now).lines → IsPlaceReached (draft_view self.now) call at
             → is_in reached.now at ≡ true }
         ensures { IfOk result (λ first. first ≡ None → (at : ℕ) → is_within (call.«from», call.to) at ≡ true
-            → passes_at (reads name) (uses (drafted self.now).lines) at ≡ true
-            → IsReachedWithout (drafted self.now) call name at → ⊥) }
+            → passes_at (reads name) (uses (draft_view self.now).lines) at ≡ true
+            → IsReachedWithout (draft_view self.now) call name at → ⊥) }
     {
         let without = self.reached_without(alloc, call, name, reached)?;
         Ok(self.first_read(call, name, without.as_slice()))
@@ -160,18 +160,19 @@ impl Draft {
         call: CallRead,
         reached: &[bool],
     ) -> Result<(), AlgorithmFault>
-        requires { (at : ℕ) → at ≤ length (drafted self.now).lines → IsReached (drafted self.now) call at
+        requires { (at : ℕ) → at ≤ length (draft_view self.now).lines → IsPlaceReached (draft_view self.now) call at
             → is_in reached.now at ≡ true }
-        ensures { OnOk result ((name at : ℕ) → name < length (drafted self.now).names → is_within (call.«from», call.to) at ≡ true
-            → passes_at (reads name) (uses (drafted self.now).lines) at ≡ true
-            → IsReachedWithout (drafted self.now) call name at → ⊥) }
+        ensures { OnOk result ((name at : ℕ) → name < length (draft_view self.now).names
+            → is_within (call.«from», call.to) at ≡ true
+            → passes_at (reads name) (uses (draft_view self.now).lines) at ≡ true
+            → IsReachedWithout (draft_view self.now) call name at → ⊥) }
     {
         let mut first = None;
         for name in 0..self.algorithm.names.len() {
             first = earlier(first, self.first_unset(alloc, call, name, reached)?);
         }
         match first {
-            Some(place) => Err(LineFault::Unset.at(self.number_in(call, place))),
+            Some(place) => Err(ReadFault::Unset.at(self.number_in(call, place))),
             None => Ok(()),
         }
     }
@@ -179,11 +180,11 @@ impl Draft {
     /// `NoStep` at the first end or deed among these places.
     fn check_silent(&self, call: CallRead, silent: &[bool]) -> Result<(), AlgorithmFault>
         ensures { OnOk result ((at : ℕ) → is_within (call.«from», call.to) at ≡ true
-            → passes_at is_seen (uses (drafted self.now).lines) at ≡ true → is_in silent.now at ≡ true → ⊥) }
+            → passes_at is_seen (uses (draft_view self.now).lines) at ≡ true → is_in silent.now at ≡ true → ⊥) }
     {
         for place in call.from..call.to {
             if is_in(silent, place) && self.is_seen_at(place) {
-                return Err(LineFault::NoStep.at(self.number_in(call, place)));
+                return Err(ReadFault::NoStep.at(self.number_in(call, place)));
             }
         }
         Ok(())
@@ -192,9 +193,10 @@ impl Draft {
     /// `NoStep` at the first end or deed that can come before the call's first access.
     fn check_steps(&self, alloc: Global, call: CallRead) -> Result<(), AlgorithmFault>
         ensures { OnOk result ((at : ℕ) → is_within (call.«from», call.to) at ≡ true
-            → passes_at is_seen (uses (drafted self.now).lines) at ≡ true → IsReachedSilently (drafted self.now) call at → ⊥) }
+            → passes_at is_seen (uses (draft_view self.now).lines) at ≡ true → IsReachedSilently (draft_view self.now) call at
+            → ⊥) }
     {
-        let silent = self.reached(alloc, call, Runs::Silent)?;
+        let silent = self.reached_places(alloc, call, RunKind::Silent)?;
         self.check_silent(call, silent.as_slice())
     }
 
@@ -205,11 +207,11 @@ impl Draft {
         call: CallRead,
         reached: &[bool],
     ) -> Result<(), AlgorithmFault>
-        requires comes { (at : ℕ) → is_in reached.now at ≡ true → IsReached (drafted self.now) call at }
-        requires all { (at : ℕ) → at ≤ length (drafted self.now).lines → IsReached (drafted self.now) call at
+        requires comes { (at : ℕ) → is_in reached.now at ≡ true → IsPlaceReached (draft_view self.now) call at }
+        requires all { (at : ℕ) → at ≤ length (draft_view self.now).lines → IsPlaceReached (draft_view self.now) call at
             → is_in reached.now at ≡ true }
-        requires size { length reached.now ≡ length (drafted self.now).lines + 1 }
-        ensures { OnOk result (RunsFit (drafted self.now) call) }
+        requires size { length reached.now ≡ length (draft_view self.now).lines + 1 }
+        ensures { OnOk result (RunsFit (draft_view self.now) call) }
     {
         self.check_reached(call, reached)?;
         self.check_end(call, reached)?;
@@ -220,9 +222,9 @@ impl Draft {
 
     /// Checks what the runs of the call may do, and answers which places they come to.
     pub fn check_runs(&self, alloc: Global, call: CallRead) -> Result<Vec<bool>, AlgorithmFault>
-        ensures { OnOk result (RunsFit (drafted self.now) call) }
+        ensures { OnOk result (RunsFit (draft_view self.now) call) }
     {
-        let reached = self.reached(alloc, call, Runs::All)?;
+        let reached = self.reached_places(alloc, call, RunKind::All)?;
         self.check_places(alloc, call, reached.as_slice())?;
         Ok(reached)
     }

@@ -2,24 +2,24 @@
 
 ghost use Rattle.std.specs.Prelude.{◌≡◌, map, Some, None, MatchResult, IsAscii, string_bytes, position, bytes_eq, true};
 ghost use Rattle.std.specs.Option.{option_copied, option_map};
-ghost use Rattle.algorithms.specs.declared.fault.LineFault.TheVariants.{OutOfMemory as NoMemory};
+ghost use Rattle.algorithms.specs.declared.fault.ReadFault.TheVariants.{OutOfMemory as NoMemory};
 ghost use Rattle.algorithm_texts.specs.Parts.{term_of, formula_of};
-ghost use Rattle.algorithm_texts.specs.Operands.{Refuses, declared_of};
-ghost use Rattle.algorithm_texts.specs.Drafts.{drafted, word_of, act_of};
-ghost use Rattle.algorithm_texts.specs.LineReading.{answer_place, Drafts, scope_in, with_names, read_index, read_word_of, read_word, read_until, read_deed, read_access, read_awaited_word, read_awaited, read_await_of, read_await, read_store, read_load, begins_word, is_no_word, read_assigned_value, read_assigned, read_set_to, read_private_assignment, read_assignment, placed_answer, read_done, read_goto, read_simple};
+ghost use Rattle.algorithm_texts.specs.Operands.{RefusesOperand, declared_of};
+ghost use Rattle.algorithm_texts.specs.Drafts.{draft_view, word_of, act_of};
+ghost use Rattle.algorithm_texts.specs.LineDrafts.{answer_place, Drafts, scope_in, with_names, read_index, read_word_of, read_word, read_until, read_deed, read_access, read_awaited_word, read_awaited, read_await_of, read_await, read_store, read_load, begins_word, is_no_word, read_assigned_value, read_assigned, read_set_to, read_private_assignment, read_assignment, placed_answer, read_done, read_goto, read_simple};
 
 use crate::lines::{Draft, Jump};
 use crate::names::{declaration_of, is_declared, new_name};
 use crate::parts::{
-    after, after_sign, after_withdraw, after_word, deed_said, ended, ended_without_deed, letters,
-    split_value,
+    after, after_sign, after_withdraw, after_word, check_end, deed_said, ended_without_deed,
+    letters, split_value,
 };
-use crate::tokens::{Sign, Token, Word, is_sign, is_word};
+use crate::tokens::{LineWord, Sign, Token, is_sign, is_word};
 use algorithms::algorithm::Algorithm;
 use algorithms::condition::Condition;
 use algorithms::expression::Expression;
-use algorithms::fault::LineFault;
-use algorithms::line::{AccessLine, Action, Form, LocalLine, WordOf};
+use algorithms::fault::ReadFault;
+use algorithms::line::{AccessLine, Action, LineKind, LocalLine, WordOf};
 use std::alloc::Global;
 
 /// The place of an answer among those that were there before.
@@ -30,7 +30,7 @@ fn known_answer(answers: &[String], answer: &[u8]) -> Option<usize>
 }
 
 /// Adds an answer, and says its index.
-fn add_answer(alloc: Global, answers: &mut Vec<String>, answer: &[u8]) -> Result<usize, LineFault>
+fn add_answer(alloc: Global, answers: &mut Vec<String>, answer: &[u8]) -> Result<usize, ReadFault>
     requires { IsAscii answer.now }
     ensures { MatchResult result
         (λ place. answer_place (map (λ other. string_bytes other) answers.old.items) answer.now None
@@ -43,7 +43,7 @@ fn add_answer(alloc: Global, answers: &mut Vec<String>, answer: &[u8]) -> Result
 }
 
 /// The index of an answer, which is added where it is new.
-fn answer_place(alloc: Global, answers: &mut Vec<String>, answer: &[u8]) -> Result<usize, LineFault>
+fn answer_place(alloc: Global, answers: &mut Vec<String>, answer: &[u8]) -> Result<usize, ReadFault>
     requires { IsAscii answer.now }
     ensures { MatchResult result
         (λ place. placed_answer (map (λ other. string_bytes other) answers.old.items) answer.now
@@ -57,7 +57,7 @@ fn answer_place(alloc: Global, answers: &mut Vec<String>, answer: &[u8]) -> Resu
 }
 
 /// The declaration of this name.
-fn declaration_named(algorithm: &Algorithm, name: Word) -> Option<usize>
+fn declaration_named(algorithm: &Algorithm, name: LineWord) -> Option<usize>
     ensures { result ≡ position (λ other. bytes_eq other name) (declared_of algorithm.now) }
 {
     declaration_of(algorithm, name.as_bytes())
@@ -75,7 +75,7 @@ fn is_no_word(token: Option<&Token>) -> bool
 
 /// Whether a shared word comes next.
 fn begins_word(draft: &Draft, first: Option<&Token>, second: Option<&Token>) -> bool
-    ensures { result ≡ begins_word (drafted draft.now).declared (option_copied first.entry) (option_copied second.entry) }
+    ensures { result ≡ begins_word (draft_view draft.now).declared (option_copied first.entry) (option_copied second.entry) }
 {
     match first {
         Some(Token::Word(word)) => {
@@ -87,16 +87,16 @@ fn begins_word(draft: &Draft, first: Option<&Token>, second: Option<&Token>) -> 
 
 impl Draft {
     /// An index in brackets, and the tokens after it.
-    fn bracketed<'t>(
+    fn take_index<'t>(
         &mut self,
         alloc: Global,
         tokens: &'t [Token],
-    ) -> Result<(Option<Expression>, &'t [Token]), LineFault>
+    ) -> Result<(Option<Expression>, &'t [Token]), ReadFault>
         ensures index { MatchResult result
-            (λ r. read_index (scope_in (drafted self.old)) true (drafted self.old).names tokens.now
-            ≡ Some (option_map (λ i. term_of i) r.0, r.1.now, (drafted self.new).names))
-            (λ fault. Refuses fault (read_index (scope_in (drafted self.old)) true (drafted self.old).names tokens.now)) }
-        ensures kept { drafted self.new ≡ with_names (drafted self.new).names (drafted self.old) }
+            (λ r. read_index (scope_in (draft_view self.old)) true (draft_view self.old).names tokens.now
+            ≡ Some (option_map (λ i. term_of i) r.0, r.1.now, (draft_view self.new).names))
+            (λ fault. RefusesOperand fault (read_index (scope_in (draft_view self.old)) true (draft_view self.old).names tokens.now)) }
+        ensures kept { draft_view self.new ≡ with_names (draft_view self.new).names (draft_view self.old) }
     {
         let (part, rest) = split_value(after_sign(tokens, Sign::OpenIndex)?);
         let index = self.value(alloc, part)?;
@@ -110,17 +110,17 @@ impl Draft {
         alloc: Global,
         each: bool,
         tokens: &'t [Token],
-    ) -> Result<(Option<Expression>, &'t [Token]), LineFault>
+    ) -> Result<(Option<Expression>, &'t [Token]), ReadFault>
         ensures index { MatchResult result
-            (λ r. read_index (scope_in (drafted self.old)) each (drafted self.old).names tokens.now
-            ≡ Some (option_map (λ i. term_of i) r.0, r.1.now, (drafted self.new).names))
-            (λ fault. Refuses fault (read_index (scope_in (drafted self.old)) each (drafted self.old).names tokens.now)) }
-        ensures kept { drafted self.new ≡ with_names (drafted self.new).names (drafted self.old) }
+            (λ r. read_index (scope_in (draft_view self.old)) each (draft_view self.old).names tokens.now
+            ≡ Some (option_map (λ i. term_of i) r.0, r.1.now, (draft_view self.new).names))
+            (λ fault. RefusesOperand fault (read_index (scope_in (draft_view self.old)) each (draft_view self.old).names tokens.now)) }
+        ensures kept { draft_view self.new ≡ with_names (draft_view self.new).names (draft_view self.old) }
     {
         if each {
-            self.bracketed(alloc, tokens)
+            self.take_index(alloc, tokens)
         } else if is_sign(tokens.first(), Sign::OpenIndex) {
-            Err(LineFault::BadForm)
+            Err(ReadFault::BadForm)
         } else {
             Ok((None, tokens))
         }
@@ -132,13 +132,14 @@ impl Draft {
         alloc: Global,
         declaration: usize,
         tokens: &'t [Token],
-    ) -> Result<(WordOf, &'t [Token]), LineFault>
+    ) -> Result<(WordOf, &'t [Token]), ReadFault>
         ensures word { MatchResult result
-            (λ r. read_word_of (scope_in (drafted self.old)) (drafted self.old).each (drafted self.old).names declaration tokens.now
-            ≡ Some (word_of r.0, r.1.now, (drafted self.new).names))
-            (λ fault. Refuses fault
-            (read_word_of (scope_in (drafted self.old)) (drafted self.old).each (drafted self.old).names declaration tokens.now)) }
-        ensures kept { drafted self.new ≡ with_names (drafted self.new).names (drafted self.old) }
+            (λ r. read_word_of (scope_in (draft_view self.old)) (draft_view self.old).each
+            (draft_view self.old).names declaration tokens.now
+            ≡ Some (word_of r.0, r.1.now, (draft_view self.new).names))
+            (λ fault. RefusesOperand fault
+            (read_word_of (scope_in (draft_view self.old)) (draft_view self.old).each (draft_view self.old).names declaration tokens.now)) }
+        ensures kept { draft_view self.new ≡ with_names (draft_view self.new).names (draft_view self.old) }
     {
         let each = self.has_index(declaration);
         let (index, rest) = self.index(alloc, each, after(tokens, 1))?;
@@ -150,30 +151,30 @@ impl Draft {
         &mut self,
         alloc: Global,
         tokens: &'t [Token],
-    ) -> Result<(WordOf, &'t [Token]), LineFault>
+    ) -> Result<(WordOf, &'t [Token]), ReadFault>
         ensures word { MatchResult result
-            (λ r. read_word (scope_in (drafted self.old)) (drafted self.old).each (drafted self.old).names tokens.now
-            ≡ Some (word_of r.0, r.1.now, (drafted self.new).names))
-            (λ fault. Refuses fault
-            (read_word (scope_in (drafted self.old)) (drafted self.old).each (drafted self.old).names tokens.now)) }
-        ensures kept { drafted self.new ≡ with_names (drafted self.new).names (drafted self.old) }
+            (λ r. read_word (scope_in (draft_view self.old)) (draft_view self.old).each (draft_view self.old).names tokens.now
+            ≡ Some (word_of r.0, r.1.now, (draft_view self.new).names))
+            (λ fault. RefusesOperand fault
+            (read_word (scope_in (draft_view self.old)) (draft_view self.old).each (draft_view self.old).names tokens.now)) }
+        ensures kept { draft_view self.new ≡ with_names (draft_view self.new).names (draft_view self.old) }
     {
         match letters(tokens.first()) {
-            None => Err(LineFault::BadForm),
+            None => Err(ReadFault::BadForm),
             Some(name) => match declaration_named(&self.algorithm, name) {
-                None => Err(LineFault::UnknownName),
+                None => Err(ReadFault::UnknownName),
                 Some(declaration) => self.word_of(alloc, declaration, tokens),
             },
         }
     }
 
     /// Adds an access, with what may follow it in its line: `may withdraw`, and a deed.
-    fn access(&mut self, word: WordOf, action: Action, tokens: &[Token]) -> Result<(), LineFault>
-        ensures { Drafts (drafted self.new) result
-            (read_access (drafted self.old) (word_of word) (act_of action) tokens.now) }
+    fn access(&mut self, word: WordOf, action: Action, tokens: &[Token]) -> Result<(), ReadFault>
+        ensures { Drafts (draft_view self.new) result
+            (read_access (draft_view self.old) (word_of word) (act_of action) tokens.now) }
     {
         let may_withdraw = is_word(tokens.first(), b"may");
-        self.add(Form::Access(AccessLine {
+        self.add(LineKind::Access(AccessLine {
             word,
             action,
             may_withdraw,
@@ -187,8 +188,8 @@ impl Draft {
     }
 
     /// Reads the deed that a line notes, and adds it as a local line.
-    fn deed(&mut self, tokens: &[Token]) -> Result<(), LineFault>
-        ensures { Drafts (drafted self.new) result (read_deed (drafted self.old) tokens.now) }
+    fn deed(&mut self, tokens: &[Token]) -> Result<(), ReadFault>
+        ensures { Drafts (draft_view self.new) result (read_deed (draft_view self.old) tokens.now) }
     {
         let deed = deed_said(tokens)?;
         self.add_local(LocalLine::Note(deed))?;
@@ -200,12 +201,12 @@ impl Draft {
         &mut self,
         alloc: Global,
         tokens: &'t [Token],
-    ) -> Result<(Condition, &'t [Token]), LineFault>
+    ) -> Result<(Condition, &'t [Token]), ReadFault>
         ensures until { MatchResult result
-            (λ r. read_until (scope_in (drafted self.old)) (drafted self.old).names tokens.now
-            ≡ Some (formula_of r.0, r.1.now, (drafted self.new).names))
-            (λ fault. Refuses fault (read_until (scope_in (drafted self.old)) (drafted self.old).names tokens.now)) }
-        ensures kept { drafted self.new ≡ with_names (drafted self.new).names (drafted self.old) }
+            (λ r. read_until (scope_in (draft_view self.old)) (draft_view self.old).names tokens.now
+            ≡ Some (formula_of r.0, r.1.now, (draft_view self.new).names))
+            (λ fault. RefusesOperand fault (read_until (scope_in (draft_view self.old)) (draft_view self.old).names tokens.now)) }
+        ensures kept { draft_view self.new ≡ with_names (draft_view self.new).names (draft_view self.old) }
     {
         let (part, rest) = split_value(after_word(tokens, b"until")?);
         let condition = self.condition(alloc, part)?;
@@ -219,40 +220,40 @@ impl Draft {
         name: usize,
         word: WordOf,
         tokens: &[Token],
-    ) -> Result<(), LineFault>
-        ensures { Drafts (drafted self.new) result (read_awaited_word (drafted self.old) name (word_of word) tokens.now) }
+    ) -> Result<(), ReadFault>
+        ensures { Drafts (draft_view self.new) result (read_awaited_word (draft_view self.old) name (word_of word) tokens.now) }
     {
         let (until, rest) = self.until(alloc, tokens)?;
         self.access(word, Action::Await { name, until }, rest)
     }
 
     /// `WORD until CONDITION` after `await NAME :=`.
-    fn awaited(&mut self, alloc: Global, name: usize, tokens: &[Token]) -> Result<(), LineFault>
-        ensures { Drafts (drafted self.new) result (read_awaited (drafted self.old) name tokens.now) }
+    fn take_await(&mut self, alloc: Global, name: usize, tokens: &[Token]) -> Result<(), ReadFault>
+        ensures { Drafts (draft_view self.new) result (read_awaited (draft_view self.old) name tokens.now) }
     {
         let (word, rest) = self.word(alloc, tokens)?;
         self.awaited_word(alloc, name, word, rest)
     }
 
     /// `:= WORD until CONDITION` after `await NAME`.
-    fn await_of(&mut self, alloc: Global, name: usize, tokens: &[Token]) -> Result<(), LineFault>
-        ensures { Drafts (drafted self.new) result (read_await_of (drafted self.old) name tokens.now) }
+    fn await_of(&mut self, alloc: Global, name: usize, tokens: &[Token]) -> Result<(), ReadFault>
+        ensures { Drafts (draft_view self.new) result (read_await_of (draft_view self.old) name tokens.now) }
     {
         let rest = after_sign(tokens, Sign::Assign)?;
-        self.awaited(alloc, name, rest)
+        self.take_await(alloc, name, rest)
     }
 
     /// `await NAME := WORD until CONDITION`.
-    fn awaits(&mut self, alloc: Global, tokens: &[Token]) -> Result<(), LineFault>
-        ensures { Drafts (drafted self.new) result (read_await (drafted self.old) tokens.now) }
+    fn awaits(&mut self, alloc: Global, tokens: &[Token]) -> Result<(), ReadFault>
+        ensures { Drafts (draft_view self.new) result (read_await (draft_view self.old) tokens.now) }
     {
         let name = self.name(alloc, tokens.first())?;
         self.await_of(alloc, name, after(tokens, 1))
     }
 
     /// `WORD := VALUE`.
-    fn stores(&mut self, alloc: Global, tokens: &[Token]) -> Result<(), LineFault>
-        ensures { Drafts (drafted self.new) result (read_store (drafted self.old) tokens.now) }
+    fn stores(&mut self, alloc: Global, tokens: &[Token]) -> Result<(), ReadFault>
+        ensures { Drafts (draft_view self.new) result (read_store (draft_view self.old) tokens.now) }
     {
         let (word, rest) = self.word(alloc, tokens)?;
         let (stored, rest) = split_value(after_sign(rest, Sign::Assign)?);
@@ -261,44 +262,44 @@ impl Draft {
     }
 
     /// `:= WORD` or `:= VALUE` after a private name.
-    fn set_to(&mut self, alloc: Global, name: usize, tokens: &[Token]) -> Result<(), LineFault>
-        ensures { Drafts (drafted self.new) result (read_set_to (drafted self.old) name tokens.now) }
+    fn set_to(&mut self, alloc: Global, name: usize, tokens: &[Token]) -> Result<(), ReadFault>
+        ensures { Drafts (draft_view self.new) result (read_set_to (draft_view self.old) name tokens.now) }
     {
         let rest = after_sign(tokens, Sign::Assign)?;
-        self.assigned(alloc, name, rest)
+        self.take_assigned(alloc, name, rest)
     }
 
     /// `NAME := WORD` or `NAME := VALUE`.
-    fn sets(&mut self, alloc: Global, tokens: &[Token]) -> Result<(), LineFault>
-        ensures { Drafts (drafted self.new) result (read_private_assignment (drafted self.old) tokens.now) }
+    fn sets(&mut self, alloc: Global, tokens: &[Token]) -> Result<(), ReadFault>
+        ensures { Drafts (draft_view self.new) result (read_private_assignment (draft_view self.old) tokens.now) }
     {
         let name = self.name(alloc, tokens.first())?;
         self.set_to(alloc, name, after(tokens, 1))
     }
 
     /// `WORD := VALUE`, `NAME := WORD` or `NAME := VALUE`.
-    fn assignment(&mut self, alloc: Global, tokens: &[Token]) -> Result<(), LineFault>
-        ensures { Drafts (drafted self.new) result (read_assignment (drafted self.old) tokens.now) }
+    fn assignment(&mut self, alloc: Global, tokens: &[Token]) -> Result<(), ReadFault>
+        ensures { Drafts (draft_view self.new) result (read_assignment (draft_view self.old) tokens.now) }
     {
-        let first = letters(tokens.first()).ok_or(LineFault::BadForm)?;
+        let first = letters(tokens.first()).ok_or(ReadFault::BadForm)?;
         if is_declared(&self.algorithm, first.as_bytes()) {
             self.stores(alloc, tokens)
         } else if is_sign(tokens.get(1), Sign::OpenIndex) {
-            Err(LineFault::UnknownName)
+            Err(ReadFault::UnknownName)
         } else if is_sign(tokens.get(1), Sign::Assign) {
             self.sets(alloc, tokens)
         } else {
-            Err(LineFault::BadForm)
+            Err(ReadFault::BadForm)
         }
     }
 
     /// A shared word that is assigned to a private name.
-    fn loads(&mut self, alloc: Global, name: usize, tokens: &[Token]) -> Result<(), LineFault>
-        ensures { Drafts (drafted self.new) result (read_load (drafted self.old) name tokens.now) }
+    fn loads(&mut self, alloc: Global, name: usize, tokens: &[Token]) -> Result<(), ReadFault>
+        ensures { Drafts (draft_view self.new) result (read_load (draft_view self.old) name tokens.now) }
     {
         let (word, rest) = self.word(alloc, tokens)?;
         if is_no_word(rest.first()) {
-            return Err(LineFault::TwoAccesses);
+            return Err(ReadFault::TwoAccesses);
         }
         self.access(word, Action::Load { name }, rest)
     }
@@ -309,8 +310,8 @@ impl Draft {
         alloc: Global,
         name: usize,
         tokens: &[Token],
-    ) -> Result<(), LineFault>
-        ensures { Drafts (drafted self.new) result (read_assigned_value (drafted self.old) name tokens.now) }
+    ) -> Result<(), ReadFault>
+        ensures { Drafts (draft_view self.new) result (read_assigned_value (draft_view self.old) name tokens.now) }
     {
         let (assigned, rest) = split_value(tokens);
         let value = self.value(alloc, assigned)?;
@@ -320,8 +321,13 @@ impl Draft {
     }
 
     /// What is assigned to a private name: a shared word, or a value.
-    fn assigned(&mut self, alloc: Global, name: usize, tokens: &[Token]) -> Result<(), LineFault>
-        ensures { Drafts (drafted self.new) result (read_assigned (drafted self.old) name tokens.now) }
+    fn take_assigned(
+        &mut self,
+        alloc: Global,
+        name: usize,
+        tokens: &[Token],
+    ) -> Result<(), ReadFault>
+        ensures { Drafts (draft_view self.new) result (read_assigned (draft_view self.old) name tokens.now) }
     {
         if begins_word(self, tokens.first(), tokens.get(1)) {
             self.loads(alloc, name, tokens)
@@ -331,42 +337,42 @@ impl Draft {
     }
 
     /// `done WORDS`.
-    fn done(&mut self, alloc: Global, rest: &[Token], answer: &[u8]) -> Result<(), LineFault>
+    fn take_done(&mut self, alloc: Global, rest: &[Token], answer: &[u8]) -> Result<(), ReadFault>
         requires { IsAscii answer.now }
-        ensures { Drafts (drafted self.new) result (read_done (drafted self.old) rest.now answer.now) }
+        ensures { Drafts (draft_view self.new) result (read_done (draft_view self.old) rest.now answer.now) }
     {
-        ended(rest)?;
+        check_end(rest)?;
         let place = answer_place(alloc, &mut self.algorithm.answers, answer)?;
-        self.add(Form::Done(place))?;
+        self.add(LineKind::Done(place))?;
         Ok(())
     }
 
     /// `goto NAME`.
-    fn jump(&mut self, rest: &[Token]) -> Result<(), LineFault>
-        ensures { Drafts (drafted self.new) result (read_goto (drafted self.old) rest.now) }
+    fn jump(&mut self, rest: &[Token]) -> Result<(), ReadFault>
+        ensures { Drafts (draft_view self.new) result (read_goto (draft_view self.old) rest.now) }
     {
         let name = new_name(rest.first())?;
-        ended(after(rest, 1))?;
+        check_end(after(rest, 1))?;
         let place = self.add_local(LocalLine::Goto(0))?;
         self.jumps.push(Jump { place, name })?;
         Ok(())
     }
 
     /// A statement that is no block.
-    pub fn simple(
+    pub fn take_simple(
         &mut self,
         alloc: Global,
         tokens: &[Token],
         answer: &[u8],
-    ) -> Result<(), LineFault>
+    ) -> Result<(), ReadFault>
         requires { IsAscii answer.now }
-        ensures { Drafts (drafted self.new) result (read_simple (drafted self.old) tokens.now answer.now) }
+        ensures { Drafts (draft_view self.new) result (read_simple (draft_view self.old) tokens.now answer.now) }
     {
         let first = tokens.first();
         if is_word(first, b"goto") {
             self.jump(after(tokens, 1))
         } else if is_word(first, b"done") {
-            self.done(alloc, after(tokens, 1), answer)
+            self.take_done(alloc, after(tokens, 1), answer)
         } else if is_word(first, b"this") {
             self.deed(tokens)
         } else if is_word(first, b"await") {

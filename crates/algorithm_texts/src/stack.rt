@@ -1,13 +1,13 @@
 //! What waits while a value or a condition is read.
 
 ghost use Rattle.std.specs.Prelude.{◌≡◌, ◌≤◌, ◌∷◌, [], List, ℕ, map, reverse, OnOk, IfErr, MatchOption};
-ghost use Rattle.algorithms.specs.declared.fault.LineFault.TheVariants.{OutOfMemory as NoMemory};
+ghost use Rattle.algorithms.specs.declared.fault.ReadFault.TheVariants.{OutOfMemory as NoMemory};
 ghost use Rattle.algorithm_texts.specs.Parts.{part_of};
-ghost use Rattle.algorithm_texts.specs.Stacks.{is_open, brackets, reduced, opened, closes, halves};
+ghost use Rattle.algorithm_texts.specs.Stacks.{is_open, brackets, stack_reduction, reading_after_bracket, closes, halves};
 ghost use Rattle.algorithm_texts.specs.Operands.{waits_of, stack_of, Reduces, Turns};
 
 use crate::operands::{Bracket, Joint, Operand, enclose, enclose_two, join};
-use algorithms::fault::LineFault;
+use algorithms::fault::ReadFault;
 use std::alloc::Global;
 
 /// How deep brackets stand in one another at most.
@@ -25,7 +25,7 @@ pub enum Waiting {
 
 /// What comes next.
 #[derive(Drop)]
-pub enum Place {
+pub enum StackPlace {
     /// A part.
     Start,
     /// The bracket after its word.
@@ -53,7 +53,7 @@ impl Stack {
 
     /// Lets this wait above all others.
     #[tactic(auto, unfolding(crate::specs::Operands::stack_of))]
-    pub fn push(&mut self, last: Waiting) -> Result<(), LineFault>
+    pub fn push(&mut self, last: Waiting) -> Result<(), ReadFault>
         ensures ok { OnOk result (stack_of self.new ≡ waits_of last ∷ stack_of self.old) }
         ensures err { IfErr result (λ fault. fault ≡ NoMemory) }
     {
@@ -108,8 +108,8 @@ pub fn reduce(
     stack: &mut Stack,
     operand: Operand,
     least: u8,
-) -> Result<Operand, LineFault>
-    ensures { Reduces (stack_of stack.new) result (reduced least (stack_of stack.old) (part_of operand)) }
+) -> Result<Operand, ReadFault>
+    ensures { Reduces (stack_of stack.new) result (stack_reduction least (stack_of stack.old) (part_of operand)) }
 {
     let mut part = operand;
     while let Some(last) = stack.pop() {
@@ -131,44 +131,44 @@ pub fn reduce(
 }
 
 /// Ends the innermost bracket, after this part.
-pub fn close(alloc: Global, stack: &mut Stack, part: Operand) -> Result<Place, LineFault>
+pub fn close(alloc: Global, stack: &mut Stack, part: Operand) -> Result<StackPlace, ReadFault>
     ensures { (names : List (List ℕ)) → Turns names (stack_of stack.new) result
         (closes names (stack_of stack.old) (part_of part)) }
 {
     match stack.pop() {
-        Some(Waiting::Bracket(head)) => Ok(Place::After(enclose(alloc, head, part)?)),
+        Some(Waiting::Bracket(head)) => Ok(StackPlace::After(enclose(alloc, head, part)?)),
         Some(Waiting::Half(head, first)) => {
-            Ok(Place::After(enclose_two(alloc, head, first, part)?))
+            Ok(StackPlace::After(enclose_two(alloc, head, first, part)?))
         }
-        _ => Err(LineFault::BadForm),
+        _ => Err(ReadFault::BadForm),
     }
 }
 
 /// Reads the comma of the innermost bracket, after this part.
-pub fn comma(stack: &mut Stack, part: Operand) -> Result<Place, LineFault>
+pub fn comma(stack: &mut Stack, part: Operand) -> Result<StackPlace, ReadFault>
     ensures { (names : List (List ℕ)) → Turns names (stack_of stack.new) result
         (halves names (stack_of stack.old) (part_of part)) }
 {
     match stack.pop() {
-        Some(Waiting::Bracket(Bracket::Not)) => Err(LineFault::BadForm),
+        Some(Waiting::Bracket(Bracket::Not)) => Err(ReadFault::BadForm),
         Some(Waiting::Bracket(head)) => {
             stack.push(Waiting::Half(head, part))?;
-            Ok(Place::Start)
+            Ok(StackPlace::Start)
         }
-        Some(Waiting::Half(_, _)) => Err(LineFault::BadForm),
-        Some(Waiting::Joint(_, _)) => Err(LineFault::BadForm),
-        None => Err(LineFault::BadForm),
+        Some(Waiting::Half(_, _)) => Err(ReadFault::BadForm),
+        Some(Waiting::Joint(_, _)) => Err(ReadFault::BadForm),
+        None => Err(ReadFault::BadForm),
     }
 }
 
 /// Opens a bracket. `TooBig` where they stand too deep.
-pub fn open(stack: &mut Stack, head: Bracket) -> Result<Place, LineFault>
+pub fn open(stack: &mut Stack, head: Bracket) -> Result<StackPlace, ReadFault>
     ensures { (names : List (List ℕ)) → Turns names (stack_of stack.new) result
-        (opened names (stack_of stack.old) head) }
+        (reading_after_bracket names (stack_of stack.old) head) }
 {
     if stack.brackets() >= DEEPEST {
-        return Err(LineFault::TooBig);
+        return Err(ReadFault::TooBig);
     }
     stack.push(Waiting::Bracket(head))?;
-    Ok(Place::Start)
+    Ok(StackPlace::Start)
 }

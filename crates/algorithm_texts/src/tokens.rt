@@ -5,15 +5,15 @@ ghost use Rattle.std.specs.List.{list_all, prefix_len};
 ghost use Rattle.std.specs.Option.{option_copied};
 ghost use Rattle.std.specs.Char.{is_ascii_digit, is_ascii_lowercase};
 ghost use Rattle.std.specs.Str.Parse.{digits_value, AllDigits};
-ghost use Rattle.algorithms.specs.declared.fault.LineFault.TheVariants.{OutOfMemory as NoMemory};
+ghost use Rattle.algorithms.specs.declared.fault.ReadFault.TheVariants.{OutOfMemory as NoMemory};
 ghost use Rattle.algorithm_texts.specs.declared.tokens.Token.{Token as TokenOf};
 ghost use Rattle.algorithm_texts.specs.declared.tokens.Token.TheVariants.{Word as OfWord, Sign as OfSign};
 ghost use Rattle.algorithm_texts.specs.Fronts.{is_the_word, is_the_sign};
-ghost use Rattle.algorithm_texts.specs.Tokens.{is_name_byte, named, long_signs, short_signs, number_token, word_token, sign_token, first_token, Scans, is_printable, before_comment, is_answer_part, is_answer_word, answer_from, answer_of, is_filled, LineSays};
+ghost use Rattle.algorithm_texts.specs.Tokens.{is_name_byte, value_of_name, long_signs, short_signs, number_token, word_token, sign_token, first_token, Scans, is_printable, before_comment, is_answer_part, is_answer_word, answer_from, answer_of, is_filled, LineSays};
 
 use algorithms::condition::Comparison;
 use algorithms::expression::Operator;
-use algorithms::fault::LineFault;
+use algorithms::fault::ReadFault;
 use std::alloc::Global;
 use std::marker::Model;
 
@@ -36,12 +36,12 @@ pub enum Sign {
 
 /// A word of a line, at most as long as a name.
 #[derive(Clone, Copy)]
-pub struct Word {
+pub struct LineWord {
     letters: [u8; LONGEST_NAME],
     size: usize,
 }
 
-impl Model for Word {
+impl Model for LineWord {
     ghost use Rattle.std.specs.Prelude.{◌≡◌, ◌-◌, ◌≤◌, ◌++◌, ℕ, List, length, take, replicate, IsAscii};
     ghost use Rattle.algorithm_texts.specs.Letters.{padded};
 
@@ -49,7 +49,8 @@ impl Model for Word {
 
     ghost view = { λ w. take w.size w.letters };
 
-    ghost invariant = { λ w. (w.size ≤ 32) × (length w.letters ≡ 32) × (w.letters ≡ take w.size w.letters ++ replicate (32 - w.size) 0) × IsAscii (take w.size w.letters) };
+    ghost invariant = { λ w. (w.size ≤ 32) × (length w.letters ≡ 32)
+        × (w.letters ≡ take w.size w.letters ++ replicate (32 - w.size) 0) × IsAscii (take w.size w.letters) };
 
     ghost inverse = { λ v. record { letters = v ++ replicate (32 - length v) 0; size = length v } };
 
@@ -60,7 +61,7 @@ impl Model for Word {
 #[derive(Clone, Copy)]
 pub enum Token {
     Number(u64),
-    Word(Word),
+    Word(LineWord),
     Sign(Sign),
 }
 
@@ -71,20 +72,20 @@ pub struct Tokens {
     pub answer: Vec<u8>,
 }
 
-impl Word {
+impl LineWord {
     /// These letters. `TooBig` where there are more than a name has.
-    fn of(bytes: &[u8]) -> Result<Word, LineFault>
+    fn of(bytes: &[u8]) -> Result<LineWord, ReadFault>
         requires { IsAscii bytes.now }
         ensures ok { IfOk result (λ word. (word ≡ bytes.now) × (length bytes.now ≤ 32)) }
-        ensures err { IfErr result (λ fault. (fault ≡ LineFault.TooBig) × (32 < length bytes.now)) }
+        ensures err { IfErr result (λ fault. (fault ≡ ReadFault.TooBig) × (32 < length bytes.now)) }
     {
         let size = bytes.len();
         if size > LONGEST_NAME {
-            return Err(LineFault::TooBig);
+            return Err(ReadFault::TooBig);
         }
         let mut letters = [0; LONGEST_NAME];
         letters[..size].copy_from_slice(bytes);
-        Ok(Word { letters, size })
+        Ok(LineWord { letters, size })
     }
 
     /// The letters of the word.
@@ -127,27 +128,27 @@ fn value_of(digits: &[u8]) -> Option<u64>
 
 /// The token of these digits. `BadForm` with a leading zero, `TooBig` above 2^64 - 1.
 #[tactic(auto, unfolding(crate::specs::Tokens::number_token))]
-fn number_token(digits: &[u8]) -> Result<Token, LineFault>
+fn number_token(digits: &[u8]) -> Result<Token, ReadFault>
     requires some { 0 < length digits.now }
     requires digits { AllDigits 10 digits.now }
     ensures { result ≡ number_token digits.now }
 {
     if digits.len() > 1 && digits[0] == b'0' {
-        return Err(LineFault::BadForm);
+        return Err(ReadFault::BadForm);
     }
     match value_of(digits) {
         Some(value) => Ok(Token::Number(value)),
-        None => Err(LineFault::TooBig),
+        None => Err(ReadFault::TooBig),
     }
 }
 
 /// The token that these letters are.
 #[tactic(auto, unfolding(crate::specs::Tokens::word_token))]
-fn word_token(letters: &[u8]) -> Result<Token, LineFault>
+fn word_token(letters: &[u8]) -> Result<Token, ReadFault>
     requires { IsAscii letters.now }
     ensures { result ≡ word_token letters.now }
 {
-    match Word::of(letters) {
+    match LineWord::of(letters) {
         Err(fault) => Err(fault),
         Ok(_) if letters == b"mod".as_slice() => Ok(Token::Sign(Sign::Operator(
             Operator::Remainder,
@@ -158,7 +159,7 @@ fn word_token(letters: &[u8]) -> Result<Token, LineFault>
 
 /// A sign of two characters.
 fn long_sign(first: u8, second: u8) -> Option<Sign>
-    ensures { result ≡ named long_signs (first ∷ second ∷ []) }
+    ensures { result ≡ value_of_name long_signs (first ∷ second ∷ []) }
 {
     match (first, second) {
         (b':', b'=') => Some(Sign::Assign),
@@ -171,7 +172,7 @@ fn long_sign(first: u8, second: u8) -> Option<Sign>
 
 /// A sign of one character.
 fn short_sign(byte: u8) -> Option<Sign>
-    ensures { result ≡ named short_signs (byte ∷ []) }
+    ensures { result ≡ value_of_name short_signs (byte ∷ []) }
 {
     match byte {
         b':' => Some(Sign::Colon),
@@ -192,7 +193,7 @@ fn short_sign(byte: u8) -> Option<Sign>
 }
 
 /// The sign at the front, and how many bytes it takes. `BadCharacter` where there is none.
-fn sign_token(bytes: &[u8]) -> Result<(Token, usize), LineFault>
+fn sign_token(bytes: &[u8]) -> Result<(Token, usize), ReadFault>
     requires { 0 < length bytes.now }
     ensures token { result ≡ sign_token bytes.now }
     ensures size { IfOk result (λ read. (0 < read.1) × (read.1 ≤ length bytes.now)) }
@@ -204,7 +205,7 @@ fn sign_token(bytes: &[u8]) -> Result<(Token, usize), LineFault>
     }
     match short_sign(bytes[0]) {
         Some(sign) => Ok((Token::Sign(sign), 1)),
-        None => Err(LineFault::BadCharacter),
+        None => Err(ReadFault::BadCharacter),
     }
 }
 
@@ -244,7 +245,7 @@ fn letters(bytes: &[u8]) -> usize
 
 /// The first token, and how many bytes it takes.
 #[tactic(auto, unfolding(crate::specs::Tokens::first_token))]
-fn first_token(bytes: &[u8]) -> Result<(Token, usize), LineFault>
+fn first_token(bytes: &[u8]) -> Result<(Token, usize), ReadFault>
     requires { 0 < length bytes.now }
     ensures token { result ≡ first_token bytes.now }
     ensures size { IfOk result (λ read. (0 < read.1) × (read.1 ≤ length bytes.now)) }
@@ -283,17 +284,17 @@ fn is_answer_word(word: &[u8]) -> bool
 }
 
 /// Adds a part to an answer, with one space before it unless it is the first. An empty part is no word.
-fn add_word(answer: &mut Vec<u8>, part: &[u8]) -> Result<(), LineFault>
+fn add_word(answer: &mut Vec<u8>, part: &[u8]) -> Result<(), ReadFault>
     ensures ok { (parts : List (List ℕ)) → answer_from parts ≡ Ok answer.old.items
         → OnOk result (answer_from (parts ++ part.now ∷ []) ≡ Ok answer.new.items) }
-    ensures err { IfErr result (λ fault. (fault ≡ NoMemory) ⊎ ((fault ≡ LineFault.BadForm)
+    ensures err { IfErr result (λ fault. (fault ≡ NoMemory) ⊎ ((fault ≡ ReadFault.BadForm)
         × (is_filled part.now ≡ true) × (is_answer_word part.now ≡ false))) }
 {
     if part.is_empty() {
         return Ok(());
     }
     if !is_answer_word(part) {
-        return Err(LineFault::BadForm);
+        return Err(ReadFault::BadForm);
     }
     if answer.is_empty() {
         answer.extend_from_slice(part)?;
@@ -306,7 +307,7 @@ fn add_word(answer: &mut Vec<u8>, part: &[u8]) -> Result<(), LineFault>
 
 /// The answer after `done`, with one space between its words. `BadForm` where they are not small letters, or such joined by
 /// single dashes.
-fn answer_of(alloc: Global, bytes: &[u8]) -> Result<Vec<u8>, LineFault>
+fn answer_of(alloc: Global, bytes: &[u8]) -> Result<Vec<u8>, ReadFault>
     ensures ok { IfOk result (λ answer. answer_of bytes.now ≡ Ok answer.items) }
     ensures err { IfErr result (λ fault. (fault ≡ NoMemory) ⊎ (answer_of bytes.now ≡ Err fault)) }
 {
@@ -346,7 +347,7 @@ pub fn tail(bytes: &[u8], size: usize) -> &[u8]
 }
 
 /// Reads tokens up to the end or the word `done`, and answers the bytes after it.
-fn read_tokens<'l>(all: &mut Vec<Token>, bytes: &'l [u8]) -> Result<&'l [u8], LineFault>
+fn read_tokens<'l>(all: &mut Vec<Token>, bytes: &'l [u8]) -> Result<&'l [u8], ReadFault>
     ensures ok { IfOk result (λ rest. (read : List TokenOf) × (all.new.items ≡ all.old.items ++ read)
         × Scans bytes.now read (Ok rest.now)) }
     ensures err { IfErr result (λ fault. (fault ≡ NoMemory) ⊎ ((read : List TokenOf) × Scans bytes.now read (Err fault))) }
@@ -375,13 +376,13 @@ fn is_printable(line: &[u8]) -> bool
 }
 
 /// The tokens of a line, without its LF. A comment is none.
-pub fn tokens_of(alloc: Global, line: &[u8]) -> Result<Tokens, LineFault>
+pub fn tokens_of(alloc: Global, line: &[u8]) -> Result<Tokens, ReadFault>
     ensures ok { IfOk result (λ read. LineSays line.now (Ok (read.all.items, read.answer.items))) }
     ensures ascii { IfOk result (λ read. IsAscii read.answer.items) }
     ensures err { IfErr result (λ fault. (fault ≡ NoMemory) ⊎ LineSays line.now (Err fault)) }
 {
     if !is_printable(line) {
-        return Err(LineFault::BadCharacter);
+        return Err(ReadFault::BadCharacter);
     }
     let mut all = Vec::new(alloc);
     let rest = read_tokens(&mut all, before_comment(line))?;

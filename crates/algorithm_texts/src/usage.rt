@@ -8,7 +8,7 @@ ghost use Rattle.algorithm_texts.specs.Usage.{term_reads, formula_reads, index_r
 
 use algorithms::condition::{Condition, Pair};
 use algorithms::expression::Expression;
-use algorithms::line::{AccessLine, Action, Form, LocalLine};
+use algorithms::line::{AccessLine, Action, LineKind, LocalLine};
 
 /// What a line does with a private name.
 #[derive(Clone, Copy)]
@@ -93,13 +93,13 @@ fn local_reads(line: &LocalLine, name: usize) -> bool
 }
 
 /// Whether a line reads a name before it sets it.
-fn reads(form: &Form, name: usize) -> bool
+fn reads(form: &LineKind, name: usize) -> bool
     ensures { result ≡ reads name (form_of form.now) }
 {
     match form {
-        Form::Access(line) => access_reads(line, name),
-        Form::Local(line) => local_reads(line, name),
-        Form::Done(_) => false,
+        LineKind::Access(line) => access_reads(line, name),
+        LineKind::Local(line) => local_reads(line, name),
+        LineKind::Done(_) => false,
     }
 }
 
@@ -129,38 +129,38 @@ fn local_sets(line: &LocalLine, name: usize) -> bool
 }
 
 /// Whether a line sets a name, which is not that of its loop.
-pub fn sets(form: &Form, name: usize) -> bool
+pub fn sets(form: &LineKind, name: usize) -> bool
     ensures { result ≡ sets name (form_of form.now) }
 {
     match form {
-        Form::Access(line) => action_sets(&line.action, name),
-        Form::Local(line) => local_sets(line, name),
-        Form::Done(_) => false,
+        LineKind::Access(line) => action_sets(&line.action, name),
+        LineKind::Local(line) => local_sets(line, name),
+        LineKind::Done(_) => false,
     }
 }
 
 /// Whether a loop with this name begins at a line.
-pub fn begins_loop(form: &Form, name: usize) -> bool
+pub fn begins_loop(form: &LineKind, name: usize) -> bool
     ensures { result ≡ begins_loop name (form_of form.now) }
 {
     match form {
-        Form::Local(LocalLine::First { name: own, .. }) => *own == name,
+        LineKind::Local(LocalLine::First { name: own, .. }) => *own == name,
         _ => false,
     }
 }
 
 /// Whether a loop with this name ends at a line.
-pub fn ends_loop(form: &Form, name: usize) -> bool
+pub fn ends_loop(form: &LineKind, name: usize) -> bool
     ensures { result ≡ ends_loop name (form_of form.now) }
 {
     match form {
-        Form::Local(LocalLine::Next { name: own, .. }) => *own == name,
+        LineKind::Local(LocalLine::Next { name: own, .. }) => *own == name,
         _ => false,
     }
 }
 
 /// Whether a line uses a name so.
-pub fn has_usage(form: &Form, usage: Usage, name: usize) -> bool
+pub fn has_usage(form: &LineKind, usage: Usage, name: usize) -> bool
     ensures { result ≡ has_usage usage name (form_of form.now) }
 {
     match usage {
@@ -172,11 +172,11 @@ pub fn has_usage(form: &Form, usage: Usage, name: usize) -> bool
 }
 
 /// Whether a line may end its call by a withdraw.
-pub fn may_withdraw(form: &Form) -> bool
+pub fn may_withdraw(form: &LineKind) -> bool
     ensures { result ≡ may_withdraw (form_of form.now) }
 {
     match form {
-        Form::Access(access) => access.may_withdraw,
-        Form::Local(_) | Form::Done(_) => false,
+        LineKind::Access(access) => access.may_withdraw,
+        LineKind::Local(_) | LineKind::Done(_) => false,
     }
 }

@@ -1,23 +1,23 @@
 //! Values and conditions from tokens, by the strength of their operators.
 
 ghost use Rattle.std.specs.Prelude.{◌≡◌, ◌⊎◌, List, ℕ, IsAscii, IfOk, IfErr, Some, MatchResult};
-ghost use Rattle.algorithms.specs.declared.fault.LineFault.TheVariants.{OutOfMemory as NoMemory};
+ghost use Rattle.algorithms.specs.declared.fault.ReadFault.TheVariants.{OutOfMemory as NoMemory};
 ghost use Rattle.algorithm_texts.specs.declared.tokens.Sign.TheVariants.{Close as CloseSign, Comma as CommaSign};
 ghost use Rattle.algorithm_texts.specs.declared.tokens.Token.TheVariants.{Word as WordToken, Sign as SignToken};
 ghost use Rattle.algorithm_texts.specs.Parts.{part_of, term_of, formula_of, Value as ValuePart, Condition as ConditionPart};
 ghost use Rattle.algorithm_texts.specs.Grammar.{word_value as word_value_of, Says};
-ghost use Rattle.algorithm_texts.specs.Stacks.{Waits, head_of, worded, begun, headed, joint_of, joining, followed, turned, run, ended, read_part, reading, Begins};
-ghost use Rattle.algorithm_texts.specs.Operands.{stack_of, next_of, Turns, MakesWord, Ends, SayNoValue, SayNoCondition, scope_of, names_of, Refuses};
-ghost use Rattle.algorithm_texts.specs.LineReading.{read_value, read_condition};
+ghost use Rattle.algorithm_texts.specs.Stacks.{Waits, head_of, reading_after_word, reading_at_part, reading_after_head, joint_of, joining, reading_after_part, reading_after_token, run, part_at_end, read_part, reading, Begins};
+ghost use Rattle.algorithm_texts.specs.Operands.{stack_of, next_of, Turns, MakesWord, EndsOperand, SayNoValue, SayNoCondition, scope_of, names_of, RefusesOperand};
+ghost use Rattle.algorithm_texts.specs.LineDrafts.{read_value, read_condition};
 
 use crate::names::name_read;
 use crate::operands::{Bracket, Joint, Operand};
-use crate::stack::{Place, Stack, Waiting, close, comma, open, reduce};
+use crate::stack::{Stack, StackPlace, Waiting, close, comma, open, reduce};
 use crate::tokens::{Sign, Token};
 use algorithms::algorithm::Algorithm;
 use algorithms::condition::Condition;
 use algorithms::expression::Expression;
-use algorithms::fault::LineFault;
+use algorithms::fault::ReadFault;
 use std::alloc::Global;
 
 /// The bracket that comes next after this word.
@@ -40,7 +40,7 @@ fn word_value(
     alloc: Global,
     algorithm: &mut Algorithm,
     word: &[u8],
-) -> Result<Expression, LineFault>
+) -> Result<Expression, ReadFault>
     requires { IsAscii word.now }
     ensures value { MakesWord (names_of algorithm.new) result
         (word_value_of (scope_of algorithm.old) (names_of algorithm.old) word.now) }
@@ -58,15 +58,19 @@ fn word_value(
 }
 
 /// Reads a word where a part begins.
-fn first_word(alloc: Global, algorithm: &mut Algorithm, word: &[u8]) -> Result<Place, LineFault>
+fn first_word(
+    alloc: Global,
+    algorithm: &mut Algorithm,
+    word: &[u8],
+) -> Result<StackPlace, ReadFault>
     requires { IsAscii word.now }
     ensures place { (ws : List Waits) → Turns (names_of algorithm.new) ws result
-        (worded (scope_of algorithm.old) (names_of algorithm.old) ws word.now (head_of word.now)) }
+        (reading_after_word (scope_of algorithm.old) (names_of algorithm.old) ws word.now (head_of word.now)) }
     ensures kept { algorithm.new ≡ record algorithm.old { names = algorithm.new.names } }
 {
     match bracket_after(word) {
-        Some(head) => Ok(Place::Head(head)),
-        None => Ok(Place::After(Operand::Value(word_value(alloc, algorithm, word)?))),
+        Some(head) => Ok(StackPlace::Head(head)),
+        None => Ok(StackPlace::After(Operand::Value(word_value(alloc, algorithm, word)?))),
     }
 }
 
@@ -76,27 +80,27 @@ fn begin(
     algorithm: &mut Algorithm,
     stack: &mut Stack,
     token: &Token,
-) -> Result<Place, LineFault>
+) -> Result<StackPlace, ReadFault>
     ensures place { Turns (names_of algorithm.new) (stack_of stack.new) result
-        (begun (scope_of algorithm.old) (names_of algorithm.old) (stack_of stack.old) token.now) }
+        (reading_at_part (scope_of algorithm.old) (names_of algorithm.old) (stack_of stack.old) token.now) }
     ensures kept { algorithm.new ≡ record algorithm.old { names = algorithm.new.names } }
 {
     match token {
-        Token::Number(number) => Ok(Place::After(Operand::Value(Expression::Number(*number)))),
+        Token::Number(number) => Ok(StackPlace::After(Operand::Value(Expression::Number(*number)))),
         Token::Word(word) => first_word(alloc, algorithm, word.as_bytes()),
         Token::Sign(Sign::Open) => open(stack, Bracket::Plain),
-        Token::Sign(_) => Err(LineFault::BadForm),
+        Token::Sign(_) => Err(ReadFault::BadForm),
     }
 }
 
 /// Reads the bracket after its word.
-fn head(stack: &mut Stack, head: Bracket, token: &Token) -> Result<Place, LineFault>
+fn head(stack: &mut Stack, head: Bracket, token: &Token) -> Result<StackPlace, ReadFault>
     ensures { (names : List (List ℕ)) → Turns names (stack_of stack.new) result
-        (headed names (stack_of stack.old) head token.now) }
+        (reading_after_head names (stack_of stack.old) head token.now) }
 {
     match token {
         Token::Sign(Sign::Open) => open(stack, head),
-        _ => Err(LineFault::BadForm),
+        _ => Err(ReadFault::BadForm),
     }
 }
 
@@ -119,47 +123,52 @@ fn join_on(
     stack: &mut Stack,
     part: Operand,
     joint: Joint,
-) -> Result<Place, LineFault>
+) -> Result<StackPlace, ReadFault>
     ensures { (names : List (List ℕ)) → Turns names (stack_of stack.new) result
         (joining names (stack_of stack.old) (part_of part) (Some joint)) }
 {
     let left = reduce(alloc, stack, part, joint.strength())?;
     stack.push(Waiting::Joint(left, joint))?;
-    Ok(Place::Start)
+    Ok(StackPlace::Start)
 }
 
 /// Reads a word after a part.
-fn join_by(alloc: Global, stack: &mut Stack, part: Operand, word: &[u8]) -> Result<Place, LineFault>
+fn join_by(
+    alloc: Global,
+    stack: &mut Stack,
+    part: Operand,
+    word: &[u8],
+) -> Result<StackPlace, ReadFault>
     ensures { (names : List (List ℕ)) → Turns names (stack_of stack.new) result
-        (followed names (stack_of stack.old) (part_of part) (WordToken word.now)) }
+        (reading_after_part names (stack_of stack.old) (part_of part) (WordToken word.now)) }
 {
     match joint_word(word) {
         Some(joint) => join_on(alloc, stack, part, joint),
-        None => Err(LineFault::BadForm),
+        None => Err(ReadFault::BadForm),
     }
 }
 
 /// What is wrong with an index after a value: the word before it would be a shared one that is not declared.
-fn index_fault(part: &Operand) -> LineFault {
+fn index_fault(part: &Operand) -> ReadFault {
     match part {
-        Operand::Value(Expression::Private(_)) => LineFault::UnknownName,
-        _ => LineFault::BadForm,
+        Operand::Value(Expression::Private(_)) => ReadFault::UnknownName,
+        _ => ReadFault::BadForm,
     }
 }
 
 /// Ends the innermost bracket.
-fn close_after(alloc: Global, stack: &mut Stack, part: Operand) -> Result<Place, LineFault>
+fn close_after(alloc: Global, stack: &mut Stack, part: Operand) -> Result<StackPlace, ReadFault>
     ensures { (names : List (List ℕ)) → Turns names (stack_of stack.new) result
-        (followed names (stack_of stack.old) (part_of part) (SignToken CloseSign)) }
+        (reading_after_part names (stack_of stack.old) (part_of part) (SignToken CloseSign)) }
 {
     let whole = reduce(alloc, stack, part, 1)?;
     close(alloc, stack, whole)
 }
 
 /// Reads the comma of the innermost bracket.
-fn comma_after(alloc: Global, stack: &mut Stack, part: Operand) -> Result<Place, LineFault>
+fn comma_after(alloc: Global, stack: &mut Stack, part: Operand) -> Result<StackPlace, ReadFault>
     ensures { (names : List (List ℕ)) → Turns names (stack_of stack.new) result
-        (followed names (stack_of stack.old) (part_of part) (SignToken CommaSign)) }
+        (reading_after_part names (stack_of stack.old) (part_of part) (SignToken CommaSign)) }
 {
     let whole = reduce(alloc, stack, part, 1)?;
     comma(stack, whole)
@@ -171,9 +180,9 @@ fn sign_after(
     stack: &mut Stack,
     part: Operand,
     sign: Sign,
-) -> Result<Place, LineFault>
+) -> Result<StackPlace, ReadFault>
     ensures { (names : List (List ℕ)) → Turns names (stack_of stack.new) result
-        (followed names (stack_of stack.old) (part_of part) (SignToken sign)) }
+        (reading_after_part names (stack_of stack.old) (part_of part) (SignToken sign)) }
 {
     match sign {
         Sign::Close => close_after(alloc, stack, part),
@@ -181,22 +190,27 @@ fn sign_after(
         Sign::Operator(operator) => join_on(alloc, stack, part, Joint::Operator(operator)),
         Sign::Comparison(comparison) => join_on(alloc, stack, part, Joint::Comparison(comparison)),
         Sign::OpenIndex => Err(index_fault(&part)),
-        Sign::Assign => Err(LineFault::BadForm),
-        Sign::Colon => Err(LineFault::BadForm),
-        Sign::Open => Err(LineFault::BadForm),
-        Sign::CloseIndex => Err(LineFault::BadForm),
+        Sign::Assign => Err(ReadFault::BadForm),
+        Sign::Colon => Err(ReadFault::BadForm),
+        Sign::Open => Err(ReadFault::BadForm),
+        Sign::CloseIndex => Err(ReadFault::BadForm),
     }
 }
 
 /// Reads a token after a part.
-fn go_on(alloc: Global, stack: &mut Stack, part: Operand, token: &Token) -> Result<Place, LineFault>
+fn go_on(
+    alloc: Global,
+    stack: &mut Stack,
+    part: Operand,
+    token: &Token,
+) -> Result<StackPlace, ReadFault>
     ensures { (names : List (List ℕ)) → Turns names (stack_of stack.new) result
-        (followed names (stack_of stack.old) (part_of part) token.now) }
+        (reading_after_part names (stack_of stack.old) (part_of part) token.now) }
 {
     match token {
         Token::Sign(sign) => sign_after(alloc, stack, part, *sign),
         Token::Word(word) => join_by(alloc, stack, part, word.as_bytes()),
-        Token::Number(_) => Err(LineFault::BadForm),
+        Token::Number(_) => Err(ReadFault::BadForm),
     }
 }
 
@@ -205,17 +219,17 @@ fn turn(
     alloc: Global,
     algorithm: &mut Algorithm,
     stack: &mut Stack,
-    place: Place,
+    place: StackPlace,
     token: &Token,
-) -> Result<Place, LineFault>
+) -> Result<StackPlace, ReadFault>
     ensures place { Turns (names_of algorithm.new) (stack_of stack.new) result
-        (turned (scope_of algorithm.old) (names_of algorithm.old) (stack_of stack.old) (next_of place) token.now) }
+        (reading_after_token (scope_of algorithm.old) (names_of algorithm.old) (stack_of stack.old) (next_of place) token.now) }
     ensures kept { algorithm.new ≡ record algorithm.old { names = algorithm.new.names } }
 {
     match place {
-        Place::Start => begin(alloc, algorithm, stack, token),
-        Place::Head(bracket) => head(stack, bracket, token),
-        Place::After(part) => go_on(alloc, stack, part, token),
+        StackPlace::Start => begin(alloc, algorithm, stack, token),
+        StackPlace::Head(bracket) => head(stack, bracket, token),
+        StackPlace::After(part) => go_on(alloc, stack, part, token),
     }
 }
 
@@ -225,12 +239,12 @@ fn read_tokens(
     algorithm: &mut Algorithm,
     stack: &mut Stack,
     tokens: &[Token],
-) -> Result<Place, LineFault>
+) -> Result<StackPlace, ReadFault>
     ensures place { Turns (names_of algorithm.new) (stack_of stack.new) result
         (run (scope_of algorithm.old) tokens.now (reading (names_of algorithm.old) (stack_of stack.old) Begins)) }
     ensures kept { algorithm.new ≡ record algorithm.old { names = algorithm.new.names } }
 {
-    let mut place = Place::Start;
+    let mut place = StackPlace::Start;
     for token in tokens {
         place = turn(alloc, algorithm, stack, place, token)?;
     }
@@ -238,22 +252,22 @@ fn read_tokens(
 }
 
 /// The one part that is left at the end.
-fn end(alloc: Global, stack: &mut Stack, place: Place) -> Result<Operand, LineFault>
-    ensures { (names : List (List ℕ)) → Ends names result (ended names (stack_of stack.old) (next_of place)) }
+fn end(alloc: Global, stack: &mut Stack, place: StackPlace) -> Result<Operand, ReadFault>
+    ensures { (names : List (List ℕ)) → EndsOperand names result (part_at_end names (stack_of stack.old) (next_of place)) }
 {
-    let Place::After(part) = place else {
-        return Err(LineFault::BadForm);
+    let StackPlace::After(part) = place else {
+        return Err(ReadFault::BadForm);
     };
     let whole = reduce(alloc, stack, part, 1)?;
     match stack.pop() {
         None => Ok(whole),
-        Some(_) => Err(LineFault::BadForm),
+        Some(_) => Err(ReadFault::BadForm),
     }
 }
 
 /// What the tokens say, as a whole.
-fn parsed(alloc: Global, algorithm: &mut Algorithm, tokens: &[Token]) -> Result<Operand, LineFault>
-    ensures part { Ends (names_of algorithm.new) result
+fn parse(alloc: Global, algorithm: &mut Algorithm, tokens: &[Token]) -> Result<Operand, ReadFault>
+    ensures part { EndsOperand (names_of algorithm.new) result
         (read_part (scope_of algorithm.old) (names_of algorithm.old) tokens.now) }
     ensures kept { algorithm.new ≡ record algorithm.old { names = algorithm.new.names } }
 {
@@ -267,17 +281,17 @@ pub fn value(
     alloc: Global,
     algorithm: &mut Algorithm,
     tokens: &[Token],
-) -> Result<Expression, LineFault>
+) -> Result<Expression, ReadFault>
     ensures reads { MatchResult result
         (λ v. read_value (scope_of algorithm.old) (names_of algorithm.old) tokens.now ≡ Some (term_of v, names_of algorithm.new))
-        (λ fault. Refuses fault (read_value (scope_of algorithm.old) (names_of algorithm.old) tokens.now)) }
+        (λ fault. RefusesOperand fault (read_value (scope_of algorithm.old) (names_of algorithm.old) tokens.now)) }
     ensures ok { IfOk result (λ v. Says
         (scope_of algorithm.old) (names_of algorithm.old) tokens.now (ValuePart (term_of v)) (names_of algorithm.new)) }
     ensures err { IfErr result (λ fault. (fault ≡ NoMemory)
         ⊎ SayNoValue (scope_of algorithm.old) (names_of algorithm.old) tokens.now) }
     ensures kept { algorithm.new ≡ record algorithm.old { names = algorithm.new.names } }
 {
-    match parsed(alloc, algorithm, tokens) {
+    match parse(alloc, algorithm, tokens) {
         Ok(operand) => operand.value(),
         Err(fault) => Err(fault),
     }
@@ -288,17 +302,17 @@ pub fn condition(
     alloc: Global,
     algorithm: &mut Algorithm,
     tokens: &[Token],
-) -> Result<Condition, LineFault>
+) -> Result<Condition, ReadFault>
     ensures reads { MatchResult result
         (λ c. read_condition (scope_of algorithm.old) (names_of algorithm.old) tokens.now ≡ Some (formula_of c, names_of algorithm.new))
-        (λ fault. Refuses fault (read_condition (scope_of algorithm.old) (names_of algorithm.old) tokens.now)) }
+        (λ fault. RefusesOperand fault (read_condition (scope_of algorithm.old) (names_of algorithm.old) tokens.now)) }
     ensures ok { IfOk result (λ c. Says
         (scope_of algorithm.old) (names_of algorithm.old) tokens.now (ConditionPart (formula_of c)) (names_of algorithm.new)) }
     ensures err { IfErr result (λ fault. (fault ≡ NoMemory)
         ⊎ SayNoCondition (scope_of algorithm.old) (names_of algorithm.old) tokens.now) }
     ensures kept { algorithm.new ≡ record algorithm.old { names = algorithm.new.names } }
 {
-    match parsed(alloc, algorithm, tokens) {
+    match parse(alloc, algorithm, tokens) {
         Ok(operand) => operand.condition(),
         Err(fault) => Err(fault),
     }

@@ -2,18 +2,18 @@
 
 ghost use Rattle.std.specs.Prelude.{◌≡◌, ◌==◌, ◌≤◌, ℕ, if◌then◌else◌, None, reverse, ◌++◌, ◌∷◌, [], List, position, map, length, drop, slice_get, Some, Ok, IfOk, OnOk, IfSome, is_some};
 ghost use Rattle.std.specs.List.{list_any};
-ghost use Rattle.algorithms.specs.declared.algorithm.Call.TheVariants.{Withdraw};
+ghost use Rattle.algorithms.specs.declared.algorithm.AlgorithmCall.TheVariants.{Withdraw};
 ghost use Rattle.algorithms.specs.Deeds.{SaysDeed};
 ghost use Rattle.algorithms.specs.Ranked.{LocalLinesEnd, AccessesLeadOn};
-ghost use Rattle.algorithms.specs.declared.line.Deed.TheVariants as deeds;
-ghost use Rattle.algorithm_texts.specs.Drafts.{drafted, line_of};
-ghost use Rattle.algorithm_texts.specs.Finishing.{EndUnreached, begins_of, call_in, finished, first_of, kind_led, with_entries, with_lines};
+ghost use Rattle.algorithms.specs.declared.line.AlgorithmDeed.TheVariants as deeds;
+ghost use Rattle.algorithm_texts.specs.Drafts.{draft_view, line_of};
+ghost use Rattle.algorithm_texts.specs.FinishedDrafts.{EndUnreached, begins_of, call_in, finished_draft, first_of, kind_led, with_entries, with_lines};
 ghost use Rattle.algorithm_texts.specs.Lawful.{LinesFit};
-ghost use Rattle.algorithm_texts.specs.Programs.{Spells};
+ghost use Rattle.algorithm_texts.specs.Programs.{SpellsAlgorithm};
 ghost use Rattle.algorithm_texts.specs.Runs.{RunsFit};
 ghost use Rattle.algorithm_texts.specs.Usage.{may_withdraw};
 ghost use Rattle.algorithm_texts.specs.TextLines.{TextSays, and_line, second_said, spoken_of};
-ghost use Rattle.algorithm_texts.specs.TextReading.{IsEmpty, Spoken, begun, is_call, read_head, read_lines, read_text};
+ghost use Rattle.algorithm_texts.specs.TextDrafts.{IsEmpty, Spoken, empty_draft, is_call, read_head, read_lines, read_text};
 ghost use Rattle.algorithm_texts.specs.Tokens.{LineSays};
 
 use crate::calls::{head, promises};
@@ -22,10 +22,10 @@ use crate::lines::{CallRead, Draft};
 use crate::marks::{end_unmarked, mark_all, runs_stay};
 use crate::tokens::{tail, tokens_of};
 use crate::usage::may_withdraw;
-use algorithms::algorithm::{Algorithm, Call, Entries, Promises};
+use algorithms::algorithm::{Algorithm, AlgorithmCall, Entries, Promises};
 use algorithms::deeds::says_deed;
-use algorithms::fault::{AlgorithmFault, LineFault};
-use algorithms::line::{Deed, Line};
+use algorithms::fault::{AlgorithmFault, ReadFault};
+use algorithms::line::{AlgorithmDeed, AlgorithmLine};
 use algorithms::ranks::lines_end;
 use std::alloc::{AllocError, Global};
 
@@ -46,7 +46,7 @@ fn read_tokens(alloc: Global, number: u64, line: &[u8]) -> Result<Filled, Algori
     ensures short { OnOk result (length line.now ≤ 1000) }
 {
     if number > MOST_LINES as u64 || line.len() > LONGEST_LINE {
-        return Err(LineFault::TooBig.at(number));
+        return Err(ReadFault::TooBig.at(number));
     }
     match tokens_of(alloc, line) {
         Ok(tokens) => Ok(Filled { number, tokens }),
@@ -64,7 +64,7 @@ fn add_filled(lines: &mut Vec<Filled>, line: Filled) -> Result<(), AlgorithmFaul
         return Ok(());
     }
     if lines.len() >= MOST_FILLED {
-        return Err(LineFault::TooBig.at(line.number));
+        return Err(ReadFault::TooBig.at(line.number));
     }
     lines.push(line).map_err(|_| AlgorithmFault::OutOfMemory)
 }
@@ -100,7 +100,7 @@ fn lines_of(alloc: Global, text: &[u8]) -> Result<Vec<Filled>, AlgorithmFault>
     if rest.is_empty() {
         Ok(lines)
     } else {
-        Err(LineFault::NoNewline.at(number))
+        Err(ReadFault::NoNewline.at(number))
     }
 }
 
@@ -109,7 +109,7 @@ fn second_line(lines: &[Filled], first: u64) -> Result<(Promises, u64), Algorith
     ensures { IfOk result (λ second. second_said (slice_get lines.now 1) ≡ Some (second.0, second.1)) }
 {
     match lines.get(1) {
-        None => Err(LineFault::NoHeader.at(first)),
+        None => Err(ReadFault::NoHeader.at(first)),
         Some(second) => promises_of(second),
     }
 }
@@ -127,11 +127,11 @@ fn promises_of(line: &Filled) -> Result<(Promises, u64), AlgorithmFault>
 /// The draft of a text of which the first two lines are read.
 fn draft(alloc: Global, lines: &[Filled]) -> Result<Draft, AlgorithmFault>
     ensures { IfOk result (λ draft.
-        read_text (map spoken_of lines.now) ≡ read_lines (drafted draft) (drop 2 (map spoken_of lines.now))) }
+        read_text (map spoken_of lines.now) ≡ read_lines (draft_view draft) (drop 2 (map spoken_of lines.now))) }
 {
     let first = match lines.first() {
         Some(first) => first,
-        None => return Err(LineFault::NoHeader.at(1)),
+        None => return Err(ReadFault::NoHeader.at(1)),
     };
     let algorithm = head_of(alloc, first)?;
     let (promises, number) = second_line(lines, first.number)?;
@@ -151,7 +151,7 @@ fn head_of(alloc: Global, line: &Filled) -> Result<Algorithm, AlgorithmFault>
 
 /// A draft of this algorithm, after the line of this number.
 fn new_draft(alloc: Global, algorithm: Algorithm, promises: Promises, number: u64) -> Draft
-    ensures { (h : List ℕ × ℕ × ℕ) → IsEmpty algorithm h.0 h.1 h.2 → drafted result ≡ begun h promises number }
+    ensures { (h : List ℕ × ℕ × ℕ) → IsEmpty algorithm h.0 h.1 h.2 → draft_view result ≡ empty_draft h promises number }
 {
     let mut algorithm = algorithm;
     algorithm.promises = promises;
@@ -180,7 +180,7 @@ fn after_head(lines: &[Filled]) -> &[Filled]
 /// Reads a line.
 fn read_line(alloc: Global, draft: &mut Draft, line: &Filled) -> Result<(), AlgorithmFault>
     ensures { OnOk result ((ss : List Spoken)
-        → read_lines (drafted draft.old) (spoken_of line.now ∷ ss) ≡ read_lines (drafted draft.new) ss) }
+        → read_lines (draft_view draft.old) (spoken_of line.now ∷ ss) ≡ read_lines (draft_view draft.new) ss) }
 {
     let last = draft.number;
     draft.number = line.number;
@@ -192,7 +192,7 @@ fn read_line(alloc: Global, draft: &mut Draft, line: &Filled) -> Result<(), Algo
 
 /// Ends the last call.
 fn end_calls(draft: &mut Draft) -> Result<(), AlgorithmFault>
-    ensures { OnOk result (read_lines (drafted draft.old) [] ≡ Some (drafted draft.new)) }
+    ensures { OnOk result (read_lines (draft_view draft.old) [] ≡ Some (draft_view draft.new)) }
 {
     let last = draft.number;
     match draft.end_call(last) {
@@ -203,7 +203,7 @@ fn end_calls(draft: &mut Draft) -> Result<(), AlgorithmFault>
 
 /// Reads all lines after the first two.
 fn read_all(alloc: Global, draft: &mut Draft, lines: &[Filled]) -> Result<(), AlgorithmFault>
-    ensures { OnOk result (read_lines (drafted draft.old) (map spoken_of lines.now) ≡ Some (drafted draft.new)) }
+    ensures { OnOk result (read_lines (draft_view draft.old) (map spoken_of lines.now) ≡ Some (draft_view draft.new)) }
 {
     for line in lines {
         read_line(alloc, draft, line)?;
@@ -213,7 +213,7 @@ fn read_all(alloc: Global, draft: &mut Draft, lines: &[Filled]) -> Result<(), Al
 
 /// The draft of a whole text.
 fn forms(alloc: Global, text: &[u8]) -> Result<Draft, AlgorithmFault>
-    ensures { IfOk result (λ draft. (spoken : List Spoken) × TextSays text.now spoken × (read_text spoken ≡ Some (drafted draft))) }
+    ensures { IfOk result (λ draft. (spoken : List Spoken) × TextSays text.now spoken × (read_text spoken ≡ Some (draft_view draft))) }
 {
     let lines = lines_of(alloc, text)?;
     let mut draft = draft(alloc, lines.as_slice())?;
@@ -222,7 +222,7 @@ fn forms(alloc: Global, text: &[u8]) -> Result<Draft, AlgorithmFault>
 }
 
 /// The first call of this kind.
-fn first_call(calls: &[CallRead], call: Call) -> Option<CallRead>
+fn first_call(calls: &[CallRead], call: AlgorithmCall) -> Option<CallRead>
     ensures { result ≡ call_in call (reverse calls.now) }
 {
     let mut first = None;
@@ -233,7 +233,7 @@ fn first_call(calls: &[CallRead], call: Call) -> Option<CallRead>
 }
 
 /// A call that was found, else this one where it is of the kind.
-fn first_of(first: Option<CallRead>, read: CallRead, call: Call) -> Option<CallRead>
+fn first_of(first: Option<CallRead>, read: CallRead, call: AlgorithmCall) -> Option<CallRead>
     ensures { result ≡ first_of first (if is_call call read then Some read else None) }
 {
     match first {
@@ -243,8 +243,8 @@ fn first_of(first: Option<CallRead>, read: CallRead, call: Call) -> Option<CallR
 }
 
 /// A call of the draft.
-fn call_of(draft: &Draft, call: Call) -> Option<CallRead>
-    ensures { result ≡ call_in call (drafted draft.now).calls }
+fn call_of(draft: &Draft, call: AlgorithmCall) -> Option<CallRead>
+    ensures { result ≡ call_in call (draft_view draft.now).calls }
 {
     first_call(draft.calls.as_slice(), call)
 }
@@ -253,15 +253,15 @@ fn call_of(draft: &Draft, call: Call) -> Option<CallRead>
 fn check_filled(draft: &Draft) -> Result<(), AlgorithmFault> {
     for call in &draft.calls {
         if call.from == call.to {
-            return Err(LineFault::FallsOff.at(call.number));
+            return Err(ReadFault::FallsOff.at(call.number));
         }
     }
     Ok(())
 }
 
 /// Where a call begins.
-fn beginning(draft: &Draft, call: Call) -> Option<usize>
-    ensures { result ≡ begins_of (call_in call (drafted draft.now).calls) }
+fn beginning(draft: &Draft, call: AlgorithmCall) -> Option<usize>
+    ensures { result ≡ begins_of (call_in call (draft_view draft.now).calls) }
 {
     match call_of(draft, call) {
         Some(call) => Some(call.from),
@@ -271,13 +271,13 @@ fn beginning(draft: &Draft, call: Call) -> Option<usize>
 
 /// Sets where each call begins. `BadCall` where there is no lock or no unlock.
 fn set_entries(draft: &mut Draft) -> Result<(), AlgorithmFault>
-    ensures { OnOk result (with_entries (drafted draft.old) ≡ Some (drafted draft.new)) }
+    ensures { OnOk result (with_entries (draft_view draft.old) ≡ Some (draft_view draft.new)) }
 {
-    let fault = LineFault::BadCall.at(draft.number);
-    let lock = call_of(draft, Call::Lock).ok_or(fault)?;
-    let unlock = call_of(draft, Call::Unlock).ok_or(fault)?;
-    let recover = beginning(draft, Call::Recover);
-    let withdraw = beginning(draft, Call::Withdraw);
+    let fault = ReadFault::BadCall.at(draft.number);
+    let lock = call_of(draft, AlgorithmCall::Lock).ok_or(fault)?;
+    let unlock = call_of(draft, AlgorithmCall::Unlock).ok_or(fault)?;
+    let recover = beginning(draft, AlgorithmCall::Recover);
+    let withdraw = beginning(draft, AlgorithmCall::Withdraw);
     draft.algorithm.entries = Entries {
         lock: lock.from,
         unlock: unlock.from,
@@ -288,10 +288,10 @@ fn set_entries(draft: &mut Draft) -> Result<(), AlgorithmFault>
 }
 
 /// Checks the labels, the names, the deeds and the withdraws of a call, if it is there.
-fn check_call(draft: &mut Draft, call: Call) -> Result<(), AlgorithmFault>
-    ensures led { OnOk result (kind_led call (drafted draft.old) ≡ Some (drafted draft.new)) }
-    ensures fits { OnOk result ((read : CallRead) → call_in call (drafted draft.new).calls ≡ Some read
-        → LinesFit (drafted draft.new) read) }
+fn check_call(draft: &mut Draft, call: AlgorithmCall) -> Result<(), AlgorithmFault>
+    ensures led { OnOk result (kind_led call (draft_view draft.old) ≡ Some (draft_view draft.new)) }
+    ensures fits { OnOk result ((read : CallRead) → call_in call (draft_view draft.new).calls ≡ Some read
+        → LinesFit (draft_view draft.new) read) }
 {
     match call_of(draft, call) {
         Some(read) => draft.check_call(read),
@@ -300,7 +300,7 @@ fn check_call(draft: &mut Draft, call: Call) -> Result<(), AlgorithmFault>
 }
 
 /// The number of the first line that may withdraw.
-fn first_withdraw(lines: &[Line]) -> Option<u64>
+fn first_withdraw(lines: &[AlgorithmLine]) -> Option<u64>
     ensures { is_some result ≡ list_any (λ line. may_withdraw line.form) (map line_of lines.now) }
 {
     for line in lines {
@@ -313,48 +313,53 @@ fn first_withdraw(lines: &[Line]) -> Option<u64>
 
 /// `BadCall` where a line may withdraw and there is no call withdraw, or the call is there and no line may.
 fn check_withdraw(draft: &Draft) -> Result<(), AlgorithmFault>
-    ensures { OnOk result (is_some (call_in Withdraw (drafted draft.now).calls)
-        ≡ list_any (λ line. may_withdraw line.form) (drafted draft.now).lines) }
+    ensures { OnOk result (is_some (call_in Withdraw (draft_view draft.now).calls)
+        ≡ list_any (λ line. may_withdraw line.form) (draft_view draft.now).lines) }
 {
     match (
         first_withdraw(draft.algorithm.lines.as_slice()),
-        call_of(draft, Call::Withdraw),
+        call_of(draft, AlgorithmCall::Withdraw),
     ) {
-        (Some(number), None) => Err(LineFault::BadCall.at(number)),
-        (None, Some(call)) => Err(LineFault::BadCall.at(call.number)),
+        (Some(number), None) => Err(ReadFault::BadCall.at(number)),
+        (None, Some(call)) => Err(ReadFault::BadCall.at(call.number)),
         (Some(_), Some(_)) | (None, None) => Ok(()),
     }
 }
 
 /// Checks the labels, the names, the deeds and the withdraws of all calls.
 fn check_calls(draft: &mut Draft) -> Result<(), AlgorithmFault>
-    ensures finished { OnOk result (finished (drafted draft.old) ≡ Some (drafted draft.new)) }
-    ensures fits { OnOk result ((kind : Call) (read : CallRead) → call_in kind (drafted draft.new).calls ≡ Some read
-        → LinesFit (drafted draft.new) read) }
-    ensures withdraw { OnOk result (is_some (call_in Withdraw (drafted draft.new).calls)
-        ≡ list_any (λ line. may_withdraw line.form) (drafted draft.new).lines) }
+    ensures finished { OnOk result (finished_draft (draft_view draft.old) ≡ Some (draft_view draft.new)) }
+    ensures fits { OnOk result ((kind : AlgorithmCall) (read : CallRead) → call_in kind (draft_view draft.new).calls ≡ Some read
+        → LinesFit (draft_view draft.new) read) }
+    ensures withdraw { OnOk result (is_some (call_in Withdraw (draft_view draft.new).calls)
+        ≡ list_any (λ line. may_withdraw line.form) (draft_view draft.new).lines) }
 {
     check_filled(draft)?;
     set_entries(draft)?;
-    check_call(draft, Call::Lock)?;
-    check_call(draft, Call::Unlock)?;
-    check_call(draft, Call::Recover)?;
-    check_call(draft, Call::Withdraw)?;
+    check_call(draft, AlgorithmCall::Lock)?;
+    check_call(draft, AlgorithmCall::Unlock)?;
+    check_call(draft, AlgorithmCall::Recover)?;
+    check_call(draft, AlgorithmCall::Withdraw)?;
     check_withdraw(draft)
 }
 
 /// The calls that a text has.
-const CALLS: [Call; 4] = [Call::Lock, Call::Unlock, Call::Recover, Call::Withdraw];
+const CALLS: [AlgorithmCall; 4] = [
+    AlgorithmCall::Lock,
+    AlgorithmCall::Unlock,
+    AlgorithmCall::Recover,
+    AlgorithmCall::Withdraw,
+];
 
 /// Marks the places to which the runs of a call come, if it is there, and checks what they may do.
 fn check_run(
     alloc: Global,
     draft: &Draft,
-    call: Call,
+    call: AlgorithmCall,
     marks: &mut [bool],
 ) -> Result<(), AlgorithmFault>
-    ensures { OnOk result ((read : CallRead) → call_in call (drafted draft.now).calls ≡ Some read
-        → RunsFit (drafted draft.now) read) }
+    ensures { OnOk result ((read : CallRead) → call_in call (draft_view draft.now).calls ≡ Some read
+        → RunsFit (draft_view draft.now) read) }
 {
     match call_of(draft, call) {
         Some(read) => {
@@ -368,25 +373,25 @@ fn check_run(
 
 /// The places to which the runs of all calls come, where they do what they may.
 fn check_all(alloc: Global, draft: &Draft) -> Result<Vec<bool>, AlgorithmFault>
-    ensures { OnOk result ((kind : Call) (read : CallRead) → call_in kind (drafted draft.now).calls ≡ Some read
-        → RunsFit (drafted draft.now) read) }
+    ensures { OnOk result ((kind : AlgorithmCall) (read : CallRead) → call_in kind (draft_view draft.now).calls ≡ Some read
+        → RunsFit (draft_view draft.now) read) }
 {
     let mut marks = vec![in alloc; false; draft.algorithm.lines.len()]?;
-    check_run(alloc, draft, Call::Lock, marks.as_mut_slice())?;
-    check_run(alloc, draft, Call::Unlock, marks.as_mut_slice())?;
-    check_run(alloc, draft, Call::Recover, marks.as_mut_slice())?;
-    check_run(alloc, draft, Call::Withdraw, marks.as_mut_slice())?;
+    check_run(alloc, draft, AlgorithmCall::Lock, marks.as_mut_slice())?;
+    check_run(alloc, draft, AlgorithmCall::Unlock, marks.as_mut_slice())?;
+    check_run(alloc, draft, AlgorithmCall::Recover, marks.as_mut_slice())?;
+    check_run(alloc, draft, AlgorithmCall::Withdraw, marks.as_mut_slice())?;
     Ok(marks)
 }
 
 /// Lets lines to which no run comes end their calls. That the places that are marked lead to no other is looked at again: it is
 /// always so.
 fn end_ways(draft: &mut Draft, marks: &[bool]) -> Result<(), AlgorithmFault>
-    ensures lines { OnOk result (EndUnreached (drafted draft.old) (drafted draft.new).lines) }
-    ensures kept { OnOk result (drafted draft.new ≡ with_lines (drafted draft.new).lines (drafted draft.old)) }
+    ensures lines { OnOk result (EndUnreached (draft_view draft.old) (draft_view draft.new).lines) }
+    ensures kept { OnOk result (draft_view draft.new ≡ with_lines (draft_view draft.new).lines (draft_view draft.old)) }
 {
     if !runs_stay(&draft.algorithm, marks) {
-        return Err(LineFault::Endless.at(draft.number));
+        return Err(ReadFault::Endless.at(draft.number));
     }
     end_unmarked(&mut draft.algorithm.lines, marks);
     Ok(())
@@ -394,10 +399,10 @@ fn end_ways(draft: &mut Draft, marks: &[bool]) -> Result<(), AlgorithmFault>
 
 /// Checks what the runs of all calls may do.
 fn check_runs(alloc: Global, draft: &mut Draft) -> Result<(), AlgorithmFault>
-    ensures runs { OnOk result ((kind : Call) (read : CallRead) → call_in kind (drafted draft.old).calls ≡ Some read
-        → RunsFit (drafted draft.old) read) }
-    ensures lines { OnOk result (EndUnreached (drafted draft.old) (drafted draft.new).lines) }
-    ensures kept { OnOk result (drafted draft.new ≡ with_lines (drafted draft.new).lines (drafted draft.old)) }
+    ensures runs { OnOk result ((kind : AlgorithmCall) (read : CallRead) → call_in kind (draft_view draft.old).calls ≡ Some read
+        → RunsFit (draft_view draft.old) read) }
+    ensures lines { OnOk result (EndUnreached (draft_view draft.old) (draft_view draft.new).lines) }
+    ensures kept { OnOk result (draft_view draft.new ≡ with_lines (draft_view draft.new).lines (draft_view draft.old)) }
 {
     let marks = check_all(alloc, draft)?;
     end_ways(draft, marks.as_slice())
@@ -418,22 +423,27 @@ fn ranks(alloc: Global, draft: &Draft) -> Result<Vec<u64>, AllocError> {
 fn check_flow(alloc: Global, draft: &mut Draft) -> Result<(), AlgorithmFault>
     ensures ends { OnOk result (LocalLinesEnd draft.new.algorithm) }
     ensures leads { OnOk result (AccessesLeadOn draft.new.algorithm) }
-    ensures runs { OnOk result ((kind : Call) (read : CallRead) → call_in kind (drafted draft.old).calls ≡ Some read
-        → RunsFit (drafted draft.old) read) }
-    ensures lines { OnOk result (EndUnreached (drafted draft.old) (drafted draft.new).lines) }
-    ensures kept { OnOk result (drafted draft.new ≡ with_lines (drafted draft.new).lines (drafted draft.old)) }
+    ensures runs { OnOk result ((kind : AlgorithmCall) (read : CallRead) → call_in kind (draft_view draft.old).calls ≡ Some read
+        → RunsFit (draft_view draft.old) read) }
+    ensures lines { OnOk result (EndUnreached (draft_view draft.old) (draft_view draft.new).lines) }
+    ensures kept { OnOk result (draft_view draft.new ≡ with_lines (draft_view draft.new).lines (draft_view draft.old)) }
 {
     check_runs(alloc, draft)?;
     let ranks = ranks(alloc, draft)?;
     if lines_end(&draft.algorithm, ranks.as_slice()) {
         Ok(())
     } else {
-        Err(LineFault::Endless.at(draft.number))
+        Err(ReadFault::Endless.at(draft.number))
     }
 }
 
 /// Checks that a line of the call that begins at this place says a deed.
-fn check_said(draft: &Draft, call: Call, entry: usize, deed: Deed) -> Result<(), AlgorithmFault>
+fn check_said(
+    draft: &Draft,
+    call: AlgorithmCall,
+    entry: usize,
+    deed: AlgorithmDeed,
+) -> Result<(), AlgorithmFault>
     ensures { OnOk result (SaysDeed draft.now.algorithm entry deed) }
 {
     if says_deed(&draft.algorithm, entry, deed) {
@@ -443,7 +453,7 @@ fn check_said(draft: &Draft, call: Call, entry: usize, deed: Deed) -> Result<(),
         Some(call) => call.number,
         None => draft.number,
     };
-    Err(LineFault::BadDeed.at(number))
+    Err(ReadFault::BadDeed.at(number))
 }
 
 /// Checks that the lock says that it enters, and the unlock that it leaves.
@@ -452,8 +462,18 @@ fn check_deeds(draft: &Draft) -> Result<(), AlgorithmFault>
     ensures leaves { OnOk result (SaysDeed draft.now.algorithm draft.now.algorithm.entries.unlock deeds.Leave) }
 {
     let entries = draft.algorithm.entries;
-    check_said(draft, Call::Lock, entries.lock, Deed::Enter)?;
-    check_said(draft, Call::Unlock, entries.unlock, Deed::Leave)
+    check_said(
+        draft,
+        AlgorithmCall::Lock,
+        entries.lock,
+        AlgorithmDeed::Enter,
+    )?;
+    check_said(
+        draft,
+        AlgorithmCall::Unlock,
+        entries.unlock,
+        AlgorithmDeed::Leave,
+    )
 }
 
 /// Reads an algorithm from a text.
@@ -463,7 +483,7 @@ fn check_deeds(draft: &Draft) -> Result<(), AlgorithmFault>
 /// what runs may do, and at last that the lock says `enter` and the unlock `leave`. Calls are taken in the order lock, unlock,
 /// recover, withdraw, whatever their order in the text, and in each call labels before names and deeds.
 pub fn read_algorithm(alloc: Global, text: &[u8]) -> Result<Algorithm, AlgorithmFault>
-    ensures spells { IfOk result (λ a. Spells text.now a) }
+    ensures spells { IfOk result (λ a. SpellsAlgorithm text.now a) }
     ensures ends { IfOk result LocalLinesEnd }
     ensures leads { IfOk result AccessesLeadOn }
     ensures enters { IfOk result (λ a. SaysDeed a a.entries.lock deeds.Enter) }

@@ -3,7 +3,7 @@ use Rattle.std.proofs.Common.{ℕ, ◌+◌, ◌-◌, ◌<◌, ◌≤◌, ◌≡�
 use Rattle.std.proofs.Math.Seq.{paste}
 use Rattle.std.proofs.lemmas.List.{append-nil, drop_all, take_all, length-replicate}
 use Rattle.std.proofs.lemmas.List.Edits.{fill_from_more, paste_all, paste_none}
-use Rattle.algorithms.specs.Steps.{kept}
+use Rattle.algorithms.specs.Steps.{lasting_names}
 
 -- n zeros from a place on
 abbrev zeros : List ℕ → ℕ → ℕ → List ℕ
@@ -17,7 +17,7 @@ zeros_more d s at i low high e =
     ap (λ x. slice_set x i 0) e ∙ ap (λ j. slice_set (zeros d at (i - at)) j 0) (sym here) ∙ fill_from_more d at (i - at) 0 far ∙ ap (zeros d at) more
 
 -- to the end
-pub zeros_all : (d s : List ℕ) (at i : ℕ) → length d ≡ 32 → at ≤ 32 → i ≡ 32 → s ≡ zeros d at (i - at) → s ≡ kept at d
+pub zeros_all : (d s : List ℕ) (at i : ℕ) → length d ≡ 32 → at ≤ 32 → i ≡ 32 → s ≡ zeros d at (i - at) → s ≡ lasting_names at d
 zeros_all d s at i long low end e =
     let n : i - at ≡ 32 - at = omega arith in
     let past : length d ≤ at + (32 - at) = omega arith in
@@ -26,7 +26,7 @@ zeros_all d s at i long low end e =
     ∙ ap (λ rest. take at d ++ rest) (append-nil (replicate (32 - at) 0))
 
 -- from a place past the end on none
-pub zeros_none : (d s : List ℕ) (at i : ℕ) → length d ≡ 32 → 32 < at → i ≡ at → s ≡ zeros d at (i - at) → s ≡ kept at d
+pub zeros_none : (d s : List ℕ) (at i : ℕ) → length d ≡ 32 → 32 < at → i ≡ at → s ≡ zeros d at (i - at) → s ≡ lasting_names at d
 zeros_none d s at i long high start e =
     let n : i - at ≡ 0 = omega arith in
     let m : 32 - at ≡ 0 = omega arith in

@@ -2,15 +2,15 @@
 use Rattle.std.proofs.Common.{ℕ, zero, suc, ◌+◌, ◌^◌, ◌<◌, ◌≤◌, ◌≡◌, Bool, true, false, cond, ◌&&◌, ◌||◌, nat_lt, nat_eq, refl, sym, ◌∙◌, ap, List, length, Option, Some, None, Ok, Err, ok_or, slice_get, slice_index, option_and_then, arith}
 use Rattle.std.proofs.lemmas.Bool.{leb-true, lt-ltb, ltb-true}
 use Rattle.std.proofs.lemmas.Option.{slice_get_within}
-use Rattle.algorithms.specs.Values.{evaluated, holds, fitting}
+use Rattle.algorithms.specs.Values.{expression_value, holds, fitting}
 use Rattle.algorithms.specs.LocalRuns.{at_place, with_value, with_deed, least_from, member_from, round_at, local_line_done}
 use Rattle.algorithms.specs.Arrivals.{GoesOn, arrives, arrives_after, local_step_of, ◌>>=◌}
 use Rattle.algorithms.specs.Ranked.{rank_of, is_line_below, is_below, has_round, ways_pass, is_line, form_falls, AllFall, LocalLinesEnd, AccessesLeadOn}
 use Rattle.algorithms.specs.declared.algorithm.Algorithm.{Algorithm}
 use Rattle.algorithms.specs.declared.constants.Constants.{Constants}
-use Rattle.algorithms.specs.declared.line.Form.{Form}
-use Rattle.algorithms.specs.declared.line.Form.TheVariants.{Access, Local, Done}
-use Rattle.algorithms.specs.declared.line.Line.{Line}
+use Rattle.algorithms.specs.declared.line.LineKind.{LineKind}
+use Rattle.algorithms.specs.declared.line.LineKind.TheVariants.{Access, Local, Done}
+use Rattle.algorithms.specs.declared.line.AlgorithmLine.{AlgorithmLine}
 use Rattle.algorithms.specs.declared.line.LocalLine.{LocalLine}
 use Rattle.algorithms.specs.declared.line.LocalLine.TheVariants.{Assign, Note, Goto, Branch, First, Next}
 use Rattle.algorithms.specs.declared.line.Members.{Members}
@@ -66,7 +66,7 @@ or_first false b h never = h
 goes_a_way : (test : ℕ → Bool) (least next : ℕ) (c : Constants) (s t : LocalState) (line : LocalLine) → c.me < c.procs → least ≤ c.procs
     → ways_pass test least next line ≡ true → local_line_done c next line s ≡ Some t → test t.at ≡ true
 goes_a_way test least next c s t (Assign name value) own many w e =
-    bind_lands test (evaluated c s.store value) (λ v. Some (at_place next (with_value name v s))) t e (λ v f. some_lands test (at_place next (with_value name v s)) t f w)
+    bind_lands test (expression_value c s.store value) (λ v. Some (at_place next (with_value name v s))) t e (λ v f. some_lands test (at_place next (with_value name v s)) t f w)
 goes_a_way test least next c s t (Note deed) own many w e =
     bind_lands test (with_deed deed s) (λ u. Some (at_place next u)) t e (λ u f. some_lands test (at_place next u) t f w)
 goes_a_way test least next c s t (Goto place) own many w e = some_lands test (at_place place s) t e w
@@ -86,21 +86,21 @@ goes_a_way test least next c s t (Next name members body) own many w e =
     (round_lands test name body next s (least_from c members further) (left_of (test body) (test next) w) (λ none. right_of (test body) (test next) w))))
 
 -- the line at a place that is below a rank
-line_below : (ranks : List ℕ) (rank place : ℕ) (o : Option Line) → is_line_below ranks rank place o ≡ true
-    → (line : Line) × ((o ≡ Some line) × (rank_of (slice_index ranks place) line.form < rank))
+line_below : (ranks : List ℕ) (rank place : ℕ) (o : Option AlgorithmLine) → is_line_below ranks rank place o ≡ true
+    → (line : AlgorithmLine) × ((o ≡ Some line) × (rank_of (slice_index ranks place) line.form < rank))
 line_below ranks rank place None h = absurd (cc)
 line_below ranks rank place (Some line) h = (line, (refl, ltb-true _ _ h))
 
 -- one line of a run: it stops, is refused for a value, or goes on at a line of lower rank
-by_next : (lines : List Line) (c : Constants) (m place p : ℕ) (s : LocalState) (o : Option LocalState)
+by_next : (lines : List AlgorithmLine) (c : Constants) (m place p : ℕ) (s : LocalState) (o : Option LocalState)
     → ((t : LocalState) → Some t ≡ o → arrives lines c m t ≡ Err (Malformed p) → ⊥)
     → ((ok_or o (OutOfRange place) >>= (λ next. Ok (GoesOn next))) >>= arrives_after (arrives lines c m) s) ≡ Err (Malformed p) → ⊥
 by_next lines c m place p s None rest e = cc
 by_next lines c m place p s (Some t) rest e = rest t refl e
 
 -- a line of a run, where the run ends from every line of lower rank with one line less
-ends_at : (lines : List Line) (least : ℕ) (ranks : List ℕ) (c : Constants) (n p : ℕ) (s : LocalState) (form : Form) → c.me < c.procs → least ≤ c.procs
-    → ((t : LocalState) (line : Line) → slice_get lines t.at ≡ Some line → rank_of (slice_index ranks t.at) line.form < n → arrives lines c n t ≡ Err (Malformed p) → ⊥)
+ends_at : (lines : List AlgorithmLine) (least : ℕ) (ranks : List ℕ) (c : Constants) (n p : ℕ) (s : LocalState) (form : LineKind) → c.me < c.procs → least ≤ c.procs
+    → ((t : LocalState) (line : AlgorithmLine) → slice_get lines t.at ≡ Some line → rank_of (slice_index ranks t.at) line.form < n → arrives lines c n t ≡ Err (Malformed p) → ⊥)
     → form_falls lines least ranks s.at form ≡ true → rank_of (slice_index ranks s.at) form < suc n
     → (local_step_of c form s >>= arrives_after (arrives lines c n) s) ≡ Err (Malformed p) → ⊥
 ends_at lines least ranks c n p s (Access access) own many rest f low e = cc
@@ -112,15 +112,15 @@ ends_at lines least ranks c n p s (Local local) own many rest f low e =
     let there = line_below ranks (slice_index ranks s.at) t.at (slice_get lines t.at) way in
     rest t there.0 there.1.0 (omega (arith, there.1.1)) more) e
 
-falls_end : (lines : List Line) (least : ℕ) (ranks : List ℕ) (c : Constants) → AllFall lines least ranks → c.me < c.procs → least ≤ c.procs
-    → (n p : ℕ) (s : LocalState) (line : Line) → slice_get lines s.at ≡ Some line → rank_of (slice_index ranks s.at) line.form < n → arrives lines c n s ≡ Err (Malformed p) → ⊥
+falls_end : (lines : List AlgorithmLine) (least : ℕ) (ranks : List ℕ) (c : Constants) → AllFall lines least ranks → c.me < c.procs → least ≤ c.procs
+    → (n p : ℕ) (s : LocalState) (line : AlgorithmLine) → slice_get lines s.at ≡ Some line → rank_of (slice_index ranks s.at) line.form < n → arrives lines c n s ≡ Err (Malformed p) → ⊥
 falls_end lines least ranks c all own many zero p s line here low e = absurd (omega arith)
 falls_end lines least ranks c all own many (suc n) p s line here low e =
     ends_at lines least ranks c n p s line.form own many (falls_end lines least ranks c all own many n p) (all s.at line here) low
     (ap (λ o. (ok_or o (Malformed s.at) >>= (λ l. local_step_of c l.form s)) >>= arrives_after (arrives lines c n) s) (sym here) ∙ e)
 
 -- the rank of a line that falls is below the number of lines
-rank_low : (lines : List Line) (least : ℕ) (ranks : List ℕ) (place : ℕ) (form : Form) → 0 < length lines → form_falls lines least ranks place form ≡ true → rank_of (slice_index ranks place) form < length lines
+rank_low : (lines : List AlgorithmLine) (least : ℕ) (ranks : List ℕ) (place : ℕ) (form : LineKind) → 0 < length lines → form_falls lines least ranks place form ≡ true → rank_of (slice_index ranks place) form < length lines
 rank_low lines least ranks place (Access access) some f = some
 rank_low lines least ranks place (Done answer) some f = some
 rank_low lines least ranks place (Local local) some f =
@@ -134,7 +134,7 @@ all_end a ranks all = record {
       (rank_low a.lines.items a.least ranks s.at line.form (omega (arith, slice_get_within a.lines.items s.at line here)) (all s.at line here)) e;
 }
 
-is_there : (lines : List Line) (place : ℕ) (o : Option Line) → slice_get lines place ≡ o → is_line o ≡ true → place < length lines
+is_there : (lines : List AlgorithmLine) (place : ℕ) (o : Option AlgorithmLine) → slice_get lines place ≡ o → is_line o ≡ true → place < length lines
 is_there lines place None e h = absurd (cc)
 is_there lines place (Some line) e h = slice_get_within lines place line e
 

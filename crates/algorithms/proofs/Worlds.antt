@@ -2,22 +2,22 @@
 use Rattle.std.proofs.Common.{ℕ, zero, suc, ◌+◌, ◌<◌, ◌≡◌, ◌∙◌, sym, refl, ap, arith, add-one, nat_lt, Bool, true, false, if◌then◌else◌, List, [], ◌∷◌, ◌++◌, drop, length, replicate, slice_get, slice_set, Option, Some, None, Result, Ok, ok_or}
 use Rattle.std.proofs.lemmas.List.{length-set}
 use Rattle.algorithms.specs.Arrivals.{◌>>=◌}
-use Rattle.algorithms.specs.Steps.{before_step, stopped, taken}
-use Rattle.algorithms.specs.Worlds.{WorldState, first_world, resting, constants_of, process_of, taken_by, stored_in, stored, after_step, said, advance}
+use Rattle.algorithms.specs.Steps.{before_step, process_stopped_at, step_from}
+use Rattle.algorithms.specs.Worlds.{AlgorithmWorldState, first_world, resting, constants_of, process_of, taken_by, stored_in, words_after_access, after_step, advance_in_world, advance}
 use Rattle.algorithms.specs.declared.access.Address.{Address}
 use Rattle.algorithms.specs.declared.access.Advanced.{Advanced}
 use Rattle.algorithms.specs.declared.access.Taken.{Taken}
 use Rattle.algorithms.specs.declared.algorithm.Algorithm.{Algorithm}
 use Rattle.algorithms.specs.declared.local.LocalState.{LocalState}
-use Rattle.algorithms.specs.declared.process.Place.TheVariants.{At}
-use Rattle.algorithms.specs.declared.process.Process.{Process}
+use Rattle.algorithms.specs.declared.process.AlgorithmPlace.TheVariants.{At}
+use Rattle.algorithms.specs.declared.process.AlgorithmProcess.{AlgorithmProcess}
 use Rattle.algorithms.specs.declared.refusal.AlgorithmRefusal.{AlgorithmRefusal}
 use Rattle.algorithms.specs.declared.refusal.AlgorithmRefusal.TheVariants.{NoSuchProcess}
 
-abbrev pub world_with : Algorithm → ℕ → ℕ → List (List ℕ) → List Process → WorldState
+abbrev pub world_with : Algorithm → ℕ → ℕ → List (List ℕ) → List AlgorithmProcess → AlgorithmWorldState
 world_with a procs limit words processes = record { algorithm = a; procs = procs; limit = limit; words = words; processes = processes }
 
-pub first_with : (a : Algorithm) (procs limit : ℕ) (words : List (List ℕ)) (processes : List Process)
+pub first_with : (a : Algorithm) (procs limit : ℕ) (words : List (List ℕ)) (processes : List AlgorithmProcess)
     → words ≡ replicate (length a.declarations.items) (replicate 64 0) → processes ≡ replicate procs resting → world_with a procs limit words processes ≡ first_world a procs limit
 first_with a procs limit words processes w p =
     ap (λ ws. world_with a procs limit ws processes) w ∙ ap (λ ps. world_with a procs limit (replicate (length a.declarations.items) (replicate 64 0)) ps) p
@@ -31,31 +31,31 @@ many_if : (words : List (List ℕ)) (address : Address) (v : ℕ) (b : Bool) →
 many_if words address v true = stored_in_many words address v (slice_get words address.declaration)
 many_if words address v false = refl
 
-pub stored_many : (words : List (List ℕ)) (address : Address) (stores : Option ℕ) → length (stored words address stores) ≡ length words
+pub stored_many : (words : List (List ℕ)) (address : Address) (stores : Option ℕ) → length (words_after_access words address stores) ≡ length words
 stored_many words address None = refl
 stored_many words address (Some v) = many_if words address v (nat_lt address.index 64)
 
 -- a process that is set to what it is
-pub set_as_it_is : (ps : List Process) (p : ℕ) (x : Process) → ok_or (slice_get ps p) NoSuchProcess ≡ Ok x → slice_set ps p x ≡ ps
+pub set_as_it_is : (ps : List AlgorithmProcess) (p : ℕ) (x : AlgorithmProcess) → ok_or (slice_get ps p) NoSuchProcess ≡ Ok x → slice_set ps p x ≡ ps
 set_as_it_is [] p x e = refl
 set_as_it_is (y ∷ ps) zero x e = let same : y ≡ x = cc in ap (λ z. z ∷ ps) (sym same)
 set_as_it_is (y ∷ ps) (suc p) x e = ap (λ zs. y ∷ zs) (set_as_it_is ps p x e)
 
 -- a step that is taken, with the world after it
-abbrev and_world : WorldState → ℕ → Taken → Result (Taken × WorldState) AlgorithmRefusal
+abbrev and_world : AlgorithmWorldState → ℕ → Taken → Result (Taken × AlgorithmWorldState) AlgorithmRefusal
 and_world w p t = Ok (t, after_step w p t)
 
 -- a blocked step leaves the processes as they are
-pub blocked_step : (w now : WorldState) (p at : ℕ) (process : Process) (a : Advanced) (s : LocalState) → process_of w p ≡ Ok process → process.place ≡ At at
-    → taken_by w.algorithm (constants_of w p) w.words (stopped (before_step at process) None) ≡ Ok (taken (before_step at process) a s) → a.blocked ≡ true
-    → now ≡ record w { words = stored w.words a.access.address a.access.stores } → advance w p ≡ Ok (a, now)
+pub blocked_step : (w now : AlgorithmWorldState) (p at : ℕ) (process : AlgorithmProcess) (a : Advanced) (s : LocalState) → process_of w p ≡ Ok process → process.place ≡ At at
+    → taken_by w.algorithm (constants_of w p) w.words (process_stopped_at (before_step at process) None) ≡ Ok (step_from (before_step at process) a s) → a.blocked ≡ true
+    → now ≡ record w { words = words_after_access w.words a.access.address a.access.stores } → advance w p ≡ Ok (a, now)
 blocked_step w now p at process a s there place step blocked after =
-    let before : Process = stopped (before_step at process) None in
+    let before : AlgorithmProcess = process_stopped_at (before_step at process) None in
     let same : process_of w p ≡ Ok before = there ∙ ap (λ x. Ok (record { place = x; store = process.store })) place in
-    let words : List (List ℕ) = stored w.words a.access.address a.access.stores in
-    ap (λ r. ((r >>= taken_by w.algorithm (constants_of w p) w.words) >>= and_world w p) >>= said) same
-    ∙ ap (λ r. (r >>= and_world w p) >>= said) step
-    ∙ ap (λ b. Ok (a, record w { words = words; processes = slice_set w.processes p (if b then before else stopped s a.answer) })) blocked
+    let words : List (List ℕ) = words_after_access w.words a.access.address a.access.stores in
+    ap (λ r. ((r >>= taken_by w.algorithm (constants_of w p) w.words) >>= and_world w p) >>= advance_in_world) same
+    ∙ ap (λ r. (r >>= and_world w p) >>= advance_in_world) step
+    ∙ ap (λ b. Ok (a, record w { words = words; processes = slice_set w.processes p (if b then before else process_stopped_at s a.answer) })) blocked
     ∙ ap (λ ps. Ok (a, record w { words = words; processes = ps })) (set_as_it_is w.processes p before same)
     ∙ ap (λ v. Ok (a, v)) (sym after)
 

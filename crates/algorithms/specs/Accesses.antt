@@ -1,7 +1,7 @@
 -- The accesses of a process: which word it loads or stores next, and what the value does to its names.
 use Rattle.std.specs.Prelude.{ℕ, ◌-◌, ◌^◌, nat_lt, nat_le, Bool, true, if◌then◌else◌, List, slice_get, slice_set, Option, Some, None}
-use Rattle.algorithms.specs.Values.{evaluated, holds, fitting, ◌>>=◌}
-use Rattle.algorithms.specs.declared.access.Access.{Access}
+use Rattle.algorithms.specs.Values.{expression_value, holds, fitting, ◌>>=◌}
+use Rattle.algorithms.specs.declared.access.WordAccess.{WordAccess}
 use Rattle.algorithms.specs.declared.algorithm.Declaration.{Declaration}
 use Rattle.algorithms.specs.declared.constants.Constants.{Constants}
 use Rattle.algorithms.specs.declared.expression.Expression.{Expression}
@@ -13,13 +13,13 @@ use Rattle.algorithms.specs.declared.line.Action.TheVariants.{Load, Store, Await
 abbrev pub index_of : Constants → List ℕ → Option Expression → Option ℕ
 index_of c store None = Some 0
 index_of c store (Some index) = do
-  i ← evaluated c store index
+  i ← expression_value c store index
   fitting (nat_lt i c.procs) i
 
 -- the greatest value that may be stored
 abbrev pub bound_of : Constants → List ℕ → Option Expression → Option ℕ
 bound_of c store None = Some (2 ^ 64 - 1)
-bound_of c store (Some bound) = evaluated c store bound
+bound_of c store (Some bound) = expression_value c store bound
 
 -- the value that an access stores, within its bound. None of it where the access loads
 abbrev pub value_stored : Constants → List ℕ → Declaration → Action → Option (Option ℕ)
@@ -27,11 +27,11 @@ value_stored c store declaration (Load name) = Some None
 value_stored c store declaration (Await name until) = Some None
 value_stored c store declaration (Store value) = do
   bound ← bound_of c store declaration.bound
-  v ← evaluated c store value
+  v ← expression_value c store value
   if nat_le v bound then Some (Some v) else None
 
 -- the access of a line, with these values of the private names
-abbrev pub access_of : List Declaration → Constants → List ℕ → AccessLine → Option Access
+abbrev pub access_of : List Declaration → Constants → List ℕ → AccessLine → Option WordAccess
 access_of declarations c store line = do
   declaration ← slice_get declarations line.word.declaration
   i ← index_of c store line.word.index
@@ -39,10 +39,10 @@ access_of declarations c store line = do
   Some (record { address = record { declaration = line.word.declaration; index = i }; stores = stores })
 
 -- the names once the value is read
-abbrev pub received : Action → ℕ → List ℕ → List ℕ
-received (Load name) v store = slice_set store name v
-received (Await name until) v store = slice_set store name v
-received (Store value) v store = store
+abbrev pub names_after_read : Action → ℕ → List ℕ → List ℕ
+names_after_read (Load name) v store = slice_set store name v
+names_after_read (Await name until) v store = slice_set store name v
+names_after_read (Store value) v store = store
 
 -- whether the process goes on, with the names once the value is read. An await goes on where its condition holds
 abbrev pub passes : Constants → List ℕ → Action → Option Bool

@@ -2,9 +2,9 @@
 use Rattle.std.specs.Prelude.{◌≡◌, ℕ, ◌<◌, ◌≤◌, List, [], ◌∷◌, Option, Some, Contains, slice_get}
 use Rattle.algorithms.specs.declared.algorithm.Algorithm.{Algorithm}
 use Rattle.algorithms.specs.declared.algorithm.Entries.{Entries}
-use Rattle.algorithms.specs.declared.line.Deed.{Deed}
-use Rattle.algorithms.specs.declared.line.Form.TheVariants.{Local}
-use Rattle.algorithms.specs.declared.line.Line.{Line}
+use Rattle.algorithms.specs.declared.line.AlgorithmDeed.{AlgorithmDeed}
+use Rattle.algorithms.specs.declared.line.LineKind.TheVariants.{Local}
+use Rattle.algorithms.specs.declared.line.AlgorithmLine.{AlgorithmLine}
 use Rattle.algorithms.specs.declared.line.LocalLine.TheVariants.{Note}
 
 -- where calls begin
@@ -17,9 +17,9 @@ pub record IsLineOf (entries : Entries) (entry at : ℕ) : Type 0 where
   pub alone : (other : ℕ) → Contains (entries_of entries) (Some other) → entry < other → at < other
 
 -- a line of the call that begins at `entry` says this deed
-pub record SaysDeed (a : Algorithm) (entry : ℕ) (deed : Deed) : Type 0 where
+pub record SaysDeed (a : Algorithm) (entry : ℕ) (deed : AlgorithmDeed) : Type 0 where
   pub at : ℕ
-  pub line : Line
+  pub line : AlgorithmLine
   pub there : slice_get a.lines.items at ≡ Some line
   pub within : IsLineOf a.entries entry at
   pub says : line.form ≡ Local (Note deed)

@@ -2,11 +2,11 @@
 use Rattle.std.specs.Prelude.{ℕ}
 use Rattle.algorithms.specs.declared.fault.AlgorithmFault.{AlgorithmFault}
 use Rattle.algorithms.specs.declared.fault.AlgorithmFault.TheVariants.{At, OutOfMemory as NoMemory}
-use Rattle.algorithms.specs.declared.fault.LineFault.{LineFault}
-use Rattle.algorithms.specs.declared.fault.LineFault.TheVariants.{NoHeader, BadCharacter, NoNewline, BadForm, NameTaken, UnknownName, TwoAccesses, NotAssignable, BadBlock, BadLabel, Unset, Endless, NoStep, FallsOff, BadDeed, TooBig, BadCall, NeverReached, OutOfMemory}
+use Rattle.algorithms.specs.declared.fault.ReadFault.{ReadFault}
+use Rattle.algorithms.specs.declared.fault.ReadFault.TheVariants.{NoHeader, BadCharacter, NoNewline, BadForm, NameTaken, UnknownName, TwoAccesses, NotAssignable, BadBlock, BadLabel, Unset, Endless, NoStep, FallsOff, BadDeed, TooBig, BadCall, NeverReached, OutOfMemory}
 
 -- a fault of a line, as the text's. Out of memory is of no line
-abbrev pub fault_of : ℕ → LineFault → AlgorithmFault
+abbrev pub fault_of : ℕ → ReadFault → AlgorithmFault
 fault_of line NoHeader = At line 1
 fault_of line BadCharacter = At line 2
 fault_of line NoNewline = At line 3

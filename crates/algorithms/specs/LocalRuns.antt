@@ -1,26 +1,26 @@
 -- The local lines of a process: what it does between two accesses, as a function of its names and its place.
 use Rattle.std.specs.Prelude.{ℕ, ◌+◌, ◌^◌, max, nat_lt, nat_eq, if◌then◌else◌, slice_get, slice_set, Option, Some, None}
-use Rattle.algorithms.specs.Values.{evaluated, holds, fitting, ◌>>=◌}
+use Rattle.algorithms.specs.Values.{expression_value, holds, fitting, ◌>>=◌}
 use Rattle.algorithms.specs.declared.constants.Constants.{Constants}
-use Rattle.algorithms.specs.declared.line.Deed.{Deed}
+use Rattle.algorithms.specs.declared.line.AlgorithmDeed.{AlgorithmDeed}
 use Rattle.algorithms.specs.declared.line.Members.{Members}
 use Rattle.algorithms.specs.declared.line.Members.TheVariants.{All, Others, Lower, Higher}
 use Rattle.algorithms.specs.declared.line.LocalLine.{LocalLine}
 use Rattle.algorithms.specs.declared.line.LocalLine.TheVariants.{Assign, Note, Goto, Branch, First, Next}
-use Rattle.algorithms.specs.declared.noted.Noted.{Noted}
+use Rattle.algorithms.specs.declared.noted.NotedDeeds.{NotedDeeds}
 use Rattle.algorithms.specs.declared.local.LocalState.{LocalState}
 
-abbrev pub nothing_noted : Noted
+abbrev pub nothing_noted : NotedDeeds
 nothing_noted = record { first = None; second = None; third = None }
 
-abbrev pub noting_after : Deed → Option Deed → Option Deed → Option Deed → Option Noted
+abbrev pub noting_after : AlgorithmDeed → Option AlgorithmDeed → Option AlgorithmDeed → Option AlgorithmDeed → Option NotedDeeds
 noting_after d None b c = Some (record { first = Some d; second = b; third = c })
 noting_after d (Some a) None c = Some (record { first = Some a; second = Some d; third = c })
 noting_after d (Some a) (Some b) None = Some (record { first = Some a; second = Some b; third = Some d })
 noting_after d (Some a) (Some b) (Some c) = None
 
 -- the deeds and one more. A fourth has no place
-abbrev pub noting : Deed → Noted → Option Noted
+abbrev pub noting : AlgorithmDeed → NotedDeeds → Option NotedDeeds
 noting d noted = noting_after d noted.first noted.second noted.third
 
 -- a number that is a process where it is below the end of its set
@@ -47,7 +47,7 @@ at_place at s = record { at = at; store = s.store; noted = s.noted }
 abbrev pub with_value : ℕ → ℕ → LocalState → LocalState
 with_value name v s = record { at = s.at; store = slice_set s.store name v; noted = s.noted }
 
-abbrev pub with_deed : Deed → LocalState → Option LocalState
+abbrev pub with_deed : AlgorithmDeed → LocalState → Option LocalState
 with_deed deed s = do
   noted ← noting deed s.noted
   Some (record { at = s.at; store = s.store; noted = noted })
@@ -60,7 +60,7 @@ round_at name body after s None = at_place after (with_value name 0 s)
 -- where a local line leads, with the place of the line after it. None where a value is out of range
 abbrev pub local_line_done : Constants → ℕ → LocalLine → LocalState → Option LocalState
 local_line_done c next (Assign name value) s = do
-  v ← evaluated c s.store value
+  v ← expression_value c s.store value
   Some (at_place next (with_value name v s))
 local_line_done c next (Note deed) s = do
   noted ← with_deed deed s

@@ -4,9 +4,9 @@ use Rattle.algorithms.specs.Arrivals.{arrives}
 use Rattle.algorithms.specs.declared.algorithm.Algorithm.{Algorithm}
 use Rattle.algorithms.specs.declared.constants.Constants.{Constants}
 use Rattle.algorithms.specs.declared.line.AccessLine.{AccessLine}
-use Rattle.algorithms.specs.declared.line.Form.{Form}
-use Rattle.algorithms.specs.declared.line.Form.TheVariants.{Access, Local, Done}
-use Rattle.algorithms.specs.declared.line.Line.{Line}
+use Rattle.algorithms.specs.declared.line.LineKind.{LineKind}
+use Rattle.algorithms.specs.declared.line.LineKind.TheVariants.{Access, Local, Done}
+use Rattle.algorithms.specs.declared.line.AlgorithmLine.{AlgorithmLine}
 use Rattle.algorithms.specs.declared.line.LocalLine.{LocalLine}
 use Rattle.algorithms.specs.declared.line.LocalLine.TheVariants.{Assign, Note, Goto, Branch, First, Next}
 use Rattle.algorithms.specs.declared.line.Members.{Members}
@@ -15,17 +15,17 @@ use Rattle.algorithms.specs.declared.local.LocalState.{LocalState}
 use Rattle.algorithms.specs.declared.refusal.AlgorithmRefusal.TheVariants.{Malformed}
 
 -- the rank of a line: 0 where a run of local lines stops at it
-abbrev pub rank_of : ℕ → Form → ℕ
+abbrev pub rank_of : ℕ → LineKind → ℕ
 rank_of rank (Access line) = 0
 rank_of rank (Done answer) = 0
 rank_of rank (Local line) = rank
 
-abbrev pub is_line_below : List ℕ → ℕ → ℕ → Option Line → Bool
+abbrev pub is_line_below : List ℕ → ℕ → ℕ → Option AlgorithmLine → Bool
 is_line_below ranks rank place None = false
 is_line_below ranks rank place (Some line) = nat_lt (rank_of (slice_index ranks place) line.form) rank
 
 -- whether there is a line at a place, and of lower rank
-abbrev pub is_below : List Line → List ℕ → ℕ → ℕ → Bool
+abbrev pub is_below : List AlgorithmLine → List ℕ → ℕ → ℕ → Bool
 is_below lines ranks rank place = is_line_below ranks rank place (slice_get lines place)
 
 -- whether a loop over these processes has a round in each world of an algorithm for so few processes at least
@@ -44,27 +44,27 @@ ways_pass test least next (Branch condition otherwise) = test next && test other
 ways_pass test least next (First name members after) = test next && (has_round least members || test after)
 ways_pass test least next (Next name members body) = test body && test next
 
-abbrev pub is_line : Option Line → Bool
+abbrev pub is_line : Option AlgorithmLine → Bool
 is_line None = false
 is_line (Some line) = true
 
 -- whether a line of this form falls. After an access there is a line
-abbrev pub form_falls : List Line → ℕ → List ℕ → ℕ → Form → Bool
+abbrev pub form_falls : List AlgorithmLine → ℕ → List ℕ → ℕ → LineKind → Bool
 form_falls lines least ranks place (Access line) = is_line (slice_get lines (place + 1))
 form_falls lines least ranks place (Done answer) = true
 form_falls lines least ranks place (Local line) =
     ways_pass (is_below lines ranks (slice_index ranks place)) least (place + 1) line && nat_lt (slice_index ranks place) (length lines)
 
 -- with these ranks each line falls
-abbrev pub AllFall : List Line → ℕ → List ℕ → Type 0
-AllFall lines least ranks = (place : ℕ) (line : Line) → slice_get lines place ≡ Some line → form_falls lines least ranks place line.form ≡ true
+abbrev pub AllFall : List AlgorithmLine → ℕ → List ℕ → Type 0
+AllFall lines least ranks = (place : ℕ) (line : AlgorithmLine) → slice_get lines place ≡ Some line → form_falls lines least ranks place line.form ≡ true
 
 -- a run of local lines ends, from every line, with all names, in each world of the algorithm
 pub record LocalLinesEnd (a : Algorithm) : Type 0 where
-  pub each : (c : Constants) (s : LocalState) (line : Line) (place : ℕ) → c.me < c.procs → a.least ≤ c.procs
+  pub each : (c : Constants) (s : LocalState) (line : AlgorithmLine) (place : ℕ) → c.me < c.procs → a.least ≤ c.procs
       → slice_get a.lines.items s.at ≡ Some line → arrives a.lines.items c (length a.lines.items) s ≡ Err (Malformed place) → ⊥
 
 -- after each access there is a line, from which the step goes on
 pub record AccessesLeadOn (a : Algorithm) : Type 0 where
-  pub each : (place : ℕ) (line : Line) (access : AccessLine) → slice_get a.lines.items place ≡ Some line → line.form ≡ Access access
+  pub each : (place : ℕ) (line : AlgorithmLine) (access : AccessLine) → slice_get a.lines.items place ≡ Some line → line.form ≡ Access access
       → place + 1 < length a.lines.items

@@ -20,31 +20,31 @@ abbrev pub fitting : Bool → ℕ → Option ℕ
 fitting fits n = if fits then Some n else None
 
 -- two numbers joined by an operator
-abbrev pub applied : Operator → ℕ → ℕ → Option ℕ
-applied Sum a b = fitting (nat_lt (a + b) (2 ^ 64)) (a + b)
-applied Difference a b = fitting (nat_le b a) (a - b)
-applied Product a b = fitting (nat_lt (a * b) (2 ^ 64)) (a * b)
-applied Quotient a b = fitting (nat_lt 0 b) (a / b)
-applied Remainder a b = fitting (nat_lt 0 b) (a % b)
-applied Maximum a b = Some (max a b)
-applied Minimum a b = Some (min a b)
+abbrev pub operation_value : Operator → ℕ → ℕ → Option ℕ
+operation_value Sum a b = fitting (nat_lt (a + b) (2 ^ 64)) (a + b)
+operation_value Difference a b = fitting (nat_le b a) (a - b)
+operation_value Product a b = fitting (nat_lt (a * b) (2 ^ 64)) (a * b)
+operation_value Quotient a b = fitting (nat_lt 0 b) (a / b)
+operation_value Remainder a b = fitting (nat_lt 0 b) (a % b)
+operation_value Maximum a b = Some (max a b)
+operation_value Minimum a b = Some (min a b)
 
 -- a value, with these constants and values of the private names
-abbrev pub evaluated : Constants → List ℕ → Expression → Option ℕ
-evaluated c store (Number n) = Some n
-evaluated c store (Private k) = slice_get store k
-evaluated c store Me = Some c.me
-evaluated c store Procs = Some c.procs
-evaluated c store Limit = Some c.limit
-evaluated c store (Joined' o p a q b) = do
-  x ← evaluated c store a
-  y ← evaluated c store b
-  applied o x y
+abbrev pub expression_value : Constants → List ℕ → Expression → Option ℕ
+expression_value c store (Number n) = Some n
+expression_value c store (Private k) = slice_get store k
+expression_value c store Me = Some c.me
+expression_value c store Procs = Some c.procs
+expression_value c store Limit = Some c.limit
+expression_value c store (Joined' o p a q b) = do
+  x ← expression_value c store a
+  y ← expression_value c store b
+  operation_value o x y
 
 abbrev pub evaluated_pair : Constants → List ℕ → Pair → Option (ℕ × ℕ)
 evaluated_pair c store pair = do
-  x ← evaluated c store pair.first
-  y ← evaluated c store pair.second
+  x ← expression_value c store pair.first
+  y ← expression_value c store pair.second
   Some (x, y)
 
 -- the orders in which a comparison holds
@@ -59,8 +59,8 @@ admits AtLeast o = is_ge o
 -- a condition, with these constants and values of the private names. A second part counts only where the first leaves it open
 abbrev pub holds : Constants → List ℕ → Condition → Option Bool
 holds c store (Compare r a b) = do
-  x ← evaluated c store a
-  y ← evaluated c store b
+  x ← expression_value c store a
+  y ← expression_value c store b
   Some (admits r (nat_cmp x y))
 holds c store (ComparePairs r a b) = do
   x ← evaluated_pair c store a

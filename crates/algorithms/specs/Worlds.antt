@@ -2,41 +2,41 @@
 use Rattle.std.specs.Prelude.{ℕ, ◌^◌, nat_lt, nat_le, Bool, false, ◌&&◌, if◌then◌else◌, List, length, replicate, slice_get, slice_set, Option, Some, None, Result, Ok, Err, ok_or}
 use Rattle.algorithms.specs.Arrivals.{arrives, line_at, ◌>>=◌}
 use Rattle.algorithms.specs.LocalRuns.{nothing_noted}
-use Rattle.algorithms.specs.Steps.{kept, acted, advanced}
+use Rattle.algorithms.specs.Steps.{lasting_names, step_before_access, advance_of}
 use Rattle.algorithms.specs.declared.access.Address.{Address}
 use Rattle.algorithms.specs.declared.access.Advanced.{Advanced}
 use Rattle.algorithms.specs.declared.access.Taken.{Taken}
 use Rattle.algorithms.specs.declared.algorithm.Algorithm.{Algorithm}
-use Rattle.algorithms.specs.declared.algorithm.Call.{Call}
-use Rattle.algorithms.specs.declared.algorithm.Call.TheVariants.{Lock, Unlock, Recover, Withdraw}
+use Rattle.algorithms.specs.declared.algorithm.AlgorithmCall.{AlgorithmCall}
+use Rattle.algorithms.specs.declared.algorithm.AlgorithmCall.TheVariants.{Lock, Unlock, Recover, Withdraw}
 use Rattle.algorithms.specs.declared.algorithm.Entries.{Entries}
 use Rattle.algorithms.specs.declared.constants.Constants.{Constants}
 use Rattle.algorithms.specs.declared.line.AccessLine.{AccessLine}
-use Rattle.algorithms.specs.declared.line.Form.{Form}
-use Rattle.algorithms.specs.declared.line.Form.TheVariants.{Access, Local, Done}
+use Rattle.algorithms.specs.declared.line.LineKind.{LineKind}
+use Rattle.algorithms.specs.declared.line.LineKind.TheVariants.{Access, Local, Done}
 use Rattle.algorithms.specs.declared.local.LocalState.{LocalState}
-use Rattle.algorithms.specs.declared.process.Place.{Place}
-use Rattle.algorithms.specs.declared.process.Place.TheVariants.{Rest, Dead, At}
-use Rattle.algorithms.specs.declared.process.Process.{Process}
+use Rattle.algorithms.specs.declared.process.AlgorithmPlace.{AlgorithmPlace}
+use Rattle.algorithms.specs.declared.process.AlgorithmPlace.TheVariants.{Rest, Dead, At}
+use Rattle.algorithms.specs.declared.process.AlgorithmProcess.{AlgorithmProcess}
 use Rattle.algorithms.specs.declared.refusal.AlgorithmRefusal.{AlgorithmRefusal}
 use Rattle.algorithms.specs.declared.refusal.AlgorithmRefusal.TheVariants.{BadProcs, BadLimit, NoSuchProcess, CallUnderWay, NothingToDo, NotWaiting, NoSuchCall, Malformed, OutOfMemory}
 
 -- a world: its algorithm and sizes, a row of shared words for each declaration, and the processes
-pub record WorldState : Type 0 where
+pub record AlgorithmWorldState : Type 0 where
   pub algorithm : Algorithm
   pub procs : ℕ
   pub limit : ℕ
   pub words : List (List ℕ)
-  pub processes : List Process
+  pub processes : List AlgorithmProcess
 
 abbrev pub no_names : List ℕ
 no_names = replicate 32 0
 
-abbrev pub resting : Process
+abbrev pub resting : AlgorithmProcess
 resting = record { place = Rest; store = no_names }
 
 -- at the beginning all words are 0 and all processes at rest
-abbrev pub first_world : Algorithm → ℕ → ℕ → WorldState
+abbrev pub first_world : Algorithm → ℕ → ℕ → AlgorithmWorldState
 first_world a procs limit = record {
   algorithm = a;
   procs = procs;
@@ -46,8 +46,8 @@ first_world a procs limit = record {
 }
 
 -- the same world at its beginning
-abbrev pub restarted : WorldState → WorldState
-restarted w = record w { words = replicate (length w.words) (replicate 64 0); processes = replicate (length w.processes) resting }
+abbrev pub world_at_beginning : AlgorithmWorldState → AlgorithmWorldState
+world_at_beginning w = record w { words = replicate (length w.words) (replicate 64 0); processes = replicate (length w.processes) resting }
 
 -- the refusal of a world of this size. Out of memory is not among them
 abbrev pub new_refusal : Algorithm → ℕ → ℕ → Option AlgorithmRefusal
@@ -61,14 +61,14 @@ abbrev pub cause : AlgorithmRefusal → Option AlgorithmRefusal
 cause OutOfMemory = None
 cause e = Some e
 
-abbrev pub constants_of : WorldState → ℕ → Constants
+abbrev pub constants_of : AlgorithmWorldState → ℕ → Constants
 constants_of w p = record { me = p; procs = w.procs; limit = w.limit }
 
-abbrev pub process_of : WorldState → ℕ → Result Process AlgorithmRefusal
+abbrev pub process_of : AlgorithmWorldState → ℕ → Result AlgorithmProcess AlgorithmRefusal
 process_of w p = ok_or (slice_get w.processes p) NoSuchProcess
 
 -- the access line of a form
-abbrev pub access_line : ℕ → Form → Result AccessLine AlgorithmRefusal
+abbrev pub access_line : ℕ → LineKind → Result AccessLine AlgorithmRefusal
 access_line at (Access line) = Ok line
 access_line at (Local line) = Err (Malformed at)
 access_line at (Done answer) = Err (Malformed at)
@@ -80,21 +80,21 @@ access_at a at = do
   access_line at line.form
 
 -- the place of a call under way
-abbrev pub under_way : Place → Result ℕ AlgorithmRefusal
+abbrev pub under_way : AlgorithmPlace → Result ℕ AlgorithmRefusal
 under_way Rest = Err NothingToDo
 under_way Dead = Err NothingToDo
 under_way (At at) = Ok at
 
 -- the step of one process, with the words as they are
-abbrev pub taken_by : Algorithm → Constants → List (List ℕ) → Process → Result Taken AlgorithmRefusal
+abbrev pub taken_by : Algorithm → Constants → List (List ℕ) → AlgorithmProcess → Result Taken AlgorithmRefusal
 taken_by a c words process = do
   at ← under_way process.place
   line ← access_at a at
-  acted a c words at line process.store
+  step_before_access a c words at line process.store
 
 -- the step that a process takes
-abbrev pub taken : WorldState → ℕ → Result Taken AlgorithmRefusal
-taken w p = do
+abbrev pub step_of_process : AlgorithmWorldState → ℕ → Result Taken AlgorithmRefusal
+step_of_process w p = do
   process ← process_of w p
   taken_by w.algorithm (constants_of w p) w.words process
 
@@ -103,33 +103,33 @@ stored_in words address v None = words
 stored_in words address v (Some row) = slice_set words address.declaration (slice_set row address.index v)
 
 -- the words after an access, which may store a value. An address outside of the rows stores nothing
-abbrev pub stored : List (List ℕ) → Address → Option ℕ → List (List ℕ)
-stored words address None = words
-stored words address (Some v) =
+abbrev pub words_after_access : List (List ℕ) → Address → Option ℕ → List (List ℕ)
+words_after_access words address None = words
+words_after_access words address (Some v) =
     if nat_lt address.index 64 then stored_in words address v (slice_get words address.declaration) else words
 
-abbrev pub with_process : WorldState → ℕ → Process → WorldState
+abbrev pub with_process : AlgorithmWorldState → ℕ → AlgorithmProcess → AlgorithmWorldState
 with_process w p process = record w { processes = slice_set w.processes p process }
 
 -- the world after a step that was taken
-abbrev pub after_step : WorldState → ℕ → Taken → WorldState
-after_step w p t = record w { words = stored w.words t.access.address t.access.stores; processes = slice_set w.processes p t.moved.process }
+abbrev pub after_step : AlgorithmWorldState → ℕ → Taken → AlgorithmWorldState
+after_step w p t = record w { words = words_after_access w.words t.access.address t.access.stores; processes = slice_set w.processes p t.moved.process }
 
 -- a step, and the world after it
-abbrev pub step : WorldState → ℕ → Result (Taken × WorldState) AlgorithmRefusal
+abbrev pub step : AlgorithmWorldState → ℕ → Result (Taken × AlgorithmWorldState) AlgorithmRefusal
 step w p = do
-  t ← taken w p
+  t ← step_of_process w p
   Ok (t, after_step w p t)
 
 -- what a step says, without the process that it leaves, and the world after it
-abbrev pub said : Taken × WorldState → Result (Advanced × WorldState) AlgorithmRefusal
-said s = Ok (advanced s.0, s.1)
+abbrev pub advance_in_world : Taken × AlgorithmWorldState → Result (Advanced × AlgorithmWorldState) AlgorithmRefusal
+advance_in_world s = Ok (advance_of s.0, s.1)
 
-abbrev pub advance : WorldState → ℕ → Result (Advanced × WorldState) AlgorithmRefusal
-advance w p = step w p >>= said
+abbrev pub advance : AlgorithmWorldState → ℕ → Result (Advanced × AlgorithmWorldState) AlgorithmRefusal
+advance w p = step w p >>= advance_in_world
 
 -- where a call begins
-abbrev pub entry_of : Entries → Call → Option ℕ
+abbrev pub entry_of : Entries → AlgorithmCall → Option ℕ
 entry_of entries Lock = Some entries.lock
 entry_of entries Unlock = Some entries.unlock
 entry_of entries Recover = entries.recover
@@ -141,7 +141,7 @@ may_withdraw (Ok line) = line.may_withdraw
 may_withdraw (Err e) = false
 
 -- why a process at this place may not start the call. A withdraw gives up a lock under way, every other call begins at rest
-abbrev pub start_refusal : Algorithm → Place → Call → Option AlgorithmRefusal
+abbrev pub start_refusal : Algorithm → AlgorithmPlace → AlgorithmCall → Option AlgorithmRefusal
 start_refusal a (At at) Withdraw = if may_withdraw (access_at a at) then None else Some NotWaiting
 start_refusal a Rest Withdraw = Some NotWaiting
 start_refusal a Dead Withdraw = Some NotWaiting
@@ -154,36 +154,36 @@ unless None r = r
 unless (Some e) r = Err e
 
 -- the process that has come to the first access of its call. A call that ends before it is malformed
-abbrev pub begun_at : LocalState → Option ℕ → Result Process AlgorithmRefusal
+abbrev pub begun_at : LocalState → Option ℕ → Result AlgorithmProcess AlgorithmRefusal
 begun_at s None = Ok (record { place = At s.at; store = s.store })
 begun_at s (Some answer) = Err (Malformed s.at)
 
 -- where a process comes to from the place at which its call begins
-abbrev pub begun_from : Algorithm → Constants → ℕ → List ℕ → Result Process AlgorithmRefusal
+abbrev pub begun_from : Algorithm → Constants → ℕ → List ℕ → Result AlgorithmProcess AlgorithmRefusal
 begun_from a c entry store = do
   l ← arrives a.lines.items c (length a.lines.items) (record { at = entry; store = store; noted = nothing_noted })
   begun_at l.state l.answer
 
 -- what the start of a call makes of a process. Of its names those that last are left
-abbrev pub begun : Algorithm → Constants → Process → Call → Result Process AlgorithmRefusal
-begun a c process call = do
+abbrev pub process_after_start : Algorithm → Constants → AlgorithmProcess → AlgorithmCall → Result AlgorithmProcess AlgorithmRefusal
+process_after_start a c process call = do
   entry ← ok_or (entry_of a.entries call) NoSuchCall
   at ← unless (start_refusal a process.place call) (Ok entry)
-  begun_from a c at (kept a.lasting process.store)
+  begun_from a c at (lasting_names a.lasting process.store)
 
-abbrev pub started : WorldState → ℕ → Call → Result Process AlgorithmRefusal
-started w p call = do
+abbrev pub start_of_process : AlgorithmWorldState → ℕ → AlgorithmCall → Result AlgorithmProcess AlgorithmRefusal
+start_of_process w p call = do
   process ← process_of w p
-  begun w.algorithm (constants_of w p) process call
+  process_after_start w.algorithm (constants_of w p) process call
 
 -- the world after a start
-abbrev pub start : WorldState → ℕ → Call → Result WorldState AlgorithmRefusal
+abbrev pub start : AlgorithmWorldState → ℕ → AlgorithmCall → Result AlgorithmWorldState AlgorithmRefusal
 start w p call = do
-  process ← started w p call
+  process ← start_of_process w p call
   Ok (with_process w p process)
 
 -- the world after a crash: the process has lost its place and its names, the words stay
-abbrev pub crash : WorldState → ℕ → Result WorldState AlgorithmRefusal
+abbrev pub crash : AlgorithmWorldState → ℕ → Result AlgorithmWorldState AlgorithmRefusal
 crash w p = do
   process ← process_of w p
   Ok (with_process w p (record { place = Dead; store = no_names }))

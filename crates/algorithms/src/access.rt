@@ -1,17 +1,17 @@
 //! The access that a process makes next, and what its value leads to.
 
 ghost use Rattle.std.specs.Prelude.{◌≡◌, ◌<◌, ◌-◌, ◌^◌, Ok, Err, IfOk, IfErr};
-ghost use Rattle.algorithms.specs.Accesses.{index_of, bound_of, value_stored, access_of, received, passes};
+ghost use Rattle.algorithms.specs.Accesses.{index_of, bound_of, value_stored, access_of, names_after_read, passes};
 ghost use Rattle.algorithms.specs.LocalRuns.{nothing_noted};
-ghost use Rattle.algorithms.specs.Steps.{goes_on, value_of, acted, stopped, moved, taken};
+ghost use Rattle.algorithms.specs.Steps.{goes_on, value_of, step_before_access, process_stopped_at, move_to_state, step_from};
 
 use crate::algorithm::{Algorithm, Declaration};
 use crate::constants::{Constants, MOST_PROCS};
 use crate::expression::{Expression, NAMES};
 use crate::line::{AccessLine, Action, WordOf};
 use crate::local::{LocalState, arrive, set_name};
-use crate::noted::Noted;
-use crate::process::{Process, keep};
+use crate::noted::NotedDeeds;
+use crate::process::{AlgorithmProcess, keep};
 use crate::refusal::AlgorithmRefusal;
 
 /// A shared word of a world: its declaration, and which of the declaration's words it is.
@@ -23,7 +23,7 @@ pub struct Address {
 
 /// One load or store of one shared word.
 #[derive(Clone, Copy, Debug, PartialEq, Eq)]
-pub struct Access {
+pub struct WordAccess {
     pub address: Address,
     /// The value that is stored. `None` for a load.
     pub stores: Option<u64>,
@@ -33,7 +33,7 @@ pub struct Access {
 #[derive(Clone, Copy, Debug)]
 pub struct Taken {
     pub at: usize,
-    pub access: Access,
+    pub access: WordAccess,
     pub value: u64,
     pub moved: Moved,
 }
@@ -41,8 +41,8 @@ pub struct Taken {
 /// What a step leaves of its process, and what it says.
 #[derive(Clone, Copy, Debug)]
 pub struct Moved {
-    pub process: Process,
-    pub noted: Noted,
+    pub process: AlgorithmProcess,
+    pub noted: NotedDeeds,
     /// The answer of the call, by its index, where the step ends it.
     pub answer: Option<usize>,
     /// The reading was blocked. The next step reads the same word again.
@@ -107,14 +107,14 @@ impl AccessLine {
         declarations: &[Declaration],
         constants: Constants,
         store: &[u64; NAMES],
-    ) -> Option<Access>
+    ) -> Option<WordAccess>
         ensures { result ≡ access_of declarations.now constants store.now self.now }
     {
         let declaration = declarations.get(self.word.declaration)?;
         let index = index_of(&self.word, constants, store)?;
         let stores = value_stored(declaration, &self.action, constants, store)?;
         let declaration = self.word.declaration;
-        Some(Access {
+        Some(WordAccess {
             address: Address { declaration, index },
             stores,
         })
@@ -124,7 +124,7 @@ impl AccessLine {
 impl Action {
     /// Reads the value into its name, if it has one.
     fn receive(&self, value: u64, store: &mut [u64; NAMES])
-        ensures { store.new ≡ received self.now value store.old }
+        ensures { store.new ≡ names_after_read self.now value store.old }
     {
         match self {
             Action::Store { .. } => {}
@@ -146,9 +146,9 @@ impl Action {
 /// What a step says, beside the process that it leaves.
 #[derive(Clone, Copy, Debug)]
 pub struct Advanced {
-    pub access: Access,
+    pub access: WordAccess,
     pub value: u64,
-    pub noted: Noted,
+    pub noted: NotedDeeds,
     /// The answer of the call, by its index, where the step ends it.
     pub answer: Option<usize>,
     /// The reading was blocked. The next step reads the same word again.
@@ -163,7 +163,8 @@ fn go_on(
 ) -> Result<Option<usize>, AlgorithmRefusal>
     requires own { constants.me < constants.procs }
     requires first { state.old.noted ≡ nothing_noted }
-    ensures ok { IfOk result (λ answer. goes_on algorithm.now constants state.old.at state.old.store ≡ Ok (moved state.new answer)) }
+    ensures ok { IfOk result (λ answer. goes_on algorithm.now constants state.old.at state.old.store
+        ≡ Ok (move_to_state state.new answer)) }
     ensures refused { IfErr result (λ e. goes_on algorithm.now constants state.old.at state.old.store ≡ Err e) }
 {
     let answer = arrive(algorithm.lines.as_slice(), constants, state)?;
@@ -174,7 +175,7 @@ fn go_on(
 }
 
 /// The value that an access reads, or the one that it stores.
-fn value_of(words: &[[u64; MOST_PROCS]], access: Access) -> Option<u64>
+fn value_of(words: &[[u64; MOST_PROCS]], access: WordAccess) -> Option<u64>
     ensures { result ≡ value_of words.now access }
 {
     match access.stores {
@@ -198,9 +199,10 @@ pub(crate) fn act(
     requires own { constants.me < constants.procs }
     requires place { state.old.at < 2 ^ 64 - 1 }
     requires first { state.old.noted ≡ nothing_noted }
-    ensures ok { IfOk result (λ a. acted algorithm.now constants words.now state.old.at line.now state.old.store
-        ≡ Ok (taken state.old a state.new)) }
-    ensures refused { IfErr result (λ e. acted algorithm.now constants words.now state.old.at line.now state.old.store ≡ Err e) }
+    ensures ok { IfOk result (λ a. step_before_access algorithm.now constants words.now state.old.at line.now state.old.store
+        ≡ Ok (step_from state.old a state.new)) }
+    ensures refused { IfErr result (λ e. step_before_access algorithm.now constants words.now state.old.at line.now state.old.store
+        ≡ Err e) }
 {
     let at = state.at;
     let access = line.access(algorithm.declarations.as_slice(), constants, &state.store);

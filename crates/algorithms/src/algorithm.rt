@@ -1,7 +1,10 @@
 //! An algorithm as a value.
 
+ghost use Rattle.std.specs.Prelude.{◌≡◌};
+ghost use Rattle.algorithms.specs.Worlds.{entry_of};
+
 use crate::expression::Expression;
-use crate::line::Line;
+use crate::line::AlgorithmLine;
 
 /// What an algorithm promises beside mutual exclusion.
 #[derive(Clone, Copy, Debug, PartialEq, Eq)]
@@ -23,7 +26,7 @@ pub struct Declaration {
 
 /// A call of a process.
 #[derive(Clone, Copy, Debug, PartialEq, Eq)]
-pub enum Call {
+pub enum AlgorithmCall {
     Lock,
     Unlock,
     Recover,
@@ -40,6 +43,20 @@ pub struct Entries {
     pub withdraw: Option<usize>,
 }
 
+impl Entries {
+    /// Where a call begins, if there is such a call.
+    pub fn of(self, call: AlgorithmCall) -> Option<usize>
+        ensures { result ≡ entry_of self call }
+    {
+        match call {
+            AlgorithmCall::Lock => Some(self.lock),
+            AlgorithmCall::Unlock => Some(self.unlock),
+            AlgorithmCall::Recover => self.recover,
+            AlgorithmCall::Withdraw => self.withdraw,
+        }
+    }
+}
+
 /// An algorithm: its shared words, its private names and its lines.
 #[derive(Debug, Drop)]
 pub struct Algorithm {
@@ -53,6 +70,6 @@ pub struct Algorithm {
     pub names: Vec<String>,
     pub lasting: usize,
     pub answers: Vec<String>,
-    pub lines: Vec<Line>,
+    pub lines: Vec<AlgorithmLine>,
     pub entries: Entries,
 }

@@ -2,11 +2,11 @@
 
 ghost use Rattle.std.specs.Prelude.{◌≡◌, ◌<◌, ◌≤◌, ℕ, IsTrue, IsFalse, Some};
 ghost use Rattle.algorithms.specs.Deeds.{IsLineOf, SaysDeed};
-ghost use Rattle.algorithms.specs.declared.line.Form.TheVariants.{Local as LocalForm};
+ghost use Rattle.algorithms.specs.declared.line.LineKind.TheVariants.{Local as LocalForm};
 ghost use Rattle.algorithms.specs.declared.line.LocalLine.TheVariants.{Note as NoteLine};
 
 use crate::algorithm::{Algorithm, Entries};
-use crate::line::{Deed, Form, LocalLine};
+use crate::line::{AlgorithmDeed, LineKind, LocalLine};
 
 /// Whether no call that begins here begins after `entry`, and at `at` or before it.
 fn is_outside(entry: usize, at: usize, other: Option<usize>) -> bool
@@ -32,18 +32,18 @@ fn is_line_of(entries: &Entries, entry: usize, at: usize) -> bool
 }
 
 /// Whether a line says this deed.
-fn is_note(form: &Form, deed: Deed) -> bool
+fn is_note(form: &LineKind, deed: AlgorithmDeed) -> bool
     ensures note { IsTrue result → form.now ≡ LocalForm (NoteLine deed) }
     ensures other { IsFalse result → form.now ≡ LocalForm (NoteLine deed) → ⊥ }
 {
     match form {
-        Form::Local(LocalLine::Note(said)) => *said == deed,
+        LineKind::Local(LocalLine::Note(said)) => *said == deed,
         _ => false,
     }
 }
 
 /// Whether a line of the call that begins at `entry` says this deed.
-pub fn says_deed(algorithm: &Algorithm, entry: usize, deed: Deed) -> bool
+pub fn says_deed(algorithm: &Algorithm, entry: usize, deed: AlgorithmDeed) -> bool
     ensures says { IsTrue result → SaysDeed algorithm.now entry deed }
     ensures none { IsFalse result → SaysDeed algorithm.now entry deed → ⊥ }
 {

@@ -1,7 +1,7 @@
 //! Values of an algorithm: numbers made of names and constants.
 
 ghost use Rattle.std.specs.Prelude.{◌≡◌};
-ghost use Rattle.algorithms.specs.Values.{applied, evaluated};
+ghost use Rattle.algorithms.specs.Values.{operation_value, expression_value};
 
 use crate::constants::Constants;
 
@@ -37,7 +37,7 @@ pub enum Expression {
 impl Operator {
     /// The two values joined. `None` where that is no number of 64 bits.
     pub fn apply(self, left: u64, right: u64) -> Option<u64>
-        ensures { result ≡ applied self left right }
+        ensures { result ≡ operation_value self left right }
     {
         match self {
             Operator::Sum => left.checked_add(right),
@@ -54,7 +54,7 @@ impl Operator {
 impl Expression {
     /// The value, with these values of the private names. `None` where it, or a part of it, is no number of 64 bits.
     pub fn evaluate(&self, constants: Constants, store: &[u64; NAMES]) -> Option<u64>
-        ensures { result ≡ evaluated constants store.now self.now }
+        ensures { result ≡ expression_value constants store.now self.now }
     {
         match self {
             Expression::Number(number) => Some(*number),

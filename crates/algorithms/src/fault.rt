@@ -2,7 +2,7 @@
 
 ghost use Rattle.std.specs.Prelude.{◌≡◌};
 ghost use Rattle.algorithms.specs.declared.fault.AlgorithmFault.TheVariants.{OutOfMemory as ReadingOutOfMemory};
-ghost use Rattle.algorithms.specs.declared.fault.LineFault.TheVariants.{OutOfMemory as LineOutOfMemory};
+ghost use Rattle.algorithms.specs.declared.fault.ReadFault.TheVariants.{OutOfMemory as LineOutOfMemory};
 
 use std::alloc::{AllocError, AllocFailed};
 use std::fmt;
@@ -20,7 +20,7 @@ pub enum AlgorithmFault {
 
 /// What is wrong with a line of an algorithm's text.
 #[derive(Clone, Copy, Debug, PartialEq, Eq)]
-pub enum LineFault {
+pub enum ReadFault {
     NoHeader,
     BadCharacter,
     NoNewline,
@@ -42,7 +42,7 @@ pub enum LineFault {
     OutOfMemory,
 }
 
-impl LineFault {
+impl ReadFault {
     ghost use Rattle.algorithms.specs.Faults.{fault_of};
 
     /// This fault of this line.
@@ -50,25 +50,25 @@ impl LineFault {
         ensures { result ≡ fault_of line self }
     {
         let number = match self {
-            LineFault::NoHeader => 1,
-            LineFault::BadCharacter => 2,
-            LineFault::NoNewline => 3,
-            LineFault::BadForm => 4,
-            LineFault::NameTaken => 5,
-            LineFault::UnknownName => 6,
-            LineFault::TwoAccesses => 7,
-            LineFault::NotAssignable => 8,
-            LineFault::BadBlock => 9,
-            LineFault::BadLabel => 10,
-            LineFault::Unset => 11,
-            LineFault::Endless => 12,
-            LineFault::NoStep => 13,
-            LineFault::FallsOff => 14,
-            LineFault::BadDeed => 15,
-            LineFault::TooBig => 16,
-            LineFault::BadCall => 17,
-            LineFault::NeverReached => 18,
-            LineFault::OutOfMemory => return AlgorithmFault::OutOfMemory,
+            ReadFault::NoHeader => 1,
+            ReadFault::BadCharacter => 2,
+            ReadFault::NoNewline => 3,
+            ReadFault::BadForm => 4,
+            ReadFault::NameTaken => 5,
+            ReadFault::UnknownName => 6,
+            ReadFault::TwoAccesses => 7,
+            ReadFault::NotAssignable => 8,
+            ReadFault::BadBlock => 9,
+            ReadFault::BadLabel => 10,
+            ReadFault::Unset => 11,
+            ReadFault::Endless => 12,
+            ReadFault::NoStep => 13,
+            ReadFault::FallsOff => 14,
+            ReadFault::BadDeed => 15,
+            ReadFault::TooBig => 16,
+            ReadFault::BadCall => 17,
+            ReadFault::NeverReached => 18,
+            ReadFault::OutOfMemory => return AlgorithmFault::OutOfMemory,
         };
         AlgorithmFault::At { line, number }
     }
@@ -76,50 +76,50 @@ impl LineFault {
     /// What it says to a reader.
     fn text(self) -> &'static str {
         match self {
-            LineFault::NoHeader => "the first line is no header, or the second names no promises",
-            LineFault::BadCharacter => "a character that means nothing here",
-            LineFault::NoNewline => "the last line is not ended by a line feed",
-            LineFault::BadForm => "no line has this form",
-            LineFault::NameTaken => "the name is taken",
-            LineFault::UnknownName => "there is no such name",
-            LineFault::TwoAccesses => "a second access in one line",
-            LineFault::NotAssignable => "this cannot be set",
-            LineFault::BadBlock => "an `end`, an `else` or a `call` in the wrong place",
-            LineFault::BadLabel => "there is no such label, or not from here",
-            LineFault::Unset => "a name may be read before it is set",
-            LineFault::Endless => "lines can go round without a step",
-            LineFault::NoStep => "this can come before the first step of the call",
-            LineFault::FallsOff => "the call can go past its last line",
-            LineFault::BadDeed => "a deed does not fit, or `enter` or `leave` is missing",
-            LineFault::TooBig => "a limit is passed",
-            LineFault::BadCall => "the calls do not fit together",
-            LineFault::NeverReached => "no run comes to this line",
-            LineFault::OutOfMemory => "out of memory",
+            ReadFault::NoHeader => "the first line is no header, or the second names no promises",
+            ReadFault::BadCharacter => "a character that means nothing here",
+            ReadFault::NoNewline => "the last line is not ended by a line feed",
+            ReadFault::BadForm => "no line has this form",
+            ReadFault::NameTaken => "the name is taken",
+            ReadFault::UnknownName => "there is no such name",
+            ReadFault::TwoAccesses => "a second access in one line",
+            ReadFault::NotAssignable => "this cannot be set",
+            ReadFault::BadBlock => "an `end`, an `else` or a `call` in the wrong place",
+            ReadFault::BadLabel => "there is no such label, or not from here",
+            ReadFault::Unset => "a name may be read before it is set",
+            ReadFault::Endless => "lines can go round without a step",
+            ReadFault::NoStep => "this can come before the first step of the call",
+            ReadFault::FallsOff => "the call can go past its last line",
+            ReadFault::BadDeed => "a deed does not fit, or `enter` or `leave` is missing",
+            ReadFault::TooBig => "a limit is passed",
+            ReadFault::BadCall => "the calls do not fit together",
+            ReadFault::NeverReached => "no run comes to this line",
+            ReadFault::OutOfMemory => "out of memory",
         }
     }
 }
 
-impl fmt::Display for LineFault {
+impl fmt::Display for ReadFault {
     fn fmt<W: fmt::Write>(&self, f: &mut fmt::Formatter<W>) -> fmt::Result {
         f.write_str(self.text())
     }
 }
 
-impl std::error::Error for LineFault {}
+impl std::error::Error for ReadFault {}
 
-impl From<AllocError> for LineFault {
+impl From<AllocError> for ReadFault {
     ghost from_gives = { λ _ e. e ≡ LineOutOfMemory };
 
-    fn from(_e: AllocError) -> LineFault {
-        LineFault::OutOfMemory
+    fn from(_e: AllocError) -> ReadFault {
+        ReadFault::OutOfMemory
     }
 }
 
-impl<T: Drop> From<AllocFailed<T>> for LineFault {
+impl<T: Drop> From<AllocFailed<T>> for ReadFault {
     ghost from_gives = { λ _ e. e ≡ LineOutOfMemory };
 
-    fn from(_e: AllocFailed<T>) -> LineFault {
-        LineFault::OutOfMemory
+    fn from(_e: AllocFailed<T>) -> ReadFault {
+        ReadFault::OutOfMemory
     }
 }
 

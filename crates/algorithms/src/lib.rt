@@ -1,6 +1,6 @@
 //! Algorithms of mutual exclusion as data: their lines, and the worlds in which processes take them one access at a time.
 //!
-//! Main items: `Algorithm`, `World`, `Process`.
+//! Main items: `Algorithm`, `AlgorithmWorld`, `AlgorithmProcess`.
 #![tactic(auto)]
 
 pub mod access;
@@ -18,14 +18,16 @@ pub mod ranks;
 pub mod refusal;
 pub mod world;
 
-pub use access::{Access, Address, Advanced, Moved, Taken};
-pub use algorithm::{Algorithm, Call, Declaration, Entries, Promises};
+pub use access::{Address, Advanced, Moved, Taken, WordAccess};
+pub use algorithm::{Algorithm, AlgorithmCall, Declaration, Entries, Promises};
 pub use condition::{Comparison, Condition, Pair};
 pub use constants::{Constants, MOST_PROCS};
 pub use expression::{Expression, NAMES, Operator};
-pub use fault::{AlgorithmFault, LineFault};
-pub use line::{AccessLine, Action, Deed, Form, Line, LocalLine, Members, WordOf};
-pub use noted::Noted;
-pub use process::{Place, Process};
+pub use fault::{AlgorithmFault, ReadFault};
+pub use line::{
+    AccessLine, Action, AlgorithmDeed, AlgorithmLine, LineKind, LocalLine, Members, WordOf,
+};
+pub use noted::NotedDeeds;
+pub use process::{AlgorithmPlace, AlgorithmProcess};
 pub use refusal::AlgorithmRefusal;
-pub use world::{World, WorldCheckpoint};
+pub use world::{AlgorithmWorld, WorldCheckpoint};

@@ -5,7 +5,7 @@ use crate::expression::Expression;
 
 /// What a step says of its process, for a judge of histories.
 #[derive(Clone, Copy, Debug, PartialEq, Eq)]
-pub enum Deed {
+pub enum AlgorithmDeed {
     Begin,
     Ready,
     Enter,
@@ -61,7 +61,7 @@ pub enum LocalLine {
         name: usize,
         value: Expression,
     },
-    Note(Deed),
+    Note(AlgorithmDeed),
     Goto(usize),
     /// Goes on with the next line where the condition holds.
     Branch {
@@ -84,7 +84,7 @@ pub enum LocalLine {
 
 /// What a line is. Lines that it leads to are given by their places among the lines, from 0.
 #[derive(Debug, Drop)]
-pub enum Form {
+pub enum LineKind {
     Access(AccessLine),
     Local(LocalLine),
     /// The end of the call, with an answer by its index.
@@ -93,7 +93,7 @@ pub enum Form {
 
 /// A line of an algorithm, with its number in the text.
 #[derive(Debug, Drop)]
-pub struct Line {
+pub struct AlgorithmLine {
     pub number: u64,
-    pub form: Form,
+    pub form: LineKind,
 }

@@ -6,8 +6,8 @@ ghost use Rattle.algorithms.specs.Arrivals.{local_step_at, arrives, landing, IsD
 
 use crate::constants::Constants;
 use crate::expression::NAMES;
-use crate::line::{Deed, Form, Line, LocalLine, Members};
-use crate::noted::Noted;
+use crate::line::{AlgorithmDeed, AlgorithmLine, LineKind, LocalLine, Members};
+use crate::noted::NotedDeeds;
 use crate::refusal::AlgorithmRefusal;
 
 /// A process between two accesses: the place of its next line, its private names, and the deeds noted since its access.
@@ -15,7 +15,7 @@ use crate::refusal::AlgorithmRefusal;
 pub struct LocalState {
     pub at: usize,
     pub store: [u64; NAMES],
-    pub noted: Noted,
+    pub noted: NotedDeeds,
 }
 
 /// What one line does to a process between two accesses: it goes on, or the line is an access, or with an answer the end of the
@@ -71,7 +71,7 @@ impl LocalState {
     }
 
     /// Notes one deed more. `None` where it is the fourth of the step.
-    fn note(&mut self, deed: Deed) -> Option<()>
+    fn note(&mut self, deed: AlgorithmDeed) -> Option<()>
         ensures noted { IfSome result (λ done. with_deed deed self.old ≡ Some self.new) }
         ensures full { result ≡ None → with_deed deed self.old ≡ None }
     {
@@ -143,7 +143,7 @@ impl LocalState {
 
 /// Does the line at which the process is. At a line that is not local it changes nothing.
 fn do_line(
-    lines: &[Line],
+    lines: &[AlgorithmLine],
     constants: Constants,
     state: &mut LocalState,
 ) -> Result<LineStep, AlgorithmRefusal>
@@ -156,9 +156,9 @@ fn do_line(
         .get(at)
         .ok_or(AlgorithmRefusal::Malformed { place: at })?;
     match &line.form {
-        Form::Access(_) => Ok(LineStep::Stops(None)),
-        Form::Done(answer) => Ok(LineStep::Stops(Some(*answer))),
-        Form::Local(local) => match state.do_local(local, constants, at + 1) {
+        LineKind::Access(_) => Ok(LineStep::Stops(None)),
+        LineKind::Done(answer) => Ok(LineStep::Stops(Some(*answer))),
+        LineKind::Local(local) => match state.do_local(local, constants, at + 1) {
             Some(()) => Ok(LineStep::GoesOn),
             None => Err(AlgorithmRefusal::OutOfRange { place: at }),
         },
@@ -168,7 +168,7 @@ fn do_line(
 /// Goes on by the local lines of a process to where it stops: before an access, or at the end of its call, with its answer.
 /// `Malformed` where it does as many lines as there are and has not come to one.
 pub(crate) fn arrive(
-    lines: &[Line],
+    lines: &[AlgorithmLine],
     constants: Constants,
     state: &mut LocalState,
 ) -> Result<Option<usize>, AlgorithmRefusal>

@@ -3,22 +3,22 @@
 ghost use Rattle.std.specs.Prelude.{◌≡◌};
 ghost use Rattle.algorithms.specs.LocalRuns.{nothing_noted, noting};
 
-use crate::line::Deed;
+use crate::line::AlgorithmDeed;
 
 /// The deeds that one step has noted, in their order: a doorway of one step that also enters has three.
 #[derive(Clone, Copy, Debug, PartialEq, Eq)]
-pub struct Noted {
-    pub first: Option<Deed>,
-    pub second: Option<Deed>,
-    pub third: Option<Deed>,
+pub struct NotedDeeds {
+    pub first: Option<AlgorithmDeed>,
+    pub second: Option<AlgorithmDeed>,
+    pub third: Option<AlgorithmDeed>,
 }
 
-impl Noted {
+impl NotedDeeds {
     /// No deed.
-    pub fn nothing() -> Noted
+    pub fn nothing() -> NotedDeeds
         ensures { result ≡ nothing_noted }
     {
-        Noted {
+        NotedDeeds {
             first: None,
             second: None,
             third: None,
@@ -26,20 +26,20 @@ impl Noted {
     }
 
     /// These deeds and one more. `None` where it is the fourth.
-    pub fn and(self, deed: Deed) -> Option<Noted>
+    pub fn and(self, deed: AlgorithmDeed) -> Option<NotedDeeds>
         ensures { result ≡ noting deed self }
     {
         let deed = Some(deed);
         match (self.first, self.second, self.third) {
-            (None, _, _) => Some(Noted {
+            (None, _, _) => Some(NotedDeeds {
                 first: deed,
                 ..self
             }),
-            (Some(_), None, _) => Some(Noted {
+            (Some(_), None, _) => Some(NotedDeeds {
                 second: deed,
                 ..self
             }),
-            (Some(_), Some(_), None) => Some(Noted {
+            (Some(_), Some(_), None) => Some(NotedDeeds {
                 third: deed,
                 ..self
             }),

@@ -4,15 +4,15 @@ ghost use Rattle.std.specs.Prelude.{◌≡◌, ◌+◌, ◌-◌, ◌^◌, ◌<�
 ghost use Rattle.algorithms.specs.Ranked.{rank_of, is_below, has_round, ways_pass, is_line, form_falls, AllFall, LocalLinesEnd, AccessesLeadOn};
 
 use crate::algorithm::Algorithm;
-use crate::line::{Form, Line, LocalLine, Members};
+use crate::line::{AlgorithmLine, LineKind, LocalLine, Members};
 
 /// The rank of a line of this form, which is 0 for all lines but local ones.
-fn rank_of(rank: u64, form: &Form) -> u64
+fn rank_of(rank: u64, form: &LineKind) -> u64
     ensures { result ≡ rank_of rank form.now }
 {
     match form {
-        Form::Access(_) | Form::Done(_) => 0,
-        Form::Local(_) => rank,
+        LineKind::Access(_) | LineKind::Done(_) => 0,
+        LineKind::Local(_) => rank,
     }
 }
 
@@ -24,7 +24,7 @@ fn rank_at(ranks: &[u64], place: usize) -> u64
 }
 
 /// Whether there is a line at a place, and of lower rank.
-fn is_below(lines: &[Line], ranks: &[u64], rank: u64, place: usize) -> bool
+fn is_below(lines: &[AlgorithmLine], ranks: &[u64], rank: u64, place: usize) -> bool
     ensures { result ≡ is_below lines.now ranks.now rank place }
 {
     match lines.get(place) {
@@ -46,7 +46,7 @@ pub fn has_round(least: u64, members: Members) -> bool
 
 /// Whether all places to which a local line may lead are of lower rank, with the place of the line after it.
 fn ways_fall(
-    lines: &[Line],
+    lines: &[AlgorithmLine],
     least: u64,
     ranks: &[u64],
     rank: u64,
@@ -72,7 +72,7 @@ fn ways_fall(
 }
 
 /// Whether there is a line at this place.
-fn is_line(lines: &[Line], place: usize) -> bool
+fn is_line(lines: &[AlgorithmLine], place: usize) -> bool
     ensures { result ≡ is_line (slice_get lines.now place) }
 {
     match lines.get(place) {
@@ -82,14 +82,14 @@ fn is_line(lines: &[Line], place: usize) -> bool
 }
 
 /// Whether a line keeps the ranks: an access has a line after it, and a local line leads to lower ranks alone.
-fn falls(lines: &[Line], least: u64, ranks: &[u64], place: usize, form: &Form) -> bool
+fn falls(lines: &[AlgorithmLine], least: u64, ranks: &[u64], place: usize, form: &LineKind) -> bool
     requires { place < 2 ^ 64 - 1 }
     ensures { result ≡ form_falls lines.now least ranks.now place form.now }
 {
     match form {
-        Form::Access(_) => is_line(lines, place + 1),
-        Form::Done(_) => true,
-        Form::Local(local) => {
+        LineKind::Access(_) => is_line(lines, place + 1),
+        LineKind::Done(_) => true,
+        LineKind::Local(local) => {
             let rank = rank_at(ranks, place);
             ways_fall(lines, least, ranks, rank, place + 1, local) && rank < lines.len() as u64
         }
@@ -97,7 +97,7 @@ fn falls(lines: &[Line], least: u64, ranks: &[u64], place: usize, form: &Form) -
 }
 
 /// Whether with these ranks each local line leads to lower ones alone, and each access to some line.
-fn all_fall(lines: &[Line], least: u64, ranks: &[u64]) -> bool
+fn all_fall(lines: &[AlgorithmLine], least: u64, ranks: &[u64]) -> bool
     ensures { IsTrue result ↔ AllFall lines.now least ranks.now }
 {
     for place in 0..lines.len() {

@@ -2,17 +2,17 @@
 
 ghost use Rattle.std.specs.Prelude.{◌≡◌, ◌<◌, Some, None, Ok, Err, IfOk, IfErr, OnOk, OnErr, length, replicate};
 ghost use Rattle.algorithms.specs.LocalRuns.{nothing_noted};
-ghost use Rattle.algorithms.specs.Steps.{before_step, stopped, taken};
-ghost use Rattle.algorithms.specs.Worlds.{access_at, start_refusal, entry_of, stored, begun, taken_by, resting};
+ghost use Rattle.algorithms.specs.Steps.{before_step, process_stopped_at, step_from};
+ghost use Rattle.algorithms.specs.Worlds.{access_at, start_refusal, words_after_access, process_after_start, taken_by, resting};
 
-use crate::access::{Access, Address, Advanced, Moved, Taken, act};
-use crate::algorithm::{Algorithm, Call, Entries};
+use crate::access::{Address, Advanced, Moved, Taken, WordAccess, act};
+use crate::algorithm::{Algorithm, AlgorithmCall};
 use crate::constants::{Constants, MOST_PROCS};
 use crate::expression::NAMES;
-use crate::line::{AccessLine, Form};
+use crate::line::{AccessLine, LineKind};
 use crate::local::{LocalState, arrive};
-use crate::noted::Noted;
-use crate::process::{Place, Process, keep};
+use crate::noted::NotedDeeds;
+use crate::process::{AlgorithmPlace, AlgorithmProcess, keep};
 use crate::refusal::AlgorithmRefusal;
 use std::alloc::{AllocError, Global};
 use std::marker::Model;
@@ -23,29 +23,29 @@ pub const MOST_LIMIT: u64 = 4_611_686_018_427_387_904;
 /// The processes of an algorithm and the words that they share. A caller starts a call and then steps it until a step carries
 /// its answer. A crash may come before any step. Only `new` and `checkpoint` allocate.
 #[derive(Drop)]
-pub struct World {
+pub struct AlgorithmWorld {
     algorithm: Algorithm,
     procs: u64,
     limit: u64,
     words: Vec<[u64; MOST_PROCS]>,
-    processes: Vec<Process>,
+    processes: Vec<AlgorithmProcess>,
 }
 
 /// What steps change in a world: its words and its processes.
 #[derive(Drop)]
 pub struct WorldCheckpoint {
     pub words: Vec<[u64; MOST_PROCS]>,
-    pub processes: Vec<Process>,
+    pub processes: Vec<AlgorithmProcess>,
 }
 
-impl Model for World {
+impl Model for AlgorithmWorld {
     ghost use Rattle.std.specs.Prelude.{◌≡◌, vec_len};
     ghost use Rattle.std.specs.Coded.{codes};
     ghost use Rattle.algorithms.specs.contracts.condition.Condition as condition;
     ghost use Rattle.algorithms.specs.contracts.expression.Expression as expression;
-    ghost use Rattle.algorithms.specs.Worlds.{WorldState};
+    ghost use Rattle.algorithms.specs.Worlds.{AlgorithmWorldState};
 
-    ghost Value = { WorldState };
+    ghost Value = { AlgorithmWorldState };
 
     ghost coded = { Prim.hlevel (codes, expression.the_row.coded, condition.the_row.coded) };
 
@@ -54,8 +54,8 @@ impl Model for World {
     ghost invariant = { λ w. vec_len w.processes ≡ w.procs };
 }
 
-const RESTING: Process = Process {
-    place: Place::Rest,
+const RESTING: AlgorithmProcess = AlgorithmProcess {
+    place: AlgorithmPlace::Rest,
     store: [0; NAMES],
 };
 
@@ -68,46 +68,44 @@ fn access_at(algorithm: &Algorithm, at: usize) -> Result<&AccessLine, AlgorithmR
     match algorithm.lines.get(at) {
         None => Err(AlgorithmRefusal::Malformed { place: at }),
         Some(line) => match &line.form {
-            Form::Access(access) => Ok(access),
-            Form::Local(_) | Form::Done(_) => Err(AlgorithmRefusal::Malformed { place: at }),
+            LineKind::Access(access) => Ok(access),
+            LineKind::Local(_) | LineKind::Done(_) => Err(AlgorithmRefusal::Malformed {
+                place: at,
+            }),
         },
     }
 }
 
 /// Why a process at this place may not start the call.
-fn start_refusal(algorithm: &Algorithm, place: Place, call: Call) -> Option<AlgorithmRefusal>
+fn start_refusal(
+    algorithm: &Algorithm,
+    place: AlgorithmPlace,
+    call: AlgorithmCall,
+) -> Option<AlgorithmRefusal>
     ensures { result ≡ start_refusal algorithm.now place call }
 {
     match (place, call) {
-        (Place::At(at), Call::Withdraw) => match access_at(algorithm, at) {
+        (AlgorithmPlace::At(at), AlgorithmCall::Withdraw) => match access_at(algorithm, at) {
             Ok(line) if line.may_withdraw => None,
             _ => Some(AlgorithmRefusal::NotWaiting),
         },
-        (Place::Rest | Place::Dead, Call::Withdraw) => Some(AlgorithmRefusal::NotWaiting),
-        (Place::At(_), Call::Lock | Call::Unlock | Call::Recover) => Some(
-            AlgorithmRefusal::CallUnderWay,
+        (AlgorithmPlace::Rest | AlgorithmPlace::Dead, AlgorithmCall::Withdraw) => Some(
+            AlgorithmRefusal::NotWaiting,
         ),
-        (Place::Rest | Place::Dead, Call::Lock | Call::Unlock | Call::Recover) => None,
-    }
-}
-
-impl Entries {
-    /// Where a call begins, if there is such a call.
-    pub fn of(self, call: Call) -> Option<usize>
-        ensures { result ≡ entry_of self call }
-    {
-        match call {
-            Call::Lock => Some(self.lock),
-            Call::Unlock => Some(self.unlock),
-            Call::Recover => self.recover,
-            Call::Withdraw => self.withdraw,
-        }
+        (
+            AlgorithmPlace::At(_),
+            AlgorithmCall::Lock | AlgorithmCall::Unlock | AlgorithmCall::Recover,
+        ) => Some(AlgorithmRefusal::CallUnderWay),
+        (
+            AlgorithmPlace::Rest | AlgorithmPlace::Dead,
+            AlgorithmCall::Lock | AlgorithmCall::Unlock | AlgorithmCall::Recover,
+        ) => None,
     }
 }
 
 /// Stores the value of an access, if it has one.
-fn store(words: &mut [[u64; MOST_PROCS]], access: Access)
-    ensures { words.new ≡ stored words.old access.address access.stores }
+fn store(words: &mut [[u64; MOST_PROCS]], access: WordAccess)
+    ensures { words.new ≡ words_after_access words.old access.address access.stores }
 {
     let Address { declaration, index } = access.address;
     let Some(value) = access.stores else {
@@ -123,12 +121,12 @@ fn store(words: &mut [[u64; MOST_PROCS]], access: Access)
 fn begin(
     algorithm: &Algorithm,
     constants: Constants,
-    process: &Process,
-    call: Call,
+    process: &AlgorithmProcess,
+    call: AlgorithmCall,
 ) -> Result<LocalState, AlgorithmRefusal>
     requires { constants.me < constants.procs }
-    ensures ok { IfOk result (λ s. begun algorithm.now constants process.now call ≡ Ok (stopped s None)) }
-    ensures refused { IfErr result (λ e. begun algorithm.now constants process.now call ≡ Err e) }
+    ensures ok { IfOk result (λ s. process_after_start algorithm.now constants process.now call ≡ Ok (process_stopped_at s None)) }
+    ensures refused { IfErr result (λ e. process_after_start algorithm.now constants process.now call ≡ Err e) }
 {
     let entry = algorithm
         .entries
@@ -141,7 +139,7 @@ fn begin(
     let mut state = LocalState {
         at: entry,
         store,
-        noted: Noted::nothing(),
+        noted: NotedDeeds::nothing(),
     };
     keep(&mut state.store, algorithm.lasting);
     match arrive(algorithm.lines.as_slice(), constants, &mut state)? {
@@ -159,48 +157,48 @@ fn take(
 ) -> Result<Advanced, AlgorithmRefusal>
     requires own { constants.me < constants.procs }
     requires first { state.old.noted ≡ nothing_noted }
-    ensures ok { IfOk result (λ a. taken_by algorithm.now constants words.now (stopped state.old None)
-        ≡ Ok (taken state.old a state.new)) }
-    ensures refused { IfErr result (λ e. taken_by algorithm.now constants words.now (stopped state.old None) ≡ Err e) }
+    ensures ok { IfOk result (λ a. taken_by algorithm.now constants words.now (process_stopped_at state.old None)
+        ≡ Ok (step_from state.old a state.new)) }
+    ensures refused { IfErr result (λ e. taken_by algorithm.now constants words.now (process_stopped_at state.old None) ≡ Err e) }
 {
     let line = access_at(algorithm, state.at)?;
     act(algorithm, constants, words, line, state)
 }
 
 /// A process before the access at this place.
-fn state_at(at: usize, process: &Process) -> LocalState
+fn state_at(at: usize, process: &AlgorithmProcess) -> LocalState
     ensures { result ≡ before_step at process.now }
 {
     let store = process.store;
     LocalState {
         at,
         store,
-        noted: Noted::nothing(),
+        noted: NotedDeeds::nothing(),
     }
 }
 
 /// The place of a process that has stopped here, with the answer of its call where that has ended.
-fn place_of(state: &LocalState, answer: Option<usize>) -> Place
-    ensures { result ≡ (stopped state.now answer).place }
+fn place_of(state: &LocalState, answer: Option<usize>) -> AlgorithmPlace
+    ensures { result ≡ (process_stopped_at state.now answer).place }
 {
     match answer {
-        None => Place::At(state.at),
-        Some(_) => Place::Rest,
+        None => AlgorithmPlace::At(state.at),
+        Some(_) => AlgorithmPlace::Rest,
     }
 }
 
 /// The step that says this, of a process that was before at one place, and has stopped at another.
-fn taken(before: &LocalState, advanced: &Advanced, state: &LocalState) -> Taken
-    ensures { result ≡ taken before.now advanced.now state.now }
+fn step_from(before: &LocalState, advanced: &Advanced, state: &LocalState) -> Taken
+    ensures { result ≡ step_from before.now advanced.now state.now }
 {
     let (place, store) = if advanced.blocked {
         let store = before.store;
-        (Place::At(before.at), store)
+        (AlgorithmPlace::At(before.at), store)
     } else {
         let store = state.store;
         (place_of(state, advanced.answer), store)
     };
-    let process = Process { place, store };
+    let process = AlgorithmProcess { place, store };
     Taken {
         at: before.at,
         access: advanced.access,
@@ -227,7 +225,7 @@ fn all_zero(alloc: Global, count: usize) -> Result<Vec<[u64; MOST_PROCS]>, Algor
 }
 
 /// As many processes as are asked for, each at rest.
-fn all_at_rest(alloc: Global, count: usize) -> Result<Vec<Process>, AlgorithmRefusal>
+fn all_at_rest(alloc: Global, count: usize) -> Result<Vec<AlgorithmProcess>, AlgorithmRefusal>
     ensures rows { IfOk result (λ processes. processes.items ≡ replicate count resting) }
     ensures memory { IfErr result (λ e. e ≡ AlgorithmRefusal.OutOfMemory) }
 {
@@ -249,7 +247,7 @@ fn zero_all(rows: &mut [[u64; MOST_PROCS]])
 }
 
 /// Sets each of these processes at rest.
-fn rest_all(processes: &mut [Process])
+fn rest_all(processes: &mut [AlgorithmProcess])
     ensures { processes.new ≡ replicate (length processes.old) resting }
 {
     for process in 0..processes.len() {
@@ -257,8 +255,8 @@ fn rest_all(processes: &mut [Process])
     }
 }
 
-impl World {
-    ghost use Rattle.algorithms.specs.Worlds.{first_world, new_refusal, cause, constants_of, process_of, start, started, step, advance, crash, restarted, with_process};
+impl AlgorithmWorld {
+    ghost use Rattle.algorithms.specs.Worlds.{first_world, new_refusal, cause, constants_of, process_of, start, start_of_process, step, advance, crash, world_at_beginning, with_process};
 
     /// A world with all words 0 and all processes at rest. `limit` is the algorithm's `limit`.
     ///
@@ -268,7 +266,7 @@ impl World {
         algorithm: Algorithm,
         procs: u64,
         limit: u64,
-    ) -> Result<World, AlgorithmRefusal>
+    ) -> Result<AlgorithmWorld, AlgorithmRefusal>
         ensures accepted { OnOk result (new_refusal algorithm procs limit ≡ None) }
         ensures refused { IfErr result (λ e. new_refusal algorithm procs limit ≡ cause e) }
         ensures world { IfOk result (λ w. w ≡ first_world algorithm procs limit) }
@@ -285,7 +283,7 @@ impl World {
         }
         let words = all_zero(alloc, algorithm.declarations.len())?;
         let processes = all_at_rest(alloc, procs as usize)?;
-        Ok(World {
+        Ok(AlgorithmWorld {
             algorithm,
             procs,
             limit,
@@ -299,7 +297,7 @@ impl World {
     /// `NoSuchProcess`, then `NoSuchCall`: the algorithm has no such call. `CallUnderWay`: another call has to end first.
     /// `NotWaiting`: a withdraw where the process is at no line with `may withdraw`. Which calls a process may make by what
     /// it has done, as an unlock only where it is inside, is not asked here.
-    pub fn start(&mut self, p: u64, call: Call) -> Result<(), AlgorithmRefusal>
+    pub fn start(&mut self, p: u64, call: AlgorithmCall) -> Result<(), AlgorithmRefusal>
         ensures ok { OnOk result (start self.old p call ≡ Ok self.new) }
         ensures refused { IfErr result (λ e. start self.old p call ≡ Err e) }
         ensures err { OnErr result (self.new ≡ self.old) }
@@ -307,7 +305,7 @@ impl World {
         let process = self.process_at(p)?;
         let state = begin(&self.algorithm, self.constants(p), process, call)?;
         let process = &mut self.processes[p as usize];
-        process.place = Place::At(state.at);
+        process.place = AlgorithmPlace::At(state.at);
         let names = state.store;
         process.store = names;
         Ok(())
@@ -324,7 +322,7 @@ impl World {
         ensures err { OnErr result (self.new ≡ self.old) }
     {
         let process = self.process_at(p)?;
-        let Place::At(at) = process.place else {
+        let AlgorithmPlace::At(at) = process.place else {
             return Err(AlgorithmRefusal::NothingToDo);
         };
         let before = state_at(at, process);
@@ -336,7 +334,7 @@ impl World {
             self.words.as_slice(),
             &mut state,
         )?;
-        let taken = taken(&before, &advanced, &state);
+        let taken = step_from(&before, &advanced, &state);
         store(self.words.as_mut_slice(), taken.access);
         self.processes[p as usize] = taken.moved.process;
         Ok(taken)
@@ -349,7 +347,7 @@ impl World {
         ensures err { OnErr result (self.new ≡ self.old) }
     {
         let process = self.process_at(p)?;
-        let Place::At(at) = process.place else {
+        let AlgorithmPlace::At(at) = process.place else {
             return Err(AlgorithmRefusal::NothingToDo);
         };
         let mut state = state_at(at, process);
@@ -371,7 +369,7 @@ impl World {
     }
 
     /// The process with this number. `NoSuchProcess`: there are fewer.
-    fn process_at(&self, p: u64) -> Result<&Process, AlgorithmRefusal>
+    fn process_at(&self, p: u64) -> Result<&AlgorithmProcess, AlgorithmRefusal>
         ensures ok { IfOk result (λ process. process_of self.now p ≡ Ok process.now) }
         ensures within { OnOk result (p < self.now.procs) }
         ensures refused { IfErr result (λ e. process_of self.now p ≡ Err e) }
@@ -388,8 +386,8 @@ impl World {
         ensures err { OnErr result (self.new ≡ self.old) }
     {
         self.process(p)?;
-        self.processes[p as usize] = Process {
-            place: Place::Dead,
+        self.processes[p as usize] = AlgorithmProcess {
+            place: AlgorithmPlace::Dead,
             store: [0; NAMES],
         };
         Ok(())
@@ -397,7 +395,7 @@ impl World {
 
     /// Makes all words 0 and puts all processes at rest, as in a new world of the same sizes.
     pub fn restart(&mut self)
-        ensures { self.new ≡ restarted self.old }
+        ensures { self.new ≡ world_at_beginning self.old }
     {
         zero_all(self.words.as_mut_slice());
         rest_all(self.processes.as_mut_slice());
@@ -423,7 +421,7 @@ impl World {
     }
 
     /// The private memory of a process.
-    pub fn process(&self, p: u64) -> Result<Process, AlgorithmRefusal>
+    pub fn process(&self, p: u64) -> Result<AlgorithmProcess, AlgorithmRefusal>
         ensures value { result ≡ process_of self.now p }
         ensures within { OnOk result (p < self.now.procs) }
     {
@@ -440,7 +438,7 @@ impl World {
     }
 
     /// The private memory of each process.
-    pub fn processes(&self) -> &[Process]
+    pub fn processes(&self) -> &[AlgorithmProcess]
         ensures { result.now ≡ self.now.processes }
     {
         self.processes.as_slice()
@@ -469,14 +467,14 @@ impl World {
 
     /// For this workspace alone, to decode a world: sets a shared word. An address outside of the words changes nothing.
     pub fn seam_set_word(&mut self, address: Address, value: u64)
-        ensures { self.new ≡ record self.old { words = stored self.old.words address (Some value) } }
+        ensures { self.new ≡ record self.old { words = words_after_access self.old.words address (Some value) } }
     {
         let stores = Some(value);
-        store(self.words.as_mut_slice(), Access { address, stores });
+        store(self.words.as_mut_slice(), WordAccess { address, stores });
     }
 
     /// For this workspace alone, as `seam_set_word`: sets the private memory of a process. One that is not there has none.
-    pub fn seam_set_process(&mut self, p: u64, process: Process)
+    pub fn seam_set_process(&mut self, p: u64, process: AlgorithmProcess)
         ensures { self.new ≡ with_process self.old p process }
     {
         if let Some(place) = self.processes.get_mut(p as usize) {

@@ -5,24 +5,27 @@ use crate::replays::{bakeries as bakery_replays, others as other_replays};
 use crate::support::{number, text_named};
 use crate::texts::bakeries;
 use algorithm_texts::read_algorithm;
-use algorithms::{Algorithm, AlgorithmRefusal, Call, Deed, NAMES, Noted, Place, Taken, World};
+use algorithms::{
+    Algorithm, AlgorithmCall, AlgorithmDeed, AlgorithmPlace, AlgorithmRefusal, AlgorithmWorld,
+    NAMES, NotedDeeds, Taken,
+};
 use std::alloc::{AllocError, Global};
 use std::fmt::Write;
 use std::test::Fail;
 
-fn name_of(deed: Deed) -> &'static str {
+fn name_of(deed: AlgorithmDeed) -> &'static str {
     match deed {
-        Deed::Begin => "begin",
-        Deed::Ready => "ready",
-        Deed::Enter => "enter",
-        Deed::Reenter => "reenter",
-        Deed::Leave => "leave",
-        Deed::Quit => "quit",
+        AlgorithmDeed::Begin => "begin",
+        AlgorithmDeed::Ready => "ready",
+        AlgorithmDeed::Enter => "enter",
+        AlgorithmDeed::Reenter => "reenter",
+        AlgorithmDeed::Leave => "leave",
+        AlgorithmDeed::Quit => "quit",
     }
 }
 
 /// Writes the deeds of a step.
-fn put_deeds(noted: Noted, text: &mut String) -> Result<(), AllocError> {
+fn put_deeds(noted: NotedDeeds, text: &mut String) -> Result<(), AllocError> {
     for deed in [noted.first, noted.second, noted.third] {
         if let Some(deed) = deed {
             text.push_str(" ")?;
@@ -100,20 +103,20 @@ fn put_refusal(
     text.push_str(why)
 }
 
-fn call_named(word: &str) -> Call {
+fn call_named(word: &str) -> AlgorithmCall {
     if word == "lock" {
-        Call::Lock
+        AlgorithmCall::Lock
     } else if word == "unlock" {
-        Call::Unlock
+        AlgorithmCall::Unlock
     } else if word == "recover" {
-        Call::Recover
+        AlgorithmCall::Recover
     } else {
-        Call::Withdraw
+        AlgorithmCall::Withdraw
     }
 }
 
 /// Plays one move of a schedule, and writes what it does.
-fn put_move(world: &mut World, asked: &str, text: &mut String) -> Result<(), AllocError> {
+fn put_move(world: &mut AlgorithmWorld, asked: &str, text: &mut String) -> Result<(), AllocError> {
     let [word, process, ..] = words(asked);
     let p = number(process);
     if word == "step" {
@@ -134,7 +137,7 @@ fn put_move(world: &mut World, asked: &str, text: &mut String) -> Result<(), All
 }
 
 /// Writes the values of all words.
-fn put_words(world: &World, text: &mut String) -> Result<(), AllocError> {
+fn put_words(world: &AlgorithmWorld, text: &mut String) -> Result<(), AllocError> {
     text.push_str("words")?;
     for (declared, row) in world.algorithm().declarations.iter().zip(world.words()) {
         let used = if declared.each { world.procs() } else { 1 };
@@ -146,7 +149,7 @@ fn put_words(world: &World, text: &mut String) -> Result<(), AllocError> {
 }
 
 /// Plays each move, and writes it with what it does, and the words at the end.
-fn put_moves(world: &mut World, moves: &str, text: &mut String) -> Result<(), AllocError> {
+fn put_moves(world: &mut AlgorithmWorld, moves: &str, text: &mut String) -> Result<(), AllocError> {
     for line in moves.lines() {
         if let Some((asked, _)) = line.split_once(" -> ") {
             text.push_str(asked)?;
@@ -166,7 +169,7 @@ pub fn put_run(
     text: &mut String,
 ) -> Result<(), Fail> {
     let algorithm = read_algorithm(alloc, text_named(words[0]))?;
-    let mut world = World::new(alloc, algorithm, number(words[1]), number(words[2]))?;
+    let mut world = AlgorithmWorld::new(alloc, algorithm, number(words[1]), number(words[2]))?;
     let written = put_moves(&mut world, moves, text);
     drop(world);
     Ok(written?)
@@ -179,23 +182,23 @@ fn locks_run(rt: HostRuntime) -> Result<(), Fail> {
 }
 
 /// Whether a crash loses the place and the names of process 1, some of which have a value before.
-fn crash_loses_all(world: &mut World) -> Result<bool, AlgorithmRefusal> {
-    let rests = world.process(1)?.place == Place::Rest;
-    world.start(1, Call::Lock)?;
+fn crash_loses_all(world: &mut AlgorithmWorld) -> Result<bool, AlgorithmRefusal> {
+    let rests = world.process(1)?.place == AlgorithmPlace::Rest;
+    world.start(1, AlgorithmCall::Lock)?;
     for _ in 0..8 {
         world.step(1)?;
     }
     let before = world.process(1)?.store;
     world.crash(1)?;
     let after = world.process(1)?;
-    let lost = after.place == Place::Dead && after.store == [0; NAMES];
+    let lost = after.place == AlgorithmPlace::Dead && after.store == [0; NAMES];
     Ok(rests && before != [0; NAMES] && lost)
 }
 
 #[test]
 fn a_crash_loses_the_place_and_the_names(rt: HostRuntime) -> Result<(), Fail> {
     let algorithm = read_algorithm(rt.alloc(), bakeries::BAKERY)?;
-    let mut world = World::new(rt.alloc(), algorithm, 2, 5)?;
+    let mut world = AlgorithmWorld::new(rt.alloc(), algorithm, 2, 5)?;
     let sizes = (world.procs(), world.limit());
     let loses_all = crash_loses_all(&mut world);
     let no_process = world.process(2).err();

@@ -9,7 +9,7 @@ use algorithm_explorer::{
     shortest_algorithm_schedule,
 };
 use algorithm_texts::read_algorithm;
-use algorithms::Call;
+use algorithms::AlgorithmCall;
 use std::alloc::{AllocError, Global};
 use std::fmt::Write;
 use std::test::Fail;
@@ -57,7 +57,12 @@ const OTHERS: &str = "\
 == bakery_1974 2 1 1\n--\n358 states, 79 moves left out from line 16\n\
 ";
 
-const ALL: [Call; 4] = [Call::Lock, Call::Unlock, Call::Recover, Call::Withdraw];
+const ALL: [AlgorithmCall; 4] = [
+    AlgorithmCall::Lock,
+    AlgorithmCall::Unlock,
+    AlgorithmCall::Recover,
+    AlgorithmCall::Withdraw,
+];
 
 const BOUNDS: AlgorithmBounds = AlgorithmBounds {
     moves: 1000,

@@ -6,7 +6,7 @@ use crate::cases::{Kind, compare_cases};
 use crate::support::{number, text_named};
 use algorithm_explorer::{StarvingOutcome, Unwatched, starving_algorithm_schedule};
 use algorithm_texts::read_algorithm;
-use algorithms::Call;
+use algorithms::AlgorithmCall;
 use std::alloc::Global;
 use std::fmt::Write;
 use std::test::Fail;
@@ -56,12 +56,20 @@ const AT_LENGTH: &str = "\
 == bakery 2 4 1 recover any\n--\n0 starves, stem 15, cycle 5\n\
 ";
 
-const CALLS: [Call; 3] = [Call::Lock, Call::Unlock, Call::Recover];
+const CALLS: [AlgorithmCall; 3] = [
+    AlgorithmCall::Lock,
+    AlgorithmCall::Unlock,
+    AlgorithmCall::Recover,
+];
 
-const WITHDRAWS: [Call; 3] = [Call::Lock, Call::Unlock, Call::Withdraw];
+const WITHDRAWS: [AlgorithmCall; 3] = [
+    AlgorithmCall::Lock,
+    AlgorithmCall::Unlock,
+    AlgorithmCall::Withdraw,
+];
 
 /// The calls of a case: lock and unlock, and another.
-fn calls_named(name: &str) -> &'static [Call] {
+fn calls_named(name: &str) -> &'static [AlgorithmCall] {
     match name {
         "recover" => &CALLS,
         "withdraw" => &WITHDRAWS,

@@ -20,8 +20,8 @@ use Rattle.cli.specs.CommandLine.{rmelab}
 use Rattle.cli.specs.Given.{Given, AsksFor, AsksForCycles, word_of_cycles, word_of_variant}
 use Rattle.cli.specs.ReadWords.{GoesWithImage, IsAlone, IsBadBesideImage, IsBesideAlgorithm, IsBadVariant, TakesImage, NeedsLock, HasBadVariant}
 use Rattle.cli.specs.ReadWords.{IsHunt, IsAlgorithmHunt, IsBadHunt, IsBadAlgorithmHunt, IsExplore, IsAlgorithmExplore, IsBadSearch, IsBadAlgorithmSearch, IsBadStarving}
-use Rattle.cli.specs.ReadWords.{IsOutOfRange, HasBadSize, HasNoLock, HasBadWords, IsCommand, Takes, IsRefusal}
-use Rattle.cli.specs.Sizes.{IsSized, RunFits, IsHuntSize}
+use Rattle.cli.specs.ReadWords.{IsOutOfRange, HasBadSize, HasNoLock, HasBadWords, IsCommand, TakesWords, IsWordsRefusal}
+use Rattle.cli.specs.Sizes.{IsInRanges, RunFits, IsHuntSize}
 use Rattle.cli.proofs.Texts.{differ}
 
 -- a command of another name
@@ -149,7 +149,7 @@ good_algorithm_search given args h (inl bad) = no_both (first_of (codes "variant
 good_algorithm_search given args h (inr (search, inl bad)) = false≢true (sym bad ∙ h.known)
 good_algorithm_search given args h (inr (search, inr starving)) = good_cycles given args.starving h.starving h.no_bound starving
 
-good_size : (name : Text) (given : Given) (command : Command) → IsSized command → IsCommand name given command → IsOutOfRange name given → ⊥
+good_size : (name : Text) (given : Given) (command : Command) → IsInRanges command → IsCommand name given command → IsOutOfRange name given → ⊥
 good_size name given (Run args) sized h (inl bad) = bad.1 (subst RunFits h.1 sized)
 good_size name given (Run args) sized h (inr (inl bad)) = other_name (codes "run") (codes "hunt") name h.0 refl bad.0
 good_size name given (Run args) sized h (inr (inr bad)) = other_name (codes "run") (codes "explore") name h.0 refl bad.0
@@ -211,7 +211,7 @@ ranged name given (inr (inr (inl page))) bad = sizeless (codes "draw") name give
 ranged name given (inr (inr (inr (inl begin)))) bad = sizeless (codes "step") name given begin.0 refl refl refl bad
 ranged name given (inr (inr (inr (inr lock)))) bad = without_range name given lock bad
 
-both_of : (words : List Text) (P Q : Text → Given → Type 0) → Takes words P → Takes words Q → (name : Text) × (given : Given) × P name given × Q name given
+both_of : (words : List Text) (P Q : Text → Given → Type 0) → TakesWords words P → TakesWords words Q → (name : Text) × (given : Given) × P name given × Q name given
 both_of words P Q p q = go (subcommand_of rmelab words) p.1 q.1
   where
     go : (o : Option (Text × Given)) → IsSomeAnd o (λ command. P command.0 command.1) → IsSomeAnd o (λ command. Q command.0 command.1)
@@ -222,8 +222,8 @@ both_of words P Q p q = go (subcommand_of rmelab words) p.1 q.1
 no_kind : (kinds : Kinds) (kind : ErrorKind) → kinds ≡ [] → IsAmong kind kinds → ⊥
 no_kind kinds kind none among = subst (λ (ks : Kinds). IsAmong kind ks) none among
 
-pub variant_refused : (words : List Text) (result : Result Command WordsFault) → Takes words HasBadVariant
-    → IfOk result (λ command. Takes words (λ name given. IsCommand name given command)) → IfErr result (IsRefusal words)
+pub variant_refused : (words : List Text) (result : Result Command WordsFault) → TakesWords words HasBadVariant
+    → IfOk result (λ command. TakesWords words (λ name given. IsCommand name given command)) → IfErr result (IsWordsRefusal words)
     → (result ≡ Err BadVariant) ⊎ (result ≡ Err OutOfMemory)
 variant_refused words (Ok command) bad ok err =
     let h = both_of words HasBadVariant (λ name given. IsCommand name given command) bad ok in absurd (good_variant h.0 h.1 command h.3 h.2)
@@ -237,8 +237,8 @@ variant_refused words (Err BadSize) bad ok err =
 variant_refused words (Err Unreadable) bad ok err = absurd err
 variant_refused words (Err OutOfMemory) bad ok err = inr refl
 
-pub size_refused : (words : List Text) (result : Result Command WordsFault) → Takes words HasBadSize
-    → IfOk result IsSized → IfOk result (λ command. Takes words (λ name given. IsCommand name given command)) → IfErr result (IsRefusal words)
+pub size_refused : (words : List Text) (result : Result Command WordsFault) → TakesWords words HasBadSize
+    → IfOk result IsInRanges → IfOk result (λ command. TakesWords words (λ name given. IsCommand name given command)) → IfErr result (IsWordsRefusal words)
     → (result ≡ Err BadSize) ⊎ (result ≡ Err OutOfMemory)
 size_refused words (Ok command) bad sized ok err =
     let h = both_of words HasBadSize (λ name given. IsCommand name given command) bad ok in

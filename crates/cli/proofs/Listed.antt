@@ -8,7 +8,7 @@ use Rattle.rmecore.specs.declared.refusal.Refusal.TheVariants as refusals
 use Rattle.redomail.specs.declared.reply.Reply.TheVariants as replies
 use Rattle.rmeworld.specs.declared.answer.Answer.TheVariants as answers
 use Rattle.schedule.specs.declared.lines.fault.LineFault.TheVariants as lines
-use Rattle.algorithms.specs.declared.fault.LineFault.TheVariants as texts
+use Rattle.algorithms.specs.declared.fault.ReadFault.TheVariants as texts
 use Rattle.cli.specs.declared.explain.algorithm_refused.AlgorithmRefused.TheVariants as alone
 use Rattle.cli.specs.declared.explain.rule.Rule.TheVariants as rules
 use Rattle.cli.specs.declared.explain.dictionary_entry.DictionaryEntry.{DictionaryEntry}

@@ -16,7 +16,7 @@ use Rattle.cli.specs.declared.arguments.words.WordsFault.{WordsFault}
 use Rattle.cli.specs.declared.arguments.words.WordsFault.TheVariants.{Help, Refused, BadVariant, BadSize, Unreadable, OutOfMemory}
 use Rattle.cli.specs.CommandLine.{rmelab, IsParser}
 use Rattle.cli.specs.Given.{Given}
-use Rattle.cli.specs.ReadWords.{Reads, IsCommand, IsFault, IsName, Takes, IsRefusal, IsAnsweredBy, HasBadWords, HasBadVariant, HasBadSize}
+use Rattle.cli.specs.ReadWords.{ReadsCommand, IsCommand, IsFault, IsName, TakesWords, IsWordsRefusal, IsAnsweredBy, HasBadWords, HasBadVariant, HasBadSize}
 use Rattle.cli.proofs.Texts.{is_other}
 use Rattle.cli.proofs.Stops.{named}
 
@@ -96,11 +96,11 @@ command_named parser m words is parsed fine rows =
 -- ---- the answer
 
 taken : (P : Text → Given → Type 0) (words : List Text) (command : Text × Given) → fault_of rmelab words ≡ [] → subcommand_of rmelab words ≡ Some command
-    → P command.0 command.1 → Takes words P
+    → P command.0 command.1 → TakesWords words P
 taken P words command fine at h = (fine, subst (λ o. IsSomeAnd o (λ (c : Text × Given). P c.0 c.1)) (sym at) h)
 
 refusal_of : (words : List Text) (command : Text × Given) (e : WordsFault) → fault_of rmelab words ≡ [] → subcommand_of rmelab words ≡ Some command
-    → IsFault command.0 command.1 e → IsRefusal words e
+    → IsFault command.0 command.1 e → IsWordsRefusal words e
 refusal_of words command (Help text) fine at h = absurd h
 refusal_of words command (Refused text) fine at h = inl (taken HasBadWords words command fine at h)
 refusal_of words command BadVariant fine at h = taken HasBadVariant words command fine at h
@@ -109,14 +109,14 @@ refusal_of words command Unreadable fine at h = absurd h
 refusal_of words command OutOfMemory fine at h = tt
 
 pub command_answered : (words : List Text) (o : Option (Text × Given)) (result : Result Command WordsFault) → fault_of rmelab words ≡ [] → o ≡ subcommand_of rmelab words
-    → IsSomeAnd o (λ command. Reads command.0 command.1 result)
-    → IfOk result (λ command. Takes words (λ name given. IsCommand name given command)) × IfErr result (IsRefusal words)
+    → IsSomeAnd o (λ command. ReadsCommand command.0 command.1 result)
+    → IfOk result (λ command. TakesWords words (λ name given. IsCommand name given command)) × IfErr result (IsWordsRefusal words)
 command_answered words None result fine at h = absurd h
 command_answered words (Some c) (Ok command) fine at h = (taken (λ name given. IsCommand name given command) words c fine (sym at) h, tt)
 command_answered words (Some c) (Err e) fine at h = (tt, refusal_of words c e fine (sym at) h)
 
 pub error_answered : (words : List Text) (kind : ErrorKind) (fault : WordsFault) → (kind ≡ kinds.OutOfMemory) ⊎ IsAmong kind (fault_of rmelab words)
-    → IsAnsweredBy kind fault → IsRefusal words fault
+    → IsAnsweredBy kind fault → IsWordsRefusal words fault
 error_answered words kind (Help text) (inl memory) (inl help) = cc
 error_answered words kind (Help text) (inl memory) (inr help) = cc
 error_answered words kind (Help text) (inr among) help = (kind, among, help)

@@ -5,7 +5,7 @@ use Rattle.std.proofs.lemmas.Grind.{flat_map-append}
 use Rattle.std.specs.List.{flat_map}
 use Rattle.schedule.specs.Tapes.{Begins, Tape, Writes}
 use Rattle.schedule.specs.declared.texts.device.Failed.{Failed}
-use Rattle.cli.specs.Told.{IsWritten}
+use Rattle.cli.specs.Report.{IsWritten}
 
 -- what holds in any case holds of a fault
 pub on_err : {T E : Type 0} (r : Result T E) (P : Type 0) → P → OnErr r P

@@ -8,10 +8,10 @@ use Rattle.clap.specs.declared.builder.action.ArgAction.{ArgAction}
 use Rattle.clap.specs.declared.builder.action.ArgAction.TheVariants.{Set, SetTrue, Append}
 use Rattle.clap.specs.declared.builder.value_parser.ValueParser.TheVariants.{Unsigned}
 use Rattle.cli.specs.declared.arguments.argument.Argument.{Argument}
-use Rattle.cli.specs.declared.arguments.argument.Form.{Form}
-use Rattle.cli.specs.declared.arguments.argument.Form.TheVariants as forms
-use Rattle.cli.specs.declared.arguments.parser.Part.{Part}
-use Rattle.cli.specs.declared.arguments.parser.Part.TheVariants as parts
+use Rattle.cli.specs.declared.arguments.argument.ArgumentForm.{ArgumentForm}
+use Rattle.cli.specs.declared.arguments.argument.ArgumentForm.TheVariants as forms
+use Rattle.cli.specs.declared.arguments.parser.ParserPart.{ParserPart}
+use Rattle.cli.specs.declared.arguments.parser.ParserPart.TheVariants as parts
 
 -- `--name`
 abbrev pub flag : Text → Rule
@@ -38,11 +38,11 @@ abbrev pub words : Text → Rule
 words name = record (new_rule name) { action = Some Append }
 
 -- the argument can't be left out
-abbrev pub required : Rule → Rule
-required rule = record rule { required = true }
+abbrev pub required_rule : Rule → Rule
+required_rule rule = record rule { required = true }
 
 -- what is done with a value of this form
-abbrev pub action_of_form : Form → ArgAction
+abbrev pub action_of_form : ArgumentForm → ArgAction
 action_of_form forms.Flag = SetTrue
 action_of_form forms.Text = Set
 action_of_form forms.Number = Set
@@ -51,7 +51,7 @@ action_of_form forms.Word = Set
 action_of_form forms.Words = Append
 
 -- an argument of this form and name that can be left out
-abbrev pub rule_of_form : Form → Text → Rule
+abbrev pub rule_of_form : ArgumentForm → Text → Rule
 rule_of_form forms.Flag = flag
 rule_of_form forms.Text = option
 rule_of_form forms.Number = number
@@ -66,8 +66,8 @@ rule_of_argument argument = record (rule_of_form argument.form argument.name.now
 abbrev pub part : Text → List Rule → Shape
 part name rules = record (new_shape name) { rules = rules }
 
-abbrev pub alone : Shape → App
-alone shape = record { top = shape; subs = [] }
+abbrev pub app_of_shape : Shape → App
+app_of_shape shape = record { top = shape; subs = [] }
 
 abbrev pub variant : Rule
 variant = option (codes "variant")
@@ -83,16 +83,16 @@ replay = part (codes "replay") (flag (codes "json") ∷ flag (codes "each") ∷ 
     ∷ option (codes "save") ∷ word (codes "FILE") ∷ [])
 
 abbrev pub run : Shape
-run = part (codes "run") (required (number (codes "procs")) ∷ required (number (codes "messages")) ∷ required (number (codes "crash")) ∷ required (number (codes "seed")) ∷ number (codes "width") ∷ [])
+run = part (codes "run") (required_rule (number (codes "procs")) ∷ required_rule (number (codes "messages")) ∷ required_rule (number (codes "crash")) ∷ required_rule (number (codes "seed")) ∷ number (codes "width") ∷ [])
 
 abbrev pub hunt : Shape
 hunt = part (codes "hunt") (
-    variant ∷ algorithm ∷ number (codes "procs") ∷ number (codes "limit") ∷ required (number (codes "seed")) ∷ required (number (codes "rounds"))
-    ∷ required (number (codes "steps")) ∷ flag (codes "shrink") ∷ number (codes "jobs") ∷ [])
+    variant ∷ algorithm ∷ number (codes "procs") ∷ number (codes "limit") ∷ required_rule (number (codes "seed")) ∷ required_rule (number (codes "rounds"))
+    ∷ required_rule (number (codes "steps")) ∷ flag (codes "shrink") ∷ number (codes "jobs") ∷ [])
 
 abbrev pub explore : Shape
 explore = part (codes "explore") (
-    variant ∷ algorithm ∷ required (number (codes "procs")) ∷ option (codes "calls") ∷ number (codes "crashes")
+    variant ∷ algorithm ∷ required_rule (number (codes "procs")) ∷ option (codes "calls") ∷ number (codes "crashes")
     ∷ number (codes "moves") ∷ number (codes "states") ∷ number (codes "limit") ∷ number (codes "cap") ∷ number (codes "width")
     ∷ flag (codes "stuck") ∷ starving ∷ flag (codes "all-variables") ∷ number (codes "jobs") ∷ [])
 
@@ -115,7 +115,7 @@ explain = part (codes "explain") (words (codes "WORDS") ∷ [])
 abbrev pub head : Shape
 head = record (new_shape (codes "rmelab")) { has_version = true; subcommand_required = true }
 
-abbrev pub shape_of_part : Part → Shape
+abbrev pub shape_of_part : ParserPart → Shape
 shape_of_part parts.Replay = replay
 shape_of_part parts.Run = run
 shape_of_part parts.Hunt = hunt

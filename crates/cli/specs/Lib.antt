@@ -1,5 +1,5 @@
 pub mod Names
-pub mod Told
+pub mod Report
 pub mod FilesNamed
 pub mod Sizes
 pub mod CommandLine

@@ -2,8 +2,8 @@
 use Rattle.std.specs.Prelude.{ℕ, Option, Some, None, List, [], ◌∷◌, codes}
 use Rattle.std.specs.Fmt.{decimal}
 use Rattle.std.specs.List.{join_with_byte}
-use Rattle.algorithms.specs.declared.fault.LineFault.{LineFault as AlgorithmFault}
-use Rattle.algorithms.specs.declared.fault.LineFault.TheVariants as texts
+use Rattle.algorithms.specs.declared.fault.ReadFault.{ReadFault as AlgorithmFault}
+use Rattle.algorithms.specs.declared.fault.ReadFault.TheVariants as texts
 use Rattle.rmecore.specs.declared.found.Found.{Found}
 use Rattle.rmecore.specs.declared.kind.Kind.{Kind}
 use Rattle.rmecore.specs.declared.kind.Kind.TheVariants as kinds

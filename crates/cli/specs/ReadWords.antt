@@ -304,8 +304,8 @@ IsFault name given Unreadable = ⊥
 IsFault name given OutOfMemory = Unit {0}
 
 -- what is given to the command of this name is answered with it, or refused
-abbrev pub Reads : Text → Given → Result Command WordsFault → Type 0
-Reads name given result = MatchResult result (IsCommand name given) (IsFault name given)
+abbrev pub ReadsCommand : Text → Given → Result Command WordsFault → Type 0
+ReadsCommand name given result = MatchResult result (IsCommand name given) (IsFault name given)
 
 -- ---- the words of a command line; the first one is the program's name
 
@@ -317,8 +317,8 @@ abbrev pub IsName : Text → Type 0
 IsName name = list_any (λ shape. bytes_eq shape.name name) rmelab.subs ≡ true
 
 -- `clap` takes the words, and P holds of the command's name and of what is given to it
-abbrev pub Takes : List Text → (Text → Given → Type 0) → Type 0
-Takes words P = (fault_of rmelab words ≡ []) × IsSomeAnd (subcommand_of rmelab words) (λ command. P command.0 command.1)
+abbrev pub TakesWords : List Text → (Text → Given → Type 0) → Type 0
+TakesWords words P = (fault_of rmelab words ≡ []) × IsSomeAnd (subcommand_of rmelab words) (λ command. P command.0 command.1)
 
 -- the kinds of an answer of `clap` that is no error
 abbrev pub IsHelp : ErrorKind → Type 0
@@ -332,13 +332,13 @@ AsksForHelp words = (kind : ErrorKind) × IsAmong kind (fault_of rmelab words) �
 abbrev pub IsMistaken : List Text → Type 0
 IsMistaken words = (kind : ErrorKind) × IsAmong kind (fault_of rmelab words) × (IsHelp kind → ⊥)
 
-abbrev pub IsRefusal : List Text → WordsFault → Type 0
-IsRefusal words (Help text) = AsksForHelp words
-IsRefusal words (Refused text) = Takes words HasBadWords ⊎ IsMistaken words
-IsRefusal words BadVariant = Takes words HasBadVariant
-IsRefusal words BadSize = Takes words HasBadSize
-IsRefusal words Unreadable = ⊥
-IsRefusal words OutOfMemory = Unit {0}
+abbrev pub IsWordsRefusal : List Text → WordsFault → Type 0
+IsWordsRefusal words (Help text) = AsksForHelp words
+IsWordsRefusal words (Refused text) = TakesWords words HasBadWords ⊎ IsMistaken words
+IsWordsRefusal words BadVariant = TakesWords words HasBadVariant
+IsWordsRefusal words BadSize = TakesWords words HasBadSize
+IsWordsRefusal words Unreadable = ⊥
+IsWordsRefusal words OutOfMemory = Unit {0}
 
 -- ---- the parts of reading
 
@@ -364,5 +364,5 @@ IsUnnamed (Refused text) = Unit {0}
 IsUnnamed fault = fault ≡ OutOfMemory
 
 -- the fault is answered, or there is no memory
-abbrev pub Refuses : Result Command WordsFault → WordsFault → Type 0
-Refuses result fault = (result ≡ Err fault) ⊎ (result ≡ Err OutOfMemory)
+abbrev pub RefusesWords : Result Command WordsFault → WordsFault → Type 0
+RefusesWords result fault = (result ≡ Err fault) ⊎ (result ≡ Err OutOfMemory)

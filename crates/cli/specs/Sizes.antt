@@ -18,19 +18,19 @@ abbrev pub RunFits : RunArgs → Type 0
 RunFits args = ((1 ≤ args.procs) × (args.procs ≤ 16)) × ((1 ≤ args.messages) × (args.messages ≤ 4096)) × (args.crash ≤ 50) × (1 ≤ args.width) × (args.width ≤ 8)
 
 -- the numbers of a command are in their ranges
-abbrev pub IsSized : Command → Type 0
-IsSized (Replay args) = Unit {0}
-IsSized (ReplayAlgorithm args) = Unit {0}
-IsSized (Run args) = RunFits args
-IsSized (Hunt args) = HuntFits args
-IsSized (HuntAlgorithm args) = IsHuntSize args.rounds args.steps
-IsSized (Explore args) = Unit {0}
-IsSized (ExploreAlgorithm args) = Unit {0}
-IsSized (Judge file) = Unit {0}
-IsSized (Step file) = Unit {0}
-IsSized (StepAlgorithm algorithm) = Unit {0}
-IsSized (Draw args) = Unit {0}
-IsSized (DrawAlgorithm args) = Unit {0}
-IsSized (Shrink args) = Unit {0}
-IsSized (ShrinkAlgorithm args) = Unit {0}
-IsSized (Explain dictionary_entry) = Unit {0}
+abbrev pub IsInRanges : Command → Type 0
+IsInRanges (Replay args) = Unit {0}
+IsInRanges (ReplayAlgorithm args) = Unit {0}
+IsInRanges (Run args) = RunFits args
+IsInRanges (Hunt args) = HuntFits args
+IsInRanges (HuntAlgorithm args) = IsHuntSize args.rounds args.steps
+IsInRanges (Explore args) = Unit {0}
+IsInRanges (ExploreAlgorithm args) = Unit {0}
+IsInRanges (Judge file) = Unit {0}
+IsInRanges (Step file) = Unit {0}
+IsInRanges (StepAlgorithm algorithm) = Unit {0}
+IsInRanges (Draw args) = Unit {0}
+IsInRanges (DrawAlgorithm args) = Unit {0}
+IsInRanges (Shrink args) = Unit {0}
+IsInRanges (ShrinkAlgorithm args) = Unit {0}
+IsInRanges (Explain dictionary_entry) = Unit {0}

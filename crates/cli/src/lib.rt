@@ -11,5 +11,5 @@ pub use arguments::words::{WordsFault, read_words};
 pub use explain::algorithm_refused::AlgorithmRefused;
 pub use explain::dictionary_entry::{DictionaryEntry, ENTRIES, dictionary_entry_named};
 pub use explain::meaning::{Meaning, meaning_of};
+pub use explain::meaning_writer::{tell_all_names, tell_dictionary_entry};
 pub use explain::rule::Rule;
-pub use explain::telling::{tell_all_names, tell_dictionary_entry};

@@ -4,8 +4,8 @@ use Rattle.algorithms.specs.Ranked.{LocalLinesEnd, AccessesLeadOn}
 use Rattle.algorithms.specs.declared.algorithm.Algorithm.{Algorithm}
 use Rattle.algorithms.specs.declared.fault.AlgorithmFault.{AlgorithmFault}
 use Rattle.algorithms.specs.declared.fault.AlgorithmFault.TheVariants as of_reading
-use Rattle.algorithms.specs.declared.fault.LineFault.{LineFault}
-use Rattle.algorithm_texts.specs.Programs.{Spells}
+use Rattle.algorithms.specs.declared.fault.ReadFault.{ReadFault}
+use Rattle.algorithm_texts.specs.Programs.{SpellsAlgorithm}
 use Rattle.cli.specs.Names.{number_of_algorithm_fault}
 use Rattle.schedule.specs.Schedules.{Scheduled, schedule_at}
 use Rattle.schedule.specs.Tapes.{Tape, Reading}
@@ -16,35 +16,35 @@ use Rattle.commands.specs.declared.schedules.fault.CommandFault.TheVariants as f
 use Rattle.commands.specs.AlgorithmTexts.{EndsOnAlgorithm, EndsOnBoth, IsAlgorithmFault, IsUnreadAlgorithm, TellsFault, text_of}
 use Rattle.commands.specs.Endings.{FailsToRead, TellsReads}
 use Rattle.commands.specs.Settings.{IsWrongText}
-use Rattle.commands.specs.Tellings.{Refuses}
+use Rattle.commands.specs.Tellings.{RefusesCommand}
 
 -- the command answers the fault of this line that has this number
-pub tells_fault : (line number : ℕ) (of_text : LineFault) → ((1 ≤ number) × (number ≤ 18) → number_of_algorithm_fault of_text ≡ Some number)
+pub tells_fault : (line number : ℕ) (of_text : ReadFault) → ((1 ≤ number) × (number ≤ 18) → number_of_algorithm_fault of_text ≡ Some number)
     → TellsFault (of_reading.At line number) (faults.Algorithm line of_text)
 tells_fault line number of_text numbered = (of_text, refl, numbered)
 
 -- what tells a fault of a text names it, or is out of memory
-pub is_algorithm_fault : (fault : AlgorithmFault) (told : CommandFault) → TellsFault fault told → IsAlgorithmFault told
-is_algorithm_fault (of_reading.At line number) told tells = inr (line, tells.0, tells.1)
-is_algorithm_fault of_reading.OutOfMemory told tells = inl tells
+pub is_algorithm_fault : (fault : AlgorithmFault) (reports : CommandFault) → TellsFault fault reports → IsAlgorithmFault reports
+is_algorithm_fault (of_reading.At line number) reports tells = inr (line, tells.0, tells.1)
+is_algorithm_fault of_reading.OutOfMemory reports tells = inl tells
 
 -- the algorithm's text is at fault: nothing was written
-pub no_algorithm_alone : {B : Type 0} (now : Tape) (fault : CommandFault) → IsAlgorithmFault fault → Refuses now now IsAlgorithmFault (Err fault) ⊎ B
+pub no_algorithm_alone : {B : Type 0} (now : Tape) (fault : CommandFault) → IsAlgorithmFault fault → RefusesCommand now now IsAlgorithmFault (Err fault) ⊎ B
 no_algorithm_alone now fault is = inl (record { taken = refl; fine = refl }, (fault, refl, is))
 
 -- it was read
 pub algorithm_read : (file : Option (List ℕ)) (Holds : Algorithm → Type 0) (before now : Tape) (end : Result Ending CommandFault) (a : Algorithm)
-    → Spells (text_of file) a → LocalLinesEnd a → AccessesLeadOn a → Holds a → EndsOnAlgorithm file Holds before now end
+    → SpellsAlgorithm (text_of file) a → LocalLinesEnd a → AccessesLeadOn a → Holds a → EndsOnAlgorithm file Holds before now end
 algorithm_read file Holds before now end a spells ends leads holds = inr (record { algorithm = a; spells = spells; ends = ends; leads = leads; holds = holds })
 
 -- the algorithm's text is at fault: nothing was read or written
 pub no_algorithm : {B : Type 0} (old : Reading) (now : Tape) (fault : CommandFault) → IsAlgorithmFault fault
-    → (Refuses now now (IsUnreadAlgorithm old old) (Err fault) ⊎ B) × TellsReads old old (Err fault)
+    → (RefusesCommand now now (IsUnreadAlgorithm old old) (Err fault) ⊎ B) × TellsReads old old (Err fault)
 no_algorithm old now fault is = (inl (record { taken = refl; fine = refl }, (fault, refl, inl is)), inl refl)
 
 -- the schedule's text is at fault: nothing was written
 pub no_schedule : {B : Type 0} (old new : Reading) (now : Tape) (fault : CommandFault) → FailsToRead old new fault ⊎ IsWrongText old new fault
-    → TellsReads old new (Err fault) → (Refuses now now (IsUnreadAlgorithm old new) (Err fault) ⊎ B) × TellsReads old new (Err fault)
+    → TellsReads old new (Err fault) → (RefusesCommand now now (IsUnreadAlgorithm old new) (Err fault) ⊎ B) × TellsReads old new (Err fault)
 no_schedule old new now fault wrong reads = (inl (record { taken = refl; fine = refl }, (fault, refl, inr wrong)), reads)
 
 fine_reads : (old new : Reading) (end : Result Ending CommandFault) → new.failures ≡ old.failures → TellsReads old new end
@@ -53,7 +53,7 @@ fine_reads old new (Err fault) fine = inl fine
 
 -- both were read
 pub both_read : (file : Option (List ℕ)) (Holds : Algorithm → Scheduled → Type 0) (old new : Reading) (before now : Tape) (end : Result Ending CommandFault)
-    (a : Algorithm) (schedule : Scheduled) (text : List ℕ) → Spells (text_of file) a → LocalLinesEnd a → AccessesLeadOn a → WasRead old new text
+    (a : Algorithm) (schedule : Scheduled) (text : List ℕ) → SpellsAlgorithm (text_of file) a → LocalLinesEnd a → AccessesLeadOn a → WasRead old new text
     → schedule_at text ≡ Ok schedule → Holds a schedule → EndsOnBoth file Holds old new before now end
 both_read file Holds old new before now end a schedule text spells ends leads read spelled holds = (
   inr (record {

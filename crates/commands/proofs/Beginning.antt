@@ -3,7 +3,7 @@ use Rattle.std.proofs.Common.{◌≡◌, ◌⊎◌, ℕ, List, [], sym, subst, a
 use Rattle.std.specs.declared.alloc.Global.{Global}
 use Rattle.judge.specs.Kept.{Kept}
 use Rattle.judge.specs.Stands.{Keeps, StandsAfter}
-use Rattle.judge.specs.Table.{State, empty}
+use Rattle.judge.specs.Table.{State, empty_state}
 use Rattle.rmeworld.specs.Replayed.{image_of, world_behaviour}
 use Rattle.rmeworld.specs.WorldState.{WorldState, new_world}
 use Rattle.schedule.proofs.Judging.{stands_first}
@@ -21,7 +21,7 @@ use Rattle.cli.specs.declared.arguments.args.Command.TheVariants.{Step, StepAlgo
 use Rattle.commands.specs.declared.schedules.fault.CommandFault.{CommandFault}
 use Rattle.commands.specs.declared.schedules.ending.Ending.{Ending}
 use Rattle.commands.specs.declared.schedules.fault.CommandFault.TheVariants.{OutOfMemory}
-use Rattle.commands.specs.Conversations.{BeginsWith, CantBegin, CantPlay, HoldsSession, IsRefusedLine, Opens, SessionEnds}
+use Rattle.commands.specs.Conversations.{BeginsWith, CantBegin, CantPlay, HoldsSession, IsRefusedLine, OpensSession, SessionEnds}
 use Rattle.commands.specs.Endings.{FailsIn, FailsToRead}
 use Rattle.commands.specs.Commands.{SessionEndsOf}
 use Rattle.commands.specs.Folders.{Used, is_session}
@@ -46,11 +46,11 @@ as_fault schedule fault (inl memory) = inl memory
 as_fault schedule fault (inr refused) = inr (inr refused)
 
 pub cut_short : (before now : Tape) (schedule : Scheduled) (judge : Kept) (world : WorldState) (fault : ReplayFault) (result : CommandFault)
-    → world ≡ new_world (layout_of schedule) schedule.limit → StandsAfter (empty schedule.procs schedule.cap) [] judge
+    → world ≡ new_world (layout_of schedule) schedule.limit → StandsAfter (empty_state schedule.procs schedule.cap) [] judge
     → ((start : State) → Keeps judge start → CutShort before now start image_of (run_on world_behaviour 2 world schedule.lines) fault)
     → result ≡ fault_on_page fault → (result ≡ OutOfMemory) ⊎ CantPlay schedule result
 cut_short before now schedule judge world fault result made stands is same =
-    let start : State = empty schedule.procs schedule.cap in
+    let start : State = empty_state schedule.procs schedule.cap in
     let cut : CutShort before now start image_of (world_run schedule) fault =
     subst (λ (w : WorldState). CutShort before now start image_of (run_on world_behaviour 2 w schedule.lines) fault) made (is start (stands_first start judge stands)) in
     subst (λ (f : CommandFault). (f ≡ OutOfMemory) ⊎ CantPlay schedule f) (sym same)
@@ -82,14 +82,14 @@ not_begun start old now used tape fault why = inl (why, record { taken = refl; f
 
 -- the state at its begin was not written
 pub cut_at_start : (start : Option (List ℕ)) (old opened : Reading) (used : Used) (blank written : Tape) (buffer : List ℕ) (schedule : Scheduled) (fault : CommandFault)
-    → Opens start old opened buffer schedule → (world_run schedule).refused ≡ None
+    → OpensSession start old opened buffer schedule → (world_run schedule).refused ≡ None
     → FailsIn (standing_text lock_semantics (lock_session schedule)) blank written fault → SessionEnds start old opened used used blank written (Err fault)
 cut_at_start start old opened used blank written buffer schedule fault opens accepted fails =
     inr (record { schedule = schedule; opened = opened; buffer = buffer; opens = opens; accepted = accepted; breaks = inl (refl, refl, fails) })
 
 -- it has broken off after that
 pub cut_in_lines : (start : Option (List ℕ)) (old opened new : Reading) (before now : Used) (blank opening written : Tape) (buffer : List ℕ) (schedule : Scheduled)
-    (fault : ReplayFault) → Opens start old opened buffer schedule → (world_run schedule).refused ≡ None
+    (fault : ReplayFault) → OpensSession start old opened buffer schedule → (world_run schedule).refused ≡ None
     → Writes blank opening (standing_text lock_semantics (lock_session schedule))
     → HoldsSession lock_semantics (lock_session schedule) buffer opened new before now opening written (Err fault)
     → SessionEnds start old new before now blank written (Err (fault_of_replay fault))

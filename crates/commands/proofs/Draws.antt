@@ -4,7 +4,7 @@ use Rattle.crashlab.specs.declared.variant.Variant.{Variant}
 use Rattle.commands.specs.declared.schedules.fault.CommandFault.{CommandFault}
 use Rattle.schedule.specs.Tapes.{Tape, Reading}
 use Rattle.cli.specs.declared.arguments.args.DrawArgs.{DrawArgs}
-use Rattle.commands.specs.Draws.{DrawEnds, drawn}
+use Rattle.commands.specs.Draws.{DrawEnds, draw_manner}
 use Rattle.commands.specs.Endings.{FailsToRead}
 use Rattle.commands.specs.Settings.{IsWrongText}
 use Rattle.commands.specs.Statuses.{status_of}
@@ -18,4 +18,4 @@ untold variant manner image old new now fault (inr wrong) = inl (record { taken 
 pub unread : (args : DrawArgs) (image : Option (List ℕ)) (old new : Reading) (now : Tape) (fault : CommandFault) → 2 ≤ status_of fault
     → FailsToRead old new fault ⊎ IsWrongText old new fault → DrawEnds args image old new now now (Err fault)
 unread args image old new now fault least purpose =
-    (λ one right. omega (arith, one, least), untold args.variant (drawn args) image old new now fault purpose)
+    (λ one right. omega (arith, one, least), untold args.variant (draw_manner args) image old new now fault purpose)

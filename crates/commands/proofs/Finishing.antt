@@ -7,7 +7,7 @@ use Rattle.commands.specs.declared.schedules.fault.CommandFault.{CommandFault}
 use Rattle.commands.specs.declared.schedules.fault.CommandFault.TheVariants as faults
 use Rattle.commands.specs.Endings.{IsEnded}
 use Rattle.commands.specs.Folders.{Used}
-use Rattle.commands.specs.Programs.{Finishes, IsWhole}
+use Rattle.commands.specs.Programs.{Finishes, IsFullyWritten}
 
 -- an end without a fault has none
 no_fault : {P : Type 0} (end : Result Ending CommandFault) (ending : Ending) (fault : CommandFault) → end ≡ Ok ending → end ≡ Err fault → P
@@ -28,7 +28,7 @@ finished command before now output written ended ending (inr (same, inr saves)) 
 
 -- no write and no flush has failed
 pub whole_end : (command : Command) (before now : Used) (blank output written : Tape) (saves : Bool) (ended end : Result Ending CommandFault)
-    → Finishes command before now output written ended end → IfOk ended (IsEnded saves blank.failures output.failures) → IsWhole blank written end
+    → Finishes command before now output written ended end → IfOk ended (IsEnded saves blank.failures output.failures) → IsFullyWritten blank written end
 whole_end command before now blank output written saves ended (Ok ending) is ends =
     let fine = finished command before now output written ended ending is in
     let whole : IsEnded saves blank.failures output.failures ending =

@@ -10,16 +10,16 @@ use Rattle.schedule.specs.Schedules.{spelling}
 use Rattle.schedule.specs.Tapes.{Tape, Reading, Begins, Writes}
 use Rattle.schedule.specs.Words.{parts_of}
 use Rattle.schedule.specs.declared.lines.fault.LineFault.{LineFault}
-use Rattle.diagram.specs.declared.session.opened.Reply.{Reply}
-use Rattle.diagram.specs.declared.session.opened.Reply.TheVariants.{Quits}
+use Rattle.diagram.specs.declared.session.opened.SessionReply.{SessionReply}
+use Rattle.diagram.specs.declared.session.opened.SessionReply.TheVariants.{Quits}
 use Rattle.diagram.specs.declared.session.request.Request.{Request}
 use Rattle.diagram.specs.declared.session.request.Request.TheVariants as requests
-use Rattle.diagram.specs.declared.session.opened.Reply.TheVariants as replies
+use Rattle.diagram.specs.declared.session.opened.SessionReply.TheVariants as replies
 use Rattle.diagram.specs.Semantics.{Semantics}
 use Rattle.diagram.specs.Sessions.{SessionState, after_request, fault_text, next_number, reply_to, request_in, text_of_request}
 use Rattle.schedule.specs.declared.replays.replay_fault.ReplayFault.{ReplayFault}
 use Rattle.schedule.specs.declared.replays.replay_fault.ReplayFault.TheVariants as faults
-use Rattle.commands.specs.Conversations.{AreAnswers, BreaksOffIn, FailsBy, HoldsSession, IsAnswer, IsAnswerBy, IsBegun, IsBegunBy, IsKept, WritesFile, WritesOr, after_line, file_in, last_text}
+use Rattle.commands.specs.Conversations.{AreAnswers, BreaksOffIn, FailsBy, HoldsSession, IsAnswer, IsAnswerBy, IsBegun, IsBegunBy, IsSaved, WritesFile, WritesOr, after_line, file_in, last_text}
 use Rattle.commands.specs.Folders.{Used}
 
 -- ---- pieces of a text
@@ -161,7 +161,7 @@ module _ {S : Type 0} (b : Semantics S) where
   silent_end s (Ok requests.Quit) e = refl
   silent_end s _ e = cc
 
-  end_answer : (s : SessionState S) (line : List ℕ) (mid used : Used) (page : List ℕ) (reply : Reply) → reply ≡ Quits → reply_to (request_in s line) ≡ Quits
+  end_answer : (s : SessionState S) (line : List ℕ) (mid used : Used) (page : List ℕ) (reply : SessionReply) → reply ≡ Quits → reply_to (request_in s line) ≡ Quits
       → IsAnswerBy b reply s line mid used page → (used ≡ mid) × (page ≡ [])
   end_answer s line mid used page Quits e quits is = (is.0, is.1 ∙ silent_end s (request_in s line) quits)
   end_answer s line mid used page _ e quits is = cc
@@ -376,7 +376,7 @@ module _ {S : Type 0} (b : Semantics S) where
 
   -- ---- what a line has begun
 
-  pub nothing_begun : (reply : Reply) (s : SessionState S) (line : List ℕ) (used : Used) → IsBegunBy b reply s line used used
+  pub nothing_begun : (reply : SessionReply) (s : SessionState S) (line : List ℕ) (used : Used) → IsBegunBy b reply s line used used
   nothing_begun replies.Saves s line used = inl refl
   nothing_begun replies.Goes s line used = refl
   nothing_begun Quits s line used = refl
@@ -439,12 +439,12 @@ pub wrote_page : (written after : Tape) (bytes page : List ℕ) → bytes ≡ pa
 wrote_page written after bytes page is taken fine = record { taken = taken ∙ ap (λ (t : List ℕ). written.taken ++ t) is; fine = fine }
 
 -- whether or not that was done, the text was to be written
-pub kept_by : (before now : Used) (file text : List ℕ) (done : Bool) → WritesFile before now file text → IsKept before now file text done
+pub kept_by : (before now : Used) (file text : List ℕ) (done : Bool) → WritesFile before now file text → IsSaved before now file text done
 kept_by before now file text true h = h
 kept_by before now file text false h = inr h
 
 -- and so was its file, if it names one
-pub kept_begun : (before now : Used) (file text : List ℕ) (done : Bool) → IsKept before now file text done → (now ≡ before) ⊎ WritesFile before now file text
+pub kept_begun : (before now : Used) (file text : List ℕ) (done : Bool) → IsSaved before now file text done → (now ≡ before) ⊎ WritesFile before now file text
 kept_begun before now file text true h = inr h
 kept_begun before now file text false h = h
 

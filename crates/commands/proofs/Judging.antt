@@ -8,20 +8,20 @@ use Rattle.schedule.specs.declared.replays.verdict.Verdict.{Verdict}
 use Rattle.commands.specs.declared.schedules.ending.Ending.{Ending}
 use Rattle.commands.specs.declared.schedules.fault.CommandFault.{CommandFault}
 use Rattle.commands.specs.declared.schedules.fault.CommandFault.TheVariants as faults
-use Rattle.commands.specs.Commands.{JudgeEnds, TellsVerdict, verdict_told}
+use Rattle.commands.specs.Commands.{JudgeEnds, TellsVerdict, verdict_text}
 use Rattle.commands.specs.Endings.{Prints}
 use Rattle.commands.specs.Statuses.{fault_of_replay, status_after}
 
 -- the verdict of a trace is written
-pub trace_told : (json : Bool) (old new : Reading) (before now : Tape) (verdict : Verdict) (end : Result Ending CommandFault)
+pub trace_reported : (json : Bool) (old new : Reading) (before now : Tape) (verdict : Verdict) (end : Result Ending CommandFault)
     → JudgesTrace old new (Ok verdict)
-    → Prints (status_after verdict) (verdict_told json verdict) before now end → JudgeEnds json old new before now end
-trace_told json old new before now verdict end judged prints =
+    → Prints (status_after verdict) (verdict_text json verdict) before now end → JudgeEnds json old new before now end
+trace_reported json old new before now verdict end judged prints =
     let read = judged.0 in
     inr (record {
       text = read.0;
       read = record { given = read.1; ended = read.2; fine = judged.1 };
-      told = subst (λ (answer : Result Verdict ReplayFault). TellsVerdict json answer before now end) read.3 prints;
+      reports = subst (λ (answer : Result Verdict ReplayFault). TellsVerdict json answer before now end) read.3 prints;
     })
 
 -- a text that was read is at fault
@@ -31,7 +31,7 @@ at_fault json old new now fault read fine =
     inr (record {
       text = read.0;
       read = record { given = read.1; ended = read.2; fine = fine };
-      told =
+      reports =
           subst (λ (answer : Result Verdict ReplayFault). TellsVerdict json answer now now (Err (fault_of_replay fault))) read.3
           (refl, record { taken = refl; fine = refl });
     })

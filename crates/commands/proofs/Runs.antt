@@ -3,11 +3,11 @@ use Rattle.std.proofs.Common.{◌≡◌, ◌⊎◌, ℕ, ◌-◌, ◌*◌, ◌^�
 use Rattle.std.proofs.Math.Nat.{min-eq_left, one-le-mul}
 use Rattle.std.proofs.lemmas.Nat.{mul-le}
 use Rattle.std.proofs.lemmas.Bool.Decides.{leb_tells}
-use Rattle.one_lock.specs.Lab.{IsBadSpec}
+use Rattle.table_runs.specs.Lab.{IsBadSpec}
 use Rattle.robust.specs.LabFaults.{EndsLab}
-use Rattle.one_lock.specs.declared.lab.lab_fault.LabFault.{LabFault}
-use Rattle.one_lock.specs.declared.lab.lab_fault.LabFault.TheVariants as of_lab
-use Rattle.one_lock.specs.declared.lab.spec.Spec.{Spec}
+use Rattle.table_runs.specs.declared.lab.lab_fault.LabFault.{LabFault}
+use Rattle.table_runs.specs.declared.lab.lab_fault.LabFault.TheVariants as of_lab
+use Rattle.table_runs.specs.declared.lab.spec.Spec.{Spec}
 use Rattle.cli.specs.declared.arguments.args.RunArgs.{RunArgs}
 use Rattle.commands.specs.declared.schedules.fault.CommandFault.{CommandFault}
 use Rattle.commands.specs.Commands.{HasNoTallies, lab_for}
@@ -50,9 +50,9 @@ lab_fails args (of_lab.Reply p reply) bad (inl is) = cc
 lab_fails args (of_lab.Reply p reply) bad (inr may) = may.0
 
 -- the same by what the calls of a run say
-pub lab_fails_so : (args : RunArgs) (spec : Spec) (gates : ℕ) (fault : LabFault) (told : CommandFault) → spec ≡ lab_for args → gates ≡ args.procs
-    → told ≡ fault_of_lab fault → (fault ≡ of_lab.BadSpec → IsBadSpec spec gates) → (fault ≡ of_lab.BadSpec) ⊎ EndsLab spec fault → HasNoTallies args told
-lab_fails_so args spec gates fault told sizes count is bad why =
+pub lab_fails_so : (args : RunArgs) (spec : Spec) (gates : ℕ) (fault : LabFault) (reports : CommandFault) → spec ≡ lab_for args → gates ≡ args.procs
+    → reports ≡ fault_of_lab fault → (fault ≡ of_lab.BadSpec → IsBadSpec spec gates) → (fault ≡ of_lab.BadSpec) ⊎ EndsLab spec fault → HasNoTallies args reports
+lab_fails_so args spec gates fault reports sizes count is bad why =
     subst (λ (f : CommandFault). HasNoTallies args f) (sym is)
     (lab_fails args fault
     (λ e. subst (λ (s : Spec). IsBadSpec s args.procs) sizes (subst (λ (n : ℕ). IsBadSpec spec n) count (bad e)))

@@ -14,8 +14,8 @@ use Rattle.commands.specs.Commands.{TellsTallies}
 use Rattle.commands.specs.Endings.{Prints}
 use Rattle.commands.specs.declared.schedules.ending.Ending.{Ending}
 use Rattle.commands.specs.declared.schedules.fault.CommandFault.{CommandFault}
-use Rattle.one_lock.specs.Lab.{AreAllSent, messages_sent, message_sent}
-use Rattle.one_lock.specs.declared.lab.spec.Spec.{Spec}
+use Rattle.table_runs.specs.Lab.{AreAllSent, messages_sent, message_sent}
+use Rattle.table_runs.specs.declared.lab.spec.Spec.{Spec}
 use Rattle.std.proofs.lemmas.Bool.Decides.{eqb_tells}
 use Rattle.redomail.specs.declared.message.Message.{Message}
 use Rattle.commands.specs.declared.tally.SenderTally.{SenderTally}

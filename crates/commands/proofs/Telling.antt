@@ -10,6 +10,6 @@ use Rattle.commands.specs.Endings.{Prints}
 use Rattle.commands.specs.Shrinks.{ShrinksSchedule, shrunk_status, shrunk_text}
 
 -- what shrinking answers was written
-pub shrunk_told : (variant : Variant) (schedule : Scheduled) (answer : Option Scheduled) (before now : Tape) (end : Result Ending CommandFault)
+pub shrunk_reported : (variant : Variant) (schedule : Scheduled) (answer : Option Scheduled) (before now : Tape) (end : Result Ending CommandFault)
     → Shrinks variant schedule answer → Prints (shrunk_status answer) (shrunk_text answer) before now end → ShrinksSchedule variant schedule before now end
-shrunk_told variant schedule answer before now end shrinks prints = inl (record { answer = answer; shrinks = shrinks; prints = prints })
+shrunk_reported variant schedule answer before now end shrinks prints = inl (record { answer = answer; shrinks = shrinks; prints = prints })

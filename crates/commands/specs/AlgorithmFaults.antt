@@ -1,15 +1,15 @@
 -- The faults of an algorithm's text and of its runs, as faults of a command.
 use Rattle.std.specs.Prelude.{ℕ, List, codes, unwrap_or}
-use Rattle.algorithms.specs.declared.fault.LineFault.{LineFault}
-use Rattle.algorithms.specs.declared.fault.LineFault.TheVariants as texts
+use Rattle.algorithms.specs.declared.fault.ReadFault.{ReadFault}
+use Rattle.algorithms.specs.declared.fault.ReadFault.TheVariants as texts
 use Rattle.cli.specs.Names.{number_of_algorithm_fault}
 
 -- the number that is printed for a fault of a text
-abbrev pub number_of_text_fault : LineFault → ℕ
+abbrev pub number_of_text_fault : ReadFault → ℕ
 number_of_text_fault fault = unwrap_or (number_of_algorithm_fault fault) 0
 
 -- the sentence after it
-abbrev pub sentence_of : LineFault → List ℕ
+abbrev pub sentence_of : ReadFault → List ℕ
 sentence_of texts.NoHeader = codes "the first two lines are no header and promises"
 sentence_of texts.BadCharacter = codes "a character that means nothing here"
 sentence_of texts.NoNewline = codes "the last line is not ended by a line feed"

@@ -2,7 +2,7 @@
 use Rattle.std.specs.Prelude.{◌≡◌, ◌⊎◌, ℕ, List, Option, None, Some, Result, Err}
 use Rattle.algorithms.specs.Worlds.{new_refusal}
 use Rattle.algorithms.specs.declared.algorithm.Algorithm.{Algorithm}
-use Rattle.algorithm_explorer.specs.Hunted.{hunted, IsFound}
+use Rattle.algorithm_explorer.specs.Hunted.{hunt_answer, IsFoundByHunt}
 use Rattle.algorithm_explorer.specs.declared.hunt_fault.AlgorithmHuntFault.{AlgorithmHuntFault}
 use Rattle.algorithm_explorer.specs.declared.hunt_fault.AlgorithmHuntFault.TheVariants as of_hunt
 use Rattle.schedule.specs.Schedules.{Scheduled, spelling}
@@ -25,14 +25,14 @@ fault_of_hunt fault = faults.BadSize
 -- the schedule that the hunt finds is written. It has at most the moves asked for, and its verdict is against
 pub record TellsHunted (algorithm : Algorithm) (args : AlgorithmHuntArgs) (before now : Tape) (end : Result Ending CommandFault) : Type 0 where
   pub schedule : Scheduled
-  pub found : IsFound algorithm args.procs args.limit args.steps schedule
-  pub exact : Some schedule ≡ hunted algorithm args.procs args.limit args.seed args.rounds args.steps
+  pub found : IsFoundByHunt algorithm args.procs args.limit args.steps schedule
+  pub exact : Some schedule ≡ hunt_answer algorithm args.procs args.limit args.seed args.rounds args.steps
   pub prints : Prints 1 (spelling schedule) before now end
 
 -- the hunt finds nothing on worlds of these sizes, and that is written
 pub record TellsNothing (algorithm : Algorithm) (args : AlgorithmHuntArgs) (before now : Tape) (end : Result Ending CommandFault) : Type 0 where
   pub sizes : new_refusal algorithm args.procs args.limit ≡ None
-  pub none : None ≡ hunted algorithm args.procs args.limit args.seed args.rounds args.steps
+  pub none : None ≡ hunt_answer algorithm args.procs args.limit args.seed args.rounds args.steps
   pub prints : Prints 0 nothing_line before now end
 
 -- the rounds or their moves are outside their ranges, or the algorithm has no world of these sizes, and nothing was written

@@ -2,7 +2,7 @@
 use Rattle.std.specs.Prelude.{◌≡◌, ℕ, List, Option, Some, None, Result, Ok, Err}
 use Rattle.algorithms.specs.declared.algorithm.Algorithm.{Algorithm}
 use Rattle.algorithm_lab.specs.Refusals.{number_of}
-use Rattle.algorithm_lab.specs.Replays.{Replays, run_of}
+use Rattle.algorithm_lab.specs.Replays.{ReplaysAlgorithm, run_of}
 use Rattle.algorithm_lab.specs.declared.replay_fault.AlgorithmReplayFault.{AlgorithmReplayFault}
 use Rattle.algorithm_lab.specs.declared.replay_fault.AlgorithmReplayFault.TheVariants as of_run
 use Rattle.schedule.specs.Schedules.{Scheduled}
@@ -34,7 +34,7 @@ outcome_of_run (Err fault) = Err (fault_of_run fault)
 abbrev pub TellsAlgorithm : Algorithm → Scheduled → Tape → Tape → Result Ending CommandFault → Type 0
 TellsAlgorithm algorithm schedule before now end =
     (answer : Result Verdict AlgorithmReplayFault)
-    × Replays before now (run_of algorithm schedule.procs schedule.limit schedule.lines) answer × (outcome end ≡ outcome_of_run answer)
+    × ReplaysAlgorithm before now (run_of algorithm schedule.procs schedule.limit schedule.lines) answer × (outcome end ≡ outcome_of_run answer)
 
 -- the run is written, or the fault of what was to be read is answered
 abbrev pub AlgorithmReplayEnds : Option (List ℕ) → Reading → Reading → Tape → Tape → Result Ending CommandFault → Type 0

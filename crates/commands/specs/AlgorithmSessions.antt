@@ -14,11 +14,11 @@ use Rattle.commands.specs.declared.schedules.ending.Ending.{Ending}
 use Rattle.commands.specs.declared.schedules.fault.CommandFault.{CommandFault}
 use Rattle.commands.specs.AlgorithmReplays.{refused_at}
 use Rattle.commands.specs.AlgorithmTexts.{IsAlgorithmFault}
-use Rattle.commands.specs.Conversations.{BeginsWith, BreaksAfter, HoldsSession, Opens}
+use Rattle.commands.specs.Conversations.{BeginsWith, BreaksAfter, HoldsSession, OpensSession}
 use Rattle.commands.specs.Endings.{FailsToRead}
 use Rattle.commands.specs.Folders.{Used}
 use Rattle.commands.specs.Settings.{IsNoSchedule}
-use Rattle.commands.specs.Tellings.{Refuses}
+use Rattle.commands.specs.Tellings.{RefusesCommand}
 
 -- the first line of the input is no header
 abbrev pub HasNoHeader : Reading → Reading → CommandFault → Type 0
@@ -32,14 +32,14 @@ HasNoWorld a schedule fault =
 -- why a session on this algorithm can't begin
 abbrev pub CantBeginOn : Algorithm → Reading → Reading → CommandFault → Type 0
 CantBeginOn a old now fault =
-    HasNoHeader old now fault ⊎ ((buffer : List ℕ) × (schedule : Scheduled) × Opens None old now buffer schedule × HasNoWorld a schedule fault)
+    HasNoHeader old now fault ⊎ ((buffer : List ℕ) × (schedule : Scheduled) × OpensSession None old now buffer schedule × HasNoWorld a schedule fault)
 
 -- the state at its begin was written, and then the answers
 pub record IsHeldOn (a : Algorithm) (old new : Reading) (before now : Used) (blank written : Tape) : Type 0 where
   pub schedule : Scheduled
   pub opened : Reading
   pub buffer : List ℕ
-  pub opens : Opens None old opened buffer schedule
+  pub opens : OpensSession None old opened buffer schedule
   pub accepted : new_refusal a schedule.procs schedule.limit ≡ None
   pub opening : Tape
   pub first : Writes blank opening (standing_text algorithm_semantics (algorithm_session a schedule))
@@ -50,7 +50,7 @@ pub record IsCutOffOn (a : Algorithm) (old new : Reading) (before now : Used) (b
   pub schedule : Scheduled
   pub opened : Reading
   pub buffer : List ℕ
-  pub opens : Opens None old opened buffer schedule
+  pub opens : OpensSession None old opened buffer schedule
   pub accepted : new_refusal a schedule.procs schedule.limit ≡ None
   pub breaks : BreaksAfter algorithm_semantics (algorithm_session a schedule) buffer opened new before now blank written fault
 
@@ -64,4 +64,4 @@ SessionOn a old new before now blank written (Err fault) =
 
 -- the algorithm's text is at fault: nothing was read, kept or written
 abbrev pub RefusesText : Reading → Reading → Used → Used → Tape → Tape → Result Ending CommandFault → Type 0
-RefusesText old new before now blank written end = Refuses blank written IsAlgorithmFault end × (new ≡ old) × (now ≡ before)
+RefusesText old new before now blank written end = RefusesCommand blank written IsAlgorithmFault end × (new ≡ old) × (now ≡ before)

@@ -1,7 +1,7 @@
 -- How shrinking a schedule on an algorithm's text ends.
 use Rattle.std.specs.Prelude.{◌≡◌, ◌⊎◌, ℕ, List, Option, Some, Result, Err}
 use Rattle.algorithms.specs.declared.algorithm.Algorithm.{Algorithm}
-use Rattle.algorithm_explorer.specs.Shrunk.{Shrinks, schedule_run}
+use Rattle.algorithm_explorer.specs.Shrunk.{MinimizesAlgorithm, schedule_run}
 use Rattle.algorithm_lab.specs.Refusals.{number_of}
 use Rattle.algorithm_lab.specs.declared.run_refusal.RunRefusal.{RunRefusal}
 use Rattle.schedule.specs.Schedules.{Scheduled}
@@ -17,7 +17,7 @@ use Rattle.commands.specs.Shrinks.{shrunk_text, shrunk_status}
 -- what shrinking answers is written
 pub record TellsShrunk (algorithm : Algorithm) (schedule : Scheduled) (before now : Tape) (end : Result Ending CommandFault) : Type 0 where
   pub answer : Option Scheduled
-  pub shrinks : Shrinks algorithm schedule answer
+  pub shrinks : MinimizesAlgorithm algorithm schedule answer
   pub prints : Prints (shrunk_status answer) (shrunk_text answer) before now end
 
 -- the fault is the line that the run refuses, or the header, and nothing is written

@@ -4,8 +4,8 @@ use Rattle.algorithms.specs.Ranked.{LocalLinesEnd, AccessesLeadOn}
 use Rattle.algorithms.specs.declared.algorithm.Algorithm.{Algorithm}
 use Rattle.algorithms.specs.declared.fault.AlgorithmFault.{AlgorithmFault}
 use Rattle.algorithms.specs.declared.fault.AlgorithmFault.TheVariants as of_reading
-use Rattle.algorithms.specs.declared.fault.LineFault.{LineFault}
-use Rattle.algorithm_texts.specs.Programs.{Spells}
+use Rattle.algorithms.specs.declared.fault.ReadFault.{ReadFault}
+use Rattle.algorithm_texts.specs.Programs.{SpellsAlgorithm}
 use Rattle.cli.specs.Names.{number_of_algorithm_fault}
 use Rattle.schedule.specs.Schedules.{Scheduled, schedule_at}
 use Rattle.schedule.specs.Tapes.{Tape, Reading}
@@ -15,18 +15,18 @@ use Rattle.commands.specs.declared.schedules.fault.CommandFault.{CommandFault}
 use Rattle.commands.specs.declared.schedules.fault.CommandFault.TheVariants as faults
 use Rattle.commands.specs.Endings.{FailsToRead, TellsReads}
 use Rattle.commands.specs.Settings.{IsWrongText}
-use Rattle.commands.specs.Tellings.{Refuses}
+use Rattle.commands.specs.Tellings.{RefusesCommand}
 
 -- the algorithm's text is at fault, or there is no memory
 abbrev pub IsAlgorithmFault : CommandFault → Type 0
-IsAlgorithmFault fault = (fault ≡ faults.OutOfMemory) ⊎ ((line : ℕ) × (of_text : LineFault) × (fault ≡ faults.Algorithm line of_text))
+IsAlgorithmFault fault = (fault ≡ faults.OutOfMemory) ⊎ ((line : ℕ) × (of_text : ReadFault) × (fault ≡ faults.Algorithm line of_text))
 
 -- the command's fault names the line of this fault of a text, and the fault with its number
 abbrev pub TellsFault : AlgorithmFault → CommandFault → Type 0
-TellsFault (of_reading.At line number) told =
-    (of_text : LineFault) × (told ≡ faults.Algorithm line of_text)
+TellsFault (of_reading.At line number) reports =
+    (of_text : ReadFault) × (reports ≡ faults.Algorithm line of_text)
     × ((1 ≤ number) × (number ≤ 18) → number_of_algorithm_fault of_text ≡ Some number)
-TellsFault of_reading.OutOfMemory told = told ≡ faults.OutOfMemory
+TellsFault of_reading.OutOfMemory reports = reports ≡ faults.OutOfMemory
 
 -- the text of the algorithm's file; without a file it is empty
 abbrev pub text_of : Option (List ℕ) → List ℕ
@@ -35,19 +35,19 @@ text_of file = unwrap_or file []
 -- the text of the file spells an algorithm, whose local lines end; this holds of it
 pub record HoldsOfAlgorithm (file : Option (List ℕ)) (Holds : Algorithm → Type 0) : Type 0 where
   pub algorithm : Algorithm
-  pub spells : Spells (text_of file) algorithm
+  pub spells : SpellsAlgorithm (text_of file) algorithm
   pub ends : LocalLinesEnd algorithm
   pub leads : AccessesLeadOn algorithm
   pub holds : Holds algorithm
 
 -- this holds of the algorithm that the text spells, or the fault of the text is answered and nothing is written
 abbrev pub EndsOnAlgorithm : Option (List ℕ) → (Algorithm → Type 0) → Tape → Tape → Result Ending CommandFault → Type 0
-EndsOnAlgorithm file Holds before now end = Refuses before now IsAlgorithmFault end ⊎ HoldsOfAlgorithm file Holds
+EndsOnAlgorithm file Holds before now end = RefusesCommand before now IsAlgorithmFault end ⊎ HoldsOfAlgorithm file Holds
 
 -- the text of the file spells an algorithm, whose local lines end, and a schedule was read; this holds of both
 pub record HoldsOfBoth (file : Option (List ℕ)) (Holds : Algorithm → Scheduled → Type 0) (old new : Reading) : Type 0 where
   pub algorithm : Algorithm
-  pub spells : Spells (text_of file) algorithm
+  pub spells : SpellsAlgorithm (text_of file) algorithm
   pub ends : LocalLinesEnd algorithm
   pub leads : AccessesLeadOn algorithm
   pub text : List ℕ
@@ -64,4 +64,4 @@ IsUnreadAlgorithm old new fault = IsAlgorithmFault fault ⊎ (FailsToRead old ne
 -- and nothing is written. A failed read isn't taken for the end of the schedule
 abbrev pub EndsOnBoth : Option (List ℕ) → (Algorithm → Scheduled → Type 0) → Reading → Reading → Tape → Tape → Result Ending CommandFault → Type 0
 EndsOnBoth file Holds old new before now end =
-    (Refuses before now (IsUnreadAlgorithm old new) end ⊎ HoldsOfBoth file Holds old new) × TellsReads old new end
+    (RefusesCommand before now (IsUnreadAlgorithm old new) end ⊎ HoldsOfBoth file Holds old new) × TellsReads old new end

@@ -2,14 +2,14 @@
 use Rattle.std.specs.Prelude.{◌≡◌, ◌≢◌, ◌⊎◌, ◌↔◌, ℕ, ◌-◌, ◌*◌, ◌^◌, ◌<◌, ◌≤◌, min, Bool, true, false, List, All, length, Option, Some, None, Result, Ok, Err, IfErr, IsErrAnd}
 use Rattle.crashlab.specs.declared.variant.Variant.{Variant}
 use Rattle.crashlab.specs.declared.variant.Variant.TheVariants.{Right}
-use Rattle.crashlab.specs.Hunted.{hunted}
+use Rattle.crashlab.specs.Hunted.{hunt_result}
 use Rattle.crashlab.specs.Hunts.{IsFound}
 use Rattle.cli.specs.declared.explain.dictionary_entry.DictionaryEntry.{DictionaryEntry}
 use Rattle.cli.specs.declared.explain.dictionary_entry.TheConstants.{ENTRIES}
 use Rattle.cli.specs.declared.explain.meaning.Meaning.{Meaning}
 use Rattle.cli.specs.Names.{name_of}
-use Rattle.cli.specs.Told.{list_of, meaning_text}
-use Rattle.one_lock.specs.declared.lab.spec.Spec.{Spec}
+use Rattle.cli.specs.Report.{list_of, meaning_text}
+use Rattle.table_runs.specs.declared.lab.spec.Spec.{Spec}
 use Rattle.schedule.specs.Schedules.{Scheduled, spelling}
 use Rattle.schedule.specs.Words.{parts_of}
 use Rattle.schedule.specs.Tapes.{Tape, Reading}
@@ -47,20 +47,20 @@ use Rattle.commands.specs.declared.tally.SenderTally.{SenderTally}
 use Rattle.commands.specs.Explores.{ExploreEnds, nothing_line}
 
 -- a verdict as a line, or as a JSON object
-abbrev pub verdict_told : Bool → Verdict → List ℕ
-verdict_told false verdict = verdict_line verdict
-verdict_told true verdict = verdict_object verdict
+abbrev pub verdict_text : Bool → Verdict → List ℕ
+verdict_text false verdict = verdict_line verdict
+verdict_text true verdict = verdict_object verdict
 
 -- the line of a trace's verdict is written, or its fault is answered and nothing is written
 abbrev pub TellsVerdict : Bool → Result Verdict ReplayFault → Tape → Tape → Result Ending CommandFault → Type 0
-TellsVerdict json (Ok verdict) before now end = Prints (status_after verdict) (verdict_told json verdict) before now end
+TellsVerdict json (Ok verdict) before now end = Prints (status_after verdict) (verdict_text json verdict) before now end
 TellsVerdict json (Err fault) before now end = (end ≡ Err (fault_of_replay fault)) × Silent before now
 
 -- a trace was read to its end: the result is that of its text
 pub record TellsTrace (json : Bool) (old new : Reading) (before now : Tape) (end : Result Ending CommandFault) : Type 0 where
   pub text : List ℕ
   pub read : WasRead old new text
-  pub told : TellsVerdict json (trace_answer (parts_of text)) before now end
+  pub reports : TellsVerdict json (trace_answer (parts_of text)) before now end
 
 -- how `judge` ends
 abbrev pub JudgeEnds : Bool → Reading → Reading → Tape → Tape → Result Ending CommandFault → Type 0
@@ -78,13 +78,13 @@ pub record TellsFind (args : HuntArgs) (before now : Tape) (end : Result Ending 
   pub schedule : Scheduled
   pub few : length schedule.lines ≤ args.steps
   pub found : IsFound args.variant schedule
-  pub exact : Some schedule ≡ hunted args.variant args.seed args.rounds args.steps
+  pub exact : Some schedule ≡ hunt_result args.variant args.seed args.rounds args.steps
   pub text : TellsFound args.shrink args.variant schedule before now end
 
 -- how `hunt` ends: nothing found, a schedule found, sizes out of their ranges, or out of memory before either is known
 abbrev pub HuntEnds : HuntArgs → Tape → Tape → Result Ending CommandFault → Type 0
 HuntEnds args before now end =
-    (None ≡ hunted args.variant args.seed args.rounds args.steps) × Prints 0 nothing_line before now end
+    (None ≡ hunt_result args.variant args.seed args.rounds args.steps) × Prints 0 nothing_line before now end
     ⊎ TellsFind args before now end
     ⊎ (end ≡ Err BadSize) × (HuntFits args → ⊥) × Silent before now
     ⊎ RunsOut before now end

@@ -6,8 +6,8 @@ use Rattle.schedule.specs.declared.replays.replay_fault.ReplayFault.TheVariants.
 use Rattle.schedule.specs.Schedules.{Scheduled, schedule_at, spelling}
 use Rattle.schedule.specs.Tapes.{Tape, Reading, Begins, Writes}
 use Rattle.schedule.specs.Words.{parts_of, words_of}
-use Rattle.diagram.specs.declared.session.opened.Reply.{Reply}
-use Rattle.diagram.specs.declared.session.opened.Reply.TheVariants as replies
+use Rattle.diagram.specs.declared.session.opened.SessionReply.{SessionReply}
+use Rattle.diagram.specs.declared.session.opened.SessionReply.TheVariants as replies
 use Rattle.commands.specs.Folders.{Used}
 use Rattle.commands.specs.Endings.{FailsIn, FailsToRead}
 use Rattle.commands.specs.Statuses.{fault_of_replay}
@@ -42,9 +42,9 @@ pub record WritesFile (before now : Used) (file text : List ℕ) : Type 0 where
   pub opened : now.opened ≡ before.opened
 
 -- the text was written to the file; or that has failed, or the name is no text
-abbrev pub IsKept : Used → Used → List ℕ → List ℕ → Bool → Type 0
-IsKept before now file text true = WritesFile before now file text
-IsKept before now file text false = (now ≡ before) ⊎ WritesFile before now file text
+abbrev pub IsSaved : Used → Used → List ℕ → List ℕ → Bool → Type 0
+IsSaved before now file text true = WritesFile before now file text
+IsSaved before now file text false = (now ≡ before) ⊎ WritesFile before now file text
 
 -- an unfinished last line has the fault of one
 abbrev pub last_text : {S : Type 0} → SessionState S → List ℕ → List ℕ
@@ -65,9 +65,9 @@ FailsBy fault old new blank written = ⊥
 
 module _ {S : Type 0} (b : Semantics S) where
   -- the answer to one line, by what is to be done
-  abbrev pub IsAnswerBy : Reply → SessionState S → List ℕ → Used → Used → List ℕ → Type 0
+  abbrev pub IsAnswerBy : SessionReply → SessionState S → List ℕ → Used → Used → List ℕ → Type 0
   IsAnswerBy replies.Saves session line before now text =
-      (done : Bool) × IsKept before now (file_in line) (spelling session.schedule) done × (text ≡ saved_text done)
+      (done : Bool) × IsSaved before now (file_in line) (spelling session.schedule) done × (text ≡ saved_text done)
   IsAnswerBy reply session line before now text = (now ≡ before) × (text ≡ text_of_request b session (request_in session line))
 
   abbrev pub IsAnswer : SessionState S → List ℕ → Used → Used → List ℕ → Type 0
@@ -97,7 +97,7 @@ module _ {S : Type 0} (b : Semantics S) where
         ⊎ ((more ≡ []) × (ended ≡ true) × (said ≡ answers ++ last_text after last))
 
   -- the files that a line that was read, and not answered, has written: where it saves, perhaps its file
-  abbrev pub IsBegunBy : Reply → SessionState S → List ℕ → Used → Used → Type 0
+  abbrev pub IsBegunBy : SessionReply → SessionState S → List ℕ → Used → Used → Type 0
   IsBegunBy replies.Saves session line before now = (now ≡ before) ⊎ WritesFile before now (file_in line) (spelling session.schedule)
   IsBegunBy reply session line before now = now ≡ before
 
@@ -146,23 +146,23 @@ module _ {S : Type 0} (b : Semantics S) where
 -- ---- the whole
 
 -- this is the first line of what was read, with its LF, and what was read after it
-abbrev pub IsFirst : List ℕ → List ℕ → List ℕ → Type 0
-IsFirst more buffer text = (line : List ℕ) × (parts_of more ≡ line ∷ parts_of buffer) × (text ≡ line ++ 10 ∷ [])
+abbrev pub IsFirstLine : List ℕ → List ℕ → List ℕ → Type 0
+IsFirstLine more buffer text = (line : List ℕ) × (parts_of more ≡ line ∷ parts_of buffer) × (text ≡ line ++ 10 ∷ [])
 
 -- no line was read up to the end of the input, and this is all
-abbrev pub IsAll : Bool → List ℕ → List ℕ → List ℕ → Type 0
-IsAll ended more buffer text = (ended ≡ true) × (parts_of more ≡ more ∷ []) × (buffer ≡ more) × (text ≡ more)
+abbrev pub IsRestOfInput : Bool → List ℕ → List ℕ → List ℕ → Type 0
+IsRestOfInput ended more buffer text = (ended ≡ true) × (parts_of more ≡ more ∷ []) × (buffer ≡ more) × (text ≡ more)
 
 -- the text of the schedule that a session begins with, and what was read after it: the text that is given; or the first line
 -- of the input, or all of an input that has none
 abbrev pub BeginsWith : Option (List ℕ) → Reading → Reading → List ℕ → List ℕ → Type 0
 BeginsWith (Some given) old now buffer text = (now ≡ old) × (buffer ≡ []) × (text ≡ given)
 BeginsWith None old now buffer text =
-    (more : List ℕ) × (now.given ≡ old.given ++ more) × (now.failures ≡ old.failures) × (IsFirst more buffer text ⊎ IsAll now.ended more buffer text)
+    (more : List ℕ) × (now.given ≡ old.given ++ more) × (now.failures ≡ old.failures) × (IsFirstLine more buffer text ⊎ IsRestOfInput now.ended more buffer text)
 
 -- the schedule that a session begins with
-abbrev pub Opens : Option (List ℕ) → Reading → Reading → List ℕ → Scheduled → Type 0
-Opens start old now buffer schedule = (text : List ℕ) × BeginsWith start old now buffer text × (schedule_at text ≡ Ok schedule)
+abbrev pub OpensSession : Option (List ℕ) → Reading → Reading → List ℕ → Scheduled → Type 0
+OpensSession start old now buffer schedule = (text : List ℕ) × BeginsWith start old now buffer text × (schedule_at text ≡ Ok schedule)
 
 -- the world refuses this line of the schedule
 abbrev pub IsRefusedLine : Scheduled → CommandFault → Type 0
@@ -186,7 +186,7 @@ pub record IsHeld (start : Option (List ℕ)) (old new : Reading) (before now : 
   pub schedule : Scheduled
   pub opened : Reading
   pub buffer : List ℕ
-  pub opens : Opens start old opened buffer schedule
+  pub opens : OpensSession start old opened buffer schedule
   pub accepted : (world_run schedule).refused ≡ None
   pub opening : Tape
   pub first : Writes blank opening (standing_text lock_semantics (lock_session schedule))
@@ -205,7 +205,7 @@ pub record IsCutOff (start : Option (List ℕ)) (old new : Reading) (before now 
   pub schedule : Scheduled
   pub opened : Reading
   pub buffer : List ℕ
-  pub opens : Opens start old opened buffer schedule
+  pub opens : OpensSession start old opened buffer schedule
   pub accepted : (world_run schedule).refused ≡ None
   pub breaks : BreaksAfter lock_semantics (lock_session schedule) buffer opened new before now blank written fault
 

@@ -15,10 +15,10 @@ abbrev pub style_of : Bool → Style
 style_of svg = if svg then Svg else Text
 
 -- how the run is to be written
-abbrev pub drawn : DrawArgs → Manner
-drawn args = drawn_as args.html (style_of args.svg)
+abbrev pub draw_manner : DrawArgs → Manner
+draw_manner args = drawn_as args.html (style_of args.svg)
 
 -- no verdict is against the right lock
 abbrev pub DrawEnds : DrawArgs → Option (List ℕ) → Reading → Reading → Tape → Tape → Result Ending CommandFault → Type 0
 DrawEnds args image old new before now end =
-    (status_ended end ≡ 1 → args.variant ≢ Right) × TellsRead args.variant (drawn args) image old new before now end
+    (status_ended end ≡ 1 → args.variant ≢ Right) × TellsRead args.variant (draw_manner args) image old new before now end

@@ -15,27 +15,27 @@ use Rattle.explorer.specs.Stuck.{LeadsToStuck, IsShortestToStuck, IsNeverStuck}
 use Rattle.schedule.specs.Words.{line_of}
 use Rattle.crashlab.specs.declared.variant.Variant.TheVariants.{Right}
 use Rattle.crashlab.specs.declared.space.moves.Move.{Move}
-use Rattle.crashlab.specs.Numbered.{numbered}
+use Rattle.crashlab.specs.Numbered.{numbered_rules}
 use Rattle.crashlab.specs.SearchStateWords.{search_state_words}
 use Rattle.crashlab.specs.Spaces.{first_search_state, line_by, rules}
-use Rattle.crashlab.specs.Starving.{world_rules, fairness}
+use Rattle.crashlab.specs.Starvation.{world_rules, fairness}
 use Rattle.lock_explorer.specs.declared.search.variables.Variables.{Variables}
 use Rattle.lock_explorer.specs.declared.search.variables.Variables.TheVariants.{All, Live}
 use Rattle.lock_explorer.specs.Keys.{key_by}
-use Rattle.lock_explorer.specs.Finding.{IsFoundIn, IsLeast, NoneOfAtMost, NoneIsFound}
+use Rattle.lock_explorer.specs.FoundPaths.{IsFoundIn, IsShortestPath, NoneOfAtMost, NoneIsFound}
 use Rattle.commands.specs.declared.schedules.ending.Ending.{Ending}
 use Rattle.commands.specs.declared.schedules.fault.CommandFault.{CommandFault}
 use Rattle.commands.specs.declared.schedules.fault.CommandFault.TheVariants.{BadSize, TooManyStates}
 use Rattle.cli.specs.declared.arguments.args.Cycles.{Cycles}
 use Rattle.cli.specs.declared.arguments.args.ExploreArgs.{ExploreArgs}
 use Rattle.commands.specs.Endings.{Prints, RunsOut}
-use Rattle.commands.specs.Starving.{starves_line, never_starving_line, is_any}
+use Rattle.commands.specs.Starvation.{starves_line, never_starving_line, is_any}
 use Rattle.commands.specs.Statuses.{outcome}
 
 -- these calls, if they are asked for
-abbrev pub asked : {C : Type 0} → Bool → List C → List C
-asked true calls = calls
-asked false calls = []
+abbrev pub calls_if_asked : {C : Type 0} → Bool → List C → List C
+calls_if_asked true calls = calls
+calls_if_asked false calls = []
 
 -- an append for each number up to n; each word of its value is the number
 abbrev pub appends : ℕ → ℕ → List Call
@@ -45,13 +45,13 @@ appends width (suc n) = appends width n ++ call.Append (suc n) (take width (repl
 -- the calls that the search starts
 abbrev pub calls_of : ExploreArgs → List Call
 calls_of args =
-    asked args.calls.lock (call.Lock ∷ [])
-    ++ (asked args.calls.unlock (call.Unlock ∷ [])
-    ++ (asked args.calls.recover (call.Recover ∷ [])
-    ++ (asked args.calls.consistent (call.Consistent ∷ [])
-    ++ (asked args.calls.withdraw (call.Withdraw ∷ [])
-    ++ (asked args.calls.append (appends args.width args.cap)
-    ++ asked args.calls.close (call.Close ∷ []))))))
+    calls_if_asked args.calls.lock (call.Lock ∷ [])
+    ++ (calls_if_asked args.calls.unlock (call.Unlock ∷ [])
+    ++ (calls_if_asked args.calls.recover (call.Recover ∷ [])
+    ++ (calls_if_asked args.calls.consistent (call.Consistent ∷ [])
+    ++ (calls_if_asked args.calls.withdraw (call.Withdraw ∷ [])
+    ++ (calls_if_asked args.calls.append (appends args.width args.cap)
+    ++ calls_if_asked args.calls.close (call.Close ∷ []))))))
 
 -- the sizes of the search's worlds
 abbrev pub layout_of : ExploreArgs → Layout
@@ -71,7 +71,7 @@ pub record TellsLeast (args : ExploreArgs) (before now : Tape) (end : Result End
   pub wrong : args.variant ≢ Right
   pub path : List Move
   pub found : IsFoundIn args.variant (layout_of args) args.limit args.crashes (calls_of args) path
-  pub least : IsLeast args.variant (layout_of args) args.limit args.crashes (calls_of args) path
+  pub least : IsShortestPath args.variant (layout_of args) args.limit args.crashes (calls_of args) path
   pub few : length path ≤ args.moves
   pub prints : Prints 1 (spelling (schedule_of args path)) before now end
 
@@ -105,7 +105,7 @@ IsNoSize args = (new_refusal (layout_of args) args.limit ≡ None → ⊥) ⊎ (
 
 -- breadth-first search within the bound of moves comes to more states than may be kept, before one with a fault, and nothing was written
 pub record HasTooMany (args : ExploreArgs) (before now : Tape) : Type 0 where
-  pub more : EndsOnMany (numbered (key_by (variables_by args.all_variables))) (first_search_state args.variant (layout_of args) args.limit args.crashes (calls_of args)) args.moves args.states
+  pub more : EndsOnMany (numbered_rules (key_by (variables_by args.all_variables))) (first_search_state args.variant (layout_of args) args.limit args.crashes (calls_of args)) args.moves args.states
   pub silent : Silent before now
 
 -- how `explore` ends without `--stuck` and `--starving`
@@ -123,7 +123,7 @@ pub record TellsWrong (args : ExploreArgs) (before now : Tape) (end : Result End
   pub wrong : args.variant ≢ Right
   pub path : List Move
   pub found : IsFoundIn args.variant (layout_of args) args.limit args.crashes (calls_of args) path
-  pub least : IsLeast args.variant (layout_of args) args.limit args.crashes (calls_of args) path
+  pub least : IsShortestPath args.variant (layout_of args) args.limit args.crashes (calls_of args) path
   pub prints : Prints 1 (spelling (schedule_of args path)) before now end
 
 -- the variant fails on no schedule; one of fewest moves to a state from which no starts and steps lead home is written
@@ -197,16 +197,16 @@ both_of first (Ok second) = Ok (max first.status second.status)
 both_of first (Err fault) = Err fault
 
 -- the search for stuck states has ended so, and without a fault the other then ended so
-abbrev pub GoesOn : Cycles → ExploreArgs → Tape → Tape → Result Ending CommandFault → Result Ending CommandFault → Type 0
-GoesOn cycles args mid now (Err fault) end = (now ≡ mid) × (end ≡ Err fault)
-GoesOn cycles args mid now (Ok first) end = (second : Result Ending CommandFault) × StarvingEnds cycles args mid now second × (outcome end ≡ both_of first second)
+abbrev pub SearchGoesOn : Cycles → ExploreArgs → Tape → Tape → Result Ending CommandFault → Result Ending CommandFault → Type 0
+SearchGoesOn cycles args mid now (Err fault) end = (now ≡ mid) × (end ≡ Err fault)
+SearchGoesOn cycles args mid now (Ok first) end = (second : Result Ending CommandFault) × StarvingEnds cycles args mid now second × (outcome end ≡ both_of first second)
 
 -- how `explore --stuck --starving` ends: it writes both answers
 pub record BothEnd (cycles : Cycles) (args : ExploreArgs) (before now : Tape) (end : Result Ending CommandFault) : Type 0 where
   pub mid : Tape
   pub first : Result Ending CommandFault
   pub stuck : StuckEnds args before mid first
-  pub starving : GoesOn cycles args mid now first end
+  pub starving : SearchGoesOn cycles args mid now first end
 
 -- with `--stuck` and `--starving`, one of them, or neither
 abbrev pub EndsBy : Bool → Option Cycles → ExploreArgs → Tape → Tape → Result Ending CommandFault → Type 0

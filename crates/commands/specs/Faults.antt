@@ -1,6 +1,6 @@
 -- The fault of a command for the fault of a call that it makes.
-use Rattle.one_lock.specs.declared.lab.lab_fault.LabFault.{LabFault}
-use Rattle.one_lock.specs.declared.lab.lab_fault.LabFault.TheVariants as of_lab
+use Rattle.table_runs.specs.declared.lab.lab_fault.LabFault.{LabFault}
+use Rattle.table_runs.specs.declared.lab.lab_fault.LabFault.TheVariants as of_lab
 use Rattle.commands.specs.declared.schedules.fault.CommandFault.{CommandFault}
 use Rattle.commands.specs.declared.schedules.fault.CommandFault.TheVariants.{BadSize, Read, Write, OutOfMemory, Member}
 use Rattle.commands.specs.declared.folder.FileFault.{FileFault}

@@ -15,7 +15,7 @@ pub mod Replays
 pub mod ReportObjects
 pub mod Settings
 pub mod Shrinks
-pub mod Starving
+pub mod Starvation
 pub mod Statuses
 pub mod Tellings
 pub mod Commands

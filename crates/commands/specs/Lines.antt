@@ -32,5 +32,5 @@ abbrev pub fault_line : CommandFault → List ℕ
 fault_line fault = line_of (codes "rmelab:" ∷ words_of_fault fault)
 
 -- the line was written, or the device has failed after a prefix of it
-abbrev pub IsTold : Tape → Tape → List ℕ → Type 0
-IsTold before now line = Writes before now line ⊎ (Begins before.taken now.taken line × (now.failures ≡ min (before.failures + 1) (2 ^ 64 - 1)))
+abbrev pub IsLineWritten : Tape → Tape → List ℕ → Type 0
+IsLineWritten before now line = Writes before now line ⊎ (Begins before.taken now.taken line × (now.failures ≡ min (before.failures + 1) (2 ^ 64 - 1)))

@@ -12,9 +12,9 @@ use Rattle.commands.specs.Commands.{CommandEnds, SessionEndsOf}
 use Rattle.commands.specs.Endings.{IsEnded}
 pub use Rattle.commands.specs.Folders.{Used, is_session}
 use Rattle.cli.specs.FilesNamed.{image_of, input_of, save_of}
-use Rattle.commands.specs.Lines.{fault_line, IsTold}
-use Rattle.cli.specs.Sizes.{IsSized}
-use Rattle.cli.specs.ReadWords.{IsCommand, IsRefusal, Takes, texts_of}
+use Rattle.commands.specs.Lines.{fault_line, IsLineWritten}
+use Rattle.cli.specs.Sizes.{IsInRanges}
+use Rattle.cli.specs.ReadWords.{IsCommand, IsWordsRefusal, TakesWords, texts_of}
 use Rattle.commands.specs.Statuses.{save_ended, status_ended}
 
 -- ---- files
@@ -54,8 +54,8 @@ pub record CantOpen (before now : Tape) (end : Result Ending CommandFault) : Typ
   pub unwritten : now ≡ before
 
 -- nothing was read before
-abbrev pub unread : Reading
-unread = record { given = []; ended = false; failures = 0 }
+abbrev pub nothing_read : Reading
+nothing_read = record { given = []; ended = false; failures = 0 }
 
 -- on standard input. The image is read first
 abbrev pub EndsOnInput : Command → Reading → Reading → Tape → Tape → Result Ending CommandFault → Type 0
@@ -63,7 +63,7 @@ EndsOnInput command old new before now end = CantOpen before now end × (new ≡
 
 -- the contract on a file is the one on standard input
 abbrev pub EndsOnFile : Command → Tape → Tape → Result Ending CommandFault → Type 0
-EndsOnFile command before now end = CantOpen before now end ⊎ ((last : Reading) × EndsBeside command unread last before now end)
+EndsOnFile command before now end = CantOpen before now end ⊎ ((last : Reading) × EndsBeside command nothing_read last before now end)
 
 -- a session on standard input, which begins where nothing was written to any file
 abbrev pub SessionEndsIn : Command → Used → Used → Reading → Reading → Tape → Tape → Result Ending CommandFault → Type 0
@@ -73,9 +73,9 @@ SessionEndsIn command before now old new blank written end =
     × SessionEndsOf command image old new first now blank written end)
 
 -- without a fault, no write and no flush has failed
-abbrev pub IsWhole : Tape → Tape → Result Ending CommandFault → Type 0
-IsWhole before now (Ok ending) = (ending.status ≤ 1) × (now.failures ≡ before.failures)
-IsWhole before now (Err fault) = Unit {0}
+abbrev pub IsFullyWritten : Tape → Tape → Result Ending CommandFault → Type 0
+IsFullyWritten before now (Ok ending) = (ending.status ≤ 1) × (now.failures ≡ before.failures)
+IsFullyWritten before now (Err fault) = Unit {0}
 
 -- ---- the end of a command: its output is flushed, then its image is saved
 
@@ -106,7 +106,7 @@ Finishes command before now output written ended end =
     ⊎ (written ≡ output) × (KeepsFault before now ended end ⊎ SavesLast command before now ended end)
 
 -- what is done for a command: standard input is read if and only if no file is named
-pub record Does (command : Command) (before now : Used) (old new : Reading) (blank written : Tape) (end : Result Ending CommandFault) : Type 0 where
+pub record ExecutesCommand (command : Command) (before now : Used) (old new : Reading) (blank written : Tape) (end : Result Ending CommandFault) : Type 0 where
   -- how it ended before its output was flushed, and what was kept and written by then
   pub used : Used
   pub output : Tape
@@ -115,74 +115,74 @@ pub record Does (command : Command) (before now : Used) (old new : Reading) (bla
   pub opens_some : OpensSome command before.opened now.opened
   pub unsaved : is_session command ≡ false → SavesNone before used
   pub session : is_session command ≡ true → SessionEndsIn command before used old new blank output ended
-  pub whole : IsWhole blank written end
+  pub whole : IsFullyWritten blank written end
   pub apart : is_some (input_of command) ≡ true → new ≡ old
   pub on_input : input_of command ≡ None → EndsOnInput command old new blank output ended
   pub on_file : is_some (input_of command) ≡ true → EndsOnFile command blank output ended
   pub finishes : Finishes command used now output written ended end
 
 -- the line of a fault, or nothing
-abbrev pub Tells : Tape → Tape → Result Ending CommandFault → Type 0
-Tells said says (Ok ending) = says ≡ said
-Tells said says (Err fault) = IsTold said says (fault_line fault)
+abbrev pub WritesFault : Tape → Tape → Result Ending CommandFault → Type 0
+WritesFault said says (Ok ending) = says ≡ said
+WritesFault said says (Err fault) = IsLineWritten said says (fault_line fault)
 
 -- the line of a fault is written if there is one, and the status is that of the result
-pub record Closes (said says : Tape) (end : Result Ending CommandFault) (status : ℕ) : Type 0 where
+pub record EndsWithStatus (said says : Tape) (end : Result Ending CommandFault) (status : ℕ) : Type 0 where
   pub status_is : status ≡ status_ended end
-  pub tells : Tells said says end
+  pub tells : WritesFault said says end
 
 -- a command is carried out over a reader and two writers, and its fault reported. What is to be saved is the save of its end
 pub record CarriesOut (command : Command) (image : Option (List ℕ)) (old new : Reading) (blank written said says : Tape) (ending : Ending) : Type 0 where
   pub end : Result Ending CommandFault
   pub ends : CommandEnds command image old new blank written end
   pub ended : IfOk end (IsEnded (is_some (save_of command)) blank.failures written.failures)
-  pub closes : Closes said says end ending.status
+  pub closes : EndsWithStatus said says end ending.status
   pub save_is : ending.save ≡ save_ended end
 
 -- a command is carried out, and its fault reported
 abbrev pub Obeys : Command → Used → Used → Reading → Reading → Tape → Tape → Tape → Tape → ℕ → Type 0
 Obeys command before now old new blank written said says status =
-    (end : Result Ending CommandFault) × Does command before now old new blank written end × Closes said says end status
+    (end : Result Ending CommandFault) × ExecutesCommand command before now old new blank written end × EndsWithStatus said says end status
 
 -- ---- words that are no command
 
 -- the help is printed, or the fault that it can't be is written
 abbrev pub PrintsHelp : List ℕ → Tape → Tape → Tape → Tape → ℕ → Type 0
 PrintsHelp text blank written said says status =
-    (Writes blank written text × (says ≡ said) × (status ≡ 0)) ⊎ (IsTold said says (fault_line Write) × (status ≡ 3))
+    (Writes blank written text × (says ≡ said) × (status ≡ 0)) ⊎ (IsLineWritten said says (fault_line Write) × (status ≡ 3))
 
 -- the error text for the words is written
 abbrev pub PrintsUsageError : List ℕ → Tape → Tape → ℕ → Type 0
-PrintsUsageError text said says status = IsTold said says text × (status ≡ 2)
+PrintsUsageError text said says status = IsLineWritten said says text × (status ≡ 2)
 
 -- what is reported for words that are no command
-abbrev pub Answers : WordsFault → Tape → Tape → Tape → Tape → ℕ → Type 0
-Answers (words.Help text) blank written said says status = PrintsHelp (string_bytes text) blank written said says status
-Answers (words.Refused text) blank written said says status = PrintsUsageError (string_bytes text) said says status
-Answers words.Unreadable blank written said says status = (text : List ℕ) × PrintsUsageError text said says status
-Answers words.BadVariant blank written said says status = IsTold said says (fault_line BadVariant) × (status ≡ 2)
-Answers words.BadSize blank written said says status = IsTold said says (fault_line BadSize) × (status ≡ 2)
-Answers words.OutOfMemory blank written said says status = IsTold said says (fault_line OutOfMemory) × (status ≡ 3)
+abbrev pub ReportsWordsFault : WordsFault → Tape → Tape → Tape → Tape → ℕ → Type 0
+ReportsWordsFault (words.Help text) blank written said says status = PrintsHelp (string_bytes text) blank written said says status
+ReportsWordsFault (words.Refused text) blank written said says status = PrintsUsageError (string_bytes text) said says status
+ReportsWordsFault words.Unreadable blank written said says status = (text : List ℕ) × PrintsUsageError text said says status
+ReportsWordsFault words.BadVariant blank written said says status = IsLineWritten said says (fault_line BadVariant) × (status ≡ 2)
+ReportsWordsFault words.BadSize blank written said says status = IsLineWritten said says (fault_line BadSize) × (status ≡ 2)
+ReportsWordsFault words.OutOfMemory blank written said says status = IsLineWritten said says (fault_line OutOfMemory) × (status ≡ 3)
 
 -- the words of a command line, or why they can't be read
 abbrev pub GivenWords : Type 0
 GivenWords = Result (Vec (String Global) Global) WordsFault
 
 -- the words spell this command
-abbrev pub IsAsked : GivenWords → Command → Type 0
-IsAsked (Ok words) command = Takes (texts_of words.items) (λ name given. IsCommand name given command) × IsSized command
-IsAsked (Err fault) command = ⊥
+abbrev pub IsCommandAsked : GivenWords → Command → Type 0
+IsCommandAsked (Ok words) command = TakesWords (texts_of words.items) (λ name given. IsCommand name given command) × IsInRanges command
+IsCommandAsked (Err fault) command = ⊥
 
 -- why the words spell no command
 abbrev pub IsUnasked : GivenWords → WordsFault → Type 0
-IsUnasked (Ok words) fault = IsRefusal (texts_of words.items) fault
-IsUnasked (Err unread) fault = fault ≡ unread
+IsUnasked (Ok words) fault = IsWordsRefusal (texts_of words.items) fault
+IsUnasked (Err nothing_read) fault = fault ≡ nothing_read
 
 -- the command that the words spell is carried out, or only the fault of the words is reported
 abbrev pub IsProgram : GivenWords → Used → Used → Reading → Reading → Tape → Tape → Tape → Tape → ℕ → Type 0
 IsProgram words before now old new blank written said says status =
-    ((command : Command) × IsAsked words command × Obeys command before now old new blank written said says status)
-    ⊎ ((fault : WordsFault) × IsUnasked words fault × Answers fault blank written said says status × (now ≡ before) × (new ≡ old))
+    ((command : Command) × IsCommandAsked words command × Obeys command before now old new blank written said says status)
+    ⊎ ((fault : WordsFault) × IsUnasked words fault × ReportsWordsFault fault blank written said says status × (now ≡ before) × (new ≡ old))
 
 -- ---- a process
 
@@ -193,7 +193,7 @@ pub record RunsWords (words : GivenWords) (before now : Used) (status : ℕ) : T
   pub written : Tape
   pub said : Tape
   pub says : Tape
-  pub is : IsProgram words before now unread new blank written said says status
+  pub is : IsProgram words before now nothing_read new blank written said says status
 
 -- the output has no buffer: only that is reported
 pub record CantBuffer (before now : Used) (status : ℕ) : Type 0 where
@@ -201,8 +201,8 @@ pub record CantBuffer (before now : Used) (status : ℕ) : Type 0 where
   pub status_is : status ≡ 3
   pub said : Tape
   pub says : Tape
-  pub told : IsTold said says (fault_line OutOfMemory)
+  pub reports : IsLineWritten said says (fault_line OutOfMemory)
 
 -- no file was opened or written before
-abbrev pub unused : Used
-unused = record { opened = []; saved = []; texts = [] }
+abbrev pub nothing_used : Used
+nothing_used = record { opened = []; saved = []; texts = [] }

@@ -18,7 +18,7 @@ use Rattle.cli.specs.declared.arguments.args.ReplayArgs.{ReplayArgs}
 use Rattle.commands.specs.declared.schedules.ending.Ending.{Ending}
 use Rattle.commands.specs.declared.schedules.fault.CommandFault.{CommandFault}
 use Rattle.commands.specs.Endings.{IsEnded, TellsReads}
-use Rattle.commands.specs.Statuses.{outcome, outcome_told, status_after, status_ended}
+use Rattle.commands.specs.Statuses.{outcome, replay_status, status_after, status_ended}
 use Rattle.commands.specs.Tellings.{Manner, Replayed, TellsRead}
 
 -- only the report of a schedule on the right lock is asked for
@@ -26,17 +26,17 @@ abbrev pub IsPlainReplay : ReplayArgs → Option (List ℕ) → Type 0
 IsPlainReplay args image = (image ≡ None) × (args.variant ≡ Right) × (args.json ≡ false) × (args.each ≡ false) × (args.save ≡ None)
 
 -- how the run is to be written
-abbrev pub replayed : ReplayArgs → Manner
-replayed args = Replayed args.each args.json (is_some args.save)
+abbrev pub replay_manner : ReplayArgs → Manner
+replay_manner args = Replayed args.each args.json (is_some args.save)
 
 -- the report of the schedule that was read was written, or the command answers why not
 abbrev pub TellsReplay : Reading → Reading → Tape → Tape → Result Ending CommandFault → Type 0
 TellsReplay old new before now end =
-    (answer : Result Verdict ReplayFault) × ReplaysSource old new before now answer × (outcome end ≡ outcome_told answer)
+    (answer : Result Verdict ReplayFault) × ReplaysSource old new before now answer × (outcome end ≡ replay_status answer)
 
 -- the right lock is asked for, from the beginning
-abbrev pub IsNew : ReplayArgs → Option (List ℕ) → Type 0
-IsNew args image = (image ≡ None) × (args.variant ≡ Right)
+abbrev pub IsFromBeginning : ReplayArgs → Option (List ℕ) → Type 0
+IsFromBeginning args image = (image ≡ None) × (args.variant ≡ Right)
 
 -- these bytes are the image after the run of a schedule on a new world
 abbrev pub IsLast : Scheduled → List ℕ → Type 0
@@ -51,14 +51,14 @@ pub record SavesLast (old new : Reading) (save : Option (Vec ℕ Global)) : Type
   pub last : IfSome save (λ image. IsLast schedule image.items)
 
 -- a schedule was played up to its verdict, from this state of the judge on
-pub record IsPlayed {S : Type 0} (start : State) (run : Part S (ℕ × Refusal)) (left : S) (before now : ℕ) (verdict : Verdict) : Type 0 where
-  pub verdict_is : verdict ≡ verdict_on start (deeds_of run.told)
+pub record IsPlayedToVerdict {S : Type 0} (start : State) (run : Part S (ℕ × Refusal)) (left : S) (before now : ℕ) (verdict : Verdict) : Type 0 where
+  pub verdict_is : verdict ≡ verdict_on start (deeds_of run.reports)
   pub left_is : left ≡ run.left
   pub whole : now ≡ before
 
 -- the command has ended: the image to be saved is that of the machine after the run
 pub record IsReplayed {S : Type 0} (start : State) (run : Part S (ℕ × Refusal)) (picture_of : S → Image) (saves : Bool) (before now : ℕ) (ending : Ending) : Type 0 where
-  pub status_is : ending.status ≡ status_after (verdict_on start (deeds_of run.told))
+  pub status_is : ending.status ≡ status_after (verdict_on start (deeds_of run.reports))
   pub last : IfSome ending.save (λ text. text.items ≡ image_line (picture_of run.left))
   pub ended : IsEnded saves before now ending
 
@@ -66,5 +66,5 @@ pub record IsReplayed {S : Type 0} (start : State) (run : Part S (ℕ × Refusal
 abbrev pub ReplayEnds : ReplayArgs → Option (List ℕ) → Reading → Reading → Tape → Tape → Result Ending CommandFault → Type 0
 ReplayEnds args image old new before now end =
     (status_ended end ≡ 1 → args.variant ≢ Right) × (IsPlainReplay args image → TellsReplay old new before now end)
-    × (IsNew args image → IfOk end (λ ending. SavesLast old new ending.save))
-    × ((IsPlainReplay args image → ⊥) → TellsRead args.variant (replayed args) image old new before now end) × TellsReads old new end
+    × (IsFromBeginning args image → IfOk end (λ ending. SavesLast old new ending.save))
+    × ((IsPlainReplay args image → ⊥) → TellsRead args.variant (replay_manner args) image old new before now end) × TellsReads old new end

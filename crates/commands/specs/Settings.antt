@@ -26,13 +26,13 @@ unfoldable pub IsWrongText : Reading → Reading → CommandFault → Type 0
 IsWrongText old new fault = (text : List ℕ) × WasRead old new text × IsNoSchedule text fault
 
 -- the image that a text spells. No text spells two images
-abbrev pub IsImageOf : List ℕ → Image → Type 0
-IsImageOf text image = (wide : Bool) × Spells text wide image × (image.version ≡ version_of wide)
+abbrev pub IsImageOfText : List ℕ → Image → Type 0
+IsImageOfText text image = (wide : Bool) × Spells text wide image × (image.version ≡ version_of wide)
 
 -- the image of the text that is given, or none if no text is
 abbrev pub IsPicture : Option (List ℕ) → Option Image → Type 0
 IsPicture None None = Unit {0}
-IsPicture (Some text) (Some image) = IsImageOf text image
+IsPicture (Some text) (Some image) = IsImageOfText text image
 IsPicture _ _ = ⊥
 
 -- the text that is given isn't an image

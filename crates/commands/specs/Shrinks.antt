@@ -36,7 +36,7 @@ pub record TellsRefused (variant : Variant) (schedule : Scheduled) (before now :
   pub line : ℕ
   pub number : ℕ
   pub purpose : IsReason variant schedule (faults_of_replay.Refused line number)
-  pub told : end ≡ Err (Refused line number)
+  pub reports : end ≡ Err (Refused line number)
   pub silent : Silent before now
 
 -- the schedule is shrunk, a line of it is refused, or memory has run out before either is known
@@ -56,7 +56,7 @@ pub record ShrinksText (variant : Variant) (old new : Reading) (before now : Tap
 pub record TellsText (old new : Reading) (before now : Tape) (end : Result Ending CommandFault) : Type 0 where
   pub fault : CommandFault
   pub wrong : IsWrongText old new fault
-  pub told : end ≡ Err fault
+  pub reports : end ≡ Err fault
   pub silent : Silent before now
 
 -- how `shrink` ends

@@ -72,9 +72,9 @@ save_ended (Ok ending) = ending.save
 save_ended (Err fault) = None
 
 -- the program's result for the result of a replay
-abbrev pub answer_told : Result Verdict ReplayFault → Result Verdict CommandFault
-answer_told (Ok verdict) = Ok verdict
-answer_told (Err fault) = Err (fault_of_replay fault)
+abbrev pub answer_of_replay : Result Verdict ReplayFault → Result Verdict CommandFault
+answer_of_replay (Ok verdict) = Ok verdict
+answer_of_replay (Err fault) = Err (fault_of_replay fault)
 
 -- the exit status, or the fault
 abbrev pub outcome : Result Ending CommandFault → Result ℕ CommandFault
@@ -82,6 +82,6 @@ outcome (Ok ending) = Ok ending.status
 outcome (Err fault) = Err fault
 
 -- the exit status, or the fault, of a replay or of the judging of a trace
-abbrev pub outcome_told : Result Verdict ReplayFault → Result ℕ CommandFault
-outcome_told (Ok verdict) = Ok (status_after verdict)
-outcome_told (Err fault) = Err (fault_of_replay fault)
+abbrev pub replay_status : Result Verdict ReplayFault → Result ℕ CommandFault
+replay_status (Ok verdict) = Ok (status_after verdict)
+replay_status (Err fault) = Err (fault_of_replay fault)

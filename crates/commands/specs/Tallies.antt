@@ -2,7 +2,7 @@
 use Rattle.std.specs.Prelude.{◌≡◌, ℕ, ◌+◌, ◌-◌, ◌^◌, min, Bool, true, false, if◌then◌else◌, leb, nat_eq, List, [], ◌∷◌, ◌++◌, codes, length, map, sum}
 use Rattle.std.specs.Fmt.{decimal}
 use Rattle.std.specs.List.{flat_map, list_any, range_with_len}
-use Rattle.one_lock.specs.Lab.{messages_by}
+use Rattle.table_runs.specs.Lab.{messages_by}
 use Rattle.redomail.specs.declared.message.Message.{Message}
 use Rattle.rmecore.specs.Simulated.{one_more}
 use Rattle.schedule.specs.Words.{line_of}

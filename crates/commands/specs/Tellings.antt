@@ -10,9 +10,9 @@ use Rattle.diagram.specs.declared.drawing.End.TheVariants as ends
 use Rattle.diagram.specs.declared.phase.LifelinePhase.{LifelinePhase}
 use Rattle.diagram.specs.declared.phase.LifelinePhase.TheVariants.{Rest, Dead}
 use Rattle.diagram.specs.declared.diagram_layout.Style.{Style}
-use Rattle.diagram.specs.Drawings.{diagram_layout_of, spelled}
+use Rattle.diagram.specs.Drawings.{diagram_layout_of, drawing_text}
 use Rattle.diagram.specs.Events.{events_on}
-use Rattle.diagram.specs.Followed.{followed, Follows}
+use Rattle.diagram.specs.Followed.{run_text, FollowsRun}
 use Rattle.diagram.specs.Pages.{page_text}
 use Rattle.diagram.specs.Rows.{events_in, EndsAs, IsJudged}
 use Rattle.diagram.specs.StepLines.{FollowsAsLines, step_lines}
@@ -20,7 +20,7 @@ use Rattle.diagram.specs.DiagramLayouts.{layout_of as sizes_of}
 use Rattle.judge.specs.Starts.{state_of}
 use Rattle.rmecore.specs.declared.refusal.Refusal.{Refusal}
 use Rattle.rmecore.specs.Refused.{number_of}
-use Rattle.judge.specs.Table.{State, empty}
+use Rattle.judge.specs.Table.{State, empty_state}
 use Rattle.judge.specs.declared.start.Start.{Start}
 use Rattle.rmeworld.specs.declared.image.Image.{Image}
 use Rattle.rmeworld.specs.ImageRules.{IsLawfulImage}
@@ -44,7 +44,7 @@ use Rattle.commands.specs.declared.schedules.fault.CommandFault.TheVariants as f
 use Rattle.commands.specs.Settings.{IsFitting, IsMadeFit, IsMisfit, IsPicture, IsUnmade, IsWrongImage, IsWrongText}
 use Rattle.commands.specs.Endings.{FailsToRead}
 use Rattle.commands.specs.ReportObjects.{report_object}
-use Rattle.commands.specs.Statuses.{outcome, outcome_told, status_after}
+use Rattle.commands.specs.Statuses.{outcome, replay_status, status_after}
 use Rattle.schedule.specs.Wholes.{Silent, WasRead, layout_of}
 
 -- ---- one run
@@ -68,12 +68,12 @@ IsDrawingWritten before now text last (Err faults.OutOfMemory) = BreaksOff befor
 IsDrawingWritten before now text last end = Writes before now text × (end ≡ ending_of last)
 
 -- the rows of the drawing show exactly the steps and crashes of the schedule's run on a machine, and how it ends
-pub record DrawsRun {S : Type 0} (b : Behaviour S) (start : State) (s : S) (first : LifelinePhase) (style : Style) (schedule : Scheduled) (before now : Tape) (end : Result Ending CommandFault) : Type 0 where
+pub record DrawsMachineRun {S : Type 0} (b : Behaviour S) (start : State) (s : S) (first : LifelinePhase) (style : Style) (schedule : Scheduled) (before now : Tape) (end : Result Ending CommandFault) : Type 0 where
   pub rows : List DiagramRow
   pub last : End
   pub shows : events_in rows ≡ events_on b s schedule.lines
   pub ends_as : EndsAs start (run_on b 2 s schedule.lines) last
-  pub written : IsDrawingWritten before now (spelled (diagram_layout_of style (head_of schedule) rows last) first rows last) last end
+  pub written : IsDrawingWritten before now (drawing_text (diagram_layout_of style (head_of schedule) rows last) first rows last) last end
 
 -- a drawing in this style, or a page
 abbrev pub drawn_as : Bool → Style → Manner
@@ -93,11 +93,11 @@ pub record PagesRun {S : Type 0} (b : Behaviour S) (picture_of : S → Image) (s
 -- this is the report of a run, of which no line is refused
 pub record IsReportOf {S : Type 0} (start : State) (picture_of : S → Image) (run : Part S (ℕ × Refusal)) (text : List ℕ) : Type 0 where
   pub accepted : run.refused ≡ None
-  pub report : IsReport start (picture_of run.left) run.told text
+  pub report : IsReport start (picture_of run.left) run.reports text
 
 -- the report of a run was written as one JSON object, and its verdict is that of the run
 pub record ReportsObject {S : Type 0} (before now : Tape) (start : State) (picture_of : S → Image) (run : Part S (ℕ × Refusal)) (verdict : Verdict) : Type 0 where
-  pub verdict_is : verdict ≡ verdict_on start (deeds_of run.told)
+  pub verdict_is : verdict ≡ verdict_on start (deeds_of run.reports)
   pub text : List ℕ
   pub of_run : IsReportOf start picture_of run text
   pub writes : Writes before now (report_object text)
@@ -123,7 +123,7 @@ abbrev pub AnswersRun : {S : Type 0} → Bool → Bool → Behaviour S → (S �
 AnswersRun true true b picture_of start s first schedule before now answer =
     FollowsAsLines before now start picture_of (run_on b 2 s schedule.lines) (step_lines (head_of schedule) first (picture_of s) (events_on b s schedule.lines)) answer
 AnswersRun true false b picture_of start s first schedule before now answer =
-    Follows before now start picture_of (run_on b 2 s schedule.lines) (followed (sizes_of (head_of schedule)) (replicate schedule.procs first) (events_on b s schedule.lines)) answer
+    FollowsRun before now start picture_of (run_on b 2 s schedule.lines) (run_text (sizes_of (head_of schedule)) (replicate schedule.procs first) (events_on b s schedule.lines)) answer
 AnswersRun false true b picture_of start s first schedule before now answer = ReplaysObject before now start picture_of (run_on b 2 s schedule.lines) answer
 AnswersRun false false b picture_of start s first schedule before now answer = Replays before now start picture_of (run_on b 2 s schedule.lines) answer
 
@@ -136,7 +136,7 @@ WantsImage saves answer end = (saves ≡ true) × IsOk answer × (end ≡ Err fa
 pub record ReplaysRun {S : Type 0} (each json saves : Bool) (b : Behaviour S) (picture_of : S → Image) (start : State) (s : S) (first : LifelinePhase) (schedule : Scheduled) (before now : Tape) (end : Result Ending CommandFault) : Type 0 where
   pub answer : Result Verdict ReplayFault
   pub answers : AnswersRun each json b picture_of start s first schedule before now answer
-  pub ends_so : (outcome end ≡ outcome_told answer) ⊎ WantsImage saves answer end
+  pub ends_so : (outcome end ≡ replay_status answer) ⊎ WantsImage saves answer end
   pub last : IfOk end (λ ending. IfSome ending.save (λ text. text.items ≡ image_line (picture_of (run_on b 2 s schedule.lines).left)))
 
 -- nothing is written: out of memory
@@ -145,28 +145,28 @@ pub record Wants (before now : Tape) (end : Result Ending CommandFault) : Type 0
   pub memory : end ≡ Err faults.OutOfMemory
 
 -- the run is written in this manner, or there was no memory
-abbrev pub Tells : {S : Type 0} → Manner → Behaviour S → (S → Image) → State → S → LifelinePhase → Scheduled → Tape → Tape → Result Ending CommandFault → Type 0
-Tells (Drawn style) b picture_of start s first schedule before now end = DrawsRun b start s first style schedule before now end ⊎ Wants before now end
-Tells Paged b picture_of start s first schedule before now end = PagesRun b picture_of start s first schedule before now end ⊎ Wants before now end
-Tells (Replayed each json saves) b picture_of start s first schedule before now end = ReplaysRun each json saves b picture_of start s first schedule before now end ⊎ Wants before now end
+abbrev pub WritesRun : {S : Type 0} → Manner → Behaviour S → (S → Image) → State → S → LifelinePhase → Scheduled → Tape → Tape → Result Ending CommandFault → Type 0
+WritesRun (Drawn style) b picture_of start s first schedule before now end = DrawsMachineRun b start s first style schedule before now end ⊎ Wants before now end
+WritesRun Paged b picture_of start s first schedule before now end = PagesRun b picture_of start s first schedule before now end ⊎ Wants before now end
+WritesRun (Replayed each json saves) b picture_of start s first schedule before now end = ReplaysRun each json saves b picture_of start s first schedule before now end ⊎ Wants before now end
 
 -- ---- the machine that is asked for
 
 -- nothing is written, and the fault is of this kind
-abbrev pub Refuses : Tape → Tape → (CommandFault → Type 0) → Result Ending CommandFault → Type 0
-Refuses before now Is end = Silent before now × ((fault : CommandFault) × (end ≡ Err fault) × Is fault)
+abbrev pub RefusesCommand : Tape → Tape → (CommandFault → Type 0) → Result Ending CommandFault → Type 0
+RefusesCommand before now Is end = Silent before now × ((fault : CommandFault) × (end ≡ Err fault) × Is fault)
 
 -- on a new world of the right lock, all processes at rest
 abbrev pub TellsNew : Manner → Scheduled → Tape → Tape → Result Ending CommandFault → Type 0
 TellsNew manner schedule before now end =
-    Refuses before now (IsUnmade schedule) end
-    ⊎ Tells manner world_behaviour image_of (empty schedule.procs schedule.cap) (new_world (layout_of schedule) schedule.limit) Rest schedule before now end
+    RefusesCommand before now (IsUnmade schedule) end
+    ⊎ WritesRun manner world_behaviour image_of (empty_state schedule.procs schedule.cap) (new_world (layout_of schedule) schedule.limit) Rest schedule before now end
 
 -- on a new world of a variant
 abbrev pub TellsVariant : Variant → Manner → Scheduled → Tape → Tape → Result Ending CommandFault → Type 0
 TellsVariant variant manner schedule before now end =
-    Refuses before now (IsUnmade schedule) end
-    ⊎ Tells manner variants.variant_behaviour variants.image_of (empty schedule.procs schedule.cap) (variants.new_world variant (layout_of schedule) schedule.limit) Rest schedule before now end
+    RefusesCommand before now (IsUnmade schedule) end
+    ⊎ WritesRun manner variants.variant_behaviour variants.image_of (empty_state schedule.procs schedule.cap) (variants.new_world variant (layout_of schedule) schedule.limit) Rest schedule before now end
 
 -- on the world of an image, all processes dead, with a judge that starts in the state of the image
 pub record TellsOn (image : Image) (manner : Manner) (schedule : Scheduled) (before now : Tape) (end : Result Ending CommandFault) : Type 0 where
@@ -174,12 +174,12 @@ pub record TellsOn (image : Image) (manner : Manner) (schedule : Scheduled) (bef
   pub fits : IsFitting image schedule
   pub start : Start
   pub begins : IsStartOf image start
-  pub tells : Tells manner world_behaviour image_of (state_of start) (image_world image) Dead schedule before now end
+  pub tells : WritesRun manner world_behaviour image_of (state_of start) (image_world image) Dead schedule before now end
 
 -- on the world of this image if it fits the header, or of the widened image
 abbrev pub TellsImage : Image → Manner → Scheduled → Tape → Tape → Result Ending CommandFault → Type 0
 TellsImage image manner schedule before now end =
-    Refuses before now (IsMisfit image schedule) end
+    RefusesCommand before now (IsMisfit image schedule) end
     ⊎ (Wants before now end ⊎ ((fitted : Image) × IsMadeFit schedule.width image fitted × TellsOn fitted manner schedule before now end))
 
 -- an image goes with the right lock only
@@ -198,14 +198,14 @@ pub record TellsText (variant : Variant) (manner : Manner) (image : Option (List
   pub spelled_so : schedule_at text ≡ Ok schedule
   pub picture : Option Image
   pub pictured : IsPicture image picture
-  pub told : TellsSchedule variant picture manner schedule before now end
+  pub reports : TellsSchedule variant picture manner schedule before now end
 
 -- what is wrong with what was read: the image or the text; or a device or memory has failed
-abbrev pub IsUnread : Option (List ℕ) → Reading → Reading → CommandFault → Type 0
-IsUnread image old new fault =
+abbrev pub IsUnreadable : Option (List ℕ) → Reading → Reading → CommandFault → Type 0
+IsUnreadable image old new fault =
     FailsToRead old new fault ⊎ (IsWrongImage image fault ⊎ IsWrongText old new fault)
 
 -- the run is written, or the fault of what was to be read is answered
 abbrev pub TellsRead : Variant → Manner → Option (List ℕ) → Reading → Reading → Tape → Tape → Result Ending CommandFault → Type 0
 TellsRead variant manner image old new before now end =
-    Refuses before now (IsUnread image old new) end ⊎ TellsText variant manner image old new before now end
+    RefusesCommand before now (IsUnreadable image old new) end ⊎ TellsText variant manner image old new before now end

@@ -2,36 +2,36 @@
 
 ghost use Rattle.std.specs.Prelude.{◌≡◌, ℕ, List, IfErr, IfOk, is_some, option_copied, true, false};
 ghost use Rattle.schedule.specs.Tapes.{Tape};
-ghost use Rattle.cli.specs.Told.{IsWritten};
+ghost use Rattle.cli.specs.Report.{IsWritten};
 ghost use Rattle.crashlab.specs.Hunts.{IsFound};
-ghost use Rattle.commands.specs.Commands.{CommandEnds, ExplainEnds, HuntEnds, JudgeEnds, SessionEndsOf, TellsFound, verdict_told};
+ghost use Rattle.commands.specs.Commands.{CommandEnds, ExplainEnds, HuntEnds, JudgeEnds, SessionEndsOf, TellsFound, verdict_text};
 ghost use Rattle.commands.specs.Endings.{IsEnded, Prints};
 ghost use Rattle.cli.specs.FilesNamed.{save_of};
 ghost use Rattle.commands.specs.Programs.{CarriesOut};
 ghost use Rattle.commands.specs.Folders.{is_session};
 ghost use Rattle.commands.specs.Statuses.{status_after};
 
-use crate::algorithm_exploring::algorithm_explore_command;
-use crate::algorithm_hunting::algorithm_hunt_command;
-use crate::exploring::explore_command;
+use crate::algorithm_explore_command::algorithm_explore_command;
+use crate::algorithm_hunt_command::algorithm_hunt_command;
+use crate::explore_command::explore_command;
 use crate::folder::{Folder, NoFolder};
 use crate::jobs::jobs_of;
 use crate::progress::meter::Meter;
 use crate::progress::screen::{NoScreen, Screen};
 use crate::progress::work::Work;
-use crate::running::run_command;
+use crate::run_command::run_command;
 use crate::schedules::algorithm::algorithm_replay_command;
 use crate::schedules::algorithm_drawn::algorithm_draw_command;
 use crate::schedules::algorithm_shrunk::algorithm_shrink_command;
 use crate::schedules::drawn::draw_command;
 use crate::schedules::ending::{Ending, status_after_verdict};
 use crate::schedules::fault::CommandFault;
-use crate::schedules::line::told;
-use crate::schedules::replaying::replay_command;
+use crate::schedules::findings::{tell_nothing, tell_schedule};
+use crate::schedules::line::write_fault;
+use crate::schedules::replay_command::replay_command;
 use crate::schedules::shrunk::shrink_command;
-use crate::schedules::telling::{tell_nothing, tell_schedule};
 use crate::sessions::algorithm::algorithm_session_command;
-use crate::sessions::holding::session_command;
+use crate::sessions::session_loop::session_command;
 use cli::arguments::args::{Command, HuntArgs};
 use cli::{DictionaryEntry, tell_all_names, tell_dictionary_entry};
 use crashlab::{HuntFault, Variant, hunt_in_parallel_watched, shrink_found};
@@ -44,7 +44,7 @@ use std::thread::Threads;
 
 /// The line of a verdict, or its JSON object.
 fn verdict_line(alloc: Global, json: bool, verdict: Verdict) -> Result<Vec<u8>, AllocError>
-    ensures { IfOk result (λ line. line.items ≡ verdict_told json verdict) }
+    ensures { IfOk result (λ line. line.items ≡ verdict_text json verdict) }
 {
     let mut line = Vec::new(alloc);
     if json {
@@ -62,7 +62,7 @@ fn tell_verdict<W: Sink>(
     verdict: Verdict,
     w: &mut W,
 ) -> Result<Ending, CommandFault>
-    ensures told { Prints (status_after verdict) (verdict_told json verdict) (W.tape w.old) (W.tape w.new) result }
+    ensures reports { Prints (status_after verdict) (verdict_text json verdict) (W.tape w.old) (W.tape w.new) result }
     ensures ended { IfOk result (IsEnded false (W.tape w.old).failures (W.tape w.new).failures) }
 {
     let line = verdict_line(alloc, json, verdict)?;
@@ -97,7 +97,7 @@ fn tell_least<W: Sink>(
     w: &mut W,
 ) -> Result<Ending, CommandFault>
     requires { IsFound variant found.now }
-    ensures told { TellsFound true variant found.now (W.tape w.old) (W.tape w.new) result }
+    ensures reports { TellsFound true variant found.now (W.tape w.old) (W.tape w.new) result }
     ensures ended { IfOk result (IsEnded false (W.tape w.old).failures (W.tape w.new).failures) }
 {
     let least = shrink_found(alloc, variant, found)?;
@@ -112,7 +112,7 @@ fn tell_found<W: Sink>(
     w: &mut W,
 ) -> Result<Ending, CommandFault>
     requires { IsFound args.now.variant found.now }
-    ensures told { TellsFound args.now.shrink args.now.variant found.now (W.tape w.old) (W.tape w.new) result }
+    ensures reports { TellsFound args.now.shrink args.now.variant found.now (W.tape w.old) (W.tape w.new) result }
     ensures ended { IfOk result (IsEnded false (W.tape w.old).failures (W.tape w.new).failures) }
 {
     if args.shrink {
@@ -187,7 +187,7 @@ fn explain_command<W: Sink>(
 /// Carries out a command. It reads the schedule or the trace from `r`, and writes to `w`. `image` is the text of the file that
 /// the command starts from: an image, an algorithm, or a session's first schedule. The progress of a search or a hunt is shown
 /// on the screen. A fault says why there is no verdict.
-pub fn ended<T: Threads + Wait + Sync, F: Folder, S: Screen, R: Source, W: Sink>(
+pub fn carry_out<T: Threads + Wait + Sync, F: Folder, S: Screen, R: Source, W: Sink>(
     rt: &T,
     alloc: Global,
     command: &Command,
@@ -243,10 +243,10 @@ pub fn command_shown<T: Threads + Wait + Sync, S: Screen, R: Source, W: Sink, E:
     ensures unsaved { is_some (save_of command.now) ≡ false → is_some result.save ≡ false }
 {
     let mut folder = NoFolder::new();
-    match ended(rt, alloc, command, image, &mut folder, screen, r, w) {
+    match carry_out(rt, alloc, command, image, &mut folder, screen, r, w) {
         Ok(ending) => ending,
         Err(fault) => Ending {
-            status: told(fault, e),
+            status: write_fault(fault, e),
             save: None,
         },
     }

@@ -3,21 +3,21 @@
 //! Main items: `run_program`, `command`, `Folder`.
 #![tactic(auto)]
 
-pub mod algorithm_exploring;
+pub mod algorithm_explore_command;
 pub mod algorithm_fault;
-pub mod algorithm_hunting;
-mod algorithm_starving;
+pub mod algorithm_hunt_command;
+mod algorithm_starvation;
 pub mod command;
 pub mod disk;
-pub mod exploring;
+pub mod explore_command;
 pub mod folder;
 mod jobs;
 pub mod program;
 pub mod progress;
-pub mod running;
+pub mod run_command;
 pub mod schedules;
 pub mod sessions;
-mod starving;
+mod starvation;
 mod stuck;
 pub mod tally;
 

@@ -4,18 +4,18 @@ ghost use Rattle.std.specs.Prelude.{◌≡◌, ◌⊎◌, ◌+◌, ◌-◌, ◌^
 ghost use Rattle.commands.specs.Endings.{IsEnded};
 ghost use Rattle.schedule.specs.Tapes.{Writes};
 ghost use Rattle.cli.specs.FilesNamed.{image_of, input_of, save_of};
-ghost use Rattle.commands.specs.Lines.{IsTold};
+ghost use Rattle.commands.specs.Lines.{IsLineWritten};
 ghost use Rattle.commands.specs.Folders.{is_session};
-ghost use Rattle.commands.specs.Programs.{Answers, CantBuffer, Closes, Does, EndsOnFile, EndsOnInput, Finishes, IsAsked, IsProgram, IsUnasked, Obeys, opens_all, OpensSome, PrintsHelp, PrintsUsageError, RunsWords, SavesAll, SessionEndsIn, unread};
+ghost use Rattle.commands.specs.Programs.{ReportsWordsFault, CantBuffer, EndsWithStatus, ExecutesCommand, EndsOnFile, EndsOnInput, Finishes, IsCommandAsked, IsProgram, IsUnasked, Obeys, opens_all, OpensSome, PrintsHelp, PrintsUsageError, RunsWords, SavesAll, SessionEndsIn, nothing_read};
 ghost use Rattle.commands.specs.Faults.{fault_of_opening, fault_of_saving};
 ghost use Rattle.std.specs.Process.{exit_status};
 
-use crate::command::ended;
+use crate::command::carry_out;
 use crate::folder::{FileFault, Folder};
 use crate::progress::screen::Screen;
 use crate::schedules::ending::Ending;
 use crate::schedules::fault::CommandFault;
-use crate::schedules::line::told;
+use crate::schedules::line::write_fault;
 use cli::arguments::args::Command;
 use cli::arguments::words::{WordsFault, read_words};
 use schedule::replays::pieces::read_all;
@@ -28,8 +28,8 @@ use std::sync::Wait;
 use std::thread::Threads;
 
 /// The command's fault for a file that wasn't opened.
-fn unopened(fault: FileFault) -> CommandFault
-    ensures told { result ≡ fault_of_opening fault }
+fn open_fault(fault: FileFault) -> CommandFault
+    ensures reports { result ≡ fault_of_opening fault }
     ensures device { (result ≡ CommandFault.Read) ⊎ (result ≡ CommandFault.OutOfMemory) }
 {
     match fault {
@@ -39,8 +39,8 @@ fn unopened(fault: FileFault) -> CommandFault
 }
 
 /// The command's fault for a file that wasn't written.
-fn unsaved(fault: FileFault) -> CommandFault
-    ensures told { result ≡ fault_of_saving fault }
+fn save_fault(fault: FileFault) -> CommandFault
+    ensures reports { result ≡ fault_of_saving fault }
     ensures device { (result ≡ CommandFault.Write) ⊎ (result ≡ CommandFault.OutOfMemory) }
 {
     match fault {
@@ -60,7 +60,7 @@ fn file_text<F: Folder>(
     ensures texts { (F.used folder.new).texts ≡ (F.used folder.old).texts }
     ensures failed { IfErr result (λ fault. (fault ≡ CommandFault.Read) ⊎ (fault ≡ CommandFault.OutOfMemory)) }
 {
-    let mut file = folder.open(name).map_err(unopened)?;
+    let mut file = folder.open(name).map_err(open_fault)?;
     Ok(read_all(alloc, &mut file)?)
 }
 
@@ -100,8 +100,8 @@ fn ended_on_file<T: Threads + Wait + Sync, F: Folder, S: Screen, W: Sink>(
     ensures ends { EndsOnFile command.now (W.tape out.old) (W.tape out.new) result }
     ensures ended { IfOk result (IsEnded (is_some (save_of command.now)) (W.tape out.old).failures (W.tape out.new).failures) }
 {
-    let mut file = folder.open(name).map_err(unopened)?;
-    ended(rt, alloc, command, image, folder, screen, &mut file, out)
+    let mut file = folder.open(name).map_err(open_fault)?;
+    carry_out(rt, alloc, command, image, folder, screen, &mut file, out)
 }
 
 /// Carries out the command. The file that it starts from is read first. The input is read if no file is named.
@@ -138,7 +138,7 @@ fn execute<T: Threads + Wait + Sync, F: Folder, S: Screen, R: Source, W: Sink>(
             screen,
             out,
         ),
-        None => ended(
+        None => carry_out(
             rt,
             alloc,
             command,
@@ -161,7 +161,7 @@ fn save<F: Folder>(folder: &mut F, command: &Command, ending: &Ending) -> Result
     ensures named { OnErr result (is_some (save_of command.now) ≡ true) }
 {
     match (command.save_file(), &ending.save) {
-        (Some(name), Some(text)) => folder.save(name, text).map_err(unsaved),
+        (Some(name), Some(text)) => folder.save(name, text).map_err(save_fault),
         _ => Ok(()),
     }
 }
@@ -207,7 +207,7 @@ fn execute_and_save<T: Threads + Wait + Sync, F: Folder, S: Screen, R: Source, W
     input: &mut R,
     out: &mut W,
 ) -> Result<Ending, CommandFault>
-    ensures { Does command.now (F.used folder.old) (F.used folder.new) (R.reading input.old) (R.reading input.new)
+    ensures { ExecutesCommand command.now (F.used folder.old) (F.used folder.new) (R.reading input.old) (R.reading input.new)
         (W.tape out.old) (W.tape out.new) result }
 {
     let ended = execute(rt, alloc, command, folder, screen, input, out);
@@ -215,12 +215,12 @@ fn execute_and_save<T: Threads + Wait + Sync, F: Folder, S: Screen, R: Source, W
 }
 
 /// The exit status of this result. The one line of a fault is written to `err`.
-pub fn closed<E: Sink>(end: Result<Ending, CommandFault>, err: &mut E) -> u8
-    ensures { Closes (E.tape err.old) (E.tape err.new) end result }
+pub fn close<E: Sink>(end: Result<Ending, CommandFault>, err: &mut E) -> u8
+    ensures { EndsWithStatus (E.tape err.old) (E.tape err.new) end result }
 {
     match end {
         Ok(ending) => ending.status,
-        Err(fault) => told(fault, err),
+        Err(fault) => write_fault(fault, err),
     }
 }
 
@@ -240,11 +240,11 @@ pub fn obey<T: Threads + Wait + Sync, F: Folder, S: Screen, R: Source, W: Sink, 
         (W.tape out.old) (W.tape out.new) (E.tape err.old) (E.tape err.new) result }
 {
     let end = execute_and_save(rt, alloc, command, folder, screen, input, out);
-    closed(end, err)
+    close(end, err)
 }
 
 /// Writes a text, and flushes it.
-fn printed<W: Sink>(text: &str, out: &mut W) -> Result<(), Failed>
+fn print<W: Sink>(text: &str, out: &mut W) -> Result<(), Failed>
     ensures { OnOk result (Writes (W.tape out.old) (W.tape out.new) text.now) }
 {
     write_all(out, text.as_bytes())?;
@@ -255,9 +255,9 @@ fn printed<W: Sink>(text: &str, out: &mut W) -> Result<(), Failed>
 fn print_help<W: Sink, E: Sink>(text: &str, out: &mut W, err: &mut E) -> u8
     ensures { PrintsHelp text.now (W.tape out.old) (W.tape out.new) (E.tape err.old) (E.tape err.new) result }
 {
-    match printed(text, out) {
+    match print(text, out) {
         Ok(()) => 0,
-        Err(_) => told(CommandFault::Write, err),
+        Err(_) => write_fault(CommandFault::Write, err),
     }
 }
 
@@ -274,22 +274,22 @@ const UNREADABLE: &str =
     "error: invalid UTF-8 was detected in one or more arguments\n\nFor more information, try '--help'.\n";
 
 /// Reports words that are no command, and answers the exit status.
-fn answered<W: Sink, E: Sink>(fault: &WordsFault, out: &mut W, err: &mut E) -> u8
-    ensures { Answers fault.now (W.tape out.old) (W.tape out.new) (E.tape err.old) (E.tape err.new) result }
+fn report_words_fault<W: Sink, E: Sink>(fault: &WordsFault, out: &mut W, err: &mut E) -> u8
+    ensures { ReportsWordsFault fault.now (W.tape out.old) (W.tape out.new) (E.tape err.old) (E.tape err.new) result }
 {
     match fault {
         WordsFault::Help { text } => print_help(text.as_str(), out, err),
         WordsFault::Refused { text } => print_usage_error(text.as_str(), err),
         WordsFault::Unreadable => print_usage_error(UNREADABLE, err),
-        WordsFault::BadVariant => told(CommandFault::BadVariant, err),
-        WordsFault::BadSize => told(CommandFault::BadSize, err),
-        WordsFault::OutOfMemory => told(CommandFault::OutOfMemory, err),
+        WordsFault::BadVariant => write_fault(CommandFault::BadVariant, err),
+        WordsFault::BadSize => write_fault(CommandFault::BadSize, err),
+        WordsFault::OutOfMemory => write_fault(CommandFault::OutOfMemory, err),
     }
 }
 
 /// The command that the words spell.
 fn parse_words(alloc: Global, words: Result<Vec<String>, WordsFault>) -> Result<Command, WordsFault>
-    ensures asked { IfOk result (IsAsked words) }
+    ensures asked { IfOk result (IsCommandAsked words) }
     ensures unasked { IfErr result (IsUnasked words) }
 {
     let words = words?;
@@ -312,7 +312,7 @@ pub fn program<T: Threads + Wait + Sync, F: Folder, S: Screen, R: Source, W: Sin
 {
     match parse_words(alloc, words) {
         Ok(command) => obey(rt, alloc, &command, folder, screen, input, out, err),
-        Err(fault) => answered(&fault, out, err),
+        Err(fault) => report_words_fault(&fault, out, err),
     }
 }
 
@@ -327,7 +327,7 @@ fn program_from_start<T: Threads + Wait + Sync, F: Folder, S: Screen, R: Source,
     out: &mut W,
     err: &mut E,
 ) -> u8
-    ensures { R.reading input.old ≡ unread → RunsWords words (F.used folder.old) (F.used folder.new) result }
+    ensures { R.reading input.old ≡ nothing_read → RunsWords words (F.used folder.old) (F.used folder.new) result }
 {
     program(rt, alloc, words, folder, screen, input, out, err)
 }
@@ -362,7 +362,7 @@ fn status_over<
                 rt, alloc, words, folder, screen, &mut input, &mut out, &mut err,
             )
         }
-        Err(_) => told(CommandFault::OutOfMemory, &mut err),
+        Err(_) => write_fault(CommandFault::OutOfMemory, &mut err),
     }
 }
 

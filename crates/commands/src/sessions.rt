@@ -2,4 +2,4 @@
 
 pub mod algorithm;
 pub mod conversation;
-pub mod holding;
+pub mod session_loop;

@@ -5,7 +5,7 @@ ghost use Rattle.std.specs.Fmt.{decimal};
 ghost use Rattle.commands.specs.Endings.{IsEnded, Prints};
 ghost use Rattle.commands.specs.Explores.{StuckEnds, never_line};
 
-use crate::exploring::{calls_of, tell_none, tell_path};
+use crate::explore_command::{calls_of, tell_none, tell_path};
 use crate::progress::meter::Meter;
 use crate::progress::screen::Screen;
 use crate::progress::work::Work;

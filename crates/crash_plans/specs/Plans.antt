@@ -13,8 +13,8 @@ abbrev pub next_asking : Askings → Option ℕ
 next_asking a = if nat_lt a.asked (2 ^ 64 - 1) then Some (a.asked + 1) else None
 
 -- before the first asking
-abbrev pub unasked : Askings
-unasked = record { asked = 0; fallen = 0 }
+abbrev pub no_askings : Askings
+no_askings = record { asked = 0; fallen = 0 }
 
 -- after one more asking, at which the plan falls or doesn't
 abbrev pub asked_once : Bool → Askings → Askings
@@ -32,7 +32,7 @@ pub record Two : Type 0 where
   pub askings : Askings
 
 -- a plan that falls by pseudo-random draws
-pub record Drawing : Type 0 where
+pub record SeededState : Type 0 where
   pub generator : Lcg
   pub per_mille : ℕ
   pub askings : Askings

@@ -20,11 +20,11 @@ impl Model for AskingCounter {
 }
 
 impl AskingCounter {
-    ghost use Rattle.crash_plans.specs.Plans.{next_asking, unasked, asked_once, many_more};
+    ghost use Rattle.crash_plans.specs.Plans.{next_asking, no_askings, asked_once, many_more};
 
     /// The counts before the first asking.
     pub fn new() -> AskingCounter
-        ensures { result ≡ unasked }
+        ensures { result ≡ no_askings }
     {
         AskingCounter {
             asked: 0,

@@ -22,11 +22,11 @@ impl Model for At {
 }
 
 impl At {
-    ghost use Rattle.crash_plans.specs.Plans.{unasked};
+    ghost use Rattle.crash_plans.specs.Plans.{no_askings};
 
     /// A plan that falls at asking `place`, counted from 1. With 0 it never falls.
     pub fn new(place: u64) -> At
-        ensures { result ≡ record { place = place; askings = unasked } }
+        ensures { result ≡ record { place = place; askings = no_askings } }
     {
         At {
             place,

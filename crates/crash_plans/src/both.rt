@@ -23,12 +23,12 @@ impl Model for Both {
 }
 
 impl Both {
-    ghost use Rattle.crash_plans.specs.Plans.{unasked};
+    ghost use Rattle.crash_plans.specs.Plans.{no_askings};
 
     /// A plan that falls at the askings `place` and `place + later`, counted from 1. With `place` 0 it falls at asking
     /// `later` alone. With `later` 0 it falls at asking `place` alone. A sum above 2^64 - 1 is never reached.
     pub fn new(place: u64, later: u64) -> Both
-        ensures { result ≡ record { place = place; later = later; askings = unasked } }
+        ensures { result ≡ record { place = place; later = later; askings = no_askings } }
     {
         Both {
             place,

@@ -21,11 +21,11 @@ impl Model for Never {
 }
 
 impl Never {
-    ghost use Rattle.crash_plans.specs.Plans.{unasked};
+    ghost use Rattle.crash_plans.specs.Plans.{no_askings};
 
     /// The plan before its first asking.
     pub fn new() -> Never
-        ensures { result ≡ unasked }
+        ensures { result ≡ no_askings }
     {
         Never {
             askings: AskingCounter::new(),

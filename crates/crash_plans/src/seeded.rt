@@ -19,22 +19,22 @@ pub struct Seeded {
 }
 
 impl Model for Seeded {
-    ghost use Rattle.crash_plans.specs.Plans.{Drawing};
+    ghost use Rattle.crash_plans.specs.Plans.{SeededState};
 
-    ghost Value = { Drawing };
+    ghost Value = { SeededState };
 
     ghost view = { λ s. record { generator = s.generator; per_mille = s.per_mille; askings = s.askings } };
 }
 
 impl Seeded {
-    ghost use Rattle.crash_plans.specs.Plans.{unasked};
+    ghost use Rattle.crash_plans.specs.Plans.{no_askings};
     ghost use Rattle.rand_pcg.specs.Pcg.{pcg32_of_seed};
     ghost use Rattle.rand_core.specs.Pcg32Seed.{pcg32_seed};
 
     /// A plan that falls where the next draw modulo 1,000 is below `per_mille`. With 0 it never falls, from 1,000 on always.
     /// The generator is PCG XSH RR 64/32 (O'Neill, 2014), seeded as `rand` does.
     pub fn new(seed: u64, per_mille: u64) -> Seeded
-        ensures { result ≡ record { generator = pcg32_of_seed (pcg32_seed 16 seed); per_mille = per_mille; askings = unasked } }
+        ensures { result ≡ record { generator = pcg32_of_seed (pcg32_seed 16 seed); per_mille = per_mille; askings = no_askings } }
     {
         Seeded {
             generator: Lcg64Xsh32::seed_from_u64(seed),

@@ -2,11 +2,11 @@
 use Rattle.std.proofs.Common.{◌≡◌, ℕ, ◌<◌, Bool, true, false, ◌==◌, if◌then◌else◌, Option, Some, refl, sym, ap, ◌∙◌, subst}
 use Rattle.crashlab.proofs.Common.{Access, Load, Store, Gets, Puts, Data as DataAt, access, Place, next, Layout, Reply, last_at, Script, Get as Asks, Put as Writes, Done, Call, Consistent}
 use Rattle.crashlab.proofs.Common.{ScriptState as Chore, Free as IsFree, Does, Mending, script_state_of, Doing, ProcessState, WorldEvent, Begins, Falls, Moves, next_process_state, begun_from, MachineState, access_by, Change}
-use Rattle.crashlab.proofs.Common.{Nothing, LeavesOut, Counts, Counted, Deviation, Straight, Dropping, Over, Variant, Right, NoLook, NoTies, Renumber, ExitOnCrash, CountUp, LastSkipped, IsRun, process_state_at}
-use Rattle.crashlab.proofs.Common.{raised, counting_up, leaving_out, beside, variant_begun, variant_process_state, variant_outer, changed_script_state, changed_access, weighed, access_beside, is_put, VariantState}
+use Rattle.crashlab.proofs.Common.{Nothing, LeavesOut, Counts, Counted, Deviation, Straight, Dropping, Over, Variant, Right, NoLook, NoTies, Renumber, ExitOnCrash, CountUp, LastSkipped, IsVariantRun, process_state_at}
+use Rattle.crashlab.proofs.Common.{raised_count, counting_up, leaving_out, beside, variant_begun, variant_process_state, variant_outer, changed_script_state, changed_access, weigh_for_look, access_beside, is_put, VariantState}
 use Rattle.crashlab.proofs.Common.{machine_state_at, access_at, variant_access}
 use Rattle.rmeworld.specs.declared.call.Call.TheVariants.{Lock}
-use Rattle.rmeworld.specs.ProcessState.{ScriptState, Free, Glances, outer}
+use Rattle.rmeworld.specs.ProcessState.{ScriptState, Free, Glances, lock_deed}
 use Rattle.crashlab.specs.VariantProcessStates.{variant_access_by, variant_access_at}
 use Rattle.crashlab.specs.VariantStands.{dropping_access}
 use Rattle.crashlab.proofs.Steady.{Steady, nothing_changed}
@@ -30,7 +30,7 @@ plainly variant d s same = unchanged variant d s _ (by (script_state_of s.script
     by Free = sym same
     by (Doing purpose rest) = refl
 
-looks_next : (s : MachineState) (e : ScriptState) → weighed (access_by s.limit s.index s.lock e) ≡ variant_access_by NoLook s.limit s.index s.lock e Straight
+looks_next : (s : MachineState) (e : ScriptState) → weigh_for_look (access_by s.limit s.index s.lock e) ≡ variant_access_by NoLook s.limit s.index s.lock e Straight
 looks_next s Free = weighs s.limit s.index s.lock
 looks_next s (Doing purpose x) = unweighed s.limit s.index s.lock purpose x
 
@@ -43,7 +43,7 @@ counts_next s (Asks i rest) = refl
 counts_next s (Writes i v rest) = by (i == 2)
   where
     by : (put : Bool)
-        → (if put then Some (Load Gets (DataAt 2)) else Some (Store Puts (DataAt i) v)) ≡ access_by s.limit s.index s.lock (Doing Mending (if put then Asks 2 (λ count. Writes 2 (raised s.layout.cap count) rest) else Writes i v (counting_up s.layout.cap rest)))
+        → (if put then Some (Load Gets (DataAt 2)) else Some (Store Puts (DataAt i) v)) ≡ access_by s.limit s.index s.lock (Doing Mending (if put then Asks 2 (λ count. Writes 2 (raised_count s.layout.cap count) rest) else Writes i v (counting_up s.layout.cap rest)))
     by true = refl
     by false = refl
 counts_next s (Done r) = refl
@@ -79,7 +79,7 @@ chosen Renumber d change s h may fits = absurd fits
 chosen ExitOnCrash d change s h may fits = absurd fits
 chosen variant d change s h may fits = absurd may
 
-pub a_choice : (s : VariantState) (p : ℕ) → IsRun s → p < s.layout.procs → access_at s p ≡ variant_access_at s.variant s.limit p (process_state_at s p)
+pub a_choice : (s : VariantState) (p : ℕ) → IsVariantRun s → p < s.layout.procs → access_at s p ≡ variant_access_at s.variant s.limit p (process_state_at s p)
 a_choice s p run below =
     let h = is_fit s run in
     let t = machine_state_at s.processes p in
@@ -106,12 +106,12 @@ right_process_states l limit process_state (Moves p kind word v) = by process_st
     by Free = after_next l p process_state.lock process_state.mended process_state.barred (next l.procs limit p process_state.lock kind word v)
     by (Doing purpose rest) = refl
 
-pub right_deeds : (process_state : ProcessState) (h : WorldEvent) → variant_outer Right (record { process_state = process_state; deviation = Straight }) h ≡ outer process_state h
+pub right_deeds : (process_state : ProcessState) (h : WorldEvent) → variant_outer Right (record { process_state = process_state; deviation = Straight }) h ≡ lock_deed process_state h
 right_deeds process_state (Begins p c) = refl
 right_deeds process_state (Falls p) = refl
 right_deeds process_state (Glances p word v) = refl
 right_deeds process_state (Moves p kind word v) = by process_state.script_state
   where
-    by : (e : ScriptState) → variant_outer Right (record { process_state = record process_state { script_state = e }; deviation = Straight }) (Moves p kind word v) ≡ outer (record process_state { script_state = e }) (Moves p kind word v)
+    by : (e : ScriptState) → variant_outer Right (record { process_state = record process_state { script_state = e }; deviation = Straight }) (Moves p kind word v) ≡ lock_deed (record process_state { script_state = e }) (Moves p kind word v)
     by Free = refl
     by (Doing purpose rest) = refl

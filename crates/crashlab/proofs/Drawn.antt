@@ -8,14 +8,14 @@ use Rattle.rand_pcg.specs.Pcg.{multiplier_64, pcg32, pcg32_of_seed}
 use Rattle.rmecore.specs.declared.refusal.Refusal.{Refusal}
 use Rattle.judge.specs.Kept.{Kept}
 use Rattle.judge.specs.Legal.{judged_all}
-use Rattle.crashlab.proofs.Common.{Variant, VariantState, Scheduled, StandsAfter, empty, Ends, On, with_line, line_by, first_world, deeds_of_lines, IsPlayed}
+use Rattle.crashlab.proofs.Common.{Variant, VariantState, Scheduled, StandsAfter, empty_state, EndsMove, On, with_line, line_by, first_world, deeds_of_lines, IsPlayed}
 use Rattle.crashlab.specs.declared.moves.DrawnMove.{DrawnMove}
 use Rattle.crashlab.specs.declared.observer.Observation.{Observation}
-use Rattle.crashlab.specs.Draws.{Sight, noted, drawn, at_process}
+use Rattle.crashlab.specs.Draws.{Sight, seen_after_move, move_of_word, at_process}
 use Rattle.crashlab.specs.Found.{IsCaught, drawn_moves_of}
 use Rattle.crashlab.specs.Hunts.{after_line, after_lines}
 use Rattle.crashlab.specs.Hunted.{seen_from, seen_after, refusal_of, unless_refused, with_word, is_refused, found_after, found_in, found_from, or_else, generator_after}
-use Rattle.crashlab.specs.Observed.{Observes, observed}
+use Rattle.crashlab.specs.Observed.{Observes, observation_of}
 
 -- ---- the moves
 
@@ -23,14 +23,14 @@ pub drawn_more : (moves : List DrawnMove) (made : DrawnMove) → drawn_moves_of 
 drawn_more moves made = (λ i. record { procs = 3; limit = 1000000; cap = 64; width = 1; lines = map-append line_by moves (made ∷ []) i })
 
 seen_more : (s : VariantState) (seen : ℕ → List Sight) (moves : List DrawnMove) (made : DrawnMove)
-    → seen_from s seen (moves ++ made ∷ []) ≡ noted (after_lines s (map line_by moves)) made (seen_from s seen moves)
+    → seen_from s seen (moves ++ made ∷ []) ≡ seen_after_move (after_lines s (map line_by moves)) made (seen_from s seen moves)
 seen_more s seen [] made = refl
-seen_more s seen (x ∷ xs) made = seen_more (after_line s (line_by x)) (noted s x seen) xs made
+seen_more s seen (x ∷ xs) made = seen_more (after_line s (line_by x)) (seen_after_move s x seen) xs made
 
 -- a change that changes nothing
 pub observes_same : (p : ℕ) (change : List Sight → List Sight) (seen : ℕ → List Sight) (observations : List Observation) → ((sights : List Sight) → change sights ≡ sights) → Observes seen observations
     → Observes (at_process p change seen) observations
-observes_same p change seen observations same observes q h = observes q h ∙ ap (λ s. Some (observed s)) (by (q == p))
+observes_same p change seen observations same observes q h = observes q h ∙ ap (λ s. Some (observation_of s)) (by (q == p))
   where
     by : (b : Bool) → seen q ≡ (if b then change (seen q) else seen q)
     by true = sym (same (seen q))
@@ -40,7 +40,7 @@ refused_stays : (o : Option Refusal) (made : DrawnMove) (moves : List DrawnMove)
 refused_stays None made moves some = absurd (cc)
 refused_stays (Some refusal) made moves some = refl
 
-not_refused : (variant : Variant) (moves : List DrawnMove) (judge : Kept) → StandsAfter (empty 3 64) (deeds_of_lines (first_world variant) (map line_by moves)) judge → is_refused variant moves ≡ false
+not_refused : (variant : Variant) (moves : List DrawnMove) (judge : Kept) → StandsAfter (empty_state 3 64) (deeds_of_lines (first_world variant) (map line_by moves)) judge → is_refused variant moves ≡ false
 not_refused variant moves judge stands = ap is_err stands.legal
 
 -- ---- the words
@@ -82,9 +82,9 @@ pub drawn_first : (variant : Variant) (steps : ℕ) (start : Lcg) (world : Varia
 drawn_first variant steps start world judge observations played observes =
     record { played = played; observes = observes; rest = ap (λ n. found_after variant [] (first_words pcg32 n start)) (let e : steps ≡ steps - 0 = omega arith in e); on = no_jump start }
 
-module _ {variant : Variant} {steps : ℕ} {start : Lcg} {k : ℕ} {moves : List DrawnMove} {world : VariantState} {judge : Kept} {observations : List Observation} {g g' : Lcg} {word : ℕ} {made : DrawnMove} (so_far : IsDrawn variant steps start k moves world judge observations g) (more : k < steps) (next : (word, g') ≡ pcg32 g) (draws : (seen : ℕ → List Sight) → Observes seen observations → made ≡ drawn seen word) where
-  is : made ≡ drawn (seen_after variant moves) (pcg32 g).0
-  is = draws (seen_after variant moves) so_far.observes ∙ ap (λ (p : ℕ × Lcg). drawn (seen_after variant moves) p.0) next
+module _ {variant : Variant} {steps : ℕ} {start : Lcg} {k : ℕ} {moves : List DrawnMove} {world : VariantState} {judge : Kept} {observations : List Observation} {g g' : Lcg} {word : ℕ} {made : DrawnMove} (so_far : IsDrawn variant steps start k moves world judge observations g) (more : k < steps) (next : (word, g') ≡ pcg32 g) (draws : (seen : ℕ → List Sight) → Observes seen observations → made ≡ move_of_word seen word) where
+  is : made ≡ move_of_word (seen_after variant moves) (pcg32 g).0
+  is = draws (seen_after variant moves) so_far.observes ∙ ap (λ (p : ℕ × Lcg). move_of_word (seen_after variant moves) p.0) next
 
   to : g' ≡ (pcg32 g).1
   to = ap (λ (p : ℕ × Lcg). p.1) next
@@ -120,12 +120,12 @@ module _ {variant : Variant} {steps : ℕ} {start : Lcg} {k : ℕ} {moves : List
 
   -- the judge allows its deed
   pub drawn_on : {moves' : List DrawnMove} {world' : VariantState} {judge' : Kept} {observations' : List Observation} → refusal_of world made ≡ None → moves' ≡ moves ++ made ∷ []
-      → Ends variant (with_line (drawn_moves_of moves) (line_by made)) world' judge' On → ((seen : ℕ → List Sight) → Observes seen observations → Observes (noted world made seen) observations')
+      → EndsMove variant (with_line (drawn_moves_of moves) (line_by made)) world' judge' On → ((seen : ℕ → List Sight) → Observes seen observations → Observes (seen_after_move world made seen) observations')
       → IsDrawn variant steps start (k + 1) moves' world' judge' observations' g'
   drawn_on {moves' = moves'} {world' = world'} {judge' = judge'} {observations' = observations'} accepted added ends observes =
       let played : IsPlayed variant (drawn_moves_of (moves ++ made ∷ [])) world' judge' = subst (λ s. IsPlayed variant s world' judge') (sym (drawn_more moves made)) ends in
-      let seen : noted world made (seen_after variant moves) ≡ seen_after variant (moves ++ made ∷ []) =
-      ap (λ w. noted w made (seen_after variant moves)) so_far.played.reached ∙ sym (seen_more (first_world variant) (λ p. []) moves made) in
+      let seen : seen_after_move world made (seen_after variant moves) ≡ seen_after variant (moves ++ made ∷ []) =
+      ap (λ w. seen_after_move w made (seen_after variant moves)) so_far.played.reached ∙ sym (seen_more (first_world variant) (λ p. []) moves made) in
       subst (λ ms. IsDrawn variant steps start (k + 1) ms world' judge' observations' g') (sym added) (record {
         played = played;
         observes = subst (λ s. Observes s observations') seen (observes (seen_after variant moves) so_far.observes);
@@ -141,7 +141,7 @@ module _ {variant : Variant} {steps : ℕ} {start : Lcg} {k : ℕ} {moves : List
       let found = ends.found in
       let lines : map line_by (moves ++ made ∷ []) ≡ map line_by moves ++ line_by made ∷ [] = map-append line_by moves (made ∷ []) in
       let caught : is_refused variant (moves ++ made ∷ []) ≡ true =
-      ap (λ ls. is_err (judged_all (empty 3 64) (deeds_of_lines (first_world variant) ls))) lines ∙ ap (λ ds. is_err (judged_all (empty 3 64) ds)) found.deeds ∙ ap is_err found.refused in
+      ap (λ ls. is_err (judged_all (empty_state 3 64) (deeds_of_lines (first_world variant) ls))) lines ∙ ap (λ ds. is_err (judged_all (empty_state 3 64) ds)) found.deeds ∙ ap is_err found.refused in
       rest_is ∙ ap (λ ms. if is_refused variant ms then Some (drawn_moves_of ms) else found_after variant ms (first_words pcg32 (steps - (k + 1)) (pcg32 g).1)) (with_made accepted)
       ∙ ap (λ b. if b then Some (drawn_moves_of (moves ++ made ∷ [])) else found_after variant (moves ++ made ∷ []) (first_words pcg32 (steps - (k + 1)) (pcg32 g).1)) caught
 

@@ -6,7 +6,7 @@ use Rattle.std.proofs.lemmas.Option.{slice_get-get_or}
 use Rattle.schedule.specs.declared.lines.line.Line.{Line}
 use Rattle.schedule.specs.declared.lines.line.Line.TheVariants.{Step, Crash}
 use Rattle.schedule.specs.Schedules.{Scheduled}
-use Rattle.crashlab.specs.Least.{replaced, IsLowered}
+use Rattle.crashlab.specs.Least.{with_lines_at, IsLowered}
 use Rattle.crashlab.specs.MadeOf.{IsSubsequence, process_in, steps_by, moves_in, moves_by, moves_of, IsMadeOf, moves_left}
 
 pub sub_refl : {A : Type 0} (xs : List A) → IsSubsequence xs xs
@@ -53,7 +53,7 @@ made_at p zero (l ∷ ls) new line e go =
 made_at p (suc i) (l ∷ ls) new line e go = sub_front (moves_by p l) _ _ (made_at p i ls new line e go)
 
 -- a line left out
-pub made_without : (schedule : Scheduled) (i : ℕ) → i < length schedule.lines → IsMadeOf schedule (replaced i [] schedule)
+pub made_without : (schedule : Scheduled) (i : ℕ) → i < length schedule.lines → IsMadeOf schedule (with_lines_at i [] schedule)
 made_without schedule i within p low =
     let line = get_or schedule.lines i (Crash 0) in
     let is = slice_get-get_or schedule.lines i (Crash 0) within in
@@ -70,7 +70,7 @@ lower_moves p q count xs =
     (rw (add-one count) (fewer p q count xs (p == q)))
 
 -- a count lowered by one
-pub made_lowered : (schedule : Scheduled) (i : ℕ) (less : Line) → IsLowered schedule.lines i less → IsMadeOf schedule (replaced i (less ∷ []) schedule)
+pub made_lowered : (schedule : Scheduled) (i : ℕ) (less : Line) → IsLowered schedule.lines i less → IsMadeOf schedule (with_lines_at i (less ∷ []) schedule)
 made_lowered schedule i less low p below =
     rw (add-one i) (made_at p i schedule.lines (less ∷ []) (Step low.process (low.count + 1)) low.was
     (λ xs. subst (λ (l : Line). IsSubsequence (moves_of p (l ∷ []) ++ xs) (moves_by p (Step low.process (low.count + 1)) ++ xs)) (sym low.is) (lower_moves p low.process low.count xs)))

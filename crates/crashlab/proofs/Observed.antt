@@ -5,7 +5,7 @@ use Rattle.std.proofs.lemmas.Option.{slice_get-get_or, slice_get_within}
 use Rattle.rmecore.proofs.Invariant.{eqb_self}
 use Rattle.crashlab.specs.declared.observer.Observation.{Observation}
 use Rattle.crashlab.specs.Draws.{Sight, at_process}
-use Rattle.crashlab.specs.Observed.{Observes, observed}
+use Rattle.crashlab.specs.Observed.{Observes, observation_of}
 
 eqb_not : (q p : ℕ) → q ≢ p → (q == p) ≡ false
 eqb_not q p ne = by (q == p) refl
@@ -16,21 +16,21 @@ eqb_not q p ne = by (q == p) refl
 
 -- process p is observed anew
 pub observes_at : (p : ℕ) (change : List Sight → List Sight) (seen : ℕ → List Sight) (observations : List Observation) (x : Observation)
-    → Observes seen observations → p < 3 → x ≡ observed (change (seen p)) → Observes (at_process p change seen) (slice_set observations p x)
+    → Observes seen observations → p < 3 → x ≡ observation_of (change (seen p)) → Observes (at_process p change seen) (slice_set observations p x)
 observes_at p change seen observations x observes within is q below = go (cases_eq q p)
   where
     here : slice_get (slice_set observations p x) q ≡ Some (get_or (slice_set observations p x) q x)
     here = slice_get-get_or (slice_set observations p x) q x (rw (length-set observations p x) (slice_get_within observations q _ (observes q below)))
 
-    go : (q ≡ p) ⊎ (q ≢ p) → slice_get (slice_set observations p x) q ≡ Some (observed (at_process p change seen q))
+    go : (q ≡ p) ⊎ (q ≢ p) → slice_get (slice_set observations p x) q ≡ Some (observation_of (at_process p change seen q))
     go (inl e) =
         here ∙ ap Some (ap (λ r. get_or (slice_set observations p x) r x) e ∙ get_or-set_same observations p x x (slice_get_within observations p _ (observes p within)) ∙ is
-        ∙ sym (ap (λ b. observed (if b then change (seen q) else seen q)) (ap (λ r. r == p) e ∙ eqb_self p) ∙ ap (λ r. observed (change (seen r))) e))
+        ∙ sym (ap (λ b. observation_of (if b then change (seen q) else seen q)) (ap (λ r. r == p) e ∙ eqb_self p) ∙ ap (λ r. observation_of (change (seen r))) e))
     go (inr ne) =
         here ∙ ap Some (get_or-set_other observations p q x x ne) ∙ sym (slice_get-get_or observations q x (slice_get_within observations q _ (observes q below))) ∙ observes q below
-        ∙ sym (ap (λ b. Some (observed (if b then change (seen q) else seen q))) (eqb_not q p ne))
+        ∙ sym (ap (λ b. Some (observation_of (if b then change (seen q) else seen q))) (eqb_not q p ne))
 
 -- there is no process p
 pub observes_past : (p : ℕ) (change : List Sight → List Sight) (seen : ℕ → List Sight) (observations : List Observation) → Observes seen observations → 3 ≤ p → Observes (at_process p change seen) observations
 observes_past p change seen observations observes past q below =
-    observes q below ∙ sym (ap (λ b. Some (observed (if b then change (seen q) else seen q))) (eqb_not q p (λ e. absurd (omega (arith, e, past, below)))))
+    observes q below ∙ sym (ap (λ b. Some (observation_of (if b then change (seen q) else seen q))) (eqb_not q p (λ e. absurd (omega (arith, e, past, below)))))

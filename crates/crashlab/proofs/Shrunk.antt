@@ -2,7 +2,7 @@
 use Rattle.std.proofs.Common.{◌≡◌, Result, Ok, Err, IfOk, refl, sym, ap, ◌∙◌, subst, arith}
 use Rattle.schedule.specs.declared.texts.head.Head.{Head}
 use Rattle.schedule.specs.Schedules.{Scheduled}
-use Rattle.crashlab.specs.Least.{IsLess, IsLike, IsNoLonger, IsShrunk}
+use Rattle.crashlab.specs.Least.{IsSmaller, IsLike, IsNoLonger, IsShrunk}
 use Rattle.crashlab.proofs.MadeOf.{made_self, made_on}
 
 longer_on : (a b c : Scheduled) → IsNoLonger a b → IsNoLonger b c → IsNoLonger a c
@@ -19,7 +19,7 @@ module _ (Wrong : Scheduled → Type 0) where
   pub like_self : (a : Scheduled) → Wrong a → IsLike Wrong a a
   like_self a wrong = record { shorter = record { head = refl; lines = omega arith; steps = omega arith }; made = made_self a; wrong = wrong }
 
-  pub like_less : (a b c : Scheduled) → IsLike Wrong a b → IsLess Wrong b c → IsLike Wrong a c
+  pub like_less : (a b c : Scheduled) → IsLike Wrong a b → IsSmaller Wrong b c → IsLike Wrong a c
   like_less a b c first less = record {
     shorter = longer_on a b c first.shorter less.shorter.no_longer;
     made = made_on a b c (procs_same a b first.shorter) first.made less.shorter.made;

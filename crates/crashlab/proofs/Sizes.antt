@@ -6,7 +6,7 @@ use Rattle.std.proofs.lemmas.Option.{slice_get_within, slice_get-get_or}
 use Rattle.schedule.specs.declared.lines.line.Line.{Line}
 use Rattle.schedule.specs.declared.lines.line.Line.TheVariants.{Step, Crash}
 use Rattle.schedule.specs.Schedules.{Scheduled}
-use Rattle.crashlab.specs.Least.{steps_of, steps_asked, replaced, IsLowered, IsShorter}
+use Rattle.crashlab.specs.Least.{steps_of, steps_asked, with_lines_at, IsLowered, IsShorter}
 use Rattle.crashlab.proofs.MadeOf.{made_without, made_lowered}
 
 steps_append : (xs ys : List Line) → steps_asked (xs ++ ys) ≡ steps_asked xs + steps_asked ys
@@ -33,7 +33,7 @@ module _ (i : ℕ) (lines new : List Line) (line : Line) (is : slice_get lines i
       simp (length-append, length-take, length-drop) (omega (arith, within))
 
 -- a line left out
-pub without_line : (schedule : Scheduled) (i : ℕ) → i < length schedule.lines → IsShorter schedule (replaced i [] schedule)
+pub without_line : (schedule : Scheduled) (i : ℕ) → i < length schedule.lines → IsShorter schedule (with_lines_at i [] schedule)
 without_line schedule i within =
     let is = slice_get-get_or schedule.lines i (Crash 0) within in
     let fewer = length_one i schedule.lines [] (get_or schedule.lines i (Crash 0)) is in
@@ -45,7 +45,7 @@ without_line schedule i within =
     }
 
 -- a count lowered by one
-pub with_lowered : (schedule : Scheduled) (i : ℕ) (less : Line) → IsLowered schedule.lines i less → IsShorter schedule (replaced i (less ∷ []) schedule)
+pub with_lowered : (schedule : Scheduled) (i : ℕ) (less : Line) → IsLowered schedule.lines i less → IsShorter schedule (with_lines_at i (less ∷ []) schedule)
 with_lowered schedule i less low =
     let fewer = length_one i schedule.lines (less ∷ []) (Step low.process (low.count + 1)) low.was in
     let steps = steps_one i schedule.lines (less ∷ []) (Step low.process (low.count + 1)) low.was in

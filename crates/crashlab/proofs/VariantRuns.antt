@@ -1,17 +1,17 @@
 -- In every run of a world of a variant each process follows the variant's definition.
 use Rattle.std.proofs.Common.{◌≡◌, ℕ, ◌+◌, ◌<◌, nat_lt, if◌then◌else◌, Bool, true, false, List, [], ◌∷◌, slice_set, Option, Some, None, IfSome, refl, sym, ap, ◌∙◌, subst, ltb-true, get_or-set_same}
-use Rattle.crashlab.proofs.Common.{Access, Refusal, kind_of, word_of, carried, Layout, IsLayout, Call, Consistent, Begins, Falls, Moves, MachineState, process_state_of, IsSize, started as machine_state_started, world_event}
-use Rattle.crashlab.proofs.Common.{Change, Nothing, LeavesOut, Counts, Counted, Deviation, Straight, Variant, Right, NoLook, NoTies, Renumber, ExitOnCrash, CountUp, LastSkipped, IsRun, process_state_at, beside}
+use Rattle.crashlab.proofs.Common.{Access, Refusal, kind_of, word_of, carried_value, Layout, IsLayout, Call, Consistent, Begins, Falls, Moves, MachineState, process_state_of, IsSize, machine_after_start as machine_state_started, world_event}
+use Rattle.crashlab.proofs.Common.{Change, Nothing, LeavesOut, Counts, Counted, Deviation, Straight, Variant, Right, NoLook, NoTies, Renumber, ExitOnCrash, CountUp, LastSkipped, IsVariantRun, process_state_at, beside}
 use Rattle.crashlab.proofs.Common.{variant_process_state, variant_outer, variant_answer_at, variant_done_at, VariantMachineState, variant_process_state_of, variant_resting, variant_crashed, variant_next_access}
-use Rattle.crashlab.proofs.Common.{variant_stepped, variant_outcome, variant_started, change_of, VariantState, machine_state_at, access_at, unless_step, start_refusal, stepped, advanced, advanced_if, crashed}
-use Rattle.crashlab.proofs.Common.{IsConfigured, new_world, found_by, HasConfiguration, stepped_if}
+use Rattle.crashlab.proofs.Common.{variant_stepped, variant_outcome, variant_started, change_of, VariantState, machine_state_at, access_at, unless_step, start_refusal, variant_step_report, variant_after_step, advanced_if, variant_after_crash}
+use Rattle.crashlab.proofs.Common.{IsVariantConfigured, new_world, found_by, HasVariantConfiguration, stepped_if}
 use Rattle.rmecore.specs.declared.refusal.Refusal.TheVariants.{NoSuchProcess}
 use Rattle.rmeworld.specs.Acts.{Act, Starts, Steps, Crashes, unless}
 use Rattle.rmeworld.specs.Refused.{start_refusal as process_state_refusal}
 use Rattle.rmeworld.specs.ProcessState.{at_rest}
 use Rattle.rmeworld.proofs.Ordered.{ordered_rest, ordered_crashed}
-use Rattle.crashlab.specs.VariantWorlds.{started}
-use Rattle.crashlab.specs.VariantRuns.{acted, run_of, move}
+use Rattle.crashlab.specs.VariantWorlds.{variant_after_start}
+use Rattle.crashlab.specs.VariantRuns.{variant_after_act, run_of, move}
 use Rattle.rmeworld.proofs.WorldSteps.{words_by_length, cells_by_length}
 use Rattle.crashlab.proofs.Configurations.{configured, set_each, variant_step_stays, variant_start_stays, configuration_stays}
 use Rattle.crashlab.proofs.Rests.{rest_at, configured_new}
@@ -115,13 +115,13 @@ resting_fits variant l limit p lawful = record { steady = record { layout = lawf
 -- of a whole world
 
 pub record IsFit (s : VariantState) : Type 0 where
-  pub configured : IsConfigured s
+  pub configured : IsVariantConfigured s
   pub each : (p : ℕ) → p < s.layout.procs → Fits (machine_state_at s.processes p)
 
 new_fit : (variant : Variant) (l : Layout) (limit : ℕ) → IsSize l → IsFit (new_world variant l limit)
 new_fit variant l limit sized = record { configured = configured_new variant l limit sized; each = λ p below. subst Fits (sym (rest_at variant l limit 0 l.procs p below)) (resting_fits variant l limit (0 + p) sized.layout) }
 
-start_fit : (s : VariantState) (p : ℕ) (c : Call) (x : Bool) → nat_lt p s.layout.procs ≡ x → (r : Option Refusal) → process_state_refusal s.layout (process_state_of (machine_state_at s.processes p).machine_state) c ≡ r → IsFit s → IsFit (unless (if x then r else Some NoSuchProcess) s (started s p c))
+start_fit : (s : VariantState) (p : ℕ) (c : Call) (x : Bool) → nat_lt p s.layout.procs ≡ x → (r : Option Refusal) → process_state_refusal s.layout (process_state_of (machine_state_at s.processes p).machine_state) c ≡ r → IsFit s → IsFit (unless (if x then r else Some NoSuchProcess) s (variant_after_start s p c))
 start_fit s p c false e r is h = h
 start_fit s p c true e (Some refusal) is h = h
 start_fit s p c true e None is h =
@@ -146,7 +146,7 @@ step_fit s p true e (Some a) h =
       each = set_each (λ _. Fits) s p u h.configured.processes_each (taken t.variant t.deviation t.change t.machine_state (found_by s a) fit.steady fit.deviation fit.change).fits below h.each;
     }
 
-crash_fit : (s : VariantState) (p : ℕ) (x : Bool) → nat_lt p s.layout.procs ≡ x → IsFit s → IsFit (unless (if x then None else Some NoSuchProcess) s (crashed s p))
+crash_fit : (s : VariantState) (p : ℕ) (x : Bool) → nat_lt p s.layout.procs ≡ x → IsFit s → IsFit (unless (if x then None else Some NoSuchProcess) s (variant_after_crash s p))
 crash_fit s p false e h = h
 crash_fit s p true e h =
     let below = ltb-true p s.layout.procs e in
@@ -156,16 +156,16 @@ crash_fit s p true e h =
       each = set_each (λ _. Fits) s p (variant_crashed t) h.configured.processes_each (crashed_fits t (h.each p below)) below h.each;
     }
 
-act_fit : (s : VariantState) (act : Act) → IsFit s → IsFit (acted s act)
+act_fit : (s : VariantState) (act : Act) → IsFit s → IsFit (variant_after_act s act)
 act_fit s (Starts p c) h = start_fit s p c (nat_lt p s.layout.procs) refl (process_state_refusal s.layout (process_state_of (machine_state_at s.processes p).machine_state) c) refl h
 act_fit s (Steps p) h = step_fit s p (nat_lt p s.layout.procs) refl (access_at s p) h
 act_fit s (Crashes p) h = crash_fit s p (nat_lt p s.layout.procs) refl h
 
 run_fit : (s : VariantState) (acts : List Act) → IsFit s → IsFit (run_of s acts)
 run_fit s [] h = h
-run_fit s (act ∷ acts) h = run_fit (acted s act) acts (act_fit s act h)
+run_fit s (act ∷ acts) h = run_fit (variant_after_act s act) acts (act_fit s act h)
 
-pub is_fit : (s : VariantState) → IsRun s → IsFit s
+pub is_fit : (s : VariantState) → IsVariantRun s → IsFit s
 is_fit s run = subst IsFit run.is (run_fit (new_world s.variant s.layout s.limit) run.acts (new_fit s.variant s.layout s.limit run.sized))
 
 -- what each process does then
@@ -178,10 +178,10 @@ step_row s p a t h e =
 moved_here : (s : VariantState) (p : ℕ) (t : VariantMachineState) → IsFit s → p < s.layout.procs → process_state_at (record s { processes = slice_set s.processes p t }) p ≡ variant_process_state_of t
 moved_here s p t h below = ap variant_process_state_of (get_or-set_same s.processes p t _ (rw h.configured.processes_each below))
 
-move_is : (s : VariantState) (p : ℕ) (a : Access) → HasConfiguration s.variant s.layout s.limit p (machine_state_at s.processes p) → world_event (machine_state_at s.processes p).machine_state a (found_by s a) ≡ move s p a
-move_is s p a configuration = ap (λ q. Moves q (kind_of a) (word_of a) (carried a (found_by s a))) configuration.3
+move_is : (s : VariantState) (p : ℕ) (a : Access) → HasVariantConfiguration s.variant s.layout s.limit p (machine_state_at s.processes p) → world_event (machine_state_at s.processes p).machine_state a (found_by s a) ≡ move s p a
+move_is s p a configuration = ap (λ q. Moves q (kind_of a) (word_of a) (carried_value a (found_by s a))) configuration.3
 
-pub a_step : (s : VariantState) (p : ℕ) (a : Access) → IsRun s → p < s.layout.procs → access_at s p ≡ Some a → variant_process_state s.variant s.layout s.limit (process_state_at s p) (move s p a) ≡ Some (process_state_at (advanced s p) p)
+pub a_step : (s : VariantState) (p : ℕ) (a : Access) → IsVariantRun s → p < s.layout.procs → access_at s p ≡ Some a → variant_process_state s.variant s.layout s.limit (process_state_at s p) (move s p a) ≡ Some (process_state_at (variant_after_step s p) p)
 a_step s p a run below e =
     let h = is_fit s run in
     let t : VariantMachineState = machine_state_at s.processes p in
@@ -189,29 +189,29 @@ a_step s p a run below e =
     (λ i. variant_process_state (sym configuration.0 i) (sym configuration.1 i) (sym configuration.2 i) (process_state_at s p) (sym (move_is s p a configuration) i)) ∙ (step_row s p a t (h.each p below) e).0
     ∙ sym (ap (λ o. Some (process_state_at (advanced_if s p o) p)) e ∙ ap (λ x. Some x) (moved_here s p (variant_stepped t (found_by s a)) h below))
 
-pub a_deed : (s : VariantState) (p : ℕ) (a : Access) → IsRun s → p < s.layout.procs → access_at s p ≡ Some a → (stepped s p).happened.outer ≡ variant_outer s.variant (process_state_at s p) (move s p a)
+pub a_deed : (s : VariantState) (p : ℕ) (a : Access) → IsVariantRun s → p < s.layout.procs → access_at s p ≡ Some a → (variant_step_report s p).happened.outer ≡ variant_outer s.variant (process_state_at s p) (move s p a)
 a_deed s p a run below e =
     let h = is_fit s run in
     let configuration = h.configured.configurations p below in
     ap (λ o. (stepped_if s p o).happened.outer) e ∙ sym (step_row s p a (machine_state_at s.processes p) (h.each p below) e).1 ∙ (λ i. variant_outer (configuration.0 i) (process_state_at s p) (move_is s p a configuration i))
 
-pub an_answer : (s : VariantState) (p : ℕ) (a : Access) → IsRun s → p < s.layout.procs → access_at s p ≡ Some a → (stepped s p).answer ≡ variant_answer_at s.variant (process_state_at s p) (kind_of a) (carried a (found_by s a))
+pub an_answer : (s : VariantState) (p : ℕ) (a : Access) → IsVariantRun s → p < s.layout.procs → access_at s p ≡ Some a → (variant_step_report s p).answer ≡ variant_answer_at s.variant (process_state_at s p) (kind_of a) (carried_value a (found_by s a))
 an_answer s p a run below e =
     let h = is_fit s run in
     let configuration = h.configured.configurations p below in
-    ap (λ o. (stepped_if s p o).answer) e ∙ sym (step_row s p a (machine_state_at s.processes p) (h.each p below) e).2 ∙ (λ i. variant_answer_at (configuration.0 i) (process_state_at s p) (kind_of a) (carried a (found_by s a)))
+    ap (λ o. (stepped_if s p o).answer) e ∙ sym (step_row s p a (machine_state_at s.processes p) (h.each p below) e).2 ∙ (λ i. variant_answer_at (configuration.0 i) (process_state_at s p) (kind_of a) (carried_value a (found_by s a)))
 
-pub a_done : (s : VariantState) (p : ℕ) (a : Access) → IsRun s → p < s.layout.procs → access_at s p ≡ Some a → (stepped s p).happened.done ≡ variant_done_at s.variant (process_state_at s p) (kind_of a) (carried a (found_by s a))
+pub a_done : (s : VariantState) (p : ℕ) (a : Access) → IsVariantRun s → p < s.layout.procs → access_at s p ≡ Some a → (variant_step_report s p).happened.done ≡ variant_done_at s.variant (process_state_at s p) (kind_of a) (carried_value a (found_by s a))
 a_done s p a run below e =
     let h = is_fit s run in
     let configuration = h.configured.configurations p below in
-    ap (λ o. (stepped_if s p o).happened.done) e ∙ sym (step_row s p a (machine_state_at s.processes p) (h.each p below) e).3 ∙ (λ i. variant_done_at (configuration.0 i) (process_state_at s p) (kind_of a) (carried a (found_by s a)))
+    ap (λ o. (stepped_if s p o).happened.done) e ∙ sym (step_row s p a (machine_state_at s.processes p) (h.each p below) e).3 ∙ (λ i. variant_done_at (configuration.0 i) (process_state_at s p) (kind_of a) (carried_value a (found_by s a)))
 
 is_below : (p n : ℕ) (r : Option Refusal) (x : Bool) → nat_lt p n ≡ x → (if x then r else Some NoSuchProcess) ≡ None → (p < n) × (r ≡ None)
 is_below p n r true e h = (ltb-true p n e, h)
 is_below p n r false e h = cc
 
-pub a_start : (s : VariantState) (p : ℕ) (c : Call) → IsRun s → start_refusal s p c ≡ None → variant_process_state s.variant s.layout s.limit (process_state_at s p) (Begins p c) ≡ Some (process_state_at (started s p c) p)
+pub a_start : (s : VariantState) (p : ℕ) (c : Call) → IsVariantRun s → start_refusal s p c ≡ None → variant_process_state s.variant s.layout s.limit (process_state_at s p) (Begins p c) ≡ Some (process_state_at (variant_after_start s p c) p)
 a_start s p c run accepted =
     let h = is_fit s run in
     let t : VariantMachineState = machine_state_at s.processes p in
@@ -220,7 +220,7 @@ a_start s p c run accepted =
     (λ i. variant_process_state (sym configuration.0 i) (sym configuration.1 i) (sym configuration.2 i) (process_state_at s p) (Begins (sym configuration.3 i) c))
     ∙ at_its_start t c (h.each p may.0) (ap (λ l. process_state_refusal l (process_state_of t.machine_state) c) configuration.1 ∙ may.1) ∙ ap (λ x. Some x) (sym (moved_here s p (variant_started t c) h may.0))
 
-pub a_crash : (s : VariantState) (p : ℕ) → IsRun s → p < s.layout.procs → variant_process_state s.variant s.layout s.limit (process_state_at s p) (Falls p) ≡ Some (process_state_at (crashed s p) p)
+pub a_crash : (s : VariantState) (p : ℕ) → IsVariantRun s → p < s.layout.procs → variant_process_state s.variant s.layout s.limit (process_state_at s p) (Falls p) ≡ Some (process_state_at (variant_after_crash s p) p)
 a_crash s p run below =
     let h = is_fit s run in
     let t : VariantMachineState = machine_state_at s.processes p in

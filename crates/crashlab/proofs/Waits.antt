@@ -1,8 +1,8 @@
 -- Waiters that go by a changed row: one that does not look, and one that passes an equal number.
 use Rattle.std.proofs.Common.{◌≡◌, ℕ, ◌+◌, Bool, true, false, ◌||◌, ◌==◌, nat_lt, if◌then◌else◌, List, [], ◌∷◌, Option, Some, None, refl, sym, ap, ◌∙◌, subst}
 use Rattle.crashlab.proofs.Common.{cond_both, Access, Load, Look as Looks, Weigh as Weighs, Choosing as ChoosingOf, Number as NumberOf, access, place_of, Place, Reread, Wait, is_before, eqb_self}
-use Rattle.crashlab.proofs.Common.{Layout, Reply, left, Script, Get as Asks, Put as Writes, Done, ScriptState as Chore, Free as IsFree, Does, Purpose, script_state_of, Doing, MachineState, access_by}
-use Rattle.crashlab.proofs.Common.{next_access, Nothing, Deviation, Straight, NoLook, NoTies, weighed, silent_outcome, variant_stepped, plain_outcome, by_row, variant_access}
+use Rattle.crashlab.proofs.Common.{Layout, Reply, script_left, Script, Get as Asks, Put as Writes, Done, ScriptState as Chore, Free as IsFree, Does, Purpose, script_state_of, Doing, MachineState, access_by}
+use Rattle.crashlab.proofs.Common.{next_access, Nothing, Deviation, Straight, NoLook, NoTies, weigh_for_look, silent_outcome, variant_stepped, plain_outcome, by_row, variant_access}
 use Rattle.rmecore.specs.Place.{Door, without, above}
 use Rattle.rmecore.specs.Machine.{first}
 use Rattle.rmecore.specs.declared.stage.Stage.TheVariants.{Wait as AtWait}
@@ -13,12 +13,12 @@ use Rattle.crashlab.proofs.Rows.{process_of, Goes, Walks, Agrees, all, free_mach
 
 -- no look: a weigh comes where the lock would look
 
-pub weighs : (limit p : ℕ) (s : Place) → weighed (access limit p s) ≡ variant_access NoLook limit p s Straight
+pub weighs : (limit p : ℕ) (s : Place) → weigh_for_look (access limit p s) ≡ variant_access NoLook limit p s Straight
 weighs limit p (Wait k (j ∷ js) None) = refl
 weighs limit p (Wait k [] None) = refl
 weighs limit p (Wait k (i ∷ js) (Some j)) = refl
 weighs limit p (Wait k [] (Some j)) = refl
-weighs limit p (Door [] m) = cond_both (nat_lt m limit) _ _ (λ o. weighed o ≡ o) (λ _. refl) (λ _. refl)
+weighs limit p (Door [] m) = cond_both (nat_lt m limit) _ _ (λ o. weigh_for_look o ≡ o) (λ _. refl) (λ _. refl)
 weighs limit p (Door (j ∷ js) m) = refl
 weighs limit p (Reread c []) = refl
 weighs limit p (Reread c (x ∷ [])) = refl
@@ -48,13 +48,13 @@ module _ (l : Layout) (limit p k j : ℕ) (js : List ℕ) (b c : Bool) (v : ℕ)
       }
   weighs_first h false e = record { row = rw (eqb_self j, e) (refl, refl, refl, refl); steady = h; deviation = tt; change = refl }
 
-weighs_at : (l : Layout) (limit p : ℕ) (s : Place) (b c : Bool) (v : ℕ) → Steady (free_machine_state l limit p s b c) → GoesUnlooked (free_machine_state l limit p s b c) (weighed (access limit p s)) (access limit p s) v
+weighs_at : (l : Layout) (limit p : ℕ) (s : Place) (b c : Bool) (v : ℕ) → Steady (free_machine_state l limit p s b c) → GoesUnlooked (free_machine_state l limit p s b c) (weigh_for_look (access limit p s)) (access limit p s) v
 weighs_at l limit p (Wait k (j ∷ js) None) b c v h = weighs_first l limit p k j js b c v h ((v == 0) || is_before k p v j) refl
 weighs_at l limit p (Wait k [] None) b c v h = lock_goes NoLook l limit p (Wait k [] None) b c v h tt (refl, refl, refl)
 weighs_at l limit p (Wait k unpassed (Some j)) b c v h = lock_goes NoLook l limit p (Wait k unpassed (Some j)) b c v h tt (refl, refl, refl)
 weighs_at l limit p s b c v h = subst (λ o. GoesUnlooked (free_machine_state l limit p s b c) o (access limit p s) v) (sym (weighs limit p s)) (lock_goes NoLook l limit p s b c v h tt (all (access limit p s) (Agrees NoLook l.procs limit p s v) (λ a. (refl, refl, refl))))
 
-pub unweighed : (limit p : ℕ) (s : Place) (purpose : Purpose) (x : Script Reply) → weighed (access_by limit p s (Doing purpose x)) ≡ access_by limit p s (Doing purpose x)
+pub unweighed : (limit p : ℕ) (s : Place) (purpose : Purpose) (x : Script Reply) → weigh_for_look (access_by limit p s (Doing purpose x)) ≡ access_by limit p s (Doing purpose x)
 unweighed limit p s purpose (Asks i rest) = refl
 unweighed limit p s purpose (Writes i v rest) = refl
 unweighed limit p s purpose (Done reply) = refl
@@ -66,7 +66,7 @@ looks_go s v h = by s.script_state h
     by IsFree h = weighs_at s.layout s.limit s.index s.lock s.mended s.barred v h
     by (Does purpose job) h =
         let t : MachineState = record s { script_state = Does purpose job } in
-        subst (λ o. Goes NoLook t Straight o (variant_stepped (process_of NoLook t Straight Nothing) v) (plain_outcome t v) v) (sym (unweighed s.limit s.index s.lock purpose (left job))) (script_goes NoLook t Straight v h tt purpose (left job) refl)
+        subst (λ o. Goes NoLook t Straight o (variant_stepped (process_of NoLook t Straight Nothing) v) (plain_outcome t v) v) (sym (unweighed s.limit s.index s.lock purpose (script_left job))) (script_goes NoLook t Straight v h tt purpose (script_left job) refl)
 
 -- no ties: a weigh of an equal number passes
 
@@ -99,7 +99,7 @@ ties_go s v h = by s.script_state h
   where
     by : (e : Chore) → Steady (record s { script_state = e }) → Walks NoTies (record s { script_state = e }) Straight v
     by IsFree h = ties_at s.layout s.limit s.index s.lock s.mended s.barred v h
-    by (Does purpose job) h = script_goes NoTies (record s { script_state = Does purpose job }) Straight v h tt purpose (left job) refl
+    by (Does purpose job) h = script_goes NoTies (record s { script_state = Does purpose job }) Straight v h tt purpose (script_left job) refl
 
 -- where the code finds these rows
 

@@ -9,7 +9,7 @@ use Rattle.crashlab.specs.declared.moves.NextCall.TheVariants.{Lock, Consistent,
 use Rattle.crashlab.specs.declared.moves.DrawnMove.{DrawnMove}
 use Rattle.crashlab.specs.declared.moves.DrawnMove.TheVariants.{Start, Step, Crash}
 use Rattle.crashlab.specs.Found.{mover}
-use Rattle.crashlab.specs.VariantWorlds.{VariantState, stepped}
+use Rattle.crashlab.specs.VariantWorlds.{VariantState, variant_step_report}
 
 -- what is seen of a process: a call under way, a call with its answer, a crash. Lists of these begin with the newest
 pub data Sight : Type 0 where
@@ -48,15 +48,15 @@ is_appended (Ends next_call (Mail reply) ∷ seen) = true
 is_appended (_ ∷ seen) = is_appended seen
 
 -- how many of its appends were answered stored or already
-abbrev pub stored : List Sight → ℕ
-stored [] = 0
-stored (Ends next_call (Mail Stored) ∷ seen) = 1 + stored seen
-stored (Ends next_call (Mail Already) ∷ seen) = 1 + stored seen
-stored (_ ∷ seen) = stored seen
+abbrev pub stored_count : List Sight → ℕ
+stored_count [] = 0
+stored_count (Ends next_call (Mail Stored) ∷ seen) = 1 + stored_count seen
+stored_count (Ends next_call (Mail Already) ∷ seen) = 1 + stored_count seen
+stored_count (_ ∷ seen) = stored_count seen
 
 -- the number of its next message, held at the greatest u64
 abbrev pub next_number : List Sight → ℕ
-next_number seen = min (1 + stored seen) (2 ^ 64 - 1)
+next_number seen = min (1 + stored_count seen) (2 ^ 64 - 1)
 
 -- the call that it starts next
 abbrev pub call_after : List Sight → NextCall
@@ -64,34 +64,34 @@ call_after seen =
     if is_inside seen then (if is_mended seen then (if is_appended seen then Unlock else Append (next_number seen)) else Consistent) else Lock
 
 -- a step where a call is under way, else the start of the next call
-abbrev pub onward : ℕ → List Sight → DrawnMove
-onward p (Begins next_call ∷ seen) = Step p
-onward p seen = Start p (call_after seen)
+abbrev pub move_onward : ℕ → List Sight → DrawnMove
+move_onward p (Begins next_call ∷ seen) = Step p
+move_onward p seen = Start p (call_after seen)
 
 -- the move of a word, given what is seen of each process
-abbrev pub drawn : (ℕ → List Sight) → ℕ → DrawnMove
-drawn seen word = if word / 64 % 16 == 0 then Crash (word % 3) else onward (word % 3) (seen (word % 3))
+abbrev pub move_of_word : (ℕ → List Sight) → ℕ → DrawnMove
+move_of_word seen word = if word / 64 % 16 == 0 then Crash (word % 3) else move_onward (word % 3) (seen (word % 3))
 
 -- the call under way ends with this answer
-abbrev pub answered : Answer → List Sight → List Sight
-answered answer (Begins next_call ∷ seen) = Ends next_call answer ∷ seen
-answered answer seen = seen
+abbrev pub seen_after_answer : Answer → List Sight → List Sight
+seen_after_answer answer (Begins next_call ∷ seen) = Ends next_call answer ∷ seen
+seen_after_answer answer seen = seen
 
 -- the same for an answer that there may not be
 abbrev pub answered_if : Option Answer → List Sight → List Sight
 answered_if None seen = seen
-answered_if (Some answer) seen = answered answer seen
+answered_if (Some answer) seen = seen_after_answer answer seen
 
 -- what is seen of the process of a move, after the move
-abbrev pub sighted : VariantState → DrawnMove → List Sight → List Sight
-sighted s (Start p next_call) seen = Begins next_call ∷ seen
-sighted s (Step p) seen = answered_if (stepped s p).answer seen
-sighted s (Crash p) seen = Falls ∷ seen
+abbrev pub seen_of_mover : VariantState → DrawnMove → List Sight → List Sight
+seen_of_mover s (Start p next_call) seen = Begins next_call ∷ seen
+seen_of_mover s (Step p) seen = answered_if (variant_step_report s p).answer seen
+seen_of_mover s (Crash p) seen = Falls ∷ seen
 
 -- a change at process p alone
 abbrev pub at_process : ℕ → (List Sight → List Sight) → (ℕ → List Sight) → ℕ → List Sight
 at_process p change seen q = if q == p then change (seen q) else seen q
 
 -- what is seen of each process, after a move
-abbrev pub noted : VariantState → DrawnMove → (ℕ → List Sight) → ℕ → List Sight
-noted s made seen = at_process (mover made) (sighted s made) seen
+abbrev pub seen_after_move : VariantState → DrawnMove → (ℕ → List Sight) → ℕ → List Sight
+seen_after_move s made seen = at_process (mover made) (seen_of_mover s made) seen

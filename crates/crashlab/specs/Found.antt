@@ -8,7 +8,7 @@ use Rattle.redomail.specs.declared.deed.Deed.{Deed}
 use Rattle.judge.specs.Kept.{Kept}
 use Rattle.judge.specs.Legal.{judged_all}
 use Rattle.judge.specs.Stands.{StandsAfter}
-use Rattle.judge.specs.Table.{empty}
+use Rattle.judge.specs.Table.{empty_state}
 use Rattle.rmeworld.specs.Replayed.{list_of}
 use Rattle.schedule.specs.declared.lines.line.Line.{Line}
 use Rattle.schedule.specs.declared.lines.line.Line.TheVariants as line
@@ -31,25 +31,25 @@ pub record IsCaught (variant : Variant) (schedule : Scheduled) : Type 0 where
   pub wrong : EveryExecutionIsLegal → variant ≡ Right → ⊥
 
 -- the round goes on, or its schedule is found
-abbrev pub Ends : Variant → Scheduled → VariantState → Kept → MoveOutcome → Type 0
-Ends variant schedule world judge On = IsPlayed variant schedule world judge
-Ends variant schedule world judge Caught = IsCaught variant schedule
+abbrev pub EndsMove : Variant → Scheduled → VariantState → Kept → MoveOutcome → Type 0
+EndsMove variant schedule world judge On = IsPlayed variant schedule world judge
+EndsMove variant schedule world judge Caught = IsCaught variant schedule
 
 -- the schedule with one more line
 abbrev pub with_line : Scheduled → Line → Scheduled
 with_line schedule line = record schedule { lines = schedule.lines ++ line ∷ [] }
 
 -- a deed that the judge refuses after this history
-pub record IsRefused (history : List Deed) (deed : Option Deed) : Type 0 where
+pub record IsDeedRefused (history : List Deed) (deed : Option Deed) : Type 0 where
   pub last : Deed
   pub is : deed ≡ Some last
   pub fault : Fault
-  pub refused : judged_all (empty 3 64) (history ++ last ∷ []) ≡ Err fault
+  pub refused : judged_all (empty_state 3 64) (history ++ last ∷ []) ≡ Err fault
 
 -- the judge was given the deed of the move, if it has one, and allows or refuses it
-abbrev pub Told : List Deed → Option Deed → Kept → MoveOutcome → Type 0
-Told history deed judge On = StandsAfter (empty 3 64) (history ++ list_of deed) judge
-Told history deed judge Caught = IsRefused history deed
+abbrev pub IsDeedGiven : List Deed → Option Deed → Kept → MoveOutcome → Type 0
+IsDeedGiven history deed judge On = StandsAfter (empty_state 3 64) (history ++ list_of deed) judge
+IsDeedGiven history deed judge Caught = IsDeedRefused history deed
 
 -- a call that a hunt starts
 abbrev pub call_by : NextCall → Call

@@ -7,14 +7,14 @@ use Rattle.rand_pcg.specs.Lcg.{Lcg, advance}
 use Rattle.rand_pcg.specs.Pcg.{multiplier_64, pcg32, pcg32_of_seed}
 use Rattle.rmecore.specs.declared.refusal.Refusal.{Refusal}
 use Rattle.judge.specs.Legal.{judged_all}
-use Rattle.judge.specs.Table.{empty}
+use Rattle.judge.specs.Table.{empty_state}
 use Rattle.schedule.specs.Schedules.{Scheduled}
 use Rattle.crashlab.specs.declared.variant.Variant.{Variant}
 use Rattle.crashlab.specs.declared.moves.DrawnMove.{DrawnMove}
 use Rattle.crashlab.specs.declared.moves.DrawnMove.TheVariants.{Start, Step, Crash}
 use Rattle.crashlab.specs.declared.moves.MoveOutcome.{MoveOutcome}
 use Rattle.crashlab.specs.declared.moves.MoveOutcome.TheVariants.{On, Caught}
-use Rattle.crashlab.specs.Draws.{Sight, noted, drawn}
+use Rattle.crashlab.specs.Draws.{Sight, seen_after_move, move_of_word}
 use Rattle.crashlab.specs.Found.{call_by, line_by, drawn_moves_of}
 use Rattle.crashlab.specs.Hunts.{first_world, after_line, after_lines, deeds_of_lines}
 use Rattle.crashlab.specs.VariantWorlds.{VariantState, start_refusal, advance_refusal, crash_refusal}
@@ -26,7 +26,7 @@ world_after variant moves = after_lines (first_world variant) (map line_by moves
 -- what is seen of each process after moves, from a world on
 abbrev pub seen_from : VariantState → (ℕ → List Sight) → List DrawnMove → ℕ → List Sight
 seen_from s seen [] = seen
-seen_from s seen (made ∷ moves) = seen_from (after_line s (line_by made)) (noted s made seen) moves
+seen_from s seen (made ∷ moves) = seen_from (after_line s (line_by made)) (seen_after_move s made seen) moves
 
 -- what is seen of each process in a round
 abbrev pub seen_after : Variant → List DrawnMove → ℕ → List Sight
@@ -46,12 +46,12 @@ unless_refused (Some refusal) made moves = moves
 -- the moves of a round, with that of one more word; a move that the world refuses is left out
 abbrev pub with_word : Variant → List DrawnMove → ℕ → List DrawnMove
 with_word variant moves word =
-    let made = drawn (seen_after variant moves) word in
+    let made = move_of_word (seen_after variant moves) word in
     unless_refused (refusal_of (world_after variant moves) made) made moves
 
 -- the judge refuses a deed of these moves
 abbrev pub is_refused : Variant → List DrawnMove → Bool
-is_refused variant moves = is_err (judged_all (empty 3 64) (deeds_of_lines (first_world variant) (map line_by moves)))
+is_refused variant moves = is_err (judged_all (empty_state 3 64) (deeds_of_lines (first_world variant) (map line_by moves)))
 
 -- the moves up to the first deed that the judge refuses, if these words come to one
 unfoldable pub found_after : Variant → List DrawnMove → List ℕ → Option Scheduled
@@ -84,5 +84,5 @@ found_from variant seed steps round zero = None
 found_from variant seed steps round (suc rounds) = or_else (found_in variant seed steps round) (found_from variant seed steps (round + 1) rounds)
 
 -- what a hunt answers
-abbrev pub hunted : Variant → ℕ → ℕ → ℕ → Option Scheduled
-hunted variant seed rounds steps = found_from variant seed steps 0 rounds
+abbrev pub hunt_result : Variant → ℕ → ℕ → ℕ → Option Scheduled
+hunt_result variant seed rounds steps = found_from variant seed steps 0 rounds

@@ -3,7 +3,7 @@ use Rattle.std.specs.Prelude.{◌≡◌, ℕ, zero, suc, Bool, true, false, if�
 use Rattle.rmecore.specs.declared.fault.Fault.{Fault}
 use Rattle.redomail.specs.declared.deed.Deed.{Deed}
 use Rattle.redomail.specs.declared.layout.Layout.{Layout}
-use Rattle.judge.specs.Table.{empty}
+use Rattle.judge.specs.Table.{empty_state}
 use Rattle.judge.specs.Legal.{judged_all, IsLegal}
 use Rattle.judge.specs.Kept.{Kept}
 use Rattle.judge.specs.Stands.{StandsAfter}
@@ -12,7 +12,7 @@ use Rattle.schedule.specs.declared.lines.line.Line.{Line}
 use Rattle.schedule.specs.declared.lines.line.Line.TheVariants.{Start, Step, Crash}
 use Rattle.schedule.specs.Schedules.{Scheduled}
 use Rattle.crashlab.specs.declared.variant.Variant.{Variant}
-use Rattle.crashlab.specs.VariantWorlds.{VariantState, new_world, start_refusal, started, advance_refusal, stepped, advanced, crash_refusal, crash_deed, crashed}
+use Rattle.crashlab.specs.VariantWorlds.{VariantState, new_world, start_refusal, variant_after_start, advance_refusal, variant_step_report, variant_after_step, crash_refusal, crash_deed, variant_after_crash}
 
 -- the sizes of a hunt's world (the hunt's drawing rule of docs/dev/surface.md)
 abbrev pub hunt_layout : Layout
@@ -24,23 +24,23 @@ first_world variant = new_world variant hunt_layout 1000000
 
 -- the next step of p ends its call
 abbrev pub is_answered : VariantState → ℕ → Bool
-is_answered s p = is_some (stepped s p).answer
+is_answered s p = is_some (variant_step_report s p).answer
 
 -- the world after a line; steps end with the answer of their call
 abbrev pub after_steps : VariantState → ℕ → ℕ → VariantState
 after_steps s p zero = s
-after_steps s p (suc k) = if is_answered s p then advanced s p else after_steps (advanced s p) p k
+after_steps s p (suc k) = if is_answered s p then variant_after_step s p else after_steps (variant_after_step s p) p k
 
 -- the world after a line
 abbrev pub after_line : VariantState → Line → VariantState
-after_line s (Start p call) = started s p call
+after_line s (Start p call) = variant_after_start s p call
 after_line s (Step p k) = after_steps s p k
-after_line s (Crash p) = crashed s p
+after_line s (Crash p) = variant_after_crash s p
 
 -- the deeds of a line
 abbrev pub deeds_of_steps : VariantState → ℕ → ℕ → List Deed
 deeds_of_steps s p zero = []
-deeds_of_steps s p (suc k) = list_of (stepped s p).deed ++ (if is_answered s p then [] else deeds_of_steps (advanced s p) p k)
+deeds_of_steps s p (suc k) = list_of (variant_step_report s p).deed ++ (if is_answered s p then [] else deeds_of_steps (variant_after_step s p) p k)
 
 -- the deeds of a line
 abbrev pub deeds_of_line : VariantState → Line → List Deed
@@ -56,7 +56,7 @@ Unless false P = P
 -- k steps of p, up to the answer of its call, are not refused
 abbrev pub MaySteps : VariantState → ℕ → ℕ → Type 0
 MaySteps s p zero = Unit {0}
-MaySteps s p (suc k) = (advance_refusal s p ≡ None) × Unless (is_answered s p) (MaySteps (advanced s p) p k)
+MaySteps s p (suc k) = (advance_refusal s p ≡ None) × Unless (is_answered s p) (MaySteps (variant_after_step s p) p k)
 
 -- nothing of a line is refused
 abbrev pub MayLine : VariantState → Line → Type 0
@@ -95,7 +95,7 @@ pub record IsFound (variant : Variant) (schedule : Scheduled) : Type 0 where
   pub fault : Fault
   pub deeds : deeds_of_lines (first_world variant) schedule.lines ≡ before ++ last ∷ []
   pub legal : IsLegal 3 64 before
-  pub refused : judged_all (empty 3 64) (before ++ last ∷ []) ≡ Err fault
+  pub refused : judged_all (empty_state 3 64) (before ++ last ∷ []) ≡ Err fault
 
 -- a line of one move
 abbrev pub IsOneMove : Line → Type 0
@@ -117,4 +117,4 @@ pub record IsPlayed (variant : Variant) (schedule : Scheduled) (world : VariantS
   pub size : IsOfHunt schedule
   pub runs : MayLines (first_world variant) schedule.lines
   pub reached : world ≡ after_lines (first_world variant) schedule.lines
-  pub stands : StandsAfter (empty 3 64) (deeds_of_lines (first_world variant) schedule.lines) judge
+  pub stands : StandsAfter (empty_state 3 64) (deeds_of_lines (first_world variant) schedule.lines) judge

@@ -7,8 +7,8 @@ use Rattle.schedule.specs.Schedules.{Scheduled, head_of}
 use Rattle.crashlab.specs.MadeOf.{IsMadeOf}
 
 -- line i replaced by these lines
-abbrev pub replaced : ℕ → List Line → Scheduled → Scheduled
-replaced i new schedule = record schedule { lines = take i schedule.lines ++ (new ++ drop (i + 1) schedule.lines) }
+abbrev pub with_lines_at : ℕ → List Line → Scheduled → Scheduled
+with_lines_at i new schedule = record schedule { lines = take i schedule.lines ++ (new ++ drop (i + 1) schedule.lines) }
 
 -- line i asks for more than one step, and this line for one less
 pub record IsLowered (lines : List Line) (i : ℕ) (less : Line) : Type 0 where
@@ -24,12 +24,12 @@ Loses Wrong schedule = Wrong schedule → ⊥
 
 -- line i can't be left out, nor its count be lowered by one, or the schedule goes wrong no more
 pub record IsNeeded (Wrong : Scheduled → Type 0) (schedule : Scheduled) (i : ℕ) : Type 0 where
-  pub line : Loses Wrong (replaced i [] schedule)
-  pub count : (less : Line) → IsLowered schedule.lines i less → Loses Wrong (replaced i (less ∷ []) schedule)
+  pub line : Loses Wrong (with_lines_at i [] schedule)
+  pub count : (less : Line) → IsLowered schedule.lines i less → Loses Wrong (with_lines_at i (less ∷ []) schedule)
 
 -- each line is needed, with its count
-abbrev pub IsLeast : (Scheduled → Type 0) → Scheduled → Type 0
-IsLeast Wrong schedule = (i : ℕ) → i < length schedule.lines → IsNeeded Wrong schedule i
+abbrev pub IsMinimal : (Scheduled → Type 0) → Scheduled → Type 0
+IsMinimal Wrong schedule = (i : ℕ) → i < length schedule.lines → IsNeeded Wrong schedule i
 
 -- the number of steps that the lines ask for
 abbrev pub steps_of : Line → ℕ
@@ -53,7 +53,7 @@ pub record IsShrunk (Wrong : Scheduled → Type 0) (before now : Scheduled) : Ty
   pub shorter : IsNoLonger before now
   pub made : IsMadeOf before now
   pub wrong : Wrong now
-  pub least : IsLeast Wrong now
+  pub least : IsMinimal Wrong now
 
 -- the schedule with other lines
 abbrev pub with_lines : Scheduled → List Line → Scheduled
@@ -76,6 +76,6 @@ pub record IsShorter (before now : Scheduled) : Type 0 where
   pub smaller : size now < size before
 
 -- shorter, and it goes wrong
-pub record IsLess (Wrong : Scheduled → Type 0) (before now : Scheduled) : Type 0 where
+pub record IsSmaller (Wrong : Scheduled → Type 0) (before now : Scheduled) : Type 0 where
   pub shorter : IsShorter before now
   pub wrong : Wrong now

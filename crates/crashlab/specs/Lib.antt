@@ -23,4 +23,4 @@ pub mod Numbered
 pub mod FoundBy
 pub mod SearchStateWords
 pub mod Reduced
-pub mod Starving
+pub mod Starvation

@@ -12,19 +12,19 @@ use Rattle.crashlab.specs.VariantStands.{VariantMachineState}
 use Rattle.crashlab.specs.VariantWorlds.{VariantState}
 
 -- a process of the lock as one of Right
-abbrev pub unchanged : MachineState → VariantMachineState
-unchanged s = record { variant = Right; machine_state = s; deviation = Straight; change = Nothing }
+abbrev pub right_process : MachineState → VariantMachineState
+right_process s = record { variant = Right; machine_state = s; deviation = Straight; change = Nothing }
 
 -- a world of the lock as one of Right
 abbrev pub as_variant : WorldState → VariantState
 as_variant w =
-    record { variant = Right; layout = w.layout; limit = w.limit; words = w.words; cells = w.cells; processes = map unchanged w.processes }
+    record { variant = Right; layout = w.layout; limit = w.limit; words = w.words; cells = w.cells; processes = map right_process w.processes }
 
 -- some execution from a new world leads to this world, and these are its deeds
 pub record IsLockWorld (s : VariantState) (history : List Deed) : Type 0 where
   pub world : WorldState
   pub same : as_variant world ≡ s
   pub execution : List WorldEvent
-  pub told : Execution world.layout world.limit at_first execution
+  pub reports : Execution world.layout world.limit at_first execution
   pub last : last_global_state world.layout world.limit at_first execution ≡ global_state_of world
   pub done : deeds world.layout world.limit at_first execution ≡ history

@@ -11,9 +11,9 @@ stage_of (Begins next_call ∷ seen) = Calling next_call
 stage_of seen = if is_inside seen then Inside else Outside
 
 -- what is known of the process
-abbrev pub observed : List Sight → Observation
-observed seen = record { stage = stage_of seen; mended = is_mended seen; appended = is_appended seen; next = next_number seen }
+abbrev pub observation_of : List Sight → Observation
+observation_of seen = record { stage = stage_of seen; mended = is_mended seen; appended = is_appended seen; next = next_number seen }
 
 -- the same of each of the three processes
 abbrev pub Observes : (ℕ → List Sight) → List Observation → Type 0
-Observes seen observations = (p : ℕ) → p < 3 → slice_get observations p ≡ Some (observed (seen p))
+Observes seen observations = (p : ℕ) → p < 3 → slice_get observations p ≡ Some (observation_of (seen p))

@@ -3,7 +3,7 @@ use Rattle.std.specs.Prelude.{◌≡◌, ℕ, Option, Some, None, Result, Ok, Er
 use Rattle.rmecore.specs.declared.fault.Fault.{Fault}
 use Rattle.rmecore.specs.declared.refusal.Refusal.{Refusal}
 use Rattle.rmecore.specs.Refused.{number_of}
-use Rattle.judge.specs.Table.{empty}
+use Rattle.judge.specs.Table.{empty_state}
 use Rattle.rmeworld.specs.WorldState.{new_refusal}
 use Rattle.schedule.specs.declared.replays.verdict.Verdict.{Verdict}
 use Rattle.schedule.specs.declared.replays.verdict.Verdict.TheVariants.{Fine, Against}
@@ -34,7 +34,7 @@ refusal_of variant schedule = at_header (new_refusal (layout_of schedule) schedu
 
 -- the verdict on the run of a schedule on the variant
 abbrev pub verdict_of : Variant → Scheduled → Verdict
-verdict_of variant schedule = verdict_on (empty schedule.procs schedule.cap) (deeds_of (variant_run variant schedule).told)
+verdict_of variant schedule = verdict_on (empty_state schedule.procs schedule.cap) (deeds_of (variant_run variant schedule).reports)
 
 -- the variant's world refuses nothing of the schedule, and the verdict on its run is against this number
 pub record GoesWrong (variant : Variant) (number : ℕ) (schedule : Scheduled) : Type 0 where
@@ -58,6 +58,6 @@ IsReason variant schedule OutOfMemory = Unit {0}
 IsReason variant schedule fault = ⊥
 
 -- what playing it answers
-abbrev pub Answers : Variant → Scheduled → Result Verdict ReplayFault → Type 0
-Answers variant schedule (Ok verdict) = (refusal_of variant schedule ≡ None) × (verdict ≡ verdict_of variant schedule)
-Answers variant schedule (Err fault) = IsReason variant schedule fault
+abbrev pub PlayAnswers : Variant → Scheduled → Result Verdict ReplayFault → Type 0
+PlayAnswers variant schedule (Ok verdict) = (refusal_of variant schedule ≡ None) × (verdict ≡ verdict_of variant schedule)
+PlayAnswers variant schedule (Err fault) = IsReason variant schedule fault

@@ -16,7 +16,7 @@ use Rattle.rmeworld.specs.declared.call.Call.TheVariants.{Consistent}
 use Rattle.rmeworld.specs.declared.purpose.Purpose.TheVariants.{Mending}
 use Rattle.rmeworld.specs.Answered.{by_lock, by_script}
 use Rattle.rmeworld.specs.MachineState.{access_by}
-use Rattle.rmeworld.specs.ProcessState.{ScriptState, Free, Doing, ProcessState, dead, WorldEvent, Begins, Falls, Moves, Glances, at_lock, moved_by, inside_only, begun_from}
+use Rattle.rmeworld.specs.ProcessState.{ScriptState, Free, Doing, ProcessState, dead_process, WorldEvent, Begins, Falls, Moves, Glances, at_lock, moved_by, inside_only, begun_from}
 use Rattle.crashlab.specs.declared.deviation.Deviation.{Deviation}
 use Rattle.crashlab.specs.declared.deviation.Deviation.TheVariants.{Straight}
 use Rattle.crashlab.specs.declared.variant.Variant.{Variant}
@@ -60,7 +60,7 @@ variant_begun variant l p s b script_state call = begun_from l p s b script_stat
 -- the process state after an event of the process, if the event is allowed
 abbrev pub variant_process_state : Variant → Layout → ℕ → VariantProcessState → WorldEvent → Option VariantProcessState
 variant_process_state variant l limit s (Begins p call) = beside s.deviation (variant_begun variant l p s.process_state.lock s.process_state.mended s.process_state.script_state call)
-variant_process_state variant l limit s (Falls p) = beside Straight (Some dead)
+variant_process_state variant l limit s (Falls p) = beside Straight (Some dead_process)
 variant_process_state variant l limit s (Moves p kind word v) = variant_moved variant l limit p s.process_state.lock s.process_state.mended s.process_state.barred s.process_state.script_state s.deviation kind word v
 variant_process_state variant l limit s (Glances p word v) = Some s
 

@@ -2,7 +2,7 @@
 use Rattle.std.specs.Prelude.{ℕ, ◌+◌, ◌==◌, if◌then◌else◌}
 use Rattle.redomail.specs.declared.layout.Layout.{Layout}
 use Rattle.redomail.specs.declared.reply.Reply.{Reply}
-use Rattle.redomail.specs.Layout.{held, last_at}
+use Rattle.redomail.specs.Layout.{saturate, last_at}
 use Rattle.redomail.specs.Script.{Script, Get, Put, Done}
 use Rattle.redomail.specs.Tasks.{consistent}
 use Rattle.crashlab.specs.declared.variant.Variant.{Variant}
@@ -15,13 +15,13 @@ leaving_out i (Put a v rest) = if a == i then rest else Put a v (leaving_out i r
 leaving_out i (Done reply) = Done reply
 
 -- one more than the count that was read, or the same at the capacity
-abbrev pub raised : ℕ → ℕ → ℕ
-raised cap count = if count == cap then count else held (count + 1)
+abbrev pub raised_count : ℕ → ℕ → ℕ
+raised_count cap count = if count == cap then count else saturate (count + 1)
 
 -- the script that, in place of its first put of count, gets count and raises it
 abbrev pub counting_up : ℕ → Script Reply → Script Reply
 counting_up cap (Get a next) = Get a (λ x. counting_up cap (next x))
-counting_up cap (Put a v rest) = if a == 2 then Get 2 (λ count. Put 2 (raised cap count) rest) else Put a v (counting_up cap rest)
+counting_up cap (Put a v rest) = if a == 2 then Get 2 (λ count. Put 2 (raised_count cap count) rest) else Put a v (counting_up cap rest)
 counting_up cap (Done reply) = Done reply
 
 -- what the variant makes of the repair's script

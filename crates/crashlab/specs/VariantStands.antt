@@ -21,7 +21,7 @@ use Rattle.rmeworld.specs.declared.script_state.ScriptState.TheVariants.{Free as
 use Rattle.rmeworld.specs.declared.outcome.Outcome.{Outcome}
 use Rattle.rmeworld.specs.declared.purpose.Purpose.TheVariants.{Mending}
 use Rattle.rmeworld.specs.ProcessState.{ScriptState, Doing}
-use Rattle.rmeworld.specs.MachineState.{MachineState, resting, crashed, next_access, outcome, stepped, started}
+use Rattle.rmeworld.specs.MachineState.{MachineState, resting, machine_after_crash, next_access, outcome, machine_after_step, machine_after_start}
 use Rattle.rmeworld.specs.ScriptStates.{script_state_of}
 use Rattle.crashlab.specs.declared.change.Change.{Change}
 use Rattle.crashlab.specs.declared.change.Change.TheVariants.{Nothing, LeavesOut, Counts, Counted}
@@ -30,7 +30,7 @@ use Rattle.crashlab.specs.declared.deviation.Deviation.TheVariants.{Straight, Dr
 use Rattle.crashlab.specs.declared.variant.Variant.{Variant}
 use Rattle.crashlab.specs.declared.variant.Variant.TheVariants.{Right, NoLook, NoTies, Renumber, ExitOnCrash, CountUp, LastSkipped}
 use Rattle.crashlab.specs.Variants.{lock_or_recover}
-use Rattle.crashlab.specs.VariantScripts.{leaving_out, raised, counting_up}
+use Rattle.crashlab.specs.VariantScripts.{leaving_out, raised_count, counting_up}
 use Rattle.crashlab.specs.VariantProcessStates.{VariantProcessState}
 
 -- the machine state of one process of a variant
@@ -42,7 +42,7 @@ pub record VariantMachineState : Type 0 where
   pub change : Change
 
 -- a process of Right, with nothing changed
-pub record IsPlain (s : VariantMachineState) : Type 0 where
+pub record IsRightProcess (s : VariantMachineState) : Type 0 where
   pub variant : s.variant ≡ Right
   pub deviation : s.deviation ≡ Straight
   pub change : s.change ≡ Nothing
@@ -53,7 +53,7 @@ variant_resting variant l limit p = record { variant = variant; machine_state = 
 
 -- a process after a crash
 abbrev pub variant_crashed : VariantMachineState → VariantMachineState
-variant_crashed s = record { variant = s.variant; machine_state = crashed s.machine_state; deviation = Straight; change = Nothing }
+variant_crashed s = record { variant = s.variant; machine_state = machine_after_crash s.machine_state; deviation = Straight; change = Nothing }
 
 -- the process state, as the variant's definition has it
 
@@ -87,9 +87,9 @@ changed_access (Counted count) (Some (Store Puts (DataAt i) v)) = if i == 2 then
 changed_access _ a = a
 
 -- no look: a weigh, where the lock would look
-abbrev pub weighed : Option Access → Option Access
-weighed (Some (Load Looks (ChoosingOf j))) = Some (Load Weighs (NumberOf j))
-weighed a = a
+abbrev pub weigh_for_look : Option Access → Option Access
+weigh_for_look (Some (Load Looks (ChoosingOf j))) = Some (Load Weighs (NumberOf j))
+weigh_for_look a = a
 
 -- exit on crash: a drop, outside any script
 abbrev pub dropping_access : MachineState → Chore → Option Access
@@ -98,7 +98,7 @@ dropping_access s _ = next_access s
 
 -- the next step of a process of this variant
 abbrev pub access_beside : Variant → Deviation → Change → MachineState → Option Access
-access_beside NoLook d change s = weighed (next_access s)
+access_beside NoLook d change s = weigh_for_look (next_access s)
 access_beside ExitOnCrash Dropping change s = dropping_access s s.script_state
 access_beside CountUp d change s = changed_access change (next_access s)
 access_beside _ d change s = next_access s
@@ -142,18 +142,18 @@ abbrev pub outside_at : MachineState → Place → MachineState
 outside_at s t = record s { lock = t; mended = true; barred = false; script_state = IsFree }
 
 -- a process that goes where a changed row leads
-abbrev pub led : VariantMachineState → Place → Deviation → VariantMachineState
-led s t Straight = record s { machine_state = record s.machine_state { lock = t } }
-led s t d = record s { machine_state = outside_at s.machine_state t; deviation = d }
+abbrev pub process_led_to : VariantMachineState → Place → Deviation → VariantMachineState
+process_led_to s t Straight = record s { machine_state = record s.machine_state { lock = t } }
+process_led_to s t d = record s { machine_state = outside_at s.machine_state t; deviation = d }
 
 -- a process after a step by a changed row, or else by the lock's
 abbrev pub by_row : VariantMachineState → Option (Place × Deviation) → ℕ → VariantMachineState
-by_row s None v = record s { machine_state = stepped s.machine_state v }
-by_row s (Some to) v = led s to.0 to.1
+by_row s None v = record s { machine_state = machine_after_step s.machine_state v }
+by_row s (Some to) v = process_led_to s to.0 to.1
 
 -- a step of the lock with a variant state, which stays outside
 abbrev pub beside_way : VariantMachineState → Deviation → ℕ → VariantMachineState
-beside_way s d v = record s { machine_state = outside_at (stepped s.machine_state v) (stepped s.machine_state v).lock; deviation = d }
+beside_way s d v = record s { machine_state = outside_at (machine_after_step s.machine_state v) (machine_after_step s.machine_state v).lock; deviation = d }
 
 -- renumber: a scan that finds no number left waits with the number that it keeps. A take ends the variant state
 abbrev pub over_by : VariantMachineState → ℕ → Kind → ℕ → VariantMachineState
@@ -175,7 +175,7 @@ lock_beside Dropping s v = record s { machine_state = outside_at s.machine_state
 -- a step of a script is the world's
 abbrev pub part_beside : Chore → Deviation → VariantMachineState → ℕ → VariantMachineState
 part_beside IsFree d s v = lock_beside d s v
-part_beside _ d s v = record s { machine_state = stepped s.machine_state v }
+part_beside _ d s v = record s { machine_state = machine_after_step s.machine_state v }
 
 -- a repair that is changed, until the change is made or the call is answered
 abbrev pub is_put : ℕ → Option Access → Bool
@@ -189,12 +189,12 @@ unless_answered (Some answer) change = Nothing
 
 -- the lock's step, which keeps the change until the answer
 abbrev pub going_on : VariantMachineState → Change → ℕ → VariantMachineState
-going_on s change v = record s { machine_state = stepped s.machine_state v; change = unless_answered (outcome s.machine_state (next_access s.machine_state) v).answer change }
+going_on s change v = record s { machine_state = machine_after_step s.machine_state v; change = unless_answered (outcome s.machine_state (next_access s.machine_state) v).answer change }
 
 -- count up: the get of count, or the lock's step
 abbrev pub counted_up : VariantMachineState → Change → ℕ → VariantMachineState
 counted_up s Counts v =
-    if is_put 2 (next_access s.machine_state) then record s { change = Counted (raised s.machine_state.layout.cap v) } else going_on s Counts v
+    if is_put 2 (next_access s.machine_state) then record s { change = Counted (raised_count s.machine_state.layout.cap v) } else going_on s Counts v
 counted_up s _ v = going_on s Nothing v
 
 -- the put of the sender's last number is the next step
@@ -204,12 +204,12 @@ last_put_next s = is_put (last_at s.layout s.index) (next_access s)
 -- last skipped: a step that also passes over that put, or the lock's step
 abbrev pub left_out : VariantMachineState → Change → ℕ → VariantMachineState
 left_out s LeavesOut v =
-    if last_put_next (stepped s.machine_state v) then record s { machine_state = stepped (stepped s.machine_state v) 0; change = Nothing } else going_on s LeavesOut v
+    if last_put_next (machine_after_step s.machine_state v) then record s { machine_state = machine_after_step (machine_after_step s.machine_state v) 0; change = Nothing } else going_on s LeavesOut v
 left_out s change v = going_on s Nothing v
 
 -- after the next step, with the value that it read
 abbrev pub stepped_beside : Variant → Deviation → VariantMachineState → ℕ → VariantMachineState
-stepped_beside Right d s v = record s { machine_state = stepped s.machine_state v }
+stepped_beside Right d s v = record s { machine_state = machine_after_step s.machine_state v }
 stepped_beside CountUp d s v = counted_up s s.change v
 stepped_beside LastSkipped d s v = left_out s s.change v
 stepped_beside _ d s v = part_beside s.machine_state.script_state d s v
@@ -233,13 +233,13 @@ counting_outcome s _ v = plain_outcome s.machine_state v
 
 -- last skipped: the outcome of a step that passes over the put is that of the put
 abbrev pub leaving_outcome : VariantMachineState → Change → ℕ → Outcome
-leaving_outcome s LeavesOut v = if last_put_next (stepped s.machine_state v) then plain_outcome (stepped s.machine_state v) 0 else plain_outcome s.machine_state v
+leaving_outcome s LeavesOut v = if last_put_next (machine_after_step s.machine_state v) then plain_outcome (machine_after_step s.machine_state v) 0 else plain_outcome s.machine_state v
 leaving_outcome s _ v = plain_outcome s.machine_state v
 
 -- a step by a changed row is silent, and so is one with a variant state
 abbrev pub unless_changed : Option (Place × Deviation) → Outcome → Outcome
-unless_changed None told = told
-unless_changed (Some to) told = silent_outcome
+unless_changed None reports = reports
+unless_changed (Some to) reports = silent_outcome
 
 -- the outcome of a step of the lock's part
 abbrev pub lock_outcome : Deviation → VariantMachineState → ℕ → Outcome
@@ -275,4 +275,4 @@ change_of variant _ = Nothing
 
 -- the process after a start
 abbrev pub variant_started : VariantMachineState → Call → VariantMachineState
-variant_started s call = record s { machine_state = started s.machine_state call; change = change_of s.variant call }
+variant_started s call = record s { machine_state = machine_after_start s.machine_state call; change = change_of s.variant call }

@@ -1,7 +1,7 @@
 -- A world of a variant as a machine: why its calls are refused, what they answer, and what they leave
 -- (Variants of docs/dev/surface.md). The memory is the world's.
 use Rattle.std.specs.Prelude.{◌≡◌, ℕ, zero, suc, ◌+◌, ◌<◌, nat_lt, if◌then◌else◌, List, [], ◌∷◌, length, replicate, slice_index_or, slice_set, Option, Some, None}
-use Rattle.rmecore.specs.Machine.{kind_of, word_of, carried}
+use Rattle.rmecore.specs.Machine.{kind_of, word_of, carried_value}
 use Rattle.rmecore.specs.Simulated.{zeros, own_at}
 use Rattle.rmecore.specs.declared.access.Access.{Access}
 use Rattle.rmecore.specs.declared.outer.Outer.TheVariants.{Crash}
@@ -35,24 +35,24 @@ pub record VariantState : Type 0 where
   pub processes : List VariantMachineState
 
 -- the process at an index that has none
-abbrev pub absent : VariantMachineState
-absent = variant_resting Right (record { procs = 0; cap = 0; width = 0 }) 0 0
+abbrev pub absent_variant_process : VariantMachineState
+absent_variant_process = variant_resting Right (record { procs = 0; cap = 0; width = 0 }) 0 0
 
 -- process p of a world
 abbrev pub machine_state_at : List VariantMachineState → ℕ → VariantMachineState
-machine_state_at processes p = slice_index_or processes p absent
+machine_state_at processes p = slice_index_or processes p absent_variant_process
 
 -- process p of a world of this variant and size
-abbrev pub HasConfiguration : Variant → Layout → ℕ → ℕ → VariantMachineState → Type 0
-HasConfiguration variant l limit p s = (s.variant ≡ variant) × (s.machine_state.layout ≡ l) × (s.machine_state.limit ≡ limit) × (s.machine_state.index ≡ p)
+abbrev pub HasVariantConfiguration : Variant → Layout → ℕ → ℕ → VariantMachineState → Type 0
+HasVariantConfiguration variant l limit p s = (s.variant ≡ variant) × (s.machine_state.layout ≡ l) × (s.machine_state.limit ≡ limit) × (s.machine_state.index ≡ p)
 
 -- the lists are as long as the sizes say, and each process has its index
-pub record IsConfigured (s : VariantState) : Type 0 where
+pub record IsVariantConfigured (s : VariantState) : Type 0 where
   pub sized : IsSize s.layout
   pub words_each : length s.words ≡ s.layout.procs
   pub cells_each : length s.cells ≡ size s.layout
   pub processes_each : length s.processes ≡ s.layout.procs
-  pub configurations : (p : ℕ) → p < s.layout.procs → HasConfiguration s.variant s.layout s.limit p (machine_state_at s.processes p)
+  pub configurations : (p : ℕ) → p < s.layout.procs → HasVariantConfiguration s.variant s.layout s.limit p (machine_state_at s.processes p)
 
 -- this many processes at rest, from p on
 abbrev pub at_rest_from : Variant → Layout → ℕ → ℕ → ℕ → List VariantMachineState
@@ -77,8 +77,8 @@ start_refusal s p call =
     if nat_lt p s.layout.procs then process_state_refusal s.layout (process_state_of (machine_state_at s.processes p).machine_state) call else Some NoSuchProcess
 
 -- the world after a start
-abbrev pub started : VariantState → ℕ → Call → VariantState
-started s p call = record s { processes = slice_set s.processes p (variant_started (machine_state_at s.processes p) call) }
+abbrev pub variant_after_start : VariantState → ℕ → Call → VariantState
+variant_after_start s p call = record s { processes = slice_set s.processes p (variant_started (machine_state_at s.processes p) call) }
 
 -- the next step of p
 abbrev pub access_at : VariantState → ℕ → Option Access
@@ -109,7 +109,7 @@ deeds_of s p a = or_else (outcome_of s p a).progress.outer (mail_by s.layout p (
 abbrev pub stepped_by : VariantState → ℕ → Access → Stepped
 stepped_by s p a =
     record {
-      happened = record { kind = kind_of a; word = word_of a; value = carried a (found_by s a); outer = (outcome_of s p a).progress.outer; done = (outcome_of s p a).progress.done };
+      happened = record { kind = kind_of a; word = word_of a; value = carried_value a (found_by s a); outer = (outcome_of s p a).progress.outer; done = (outcome_of s p a).progress.done };
       deed = the_deed (deeds_of s p a);
       answer = (outcome_of s p a).answer;
     }
@@ -134,12 +134,12 @@ advanced_if s p None = s
 advanced_if s p (Some a) = advanced_by s p a
 
 -- what the next step of p answers
-abbrev pub stepped : VariantState → ℕ → Stepped
-stepped s p = stepped_if s p (access_at s p)
+abbrev pub variant_step_report : VariantState → ℕ → Stepped
+variant_step_report s p = stepped_if s p (access_at s p)
 
 -- the world after the next step of p
-abbrev pub advanced : VariantState → ℕ → VariantState
-advanced s p = advanced_if s p (access_at s p)
+abbrev pub variant_after_step : VariantState → ℕ → VariantState
+variant_after_step s p = advanced_if s p (access_at s p)
 
 -- why a crash is refused
 abbrev pub crash_refusal : VariantState → ℕ → Option Refusal
@@ -150,8 +150,8 @@ abbrev pub crash_deed : ℕ → Deed
 crash_deed p = Outer (Crash p)
 
 -- the world after a crash
-abbrev pub crashed : VariantState → ℕ → VariantState
-crashed s p = record s { processes = slice_set s.processes p (variant_crashed (machine_state_at s.processes p)) }
+abbrev pub variant_after_crash : VariantState → ℕ → VariantState
+variant_after_crash s p = record s { processes = slice_set s.processes p (variant_crashed (machine_state_at s.processes p)) }
 
 -- the words of the world, with the sizes
 abbrev pub image_of : VariantState → Image
@@ -162,12 +162,12 @@ abbrev pub variant_behaviour : Behaviour VariantState
 variant_behaviour =
     record {
       start_refusal = start_refusal;
-      started = started;
+      started = variant_after_start;
       advance_refusal = advance_refusal;
-      stepped = stepped;
-      advanced = advanced;
+      stepped = variant_step_report;
+      advanced = variant_after_step;
       crash_refusal = crash_refusal;
       crash_deed = λ s p. crash_deed p;
-      crashed = crashed;
+      crashed = variant_after_crash;
       image_of = image_of;
     }

@@ -4,7 +4,7 @@ ghost use Rattle.std.specs.Prelude.{◌≡◌, ◌∷◌, ◌++◌, [], IfOk, On
 ghost use Rattle.crashlab.specs.Found.{drawn_moves_of};
 
 use crate::hunt_fault::HuntFault;
-use crate::hunting::{CAP, LIMIT, PROCS, WIDTH};
+use crate::hunts::{CAP, LIMIT, PROCS, WIDTH};
 use crate::moves::DrawnMove;
 use schedule::Schedule;
 use std::alloc::Global;

@@ -1,15 +1,15 @@
 //! Laws of worlds of the variants. Each is the contract of a function that does nothing.
 
 ghost use Rattle.std.specs.Prelude.{◌≡◌, ◌<◌, ℕ, Some, None};
-ghost use Rattle.rmecore.specs.Machine.{kind_of, carried};
+ghost use Rattle.rmecore.specs.Machine.{kind_of, carried_value};
 ghost use Rattle.rmecore.specs.declared.access.Access.{Access};
 ghost use Rattle.redomail.specs.declared.layout.Layout.{Layout};
 ghost use Rattle.rmeworld.specs.declared.call.Call.{Call};
-ghost use Rattle.rmeworld.specs.ProcessState.{ProcessState, WorldEvent, Begins, Falls, at_rest, next_process_state, outer};
+ghost use Rattle.rmeworld.specs.ProcessState.{ProcessState, WorldEvent, Begins, Falls, at_rest, next_process_state, lock_deed};
 ghost use Rattle.crashlab.specs.declared.deviation.Deviation.TheVariants.{Straight};
 ghost use Rattle.crashlab.specs.VariantProcessStates.{beside, variant_process_state, variant_outer, variant_answer_at, variant_done_at, variant_access_at};
-ghost use Rattle.crashlab.specs.VariantWorlds.{VariantState, new_world, start_refusal, started, access_at, found_by, stepped, advanced, crashed};
-ghost use Rattle.crashlab.specs.VariantRuns.{IsRun, process_state_at, move};
+ghost use Rattle.crashlab.specs.VariantWorlds.{VariantState, new_world, start_refusal, variant_after_start, access_at, found_by, variant_step_report, variant_after_step, variant_after_crash};
+ghost use Rattle.crashlab.specs.VariantRuns.{IsVariantRun, process_state_at, move};
 
 use crate::variant::Variant;
 
@@ -20,24 +20,25 @@ use crate::variant::Variant;
 pub fn variants_keep_to_their_rows()
     ensures rest { (variant : Variant) (l : Layout) (limit p : ℕ) → p < l.procs
         → process_state_at (new_world variant l limit) p ≡ record { process_state = at_rest; deviation = Straight } }
-    ensures starts { (s : VariantState) (p : ℕ) (call : Call) → IsRun s → start_refusal s p call ≡ None
+    ensures starts { (s : VariantState) (p : ℕ) (call : Call) → IsVariantRun s → start_refusal s p call ≡ None
         → variant_process_state s.variant s.layout s.limit (process_state_at s p) (Begins p call)
-        ≡ Some (process_state_at (started s p call) p) }
-    ensures next { (s : VariantState) (p : ℕ) → IsRun s → p < s.layout.procs
+        ≡ Some (process_state_at (variant_after_start s p call) p) }
+    ensures next { (s : VariantState) (p : ℕ) → IsVariantRun s → p < s.layout.procs
         → access_at s p ≡ variant_access_at s.variant s.limit p (process_state_at s p) }
-    ensures steps { (s : VariantState) (p : ℕ) (a : Access) → IsRun s → p < s.layout.procs → access_at s p ≡ Some a
+    ensures steps { (s : VariantState) (p : ℕ) (a : Access) → IsVariantRun s → p < s.layout.procs → access_at s p ≡ Some a
         → variant_process_state s.variant s.layout s.limit (process_state_at s p) (move s p a)
-        ≡ Some (process_state_at (advanced s p) p) }
-    ensures deeds { (s : VariantState) (p : ℕ) (a : Access) → IsRun s → p < s.layout.procs → access_at s p ≡ Some a
-        → (stepped s p).happened.outer ≡ variant_outer s.variant (process_state_at s p) (move s p a) }
-    ensures answers { (s : VariantState) (p : ℕ) (a : Access) → IsRun s → p < s.layout.procs → access_at s p ≡ Some a
-        → (stepped s p).answer ≡ variant_answer_at s.variant (process_state_at s p) (kind_of a) (carried a (found_by s a)) }
-    ensures done { (s : VariantState) (p : ℕ) (a : Access) → IsRun s → p < s.layout.procs → access_at s p ≡ Some a
-        → (stepped s p).happened.done ≡ variant_done_at s.variant (process_state_at s p) (kind_of a)
-        (carried a (found_by s a)) }
-    ensures falls { (s : VariantState) (p : ℕ) → IsRun s → p < s.layout.procs
+        ≡ Some (process_state_at (variant_after_step s p) p) }
+    ensures deeds { (s : VariantState) (p : ℕ) (a : Access) → IsVariantRun s → p < s.layout.procs → access_at s p ≡ Some a
+        → (variant_step_report s p).happened.outer ≡ variant_outer s.variant (process_state_at s p) (move s p a) }
+    ensures answers { (s : VariantState) (p : ℕ) (a : Access) → IsVariantRun s → p < s.layout.procs → access_at s p ≡ Some a
+        → (variant_step_report s p).answer
+        ≡ variant_answer_at s.variant (process_state_at s p) (kind_of a) (carried_value a (found_by s a)) }
+    ensures done { (s : VariantState) (p : ℕ) (a : Access) → IsVariantRun s → p < s.layout.procs → access_at s p ≡ Some a
+        → (variant_step_report s p).happened.done ≡ variant_done_at s.variant (process_state_at s p) (kind_of a)
+        (carried_value a (found_by s a)) }
+    ensures falls { (s : VariantState) (p : ℕ) → IsVariantRun s → p < s.layout.procs
         → variant_process_state s.variant s.layout s.limit (process_state_at s p) (Falls p)
-        ≡ Some (process_state_at (crashed s p) p) }
+        ≡ Some (process_state_at (variant_after_crash s p) p) }
 {}
 
 /// The variant that is the lock changes no row: its process states and its deeds are the lock's.
@@ -47,5 +48,5 @@ pub fn right_changes_nothing()
         ≡ beside Straight (next_process_state l limit process_state h) }
     ensures deeds { (process_state : ProcessState) (h : WorldEvent)
         → variant_outer Variant.Right (record { process_state = process_state; deviation = Straight }) h
-        ≡ outer process_state h }
+        ≡ lock_deed process_state h }
 {}

@@ -2,10 +2,10 @@
 
 ghost use Rattle.std.specs.Prelude.{◌≡◌, ◌/◌, ◌%◌, ◌↔◌, ◌∷◌, [], ℕ, IsTrue, List, true, false};
 ghost use Rattle.crashlab.specs.Found.{mover, is_crash};
-ghost use Rattle.crashlab.specs.Draws.{Sight, Begins, Ends, Falls, answered as answered_of, answered_if, at_process, call_after, drawn, is_inside, onward as onward_of};
-ghost use Rattle.crashlab.specs.Observed.{Observes, observed};
+ghost use Rattle.crashlab.specs.Draws.{Sight, Begins, Ends, Falls, seen_after_answer as answered_of, answered_if, at_process, call_after, move_of_word, is_inside, move_onward as onward_of};
+ghost use Rattle.crashlab.specs.Observed.{Observes, observation_of};
 
-use crate::hunting::PROCS;
+use crate::hunts::PROCS;
 use crate::moves::{DrawnMove, NextCall};
 use redomail::Reply;
 use rmeworld::Answer;
@@ -43,7 +43,7 @@ const UNSEEN: Observation = Observation {
 impl Observation {
     /// The call that the process starts next, while it is inside.
     fn call_inside(&self) -> NextCall
-        ensures { (seen : List Sight) → self.now ≡ observed seen → is_inside seen ≡ true → result ≡ call_after seen }
+        ensures { (seen : List Sight) → self.now ≡ observation_of seen → is_inside seen ≡ true → result ≡ call_after seen }
     {
         if !self.mended {
             NextCall::Consistent
@@ -55,10 +55,10 @@ impl Observation {
     }
 
     /// The move of process p, unless it is a crash: a step, or the start of its next call.
-    fn onward(&self, p: u64) -> DrawnMove
+    fn move_onward(&self, p: u64) -> DrawnMove
         ensures process { mover result ≡ p }
         ensures crash { is_crash result ≡ false }
-        ensures onward { (seen : List Sight) → self.now ≡ observed seen → result ≡ onward_of p seen }
+        ensures onward { (seen : List Sight) → self.now ≡ observation_of seen → result ≡ onward_of p seen }
     {
         match self.stage {
             ObservedStage::Calling(_) => DrawnMove::Step(p),
@@ -68,32 +68,32 @@ impl Observation {
     }
 
     /// Notes a crash.
-    fn crashed(&mut self)
-        ensures { (seen : List Sight) → self.old ≡ observed seen → self.new ≡ observed (Falls ∷ seen) }
+    fn note_crash(&mut self)
+        ensures { (seen : List Sight) → self.old ≡ observation_of seen → self.new ≡ observation_of (Falls ∷ seen) }
     {
         self.stage = ObservedStage::Outside;
     }
 
     /// Notes that a call was started.
-    fn started(&mut self, next_call: NextCall)
-        ensures { (seen : List Sight) → self.old ≡ observed seen → self.new ≡ observed (Begins next_call ∷ seen) }
+    fn note_start(&mut self, next_call: NextCall)
+        ensures { (seen : List Sight) → self.old ≡ observation_of seen → self.new ≡ observation_of (Begins next_call ∷ seen) }
     {
         self.stage = ObservedStage::Calling(next_call);
     }
 
     /// Notes an answer, where a call is under way.
-    fn stepped(&mut self, answer: Answer)
-        ensures { (seen : List Sight) → self.old ≡ observed seen → self.new ≡ observed (answered_of answer seen) }
+    fn note_step(&mut self, answer: Answer)
+        ensures { (seen : List Sight) → self.old ≡ observation_of seen → self.new ≡ observation_of (answered_of answer seen) }
     {
         if let ObservedStage::Calling(next_call) = self.stage {
-            self.answered(next_call, answer);
+            self.note_answer(next_call, answer);
         }
     }
 
     /// Notes the answer of the call under way.
-    fn answered(&mut self, next_call: NextCall, answer: Answer)
-        ensures { (seen : List Sight) → self.old ≡ observed (Begins next_call ∷ seen)
-            → self.new ≡ observed (Ends next_call answer ∷ seen) }
+    fn note_answer(&mut self, next_call: NextCall, answer: Answer)
+        ensures { (seen : List Sight) → self.old ≡ observation_of (Begins next_call ∷ seen)
+            → self.new ≡ observation_of (Ends next_call answer ∷ seen) }
     {
         self.stage = ObservedStage::Inside;
         match (next_call, answer) {
@@ -146,7 +146,7 @@ impl Observer {
     pub fn draw(&self, word: u32) -> DrawnMove
         ensures process { mover result ≡ word % 3 }
         ensures crash { IsTrue (is_crash result) ↔ (word / 64 % 16 ≡ 0) }
-        ensures drawn { (seen : ℕ → List Sight) → Observes seen self.now → result ≡ drawn seen word }
+        ensures drawn { (seen : ℕ → List Sight) → Observes seen self.now → result ≡ move_of_word seen word }
     {
         let p = word % 3;
         let observation = &self.observer[p as usize];
@@ -154,43 +154,43 @@ impl Observer {
         if word / 64 % 16 == 0 {
             return DrawnMove::Crash(p);
         }
-        observation.onward(p)
+        observation.move_onward(p)
     }
 
     /// Notes that a process crashed.
-    pub fn crashed(&mut self, p: u64)
+    pub fn note_crash(&mut self, p: u64)
         ensures { (seen : ℕ → List Sight) → Observes seen self.old → Observes (at_process p (λ s. Falls ∷ s) seen) self.new }
     {
         if p < PROCS {
-            self.observer[p as usize].crashed();
+            self.observer[p as usize].note_crash();
         }
     }
 
     /// Notes that a process started a call.
-    pub fn started(&mut self, p: u64, next_call: NextCall)
+    pub fn note_start(&mut self, p: u64, next_call: NextCall)
         ensures { (seen : ℕ → List Sight) → Observes seen self.old
             → Observes (at_process p (λ s. Begins next_call ∷ s) seen) self.new }
     {
         if p < PROCS {
-            self.observer[p as usize].started(next_call);
+            self.observer[p as usize].note_start(next_call);
         }
     }
 
     /// Notes that a process took a step, and the answer where the step ended its call.
-    pub fn stepped(&mut self, p: u64, answer: Option<Answer>)
+    pub fn note_step(&mut self, p: u64, answer: Option<Answer>)
         ensures { (seen : ℕ → List Sight) → Observes seen self.old → Observes (at_process p (answered_if answer) seen) self.new }
     {
         if let Some(answer) = answer {
-            self.answered(p, answer);
+            self.note_answer(p, answer);
         }
     }
 
     /// Notes the answer of the call that a process has under way.
-    fn answered(&mut self, p: u64, answer: Answer)
+    fn note_answer(&mut self, p: u64, answer: Answer)
         ensures { (seen : ℕ → List Sight) → Observes seen self.old → Observes (at_process p (answered_of answer) seen) self.new }
     {
         if p < PROCS {
-            self.observer[p as usize].stepped(answer);
+            self.observer[p as usize].note_step(answer);
         }
     }
 }

@@ -5,14 +5,14 @@ ghost use Rattle.judge.specs.Kept.{Kept};
 ghost use Rattle.schedule.specs.Schedules.{Scheduled};
 ghost use Rattle.crashlab.specs.declared.variant.Variant.{Variant as VariantOf};
 ghost use Rattle.crashlab.specs.Hunts.{IsPlayed};
-ghost use Rattle.crashlab.specs.Found.{Ends, call_by, line_by, with_line};
-ghost use Rattle.crashlab.specs.Draws.{Sight, noted};
+ghost use Rattle.crashlab.specs.Found.{EndsMove, call_by, line_by, with_line};
+ghost use Rattle.crashlab.specs.Draws.{Sight, seen_after_move};
 ghost use Rattle.crashlab.specs.Hunted.{refusal_of};
 ghost use Rattle.crashlab.specs.Observed.{Observes};
 
+use crate::judge_feed::tell;
 use crate::moves::{DrawnMove, MoveOutcome, NextCall};
 use crate::observer::Observer;
-use crate::telling::tell;
 use crate::variant_world::VariantWorld;
 use judge::Judge;
 use rmeworld::Call;
@@ -29,11 +29,11 @@ pub fn make(
 ) -> Option<MoveOutcome>
     ensures ends { IfSome result (λ m. (variant : VariantOf) (schedule : Scheduled)
         → IsPlayed variant schedule world.old judge.old
-        → Ends variant (with_line schedule (line_by made)) world.new judge.new m) }
+        → EndsMove variant (with_line schedule (line_by made)) world.new judge.new m) }
     ensures accepted { IfSome result (λ m. refusal_of world.old made ≡ None) }
     ensures refused { result ≡ None → IsSome (refusal_of world.old made) }
     ensures observes { IfSome result (λ m. (seen : ℕ → List Sight) → Observes seen observer.old
-        → Observes (noted world.old made seen) observer.new) }
+        → Observes (seen_after_move world.old made seen) observer.new) }
     ensures same { result ≡ None → (world.new ≡ world.old) × (judge.new ≡ judge.old) × (observer.new ≡ observer.old) }
 {
     match made {
@@ -61,11 +61,11 @@ fn take_up(
 ) -> Option<MoveOutcome>
     ensures ends { IfSome result (λ m. (variant : VariantOf) (schedule : Scheduled) (judge : Kept)
         → IsPlayed variant schedule world.old judge
-        → Ends variant (with_line schedule (line_by (DrawnMove.Start p next_call))) world.new judge m) }
+        → EndsMove variant (with_line schedule (line_by (DrawnMove.Start p next_call))) world.new judge m) }
     ensures accepted { IfSome result (λ m. refusal_of world.old (DrawnMove.Start p next_call) ≡ None) }
     ensures refused { result ≡ None → IsSome (refusal_of world.old (DrawnMove.Start p next_call)) }
     ensures observes { IfSome result (λ m. (seen : ℕ → List Sight) → Observes seen observer.old
-        → Observes (noted world.old (DrawnMove.Start p next_call) seen) observer.new) }
+        → Observes (seen_after_move world.old (DrawnMove.Start p next_call) seen) observer.new) }
     ensures same { result ≡ None → (world.new ≡ world.old) × (observer.new ≡ observer.old) }
 {
     start(world, observer, p, next_call, next_call.call())
@@ -84,16 +84,16 @@ fn start(
     requires { call ≡ call_by next_call }
     ensures ends { IfSome result (λ m. (variant : VariantOf) (schedule : Scheduled) (judge : Kept)
         → IsPlayed variant schedule world.old judge
-        → Ends variant (with_line schedule (line_by (DrawnMove.Start p next_call))) world.new judge m) }
+        → EndsMove variant (with_line schedule (line_by (DrawnMove.Start p next_call))) world.new judge m) }
     ensures accepted { IfSome result (λ m. refusal_of world.old (DrawnMove.Start p next_call) ≡ None) }
     ensures refused { result ≡ None → IsSome (refusal_of world.old (DrawnMove.Start p next_call)) }
     ensures observes { IfSome result (λ m. (seen : ℕ → List Sight) → Observes seen observer.old
-        → Observes (noted world.old (DrawnMove.Start p next_call) seen) observer.new) }
+        → Observes (seen_after_move world.old (DrawnMove.Start p next_call) seen) observer.new) }
     ensures same { result ≡ None → (world.new ≡ world.old) × (observer.new ≡ observer.old) }
 {
     match world.take_start(p, call) {
         Ok(()) => {
-            observer.started(p, next_call);
+            observer.note_start(p, next_call);
             Some(MoveOutcome::On)
         }
         Err(_) => None,
@@ -111,11 +111,11 @@ fn walk(
 ) -> Option<MoveOutcome>
     ensures ends { IfSome result (λ m. (variant : VariantOf) (schedule : Scheduled)
         → IsPlayed variant schedule world.old judge.old
-        → Ends variant (with_line schedule (line_by (DrawnMove.Step p))) world.new judge.new m) }
+        → EndsMove variant (with_line schedule (line_by (DrawnMove.Step p))) world.new judge.new m) }
     ensures accepted { IfSome result (λ m. refusal_of world.old (DrawnMove.Step p) ≡ None) }
     ensures refused { result ≡ None → IsSome (refusal_of world.old (DrawnMove.Step p)) }
     ensures observes { IfSome result (λ m. (seen : ℕ → List Sight) → Observes seen observer.old
-        → Observes (noted world.old (DrawnMove.Step p) seen) observer.new) }
+        → Observes (seen_after_move world.old (DrawnMove.Step p) seen) observer.new) }
     ensures same { result ≡ None → (world.new ≡ world.old) × (judge.new ≡ judge.old) × (observer.new ≡ observer.old) }
 {
     if world.take_silent_step(p) {
@@ -133,21 +133,21 @@ fn step(
 ) -> Option<MoveOutcome>
     ensures ends { IfSome result (λ m. (variant : VariantOf) (schedule : Scheduled)
         → IsPlayed variant schedule world.old judge.old
-        → Ends variant (with_line schedule (line_by (DrawnMove.Step p))) world.new judge.new m) }
+        → EndsMove variant (with_line schedule (line_by (DrawnMove.Step p))) world.new judge.new m) }
     ensures accepted { IfSome result (λ m. refusal_of world.old (DrawnMove.Step p) ≡ None) }
     ensures refused { result ≡ None → IsSome (refusal_of world.old (DrawnMove.Step p)) }
     ensures observes { IfSome result (λ m. (seen : ℕ → List Sight) → Observes seen observer.old
-        → Observes (noted world.old (DrawnMove.Step p) seen) observer.new) }
+        → Observes (seen_after_move world.old (DrawnMove.Step p) seen) observer.new) }
     ensures same { result ≡ None → (world.new ≡ world.old) × (judge.new ≡ judge.old) × (observer.new ≡ observer.old) }
 {
     if let Some(access) = world.job_next(p) {
-        let told = world.job_on(judge, p, access);
-        observer.stepped(p, told.1);
-        return Some(told.0);
+        let reports = world.job_on(judge, p, access);
+        observer.note_step(p, reports.1);
+        return Some(reports.0);
     }
     match world.step_before(judge, p) {
         Ok((made, answer)) => {
-            observer.stepped(p, answer);
+            observer.note_step(p, answer);
             Some(made)
         }
         Err(_) => None,
@@ -163,17 +163,17 @@ fn crash(
 ) -> Option<MoveOutcome>
     ensures ends { IfSome result (λ m. (variant : VariantOf) (schedule : Scheduled)
         → IsPlayed variant schedule world.old judge.old
-        → Ends variant (with_line schedule (line_by (DrawnMove.Crash p))) world.new judge.new m) }
+        → EndsMove variant (with_line schedule (line_by (DrawnMove.Crash p))) world.new judge.new m) }
     ensures accepted { IfSome result (λ m. refusal_of world.old (DrawnMove.Crash p) ≡ None) }
     ensures refused { result ≡ None → IsSome (refusal_of world.old (DrawnMove.Crash p)) }
     ensures observes { IfSome result (λ m. (seen : ℕ → List Sight) → Observes seen observer.old
-        → Observes (noted world.old (DrawnMove.Crash p) seen) observer.new) }
+        → Observes (seen_after_move world.old (DrawnMove.Crash p) seen) observer.new) }
     ensures same { result ≡ None → (world.new ≡ world.old) × (judge.new ≡ judge.old) × (observer.new ≡ observer.old) }
 {
     match world.take_crash(p) {
         Ok(deed) => {
             let made = tell(judge, &deed);
-            observer.crashed(p);
+            observer.note_crash(p);
             Some(made)
         }
         Err(_) => None,

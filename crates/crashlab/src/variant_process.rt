@@ -2,7 +2,7 @@
 //! changes.
 
 ghost use Rattle.std.specs.Prelude.{◌≡◌, ◌<◌, ◌↔◌, false, IsTrue, OnOk, OnErr, IfErr, IsErrOf, IfSome, Some, None};
-ghost use Rattle.crashlab.specs.VariantScripts.{raised as raised_to};
+ghost use Rattle.crashlab.specs.VariantScripts.{raised_count as raised_to};
 ghost use Rattle.crashlab.specs.VariantStands.{change_of, is_put};
 
 mod lock_rows;
@@ -38,15 +38,15 @@ impl Model for VariantProcess {
 
 impl VariantProcess {
     ghost use Rattle.rmeworld.specs.ProcessState.{Begins, next_process_state};
-    ghost use Rattle.rmecore.specs.Machine.{word_of, place_of, at_scan, silent};
-    ghost use Rattle.rmeworld.specs.Advancing.{GoesOn};
+    ghost use Rattle.rmecore.specs.Machine.{word_of, place_of, at_scan, no_progress};
+    ghost use Rattle.rmeworld.specs.WorldSteps.{ScanGoesOn};
     ghost use Rattle.rmeworld.specs.InPlace.{IsWorking, Works};
     ghost use Rattle.rmeworld.specs.declared.script_state.ScriptState.TheVariants.{Free};
-    ghost use Rattle.rmeworld.specs.ScriptStates.{Held};
+    ghost use Rattle.rmeworld.specs.ScriptStates.{HoldsJob};
     ghost use Rattle.crashlab.specs.VariantSeams.{with_variant_memory};
     ghost use Rattle.rmeworld.specs.MachineState.{IsSize, InWords, IsAllowed, StoresOwn, standing, process_state_of, next_access, process_state_after};
     ghost use Rattle.rmeworld.specs.Refused.{start_refusal};
-    ghost use Rattle.crashlab.specs.VariantStands.{IsPlain, variant_resting, variant_crashed, variant_next_access, variant_stepped, variant_outcome, variant_started};
+    ghost use Rattle.crashlab.specs.VariantStands.{IsRightProcess, variant_resting, variant_crashed, variant_next_access, variant_stepped, variant_outcome, variant_started};
 
     /// A process at rest, in a world of these sizes.
     pub fn new(variant: Variant, layout: Layout, limit: u64, index: u64) -> VariantProcess
@@ -88,7 +88,7 @@ impl VariantProcess {
     pub fn seam_set(&mut self, memory: &VariantMemory) -> bool
         ensures set { IsTrue result → self.new ≡ with_variant_memory self.old memory.now }
         ensures same { result ≡ false → self.new ≡ self.old }
-        ensures held { IsTrue result ↔ Held memory.now.process.script_state
+        ensures held { IsTrue result ↔ HoldsJob memory.now.process.script_state
             (place_of self.old.machine_state.layout.procs self.old.machine_state.index memory.now.process.stage) }
     {
         if !self.process.seam_set(&memory.process) {
@@ -105,8 +105,8 @@ impl VariantProcess {
     pub fn next(&self) -> Option<Access>
         ensures next { result ≡ variant_next_access self.now }
         ensures within { IfSome result (λ a. InWords self.now.machine_state.layout.procs (word_of a)) }
-        ensures allowed { IsPlain self.now → IfSome result (IsAllowed self.now.machine_state) }
-        ensures own { IsPlain self.now → IfSome result (StoresOwn self.now.machine_state.index) }
+        ensures allowed { IsRightProcess self.now → IfSome result (IsAllowed self.now.machine_state) }
+        ensures own { IsRightProcess self.now → IfSome result (StoresOwn self.now.machine_state.index) }
     {
         match self.variant {
             Variant::NoLook | Variant::ExitOnCrash | Variant::CountUp => self.next_otherwise(),
@@ -122,8 +122,8 @@ impl VariantProcess {
     fn next_otherwise(&self) -> Option<Access>
         ensures next { result ≡ variant_next_access self.now }
         ensures within { IfSome result (λ a. InWords self.now.machine_state.layout.procs (word_of a)) }
-        ensures allowed { IsPlain self.now → IfSome result (IsAllowed self.now.machine_state) }
-        ensures own { IsPlain self.now → IfSome result (StoresOwn self.now.machine_state.index) }
+        ensures allowed { IsRightProcess self.now → IfSome result (IsAllowed self.now.machine_state) }
+        ensures own { IsRightProcess self.now → IfSome result (StoresOwn self.now.machine_state.index) }
     {
         match (self.variant, self.process.next()) {
             (Variant::NoLook, Some(Access::Load(Kind::Look, Word::Choosing(j)))) => {
@@ -152,8 +152,8 @@ impl VariantProcess {
     // Inline: one call a step.
     #[inline(always)]
     pub(crate) fn scan(&self) -> Option<(Scan, Access)>
-        ensures plain { IfSome result (λ r. IsPlain self.now) }
-        ensures goes_on { IfSome result (λ r. GoesOn self.now.machine_state r.0 r.1) }
+        ensures plain { IfSome result (λ r. IsRightProcess self.now) }
+        ensures goes_on { IfSome result (λ r. ScanGoesOn self.now.machine_state r.0 r.1) }
     {
         match (self.variant, self.deviation, self.change) {
             (Variant::Right, Deviation::Straight, Change::Nothing) => {}
@@ -170,7 +170,7 @@ impl VariantProcess {
     // Inline: one call a step.
     #[inline(always)]
     pub(crate) fn scan_on(&mut self, scan: Scan, value: u64) -> Outcome
-        requires plain { IsPlain self.old }
+        requires plain { IsRightProcess self.old }
         requires free { self.old.machine_state.script_state ≡ Free }
         requires at { at_scan (standing self.old.machine_state) scan ≡ standing self.old.machine_state }
         ensures exact { self.new ≡ variant_stepped self.old value }
@@ -183,7 +183,7 @@ impl VariantProcess {
     // Inline: one call a step.
     #[inline(always)]
     pub(crate) fn next_silently(&self) -> Option<Access>
-        ensures plain { IfSome result (λ a. IsPlain self.now) }
+        ensures plain { IfSome result (λ a. IsRightProcess self.now) }
         ensures next { IfSome result (λ a. variant_next_access self.now ≡ Some a) }
         ensures within { IfSome result (λ a. InWords self.now.machine_state.layout.procs (word_of a)) }
     {
@@ -198,7 +198,7 @@ impl VariantProcess {
     // Inline: one call a step.
     #[inline(always)]
     pub(crate) fn feed_silently(&mut self, value: u64) -> bool
-        requires plain { IsPlain self.old }
+        requires plain { IsRightProcess self.old }
         ensures exact { IsTrue result → self.new ≡ variant_stepped self.old value }
         ensures silent { IsTrue result → ((variant_outcome self.old value).progress.outer ≡ None)
             × ((variant_outcome self.old value).answer ≡ None) }
@@ -214,7 +214,7 @@ impl VariantProcess {
     // Inline: one call a step.
     #[inline(always)]
     pub(crate) fn job_next(&self) -> Option<Access>
-        ensures plain { IfSome result (λ a. IsPlain self.now) }
+        ensures plain { IfSome result (λ a. IsRightProcess self.now) }
         ensures works { IfSome result (Works self.now.machine_state) }
     {
         match (self.variant, self.deviation, self.change) {
@@ -227,10 +227,10 @@ impl VariantProcess {
     // Inline: one call a step.
     #[inline(always)]
     pub(crate) fn job_on(&mut self, value: u64) -> Option<Answer>
-        requires plain { IsPlain self.old }
+        requires plain { IsRightProcess self.old }
         requires working { IsWorking self.old.machine_state.script_state }
         ensures exact { self.new ≡ variant_stepped self.old value }
-        ensures outcome { variant_outcome self.old value ≡ record { progress = silent; answer = result } }
+        ensures outcome { variant_outcome self.old value ≡ record { progress = no_progress; answer = result } }
     {
         self.process.job_on(value)
     }
@@ -269,7 +269,7 @@ impl VariantProcess {
     pub fn feed(&mut self, value: u64) -> Outcome
         ensures exact { self.new ≡ variant_stepped self.old value }
         ensures outcome { result ≡ variant_outcome self.old value }
-        ensures plain { IsPlain self.old → process_state_of self.new.machine_state
+        ensures plain { IsRightProcess self.old → process_state_of self.new.machine_state
             ≡ process_state_after self.old.machine_state (next_access self.old.machine_state) value }
     {
         match (self.variant, self.process.stage()) {
@@ -284,7 +284,7 @@ impl VariantProcess {
     fn feed_otherwise(&mut self, value: u64) -> Outcome
         ensures exact { self.new ≡ variant_stepped self.old value }
         ensures outcome { result ≡ variant_outcome self.old value }
-        ensures plain { IsPlain self.old → process_state_of self.new.machine_state
+        ensures plain { IsRightProcess self.old → process_state_of self.new.machine_state
             ≡ process_state_after self.old.machine_state (next_access self.old.machine_state) value }
     {
         match self.variant {
@@ -312,7 +312,7 @@ impl VariantProcess {
             return self.process.feed(value);
         }
         if puts(self.process.next(), COUNT) {
-            self.change = Change::Counted(raised(self.process.layout().cap, value));
+            self.change = Change::Counted(raised_count(self.process.layout().cap, value));
             return Outcome::SILENT;
         }
         let outcome = self.process.feed(value);
@@ -347,7 +347,7 @@ impl VariantProcess {
 }
 
 /// One more than the count that was read, or the same at the capacity.
-fn raised(cap: u64, count: u64) -> u64
+fn raised_count(cap: u64, count: u64) -> u64
     ensures { result ≡ raised_to cap count }
 {
     if count == cap {

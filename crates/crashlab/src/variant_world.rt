@@ -1,15 +1,15 @@
 //! A world of a variant in memory. Each step is taken on request.
 
 ghost use Rattle.std.specs.Prelude.{◌≡◌, ◌<◌, ◌⊎◌, ℕ, IfOk, IfErr, ◌↔◌, false, length, slice_get, IfSome, IsSome, IsTrue, OnOk, OnErr, IsErrOf, Some, None, vec_len};
-ghost use Rattle.rmecore.specs.Machine.{carried};
+ghost use Rattle.rmecore.specs.Machine.{carried_value};
 ghost use Rattle.rmecore.specs.Simulated.{cause};
 ghost use Rattle.rmeworld.specs.MachineState.{IsSize};
 ghost use Rattle.rmeworld.specs.WorldState.{new_refusal};
 ghost use Rattle.crashlab.specs.VariantWorlds.{at_rest_from, new_world};
 ghost use Rattle.rmecore.specs.declared.refusal.Refusal.TheVariants.{OutOfMemory};
 
+use crate::judge_feed::tell_step;
 use crate::moves::MoveOutcome;
-use crate::telling::tell_step;
 use crate::variant::Variant;
 use crate::variant_memory::VariantMemory;
 use crate::variant_process::VariantProcess;
@@ -34,13 +34,14 @@ pub struct VariantWorld {
 }
 
 impl Model for VariantWorld {
-    ghost use Rattle.crashlab.specs.VariantWorlds.{VariantState, IsConfigured};
+    ghost use Rattle.crashlab.specs.VariantWorlds.{VariantState, IsVariantConfigured};
 
     ghost Value = { VariantState };
 
     ghost view = { λ w. record { variant = w.variant; layout = w.layout; limit = w.limit; words = w.words.items; cells = w.cells.items; processes = w.processes.items } };
 
-    ghost invariant = { λ w. IsConfigured (record { variant = w.variant; layout = w.layout; limit = w.limit; words = w.words.items; cells = w.cells.items; processes = w.processes.items }) };
+    ghost invariant = { λ w. IsVariantConfigured
+        (record { variant = w.variant; layout = w.layout; limit = w.limit; words = w.words.items; cells = w.cells.items; processes = w.processes.items }) };
 }
 
 /// The processes of a new world of the variant, each at rest.
@@ -101,13 +102,13 @@ impl VariantWorld {
 impl VariantWorld {
     ghost use Rattle.std.specs.Prelude.{List};
     ghost use Rattle.redomail.specs.declared.deed.Deed.{Deed as DeedOf};
-    ghost use Rattle.judge.specs.Table.{empty};
+    ghost use Rattle.judge.specs.Table.{empty_state};
     ghost use Rattle.judge.specs.Stands.{StandsAfter};
-    ghost use Rattle.crashlab.specs.Found.{Told};
-    ghost use Rattle.crashlab.specs.VariantWorlds.{start_refusal, started, advance_refusal, stepped, advanced, crash_refusal, crash_deed, crashed};
-    ghost use Rattle.crashlab.specs.VariantStands.{IsPlain};
+    ghost use Rattle.crashlab.specs.Found.{IsDeedGiven};
+    ghost use Rattle.crashlab.specs.VariantWorlds.{start_refusal, variant_after_start, advance_refusal, variant_step_report, variant_after_step, crash_refusal, crash_deed, variant_after_crash};
+    ghost use Rattle.crashlab.specs.VariantStands.{IsRightProcess};
     ghost use Rattle.crashlab.specs.VariantWorlds.{machine_state_at};
-    ghost use Rattle.rmeworld.specs.Advancing.{GoesOn};
+    ghost use Rattle.rmeworld.specs.WorldSteps.{ScanGoesOn};
     ghost use Rattle.rmeworld.specs.InPlace.{Works};
 
     /// Starts a call of process p.
@@ -117,7 +118,7 @@ impl VariantWorld {
         ensures accepted { OnOk result (start_refusal self.old p call ≡ None) }
         ensures refused { IfErr result (λ e. start_refusal self.old p call ≡ Some e) }
         ensures memory { IsErrOf result Refusal.OutOfMemory → ⊥ }
-        ensures ok { OnOk result (self.new ≡ started self.old p call) }
+        ensures ok { OnOk result (self.new ≡ variant_after_start self.old p call) }
         ensures err { OnErr result (self.new ≡ self.old) }
     {
         if p >= self.layout.procs {
@@ -131,8 +132,8 @@ impl VariantWorld {
         ensures accepted { OnOk result (advance_refusal self.old p ≡ None) }
         ensures refused { IfErr result (λ e. advance_refusal self.old p ≡ Some e) }
         ensures memory { IsErrOf result Refusal.OutOfMemory → ⊥ }
-        ensures told { IfOk result (λ s. s ≡ stepped self.old p) }
-        ensures ok { OnOk result (self.new ≡ advanced self.old p) }
+        ensures reports { IfOk result (λ s. s ≡ variant_step_report self.old p) }
+        ensures ok { OnOk result (self.new ≡ variant_after_step self.old p) }
         ensures err { OnErr result (self.new ≡ self.old) }
     {
         if p >= self.layout.procs {
@@ -168,10 +169,10 @@ impl VariantWorld {
     ) -> Result<(MoveOutcome, Option<Answer>), Refusal>
         ensures accepted { OnOk result (advance_refusal self.old p ≡ None) }
         ensures refused { IfErr result (λ e. advance_refusal self.old p ≡ Some e) }
-        ensures told { (history : List DeedOf) → StandsAfter (empty 3 64) history judge.old
-            → IfOk result (λ r. Told history (stepped self.old p).deed judge.new r.0) }
-        ensures answer { IfOk result (λ r. r.1 ≡ (stepped self.old p).answer) }
-        ensures ok { OnOk result (self.new ≡ advanced self.old p) }
+        ensures reports { (history : List DeedOf) → StandsAfter (empty_state 3 64) history judge.old
+            → IfOk result (λ r. IsDeedGiven history (variant_step_report self.old p).deed judge.new r.0) }
+        ensures answer { IfOk result (λ r. r.1 ≡ (variant_step_report self.old p).answer) }
+        ensures ok { OnOk result (self.new ≡ variant_after_step self.old p) }
         ensures err { OnErr result ((self.new ≡ self.old) × (judge.new ≡ judge.old)) }
     {
         if p >= self.layout.procs {
@@ -193,7 +194,7 @@ impl VariantWorld {
     #[inline(always)]
     pub(crate) fn job_next(&self, p: u64) -> Option<Access>
         ensures below { IfSome result (λ a. p < self.now.layout.procs) }
-        ensures plain { IfSome result (λ a. IsPlain (machine_state_at self.now.processes p)) }
+        ensures plain { IfSome result (λ a. IsRightProcess (machine_state_at self.now.processes p)) }
         ensures works { IfSome result (Works (machine_state_at self.now.processes p).machine_state) }
     {
         if p >= self.layout.procs {
@@ -212,13 +213,13 @@ impl VariantWorld {
         access: Access,
     ) -> (MoveOutcome, Option<Answer>)
         requires below { p < self.old.layout.procs }
-        requires plain { IsPlain (machine_state_at self.old.processes p) }
+        requires plain { IsRightProcess (machine_state_at self.old.processes p) }
         requires works { Works (machine_state_at self.old.processes p).machine_state access }
         ensures accepted { advance_refusal self.old p ≡ None }
-        ensures told { (history : List DeedOf) → StandsAfter (empty 3 64) history judge.old
-            → Told history (stepped self.old p).deed judge.new result.0 }
-        ensures answer { result.1 ≡ (stepped self.old p).answer }
-        ensures ok { self.new ≡ advanced self.old p }
+        ensures reports { (history : List DeedOf) → StandsAfter (empty_state 3 64) history judge.old
+            → IsDeedGiven history (variant_step_report self.old p).deed judge.new result.0 }
+        ensures answer { result.1 ≡ (variant_step_report self.old p).answer }
+        ensures ok { self.new ≡ variant_after_step self.old p }
     {
         let found = load(&self.words, &self.cells, access.word());
         let process = &mut self.processes[p as usize];
@@ -234,8 +235,9 @@ impl VariantWorld {
     #[inline(always)]
     pub(crate) fn take_silent_step(&mut self, p: u64) -> bool
         ensures accepted { IsTrue result → advance_refusal self.old p ≡ None }
-        ensures silent { IsTrue result → ((stepped self.old p).deed ≡ None) × ((stepped self.old p).answer ≡ None) }
-        ensures ok { IsTrue result → self.new ≡ advanced self.old p }
+        ensures silent { IsTrue result
+            → ((variant_step_report self.old p).deed ≡ None) × ((variant_step_report self.old p).answer ≡ None) }
+        ensures ok { IsTrue result → self.new ≡ variant_after_step self.old p }
         ensures same { result ≡ false → self.new ≡ self.old }
     {
         match self.scan(p) {
@@ -252,8 +254,9 @@ impl VariantWorld {
     #[inline(always)]
     fn step_unobserved(&mut self, p: u64) -> bool
         ensures accepted { IsTrue result → advance_refusal self.old p ≡ None }
-        ensures silent { IsTrue result → ((stepped self.old p).deed ≡ None) × ((stepped self.old p).answer ≡ None) }
-        ensures ok { IsTrue result → self.new ≡ advanced self.old p }
+        ensures silent { IsTrue result
+            → ((variant_step_report self.old p).deed ≡ None) × ((variant_step_report self.old p).answer ≡ None) }
+        ensures ok { IsTrue result → self.new ≡ variant_after_step self.old p }
         ensures same { result ≡ false → self.new ≡ self.old }
     {
         if p >= self.layout.procs {
@@ -278,8 +281,8 @@ impl VariantWorld {
     #[inline(always)]
     fn scan(&self, p: u64) -> Option<(Scan, Access)>
         ensures below { IfSome result (λ r. p < self.now.layout.procs) }
-        ensures plain { IfSome result (λ r. IsPlain (machine_state_at self.now.processes p)) }
-        ensures goes_on { IfSome result (λ r. GoesOn (machine_state_at self.now.processes p).machine_state r.0 r.1) }
+        ensures plain { IfSome result (λ r. IsRightProcess (machine_state_at self.now.processes p)) }
+        ensures goes_on { IfSome result (λ r. ScanGoesOn (machine_state_at self.now.processes p).machine_state r.0 r.1) }
     {
         if p >= self.layout.procs {
             return None;
@@ -292,11 +295,11 @@ impl VariantWorld {
     #[inline(always)]
     fn scan_on(&mut self, p: u64, scan: Scan, access: Access)
         requires below { p < self.old.layout.procs }
-        requires plain { IsPlain (machine_state_at self.old.processes p) }
-        requires goes_on { GoesOn (machine_state_at self.old.processes p).machine_state scan access }
+        requires plain { IsRightProcess (machine_state_at self.old.processes p) }
+        requires goes_on { ScanGoesOn (machine_state_at self.old.processes p).machine_state scan access }
         ensures accepted { advance_refusal self.old p ≡ None }
-        ensures silent { ((stepped self.old p).deed ≡ None) × ((stepped self.old p).answer ≡ None) }
-        ensures ok { self.new ≡ advanced self.old p }
+        ensures silent { ((variant_step_report self.old p).deed ≡ None) × ((variant_step_report self.old p).answer ≡ None) }
+        ensures ok { self.new ≡ variant_after_step self.old p }
     {
         let found = load(&self.words, &self.cells, access.word());
         let process = &mut self.processes[p as usize];
@@ -310,8 +313,8 @@ impl VariantWorld {
         ensures accepted { OnOk result (crash_refusal self.old p ≡ None) }
         ensures refused { IfErr result (λ e. crash_refusal self.old p ≡ Some e) }
         ensures memory { IsErrOf result Refusal.OutOfMemory → ⊥ }
-        ensures told { IfOk result (λ d. d ≡ crash_deed p) }
-        ensures ok { OnOk result (self.new ≡ crashed self.old p) }
+        ensures reports { IfOk result (λ d. d ≡ crash_deed p) }
+        ensures ok { OnOk result (self.new ≡ variant_after_crash self.old p) }
         ensures err { OnErr result (self.new ≡ self.old) }
     {
         if p >= self.layout.procs {
@@ -325,7 +328,7 @@ impl VariantWorld {
 impl VariantWorld {
     ghost use Rattle.redomail.specs.Layout.{size};
     ghost use Rattle.rmecore.specs.Machine.{place_of};
-    ghost use Rattle.rmeworld.specs.ScriptStates.{Held};
+    ghost use Rattle.rmeworld.specs.ScriptStates.{HoldsJob};
     ghost use Rattle.crashlab.specs.VariantSeams.{with_variant_memory, with_process};
     ghost use Rattle.crashlab.specs.VariantWorlds.{machine_state_at};
 
@@ -378,7 +381,7 @@ impl VariantWorld {
         ensures set { IsTrue result → self.new ≡ with_process self.old p own memory.now }
         ensures same { result ≡ false → self.new ≡ self.old }
         ensures held { IsTrue result ↔ ((p < self.old.layout.procs)
-            × Held memory.now.process.script_state (place_of self.old.layout.procs p memory.now.process.stage)) }
+            × HoldsJob memory.now.process.script_state (place_of self.old.layout.procs p memory.now.process.stage)) }
     {
         if p >= self.layout.procs {
             return false;
@@ -393,7 +396,7 @@ impl VariantWorld {
 
 /// The value of a step: the one that it reads, or the one that it writes.
 fn carried_by(access: Access, found: u64) -> u64
-    ensures { result ≡ carried access found }
+    ensures { result ≡ carried_value access found }
 {
     match access {
         Access::Load(_, _) => found,

@@ -1,6 +1,6 @@
 -- A run of an algorithm that was played, and its drawing that was written.
 use Rattle.std.proofs.Common.{◌≡◌, ℕ, List, false, Option, Some, None, Result, Ok, Err, refl, sym, subst, append-nil}
-use Rattle.diagram.proofs.Common.{breaks_nothing, ReplayFault, Tape, Verdict, Spells, Line}
+use Rattle.diagram.proofs.Common.{breaks_nothing, ReplayFault, Tape, Verdict, WritesText, Line}
 use Rattle.diagram.proofs.NotEmpty.{drawing_some}
 use Rattle.schedule.specs.declared.replays.replay_fault.ReplayFault.TheVariants.{Write, OutOfMemory}
 use Rattle.schedule.specs.declared.texts.head.Head.{Head}
@@ -10,7 +10,7 @@ use Rattle.algorithms.specs.declared.refusal.AlgorithmRefusal.{AlgorithmRefusal}
 use Rattle.algorithm_lab.specs.Monitors.{MonitorState, first_monitor}
 use Rattle.algorithm_lab.specs.Replays.{run_of, run_unless, world_fault}
 use Rattle.algorithm_lab.specs.Reports.{verdict_of}
-use Rattle.algorithm_lab.specs.Runs.{Run, run_on}
+use Rattle.algorithm_lab.specs.Runs.{AlgorithmRun, run_on}
 use Rattle.algorithm_lab.specs.declared.replay_fault.AlgorithmReplayFault.{AlgorithmReplayFault}
 use Rattle.algorithm_lab.specs.declared.replay_fault.AlgorithmReplayFault.TheVariants as faults
 use Rattle.algorithm_lab.specs.declared.run_refusal.RunRefusal.{RunRefusal}
@@ -24,7 +24,7 @@ pub text_same : (style : Style) (shown head : Head) (a : Algorithm) (m left : Mo
 text_same style shown head a m left lines rows verdict refused named is same = rw (named, same, is.2, is.0, is.1, is.3) refl
 
 -- what is answered is so
-pub draws : (t u : Tape) (text : List ℕ) (run : Run (ℕ × RunRefusal)) (verdict : Verdict) (refused : Option (ℕ × RunRefusal)) (r : Result (Unit {0}) ReplayFault) → Spells t u text r → refused ≡ run.refused → verdict ≡ verdict_of run.left.world.procs run.told
+pub draws : (t u : Tape) (text : List ℕ) (run : AlgorithmRun (ℕ × RunRefusal)) (verdict : Verdict) (refused : Option (ℕ × RunRefusal)) (r : Result (Unit {0}) ReplayFault) → WritesText t u text r → refused ≡ run.refused → verdict ≡ verdict_of run.left.world.procs run.reports
     → DrawsRun t u text run (answer_by r refused verdict)
 draws t u text run verdict None (Ok x) h why ruled = (h, sym why, ruled)
 draws t u text run verdict (Some (line, refusal)) (Ok x) h why ruled = (h, sym why)
@@ -33,7 +33,7 @@ draws t u text run verdict refused (Err OutOfMemory) h why ruled = h
 draws t u text run verdict refused _ h why ruled = absurd h
 
 -- out of memory before anything is written
-pub run_starved : (t : Tape) (style : Style) (head : Head) (m : MonitorState) (lines : List Line) (run : Run (ℕ × RunRefusal)) → DrawsRun t t (run_text style head m lines) run (Err faults.OutOfMemory)
+pub run_starved : (t : Tape) (style : Style) (head : Head) (m : MonitorState) (lines : List Line) (run : AlgorithmRun (ℕ × RunRefusal)) → DrawsRun t t (run_text style head m lines) run (Err faults.OutOfMemory)
 run_starved t style head m lines run = (breaks_nothing t.taken (run_text style head m lines) (drawing_some false _ _ _ _), refl)
 
 -- ---- a new world

@@ -1,13 +1,13 @@
 -- A run that is written step by step, and its end.
 use Rattle.std.proofs.Common.{◌≡◌, ℕ, List, [], ◌++◌, Option, Some, None, Result, Ok, Err, refl, sym, ap, subst, ◌∙◌, append_assoc}
-use Rattle.diagram.proofs.Common.{append-nil, Refusal, State, Image, ReplayFault, Verdict, Tape, Writes, Begins, BreaksOff, Part, deeds_of, verdict_on, begins_further, begins_wider, breaks_further, breaks_wider, breaks_nothing, End, Judged, Refused, Spells}
-use Rattle.diagram.proofs.Common.{Ending, Follows, IsAllFollowed, EndsAs, IsJudged}
+use Rattle.diagram.proofs.Common.{append-nil, Refusal, State, Image, ReplayFault, Verdict, Tape, Writes, Begins, BreaksOff, Part, deeds_of, verdict_on, begins_further, begins_wider, breaks_further, breaks_wider, breaks_nothing, End, Judged, Refused, WritesText}
+use Rattle.diagram.proofs.Common.{WritesEnding, FollowsRun, IsAllFollowed, EndsAs, IsJudged}
 use Rattle.schedule.specs.declared.replays.replay_fault.ReplayFault.TheVariants as faults
 use Rattle.schedule.specs.Replays.{Closes}
 use Rattle.schedule.specs.Reports.{IsEnd}
 
 -- the end of the report is not written as a whole
-pub not_closed : (t u : Tape) (image : Image) (verdict : Verdict) (fault : ReplayFault) → Closes {A = Unit {0}} t u image verdict (Err fault) → Ending t u image (Judged verdict) (Err fault)
+pub not_closed : (t u : Tape) (image : Image) (verdict : Verdict) (fault : ReplayFault) → Closes {A = Unit {0}} t u image verdict (Err fault) → WritesEnding t u image (Judged verdict) (Err fault)
 not_closed t u image verdict faults.Write h = h
 not_closed t u image verdict faults.OutOfMemory h = h
 not_closed t u image verdict _ h = absurd h
@@ -24,28 +24,28 @@ module _ {S : Type 0} (t u : Tape) (start : State) (image_of : S → Image) (run
   breaks_all (Some refusal) text all h = rw all h
 
   -- the steps are not written as a whole
-  pub steps_fail : (fault : ReplayFault) → Spells {A = Unit {0}} t u steps (Err fault) → Follows t u start image_of run steps (Err fault)
+  pub steps_fail : (fault : ReplayFault) → WritesText {A = Unit {0}} t u steps (Err fault) → FollowsRun t u start image_of run steps (Err fault)
   steps_fail faults.Write h = (λ text all. begins_all run.refused text all h.0, h.1)
   steps_fail faults.OutOfMemory h = (λ text all. breaks_all run.refused text all h.0, h.1)
   steps_fail _ h = absurd h
 
 -- out of memory before any of the steps is written
-pub none_followed : {S : Type 0} (t : Tape) (start : State) (image_of : S → Image) (run : Part S (ℕ × Refusal)) (steps : List ℕ) → (steps ≡ [] → ⊥) → Follows t t start image_of run steps (Err faults.OutOfMemory)
+pub none_followed : {S : Type 0} (t : Tape) (start : State) (image_of : S → Image) (run : Part S (ℕ × Refusal)) (steps : List ℕ) → (steps ≡ [] → ⊥) → FollowsRun t t start image_of run steps (Err faults.OutOfMemory)
 none_followed t start image_of run steps some = (λ text all. breaks_all t t start image_of run steps run.refused text all (breaks_nothing t.taken steps some), refl)
 
 -- all that is written is the steps, and then an end of this image and this verdict
 ends_with : {S : Type 0} (start : State) (image_of : S → Image) (run : Part S (ℕ × Refusal)) (s : S) (steps : List ℕ) (verdict : Verdict) → run.refused ≡ None
-    → verdict ≡ verdict_on start (deeds_of run.told) → s ≡ run.left → (text : List ℕ) → IsAllFollowed start image_of run run.refused steps text
+    → verdict ≡ verdict_on start (deeds_of run.reports) → s ≡ run.left → (text : List ℕ) → IsAllFollowed start image_of run run.refused steps text
     → (end : List ℕ) × IsEnd (image_of s) verdict end × (text ≡ steps ++ end)
 ends_with {S = S} start image_of run s steps verdict none judged left text all =
     let whole : IsAllFollowed start image_of run None steps text = subst (λ o. IsAllFollowed start image_of run o steps text) none all in
-    let at : IsEnd (image_of s) (verdict_on start (deeds_of run.told)) whole.0 = subst (λ (x : S). IsEnd (image_of x) (verdict_on start (deeds_of run.told)) whole.0) (sym left) whole.1 in
+    let at : IsEnd (image_of s) (verdict_on start (deeds_of run.reports)) whole.0 = subst (λ (x : S). IsEnd (image_of x) (verdict_on start (deeds_of run.reports)) whole.0) (sym left) whole.1 in
     let here : IsEnd (image_of s) verdict whole.0 = subst (λ (said : Verdict). IsEnd (image_of s) said whole.0) (sym judged) at in
     (whole.0, here, whole.2)
 
 -- the steps are written, and then the end
 pub steps_end : {S : Type 0} (t u v : Tape) (start : State) (image_of : S → Image) (run : Part S (ℕ × Refusal)) (s : S) (steps : List ℕ) (end : End) (r : Result Verdict ReplayFault)
-    → Writes t u steps → Ending u v (image_of s) end r → EndsAs start run end → (IsJudged end → s ≡ run.left) → Follows t v start image_of run steps r
+    → Writes t u steps → WritesEnding u v (image_of s) end r → EndsAs start run end → (IsJudged end → s ≡ run.left) → FollowsRun t v start image_of run steps r
 steps_end {S = S} t u v start image_of run s steps (Judged verdict) (Ok said) written h ends left =
     let here : IsEnd (image_of run.left) verdict h.1.0 = subst (λ (x : S). IsEnd (image_of x) verdict h.1.0) (left tt) h.1.1 in
     record {

@@ -15,7 +15,7 @@ pub mod Parts
 pub mod Seen
 pub mod Watching
 pub mod Undone
-pub mod LinesTold
+pub mod LinesReported
 pub mod AlgorithmSteps
 pub mod AlgorithmDrawn
 pub mod AlgorithmSessions

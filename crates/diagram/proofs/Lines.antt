@@ -1,7 +1,7 @@
 -- A run as lines of JSON: lines whose end is taken away, lines one after another, and how a run ends.
 use Rattle.std.proofs.Common.{◌≡◌, ℕ, List, [], ◌∷◌, ◌++◌, map, Option, Some, None, Result, Ok, Err, refl, sym, ap, subst, ◌∙◌, append_assoc}
-use Rattle.diagram.proofs.Common.{append-nil, flat_map-cons, append_none, none_behind, Refusal, State, Image, ReplayFault, Verdict, Tape, Writes, Begins, BreaksOff, Part, deeds_of, verdict_on}
-use Rattle.diagram.proofs.Common.{begins_further, begins_wider, breaks_further, breaks_wider, breaks_nothing, DiagramRow, End, Judged, Refused, LifelinePhase, Spells, EndsAs, IsJudged, Event, row_of, events_in, events_shown, layout_of}
+use Rattle.diagram.proofs.Common.{append-nil, flat_map-cons, append_none, none_after, Refusal, State, Image, ReplayFault, Verdict, Tape, Writes, Begins, BreaksOff, Part, deeds_of, verdict_on}
+use Rattle.diagram.proofs.Common.{begins_further, begins_wider, breaks_further, breaks_wider, breaks_nothing, DiagramRow, End, Judged, Refused, LifelinePhase, WritesText, EndsAs, IsJudged, DiagramEvent, row_of, events_in, events_shown, layout_of}
 use Rattle.redomail.specs.declared.layout.Layout.{Layout}
 use Rattle.rmeworld.specs.ImageText.{image_line}
 use Rattle.schedule.specs.declared.replays.verdict.Verdict.TheVariants.{Fine, Against}
@@ -32,9 +32,9 @@ verdict_some (Against at fault) e = cons_some _ _ e
 
 pub last_some : (image : Image) (verdict : Verdict) → last_lines image verdict ≡ [] → ⊥
 unfolding last_lines
-last_some image verdict e = verdict_some verdict (none_behind (image_line image) (verdict_object verdict) e)
+last_some image verdict e = verdict_some verdict (none_after (image_line image) (verdict_object verdict) e)
 
-pub steps_some : (head : Head) (first : LifelinePhase) (image : Image) (events : List Event) → step_lines head first image events ≡ [] → ⊥
+pub steps_some : (head : Head) (first : LifelinePhase) (image : Image) (events : List DiagramEvent) → step_lines head first image events ≡ [] → ⊥
 steps_some head first image events e = first_some image (append_none (first_lines image) (object_lines (layout_of head) (objects_on head first image events)) e)
 
 -- ---- lines one after another
@@ -54,14 +54,14 @@ pub objects_more : (l : Layout) (played : PlayedState) (row : DiagramRow) (rows 
     ≡ object_lines l (objects_of played (map row_of (events_shown row.p row.act)))
     ++ object_lines l (objects_of (played_after played (map row_of (events_shown row.p row.act))) (map row_of (events_in rows)))
 objects_more l played row rows =
-    ap (λ (es : List Event). object_lines l (objects_of played (map row_of es))) (flat_map-cons (λ row. events_shown row.p row.act) row rows)
+    ap (λ (es : List DiagramEvent). object_lines l (objects_of played (map row_of es))) (flat_map-cons (λ row. events_shown row.p row.act) row rows)
     ∙ ap (λ (rs : List DiagramRow). object_lines l (objects_of played rs)) (rows_both (events_shown row.p row.act) (events_in rows))
     ∙ objects_both l played (map row_of (events_shown row.p row.act)) (map row_of (events_in rows))
 
 -- ---- the end
 
 -- the last two lines are not written as a whole
-pub not_ended : (t u : Tape) (image : Image) (verdict : Verdict) (fault : ReplayFault) → Spells {A = Unit {0}} t u (last_lines image verdict) (Err fault)
+pub not_ended : (t u : Tape) (image : Image) (verdict : Verdict) (fault : ReplayFault) → WritesText {A = Unit {0}} t u (last_lines image verdict) (Err fault)
     → EndingLines t u image (Judged verdict) (Err fault)
 not_ended t u image verdict faults.Write h = h
 not_ended t u image verdict faults.OutOfMemory h = h
@@ -69,15 +69,15 @@ not_ended t u image verdict _ h = absurd h
 
 module _ {S : Type 0} (t u : Tape) (start : State) (image_of : S → Image) (run : Part S (ℕ × Refusal)) (steps : List ℕ) where
   begins_all : (o : Option (ℕ × Refusal)) → Begins t.taken u.taken steps → Begins t.taken u.taken (all_lines start image_of run o steps)
-  begins_all None h = begins_wider t.taken u.taken steps (last_lines (image_of run.left) (verdict_on start (deeds_of run.told))) h
+  begins_all None h = begins_wider t.taken u.taken steps (last_lines (image_of run.left) (verdict_on start (deeds_of run.reports))) h
   begins_all (Some refusal) h = h
 
   breaks_all : (o : Option (ℕ × Refusal)) → BreaksOff t.taken u.taken steps → BreaksOff t.taken u.taken (all_lines start image_of run o steps)
-  breaks_all None h = breaks_wider t.taken u.taken steps (last_lines (image_of run.left) (verdict_on start (deeds_of run.told))) h
+  breaks_all None h = breaks_wider t.taken u.taken steps (last_lines (image_of run.left) (verdict_on start (deeds_of run.reports))) h
   breaks_all (Some refusal) h = h
 
   -- the steps are not written as a whole
-  pub lines_fail : (fault : ReplayFault) → Spells {A = Unit {0}} t u steps (Err fault) → FollowsAsLines t u start image_of run steps (Err fault)
+  pub lines_fail : (fault : ReplayFault) → WritesText {A = Unit {0}} t u steps (Err fault) → FollowsAsLines t u start image_of run steps (Err fault)
   lines_fail faults.Write h = (begins_all run.refused h.0, h.1)
   lines_fail faults.OutOfMemory h = (breaks_all run.refused h.0, h.1)
   lines_fail _ h = absurd h
@@ -91,25 +91,25 @@ no_lines t start image_of run steps some = (breaks_all t t start image_of run st
 pub lines_end : {S : Type 0} (t u v : Tape) (start : State) (image_of : S → Image) (run : Part S (ℕ × Refusal)) (s : S) (steps : List ℕ) (end : End) (r : Result Verdict ReplayFault)
     → Writes t u steps → EndingLines u v (image_of s) end r → EndsAs start run end → (IsJudged end → s ≡ run.left) → FollowsAsLines t v start image_of run steps r
 lines_end {S = S} t u v start image_of run s steps (Judged verdict) (Ok said) written h ends left =
-    let last : last_lines (image_of s) verdict ≡ last_lines (image_of run.left) (verdict_on start (deeds_of run.told)) =
+    let last : last_lines (image_of s) verdict ≡ last_lines (image_of run.left) (verdict_on start (deeds_of run.reports)) =
     ap (λ (x : S). last_lines (image_of x) verdict) (left tt) ∙ ap (λ (x : Verdict). last_lines (image_of run.left) x) ends.1 in (
       ends.0,
       h.0 ∙ ends.1,
       record {
-        taken = h.1.taken ∙ ap (λ (xs : List ℕ). u.taken ++ xs) last ∙ ap (λ (xs : List ℕ). xs ++ last_lines (image_of run.left) (verdict_on start (deeds_of run.told))) written.taken
-            ∙ append_assoc t.taken steps (last_lines (image_of run.left) (verdict_on start (deeds_of run.told)));
+        taken = h.1.taken ∙ ap (λ (xs : List ℕ). u.taken ++ xs) last ∙ ap (λ (xs : List ℕ). xs ++ last_lines (image_of run.left) (verdict_on start (deeds_of run.reports))) written.taken
+            ∙ append_assoc t.taken steps (last_lines (image_of run.left) (verdict_on start (deeds_of run.reports)));
         fine = h.1.fine ∙ written.fine;
       },
     )
 lines_end {S = S} t u v start image_of run s steps (Judged verdict) (Err faults.Write) written h ends left =
-    let last : last_lines (image_of s) verdict ≡ last_lines (image_of run.left) (verdict_on start (deeds_of run.told)) =
+    let last : last_lines (image_of s) verdict ≡ last_lines (image_of run.left) (verdict_on start (deeds_of run.reports)) =
     ap (λ (x : S). last_lines (image_of x) verdict) (left tt) ∙ ap (λ (x : Verdict). last_lines (image_of run.left) x) ends.1 in
     let begins = begins_further t.taken u.taken v.taken steps (last_lines (image_of s) verdict) written.taken h.0 in (
       subst (λ o. Begins t.taken v.taken (all_lines start image_of run o steps)) (sym ends.0) (subst (λ (xs : List ℕ). Begins t.taken v.taken (steps ++ xs)) last begins),
       rw (← written.fine) h.1,
     )
 lines_end {S = S} t u v start image_of run s steps (Judged verdict) (Err faults.OutOfMemory) written h ends left =
-    let last : last_lines (image_of s) verdict ≡ last_lines (image_of run.left) (verdict_on start (deeds_of run.told)) =
+    let last : last_lines (image_of s) verdict ≡ last_lines (image_of run.left) (verdict_on start (deeds_of run.reports)) =
     ap (λ (x : S). last_lines (image_of x) verdict) (left tt) ∙ ap (λ (x : Verdict). last_lines (image_of run.left) x) ends.1 in
     let breaks = breaks_further t.taken u.taken v.taken steps (last_lines (image_of s) verdict) written.taken h.0 in (
       subst (λ o. BreaksOff t.taken v.taken (all_lines start image_of run o steps)) (sym ends.0) (subst (λ (xs : List ℕ). BreaksOff t.taken v.taken (steps ++ xs)) last breaks),

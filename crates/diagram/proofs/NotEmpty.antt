@@ -1,14 +1,14 @@
 -- Texts that are not empty. Out of memory before such a text leaves some of it to write.
 use Rattle.std.proofs.Common.{◌≡◌, ℕ, ◌+◌, ◌-◌, Bool, List, [], ◌∷◌, ◌++◌, map, codes, get_or, refl}
-use Rattle.diagram.proofs.Common.{append_none, none_behind, DiagramRow, LifelinePhase, Rest, End, Event, row_of, phases_with, rows_told, followed, row_spelled, rows_spelled, top_in, end_in, LifelineStateState}
+use Rattle.diagram.proofs.Common.{append_none, none_after, DiagramRow, LifelinePhase, Rest, End, DiagramEvent, row_of, phases_with, rows_text, run_text, row_spelled, rows_spelled, top_in, end_in, LifelineStateState}
 use Rattle.redomail.specs.declared.layout.Layout.{Layout}
 use Rattle.diagram.specs.declared.diagram_layout.DiagramLayout.{DiagramLayout}
 use Rattle.diagram.specs.declared.diagram_layout.Style.{Style}
 use Rattle.diagram.specs.declared.diagram_layout.Style.TheVariants.{Text, Svg}
 use Rattle.diagram.specs.Columns.{end_line}
 use Rattle.diagram.specs.Drawings.{row_spelled_in, spelled_from}
-use Rattle.diagram.specs.Followed.{access_of, place_line, row_told, told_by}
-use Rattle.diagram.specs.Pictures.{around, bottom_of, class_of, far_from, group_at, group_end, head_picture, held, keys, last_picture, left_of, lifeline_tops, line_looks, mailbox_if, measured, paper, right_of, row_picture, text_looks, top_picture, viewed, x_of}
+use Rattle.diagram.specs.Followed.{access_of, place_line, row_text, reports_by}
+use Rattle.diagram.specs.Pictures.{around, bottom_of, class_of, far_from, group_at, group_end, head_picture, at_most_greatest, keys, last_picture, left_of, lifeline_tops, line_looks, mailbox_if, measured, paper, right_of, row_picture, text_looks, top_picture, viewed, x_of}
 use Rattle.diagram.specs.ShownRows.{ShownRowState}
 
 pub cons_some : {A : Type 0} (x : A) (xs : List A) → x ∷ xs ≡ [] → ⊥
@@ -21,17 +21,17 @@ front_none (x ∷ xs) ys e = absurd cc
 -- ---- a picture
 
 group_end_some : group_end ≡ [] → ⊥
-group_end_some e = cons_some 10 [] (none_behind (codes "</g>") (10 ∷ []) e)
+group_end_some e = cons_some 10 [] (none_after (codes "</g>") (10 ∷ []) e)
 
 last_some : (y : ℕ) (end : End) → last_picture y end ≡ [] → ⊥
 last_some y end e =
     cons_some 10 []
-    (none_behind (codes "</text></svg>") (10 ∷ [])
-    (none_behind (around (codes "<text x='20' y='") y (codes "'>") ++ end_line end) (codes "</text></svg>" ++ 10 ∷ []) e))
+    (none_after (codes "</text></svg>") (10 ∷ [])
+    (none_after (around (codes "<text x='20' y='") y (codes "'>") ++ end_line end) (codes "</text></svg>" ++ 10 ∷ []) e))
 
 picture_some : (procs y below : ℕ) (marked : Bool) (row : ShownRowState) → row_picture procs y below marked row ≡ [] → ⊥
 picture_some procs y below marked row e =
-    group_end_some (none_behind (group_at (x_of row.p) y ++ left_of row below ++ right_of row (far_from procs row.p) marked) group_end e)
+    group_end_some (none_after (group_at (x_of row.p) y ++ left_of row below ++ right_of row (far_from procs row.p) marked) group_end e)
 
 looks_some : text_looks ≡ [] → ⊥
 unfolding text_looks
@@ -42,25 +42,25 @@ unfolding head_picture
 head_some wide high e =
     let front = measured wide high ++ viewed wide high in
     looks_some
-    (none_behind front text_looks
+    (none_after front text_looks
     (append_none (front ++ text_looks) line_looks
     (append_none (front ++ text_looks ++ line_looks) paper
     (append_none (front ++ text_looks ++ line_looks ++ paper) keys e))))
 
 top_picture_some : (mailbox : Bool) (procs bottom : ℕ) (phases : List LifelinePhase) → top_picture mailbox procs bottom phases ≡ [] → ⊥
 top_picture_some mailbox procs bottom phases e =
-    let head = head_picture (x_of procs + 300) (held (bottom + 40)) in
+    let head = head_picture (x_of procs + 300) (at_most_greatest (bottom + 40)) in
     let box = mailbox_if mailbox (x_of procs) (bottom - 80) in
-    head_some (x_of procs + 300) (held (bottom + 40)) (append_none head box (append_none (head ++ box) (lifeline_tops (bottom - 80) 0 phases) e))
+    head_some (x_of procs + 300) (at_most_greatest (bottom + 40)) (append_none head box (append_none (head ++ box) (lifeline_tops (bottom - 80) 0 phases) e))
 
 -- ---- a drawing
 
 pub end_some : (style : Style) (d : DiagramLayout) (end : End) → end_in style d end ≡ [] → ⊥
-end_some Text d end e = cons_some _ _ (none_behind _ _ e)
-end_some Svg d end e = last_some (held (bottom_of d.rows + 24)) end e
+end_some Text d end e = cons_some _ _ (none_after _ _ e)
+end_some Svg d end e = last_some (at_most_greatest (bottom_of d.rows + 24)) end e
 
 row_in_some : (style : Style) (d : DiagramLayout) (state : LifelineStateState) (row : ShownRowState) → row_spelled_in style d state row ≡ [] → ⊥
-row_in_some Text d state row e = cons_some _ _ (none_behind _ _ e)
+row_in_some Text d state row e = cons_some _ _ (none_after _ _ e)
 row_in_some Svg d state row e = picture_some _ _ _ _ row e
 
 pub row_some : (d : DiagramLayout) (state : LifelineStateState) (row : ShownRowState) → row_spelled d state row ≡ [] → ⊥
@@ -68,7 +68,7 @@ row_some d state row e = row_in_some d.style d state row e
 
 -- the part above the rows
 pub top_some : (style : Style) (mailbox : Bool) (d : DiagramLayout) (phases : List LifelinePhase) → top_in style mailbox d phases ≡ [] → ⊥
-top_some Text mailbox d phases e = cons_some _ _ (none_behind _ _ e)
+top_some Text mailbox d phases e = cons_some _ _ (none_after _ _ e)
 top_some Svg mailbox d phases e = top_picture_some mailbox d.layout.procs (bottom_of d.rows) phases e
 
 pub drawing_some : (mailbox : Bool) (d : DiagramLayout) (state : LifelineStateState) (rows : List ShownRowState) (end : End) → spelled_from mailbox d state rows end ≡ [] → ⊥
@@ -78,18 +78,18 @@ drawing_some mailbox d state rows end e =
 
 -- ---- a run step by step
 
-pub told_some : (l : Layout) (phases : List LifelinePhase) (row : DiagramRow) → row_told l phases row ≡ [] → ⊥
-unfolding row_told place_line
-told_some l phases row e =
+pub reported_some : (l : Layout) (phases : List LifelinePhase) (row : DiagramRow) → row_text l phases row ≡ [] → ⊥
+unfolding row_text place_line
+reported_some l phases row e =
     cons_some 10 []
-    (none_behind (around (codes "at ") row.p (codes " ") ++ class_of (get_or phases row.p Rest) ++ access_of l row.p row.act) (10 ∷ [])
-    (append_none (place_line l phases row) (told_by row.p row.act) e))
+    (none_after (around (codes "at ") row.p (codes " ") ++ class_of (get_or phases row.p Rest) ++ access_of l row.p row.act) (10 ∷ [])
+    (append_none (place_line l phases row) (reports_by row.p row.act) e))
 
-pub followed_some : (l : Layout) (phases : List LifelinePhase) (events : List Event) → (events ≡ [] → ⊥) → followed l phases events ≡ [] → ⊥
+pub followed_some : (l : Layout) (phases : List LifelinePhase) (events : List DiagramEvent) → (events ≡ [] → ⊥) → run_text l phases events ≡ [] → ⊥
 followed_some l phases [] some e = some refl
 followed_some l phases (x ∷ xs) some e =
     let next = phases_with phases (row_of x) in
-    told_some l next (row_of x) (append_none (row_told l next (row_of x)) (rows_told l next (map row_of xs)) e)
+    reported_some l next (row_of x) (append_none (row_text l next (row_of x)) (rows_text l next (map row_of xs)) e)
 
-pub followed_none : (l : Layout) (phases : List LifelinePhase) (events : List Event) → events ≡ [] → followed l phases events ≡ []
+pub followed_none : (l : Layout) (phases : List LifelinePhase) (events : List DiagramEvent) → events ≡ [] → run_text l phases events ≡ []
 followed_none l phases events none = rw none refl

@@ -12,8 +12,8 @@ use Rattle.rmecore.specs.declared.word.Word.TheVariants.{Choosing, Number, Insid
 use Rattle.redomail.specs.declared.deed.Deed.{Deed}
 use Rattle.rmeworld.specs.declared.answer.Answer.{Answer}
 use Rattle.rmeworld.specs.declared.stepped.Stepped.{Stepped}
-use Rattle.diagram.proofs.Common.{append-nil, replicate, Happened, Act, DiagramRow, Event, Took, Fell, events_in, events_shown, row_of, silent_step}
-use Rattle.diagram.specs.declared.act.Act.TheVariants as acts
+use Rattle.diagram.proofs.Common.{append-nil, replicate, Happened, RowAct, DiagramRow, DiagramEvent, Took, Fell, events_in, events_shown, row_of, silent_step}
+use Rattle.diagram.specs.declared.act.RowAct.TheVariants as acts
 use Rattle.diagram.specs.Followed.{act_of_step}
 use Rattle.diagram.specs.Repetitions.{wait_alike, is_same_word, is_bare, repeats, last_of, counted_by, counted_last, with_counted, with_row, with_events}
 use Rattle.diagram.proofs.Heard.{events_last}
@@ -70,7 +70,7 @@ step_shown p step None None no_deed no_answer = ap (λ (s : Stepped). Took p s �
 step_shown p step None (Some answer) no_deed is = refl
 step_shown p step (Some deed) answer is other = refl
 
-row_shown : (event : Event) → events_shown (row_of event).p (row_of event).act ≡ event ∷ []
+row_shown : (event : DiagramEvent) → events_shown (row_of event).p (row_of event).act ≡ event ∷ []
 row_shown (Took p step) = step_shown p step step.deed step.answer refl refl
 row_shown (Fell p deed) = refl
 
@@ -84,25 +84,25 @@ counted_if p old before happened times new true is at e =
     let all = all_of_three (p == old.p) (repeats before happened) (nat_lt times (2 ^ 64 - 1)) is in
     let again : DiagramRow = record { p = old.p; act = acts.Silent before (times + 1) } in
     let same : again ≡ new = cc in
-    let x : Event = Took old.p (silent_step before) in
+    let x : DiagramEvent = Took old.p (silent_step before) in
     ap (λ (row : DiagramRow). events_shown row.p row.act) (sym same) ∙ replicate_next times x
-    ∙ ap (λ (act : Act). events_shown old.p act ++ x ∷ []) (sym at)
+    ∙ ap (λ (act : RowAct). events_shown old.p act ++ x ∷ []) (sym at)
     ∙ ap (λ (q : ℕ). events_shown old.p old.act ++ Took q (silent_step before) ∷ []) (sym (eqb-true p old.p all.0))
     ∙ ap (λ (h : Happened). events_shown old.p old.act ++ Took p (silent_step h) ∷ []) (same_step before happened all.1)
 
-counted_silent : (p : ℕ) (old : DiagramRow) (before : Act) (happened : Happened) (new : DiagramRow) → old.act ≡ before → counted_by p old before (acts.Silent happened 1) ≡ Some new
+counted_silent : (p : ℕ) (old : DiagramRow) (before : RowAct) (happened : Happened) (new : DiagramRow) → old.act ≡ before → counted_by p old before (acts.Silent happened 1) ≡ Some new
     → events_shown new.p new.act ≡ events_shown old.p old.act ++ Took p (silent_step happened) ∷ []
 counted_silent p old (acts.Silent before times) happened new at is =
     counted_if p old before happened times new (p == old.p && repeats before happened && nat_lt times (2 ^ 64 - 1)) refl at is
 counted_silent p old (acts.Telling step) happened new at is = absurd cc
 counted_silent p old (acts.Fell deed) happened new at is = absurd cc
 
-no_step : (p : ℕ) (old : DiagramRow) (before : Act) (step : Stepped) (new : DiagramRow) → counted_by p old before (acts.Telling step) ≡ Some new → ⊥
+no_step : (p : ℕ) (old : DiagramRow) (before : RowAct) (step : Stepped) (new : DiagramRow) → counted_by p old before (acts.Telling step) ≡ Some new → ⊥
 no_step p old (acts.Silent happened times) step new is = cc
 no_step p old (acts.Telling other) step new is = cc
 no_step p old (acts.Fell deed) step new is = cc
 
-no_crash : (p : ℕ) (old : DiagramRow) (before : Act) (deed : Deed) (new : DiagramRow) → counted_by p old before (acts.Fell deed) ≡ Some new → ⊥
+no_crash : (p : ℕ) (old : DiagramRow) (before : RowAct) (deed : Deed) (new : DiagramRow) → counted_by p old before (acts.Fell deed) ≡ Some new → ⊥
 no_crash p old (acts.Silent happened times) deed new is = cc
 no_crash p old (acts.Telling step) deed new is = cc
 no_crash p old (acts.Fell other) deed new is = cc
@@ -114,7 +114,7 @@ counted_step p step old new None None no_deed no_answer is =
 counted_step p step old new None (Some answer) no_deed other is = absurd (no_step p old old.act step new is)
 counted_step p step old new (Some deed) answer other more is = absurd (no_step p old old.act step new is)
 
-counted_event : (event : Event) (o : Option DiagramRow) (new : DiagramRow) → counted_last (row_of event) o ≡ Some new
+counted_event : (event : DiagramEvent) (o : Option DiagramRow) (new : DiagramRow) → counted_last (row_of event) o ≡ Some new
     → (old : DiagramRow) × (o ≡ Some old) × (events_shown new.p new.act ≡ events_shown old.p old.act ++ event ∷ [])
 counted_event event None new is = absurd cc
 counted_event (Took p step) (Some old) new is = (old, refl, counted_step p step old new step.deed step.answer refl refl is)
@@ -122,32 +122,32 @@ counted_event (Fell p deed) (Some old) new is = absurd (no_crash p old old.act d
 
 -- ---- rows
 
-last_changed : (rows : List DiagramRow) (i : ℕ) (old new : DiagramRow) (x : Event) → length rows ≡ suc i → slice_get rows i ≡ Some old → events_shown new.p new.act ≡ events_shown old.p old.act ++ x ∷ []
+last_changed : (rows : List DiagramRow) (i : ℕ) (old new : DiagramRow) (x : DiagramEvent) → length rows ≡ suc i → slice_get rows i ≡ Some old → events_shown new.p new.act ≡ events_shown old.p old.act ++ x ∷ []
     → events_in (slice_set rows i new) ≡ events_in rows ++ x ∷ []
 last_changed [] i old new x long at more = absurd cc
 last_changed (row ∷ []) zero old new x long at more =
     let is : row ≡ old = cc in
     append-nil (events_shown new.p new.act) ∙ more ∙ ap (λ (r : DiagramRow). events_shown r.p r.act ++ x ∷ []) (sym is)
-    ∙ ap (λ (es : List Event). es ++ x ∷ []) (sym (append-nil (events_shown row.p row.act)))
+    ∙ ap (λ (es : List DiagramEvent). es ++ x ∷ []) (sym (append-nil (events_shown row.p row.act)))
 last_changed (row ∷ next ∷ rows) zero old new x long at more = absurd (omega (arith, long))
 last_changed (row ∷ rows) (suc i) old new x long at more =
-    ap (λ (es : List Event). events_shown row.p row.act ++ es) (last_changed rows i old new x (omega (arith, long)) at more)
+    ap (λ (es : List DiagramEvent). events_shown row.p row.act ++ es) (last_changed rows i old new x (omega (arith, long)) at more)
     ∙ sym (append_assoc (events_shown row.p row.act) (events_in rows) (x ∷ []))
 
 some_rows : (rows : List DiagramRow) (i : ℕ) (old : DiagramRow) → slice_get rows i ≡ Some old → length rows ≡ suc (length rows - 1)
 some_rows [] i old at = absurd cc
 some_rows (row ∷ rows) i old at = omega arith
 
-event_shown : (rows : List DiagramRow) (event : Event) → events_in (with_row rows (row_of event)) ≡ events_in rows ++ event ∷ []
+event_shown : (rows : List DiagramRow) (event : DiagramEvent) → events_in (with_row rows (row_of event)) ≡ events_in rows ++ event ∷ []
 event_shown rows event = by (counted_last (row_of event) (last_of rows)) refl
   where
     by : (o : Option DiagramRow) → counted_last (row_of event) (last_of rows) ≡ o → events_in (with_counted rows (row_of event) o) ≡ events_in rows ++ event ∷ []
-    by None is = events_last rows (row_of event) ∙ ap (λ (es : List Event). events_in rows ++ es) (row_shown event)
+    by None is = events_last rows (row_of event) ∙ ap (λ (es : List DiagramEvent). events_in rows ++ es) (row_shown event)
     by (Some new) is =
         let last = counted_event event (last_of rows) new is in
         last_changed rows (length rows - 1) last.0 new event (some_rows rows (length rows - 1) last.0 last.1) last.1 last.2
 
-pub all_shown : (rows : List DiagramRow) (events : List Event) → events_in (with_events rows events) ≡ events_in rows ++ events
+pub all_shown : (rows : List DiagramRow) (events : List DiagramEvent) → events_in (with_events rows events) ≡ events_in rows ++ events
 all_shown rows [] = sym (append-nil (events_in rows))
 all_shown rows (event ∷ events) =
-    all_shown (with_row rows (row_of event)) events ∙ ap (λ (es : List Event). es ++ events) (event_shown rows event) ∙ append_assoc (events_in rows) (event ∷ []) events
+    all_shown (with_row rows (row_of event)) events ∙ ap (λ (es : List DiagramEvent). es ++ events) (event_shown rows event) ∙ append_assoc (events_in rows) (event ∷ []) events

@@ -9,20 +9,20 @@ use Rattle.schedule.specs.declared.texts.fault.OutOfMemory.{OutOfMemory}
 use Rattle.schedule.specs.Effects.{HearsAll, BreaksOffAt}
 use Rattle.schedule.specs.Fragments.{itself, run_on as run_by}
 use Rattle.schedule.specs.Plays.{PlaysOn as RunPlays}
-use Rattle.diagram.proofs.Common.{Behaviour, Refusal, Line, Part, run_on, transitions_of, DiagramRow, DiagramStop, Event, events_on, CollectsRun}
+use Rattle.diagram.proofs.Common.{Behaviour, Refusal, Line, Part, run_on, transitions_of, DiagramRow, DiagramStop, DiagramEvent, events_on, CollectsRun}
 use Rattle.diagram.proofs.NotEmpty.{cons_some}
 use Rattle.diagram.proofs.RunEvents.{run_left, run_refused}
-use Rattle.diagram.specs.declared.collecting.Rows.{Rows}
+use Rattle.diagram.specs.declared.row_collector.Rows.{Rows}
 use Rattle.diagram.specs.Repetitions.{with_events}
 use Rattle.diagram.specs.RowCollections.{stop_by, stop_of}
 use Rattle.diagram.specs.RowEffects.{row_effects}
 
-rows_heard : (first now : Rows) (events : List Event) → HearsAll row_effects.hears first events now → now.rows.items ≡ with_events first.rows.items events
+rows_heard : (first now : Rows) (events : List DiagramEvent) → HearsAll row_effects.hears first events now → now.rows.items ≡ with_events first.rows.items events
 rows_heard first now [] same = ap (λ (rows : Rows). rows.rows.items) same
 rows_heard first now (event ∷ events) all = rows_heard all.0 now events all.2 ∙ ap (λ (rows : List DiagramRow). with_events rows events) all.1
 
 -- what breaks off at an event has one
-pub some_event : {L : Type 0} (hears : L → Event → L → Type 0) (at : L → Event → Type 0) (first : L) (events : List Event) → BreaksOffAt hears at first events → events ≡ [] → ⊥
+pub some_event : {L : Type 0} (hears : L → DiagramEvent → L → Type 0) (at : L → DiagramEvent → Type 0) (first : L) (events : List DiagramEvent) → BreaksOffAt hears at first events → events ≡ [] → ⊥
 some_event hears at first [] breaks none = absurd breaks
 some_event hears at first (event ∷ events) breaks none = cons_some event events none
 
@@ -31,7 +31,7 @@ abbrev pub stops_of : Result (Unit {0}) (ℕ × PlayStop Refusal OutOfMemory) �
 stops_of (Ok x) = Ok x
 stops_of (Err stop) = Err (stop.0, stop_of stop.1)
 
-refused_at : {S : Type 0} (before now : List DiagramRow) (events : List Event) (run : Part S (ℕ × Refusal)) (s : S) (line : ℕ) (refusal : Refusal) (number : Option ℕ) → number_of refusal ≡ number
+refused_at : {S : Type 0} (before now : List DiagramRow) (events : List DiagramEvent) (run : Part S (ℕ × Refusal)) (s : S) (line : ℕ) (refusal : Refusal) (number : Option ℕ) → number_of refusal ≡ number
     → (refusal ≡ refusals.OutOfMemory → ⊥) → now ≡ with_events before events → run.refused ≡ Some (line, refusal) → s ≡ run.left
     → CollectsRun {S = S} {A = Unit {0}} before now events run s (Err (line, stop_by number))
 refused_at before now events run s line refusal None is some rows refused stands = absurd (some (unnumbered refusal is))

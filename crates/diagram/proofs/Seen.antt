@@ -4,19 +4,19 @@ use Rattle.rmecore.specs.Refused.{number_of}
 use Rattle.rmecore.specs.declared.refusal.Refusal.TheVariants as refusals
 use Rattle.redomail.specs.declared.layout.Layout.{Layout}
 use Rattle.rmeworld.specs.declared.stepped.Stepped.{Stepped}
-use Rattle.diagram.proofs.Common.{Behaviour, Event, Refusal, followed, row_of, row_told}
+use Rattle.diagram.proofs.Common.{Behaviour, DiagramEvent, Refusal, run_text, row_of, row_text}
 use Rattle.diagram.specs.LastSteps.{LastStepsState, last_steps_with}
 use Rattle.diagram.specs.LockSimulations.{steps_to_answer}
 
 -- ---- events
 
 -- one event is written, and the others are left
-pub seen_event : (l : Layout) (last_steps : LastStepsState) (e : Event) (rest : List Event) (old mid : List ℕ)
-    → mid ≡ old ++ row_told l (last_steps_with last_steps (row_of e)).phases (row_of e)
-    → mid ++ followed l (last_steps_with last_steps (row_of e)).phases rest ≡ old ++ followed l last_steps.phases (e ∷ rest)
+pub seen_event : (l : Layout) (last_steps : LastStepsState) (e : DiagramEvent) (rest : List DiagramEvent) (old mid : List ℕ)
+    → mid ≡ old ++ row_text l (last_steps_with last_steps (row_of e)).phases (row_of e)
+    → mid ++ run_text l (last_steps_with last_steps (row_of e)).phases rest ≡ old ++ run_text l last_steps.phases (e ∷ rest)
 seen_event l last_steps e rest old mid is =
-    ap (λ (t : List ℕ). t ++ followed l (last_steps_with last_steps (row_of e)).phases rest) is
-    ∙ append_assoc old (row_told l (last_steps_with last_steps (row_of e)).phases (row_of e)) (followed l (last_steps_with last_steps (row_of e)).phases rest)
+    ap (λ (t : List ℕ). t ++ run_text l (last_steps_with last_steps (row_of e)).phases rest) is
+    ∙ append_assoc old (row_text l (last_steps_with last_steps (row_of e)).phases (row_of e)) (run_text l (last_steps_with last_steps (row_of e)).phases rest)
 
 -- ---- refusals
 

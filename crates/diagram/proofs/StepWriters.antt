@@ -9,11 +9,11 @@ use Rattle.schedule.specs.Effects.{HearsAll, BreaksOffAt}
 use Rattle.schedule.specs.Fragments.{itself, line_on as line_by}
 use Rattle.schedule.specs.Plays.{Plays}
 use Rattle.schedule.specs.Transitions.{IsLoud}
-use Rattle.diagram.proofs.Common.{append-nil, Behaviour, Refusal, Line, line_on, transitions_of, Event, events_of, followed}
+use Rattle.diagram.proofs.Common.{append-nil, Behaviour, Refusal, Line, line_on, transitions_of, DiagramEvent, events_of, run_text}
 use Rattle.diagram.proofs.RowCollections.{some_event}
 use Rattle.diagram.proofs.RunEvents.{line_refused, same_left, same_refused}
 use Rattle.diagram.proofs.Seen.{seen_event}
-use Rattle.diagram.specs.declared.session.stepping.StepWriter.{StepWriter}
+use Rattle.diagram.specs.declared.session.line_play.StepWriter.{StepWriter}
 use Rattle.diagram.specs.LastSteps.{LastStepsState, last_steps_after, number_refused, IsNumberOf}
 use Rattle.diagram.specs.StepWriters.{KeepsPlaces, WritesEvent, WritesLine, step_effects}
 
@@ -24,12 +24,12 @@ same_as : (a b c : StepWriter) → KeepsPlaces a b → KeepsPlaces b c → Keeps
 same_as a b c one more = record { layout = more.layout ∙ one.layout; last_steps = more.last_steps ∙ one.last_steps; out = more.out ∙ one.out }
 
 -- these events are written
-record Written (first now : StepWriter) (events : List Event) : Type 0 where
+record Written (first now : StepWriter) (events : List DiagramEvent) : Type 0 where
   same : KeepsPlaces first now
-  text : now.out.now.items ≡ first.out.now.items ++ followed first.layout first.last_steps.now.phases events
+  text : now.out.now.items ≡ first.out.now.items ++ run_text first.layout first.last_steps.now.phases events
   last_steps : now.last_steps.now ≡ last_steps_after first.last_steps.now events
 
-all_written : (first now : StepWriter) (events : List Event) → HearsAll WritesEvent first events now → Written first now events
+all_written : (first now : StepWriter) (events : List DiagramEvent) → HearsAll WritesEvent first events now → Written first now events
 all_written first now [] same = rw same (record { same = no_change first; text = sym (append-nil first.out.now.items); last_steps = refl })
 all_written first now (event ∷ events) all =
     let next = all.0 in
@@ -38,15 +38,15 @@ all_written first now (event ∷ events) all =
     record {
       same = same_as first next now one.same more.same;
       text = more.text
-          ∙ ap (λ (l : Layout). next.out.now.items ++ followed l next.last_steps.now.phases events) one.same.layout
-          ∙ ap (λ (last : LastStepsState). next.out.now.items ++ followed first.layout last.phases events) one.last_steps
+          ∙ ap (λ (l : Layout). next.out.now.items ++ run_text l next.last_steps.now.phases events) one.same.layout
+          ∙ ap (λ (last : LastStepsState). next.out.now.items ++ run_text first.layout last.phases events) one.last_steps
           ∙ seen_event first.layout first.last_steps.now event events first.out.now.items next.out.now.items one.text;
       last_steps = more.last_steps ∙ ap (λ (last : LastStepsState). last_steps_after last events) one.last_steps;
     }
 
 -- some events were written, and then this ends it
-same_in : (at : StepWriter → Event → Type 0) (now : StepWriter) → ((next : StepWriter) (event : Event) → at next event → KeepsPlaces next now)
-    → (first : StepWriter) (events : List Event) → BreaksOffAt WritesEvent at first events → KeepsPlaces first now
+same_in : (at : StepWriter → DiagramEvent → Type 0) (now : StepWriter) → ((next : StepWriter) (event : DiagramEvent) → at next event → KeepsPlaces next now)
+    → (first : StepWriter) (events : List DiagramEvent) → BreaksOffAt WritesEvent at first events → KeepsPlaces first now
 same_in at now last first [] breaks = absurd breaks
 same_in at now last first (event ∷ events) (inl here) = last first event here
 same_in at now last first (event ∷ events) (inr later) = same_as first later.0 now later.1.same (same_in at now last later.0 events later.2)
@@ -84,8 +84,8 @@ module _ {S : Type 0} (b : Behaviour S) where
         last_steps = all.last_steps;
         left_is = is.0.stands ∙ sym (same_left b s line);
         unchanged = unchanged_of number (
-          all.text ∙ ap (λ (events : List Event). first.out.now.items ++ followed first.layout first.last_steps.now.phases events) silent ∙ append-nil first.out.now.items,
-          all.last_steps ∙ ap (λ (events : List Event). last_steps_after first.last_steps.now events) silent,
+          all.text ∙ ap (λ (events : List DiagramEvent). first.out.now.items ++ run_text first.layout first.last_steps.now.phases events) silent ∙ append-nil first.out.now.items,
+          all.last_steps ∙ ap (λ (events : List DiagramEvent). last_steps_after first.last_steps.now events) silent,
           is.0.stands ∙ none.1,
         );
         memory = tt;

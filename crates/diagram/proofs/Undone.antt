@@ -11,7 +11,7 @@ use Rattle.diagram.proofs.Common.{Line, Step}
 use Rattle.diagram.specs.declared.session.request.Request.{Request}
 use Rattle.diagram.specs.declared.session.request.Request.TheVariants as requests
 use Rattle.diagram.specs.Semantics.{Semantics, lines_on}
-use Rattle.diagram.specs.Sessions.{IsOfSchedule, SessionState, after_redo, after_request, after_undo, answered_by, at_schedule, last_line, played, played_by, redone_by, refusal_in, request_in, session_after, shortened, taken, undone_by, way_of, without_last}
+use Rattle.diagram.specs.Sessions.{IsOfSchedule, SessionState, after_redo, after_request, after_undo, answered_by, at_schedule, last_line, played, played_by, redone_by, refusal_in, request_in, session_after, without_last_line, taken, undone_by, way_of, without_last}
 
 -- ---- lines
 
@@ -55,7 +55,7 @@ module _ {S : Type 0} (b : Semantics S) (begins_after : (s : S) (line : Line) (h
 
   kept_undone : (session : SessionState S) (line : Option Line) → IsOfSchedule b session → IsOfSchedule b (undone_by b session line)
   kept_undone session None h = h
-  kept_undone session (Some line) h = is_at session.simulation (shortened session.schedule) (session.undone ++ line ∷ [])
+  kept_undone session (Some line) h = is_at session.simulation (without_last_line session.schedule) (session.undone ++ line ∷ [])
 
   kept_redone : (session : SessionState S) (line : Option Line) → IsOfSchedule b session → IsOfSchedule b (redone_by b session line)
   kept_redone session None h = h

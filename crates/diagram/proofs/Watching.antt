@@ -29,9 +29,9 @@ pub holder_here : (p : ℕ) (own : Own) (owns : List Own) → is_inside own ≡ 
 holder_here p own owns is = rw is refl
 
 -- a line that can't be read is answered by its fault
-pub fault_told : {S : Type 0} (b : Semantics S) (session : SessionState S) (line : List ℕ) (fault : LineFault) (old new : List ℕ) (w n k : ℕ) → request_at w (words_of line) ≡ Err fault
+pub fault_reported : {S : Type 0} (b : Semantics S) (session : SessionState S) (line : List ℕ) (fault : LineFault) (old new : List ℕ) (w n k : ℕ) → request_at w (words_of line) ≡ Err fault
     → w ≡ session.schedule.width → n ≡ next_number session → k ≡ number_of fault → new ≡ old ++ fault_text n (codes "fault ") k → new ≡ old ++ text_of_request b session (request_in session line)
-fault_told b session line fault old new w n k asked same next number is =
+fault_reported b session line fault old new w n k asked same next number is =
     let e : request_in session line ≡ Err fault = ap (λ (x : ℕ). request_at x (words_of line)) (sym same) ∙ asked in
     is ∙ ap (λ (x : ℕ). old ++ fault_text x (codes "fault ") k) next ∙ ap (λ (x : ℕ). old ++ fault_text (next_number session) (codes "fault ") x) number
     ∙ ap (λ (r : Result Request LineFault). old ++ text_of_request b session r) (sym e)

@@ -6,10 +6,10 @@ use Rattle.rmecore.specs.declared.phase.Phase.TheVariants as phases
 use Rattle.schedule.specs.declared.lines.line.Line.{Line}
 use Rattle.schedule.specs.declared.lines.line.Line.TheVariants.{Start, Step, Crash}
 use Rattle.algorithms.specs.declared.access.Advanced.{Advanced}
-use Rattle.algorithm_lab.specs.Monitors.{MonitorState, Part, phase_of, advanced_on, step_on, crash_on}
+use Rattle.algorithm_lab.specs.Monitors.{MonitorState, EventPart, phase_of, advanced_on, step_on, crash_on}
 use Rattle.algorithm_lab.specs.Runs.{line_on}
 use Rattle.algorithm_lab.specs.declared.run_refusal.RunRefusal.{RunRefusal}
-use Rattle.algorithm_lab.specs.declared.told.Told.{Told}
+use Rattle.algorithm_lab.specs.declared.run_report.TextReport.{TextReport}
 use Rattle.diagram.specs.declared.algorithm.row.AlgorithmAct.{AlgorithmAct}
 use Rattle.diagram.specs.declared.algorithm.row.AlgorithmAct.TheVariants.{Took, Blocked, Crashed}
 use Rattle.diagram.specs.declared.phase.LifelinePhase.{LifelinePhase}
@@ -20,7 +20,7 @@ pub record AlgorithmEvent : Type 0 where
   pub p : ℕ
   pub act : AlgorithmAct
   pub phase : LifelinePhase
-  pub told : List Told
+  pub reports : List TextReport
 
 -- a step, as it is drawn
 abbrev pub act_of : Advanced → AlgorithmAct
@@ -35,20 +35,20 @@ lifeline_phase phases.Inside = Section
 lifeline_phase phases.DeadIn = Dead
 
 -- the event of a step of p, none where it is refused
-abbrev pub step_by : ℕ → Result Advanced RunRefusal → Result Part RunRefusal → List AlgorithmEvent
-step_by p (Ok a) (Ok part) = record { p = p; act = act_of a; phase = lifeline_phase (phase_of part.left p); told = part.told } ∷ []
+abbrev pub step_by : ℕ → Result Advanced RunRefusal → Result EventPart RunRefusal → List AlgorithmEvent
+step_by p (Ok a) (Ok part) = record { p = p; act = act_of a; phase = lifeline_phase (phase_of part.left p); reports = part.reports } ∷ []
 step_by p a part = []
 
 abbrev pub step_event : MonitorState → ℕ → List AlgorithmEvent
 step_event m p = step_by p (advanced_on m p) (step_on m p)
 
 -- the event of a crash of p, none where it is refused
-abbrev pub crash_by : ℕ → Result Part RunRefusal → List AlgorithmEvent
-crash_by p (Ok part) = record { p = p; act = Crashed; phase = Dead; told = part.told } ∷ []
+abbrev pub crash_by : ℕ → Result EventPart RunRefusal → List AlgorithmEvent
+crash_by p (Ok part) = record { p = p; act = Crashed; phase = Dead; reports = part.reports } ∷ []
 crash_by p (Err e) = []
 
 -- those of the steps after one, unless it ends its call or is refused
-abbrev pub events_after : Result Part RunRefusal → (MonitorState → List AlgorithmEvent) → List AlgorithmEvent
+abbrev pub events_after : Result EventPart RunRefusal → (MonitorState → List AlgorithmEvent) → List AlgorithmEvent
 events_after (Ok part) rest = if part.ended then [] else rest part.left
 events_after (Err e) rest = []
 

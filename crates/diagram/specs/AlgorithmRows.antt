@@ -4,13 +4,13 @@ use Rattle.std.specs.Fmt.{decimal}
 use Rattle.std.specs.List.{flat_map}
 use Rattle.redomail.specs.declared.deed.Deed.{Deed}
 use Rattle.redomail.specs.declared.deed.Deed.TheVariants.{Outer}
-use Rattle.algorithms.specs.declared.access.Access.{Access}
+use Rattle.algorithms.specs.declared.access.WordAccess.{WordAccess}
 use Rattle.algorithms.specs.declared.access.Address.{Address}
 use Rattle.algorithms.specs.declared.algorithm.Algorithm.{Algorithm}
 use Rattle.algorithms.specs.declared.algorithm.Declaration.{Declaration}
-use Rattle.algorithm_lab.specs.Reports.{told_line}
-use Rattle.algorithm_lab.specs.declared.told.Told.{Told}
-use Rattle.algorithm_lab.specs.declared.told.Told.TheVariants.{Did, Answered}
+use Rattle.algorithm_lab.specs.Reports.{line_of_report}
+use Rattle.algorithm_lab.specs.declared.run_report.TextReport.{TextReport}
+use Rattle.algorithm_lab.specs.declared.run_report.TextReport.TheVariants.{Did, Answered}
 use Rattle.diagram.specs.declared.algorithm.row.AlgorithmAct.{AlgorithmAct}
 use Rattle.diagram.specs.declared.algorithm.row.AlgorithmAct.TheVariants.{Took, Blocked, Further, Crashed}
 use Rattle.diagram.specs.declared.algorithm.row.AlgorithmRow.{AlgorithmRow}
@@ -18,19 +18,19 @@ use Rattle.diagram.specs.declared.mark.Mark.{Mark}
 use Rattle.diagram.specs.declared.mark.Mark.TheVariants as marks
 use Rattle.diagram.specs.AlgorithmEvents.{AlgorithmEvent}
 use Rattle.diagram.specs.ShownRows.{ShownRowState, sign_width}
-use Rattle.diagram.specs.Signs.{indexed}
+use Rattle.diagram.specs.Signs.{indexed_name}
 
 -- ---- the rows of events
 
 -- a further line of what a row of p reports
-abbrev pub further : ℕ → Told → AlgorithmRow
-further p told = record { p = p; act = Further; phase = None; told = Some told }
+abbrev pub further_row : ℕ → TextReport → AlgorithmRow
+further_row p reports = record { p = p; act = Further; phase = None; reports = Some reports }
 
 -- the rows of an event: one for each line that it reports, and at least one
 abbrev pub rows_of : AlgorithmEvent → List AlgorithmRow
 rows_of event =
-    record { p = event.p; act = event.act; phase = Some event.phase; told = slice_get event.told 0 }
-    ∷ map (further event.p) (drop 1 event.told)
+    record { p = event.p; act = event.act; phase = Some event.phase; reports = slice_get event.reports 0 }
+    ∷ map (further_row event.p) (drop 1 event.reports)
 
 -- the last of the rows so far
 abbrev pub last_of : List AlgorithmRow → Option AlgorithmRow
@@ -43,13 +43,13 @@ is_same_word a b = a.declaration == b.declaration && a.index == b.index
 abbrev pub counted_by : ℕ → AlgorithmRow → AlgorithmAct → AlgorithmAct → Option AlgorithmRow
 counted_by p row (Blocked word value times) (Blocked again read once) =
     if p == row.p && is_same_word again word && read == value && nat_lt times (2 ^ 64 - 1)
-    then Some (record { p = row.p; act = Blocked word value (times + 1); phase = row.phase; told = row.told })
+    then Some (record { p = row.p; act = Blocked word value (times + 1); phase = row.phase; reports = row.reports })
     else None
 counted_by p row before now = None
 
-abbrev pub counted : ℕ → AlgorithmAct → Option AlgorithmRow → Option AlgorithmRow
-counted p act None = None
-counted p act (Some row) = counted_by p row row.act act
+abbrev pub row_counted_again : ℕ → AlgorithmAct → Option AlgorithmRow → Option AlgorithmRow
+row_counted_again p act None = None
+row_counted_again p act (Some row) = counted_by p row row.act act
 
 abbrev pub with_counted : List AlgorithmRow → AlgorithmEvent → Option AlgorithmRow → List AlgorithmRow
 with_counted rows event None = rows ++ rows_of event
@@ -57,7 +57,7 @@ with_counted rows event (Some row) = slice_set rows (length rows - 1) row
 
 -- the rows after an event
 abbrev pub with_event : List AlgorithmRow → AlgorithmEvent → List AlgorithmRow
-with_event rows event = with_counted rows event (counted event.p event.act (last_of rows))
+with_event rows event = with_counted rows event (row_counted_again event.p event.act (last_of rows))
 
 -- the rows after events
 abbrev pub with_events : List AlgorithmRow → List AlgorithmEvent → List AlgorithmRow
@@ -70,7 +70,7 @@ with_events rows (event ∷ events) = with_events (with_event rows event) events
 abbrev pub word_of : Option Declaration → ℕ → List ℕ
 word_of None index = []
 word_of (Some declaration) index =
-    if declaration.each then indexed (string_bytes declaration.name) index else string_bytes declaration.name
+    if declaration.each then indexed_name (string_bytes declaration.name) index else string_bytes declaration.name
 
 abbrev pub word_sign : Algorithm → Address → List ℕ
 word_sign a address = word_of (slice_get a.declarations.items address.declaration) address.index
@@ -80,7 +80,7 @@ abbrev pub load_sign : Algorithm → Address → ℕ → List ℕ
 load_sign a address value = codes "r " ++ word_sign a address ++ codes " " ++ decimal value
 
 -- a store as w flag[0]=1
-abbrev pub access_sign : Algorithm → Access → ℕ → List ℕ
+abbrev pub access_sign : Algorithm → WordAccess → ℕ → List ℕ
 access_sign a access value =
     if is_some access.stores then codes "w " ++ word_sign a access.address ++ codes "=" ++ decimal value
     else load_sign a access.address value
@@ -107,14 +107,14 @@ mark_of Crashed = marks.Crash
 mark_of act = marks.Step
 
 -- the deed in what a row reports
-abbrev pub deed_told : Option Told → Option Deed
-deed_told (Some (Did outer)) = Some (Outer outer)
-deed_told told = None
+abbrev pub deed_report : Option TextReport → Option Deed
+deed_report (Some (Did outer)) = Some (Outer outer)
+deed_report reports = None
 
 -- the line of the answer in what a row reports
-abbrev pub answer_told : Algorithm → Option Told → List ℕ
-answer_told a (Some (Answered p answer)) = told_line a (Answered p answer)
-answer_told a told = []
+abbrev pub answer_reported : Algorithm → Option TextReport → List ℕ
+answer_reported a (Some (Answered p answer)) = line_of_report a (Answered p answer)
+answer_reported a reports = []
 
 abbrev pub shown_in : Algorithm → AlgorithmRow → ShownRowState
 shown_in a row =
@@ -124,17 +124,17 @@ shown_in a row =
       wide = wide_of row.act;
       mark = mark_of row.act;
       phase = row.phase;
-      deed = deed_told row.told;
-      answer = answer_told a row.told;
+      deed = deed_report row.reports;
+      answer = answer_reported a row.reports;
     }
 
 -- ---- what rows report
 
 -- the line that a row reports, if it reports one
-abbrev pub reported_by : Option Told → List Told
+abbrev pub reported_by : Option TextReport → List TextReport
 reported_by None = []
-reported_by (Some told) = told ∷ []
+reported_by (Some reports) = reports ∷ []
 
 -- what rows report
-abbrev pub reported_in : List AlgorithmRow → List Told
-reported_in rows = flat_map (λ row. reported_by row.told) rows
+abbrev pub reported_in : List AlgorithmRow → List TextReport
+reported_in rows = flat_map (λ row. reported_by row.reports) rows

@@ -5,10 +5,10 @@ use Rattle.schedule.specs.declared.lines.line.Line.{Line}
 use Rattle.schedule.specs.Schedules.{Scheduled}
 use Rattle.algorithms.specs.declared.algorithm.Algorithm.{Algorithm}
 use Rattle.algorithm_lab.proofs.Restarts.{line_leaves}
-use Rattle.algorithm_lab.specs.Monitors.{MonitorState, Part, first_monitor, restarted, step_on}
+use Rattle.algorithm_lab.specs.Monitors.{MonitorState, EventPart, first_monitor, monitor_at_beginning, step_on}
 use Rattle.algorithm_lab.specs.Refusals.{number_of}
-use Rattle.algorithm_lab.specs.Reports.{told_text}
-use Rattle.algorithm_lab.specs.Runs.{Run, line_on}
+use Rattle.algorithm_lab.specs.Reports.{reports_text}
+use Rattle.algorithm_lab.specs.Runs.{AlgorithmRun, line_on}
 use Rattle.algorithm_lab.specs.declared.run_refusal.RunRefusal.{RunRefusal}
 use Rattle.diagram.specs.declared.algorithm.row.AlgorithmAct.{AlgorithmAct}
 use Rattle.diagram.specs.declared.algorithm.row.AlgorithmAct.TheVariants.{Crashed}
@@ -34,7 +34,7 @@ event_line a p act phase = around (codes "at ") p (codes " ") ++ class_of phase 
 
 -- a step or a crash, and what it reports
 abbrev pub event_text : Algorithm → AlgorithmEvent → List ℕ
-event_text a event = event_line a event.p event.act event.phase ++ told_text a event.told
+event_text a event = event_line a event.p event.act event.phase ++ reports_text a event.reports
 
 abbrev pub events_text : Algorithm → List AlgorithmEvent → List ℕ
 events_text a events = flat_map (event_text a) events
@@ -46,7 +46,7 @@ number_by None = None
 number_by (Some refusal) = number_of refusal
 
 -- a line of steps that is refused in its midst leaves nothing of the steps before
-abbrev pub left_by : MonitorState → Run RunRefusal → Option RunRefusal → MonitorState
+abbrev pub left_by : MonitorState → AlgorithmRun RunRefusal → Option RunRefusal → MonitorState
 left_by m run None = run.left
 left_by m run (Some refusal) = m
 
@@ -55,14 +55,14 @@ text_by a events None = events_text a events
 text_by a events (Some refusal) = []
 
 -- a step or a crash leaves this
-abbrev pub IsLeft : Result Part RunRefusal → MonitorState → Type 0
+abbrev pub IsLeft : Result EventPart RunRefusal → MonitorState → Type 0
 IsLeft (Ok part) left = left ≡ part.left
 IsLeft (Err refusal) left = ⊥
 
 -- ---- until a call is answered
 
 -- the number of a step is this one where it is refused or ends its call
-abbrev pub count_by : Result Part RunRefusal → ℕ → (MonitorState → Option ℕ) → Option ℕ
+abbrev pub count_by : Result EventPart RunRefusal → ℕ → (MonitorState → Option ℕ) → Option ℕ
 count_by (Ok part) k rest = if part.ended then Some k else rest part.left
 count_by (Err e) k rest = Some k
 
@@ -76,7 +76,7 @@ count_on p k (suc n) m = count_by (step_on m p) (k + 1) (count_on p (k + 1) n)
 abbrev pub algorithm_semantics : Semantics MonitorState
 algorithm_semantics =
     record {
-      first = λ m head. restarted m;
+      first = λ m head. monitor_at_beginning m;
       refusal = λ m line. number_by (line_on m line).refused;
       after = λ m line. left_by m (line_on m line) (line_on m line).refused;
       steps_text = λ head m line. text_by m.world.algorithm (events_of m line) (line_on m line).refused;
@@ -90,9 +90,9 @@ algorithm_session a schedule = at_schedule algorithm_semantics (first_monitor a 
 
 -- ---- a schedule begins in the same state whatever was played before
 
-begins_after_run : (m : MonitorState) (run : Run RunRefusal) (refused : Option RunRefusal) → restarted run.left ≡ restarted m → restarted (left_by m run refused) ≡ restarted m
+begins_after_run : (m : MonitorState) (run : AlgorithmRun RunRefusal) (refused : Option RunRefusal) → monitor_at_beginning run.left ≡ monitor_at_beginning m → monitor_at_beginning (left_by m run refused) ≡ monitor_at_beginning m
 begins_after_run m run None same = same
 begins_after_run m run (Some refusal) same = refl
 
-pub begins_after_line : (m : MonitorState) (line : Line) → restarted (left_by m (line_on m line) (line_on m line).refused) ≡ restarted m
+pub begins_after_line : (m : MonitorState) (line : Line) → monitor_at_beginning (left_by m (line_on m line) (line_on m line).refused) ≡ monitor_at_beginning m
 begins_after_line m line = begins_after_run m (line_on m line) (line_on m line).refused (line_leaves m line)

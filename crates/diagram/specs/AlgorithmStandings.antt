@@ -6,12 +6,12 @@ use Rattle.rmecore.specs.declared.phase.Phase.{Phase}
 use Rattle.rmecore.specs.declared.phase.Phase.TheVariants as phases
 use Rattle.algorithms.specs.declared.algorithm.Algorithm.{Algorithm}
 use Rattle.algorithms.specs.declared.algorithm.Declaration.{Declaration}
-use Rattle.algorithms.specs.declared.line.Line.{Line}
-use Rattle.algorithms.specs.declared.process.Place.{Place}
-use Rattle.algorithms.specs.declared.process.Place.TheVariants.{Rest, Dead, At}
-use Rattle.algorithms.specs.declared.process.Process.{Process}
+use Rattle.algorithms.specs.declared.line.AlgorithmLine.{AlgorithmLine}
+use Rattle.algorithms.specs.declared.process.AlgorithmPlace.{AlgorithmPlace}
+use Rattle.algorithms.specs.declared.process.AlgorithmPlace.TheVariants.{Rest, Dead, At}
+use Rattle.algorithms.specs.declared.process.AlgorithmProcess.{AlgorithmProcess}
 use Rattle.algorithm_lab.specs.Monitors.{MonitorState}
-use Rattle.algorithm_lab.specs.Reports.{used, words_line}
+use Rattle.algorithm_lab.specs.Reports.{words_used, words_line}
 use Rattle.diagram.specs.Pictures.{around}
 
 -- ---- a process
@@ -25,12 +25,12 @@ phase_text phases.Inside = codes "inside"
 phase_text phases.DeadIn = codes "crashed inside"
 
 -- the number that a line has in the text; 0 where there is no line
-abbrev pub number_of_line : Option Line → ℕ
+abbrev pub number_of_line : Option AlgorithmLine → ℕ
 number_of_line None = 0
 number_of_line (Some line) = line.number
 
 -- where it is among the lines
-abbrev pub place_text : Algorithm → Place → List ℕ
+abbrev pub place_text : Algorithm → AlgorithmPlace → List ℕ
 place_text a Rest = codes ", no call"
 place_text a Dead = codes ", no call since its crash"
 place_text a (At at) = around (codes ", before line ") (number_of_line (slice_get a.lines.items at)) []
@@ -45,12 +45,12 @@ names_text store at [] = []
 names_text store at (name ∷ names) = name_text (string_bytes name) (slice_index_or store at 0) ++ names_text store (at + 1) names
 
 -- its line
-unfoldable pub process_line : Algorithm → ℕ → Phase → Process → List ℕ
+unfoldable pub process_line : Algorithm → ℕ → Phase → AlgorithmProcess → List ℕ
 process_line a p phase process =
     around (codes "process ") p (codes ": ") ++ phase_text phase ++ place_text a process.place ++ names_text process.store 0 a.names.items ++ 10 ∷ []
 
 -- the processes from p on
-abbrev pub process_lines : Algorithm → List Phase → ℕ → List Process → List ℕ
+abbrev pub process_lines : Algorithm → List Phase → ℕ → List AlgorithmProcess → List ℕ
 process_lines a heard p [] = []
 process_lines a heard p (process ∷ processes) =
     process_line a p (slice_index_or heard p phases.Out) process ++ process_lines a heard (p + 1) processes
@@ -64,7 +64,7 @@ has_value (word ∷ words) = if word == 0 then has_value words else true
 
 -- the line of a declaration, as at the end of a report. None where its words are 0
 abbrev pub words_shown : ℕ → Declaration → List ℕ → List ℕ
-words_shown procs declaration row = if has_value (take (used procs declaration) row) then words_line procs declaration row else []
+words_shown procs declaration row = if has_value (take (words_used procs declaration) row) then words_line procs declaration row else []
 
 -- the lines of declarations, of which the first has the row at this place
 abbrev pub all_words_shown : ℕ → List (List ℕ) → ℕ → List Declaration → List ℕ

@@ -3,7 +3,7 @@ use Rattle.std.specs.Prelude.{ℕ, ◌+◌, ◌-◌, ◌==◌, Bool, List, [], �
 use Rattle.std.specs.Fmt.{decimal}
 use Rattle.std.proofs.Math.ListN.{replicate}
 use Rattle.redomail.specs.declared.deed.Deed.{Deed}
-use Rattle.schedule.specs.Reports.{told_line, verdict_line}
+use Rattle.schedule.specs.Reports.{line_of_report, verdict_line}
 use Rattle.schedule.specs.Runs.{Did}
 use Rattle.diagram.specs.declared.drawing.End.{End}
 use Rattle.diagram.specs.declared.drawing.End.TheVariants.{Judged, Refused}
@@ -20,8 +20,8 @@ abbrev pub spaces : ℕ → List ℕ
 spaces n = replicate n 32
 
 -- a text with spaces up to a width
-abbrev pub filled : ℕ → List ℕ → List ℕ
-filled wide text = text ++ spaces (wide - length text)
+abbrev pub padded_text : ℕ → List ℕ → List ℕ
+padded_text wide text = text ++ spaces (wide - length text)
 
 -- the bar of a phase: . rest, : doorway, | waiting, # section
 abbrev pub bar_of : LifelinePhase → ℕ
@@ -38,7 +38,7 @@ bar_at mark phase = bar_of phase
 
 -- the cell of a row
 abbrev pub cell : ShownRowState → List ℕ
-cell row = 32 ∷ filled row.wide row.sign
+cell row = 32 ∷ padded_text row.wide row.sign
 
 -- a column without an access
 unfoldable pub blank : LifelinePhase → List ℕ
@@ -68,7 +68,7 @@ lead marked = if marked then codes " >>> " else codes " "
 abbrev pub telling : List LifelinePhase → Bool → Option Deed → List ℕ → List ℕ
 telling phases marked None answer = if length answer == 0 then 10 ∷ [] else 32 ∷ answer
 telling phases marked (Some deed) answer =
-    lead marked ++ told_line (Did deed) ++ (if length answer == 0 then [] else bars phases ++ 124 ∷ 32 ∷ answer)
+    lead marked ++ line_of_report (Did deed) ++ (if length answer == 0 then [] else bars phases ++ 124 ∷ 32 ∷ answer)
 
 -- a row, with what it reports at the right
 abbrev pub row_text : List LifelinePhase → Bool → ShownRowState → List ℕ
@@ -78,7 +78,7 @@ row_text phases marked row = columns row 0 phases ++ 124 ∷ telling phases mark
 
 -- the number of a process above its column
 unfoldable pub head : ℕ → List ℕ
-head p = filled 26 (decimal p)
+head p = padded_text 26 (decimal p)
 
 -- the numbers of the processes from p on, above their columns
 abbrev pub heads : ℕ → List LifelinePhase → List ℕ

@@ -53,17 +53,17 @@ spelled_from mailbox diagram_layout lifeline_state rows end =
     ++ (rows_spelled diagram_layout lifeline_state rows ++ end_in diagram_layout.style diagram_layout end)
 
 -- before the first row all processes are in the same phase
-abbrev pub undrawn : ℕ → LifelinePhase → LifelineStateState
-undrawn procs first = record { phases = replicate procs first; deeds = 0; rows = 0 }
+abbrev pub lifelines_at_start : ℕ → LifelinePhase → LifelineStateState
+lifelines_at_start procs first = record { phases = replicate procs first; deeds = 0; rows = 0 }
 
 -- the drawing of a run of the lock
-abbrev pub spelled : DiagramLayout → LifelinePhase → List DiagramRow → End → List ℕ
-spelled diagram_layout first rows end =
-    spelled_from true diagram_layout (undrawn diagram_layout.layout.procs first) (map (shown_of diagram_layout.layout) rows) end
+abbrev pub drawing_text : DiagramLayout → LifelinePhase → List DiagramRow → End → List ℕ
+drawing_text diagram_layout first rows end =
+    spelled_from true diagram_layout (lifelines_at_start diagram_layout.layout.procs first) (map (shown_of diagram_layout.layout) rows) end
 
 -- all of a text is written, or a beginning of it and the reason why not the rest. Out of memory leaves some of it unwritten
-abbrev pub Spells : {A : Type 0} → Tape → Tape → List ℕ → Result A ReplayFault → Type 0
-Spells before now text (Ok x) = Writes before now text
-Spells before now text (Err Write) = Begins before.taken now.taken text × (now.failures ≡ min (before.failures + 1) (2 ^ 64 - 1))
-Spells before now text (Err OutOfMemory) = BreaksOff before.taken now.taken text × (now.failures ≡ before.failures)
-Spells before now text (Err fault) = ⊥
+abbrev pub WritesText : {A : Type 0} → Tape → Tape → List ℕ → Result A ReplayFault → Type 0
+WritesText before now text (Ok x) = Writes before now text
+WritesText before now text (Err Write) = Begins before.taken now.taken text × (now.failures ≡ min (before.failures + 1) (2 ^ 64 - 1))
+WritesText before now text (Err OutOfMemory) = BreaksOff before.taken now.taken text × (now.failures ≡ before.failures)
+WritesText before now text (Err fault) = ⊥

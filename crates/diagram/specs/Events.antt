@@ -6,22 +6,22 @@ use Rattle.rmeworld.specs.declared.stepped.Stepped.{Stepped}
 use Rattle.rmeworld.specs.Behaviours.{Behaviour}
 use Rattle.schedule.specs.declared.lines.line.Line.{Line}
 use Rattle.schedule.specs.Fragments.{itself, line_on as line_by, run_on as run_by}
-use Rattle.schedule.specs.Runs.{Told, told_by, transitions_of}
-use Rattle.schedule.specs.Transitions.{Event as EventOf}
+use Rattle.schedule.specs.Runs.{LockReport, reports_by, transitions_of}
+use Rattle.schedule.specs.Transitions.{RunEvent as EventOf}
 
 -- a step of a process, or its crash
-abbrev pub Event : Type 0
-Event = EventOf Stepped Deed
+abbrev pub DiagramEvent : Type 0
+DiagramEvent = EventOf Stepped Deed
 
 -- what events report
-abbrev pub told_in : List Event → List Told
-told_in events = flat_map told_by events
+abbrev pub reports_in : List DiagramEvent → List LockReport
+reports_in events = flat_map reports_by events
 
 module _ {S : Type 0} (b : Behaviour S) where
   -- the events of one line. A start has none
-  unfoldable pub events_of : S → Line → List Event
-  events_of s line = (line_by (transitions_of b) itself s line).told
+  unfoldable pub events_of : S → Line → List DiagramEvent
+  events_of s line = (line_by (transitions_of b) itself s line).reports
 
   -- the events of lines, up to the one that is refused
-  unfoldable pub events_on : S → List Line → List Event
-  events_on s lines = (run_by (transitions_of b) itself 2 s lines).told
+  unfoldable pub events_on : S → List Line → List DiagramEvent
+  events_on s lines = (run_by (transitions_of b) itself 2 s lines).reports

@@ -7,12 +7,12 @@ use Rattle.rmecore.specs.Refused.{number_of}
 use Rattle.schedule.specs.declared.player.play_stop.PlayStop.{PlayStop}
 use Rattle.schedule.specs.declared.player.play_stop.PlayStop.TheVariants as play_stops
 use Rattle.schedule.specs.declared.texts.fault.OutOfMemory.{OutOfMemory}
-use Rattle.diagram.specs.declared.act.Act.{Act}
-use Rattle.diagram.specs.declared.act.Act.TheVariants.{Silent, Telling, Fell}
+use Rattle.diagram.specs.declared.act.RowAct.{RowAct}
+use Rattle.diagram.specs.declared.act.RowAct.TheVariants.{Silent, Telling, Fell}
 use Rattle.diagram.specs.declared.act.DiagramRow.{DiagramRow}
 use Rattle.diagram.specs.declared.phase.LifelinePhase.{LifelinePhase}
 use Rattle.diagram.specs.declared.phase.LifelinePhase.TheVariants.{Rest}
-use Rattle.diagram.specs.Events.{Event}
+use Rattle.diagram.specs.Events.{DiagramEvent}
 use Rattle.diagram.specs.Followed.{phases_with, row_of}
 
 -- the phases of the processes, and their last accesses
@@ -21,7 +21,7 @@ pub record LastStepsState : Type 0 where
   pub lasts : List (Option Happened)
 
 -- the access of a row; a crash has none
-abbrev pub access_in : Act → Option Happened
+abbrev pub access_in : RowAct → Option Happened
 access_in (Silent happened times) = Some happened
 access_in (Telling step) = Some step.happened
 access_in (Fell deed) = None
@@ -32,13 +32,13 @@ last_steps_with last_steps row =
     record { phases = phases_with last_steps.phases row; lasts = slice_set last_steps.lasts row.p (access_in row.act) }
 
 -- after rows
-abbrev pub last_steps_behind : LastStepsState → List DiagramRow → LastStepsState
-last_steps_behind last_steps [] = last_steps
-last_steps_behind last_steps (row ∷ rows) = last_steps_behind (last_steps_with last_steps row) rows
+abbrev pub last_steps_after_rows : LastStepsState → List DiagramRow → LastStepsState
+last_steps_after_rows last_steps [] = last_steps
+last_steps_after_rows last_steps (row ∷ rows) = last_steps_after_rows (last_steps_with last_steps row) rows
 
 -- after the steps and crashes of a run
-abbrev pub last_steps_after : LastStepsState → List Event → LastStepsState
-last_steps_after last_steps events = last_steps_behind last_steps (map row_of events)
+abbrev pub last_steps_after : LastStepsState → List DiagramEvent → LastStepsState
+last_steps_after last_steps events = last_steps_after_rows last_steps (map row_of events)
 
 -- before the first step, all processes at rest
 abbrev pub no_last_steps : ℕ → LastStepsState

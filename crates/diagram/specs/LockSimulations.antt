@@ -10,7 +10,7 @@ use Rattle.schedule.specs.Runs.{line_on}
 use Rattle.schedule.specs.Schedules.{Scheduled, head_of}
 use Rattle.diagram.specs.DiagramLayouts.{layout_of}
 use Rattle.diagram.specs.Events.{events_of}
-use Rattle.diagram.specs.Followed.{followed}
+use Rattle.diagram.specs.Followed.{run_text}
 use Rattle.diagram.specs.LastSteps.{LastStepsState, last_steps_after, no_last_steps, number_refused}
 use Rattle.diagram.specs.Semantics.{Semantics, lines_on}
 use Rattle.diagram.specs.Sessions.{SessionState, at_schedule}
@@ -37,8 +37,8 @@ abbrev pub lock_of : Scheduled → LockSimulationState
 lock_of schedule = lines_on lock_with (first_lock (head_of schedule)) schedule.lines
 
 -- the steps of a line, as `replay --each` writes them
-abbrev pub steps_told : Layout → LockSimulationState → Line → List ℕ
-steps_told l lock line = followed l lock.last_steps.phases (events_of world_behaviour lock.world line)
+abbrev pub steps_reported : Layout → LockSimulationState → Line → List ℕ
+steps_reported l lock line = run_text l lock.last_steps.phases (events_of world_behaviour lock.world line)
 
 -- ---- until a call is answered
 
@@ -63,7 +63,7 @@ lock_semantics =
       first = λ lock head. first_lock head;
       refusal = λ lock line. number_refused (line_on world_behaviour lock.world line).refused;
       after = lock_with;
-      steps_text = λ head lock line. steps_told (layout_of head) lock line;
+      steps_text = λ head lock line. steps_reported (layout_of head) lock line;
       state_text = λ head lock. state_text head.procs lock.world.words lock.last_steps;
       steps_to_answer = λ schedule lock p. steps_to_answer world_behaviour p 0 most_steps (lock_of schedule).world;
     }

@@ -8,7 +8,7 @@ use Rattle.diagram.specs.declared.drawing.End.{End}
 use Rattle.diagram.specs.declared.drawing.End.TheVariants.{Judged, Refused}
 use Rattle.diagram.specs.declared.page_text.TheConstants.{PAGE_HEAD, PAGE_STEP, PAGE_SCRIPT}
 use Rattle.diagram.specs.declared.phase.LifelinePhase.{LifelinePhase}
-use Rattle.diagram.specs.Drawings.{diagram_layout_of, spelled}
+use Rattle.diagram.specs.Drawings.{diagram_layout_of, drawing_text}
 use Rattle.diagram.specs.Rows.{events_in}
 use Rattle.diagram.specs.StepLines.{step_lines, last_lines}
 
@@ -24,4 +24,4 @@ page_of drawing steps end = PAGE_HEAD.now ++ (drawing ++ (PAGE_STEP.now ++ (step
 -- the page of rows, from the image before the first to the image after the last
 abbrev pub page_text : Head → LifelinePhase → Image → List DiagramRow → Image → End → List ℕ
 page_text head first image rows last end =
-    page_of (spelled (diagram_layout_of Svg head rows end) first rows end) (step_lines head first image (events_in rows)) (end_lines last end)
+    page_of (drawing_text (diagram_layout_of Svg head rows end) first rows end) (step_lines head first image (events_in rows)) (end_lines last end)

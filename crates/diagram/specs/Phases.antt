@@ -5,8 +5,8 @@ use Rattle.rmecore.specs.declared.kind.Kind.TheVariants as kinds
 use Rattle.rmecore.specs.declared.outer.Outer.TheVariants as outers
 use Rattle.redomail.specs.declared.deed.Deed.{Deed}
 use Rattle.redomail.specs.declared.deed.Deed.TheVariants as deeds
-use Rattle.diagram.specs.declared.act.Act.{Act}
-use Rattle.diagram.specs.declared.act.Act.TheVariants.{Silent, Telling, Fell}
+use Rattle.diagram.specs.declared.act.RowAct.{RowAct}
+use Rattle.diagram.specs.declared.act.RowAct.TheVariants.{Silent, Telling, Fell}
 use Rattle.diagram.specs.declared.phase.LifelinePhase.{LifelinePhase}
 use Rattle.diagram.specs.declared.phase.LifelinePhase.TheVariants.{Rest, Doorway, Waiting, Section, Dead}
 
@@ -45,7 +45,7 @@ phase_of_telling (Some deed) kind = Some (phase_of_deed deed)
 phase_of_telling None kind = phase_of_last kind
 
 -- the phase that a row shows of its process, if it shows one
-abbrev pub phase_shown : Act → Option LifelinePhase
+abbrev pub phase_shown : RowAct → Option LifelinePhase
 phase_shown (Silent happened times) = phase_of_kind happened.kind
 phase_shown (Telling step) = phase_of_telling step.deed step.happened.kind
 phase_shown (Fell deed) = Some Dead

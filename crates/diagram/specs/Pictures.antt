@@ -3,7 +3,7 @@ use Rattle.std.specs.Prelude.{ℕ, ◌+◌, ◌-◌, ◌*◌, ◌^◌, ◌==◌,
 use Rattle.std.specs.Fmt.{decimal}
 use Rattle.redomail.specs.declared.deed.Deed.{Deed}
 use Rattle.redomail.specs.declared.deed.Deed.TheVariants.{Outer}
-use Rattle.schedule.specs.Reports.{told_line}
+use Rattle.schedule.specs.Reports.{line_of_report}
 use Rattle.schedule.specs.Runs.{Did}
 use Rattle.diagram.specs.declared.drawing.End.{End}
 use Rattle.diagram.specs.declared.mark.Mark.{Mark}
@@ -16,8 +16,8 @@ use Rattle.diagram.specs.ShownRows.{ShownRowState}
 -- ---- positions in pixels, which stop at the greatest u64
 
 -- a number, at most the greatest u64
-abbrev pub held : ℕ → ℕ
-held n = min n (2 ^ 64 - 1)
+abbrev pub at_most_greatest : ℕ → ℕ
+at_most_greatest n = min n (2 ^ 64 - 1)
 
 -- the x of a process's lifeline; that of the mailbox is the x of a next process
 abbrev pub x_of : ℕ → ℕ
@@ -29,11 +29,11 @@ far_from procs p = x_of procs - x_of p
 
 -- the y of a row; rows count from 1
 abbrev pub y_of : ℕ → ℕ
-y_of row = held (held (row * 18) + 82)
+y_of row = at_most_greatest (at_most_greatest (row * 18) + 82)
 
 -- the y where the lifelines end, below this many rows
 abbrev pub bottom_of : ℕ → ℕ
-bottom_of rows = held (y_of rows + 18)
+bottom_of rows = at_most_greatest (y_of rows + 18)
 
 -- ---- pieces
 
@@ -71,7 +71,7 @@ group_end = codes "</g>" ++ 10 ∷ []
 -- the line of a deed, if there is one
 abbrev pub deed_line : Option Deed → List ℕ
 deed_line None = []
-deed_line (Some deed) = told_line (Did deed)
+deed_line (Some deed) = line_of_report (Did deed)
 
 -- the lines that a row reports
 abbrev pub reports : Option Deed → List ℕ → List ℕ
@@ -105,7 +105,7 @@ join (Some deed) far = joint far
 -- what a step reports, in one line
 abbrev pub remarks : Option Deed → List ℕ → List ℕ
 remarks None answer = answer
-remarks (Some deed) answer = told_line (Did deed) ++ (if length answer == 0 then [] else codes " / " ++ answer)
+remarks (Some deed) answer = line_of_report (Did deed) ++ (if length answer == 0 then [] else codes " / " ++ answer)
 
 -- what a step reports, at the right
 unfoldable pub remarks_at : ℕ → Option Deed → List ℕ → List ℕ
@@ -209,7 +209,7 @@ mailbox_if mailbox x long = if mailbox then mailbox_top x long else []
 -- the part above the rows
 abbrev pub top_picture : Bool → ℕ → ℕ → List LifelinePhase → List ℕ
 top_picture mailbox procs bottom phases =
-    head_picture (x_of procs + 300) (held (bottom + 40)) ++ mailbox_if mailbox (x_of procs) (bottom - 80) ++ lifeline_tops (bottom - 80) 0 phases
+    head_picture (x_of procs + 300) (at_most_greatest (bottom + 40)) ++ mailbox_if mailbox (x_of procs) (bottom - 80) ++ lifeline_tops (bottom - 80) 0 phases
 
 -- how the run ends, at this height, and the end of the file
 abbrev pub last_picture : ℕ → End → List ℕ
@@ -217,4 +217,4 @@ last_picture y end = around (codes "<text x='20' y='") y (codes "'>") ++ end_lin
 
 -- how the run ends, below the lifelines, and the end of the file
 abbrev pub end_picture : ℕ → End → List ℕ
-end_picture bottom end = last_picture (held (bottom + 24)) end
+end_picture bottom end = last_picture (at_most_greatest (bottom + 24)) end

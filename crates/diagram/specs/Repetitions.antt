@@ -5,10 +5,10 @@ use Rattle.rmecore.specs.declared.kind.Kind.{Kind}
 use Rattle.rmecore.specs.declared.kind.Kind.TheVariants.{Look, Weigh}
 use Rattle.rmecore.specs.declared.word.Word.{Word}
 use Rattle.rmecore.specs.declared.word.Word.TheVariants.{Choosing, Number, Inside, Data}
-use Rattle.diagram.specs.declared.act.Act.{Act}
-use Rattle.diagram.specs.declared.act.Act.TheVariants.{Silent}
+use Rattle.diagram.specs.declared.act.RowAct.{RowAct}
+use Rattle.diagram.specs.declared.act.RowAct.TheVariants.{Silent}
 use Rattle.diagram.specs.declared.act.DiagramRow.{DiagramRow}
-use Rattle.diagram.specs.Events.{Event}
+use Rattle.diagram.specs.Events.{DiagramEvent}
 use Rattle.diagram.specs.Followed.{row_of}
 
 -- ---- repetitions
@@ -42,7 +42,7 @@ abbrev pub last_of : List DiagramRow → Option DiagramRow
 last_of rows = slice_get rows (length rows - 1)
 
 -- a row, counted once more where p repeats its step
-abbrev pub counted_by : ℕ → DiagramRow → Act → Act → Option DiagramRow
+abbrev pub counted_by : ℕ → DiagramRow → RowAct → RowAct → Option DiagramRow
 counted_by p row (Silent before times) (Silent happened once) =
     if p == row.p && repeats before happened && nat_lt times (2 ^ 64 - 1) then Some (record { p = row.p; act = Silent before (times + 1) }) else None
 counted_by p row before now = None
@@ -60,6 +60,6 @@ abbrev pub with_row : List DiagramRow → DiagramRow → List DiagramRow
 with_row rows row = with_counted rows row (counted_last row (last_of rows))
 
 -- the rows after events
-abbrev pub with_events : List DiagramRow → List Event → List DiagramRow
+abbrev pub with_events : List DiagramRow → List DiagramEvent → List DiagramRow
 with_events rows [] = rows
 with_events rows (event ∷ events) = with_events (with_row rows (row_of event)) events

@@ -3,7 +3,7 @@ use Rattle.std.specs.Prelude.{ℕ, List, [], ◌∷◌, drop, codes, slice_index
 use Rattle.schedule.specs.declared.lines.fault.LineFault.{LineFault}
 use Rattle.schedule.specs.declared.lines.fault.LineFault.TheVariants.{BadWord}
 use Rattle.schedule.specs.Commands.{line_at}
-use Rattle.schedule.specs.Words.{◌>>=◌, any, begins_with, first_of, named, numbers_at}
+use Rattle.schedule.specs.Words.{◌>>=◌, any, begins_with, first_of, value_of_name, numbers_at}
 use Rattle.diagram.specs.declared.session.request.Request.{Request}
 use Rattle.diagram.specs.declared.session.request.Request.TheVariants as requests
 use Rattle.diagram.specs.declared.session.request.Verb.{Verb}
@@ -21,8 +21,8 @@ verbs_by_name =
     ∷ []
 
 -- no word is left after these
-abbrev pub alone : Request → List (List ℕ) → Result Request LineFault
-alone request ws = numbers_at [] ws >>= λ ns. Ok request
+abbrev pub sole_request : Request → List (List ℕ) → Result Request LineFault
+sole_request request ws = numbers_at [] ws >>= λ ns. Ok request
 
 -- `to answer P`
 abbrev pub to_answer : List (List ℕ) → Result Request LineFault
@@ -31,16 +31,16 @@ to_answer ws = if begins_with (codes "answer") ws then numbers_at (any ∷ []) (
 -- `save FILE`
 abbrev pub save_to : List (List ℕ) → Result Request LineFault
 save_to [] = Err BadWord
-save_to (file ∷ ws) = alone requests.Save ws
+save_to (file ∷ ws) = sole_request requests.Save ws
 
 -- what a word of the session's own asks for, with the words after it
 abbrev pub asked_by : Verb → List (List ℕ) → Result Request LineFault
-asked_by verbs.Undo ws = alone requests.Undo ws
-asked_by verbs.Redo ws = alone requests.Redo ws
+asked_by verbs.Undo ws = sole_request requests.Undo ws
+asked_by verbs.Redo ws = sole_request requests.Redo ws
 asked_by verbs.To ws = to_answer ws
 asked_by verbs.Save ws = save_to ws
-asked_by verbs.Help ws = alone requests.Help ws
-asked_by verbs.Quit ws = alone requests.Quit ws
+asked_by verbs.Help ws = sole_request requests.Help ws
+asked_by verbs.Quit ws = sole_request requests.Quit ws
 
 -- a line of a schedule
 abbrev pub line_asked : ℕ → List (List ℕ) → Result Request LineFault
@@ -54,7 +54,7 @@ asked_with width ws (Some verb) = asked_by verb (drop 1 ws)
 -- the word of the session's own that these words begin with
 abbrev pub verb_of : Option (List ℕ) → Option Verb
 verb_of None = None
-verb_of (Some word) = named verbs_by_name word
+verb_of (Some word) = value_of_name verbs_by_name word
 
 -- what the words of a line ask for, or their fault
 abbrev pub request_at : ℕ → List (List ℕ) → Result Request LineFault

@@ -10,8 +10,8 @@ use Rattle.schedule.specs.Schedules.{Scheduled, head_of}
 use Rattle.schedule.specs.Words.{words_of}
 use Rattle.diagram.specs.declared.session.request.Request.{Request}
 use Rattle.diagram.specs.declared.session.request.Request.TheVariants as requests
-use Rattle.diagram.specs.declared.session.opened.Reply.{Reply}
-use Rattle.diagram.specs.declared.session.opened.Reply.TheVariants as replies
+use Rattle.diagram.specs.declared.session.opened.SessionReply.{SessionReply}
+use Rattle.diagram.specs.declared.session.opened.SessionReply.TheVariants as replies
 use Rattle.diagram.specs.Helps.{help_text}
 use Rattle.diagram.specs.Pictures.{around}
 use Rattle.diagram.specs.Requests.{request_at}
@@ -36,8 +36,8 @@ abbrev pub without_last : List Line → List Line
 without_last lines = take (length lines - 1) lines
 
 -- a schedule without its last line
-abbrev pub shortened : Scheduled → Scheduled
-shortened schedule = record schedule { lines = without_last schedule.lines }
+abbrev pub without_last_line : Scheduled → Scheduled
+without_last_line schedule = record schedule { lines = without_last schedule.lines }
 
 -- the number that the next line has in the schedule's text; the header has number 1
 abbrev pub next_number : {S : Type 0} → SessionState S → ℕ
@@ -52,7 +52,7 @@ abbrev pub request_in : {S : Type 0} → SessionState S → List ℕ → Result 
 request_in session line = request_at session.schedule.width (words_of line)
 
 -- what is to be done besides
-abbrev pub reply_to : Result Request LineFault → Reply
+abbrev pub reply_to : Result Request LineFault → SessionReply
 reply_to (Ok requests.Save) = replies.Saves
 reply_to (Ok requests.Quit) = replies.Quits
 reply_to request = replies.Goes
@@ -113,7 +113,7 @@ module _ {S : Type 0} (b : Semantics S) where
   -- the session before the last line of its schedule
   abbrev pub undone_by : SessionState S → Option Line → SessionState S
   undone_by session None = session
-  undone_by session (Some line) = at_schedule session.simulation (shortened session.schedule) (session.undone ++ line ∷ [])
+  undone_by session (Some line) = at_schedule session.simulation (without_last_line session.schedule) (session.undone ++ line ∷ [])
 
   abbrev pub after_undo : SessionState S → SessionState S
   after_undo session = undone_by session (last_line session.schedule.lines)
@@ -121,7 +121,7 @@ module _ {S : Type 0} (b : Semantics S) where
   -- the state there
   abbrev pub undo_text_by : SessionState S → Option Line → List ℕ
   undo_text_by session None = codes "nothing to undo" ++ 10 ∷ []
-  undo_text_by session (Some line) = b.state_text (head_of session.schedule) (state_of session.simulation (shortened session.schedule))
+  undo_text_by session (Some line) = b.state_text (head_of session.schedule) (state_of session.simulation (without_last_line session.schedule))
 
   abbrev pub undo_text : SessionState S → List ℕ
   undo_text session = undo_text_by session (last_line session.schedule.lines)

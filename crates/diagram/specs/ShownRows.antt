@@ -3,10 +3,10 @@ use Rattle.std.specs.Prelude.{ℕ, ◌==◌, List, [], Option, Some, None, if◌
 use Rattle.redomail.specs.declared.deed.Deed.{Deed}
 use Rattle.redomail.specs.declared.layout.Layout.{Layout}
 use Rattle.rmeworld.specs.declared.answer.Answer.{Answer}
-use Rattle.schedule.specs.Reports.{told_line}
+use Rattle.schedule.specs.Reports.{line_of_report}
 use Rattle.schedule.specs.Runs.{Answered}
-use Rattle.diagram.specs.declared.act.Act.{Act}
-use Rattle.diagram.specs.declared.act.Act.TheVariants.{Silent, Fell}
+use Rattle.diagram.specs.declared.act.RowAct.{RowAct}
+use Rattle.diagram.specs.declared.act.RowAct.TheVariants.{Silent, Fell}
 use Rattle.diagram.specs.declared.act.DiagramRow.{DiagramRow}
 use Rattle.diagram.specs.declared.mark.Mark.{Mark}
 use Rattle.diagram.specs.declared.mark.Mark.TheVariants.{Step, Crash}
@@ -32,17 +32,17 @@ pub record ShownRowState : Type 0 where
 abbrev pub sign_width : ℕ → ℕ
 sign_width times = if times == 1 then 24 else 25
 
-abbrev pub wide_of : Act → ℕ
+abbrev pub wide_of : RowAct → ℕ
 wide_of (Silent happened times) = sign_width times
 wide_of act = sign_width 1
 
-abbrev pub mark_of : Act → Mark
+abbrev pub mark_of : RowAct → Mark
 mark_of (Fell deed) = Crash
 mark_of act = Step
 
 abbrev pub answer_line : ℕ → Option Answer → List ℕ
 answer_line p None = []
-answer_line p (Some answer) = told_line (Answered p answer)
+answer_line p (Some answer) = line_of_report (Answered p answer)
 
 abbrev pub shown_of : Layout → DiagramRow → ShownRowState
 shown_of l row =

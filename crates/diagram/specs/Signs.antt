@@ -7,8 +7,8 @@ use Rattle.rmecore.specs.declared.kind.Kind.TheVariants as kinds
 use Rattle.rmecore.specs.declared.word.Word.{Word}
 use Rattle.rmecore.specs.declared.word.Word.TheVariants as words
 use Rattle.redomail.specs.declared.layout.Layout.{Layout}
-use Rattle.diagram.specs.declared.act.Act.{Act}
-use Rattle.diagram.specs.declared.act.Act.TheVariants.{Silent, Telling, Fell}
+use Rattle.diagram.specs.declared.act.RowAct.{RowAct}
+use Rattle.diagram.specs.declared.act.RowAct.TheVariants.{Silent, Telling, Fell}
 
 -- the name of a kind of step (step kinds of docs/theory/model.md)
 abbrev pub name_of : Kind → List ℕ
@@ -36,34 +36,34 @@ stores kinds.Put = true
 stores kind = false
 
 -- a name with an index in brackets
-abbrev pub indexed : List ℕ → ℕ → List ℕ
-indexed name i = name ++ 91 ∷ (decimal i ++ 93 ∷ [])
+abbrev pub indexed_name : List ℕ → ℕ → List ℕ
+indexed_name name i = name ++ 91 ∷ (decimal i ++ 93 ∷ [])
 
 -- a lock word of process j, as p writes it: its own without an index
 abbrev pub lock_word : List ℕ → ℕ → ℕ → List ℕ
-lock_word name p j = if j == p then name else indexed name j
+lock_word name p j = if j == p then name else indexed_name name j
 
 -- the word k of the entry at a place
 abbrev pub entry_word : ℕ → ℕ → List ℕ
 entry_word at k =
-    if k == 0 then indexed (codes "sender") at
-    else if k == 1 then indexed (codes "seq") at
-    else indexed (codes "value") at ++ indexed [] (k - 2)
+    if k == 0 then indexed_name (codes "sender") at
+    else if k == 1 then indexed_name (codes "seq") at
+    else indexed_name (codes "value") at ++ indexed_name [] (k - 2)
 
 -- the number of words of an entry: sender, number and value
 abbrev pub entry_size : Layout → ℕ
 entry_size l = min (l.width + 2) (2 ^ 64 - 1)
 
 -- the data words after the record's, counted from there: the board, the last numbers, the entries
-abbrev pub word_behind : Layout → ℕ → List ℕ
-word_behind l i =
-    if nat_lt i 4 then indexed (codes "board") i
-    else if nat_lt (i - 4) l.procs then indexed (codes "last") (i - 4)
+abbrev pub word_after_record : Layout → ℕ → List ℕ
+word_after_record l i =
+    if nat_lt i 4 then indexed_name (codes "board") i
+    else if nat_lt (i - 4) l.procs then indexed_name (codes "last") (i - 4)
     else entry_word ((i - 4 - l.procs) / entry_size l) ((i - 4 - l.procs) % entry_size l)
 
 -- the data words from the record's value on, counted from there
 abbrev pub recorded_word : Layout → ℕ → List ℕ
-recorded_word l i = if nat_lt i l.width then indexed (codes "rec_value") i else word_behind l (i - l.width)
+recorded_word l i = if nat_lt i l.width then indexed_name (codes "rec_value") i else word_after_record l (i - l.width)
 
 -- the data word at an index
 abbrev pub data_word : Layout → ℕ → List ℕ
@@ -94,7 +94,7 @@ abbrev pub repeated_sign : Layout → ℕ → Happened → ℕ → List ℕ
 repeated_sign l p h times = name_of h.kind ++ codes " " ++ word_sign l p h.word ++ codes " " ++ decimal h.value ++ 32 ∷ 195 ∷ 151 ∷ decimal times
 
 -- what a row does. A crash has no text
-abbrev pub sign : Layout → ℕ → Act → List ℕ
+abbrev pub sign : Layout → ℕ → RowAct → List ℕ
 sign l p (Silent h times) = if times == 1 then access_sign l p h else repeated_sign l p h times
 sign l p (Telling step) = access_sign l p step.happened
 sign l p (Fell deed) = []

@@ -29,16 +29,16 @@ use Rattle.schedule.specs.Deeds.{words_of_deed}
 use Rattle.schedule.specs.Runs.{Part, deeds_of}
 use Rattle.schedule.specs.Tapes.{Tape, Writes, Begins, BreaksOff}
 use Rattle.schedule.specs.Verdicts.{number_of_fault, verdict_on}
-use Rattle.diagram.specs.declared.act.Act.{Act}
-use Rattle.diagram.specs.declared.act.Act.TheVariants.{Silent, Telling, Fell}
+use Rattle.diagram.specs.declared.act.RowAct.{RowAct}
+use Rattle.diagram.specs.declared.act.RowAct.TheVariants.{Silent, Telling, Fell}
 use Rattle.diagram.specs.declared.act.DiagramRow.{DiagramRow}
 use Rattle.diagram.specs.declared.drawing.End.{End}
 use Rattle.diagram.specs.declared.drawing.End.TheVariants.{Judged, Refused}
 use Rattle.diagram.specs.declared.phase.LifelinePhase.{LifelinePhase}
 use Rattle.diagram.specs.declared.phase.LifelinePhase.TheVariants.{Rest}
 use Rattle.diagram.specs.DiagramLayouts.{LifelineStateState, lifeline_state_with, layout_of}
-use Rattle.diagram.specs.Drawings.{Spells}
-use Rattle.diagram.specs.Events.{Event}
+use Rattle.diagram.specs.Drawings.{WritesText}
+use Rattle.diagram.specs.Events.{DiagramEvent}
 use Rattle.diagram.specs.Followed.{row_of}
 use Rattle.diagram.specs.Pictures.{around, class_of}
 use Rattle.diagram.specs.Rows.{deed_of, answer_of}
@@ -51,18 +51,18 @@ abbrev pub own_at : List Own → ℕ → Own
 own_at lock j = get_or lock j (record { choosing = 0; number = 0; inside = 0 })
 
 -- a word is stored. Past the list, and of a data word, nothing changes
-abbrev pub stored : List Own → Word → ℕ → List Own
-stored lock (Choosing j) v = slice_set lock j (record (own_at lock j) { choosing = v })
-stored lock (Number j) v = slice_set lock j (record (own_at lock j) { number = v })
-stored lock (Inside j) v = slice_set lock j (record (own_at lock j) { inside = v })
-stored lock (Data i) v = lock
+abbrev pub words_after_store : List Own → Word → ℕ → List Own
+words_after_store lock (Choosing j) v = slice_set lock j (record (own_at lock j) { choosing = v })
+words_after_store lock (Number j) v = slice_set lock j (record (own_at lock j) { number = v })
+words_after_store lock (Inside j) v = slice_set lock j (record (own_at lock j) { inside = v })
+words_after_store lock (Data i) v = lock
 
 -- only a step that stores changes a word
 abbrev pub lock_after : List Own → Happened → List Own
-lock_after lock h = if stores h.kind then stored lock h.word h.value else lock
+lock_after lock h = if stores h.kind then words_after_store lock h.word h.value else lock
 
 -- the lock words after a row. A crash changes none
-abbrev pub lock_with : List Own → Act → List Own
+abbrev pub lock_with : List Own → RowAct → List Own
 lock_with lock (Silent h times) = lock_after lock h
 lock_with lock (Telling step) = lock_after lock step.happened
 lock_with lock (Fell deed) = lock
@@ -96,11 +96,11 @@ objects_of played (row ∷ rows) = object_of (played_with played row) row ∷ ob
 
 -- ---- their text
 
-abbrev pub quoted : List ℕ → List ℕ
-quoted text = 34 ∷ text ++ 34 ∷ []
+abbrev pub quoted_text : List ℕ → List ℕ
+quoted_text text = 34 ∷ text ++ 34 ∷ []
 
-abbrev pub null : List ℕ
-null = codes "null"
+abbrev pub null_text : List ℕ
+null_text = codes "null"
 
 -- whether a step loads its word or stores it
 abbrev pub access_name : Kind → List ℕ
@@ -113,19 +113,19 @@ happened_text l h =
     ++ around (codes "\",\"value\":") h.value []
 
 -- what a process does. A crash has no access
-abbrev pub act_text : Layout → Act → List ℕ
+abbrev pub act_text : Layout → RowAct → List ℕ
 act_text l (Silent h times) = happened_text l h
 act_text l (Telling step) = happened_text l step.happened
 act_text l (Fell deed) = codes "\"kind\":\"crash\",\"access\":null,\"word\":null,\"value\":null"
 
 -- a line of the report, without its end
 abbrev pub deed_text : Option Deed → List ℕ
-deed_text None = null
-deed_text (Some deed) = quoted (join_with_byte 32 (words_of_deed deed))
+deed_text None = null_text
+deed_text (Some deed) = quoted_text (join_with_byte 32 (words_of_deed deed))
 
 abbrev pub answer_text : ℕ → Option Answer → List ℕ
-answer_text p None = null
-answer_text p (Some answer) = quoted (join_with_byte 32 (codes "answer" ∷ decimal p ∷ words_of_answer answer))
+answer_text p None = null_text
+answer_text p (Some answer) = quoted_text (join_with_byte 32 (codes "answer" ∷ decimal p ∷ words_of_answer answer))
 
 -- the lock words of a process: choosing, number, inside
 unfoldable pub own_text : Own → List ℕ
@@ -170,8 +170,8 @@ played_after played (row ∷ rows) = played_after (played_with played row) rows
 -- the lines of rows are written, and what has been played after them is left; or a beginning is written, and the reason why not
 -- the rest
 abbrev pub TellsObjects : {A : Type 0} → Tape → Tape → Layout → PlayedState → PlayedState → List DiagramRow → Result A ReplayFault → Type 0
-TellsObjects before now l played behind rows result =
-    Spells before now (object_lines l (objects_of played rows)) result × OnOk result (behind ≡ played_after played rows)
+TellsObjects before now l played after_it rows result =
+    WritesText before now (object_lines l (objects_of played rows)) result × OnOk result (after_it ≡ played_after played rows)
 
 -- ---- the whole
 
@@ -198,19 +198,19 @@ verdict_object Fine = codes "{\"verdict\":\"fine\"}\n"
 verdict_object (Against at fault) = against_text at fault
 
 -- before the first step all processes are in the same phase
-abbrev pub unplayed : Head → LifelinePhase → Image → PlayedState
-unplayed head first image = record { lifelines = record { phases = replicate head.procs first; deeds = 0; rows = 0 }; lock = image.lock }
+abbrev pub state_before_steps : Head → LifelinePhase → Image → PlayedState
+state_before_steps head first image = record { lifelines = record { phases = replicate head.procs first; deeds = 0; rows = 0 }; lock = image.lock }
 
 -- the objects of a run's steps and crashes
-abbrev pub objects_on : Head → LifelinePhase → Image → List Event → List StepObject
-objects_on head first image events = objects_of (unplayed head first image) (map row_of events)
+abbrev pub objects_on : Head → LifelinePhase → Image → List DiagramEvent → List StepObject
+objects_on head first image events = objects_of (state_before_steps head first image) (map row_of events)
 
 -- the lines before the first step
 unfoldable pub first_lines : Image → List ℕ
 first_lines image = format_line ++ image_line image
 
 -- all lines but the last two, from the image before the first step on
-abbrev pub step_lines : Head → LifelinePhase → Image → List Event → List ℕ
+abbrev pub step_lines : Head → LifelinePhase → Image → List DiagramEvent → List ℕ
 step_lines head first image events = first_lines image ++ object_lines (layout_of head) (objects_on head first image events)
 
 -- the last two lines: the last image, and the verdict
@@ -231,14 +231,14 @@ EndingLines before now image end result = ⊥
 
 -- all lines of a run: its steps and the last two lines, or only its steps up to the line that is refused
 abbrev pub all_lines : {S : Type 0} → State → (S → Image) → Part S (ℕ × Refusal) → Option (ℕ × Refusal) → List ℕ → List ℕ
-all_lines start image_of run None steps = steps ++ last_lines (image_of run.left) (verdict_on start (deeds_of run.told))
+all_lines start image_of run None steps = steps ++ last_lines (image_of run.left) (verdict_on start (deeds_of run.reports))
 all_lines start image_of run (Some refusal) steps = steps
 
 -- all lines were written, and the verdict is that of the run; or there is none, as a replay answers it, and where a device or
 -- memory fails, a beginning was written. Out of memory leaves some of the text unwritten
 abbrev pub FollowsAsLines : {S : Type 0} → Tape → Tape → State → (S → Image) → Part S (ℕ × Refusal) → List ℕ → Result Verdict ReplayFault → Type 0
 FollowsAsLines before now start image_of run steps (Ok verdict) =
-    (run.refused ≡ None) × (verdict ≡ verdict_on start (deeds_of run.told)) × Writes before now (all_lines start image_of run None steps)
+    (run.refused ≡ None) × (verdict ≡ verdict_on start (deeds_of run.reports)) × Writes before now (all_lines start image_of run None steps)
 FollowsAsLines before now start image_of run steps (Err (faults.Refused line number)) =
     Writes before now steps × ((refusal : Refusal) × (run.refused ≡ Some (line, refusal)) × (number_of refusal ≡ Some number))
 FollowsAsLines before now start image_of run steps (Err faults.Write) =

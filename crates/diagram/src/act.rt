@@ -9,7 +9,7 @@ use rmeworld::{Answer, Stepped};
 
 /// What a process does in one row.
 #[derive(Clone, Copy, Debug, PartialEq, Eq)]
-pub enum Act {
+pub enum RowAct {
     /// A silent step: it has no deed and ends no call.
     /// A blocked step counts how often it was taken with no other step between.
     Silent(Happened, u64),
@@ -23,7 +23,7 @@ pub enum Act {
 #[derive(Clone, Copy, Debug, PartialEq, Eq)]
 pub struct DiagramRow {
     pub p: u64,
-    pub act: Act,
+    pub act: RowAct,
 }
 
 impl DiagramRow {
@@ -32,9 +32,9 @@ impl DiagramRow {
         ensures { result ≡ deed_of self.now.act }
     {
         match self.act {
-            Act::Silent(..) => None,
-            Act::Telling(stepped) => stepped.deed,
-            Act::Fell(deed) => Some(deed),
+            RowAct::Silent(..) => None,
+            RowAct::Telling(stepped) => stepped.deed,
+            RowAct::Fell(deed) => Some(deed),
         }
     }
 
@@ -43,8 +43,8 @@ impl DiagramRow {
         ensures { result ≡ answer_of self.now.act }
     {
         match self.act {
-            Act::Telling(stepped) => stepped.answer,
-            Act::Silent(..) | Act::Fell(_) => None,
+            RowAct::Telling(stepped) => stepped.answer,
+            RowAct::Silent(..) | RowAct::Fell(_) => None,
         }
     }
 }

@@ -4,7 +4,7 @@ ghost use Rattle.std.specs.Prelude.{◌≡◌, ◌++◌, ◌∷◌, [], OnOk};
 ghost use Rattle.diagram.specs.Columns.{bar_at as bar_in, bar_of as bar_for, bars, blank, cell, column, columns, head, heads};
 
 use crate::mark::Mark;
-use crate::paging::{fill, put_decimal, put_spaces, put_text};
+use crate::page_parts::{fill, put_decimal, put_spaces, put_text};
 use crate::phase::LifelinePhase;
 use crate::shown_row::ShownRow;
 use std::alloc::AllocError;

@@ -5,7 +5,7 @@ ghost use Rattle.diagram.specs.Columns.{end_line, end_text, lead as lead_in, row
 
 use crate::bars::{put_bars, put_columns, put_heads};
 use crate::drawing::End;
-use crate::paging::{put_around, put_text};
+use crate::page_parts::{put_around, put_text};
 use crate::phase::LifelinePhase;
 use crate::shown_row::ShownRow;
 use redomail::Deed;

@@ -6,7 +6,7 @@ ghost use Rattle.judge.specs.Table.{State};
 ghost use Rattle.schedule.specs.Runs.{deeds_of, did};
 ghost use Rattle.schedule.specs.RunningVerdicts.{running_judge, Hears};
 ghost use Rattle.schedule.specs.Verdicts.{verdict_on as verdict_of};
-ghost use Rattle.diagram.specs.Events.{told_in};
+ghost use Rattle.diagram.specs.Events.{reports_in};
 ghost use Rattle.diagram.specs.Rows.{deed_of, events_in};
 
 use crate::act::DiagramRow;
@@ -27,7 +27,7 @@ fn hear(running_verdict: &mut RunningVerdict, judge: &mut Judge, row: &DiagramRo
 
 /// The verdict of a judge on the deeds of rows.
 pub fn verdict_on(judge: &mut Judge, rows: &[DiagramRow]) -> Verdict
-    ensures { (start : State) → Keeps judge.old start → result ≡ verdict_of start (deeds_of (told_in (events_in rows.now))) }
+    ensures { (start : State) → Keeps judge.old start → result ≡ verdict_of start (deeds_of (reports_in (events_in rows.now))) }
 {
     let mut running_verdict = RunningVerdict::OPENED;
     for row in rows {

@@ -5,14 +5,14 @@ ghost use Rattle.judge.specs.Stands.{Keeps};
 ghost use Rattle.judge.specs.Table.{State};
 ghost use Rattle.schedule.specs.Runs.{run_on};
 ghost use Rattle.schedule.specs.Schedules.{head_of};
-ghost use Rattle.diagram.specs.Events.{events_on, told_in};
+ghost use Rattle.diagram.specs.Events.{events_on, reports_in};
 ghost use Rattle.diagram.specs.Repetitions.{with_events};
-ghost use Rattle.diagram.specs.Rows.{events_in, EndsAs, IsEndOf, IsJudged};
+ghost use Rattle.diagram.specs.Rows.{events_in, EndsAs, IsRunEnd, IsJudged};
 
 use crate::act::DiagramRow;
-use crate::collecting::{Rows, take_lines};
 use crate::deed_verdict::verdict_on;
 use crate::phase::LifelinePhase;
+use crate::row_collector::{Rows, take_lines};
 use crate::stop::DiagramStop;
 use judge::Judge;
 use rmeworld::Machine;
@@ -46,7 +46,7 @@ pub struct Drawing {
 
 /// How a run ends, by how its lines were played and the verdict on its deeds.
 fn end_of(played: Result<(), (u64, DiagramStop)>, verdict: Verdict) -> Result<End, OutOfMemory>
-    ensures ends { IfOk result (λ end. IsEndOf played verdict end) }
+    ensures ends { IfOk result (λ end. IsRunEnd played verdict end) }
     ensures memory { OnErr result ((line : ℕ) × (played ≡ Err (line, DiagramStop.OutOfMemory))) }
 {
     match played {
@@ -75,8 +75,8 @@ pub fn draw<M: Machine>(
     // They are the rows of those events: a blocked step that repeats the row before counts once more in it.
     ensures rows { IfOk result (λ drawing. drawing.rows.items ≡ with_events [] (events_on M.behaviour machine.old schedule.now.lines)) }
     // The rows report just what a replay reports.
-    ensures told { IfOk result (λ drawing. told_in (events_in drawing.rows.items)
-        ≡ (run_on M.behaviour 2 machine.old schedule.now.lines).told) }
+    ensures reports { IfOk result (λ drawing. reports_in (events_in drawing.rows.items)
+        ≡ (run_on M.behaviour 2 machine.old schedule.now.lines).reports) }
     // The drawing ends as the run ends.
     ensures end { (start : State) → Keeps judge.old start
         → IfOk result (λ drawing. EndsAs start (run_on M.behaviour 2 machine.old schedule.now.lines) drawing.end) }

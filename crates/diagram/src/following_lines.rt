@@ -8,20 +8,20 @@ ghost use Rattle.rmeworld.specs.ImageText.{image_line};
 ghost use Rattle.schedule.specs.ReplayStops.{IsOver};
 ghost use Rattle.schedule.specs.Runs.{run_on};
 ghost use Rattle.schedule.specs.Schedules.{head_of};
-ghost use Rattle.diagram.specs.Drawings.{Spells};
+ghost use Rattle.diagram.specs.Drawings.{WritesText};
 ghost use Rattle.diagram.specs.Events.{events_on};
 ghost use Rattle.diagram.specs.Followed.{row_of as row_for};
 ghost use Rattle.diagram.specs.Rows.{events_in, events_shown};
 ghost use Rattle.diagram.specs.StepLines.{EndingLines, FollowsAsLines, first_lines, format_line, last_lines, object_line, object_lines};
-ghost use Rattle.diagram.specs.StepLines.{object_of, objects_of, step_lines, TellsObjects, unplayed};
+ghost use Rattle.diagram.specs.StepLines.{object_of, objects_of, step_lines, TellsObjects, state_before_steps};
 
-use crate::act::{Act, DiagramRow};
+use crate::act::{DiagramRow, RowAct};
 use crate::diagram_layout::layout_of;
 use crate::drawing::{Drawing, End, draw};
-use crate::following::row_of;
 use crate::lock_words::Played;
-use crate::paging::put_text;
+use crate::page_parts::put_text;
 use crate::phase::LifelinePhase;
+use crate::step_by_step::row_of;
 use crate::step_lines::{put_line, put_verdict_object};
 use judge::Judge;
 use redomail::Layout;
@@ -38,7 +38,7 @@ fn write_line<W: Sink>(
     row: &DiagramRow,
     w: &mut W,
 ) -> Result<(), ReplayFault>
-    ensures { Spells (W.tape w.old) (W.tape w.new) (object_line layout.now (object_of played.now row.now)) result }
+    ensures { WritesText (W.tape w.old) (W.tape w.new) (object_line layout.now (object_of played.now row.now)) result }
 {
     page.clear();
     put_line(page, layout, played, row)?;
@@ -77,12 +77,12 @@ fn write_shown<W: Sink>(
 {
     let p = row.p;
     match &row.act {
-        Act::Silent(happened, times) => {
-            let act = Act::Silent(*happened, 1);
+        RowAct::Silent(happened, times) => {
+            let act = RowAct::Silent(*happened, 1);
             write_times(page, layout, played, &DiagramRow { p, act }, *times, w)
         }
-        Act::Telling(stepped) => write_times(page, layout, played, &row_of(p, stepped), 1, w),
-        Act::Fell(_) => write_times(page, layout, played, row, 1, w),
+        RowAct::Telling(stepped) => write_times(page, layout, played, &row_of(p, stepped), 1, w),
+        RowAct::Fell(_) => write_times(page, layout, played, row, 1, w),
     }
 }
 
@@ -94,7 +94,7 @@ fn write_rows<W: Sink>(
     rows: &[DiagramRow],
     w: &mut W,
 ) -> Result<(), ReplayFault>
-    ensures { Spells (W.tape w.old) (W.tape w.new)
+    ensures { WritesText (W.tape w.old) (W.tape w.new)
         (object_lines layout.now (objects_of played.old (map row_for (events_in rows.now)))) result }
 {
     for row in rows {
@@ -151,7 +151,7 @@ fn write_first<W: Sink>(
     image: &Image,
     w: &mut W,
 ) -> Result<(), ReplayFault>
-    ensures { Spells (W.tape w.old) (W.tape w.new) (first_lines image.now) result }
+    ensures { WritesText (W.tape w.old) (W.tape w.new) (first_lines image.now) result }
 {
     page.clear();
     put_first(alloc, page, image)?;
@@ -160,8 +160,8 @@ fn write_first<W: Sink>(
 }
 
 /// Before the first step: all processes in the same phase, and the lock words of an image.
-fn unplayed(alloc: Global, drawing: &Drawing, image: &Image) -> Result<Played, AllocError>
-    ensures { IfOk result (λ played. played ≡ unplayed drawing.now.head drawing.now.first image.now) }
+fn state_before_steps(alloc: Global, drawing: &Drawing, image: &Image) -> Result<Played, AllocError>
+    ensures { IfOk result (λ played. played ≡ state_before_steps drawing.now.head drawing.now.first image.now) }
 {
     let lock = Vec::from_slice(alloc, image.lock.as_slice())?;
     Played::new(alloc, drawing.head.procs, drawing.first, lock)
@@ -177,7 +177,7 @@ fn write_from_first<W: Sink>(
     rows: &[DiagramRow],
     w: &mut W,
 ) -> Result<(), ReplayFault>
-    ensures { Spells (W.tape w.old) (W.tape w.new) (first_lines image.now
+    ensures { WritesText (W.tape w.old) (W.tape w.new) (first_lines image.now
         ++ object_lines layout.now (objects_of played.old (map row_for (events_in rows.now)))) result }
 {
     write_first(alloc, page, image, w)?;
@@ -191,10 +191,10 @@ pub fn write_steps<W: Sink>(
     drawing: &Drawing,
     w: &mut W,
 ) -> Result<(), ReplayFault>
-    ensures { Spells (W.tape w.old) (W.tape w.new)
+    ensures { WritesText (W.tape w.old) (W.tape w.new)
         (step_lines drawing.now.head drawing.now.first image.now (events_in drawing.now.rows.items)) result }
 {
-    let mut played = unplayed(alloc, drawing, image)?;
+    let mut played = state_before_steps(alloc, drawing, image)?;
     let mut page = Vec::new(alloc);
     write_from_first(
         alloc,
@@ -215,7 +215,7 @@ fn write_image_and_verdict<W: Sink>(
     verdict: Verdict,
     w: &mut W,
 ) -> Result<(), ReplayFault>
-    ensures { Spells (W.tape w.old) (W.tape w.new) (last_lines image.now verdict) result }
+    ensures { WritesText (W.tape w.old) (W.tape w.new) (last_lines image.now verdict) result }
 {
     page.clear();
     put_last(alloc, page, image, verdict)?;
@@ -230,7 +230,7 @@ pub fn write_last<W: Sink>(
     verdict: Verdict,
     w: &mut W,
 ) -> Result<(), ReplayFault>
-    ensures { Spells (W.tape w.old) (W.tape w.new) (last_lines image.now verdict) result }
+    ensures { WritesText (W.tape w.old) (W.tape w.new) (last_lines image.now verdict) result }
 {
     let mut page = Vec::new(alloc);
     write_image_and_verdict(alloc, &mut page, image, verdict, w)?;

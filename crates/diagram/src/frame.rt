@@ -6,7 +6,7 @@ ghost use Rattle.diagram.specs.Pictures.{end_picture, head_picture, key, key_nam
 use crate::columns::put_last;
 use crate::drawing::End;
 use crate::lifelines::{class_of, put_group, put_group_end, put_lifeline, x_of};
-use crate::paging::{put_around, put_text};
+use crate::page_parts::{put_around, put_text};
 use crate::phase::LifelinePhase;
 use std::alloc::AllocError;
 

@@ -3,7 +3,7 @@
 ghost use Rattle.std.specs.Prelude.{◌≡◌, ◌≤◌, ◌<◌, ◌^◌, ◌++◌, OnOk};
 ghost use Rattle.diagram.specs.Pictures.{bottom_of as bottom_for, class_of as class_for, far_from as far_between, group_at, group_end, lifeline, lifeline_if, x_of as x_for, y_of as y_for};
 
-use crate::paging::{put_around, put_text};
+use crate::page_parts::{put_around, put_text};
 use crate::phase::LifelinePhase;
 use std::alloc::AllocError;
 

@@ -2,9 +2,9 @@
 
 ghost use Rattle.std.specs.Prelude.{◌≡◌, IfOk, slice_set};
 ghost use Rattle.std.proofs.Math.ListN.{replicate};
-ghost use Rattle.diagram.specs.StepLines.{lock_after, lock_with, own_at, played_with, stored};
+ghost use Rattle.diagram.specs.StepLines.{lock_after, lock_with, own_at, played_with, words_after_store};
 
-use crate::act::{Act, DiagramRow};
+use crate::act::{DiagramRow, RowAct};
 use crate::lifeline_state::LifelineState;
 use crate::phase::LifelinePhase;
 use crate::signs::stores;
@@ -35,7 +35,7 @@ fn set_own(lock: &mut Vec<Own>, j: u64, own: Own)
 
 /// Stores a word, if it is a lock word.
 fn store(lock: &mut Vec<Own>, word: Word, value: u64)
-    ensures { lock.new.items ≡ stored lock.old.items word value }
+    ensures { lock.new.items ≡ words_after_store lock.old.items word value }
 {
     match word {
         Word::Choosing(j) => {
@@ -85,13 +85,13 @@ fn take_access(lock: &mut Vec<Own>, happened: &Happened)
 }
 
 /// Makes the store of a row, if it has one.
-fn take_act(lock: &mut Vec<Own>, act: &Act)
+fn take_act(lock: &mut Vec<Own>, act: &RowAct)
     ensures { lock.new.items ≡ lock_with lock.old.items act.now }
 {
     match act {
-        Act::Silent(happened, _) => take_access(lock, happened),
-        Act::Telling(stepped) => take_access(lock, &stepped.happened),
-        Act::Fell(_) => {}
+        RowAct::Silent(happened, _) => take_access(lock, happened),
+        RowAct::Telling(stepped) => take_access(lock, &stepped.happened),
+        RowAct::Fell(_) => {}
     }
 }
 

@@ -1,7 +1,7 @@
 //! Writes the page of a run.
 
 ghost use Rattle.std.specs.Prelude.{◌++◌};
-ghost use Rattle.diagram.specs.Drawings.{Spells, diagram_layout_of, spelled};
+ghost use Rattle.diagram.specs.Drawings.{WritesText, diagram_layout_of, drawing_text};
 ghost use Rattle.diagram.specs.Pages.{end_lines, page_text};
 ghost use Rattle.diagram.specs.Rows.{events_in};
 ghost use Rattle.diagram.specs.StepLines.{step_lines};
@@ -10,9 +10,9 @@ ghost use Rattle.diagram.specs.declared.page_text.TheConstants.{PAGE_HEAD as pag
 
 use crate::diagram_layout::Style;
 use crate::drawing::{Drawing, End};
+use crate::drawing_writer::write_drawing;
 use crate::following_lines::{write_last, write_steps};
 use crate::page_text::{PAGE_HEAD, PAGE_SCRIPT, PAGE_STEP};
-use crate::writing::write_drawing;
 use rmeworld::Image;
 use schedule::texts::device::write_all;
 use schedule::{ReplayFault, Sink};
@@ -20,7 +20,7 @@ use std::alloc::Global;
 
 /// Writes a fixed part.
 fn write_fixed<W: Sink>(text: &str, w: &mut W) -> Result<(), ReplayFault>
-    ensures { Spells (W.tape w.old) (W.tape w.new) text.now result }
+    ensures { WritesText (W.tape w.old) (W.tape w.new) text.now result }
 {
     write_all(w, text.as_bytes())?;
     Ok(())
@@ -28,7 +28,7 @@ fn write_fixed<W: Sink>(text: &str, w: &mut W) -> Result<(), ReplayFault>
 
 /// Writes the last fixed part, and flushes the sink.
 fn write_script<W: Sink>(w: &mut W) -> Result<(), ReplayFault>
-    ensures { Spells (W.tape w.old) (W.tape w.new) page_script.now result }
+    ensures { WritesText (W.tape w.old) (W.tape w.new) page_script.now result }
 {
     write_fixed(PAGE_SCRIPT, w)?;
     w.flush()?;
@@ -37,7 +37,7 @@ fn write_script<W: Sink>(w: &mut W) -> Result<(), ReplayFault>
 
 /// Writes the lines after the steps.
 fn write_end<W: Sink>(alloc: Global, image: &Image, end: &End, w: &mut W) -> Result<(), ReplayFault>
-    ensures { Spells (W.tape w.old) (W.tape w.new) (end_lines image.now end.now) result }
+    ensures { WritesText (W.tape w.old) (W.tape w.new) (end_lines image.now end.now) result }
 {
     match *end {
         End::Judged(verdict) => write_last(alloc, image, verdict, w),
@@ -52,7 +52,7 @@ fn write_after_steps<W: Sink>(
     end: &End,
     w: &mut W,
 ) -> Result<(), ReplayFault>
-    ensures { Spells (W.tape w.old) (W.tape w.new) (end_lines image.now end.now ++ page_script.now) result }
+    ensures { WritesText (W.tape w.old) (W.tape w.new) (end_lines image.now end.now ++ page_script.now) result }
 {
     write_end(alloc, image, end, w)?;
     write_script(w)
@@ -66,7 +66,7 @@ fn write_from_lines<W: Sink>(
     last: &Image,
     w: &mut W,
 ) -> Result<(), ReplayFault>
-    ensures { Spells (W.tape w.old) (W.tape w.new) (step_lines drawing.now.head drawing.now.first first.now
+    ensures { WritesText (W.tape w.old) (W.tape w.new) (step_lines drawing.now.head drawing.now.first first.now
         (events_in drawing.now.rows.items) ++ (end_lines last.now drawing.now.end ++ page_script.now)) result }
 {
     write_steps(alloc, first, drawing, w)?;
@@ -81,7 +81,7 @@ fn write_after_drawing<W: Sink>(
     last: &Image,
     w: &mut W,
 ) -> Result<(), ReplayFault>
-    ensures { Spells (W.tape w.old) (W.tape w.new) (page_step.now ++ (step_lines drawing.now.head drawing.now.first first.now
+    ensures { WritesText (W.tape w.old) (W.tape w.new) (page_step.now ++ (step_lines drawing.now.head drawing.now.first first.now
         (events_in drawing.now.rows.items) ++ (end_lines last.now drawing.now.end ++ page_script.now))) result }
 {
     write_fixed(PAGE_STEP, w)?;
@@ -96,7 +96,8 @@ fn write_from_drawing<W: Sink>(
     last: &Image,
     w: &mut W,
 ) -> Result<(), ReplayFault>
-    ensures { Spells (W.tape w.old) (W.tape w.new) (spelled (diagram_layout_of Svg drawing.now.head drawing.now.rows.items drawing.now.end)
+    ensures { WritesText (W.tape w.old) (W.tape w.new)
+        (drawing_text (diagram_layout_of Svg drawing.now.head drawing.now.rows.items drawing.now.end)
         drawing.now.first drawing.now.rows.items drawing.now.end ++ (page_step.now ++ (step_lines
         drawing.now.head drawing.now.first first.now (events_in drawing.now.rows.items)
         ++ (end_lines last.now drawing.now.end ++ page_script.now)))) result }
@@ -114,7 +115,7 @@ pub fn write_page<W: Sink>(
     w: &mut W,
 ) -> Result<(), ReplayFault>
     // Just the page's text is written, or a beginning of it and the reason why not the rest.
-    ensures { Spells (W.tape w.old) (W.tape w.new) (page_text drawing.now.head drawing.now.first first.now
+    ensures { WritesText (W.tape w.old) (W.tape w.new) (page_text drawing.now.head drawing.now.first first.now
         drawing.now.rows.items last.now drawing.now.end) result }
 {
     write_fixed(PAGE_HEAD, w)?;

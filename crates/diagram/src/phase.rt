@@ -4,7 +4,7 @@ ghost use Rattle.std.specs.Prelude.{◌≡◌, Some};
 ghost use Rattle.redomail.specs.declared.deed.Deed.TheVariants.{Outer as DeedOuter};
 ghost use Rattle.diagram.specs.Phases.{phase_of_deed as phase_to, phase_of_kind as phase_by, phase_of_last as phase_at_last, phase_shown as phase_in};
 
-use crate::act::{Act, DiagramRow};
+use crate::act::{DiagramRow, RowAct};
 use redomail::Deed;
 use rmecore::{Kind, Outer};
 
@@ -76,11 +76,11 @@ pub fn phase_shown(row: &DiagramRow) -> Option<LifelinePhase>
     ensures { result ≡ phase_in row.now.act }
 {
     match row.act {
-        Act::Silent(happened, _) => phase_of_kind(happened.kind),
-        Act::Telling(stepped) => match stepped.deed {
+        RowAct::Silent(happened, _) => phase_of_kind(happened.kind),
+        RowAct::Telling(stepped) => match stepped.deed {
             Some(deed) => Some(phase_of_deed(&deed)),
             None => phase_of_last(stepped.happened.kind),
         },
-        Act::Fell(_) => Some(LifelinePhase::Dead),
+        RowAct::Fell(_) => Some(LifelinePhase::Dead),
     }
 }

@@ -5,7 +5,7 @@ ghost use Rattle.diagram.specs.Pictures.{deed_line, flag, join, joint, left_of, 
 
 use crate::lifelines::{far_from, put_group, put_group_end, put_lifeline_if, x_of};
 use crate::mark::Mark;
-use crate::paging::{put_around, put_text};
+use crate::page_parts::{put_around, put_text};
 use crate::shown_row::ShownRow;
 use redomail::Deed;
 use schedule::lines::answer::put_deed;

@@ -1,9 +1,9 @@
 //! The names of data words.
 
 ghost use Rattle.std.specs.Prelude.{◌≡◌, ◌++◌, OnOk};
-ghost use Rattle.diagram.specs.Signs.{data_word, entry_word, recorded_word, word_behind};
+ghost use Rattle.diagram.specs.Signs.{data_word, entry_word, recorded_word, word_after_record};
 
-use crate::paging::{put_indexed, put_text};
+use crate::page_parts::{put_indexed, put_text};
 use redomail::Layout;
 use std::alloc::AllocError;
 
@@ -22,8 +22,8 @@ fn put_entry(out: &mut Vec<u8>, at: u64, k: u64) -> Result<(), AllocError>
 }
 
 /// Writes the name of a data word after the record's. The index counts from there.
-fn put_behind(out: &mut Vec<u8>, layout: &Layout, index: u64) -> Result<(), AllocError>
-    ensures { OnOk result (out.new.items ≡ out.old.items ++ word_behind layout.now index) }
+fn put_after_record(out: &mut Vec<u8>, layout: &Layout, index: u64) -> Result<(), AllocError>
+    ensures { OnOk result (out.new.items ≡ out.old.items ++ word_after_record layout.now index) }
 {
     if index < 4 {
         return put_indexed(out, b"board", index);
@@ -44,7 +44,7 @@ fn put_recorded(out: &mut Vec<u8>, layout: &Layout, index: u64) -> Result<(), Al
     if index < layout.width {
         return put_indexed(out, b"rec_value", index);
     }
-    put_behind(out, layout, index - layout.width)
+    put_after_record(out, layout, index - layout.width)
 }
 
 /// Writes the name of the data word at an index.

@@ -1,20 +1,20 @@
 //! A session: a schedule that grows by a line at a time, and goes back.
 
+mod algorithm_line_play;
+mod algorithm_positions;
 mod algorithm_simulation;
-mod algorithm_standing;
-mod algorithm_stepping;
 mod last_steps;
 pub mod laws;
+mod line_play;
 pub mod lock_simulation;
 pub mod opened;
+mod positions;
 pub mod request;
-pub mod saying;
+pub mod session_lines;
 pub mod simulation;
-mod standing;
-mod stepping;
 mod way;
 
 pub use lock_simulation::LockSimulation;
-pub use opened::{Reply, Session};
+pub use opened::{Session, SessionReply};
 pub use request::Request;
 pub use simulation::Simulation;

@@ -3,7 +3,7 @@
 ghost use Rattle.std.specs.Prelude.{◌≡◌, ◌++◌, OnOk};
 ghost use Rattle.diagram.specs.ShownRows.{ShownRowState, answer_line, mark_of as mark_in, shown_of, sign_width as width_in, wide_of as wide_in};
 
-use crate::act::{Act, DiagramRow};
+use crate::act::{DiagramRow, RowAct};
 use crate::mark::Mark;
 use crate::phase::{LifelinePhase, phase_shown};
 use crate::signs::put_sign;
@@ -73,22 +73,22 @@ pub(crate) fn sign_width(times: u64) -> usize
 }
 
 /// The number of bytes that a column has for what a row does.
-fn wide_of(act: &Act) -> usize
+fn wide_of(act: &RowAct) -> usize
     ensures { result ≡ wide_in act.now }
 {
     match act {
-        Act::Silent(_, times) => sign_width(*times),
-        Act::Telling(_) | Act::Fell(_) => sign_width(1),
+        RowAct::Silent(_, times) => sign_width(*times),
+        RowAct::Telling(_) | RowAct::Fell(_) => sign_width(1),
     }
 }
 
 /// The mark of a row with this act.
-fn mark_of(act: &Act) -> Mark
+fn mark_of(act: &RowAct) -> Mark
     ensures { result ≡ mark_in act.now }
 {
     match act {
-        Act::Fell(_) => Mark::Crash,
-        Act::Silent(..) | Act::Telling(_) => Mark::Step,
+        RowAct::Fell(_) => Mark::Crash,
+        RowAct::Silent(..) | RowAct::Telling(_) => Mark::Step,
     }
 }
 

@@ -8,12 +8,12 @@ ghost use Rattle.schedule.specs.Deeds.{words_of_deed};
 ghost use Rattle.diagram.specs.StepLines.{access_name, act_text, against_text, answer_text, deed_text, fault_text, happened_text, object_line, object_of};
 ghost use Rattle.diagram.specs.StepLines.{own_text, more_owns, overtaking_text, owns_text, place_text, report_text, verdict_object};
 
-use crate::act::{Act, DiagramRow};
-use crate::following::phase_of;
+use crate::act::{DiagramRow, RowAct};
 use crate::lifelines::class_of;
 use crate::lock_words::Played;
-use crate::paging::{put_around, put_decimal, put_text};
+use crate::page_parts::{put_around, put_decimal, put_text};
 use crate::signs::{name_of, put_word, stores};
+use crate::step_by_step::phase_of;
 use redomail::{Deed, Layout};
 use rmecore::{Fault, Happened, Kind, Own};
 use rmeworld::Answer;
@@ -44,13 +44,13 @@ fn put_happened(out: &mut Vec<u8>, layout: &Layout, happened: &Happened) -> Resu
 }
 
 /// Writes what a process does.
-fn put_act(out: &mut Vec<u8>, layout: &Layout, act: &Act) -> Result<(), AllocError>
+fn put_act(out: &mut Vec<u8>, layout: &Layout, act: &RowAct) -> Result<(), AllocError>
     ensures { OnOk result (out.new.items ≡ out.old.items ++ act_text layout.now act.now) }
 {
     match act {
-        Act::Silent(happened, _) => put_happened(out, layout, happened),
-        Act::Telling(stepped) => put_happened(out, layout, &stepped.happened),
-        Act::Fell(_) => put_text(
+        RowAct::Silent(happened, _) => put_happened(out, layout, happened),
+        RowAct::Telling(stepped) => put_happened(out, layout, &stepped.happened),
+        RowAct::Fell(_) => put_text(
             out,
             b"\"kind\":\"crash\",\"access\":null,\"word\":null,\"value\":null",
         ),
@@ -159,7 +159,7 @@ fn put_place(out: &mut Vec<u8>, played: &Played, row: &DiagramRow) -> Result<(),
 
 /// Writes what a step tells, and the lock words after it.
 #[tactic(auto, unfolding(crate::specs::StepLines::report_text))]
-fn put_told(
+fn put_reports(
     out: &mut Vec<u8>,
     p: u64,
     deed: &Option<Deed>,
@@ -189,7 +189,7 @@ pub fn put_line(
 {
     put_place(out, played, row)?;
     put_act(out, layout, &row.act)?;
-    put_told(out, row.p, &row.deed(), row.answer(), played.lock())
+    put_reports(out, row.p, &row.deed(), row.answer(), played.lock())
 }
 
 /// Writes who came before whom, if the fault is of that.

@@ -1,17 +1,17 @@
 -- Only the processes below n matter: two abstract locks that agree on them allow the same deeds of n processes.
 use Rattle.std.proofs.Common.{◌≡◌, ℕ, zero, suc, ◌<◌, Bool, false, ◌||◌, ◌==◌, if◌then◌else◌, List, [], ◌∷◌, refl, sym, ◌∙◌, ap, subst, inl, inr, arith, ltb-true, eq-eqb, ne_eqb}
 use Rattle.judge.proofs.Common.{cases_eq, cond-true, cond-false, Fault, OutOfPlace, TwoInside, NotReentered, Overtaken, Outer, Begin, Ready as IsReady, Enter, Crash, Reenter, Leave, Quit, Phase, Out}
-use Rattle.judge.proofs.Common.{Door, Inside, Abstract, Legal, done, is_out, is_door, is_ready, is_inside, is_dead_in, crashed, lock_doer, AllHold, least, put, Deed, Mailbox, doer, row as mail_row}
+use Rattle.judge.proofs.Common.{Door, Inside, Abstract, Legal, abstract_after, is_out, is_door, is_ready, is_inside, is_dead_in, phase_after_crash, lock_doer, AllHold, least_below, put, Deed, Mailbox, doer, row as mail_row}
 use Rattle.judge.proofs.Common.{MailAllows, Agree, lock_after}
 use Rattle.rmecore.specs.AbstractLock.{row}
 use Rattle.rmecore.specs.declared.phase.Phase.TheVariants.{Ready}
-use Rattle.redomail.specs.Mailbox.{done as mail_done}
+use Rattle.redomail.specs.Mailbox.{mailbox_after as mail_done}
 use Rattle.redomail.specs.declared.deed.Deed.TheVariants as deed
 
-least-agree : (n : ℕ) (t u : ℕ → Bool) → ((k : ℕ) → k < n → t k ≡ u k) → least n t ≡ least n u
+least-agree : (n : ℕ) (t u : ℕ → Bool) → ((k : ℕ) → k < n → t k ≡ u k) → least_below n t ≡ least_below n u
 least-agree zero t u same = refl
 least-agree (suc n) t u same =
-    ap (λ b. if b then 0 else suc (least n (λ k. t (suc k)))) (same 0 (omega arith))
+    ap (λ b. if b then 0 else suc (least_below n (λ k. t (suc k)))) (same 0 (omega arith))
     ∙ ap (λ m. if u 0 then 0 else suc m) (least-agree n (λ k. t (suc k)) (λ k. u (suc k)) (λ k l. same (suc k) (omega arith)))
 
 pub row-agree : (n : ℕ) (a b : Abstract) (d : Outer) → lock_doer d < n → Agree n a b → row n a d ≡ row n b d
@@ -59,7 +59,7 @@ passed n a b p h x = record {
   ahead = λ q k l m. put-agree (a.ahead q) (b.ahead q) p k false false refl (h.ahead q k l m);
 }
 
-done-agree : (n : ℕ) (a b : Abstract) (d : Outer) → lock_doer d < n → Agree n a b → Agree n (done a d) (done b d)
+done-agree : (n : ℕ) (a b : Abstract) (d : Outer) → lock_doer d < n → Agree n a b → Agree n (abstract_after a d) (abstract_after b d)
 done-agree n a b (Begin p) l h = record {
   phases = λ q m. put-agree a.phase b.phase p q Door Door refl (h.phases q m);
   ahead = λ q k m o. put-row-agree a.ahead b.ahead p q k (λ r. is_ready (a.phase r)) (λ r. is_ready (b.phase r)) (ap is_ready (h.phases k o)) (h.ahead q k m o);
@@ -67,7 +67,7 @@ done-agree n a b (Begin p) l h = record {
 done-agree n a b (IsReady p) l h = moved n a b p h Ready
 done-agree n a b (Enter p) l h = passed n a b p h Inside
 done-agree n a b (Crash p) l h = record {
-  phases = λ q m. put-agree a.phase b.phase p q (crashed (a.phase p)) (crashed (b.phase p)) (ap crashed (h.phases p l)) (h.phases q m);
+  phases = λ q m. put-agree a.phase b.phase p q (phase_after_crash (a.phase p)) (phase_after_crash (b.phase p)) (ap phase_after_crash (h.phases p l)) (h.phases q m);
   ahead = h.ahead;
 }
 done-agree n a b (Reenter p) l h = moved n a b p h Inside
@@ -78,7 +78,7 @@ pub Legal-agree : (n : ℕ) (a b : Abstract) (ds : List Outer) → Agree n a b �
 Legal-agree n a b [] h legal = tt
 Legal-agree n a b (d ∷ ds) h legal =
     let l = ltb-true (lock_doer d) n legal.0.0 in
-    ((legal.0.0, subst AllHold (row-agree n a b d l h) legal.0.1), Legal-agree n (done a d) (done b d) ds (done-agree n a b d l h) legal.1)
+    ((legal.0.0, subst AllHold (row-agree n a b d l h) legal.0.1), Legal-agree n (abstract_after a d) (abstract_after b d) ds (done-agree n a b d l h) legal.1)
 
 pub after-agree : (n : ℕ) (a b : Abstract) (d : Deed) → doer d < n → Agree n a b → Agree n (lock_after a d) (lock_after b d)
 after-agree n a b (deed.Outer d) l h = done-agree n a b d l h

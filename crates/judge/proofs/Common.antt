@@ -10,8 +10,8 @@ pub use Rattle.rmecore.specs.declared.outer.Outer.{Outer}
 pub use Rattle.rmecore.specs.declared.outer.Outer.TheVariants.{Begin, Ready, Enter, Crash, Reenter, Leave, Quit}
 pub use Rattle.rmecore.specs.declared.phase.Phase.{Phase}
 pub use Rattle.rmecore.specs.declared.phase.Phase.TheVariants.{Out, Door, Inside}
-pub use Rattle.rmecore.specs.AbstractLock.{Abstract, Legal, done, is_out, is_door, is_ready, is_inside, is_dead_in, crashed, doer as lock_doer, nobody}
-pub use Rattle.rmecore.specs.Needs.{AllHold, least, put, first_fault, none_below}
+pub use Rattle.rmecore.specs.AbstractLock.{Abstract, Legal, abstract_after, is_out, is_door, is_ready, is_inside, is_dead_in, phase_after_crash, doer as lock_doer, nobody}
+pub use Rattle.rmecore.specs.Needs.{AllHold, least_below, put, first_fault, none_below}
 pub use Rattle.rmecore.proofs.Invariant.{put_same}
 pub use Rattle.redomail.specs.declared.deed.Deed.{Deed}
 pub use Rattle.redomail.specs.declared.message.Message.{Message}
@@ -19,7 +19,7 @@ pub use Rattle.redomail.specs.Mailbox.{Mailbox, doer, row, is_by, is_pending, me
 pub use Rattle.judge.specs.Halves.{MailAllows, Agree, outers, all_after}
 pub use Rattle.judge.specs.Kept.{Kept, Lists, HasBits, row_word, IsSound, HasRows}
 pub use Rattle.judge.specs.Legal.{and_then, judged_all, Leads}
-pub use Rattle.judge.specs.Plain.{NoneBefore, IsEntryOf, IsExitOf, IsEntry, At, Stands, NoneBetween, NoTwoInside, DeadReenters, is_show, is_show_of, StandsBefore, MailInOrder, GoneBefore, IsEndOf, IsGoneOf, GoneBetween, FirstComeFirstServed}
+pub use Rattle.judge.specs.Plain.{NoneBefore, IsEntryOf, IsExitOf, IsEntry, HasDeedAt, IsDeedAt, NoneBetween, NoTwoInside, DeadReenters, is_show, is_show_of, StandsBefore, MailInOrder, GoneBefore, IsEndOf, IsGoneOf, GoneBetween, FirstComeFirstServed}
 pub use Rattle.judge.specs.Stands.{Keeps}
-pub use Rattle.judge.specs.Starts.{IsNext, AreNumbered, is_named, IsStart, LockHolds, phase_in, state_of}
-pub use Rattle.judge.specs.Table.{lock_after, State, lock_needs, mail_needs, needs, after, empty, unless, judged}
+pub use Rattle.judge.specs.Starts.{IsNextMessage, AreNumbered, is_named, IsStart, LockHolds, phase_in, state_of}
+pub use Rattle.judge.specs.Table.{lock_after, State, lock_needs, mail_needs, needs, after, empty_state, unless, state_after_deed}

@@ -1,7 +1,7 @@
 -- The lock's part and the mailbox's part of a list of deeds.
 use Rattle.std.proofs.Common.{◌≡◌, ℕ, Bool, true, List, [], ◌∷◌, ◌++◌, map, Some, None, is_none, Ok, refl, sym, ◌∙◌, ap, subst}
-use Rattle.judge.proofs.Common.{cond-true, Fault, Outer, Leave, Abstract, Legal, done, is_inside, lock_doer, nobody, AllHold, first_fault, Deed, Mailbox, row, nothing_shown, MailAllows, outers}
-use Rattle.judge.proofs.Common.{all_after, and_then, judged_all, Leads, State, lock_needs, mail_needs, needs, after, empty, unless, judged}
+use Rattle.judge.proofs.Common.{cond-true, Fault, Outer, Leave, Abstract, Legal, abstract_after, is_inside, lock_doer, nobody, AllHold, first_fault, Deed, Mailbox, row, nothing_shown, MailAllows, outers}
+use Rattle.judge.proofs.Common.{all_after, and_then, judged_all, Leads, State, lock_needs, mail_needs, needs, after, empty_state, unless, state_after_deed}
 use Rattle.redomail.specs.declared.deed.Deed.TheVariants as deed
 use Rattle.judge.proofs.Steps.{Allowed, Allowed-from_leads}
 use Rattle.judge.proofs.Histories.{same_state}
@@ -22,7 +22,7 @@ no_fault : (ns : List (Bool × Fault)) → AllHold ns → first_fault ns ≡ Non
 no_fault [] h = refl
 no_fault (n ∷ ns) h = cond-true n.0 (first_fault ns) (Some n.1) h.0 ∙ no_fault ns h.1
 
-pub judged-allowed : (s : State) (d : Deed) → AllHold (needs s d) → judged s d ≡ Ok (after s d)
+pub judged-allowed : (s : State) (d : Deed) → AllHold (needs s d) → state_after_deed s d ≡ Ok (after s d)
 judged-allowed s d h = ap (λ o. unless o (after s d)) (no_fault (needs s d) h)
 
 pub Leads-allowed : (s : State) (ds : List Deed) → Allowed s ds → Leads s ds (all_after s ds)
@@ -59,16 +59,16 @@ mail_of_outer cap inside m _ e = tt
 pub MailAllows-outers : (n cap : ℕ) (a : Abstract) (m : Mailbox) (ds : List Outer) → is_none m.pending ≡ true → Legal n a ds → MailAllows n cap a m (map deed.Outer ds)
 MailAllows-outers n cap a m [] e legal = tt
 MailAllows-outers n cap a m (d ∷ ds) e legal =
-    (legal.0.0, mail_of_outer cap (is_inside (a.phase (lock_doer d))) m d e, MailAllows-outers n cap (done a d) m ds e legal.1)
+    (legal.0.0, mail_of_outer cap (is_inside (a.phase (lock_doer d))) m d e, MailAllows-outers n cap (abstract_after a d) m ds e legal.1)
 
 pub outers-map : (ds : List Outer) → outers (map deed.Outer ds) ≡ ds
 outers-map [] = refl
 outers-map (d ∷ ds) = ap (λ es. d ∷ es) (outers-map ds)
 
 -- deeds of the lock alone, beside an empty mailbox
-pub Allowed-outers : (n cap : ℕ) (ds : List Outer) → Legal n nobody ds → Allowed (empty n cap) (map deed.Outer ds)
+pub Allowed-outers : (n cap : ℕ) (ds : List Outer) → Legal n nobody ds → Allowed (empty_state n cap) (map deed.Outer ds)
 Allowed-outers n cap ds legal =
-    Allowed-halves (empty n cap) (map deed.Outer ds) (subst (Legal n nobody) (sym (outers-map ds)) legal) (MailAllows-outers n cap nobody nothing_shown ds refl legal)
+    Allowed-halves (empty_state n cap) (map deed.Outer ds) (subst (Legal n nobody) (sym (outers-map ds)) legal) (MailAllows-outers n cap nobody nothing_shown ds refl legal)
 
 -- the state after legal deeds
 pub state_led : (s t : State) (ds : List Deed) → Leads s ds t → t ≡ all_after s ds

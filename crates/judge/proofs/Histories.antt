@@ -1,6 +1,6 @@
 -- A history with one more deed.
 use Rattle.std.proofs.Common.{◌≡◌, List, [], ◌∷◌, ◌++◌, Some, None, Result, Ok, Err, sym, ◌∙◌, ap}
-use Rattle.judge.proofs.Common.{Fault, first_fault, Deed, and_then, judged_all, Leads, State, needs, after, unless, judged}
+use Rattle.judge.proofs.Common.{Fault, first_fault, Deed, and_then, judged_all, Leads, State, needs, after, unless, state_after_deed}
 
 pub same_state : (s t : State) → ◌≡◌ {A = Result State Fault} (Ok s) (Ok t) → s ≡ t
 same_state s t e = cc
@@ -14,7 +14,7 @@ goes_on (Err fault) t f g x each e = cc
 pub judged_all-append : (s t : State) (history deeds : List Deed) → Leads s history t → judged_all s (history ++ deeds) ≡ judged_all t deeds
 judged_all-append s t [] deeds e = ap (λ u. judged_all u deeds) (same_state s t e)
 judged_all-append s t (d ∷ ds) deeds e =
-    goes_on (judged s d) t (λ u. judged_all u ds) (λ u. judged_all u (ds ++ deeds)) (judged_all t deeds)
+    goes_on (state_after_deed s d) t (λ u. judged_all u ds) (λ u. judged_all u (ds ++ deeds)) (judged_all t deeds)
     (λ u h. judged_all-append u t ds deeds h) e
 
 pub refused : (s t : State) (history : List Deed) (d : Deed) (fault : Fault) → Leads s history t → Some fault ≡ first_fault (needs t d) → judged_all s (history ++ d ∷ []) ≡ Err fault

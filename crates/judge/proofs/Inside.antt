@@ -1,7 +1,7 @@
 -- No process enters while another is inside, and after a crash inside only the crashed process enters.
 use Rattle.std.proofs.Common.{◌≡◌, ℕ, zero, suc, ◌<◌, true, false, List, [], ◌∷◌, refl, ◌⊎◌, sym, ◌∙◌, ap, subst, inl, inr, arith, true≢false}
-use Rattle.judge.proofs.Common.{Begin, Ready, Enter, Crash, Reenter, Leave, Quit, Phase, is_inside, is_dead_in, crashed, AllHold, put, none_below, put_same, Deed, NoneBefore, IsEntryOf, IsExitOf}
-use Rattle.judge.proofs.Common.{IsEntry, At, Stands, NoneBetween, NoTwoInside, DeadReenters, State, needs, after, empty}
+use Rattle.judge.proofs.Common.{Begin, Ready, Enter, Crash, Reenter, Leave, Quit, Phase, is_inside, is_dead_in, phase_after_crash, AllHold, put, none_below, put_same, Deed, NoneBefore, IsEntryOf, IsExitOf}
+use Rattle.judge.proofs.Common.{IsEntry, HasDeedAt, IsDeedAt, NoneBetween, NoTwoInside, DeadReenters, State, needs, after, empty_state}
 use Rattle.redomail.specs.declared.deed.Deed.TheVariants as deed
 use Rattle.rmecore.specs.declared.phase.Phase.TheVariants as phase
 use Rattle.judge.proofs.Steps.{Allowed, put_cases, none_below-at, procs-after, doer_below, inside_stays, dead_stays}
@@ -19,7 +19,7 @@ held : (f : ℕ → Phase) (q : ℕ) (x : Phase) → (Holds x → Holds (f q)) �
 held f q x back p =
     put_cases f q p x (λ y. Holds y → Holds (f p)) (λ same h. subst (λ k. Holds (f k)) (sym same) (back h)) (λ _ h. h)
 
-holds_after_crash : (x : Phase) → Holds (crashed x) → Holds x
+holds_after_crash : (x : Phase) → Holds (phase_after_crash x) → Holds x
 holds_after_crash phase.Inside h = inl refl
 holds_after_crash _ h = h
 
@@ -56,7 +56,7 @@ Sole-after s (deed.Outer (Quit r)) h sole =
     kept s _ (held s.lock.phase r phase.Out (λ k. absurd (none_holds phase.Out refl refl k))) sole
 Sole-after s _ h sole = sole
 
-pub Sole-empty : (procs cap : ℕ) → Sole (empty procs cap)
+pub Sole-empty : (procs cap : ℕ) → Sole (empty_state procs cap)
 Sole-empty procs cap p q lp lq hp hq = absurd (none_holds phase.Out refl refl hp)
 
 -- after an entry its process is inside
@@ -85,7 +85,7 @@ reenters s d p sole h lp holds (q, inr e) =
     (e ∙ ap (λ k. deed.Outer (Reenter k)) same, subst (λ k. is_dead_in (s.lock.phase k) ≡ true) same g.1.0)
 
 -- while p is inside and doesn't leave or crash, no process enters
-none_enters : (s : State) (p : ℕ) (ds : List Deed) (j : ℕ) → Sole s → p < s.procs → s.lock.phase p ≡ phase.Inside → Allowed s ds → NoneBefore ds j (IsExitOf p) → At ds j IsEntry → ⊥
+none_enters : (s : State) (p : ℕ) (ds : List Deed) (j : ℕ) → Sole s → p < s.procs → s.lock.phase p ≡ phase.Inside → Allowed s ds → NoneBefore ds j (IsExitOf p) → HasDeedAt ds j IsEntry → ⊥
 none_enters s p [] j sole lp e ok none here = here
 none_enters s p (d ∷ ds) zero sole lp e ok none here =
     let at = reenters s d p sole ok.0 lp (inl (ap is_inside e)) here in
@@ -104,7 +104,7 @@ NoTwoInside-from_allowed s (d ∷ ds) sole ok p (suc i) (suc j) entry l none her
     NoTwoInside-from_allowed (after s d) ds (Sole-after s d ok.0 sole) ok.1 p i j entry (omega arith) (λ k a b. none (suc k) (omega arith) (omega arith)) here
 
 -- while p is dead in, the next entry is its own
-pub next_is_own : (s : State) (p : ℕ) (ds : List Deed) (j : ℕ) → Sole s → p < s.procs → s.lock.phase p ≡ phase.DeadIn → Allowed s ds → NoneBefore ds j IsEntry → At ds j IsEntry → Stands ds j (deed.Outer (Reenter p))
+pub next_is_own : (s : State) (p : ℕ) (ds : List Deed) (j : ℕ) → Sole s → p < s.procs → s.lock.phase p ≡ phase.DeadIn → Allowed s ds → NoneBefore ds j IsEntry → HasDeedAt ds j IsEntry → IsDeedAt ds j (deed.Outer (Reenter p))
 next_is_own s p [] j sole lp e ok none here = here
 next_is_own s p (d ∷ ds) zero sole lp e ok none here =
     (reenters s d p sole ok.0 lp (inr (ap is_dead_in e)) here).0
@@ -113,13 +113,13 @@ next_is_own s p (d ∷ ds) (suc j) sole lp e ok none here =
     (dead_stays s d p ok.0 e (λ k. none zero (omega arith) (p, k))) ok.1 (λ k l. none (suc k) (omega arith)) here
 
 -- p is inside and crashes at position c
-dead_after : (s : State) (p : ℕ) (ds : List Deed) (c j : ℕ) → Sole s → p < s.procs → s.lock.phase p ≡ phase.Inside → Allowed s ds → NoneBefore ds c (IsExitOf p) → Stands ds c (deed.Outer (Crash p))
-    → c < j → NoneBetween ds c j IsEntry → At ds j IsEntry → Stands ds j (deed.Outer (Reenter p))
+dead_after : (s : State) (p : ℕ) (ds : List Deed) (c j : ℕ) → Sole s → p < s.procs → s.lock.phase p ≡ phase.Inside → Allowed s ds → NoneBefore ds c (IsExitOf p) → IsDeedAt ds c (deed.Outer (Crash p))
+    → c < j → NoneBetween ds c j IsEntry → HasDeedAt ds j IsEntry → IsDeedAt ds j (deed.Outer (Reenter p))
 dead_after s p [] c j sole lp e ok none crash l silent here = here
 dead_after s p (d ∷ ds) c zero sole lp e ok none crash l silent here = absurd (omega arith)
 dead_after s p (d ∷ ds) zero (suc j) sole lp e ok none crash l silent here =
     let P : Deed → Type 0 = λ k. (after s k).lock.phase p ≡ phase.DeadIn in
-    let dead : (after s d).lock.phase p ≡ phase.DeadIn = subst P (sym crash) (put_same s.lock.phase p (crashed (s.lock.phase p)) ∙ ap crashed e) in
+    let dead : (after s d).lock.phase p ≡ phase.DeadIn = subst P (sym crash) (put_same s.lock.phase p (phase_after_crash (s.lock.phase p)) ∙ ap phase_after_crash e) in
     next_is_own (after s d) p ds j (Sole-after s d ok.0 sole) (rw (procs-after s d) lp) dead ok.1
     (λ k l. silent (suc k) (omega arith) (omega arith)) here
 dead_after s p (d ∷ ds) (suc c) (suc j) sole lp e ok none crash l silent here =

@@ -1,11 +1,11 @@
 -- The least number for which a test holds.
 use Rattle.std.proofs.Common.{◌≡◌, ℕ, zero, suc, ◌<◌, Bool, true, false, not, List, [], ◌∷◌, length, refl, sym, ◌∙◌, ap, inl, inr, arith, get_or, true≢false}
-use Rattle.judge.proofs.Common.{cases_Bool, or_cases, false_from_ne_true, false≢true, list_any_at, least, none_below, Lists}
+use Rattle.judge.proofs.Common.{cases_Bool, or_cases, false_from_ne_true, false≢true, list_any_at, least_below, none_below, Lists}
 use Rattle.std.specs.List.{list_any}
 use Rattle.rmecore.proofs.Allowing.{none_below-from}
 use Rattle.judge.proofs.Steps.{none_below-at}
 
-pub least-at : (n : ℕ) (test : ℕ → Bool) (q : ℕ) → q < n → test q ≡ true → ((k : ℕ) → k < q → test k ≡ false) → least n test ≡ q
+pub least-at : (n : ℕ) (test : ℕ → Bool) (q : ℕ) → q < n → test q ≡ true → ((k : ℕ) → k < q → test k ≡ false) → least_below n test ≡ q
 least-at zero test q h e below = absurd (omega arith)
 least-at (suc n) test zero h e below = rw e refl
 least-at (suc n) test (suc q) h e below =

@@ -1,8 +1,8 @@
 -- The mailbox: the Shows of each sender are numbered from 1, committed before, and placed by their count. None follows a
 -- Close.
 use Rattle.std.proofs.Common.{◌≡◌, ℕ, zero, suc, ◌+◌, ◌<◌, true, ◌&&◌, ◌==◌, bytes_eq, List, [], ◌∷◌, length, take, count_by, Option, Some, None, is_none, refl, ◌⊎◌, sym, ◌∙◌, subst, inl, inr, arith, length-append, true≢false, eqb-true}
-use Rattle.judge.proofs.Common.{false≢true, and_parts, not-true, Begin, AllHold, Deed, Message, is_by, is_pending, message, Stands, is_show, is_show_of, StandsBefore, MailInOrder, State, needs, after}
-use Rattle.judge.proofs.Common.{empty}
+use Rattle.judge.proofs.Common.{false≢true, and_parts, not-true, Begin, AllHold, Deed, Message, is_by, is_pending, message, IsDeedAt, is_show, is_show_of, StandsBefore, MailInOrder, State, needs, after}
+use Rattle.judge.proofs.Common.{empty_state}
 use Rattle.std.proofs.lemmas.Slice.Eq.{bytes_eq-Decides}
 use Rattle.redomail.specs.declared.deed.Deed.TheVariants as deed
 use Rattle.judge.proofs.Counts.{one_if, count_cons, count_push}
@@ -16,7 +16,7 @@ shown_of s p = count_by (is_by p) s.mail.shown
 abbrev pub MailSound : State → Type 0
 MailSound s = (p seq : ℕ) (v : List ℕ) → is_pending s.mail.pending p seq v ≡ true → seq ≡ shown_of s p + 1
 
-pub MailSound-empty : (procs cap : ℕ) → MailSound (empty procs cap)
+pub MailSound-empty : (procs cap : ℕ) → MailSound (empty_state procs cap)
 MailSound-empty procs cap p seq v e = absurd (false≢true e)
 
 same_words : (xs ys : List ℕ) → bytes_eq xs ys ≡ true → xs ≡ ys
@@ -58,7 +58,7 @@ shows : (s : State) (d : Deed) (p at seq : ℕ) (v : List ℕ) → AllHold (need
 shows s d p at seq v h e = let P : Deed → Type 0 = λ k. AllHold (needs s k) in subst P e h
 
 -- From any state, a Show's number counts the messages shown in it and the Shows since.
-pub numbered : (s : State) (ds : List Deed) → MailSound s → Allowed s ds → (p i at seq : ℕ) (v : List ℕ) → Stands ds i (deed.Show p at seq v) → seq ≡ shown_of s p + count_by (is_show_of p) (take i ds) + 1
+pub numbered : (s : State) (ds : List Deed) → MailSound s → Allowed s ds → (p i at seq : ℕ) (v : List ℕ) → IsDeedAt ds i (deed.Show p at seq v) → seq ≡ shown_of s p + count_by (is_show_of p) (take i ds) + 1
 numbered s [] sound ok p i at seq v here = absurd here
 numbered s (d ∷ ds) sound ok p zero at seq v here =
     let e = sound p seq v (shows s d p at seq v ok.0 here).1.1.0 in omega (arith, e)
@@ -66,7 +66,7 @@ numbered s (d ∷ ds) sound ok p (suc i) at seq v here =
     let ih = numbered (after s d) ds (MailSound-after s d ok.0 sound) ok.1 p i at seq v here in
     omega (arith, ih, shown_of-after s d p, count_cons (is_show_of p) d (take i ds))
 
-pub placed : (s : State) (ds : List Deed) → Allowed s ds → (p i at seq : ℕ) (v : List ℕ) → Stands ds i (deed.Show p at seq v) → at ≡ length s.mail.shown + count_by is_show (take i ds)
+pub placed : (s : State) (ds : List Deed) → Allowed s ds → (p i at seq : ℕ) (v : List ℕ) → IsDeedAt ds i (deed.Show p at seq v) → at ≡ length s.mail.shown + count_by is_show (take i ds)
 placed s [] ok p i at seq v here = absurd here
 placed s (d ∷ ds) ok p zero at seq v here =
     let e = eqb-true at (length s.mail.shown) (shows s d p at seq v ok.0 here).1.1.1.0 in omega (arith, e)
@@ -85,7 +85,7 @@ pending_since s (deed.Outer (Begin q)) p seq v e = inl e
 pending_since s _ p seq v e = inl e
 
 -- From any state, a message that is shown was pending in it or is committed since.
-pub committed : (s : State) (ds : List Deed) → Allowed s ds → (p i at seq : ℕ) (v : List ℕ) → Stands ds i (deed.Show p at seq v) → (is_pending s.mail.pending p seq v ≡ true) ⊎ StandsBefore ds i (deed.Commit p seq v)
+pub committed : (s : State) (ds : List Deed) → Allowed s ds → (p i at seq : ℕ) (v : List ℕ) → IsDeedAt ds i (deed.Show p at seq v) → (is_pending s.mail.pending p seq v ≡ true) ⊎ StandsBefore ds i (deed.Commit p seq v)
 committed s [] ok p i at seq v here = absurd here
 committed s (d ∷ ds) ok p zero at seq v here = inl (shows s d p at seq v ok.0 here).1.1.0
 committed s (d ∷ ds) ok p (suc i) at seq v here =
@@ -123,14 +123,14 @@ Silent-after s (deed.Outer (Begin q)) h silent = silent
 Silent-after s _ h silent = silent
 
 -- neither comes after a Close
-pub none_after : (s : State) (ds : List Deed) → Silent s → Allowed s ds → (p j at seq : ℕ) (v : List ℕ) → (Stands ds j (deed.Commit p seq v) → ⊥) × (Stands ds j (deed.Show p at seq v) → ⊥)
+pub none_after : (s : State) (ds : List Deed) → Silent s → Allowed s ds → (p j at seq : ℕ) (v : List ℕ) → (IsDeedAt ds j (deed.Commit p seq v) → ⊥) × (IsDeedAt ds j (deed.Show p at seq v) → ⊥)
 none_after s [] silent ok p j at seq v = (λ here. here, λ here. here)
 none_after s (d ∷ ds) silent ok p zero at seq v =
     let P : Deed → Type 0 = λ k. AllHold (needs s k) in
     (λ here. no_commit_now s p seq v (subst P here ok.0) silent, λ here. no_show_now s p at seq v (subst P here ok.0) silent)
 none_after s (d ∷ ds) silent ok p (suc j) at seq v = none_after (after s d) ds (Silent-after s d ok.0 silent) ok.1 p j at seq v
 
-pub after_close : (s : State) (ds : List Deed) → Allowed s ds → (p q i j at seq : ℕ) (v : List ℕ) → Stands ds i (deed.Close q) → i < j → (Stands ds j (deed.Commit p seq v) → ⊥) × (Stands ds j (deed.Show p at seq v) → ⊥)
+pub after_close : (s : State) (ds : List Deed) → Allowed s ds → (p q i j at seq : ℕ) (v : List ℕ) → IsDeedAt ds i (deed.Close q) → i < j → (IsDeedAt ds j (deed.Commit p seq v) → ⊥) × (IsDeedAt ds j (deed.Show p at seq v) → ⊥)
 after_close s [] ok p q i j at seq v close l = absurd close
 after_close s (d ∷ ds) ok p q i zero at seq v close l = absurd (omega arith)
 after_close s (d ∷ ds) ok p q zero (suc j) at seq v close l =
@@ -138,12 +138,12 @@ after_close s (d ∷ ds) ok p q zero (suc j) at seq v close l =
 after_close s (d ∷ ds) ok p q (suc i) (suc j) at seq v close l =
     after_close (after s d) ds ok.1 p q i j at seq v close (omega arith)
 
-pub MailInOrder-from_allowed : (procs cap : ℕ) (ds : List Deed) → Allowed (empty procs cap) ds → MailInOrder ds
+pub MailInOrder-from_allowed : (procs cap : ℕ) (ds : List Deed) → Allowed (empty_state procs cap) ds → MailInOrder ds
 MailInOrder-from_allowed procs cap ds ok = record {
-  numbered = λ p i at seq v here. omega (arith, numbered (empty procs cap) ds (MailSound-empty procs cap) ok p i at seq v here);
-  placed = λ p i at seq v here. omega (arith, placed (empty procs cap) ds ok p i at seq v here);
+  numbered = λ p i at seq v here. omega (arith, numbered (empty_state procs cap) ds (MailSound-empty procs cap) ok p i at seq v here);
+  placed = λ p i at seq v here. omega (arith, placed (empty_state procs cap) ds ok p i at seq v here);
   committed = λ p i at seq v here.
-      elim (committed (empty procs cap) ds ok p i at seq v here) [ inl e ↦ absurd (false≢true e) | inr w ↦ w ];
-  no_commit = λ p q i j seq v close l. (after_close (empty procs cap) ds ok p q i j 0 seq v close l).0;
-  no_show = λ p q i j at seq v close l. (after_close (empty procs cap) ds ok p q i j at seq v close l).1;
+      elim (committed (empty_state procs cap) ds ok p i at seq v here) [ inl e ↦ absurd (false≢true e) | inr w ↦ w ];
+  no_commit = λ p q i j seq v close l. (after_close (empty_state procs cap) ds ok p q i j 0 seq v close l).0;
+  no_show = λ p q i j at seq v close l. (after_close (empty_state procs cap) ds ok p q i j at seq v close l).1;
 }

@@ -1,6 +1,6 @@
 -- Members of lists by their position.
 use Rattle.std.proofs.Common.{◌≡◌, ℕ, ◌+◌, ◌<◌, ◌≤◌, List, [], ◌∷◌, ◌++◌, take, length, count_by, slice_get, map, IfSome, refl, sym, ◌∙◌, ap, subst, inl, inr, arith, get_or, set, below_more}
-use Rattle.judge.proofs.Common.{cases_lt, take_more, get_or-map, Message, is_by, Lists, IsNext, AreNumbered}
+use Rattle.judge.proofs.Common.{cases_lt, take_more, get_or-map, Message, is_by, Lists, IsNextMessage, AreNumbered}
 use Rattle.std.proofs.lemmas.Option.{slice_get-get_or, slice_get_past}
 use Rattle.judge.proofs.Counts.{Lists-counted}
 
@@ -16,16 +16,16 @@ IfSome-past xs i P l = subst (λ o. IfSome o P) (sym (slice_get_past xs i l)) tt
 
 -- the first i messages have their senders' next numbers
 abbrev pub Numbered : ℕ → List Message → ℕ → Type 0
-Numbered procs shown i = (k : ℕ) → k < i → IfSome (slice_get shown k) (IsNext procs (take k shown))
+Numbered procs shown i = (k : ℕ) → k < i → IfSome (slice_get shown k) (IsNextMessage procs (take k shown))
 
-pub Numbered-more : (procs : ℕ) (shown : List Message) (i : ℕ) (m : Message) → i < length shown → m ≡ get_or shown i m → IsNext procs (take i shown) m → Numbered procs shown i → Numbered procs shown (i + 1)
+pub Numbered-more : (procs : ℕ) (shown : List Message) (i : ℕ) (m : Message) → i < length shown → m ≡ get_or shown i m → IsNextMessage procs (take i shown) m → Numbered procs shown i → Numbered procs shown (i + 1)
 Numbered-more procs shown i m l e next before =
-    below_more (λ k. IfSome (slice_get shown k) (IsNext procs (take k shown))) i before (IfSome-here shown i m (IsNext procs (take i shown)) l e next)
+    below_more (λ k. IfSome (slice_get shown k) (IsNextMessage procs (take k shown))) i before (IfSome-here shown i m (IsNextMessage procs (take i shown)) l e next)
 
 pub AreNumbered-from : (procs : ℕ) (shown : List Message) (i : ℕ) → length shown ≤ i → Numbered procs shown i → AreNumbered procs shown
 AreNumbered-from procs shown i l all k = elim (cases_lt k (length shown)) [
   | inl less ↦ all k (omega (arith, less))
-  | inr past ↦ IfSome-past shown k (IsNext procs (take k shown)) past
+  | inr past ↦ IfSome-past shown k (IsNextMessage procs (take k shown)) past
 ]
 
 -- counts with one more message

@@ -1,6 +1,6 @@
 -- First come, first served: a process that is ready when another begins enters or quits before that one enters.
 use Rattle.std.proofs.Common.{◌≡◌, ℕ, zero, suc, ◌<◌, true, false, List, [], ◌∷◌, sym, ◌∙◌, ap, subst, inl, inr, arith}
-use Rattle.judge.proofs.Common.{Begin, Enter, Quit, is_ready, AllHold, put_same, Deed, doer, NoneBefore, Stands, NoneBetween, GoneBefore, IsEndOf, IsGoneOf, GoneBetween, FirstComeFirstServed, State}
+use Rattle.judge.proofs.Common.{Begin, Enter, Quit, is_ready, AllHold, put_same, Deed, doer, NoneBefore, IsDeedAt, NoneBetween, GoneBefore, IsEndOf, IsGoneOf, GoneBetween, FirstComeFirstServed, State}
 use Rattle.judge.proofs.Common.{needs, after}
 use Rattle.redomail.specs.declared.deed.Deed.TheVariants as deed
 use Rattle.rmecore.specs.declared.phase.Phase.TheVariants as phase
@@ -32,7 +32,7 @@ ahead_stays s (deed.Outer (Quit r)) p q e a other =
 ahead_stays s _ p q e a other = a
 
 -- p is ready and q waits for it: p enters or quits before q enters
-pub gone_ahead : (s : State) (p q : ℕ) (ds : List Deed) (e : ℕ) → p < s.procs → s.lock.phase p ≡ phase.Ready → s.lock.ahead q p ≡ true → Allowed s ds → Stands ds e (deed.Outer (Enter q)) → GoneBefore ds p e
+pub gone_ahead : (s : State) (p q : ℕ) (ds : List Deed) (e : ℕ) → p < s.procs → s.lock.phase p ≡ phase.Ready → s.lock.ahead q p ≡ true → Allowed s ds → IsDeedAt ds e (deed.Outer (Enter q)) → GoneBefore ds p e
 gone_ahead s p q [] e lp r a ok here = absurd here
 gone_ahead s p q (d ∷ ds) zero lp r a ok here =
     let P : Deed → Type 0 = λ k. AllHold (needs s k) in
@@ -47,7 +47,7 @@ gone_ahead s p q (d ∷ ds) (suc e) lp r a ok here =
     ]
 
 -- p is ready, and q begins at b and enters at e: p enters or quits before e
-pub gone_first : (s : State) (p q : ℕ) (ds : List Deed) (b e : ℕ) → p < s.procs → s.lock.phase p ≡ phase.Ready → Allowed s ds → Stands ds b (deed.Outer (Begin q)) → b < e → Stands ds e (deed.Outer (Enter q)) → GoneBefore ds p e
+pub gone_first : (s : State) (p q : ℕ) (ds : List Deed) (b e : ℕ) → p < s.procs → s.lock.phase p ≡ phase.Ready → Allowed s ds → IsDeedAt ds b (deed.Outer (Begin q)) → b < e → IsDeedAt ds e (deed.Outer (Enter q)) → GoneBefore ds p e
 gone_first s p q [] b e lp r ok begins l here = absurd here
 gone_first s p q (d ∷ ds) b zero lp r ok begins l here = absurd (omega arith)
 gone_first s p q (d ∷ ds) zero (suc e) lp r ok begins l here =

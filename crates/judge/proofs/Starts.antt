@@ -1,6 +1,6 @@
 -- The laws from a start.
 use Rattle.std.proofs.Common.{◌≡◌, ℕ, zero, suc, ◌+◌, ◌<◌, ◌≤◌, Bool, true, false, List, [], ◌∷◌, length, count_by, Option, Some, None, IfSome, refl, sym, ◌∙◌, ap, subst, inl, inr, arith, get_or, true≢false}
-use Rattle.judge.proofs.Common.{cond-true, false≢true, cases_lt, get_or_past, list_any_at, Phase, is_out, is_inside, is_dead_in, Deed, Message, is_by, is_pending, IsNext, IsStart, LockHolds, phase_in}
+use Rattle.judge.proofs.Common.{cond-true, false≢true, cases_lt, get_or_past, list_any_at, Phase, is_out, is_inside, is_dead_in, Deed, Message, is_by, is_pending, IsNextMessage, IsStart, LockHolds, phase_in}
 use Rattle.judge.proofs.Common.{state_of}
 use Rattle.rmecore.specs.declared.phase.Phase.TheVariants as phase
 use Rattle.judge.specs.PlainFrom.{IsPlainFrom}
@@ -51,7 +51,7 @@ Sole-start start h p q lp lq (inr e) (inr f) =
     one_has is_dead_in start.phases p q phase.Out h.one_dead (omega (arith, lp, h.phases)) (omega (arith, lq, h.phases)) e f
 
 -- the pending message has its sender's next number
-next_pending : (o : Option Message) (procs cap : ℕ) (shown : List Message) → IfSome o (λ m. IsNext procs shown m × (length shown < cap)) → (p seq : ℕ) (v : List ℕ) → is_pending o p seq v ≡ true → seq ≡ count_by (is_by p) shown + 1
+next_pending : (o : Option Message) (procs cap : ℕ) (shown : List Message) → IfSome o (λ m. IsNextMessage procs shown m × (length shown < cap)) → (p seq : ℕ) (v : List ℕ) → is_pending o p seq v ≡ true → seq ≡ count_by (is_by p) shown + 1
 next_pending None procs cap shown h p seq v e = absurd (false≢true e)
 next_pending (Some m) procs cap shown h p seq v e =
     let parts = message_parts m.sender m.seq m.value p seq v e in

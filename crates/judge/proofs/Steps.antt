@@ -1,7 +1,7 @@
 -- One step of the judge: the needs of an allowed deed, and the phases that it keeps.
 use Rattle.std.proofs.Common.{◌≡◌, ℕ, ◌<◌, Bool, true, false, ◌||◌, ◌==◌, cond, List, [], ◌∷◌, Option, Some, None, Result, Ok, refl, ◌⊎◌, sym, ◌∙◌, ap, subst, inl, inr, arith, true≢false, eqb-true, ltb-true}
-use Rattle.judge.proofs.Common.{cases_eq, eqb-false, cond_both, Fault, Begin, Ready, Enter, Crash, Reenter, Leave, Quit, Phase, is_out, is_door, is_ready, is_inside, is_dead_in, crashed, AllHold}
-use Rattle.judge.proofs.Common.{least, put, first_fault, none_below, Deed, doer, and_then, judged_all, Leads, IsEntryOf, IsExitOf, IsEndOf, IsGoneOf, State, needs, after, unless}
+use Rattle.judge.proofs.Common.{cases_eq, eqb-false, cond_both, Fault, Begin, Ready, Enter, Crash, Reenter, Leave, Quit, Phase, is_out, is_door, is_ready, is_inside, is_dead_in, phase_after_crash, AllHold}
+use Rattle.judge.proofs.Common.{least_below, put, first_fault, none_below, Deed, doer, and_then, judged_all, Leads, IsEntryOf, IsExitOf, IsEndOf, IsGoneOf, State, needs, after, unless}
 use Rattle.redomail.specs.declared.deed.Deed.TheVariants as deed
 use Rattle.rmecore.specs.declared.phase.Phase.TheVariants as phase
 use Rattle.rmecore.proofs.Allowing.{least-le}
@@ -38,7 +38,7 @@ put_cases f p q x P here other =
 pub none_below-at : (n : ℕ) (test : ℕ → Bool) (k : ℕ) → none_below n test ≡ true → k < n → test k ≡ true → ⊥
 none_below-at n test k none h e =
     let below = least-le n test k h e in
-    let same = eqb-true (least n test) n none in
+    let same = eqb-true (least_below n test) n none in
     omega arith
 
 pub procs-after : (s : State) (d : Deed) → (after s d).procs ≡ s.procs
@@ -84,7 +84,7 @@ dead_stays s (deed.Outer (Begin q)) p h e not_it = stays s.lock.phase q p _ _ is
 dead_stays s (deed.Outer (Ready q)) p h e not_it = stays s.lock.phase q p _ _ is_door e h.1.0 refl
 dead_stays s (deed.Outer (Enter q)) p h e not_it = stays s.lock.phase q p _ _ is_ready e h.1.0 refl
 dead_stays s (deed.Outer (Crash q)) p h e not_it =
-    stays_at s.lock.phase q p _ _ e (λ same. ap crashed (sym (ap s.lock.phase same) ∙ e))
+    stays_at s.lock.phase q p _ _ e (λ same. ap phase_after_crash (sym (ap s.lock.phase same) ∙ e))
 dead_stays s (deed.Outer (Reenter q)) p h e not_it =
     stays_at s.lock.phase q p _ _ e (λ same. absurd (not_it (inr (ap (λ k. deed.Outer (Reenter k)) (sym same)))))
 dead_stays s (deed.Outer (Leave q)) p h e not_it = stays s.lock.phase q p _ _ is_inside e h.1.0 refl
@@ -98,7 +98,7 @@ ready_stays s (deed.Outer (Ready q)) p h e not_it = stays s.lock.phase q p _ _ i
 ready_stays s (deed.Outer (Enter q)) p h e not_it =
     stays_at s.lock.phase q p _ _ e (λ same. absurd (not_it (inl (ap (λ k. deed.Outer (Enter k)) (sym same)))))
 ready_stays s (deed.Outer (Crash q)) p h e not_it =
-    stays_at s.lock.phase q p _ _ e (λ same. ap crashed (sym (ap s.lock.phase same) ∙ e))
+    stays_at s.lock.phase q p _ _ e (λ same. ap phase_after_crash (sym (ap s.lock.phase same) ∙ e))
 ready_stays s (deed.Outer (Reenter q)) p h e not_it = stays s.lock.phase q p _ _ is_dead_in e h.1.0 refl
 ready_stays s (deed.Outer (Leave q)) p h e not_it = stays s.lock.phase q p _ _ is_inside e h.1.0 refl
 ready_stays s (deed.Outer (Quit q)) p h e not_it =

@@ -3,7 +3,7 @@ use Rattle.std.specs.Prelude.{◌≡◌, ℕ, ◌<◌, true, nat_lt, List, [], �
 use Rattle.rmecore.specs.Needs.{AllHold}
 use Rattle.rmecore.specs.AbstractLock.{Abstract, is_inside}
 use Rattle.rmecore.specs.declared.outer.Outer.{Outer}
-use Rattle.redomail.specs.Mailbox.{Mailbox, doer, row, done}
+use Rattle.redomail.specs.Mailbox.{Mailbox, doer, row, mailbox_after}
 use Rattle.redomail.specs.declared.deed.Deed.{Deed}
 use Rattle.redomail.specs.declared.deed.Deed.TheVariants as deed
 use Rattle.judge.specs.Table.{State, lock_after, after}
@@ -21,7 +21,7 @@ MailAllows n cap a m [] = Unit {0}
 MailAllows n cap a m (d ∷ ds) =
     (nat_lt (doer d) n ≡ true)
     × AllHold (row cap (is_inside (a.phase (doer d))) m d)
-    × MailAllows n cap (lock_after a d) (done m d) ds
+    × MailAllows n cap (lock_after a d) (mailbox_after m d) ds
 
 -- the state after these deeds
 abbrev pub all_after : State → List Deed → State

@@ -57,8 +57,8 @@ row_word zero f = 0
 row_word (suc n) f = (if f n then 1 else 0) * 2 ^ n + row_word n f
 
 -- a judge of the same size with this state
-abbrev pub told : Kept → List Phase → List ℕ → List ℕ → MailPart → Kept
-told k phases ahead counts mail =
+abbrev pub kept_with : Kept → List Phase → List ℕ → List ℕ → MailPart → Kept
+kept_with k phases ahead counts mail =
     record {
       procs = k.procs;
       cap = k.cap;

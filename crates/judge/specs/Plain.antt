@@ -35,65 +35,65 @@ is_show_of q (deed.Show p at seq v) = p == q
 is_show_of q _ = false
 
 -- the list has a deed at position i, and it has P
-abbrev pub At : List Deed → ℕ → (Deed → Type 0) → Type 0
-At deeds i P = MatchOption (slice_get deeds i) ⊥ P
+abbrev pub HasDeedAt : List Deed → ℕ → (Deed → Type 0) → Type 0
+HasDeedAt deeds i P = MatchOption (slice_get deeds i) ⊥ P
 
 -- this deed is at position i
-abbrev pub Stands : List Deed → ℕ → Deed → Type 0
-Stands deeds i d = At deeds i (λ e. e ≡ d)
+abbrev pub IsDeedAt : List Deed → ℕ → Deed → Type 0
+IsDeedAt deeds i d = HasDeedAt deeds i (λ e. e ≡ d)
 
 -- no deed between positions i and j has P
 abbrev pub NoneBetween : List Deed → ℕ → ℕ → (Deed → Type 0) → Type 0
-NoneBetween deeds i j P = (k : ℕ) → i < k → k < j → At deeds k P → ⊥
+NoneBetween deeds i j P = (k : ℕ) → i < k → k < j → HasDeedAt deeds k P → ⊥
 
 -- none of the first j deeds has P
 abbrev pub NoneBefore : List Deed → ℕ → (Deed → Type 0) → Type 0
-NoneBefore deeds j P = (k : ℕ) → k < j → At deeds k P → ⊥
+NoneBefore deeds j P = (k : ℕ) → k < j → HasDeedAt deeds k P → ⊥
 
 -- "Plain properties" (a): between an entry of p and the next Leave p or Crash p there is no entry of any process.
 abbrev pub NoTwoInside : List Deed → Type 0
-NoTwoInside deeds = (p i j : ℕ) → At deeds i (IsEntryOf p) → i < j → NoneBetween deeds i j (IsExitOf p) → At deeds j IsEntry → ⊥
+NoTwoInside deeds = (p i j : ℕ) → HasDeedAt deeds i (IsEntryOf p) → i < j → NoneBetween deeds i j (IsExitOf p) → HasDeedAt deeds j IsEntry → ⊥
 
 -- "Plain properties" (b): after a Crash p while p is in, the next entry of any process is Reenter p.
 abbrev pub DeadReenters : List Deed → Type 0
 DeadReenters deeds =
-    (p i c j : ℕ) → At deeds i (IsEntryOf p) → i < c → NoneBetween deeds i c (IsExitOf p) → Stands deeds c (deed.Outer (Crash p))
-    → c < j → NoneBetween deeds c j IsEntry → At deeds j IsEntry → Stands deeds j (deed.Outer (Reenter p))
+    (p i c j : ℕ) → HasDeedAt deeds i (IsEntryOf p) → i < c → NoneBetween deeds i c (IsExitOf p) → IsDeedAt deeds c (deed.Outer (Crash p))
+    → c < j → NoneBetween deeds c j IsEntry → HasDeedAt deeds j IsEntry → IsDeedAt deeds j (deed.Outer (Reenter p))
 
 -- p's super-passage at position i has its Enter, or the Quit that ends it, after i and before e
 pub record GoneBetween (deeds : List Deed) (p i e : ℕ) : Type 0 where
   pub place : ℕ
   pub later : i < place
   pub before : place < e
-  pub gone : At deeds place (IsGoneOf p)
+  pub gone : HasDeedAt deeds place (IsGoneOf p)
   pub same : NoneBetween deeds i place (IsEndOf p)
 
 -- p's super-passage from before the list has its Enter, or the Quit that ends it, before e
 pub record GoneBefore (deeds : List Deed) (p e : ℕ) : Type 0 where
   pub place : ℕ
   pub before : place < e
-  pub gone : At deeds place (IsGoneOf p)
+  pub gone : HasDeedAt deeds place (IsGoneOf p)
   pub same : NoneBefore deeds place (IsEndOf p)
 
 -- "Plain properties" (c): if p is Ready before the Begin of q's super-passage, and q enters in it, then p enters or quits
 -- before that Enter.
 abbrev pub FirstComeFirstServed : List Deed → Type 0
 FirstComeFirstServed deeds =
-    (p q r b e : ℕ) → Stands deeds r (deed.Outer (Ready p)) → r < b → Stands deeds b (deed.Outer (Begin q))
-    → b < e → NoneBetween deeds b e (IsEndOf q) → Stands deeds e (deed.Outer (Enter q)) → GoneBetween deeds p r e
+    (p q r b e : ℕ) → IsDeedAt deeds r (deed.Outer (Ready p)) → r < b → IsDeedAt deeds b (deed.Outer (Begin q))
+    → b < e → NoneBetween deeds b e (IsEndOf q) → IsDeedAt deeds e (deed.Outer (Enter q)) → GoneBetween deeds p r e
 
 -- this deed is at some position before i
 abbrev pub StandsBefore : List Deed → ℕ → Deed → Type 0
-StandsBefore deeds i d = (k : ℕ) × (k < i) × Stands deeds k d
+StandsBefore deeds i d = (k : ℕ) × (k < i) × IsDeedAt deeds k d
 
 -- "Plain properties" (d): the Shows of a sender are numbered from 1, and each was committed before. Each Show's place is the
 -- number of Shows before it. No Commit and no Show comes after a Close.
 pub record MailInOrder (deeds : List Deed) : Type 0 where
-  pub numbered : (p i at seq : ℕ) (v : List ℕ) → Stands deeds i (deed.Show p at seq v) → seq ≡ count_by (is_show_of p) (take i deeds) + 1
-  pub placed : (p i at seq : ℕ) (v : List ℕ) → Stands deeds i (deed.Show p at seq v) → at ≡ count_by is_show (take i deeds)
-  pub committed : (p i at seq : ℕ) (v : List ℕ) → Stands deeds i (deed.Show p at seq v) → StandsBefore deeds i (deed.Commit p seq v)
-  pub no_commit : (p q i j seq : ℕ) (v : List ℕ) → Stands deeds i (deed.Close q) → i < j → Stands deeds j (deed.Commit p seq v) → ⊥
-  pub no_show : (p q i j at seq : ℕ) (v : List ℕ) → Stands deeds i (deed.Close q) → i < j → Stands deeds j (deed.Show p at seq v) → ⊥
+  pub numbered : (p i at seq : ℕ) (v : List ℕ) → IsDeedAt deeds i (deed.Show p at seq v) → seq ≡ count_by (is_show_of p) (take i deeds) + 1
+  pub placed : (p i at seq : ℕ) (v : List ℕ) → IsDeedAt deeds i (deed.Show p at seq v) → at ≡ count_by is_show (take i deeds)
+  pub committed : (p i at seq : ℕ) (v : List ℕ) → IsDeedAt deeds i (deed.Show p at seq v) → StandsBefore deeds i (deed.Commit p seq v)
+  pub no_commit : (p q i j seq : ℕ) (v : List ℕ) → IsDeedAt deeds i (deed.Close q) → i < j → IsDeedAt deeds j (deed.Commit p seq v) → ⊥
+  pub no_show : (p q i j at seq : ℕ) (v : List ℕ) → IsDeedAt deeds i (deed.Close q) → i < j → IsDeedAt deeds j (deed.Show p at seq v) → ⊥
 
 -- (a) to (c), the properties of the lock's deeds
 pub record LockInOrder (deeds : List Deed) : Type 0 where

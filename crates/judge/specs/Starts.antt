@@ -31,12 +31,12 @@ state_of start = record {
 }
 
 -- a message of a process below procs, with its sender's next number after those shown
-abbrev pub IsNext : ℕ → List Message → Message → Type 0
-IsNext procs shown m = (m.sender < procs) × (m.seq ≡ count_by (is_by m.sender) shown + 1)
+abbrev pub IsNextMessage : ℕ → List Message → Message → Type 0
+IsNextMessage procs shown m = (m.sender < procs) × (m.seq ≡ count_by (is_by m.sender) shown + 1)
 
 -- each message shown has its sender's next number
 abbrev pub AreNumbered : ℕ → List Message → Type 0
-AreNumbered procs shown = (i : ℕ) → IfSome (slice_get shown i) (IsNext procs (take i shown))
+AreNumbered procs shown = (i : ℕ) → IfSome (slice_get shown i) (IsNextMessage procs (take i shown))
 
 -- "Limits": 1 to 64 processes, and 1 to 65,536 messages
 pub record IsWithin (procs cap : ℕ) : Type 0 where
@@ -57,7 +57,7 @@ pub record LockHolds (start : Start) : Type 0 where
 pub record MailHolds (start : Start) : Type 0 where
   pub shown : AreNumbered start.procs start.shown
   pub room : length start.shown ≤ start.cap
-  pub pending : IfSome start.pending (λ m. IsNext start.procs start.shown m × (length start.shown < start.cap))
+  pub pending : IfSome start.pending (λ m. IsNextMessage start.procs start.shown m × (length start.shown < start.cap))
   pub open_yet : start.closed ≡ true → is_none start.pending ≡ true
 
 -- a start that `from_start` accepts

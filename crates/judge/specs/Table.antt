@@ -2,10 +2,10 @@
 -- effect.
 use Rattle.std.specs.Prelude.{ℕ, Bool, nat_lt, List, [], ◌∷◌, ◌++◌, Option, Some, None, Result, Ok, Err}
 use Rattle.rmecore.specs.Needs.{first_fault}
-use Rattle.rmecore.specs.AbstractLock.{Abstract, nobody, is_inside, row as lock_row, done as lock_done}
+use Rattle.rmecore.specs.AbstractLock.{Abstract, nobody, is_inside, row as lock_row, abstract_after as lock_done}
 use Rattle.rmecore.specs.declared.fault.Fault.{Fault}
 use Rattle.rmecore.specs.declared.fault.Fault.TheVariants.{OutOfPlace}
-use Rattle.redomail.specs.Mailbox.{Mailbox, nothing_shown, doer, row as mail_row, done as mail_done}
+use Rattle.redomail.specs.Mailbox.{Mailbox, nothing_shown, doer, row as mail_row, mailbox_after as mail_done}
 use Rattle.redomail.specs.declared.deed.Deed.{Deed}
 use Rattle.redomail.specs.declared.deed.Deed.TheVariants.{Outer}
 
@@ -17,8 +17,8 @@ pub record State : Type 0 where
   pub mail : Mailbox
 
 -- all processes out, nothing shown
-abbrev pub empty : ℕ → ℕ → State
-empty procs cap = record { procs = procs; cap = cap; lock = nobody; mail = nothing_shown }
+abbrev pub empty_state : ℕ → ℕ → State
+empty_state procs cap = record { procs = procs; cap = cap; lock = nobody; mail = nothing_shown }
 
 -- the lock's needs of a deed
 abbrev pub lock_needs : State → Deed → List (Bool × Fault)
@@ -48,5 +48,5 @@ unless None s = Ok s
 unless (Some fault) s = Err fault
 
 -- the state after a deed, or its fault
-abbrev pub judged : State → Deed → Result State Fault
-judged s d = unless (first_fault (needs s d)) (after s d)
+abbrev pub state_after_deed : State → Deed → Result State Fault
+state_after_deed s d = unless (first_fault (needs s d)) (after s d)

@@ -2,9 +2,9 @@
 
 ghost use Rattle.std.specs.Prelude.{◌≡◌, ℕ, ◌+◌, ◌==◌, count_by, nat_lt, length, ◌<◌, ◌≤◌, ◌↔◌, ◌⊎◌, Bool, true, is_some, List, [], ◌∷◌, ◌++◌, IfNone, IfSome, IsSome, All, slice_index, IsTrue, IfOk, IfErr, IsErrOf, MatchResult, OnErr, OnOk, Ok, Err, false};
 ghost use Rattle.rmecore.specs.AbstractLock.{is_inside, is_dead_in, doer as lock_doer};
-ghost use Rattle.rmecore.specs.Needs.{put, least, none_below, first_fault as fault_of};
+ghost use Rattle.rmecore.specs.Needs.{put, least_below, none_below, first_fault as fault_of};
 ghost use Rattle.redomail.specs.Mailbox.{is_by};
-ghost use Rattle.judge.specs.Table.{State, empty, lock_needs, mail_needs, needs, after, judged};
+ghost use Rattle.judge.specs.Table.{State, empty_state, lock_needs, mail_needs, needs, after, state_after_deed};
 ghost use Rattle.judge.specs.Legal.{judged_all};
 ghost use Rattle.judge.specs.Kept.{HasRoom, Lists};
 ghost use Rattle.judge.specs.Stands.{Keeps, StandsAfter};
@@ -70,7 +70,7 @@ impl Judge {
     ///
     /// `BadProcs` and `BadCap`: a size outside these limits. `OutOfMemory`: an allocation failed. No later call allocates.
     pub fn new(alloc: Global, procs: u64, cap: u64) -> Result<Judge, Refusal>
-        ensures made { IfOk result (λ judge. StandsAfter (empty procs cap) [] judge) }
+        ensures made { IfOk result (λ judge. StandsAfter (empty_state procs cap) [] judge) }
         ensures procs { IsErrOf result Refusal.BadProcs ↔ ((procs ≡ 0) ⊎ (64 < procs)) }
         ensures cap { IsErrOf result Refusal.BadCap ↔ ((0 < procs) × (procs ≤ 64) × ((cap ≡ 0) ⊎ (65536 < cap))) }
         ensures only { IfErr result (λ r. (r ≡ Refusal.BadProcs) ⊎ (r ≡ Refusal.BadCap) ⊎ (r ≡ Refusal.OutOfMemory)) }
@@ -82,7 +82,7 @@ impl Judge {
     /// A judge of a new lock of these sizes.
     fn with_nothing_shown(alloc: Global, procs: u64, cap: u64) -> Result<Judge, AllocError>
         requires { IsWithin procs cap }
-        ensures { IfOk result (λ judge. StandsAfter (empty procs cap) [] judge) }
+        ensures { IfOk result (λ judge. StandsAfter (empty_state procs cap) [] judge) }
     {
         let n = procs as usize;
         let phases = vec![in alloc; Phase::Out; n]?;
@@ -173,7 +173,7 @@ impl Judge {
     /// The least process ahead of p, or the number of processes if there is none.
     fn least_ahead(&self, p: u64) -> u64
         requires { p < self.now.procs }
-        ensures { (s : State) → Keeps self.now s → result ≡ least s.procs (s.lock.ahead p) }
+        ensures { (s : State) → Keeps self.now s → result ≡ least_below s.procs (s.lock.ahead p) }
     {
         rows::least_in(self.ahead[p as usize], self.procs)
     }
@@ -328,7 +328,7 @@ impl Judge {
             Outer::Enter(p) => self.pass(p, Phase::Inside),
             Outer::Crash(p) => {
                 let phase = self.phase(p);
-                self.move_to(p, place::crashed(phase));
+                self.move_to(p, place::phase_after_crash(phase));
             }
             Outer::Reenter(p) => self.move_to(p, Phase::Inside),
             Outer::Leave(p) => self.move_to(p, Phase::Out),
@@ -361,7 +361,8 @@ impl Judge {
     /// most four times.
     pub fn feed(&mut self, deed: Deed) -> Result<(), Fault>
         ensures judged { (s : State) → Keeps self.old s → MatchResult result
-            (λ _. (judged s deed ≡ Ok (after s deed)) × Keeps self.new (after s deed)) (λ fault. judged s deed ≡ Err fault) }
+            (λ _. (state_after_deed s deed ≡ Ok (after s deed))
+            × Keeps self.new (after s deed)) (λ fault. state_after_deed s deed ≡ Err fault) }
         ensures fed { (start : State) (history : List Deed) → StandsAfter start history self.old
             → MatchResult result (λ _. StandsAfter start (history ++ deed ∷ []) self.new)
             (λ fault. judged_all start (history ++ deed ∷ []) ≡ Err fault) }
@@ -375,8 +376,8 @@ impl Judge {
     #[inline(always)]
     pub fn feed_from(&mut self, deed: &Deed) -> Result<(), Fault>
         ensures judged { (s : State) → Keeps self.old s → MatchResult result
-            (λ _. (judged s deed.now ≡ Ok (after s deed.now)) × Keeps self.new (after s deed.now))
-            (λ fault. judged s deed.now ≡ Err fault) }
+            (λ _. (state_after_deed s deed.now ≡ Ok (after s deed.now)) × Keeps self.new (after s deed.now))
+            (λ fault. state_after_deed s deed.now ≡ Err fault) }
         ensures fed { (start : State) (history : List Deed) → StandsAfter start history self.old
             → MatchResult result (λ _. StandsAfter start (history ++ deed.now ∷ []) self.new)
             (λ fault. judged_all start (history ++ deed.now ∷ []) ≡ Err fault) }
@@ -403,7 +404,7 @@ fn all_within(counts: &[u64], most: u64) -> bool
 }
 
 impl Judge {
-    ghost use Rattle.judge.specs.Kept.{IsSound, row_word, told};
+    ghost use Rattle.judge.specs.Kept.{IsSound, row_word, kept_with};
 
     /// The number of processes.
     pub fn procs(&self) -> u64
@@ -457,7 +458,7 @@ impl Judge {
 
     /// Whether this is a state within the sizes of this judge.
     fn may_keep(&self, phases: &[Phase], ahead: &[u64], counts: &[u64], mail: &MailPart) -> bool
-        ensures { IsTrue result ↔ IsSound (told self.now phases.now ahead.now counts.now mail.now) }
+        ensures { IsTrue result ↔ IsSound (kept_with self.now phases.now ahead.now counts.now mail.now) }
     {
         let n = self.procs as usize;
         phases.len() == n
@@ -477,9 +478,9 @@ impl Judge {
         counts: &[u64],
         mail: &MailPart,
     ) -> bool
-        ensures set { IsTrue result → self.new ≡ told self.old phases.now ahead.now counts.now mail.now }
+        ensures set { IsTrue result → self.new ≡ kept_with self.old phases.now ahead.now counts.now mail.now }
         ensures same { result ≡ false → self.new ≡ self.old }
-        ensures sound { IsTrue result ↔ IsSound (told self.old phases.now ahead.now counts.now mail.now) }
+        ensures sound { IsTrue result ↔ IsSound (kept_with self.old phases.now ahead.now counts.now mail.now) }
     {
         if !self.may_keep(phases, ahead, counts, mail) {
             return false;

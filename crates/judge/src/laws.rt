@@ -14,7 +14,7 @@ ghost use Rattle.judge.specs.Plain.{IsPlain, LockInOrder};
 ghost use Rattle.judge.specs.PlainFrom.{IsPlainFrom};
 ghost use Rattle.judge.specs.Stands.{Keeps};
 ghost use Rattle.judge.specs.Starts.{state_of, IsStart};
-ghost use Rattle.judge.specs.Table.{State, lock_needs, mail_needs, needs, after, judged};
+ghost use Rattle.judge.specs.Table.{State, lock_needs, mail_needs, needs, after, state_after_deed};
 
 use crate::start::Start;
 use redomail::Deed;
@@ -57,8 +57,8 @@ pub fn histories_have_two_halves()
 /// continues from its end.
 pub fn histories_grow()
     ensures deed { (s : State) (deed : Deed) → doer deed < s.procs → AllHold (lock_needs s deed)
-        → AllHold (mail_needs s deed) → judged s deed ≡ Ok (after s deed) }
-    ensures grow { (s t u : State) (history : List Deed) (deed : Deed) → Leads s history t → judged t deed ≡ Ok u
+        → AllHold (mail_needs s deed) → state_after_deed s deed ≡ Ok (after s deed) }
+    ensures grow { (s t u : State) (history : List Deed) (deed : Deed) → Leads s history t → state_after_deed t deed ≡ Ok u
         → Leads s (history ++ deed ∷ []) u }
     ensures go_on { (s t u : State) (history later : List Deed) → Leads s history t → Leads t later u → Leads s (history ++ later) u }
 {}
@@ -72,7 +72,7 @@ pub fn only_the_processes_count()
 {}
 
 /// The number of a row of bits has these bits and no others.
-pub fn rows_are_told()
+pub fn rows_have_their_bits()
     ensures bits { (n : ℕ) (f : ℕ → Bool) → HasBits (row_word n f) n f }
     ensures below { (n : ℕ) (f : ℕ → Bool) → row_word n f < 2 ^ n }
 {}

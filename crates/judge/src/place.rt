@@ -2,7 +2,7 @@
 
 ghost use Rattle.std.specs.Prelude.{◌≡◌};
 ghost use Rattle.std.specs.List.{list_any};
-ghost use Rattle.rmecore.specs.AbstractLock.{is_out as is_at_out, is_door as is_at_door, is_ready as is_at_ready, is_inside as is_at_inside, is_dead_in as is_at_dead_in, crashed as crashed_from};
+ghost use Rattle.rmecore.specs.AbstractLock.{is_out as is_at_out, is_door as is_at_door, is_ready as is_at_ready, is_inside as is_at_inside, is_dead_in as is_at_dead_in, phase_after_crash as crashed_from};
 
 use rmecore::Phase;
 
@@ -42,7 +42,7 @@ pub(crate) fn is_dead_in(phase: Phase) -> bool
 }
 
 /// The phase after a crash.
-pub(crate) fn crashed(phase: Phase) -> Phase
+pub(crate) fn phase_after_crash(phase: Phase) -> Phase
     ensures { result ≡ crashed_from phase }
 {
     match phase {

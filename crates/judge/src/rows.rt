@@ -2,7 +2,7 @@
 
 ghost use Rattle.std.specs.Prelude.{◌≡◌, ◌≢◌, ℕ, ◌<◌, ◌≤◌, Bool, true, false, ◌==◌, if◌then◌else◌, length, map, slice_index, slice_index_or, [], All, IfOk, IfErr};
 ghost use Rattle.std.specs.Int.{bit_at};
-ghost use Rattle.rmecore.specs.Needs.{least, put};
+ghost use Rattle.rmecore.specs.Needs.{least_below, put};
 ghost use Rattle.rmecore.specs.AbstractLock.{is_ready};
 ghost use Rattle.judge.specs.Kept.{Lists, HasBits, HasRows, row_word};
 ghost use Rattle.judge.specs.Starts.{is_named};
@@ -22,7 +22,7 @@ fn has(row: u64, q: u64) -> bool
 /// The least process in the row, or `procs` if the row has none.
 pub(crate) fn least_in(row: u64, procs: u64) -> u64
     requires { procs ≤ 64 }
-    ensures { (f : ℕ → Bool) → HasBits row procs f → result ≡ least procs f }
+    ensures { (f : ℕ → Bool) → HasBits row procs f → result ≡ least_below procs f }
 {
     for q in 0..procs {
         if has(row, q) {

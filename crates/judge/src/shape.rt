@@ -4,7 +4,7 @@ ghost use Rattle.std.specs.Prelude.{◌≡◌, ℕ, ◌+◌, ◌<◌, ◌≤◌,
 ghost use Rattle.rmecore.specs.AbstractLock.{is_ready as is_at_ready, is_dead_in as is_at_dead_in};
 ghost use Rattle.redomail.specs.Mailbox.{is_by};
 ghost use Rattle.judge.specs.Kept.{Lists};
-ghost use Rattle.judge.specs.Starts.{IsWithin, phase_in, IsNext, AreNumbered, LockHolds, MailHolds};
+ghost use Rattle.judge.specs.Starts.{IsWithin, phase_in, IsNextMessage, AreNumbered, LockHolds, MailHolds};
 
 use crate::place;
 use crate::start::Start;
@@ -76,7 +76,7 @@ fn nothing_counted() -> [u64; 64]
 }
 
 /// The number of messages of each sender. None: some message does not have its sender's next number.
-fn counted(procs: u64, shown: &[Message]) -> Option<[u64; 64]>
+fn message_counts(procs: u64, shown: &[Message]) -> Option<[u64; 64]>
     requires { procs ≤ 64 }
     ensures counts { IfSome result (λ counts. Lists counts 64 (λ p. count_by (is_by p) shown.now)) }
     ensures numbered { IsSome result ↔ AreNumbered procs shown.now }
@@ -120,7 +120,7 @@ fn pending_holds(start: &Start, counts: &[u64; 64]) -> bool
     requires few { start.now.procs ≤ 64 }
     requires counts { Lists counts.now 64 (λ p. count_by (is_by p) start.now.shown) }
     ensures { IsTrue result ↔ (IfSome start.now.pending
-        (λ m. IsNext start.now.procs start.now.shown m × (length start.now.shown < start.now.cap))
+        (λ m. IsNextMessage start.now.procs start.now.shown m × (length start.now.shown < start.now.cap))
         × (start.now.closed ≡ true → is_none start.now.pending ≡ true)) }
 {
     match &start.pending {
@@ -140,7 +140,7 @@ fn mail_counts(start: &Start) -> Option<[u64; 64]>
     ensures holds { IsSome result ↔ MailHolds start.now }
 {
     let shown = start.shown.as_slice();
-    let counts = counted(start.procs, shown)?;
+    let counts = message_counts(start.procs, shown)?;
     if shown.len() as u64 > start.cap || !pending_holds(start, &counts) {
         return None;
     }

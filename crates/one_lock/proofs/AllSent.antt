@@ -6,7 +6,7 @@ use Rattle.std.proofs.lemmas.List.Elements.{filter-append}
 use Rattle.std.proofs.Math.Seq.{take-suc}
 use Rattle.redomail.specs.declared.message.Message.{Message}
 use Rattle.redomail.specs.Mailbox.{is_by}
-use Rattle.one_lock.specs.Lab.{messages_by, messages_sent, message_sent, words_sent}
+use Rattle.table_runs.specs.Lab.{messages_by, messages_sent, message_sent, words_sent}
 
 by_more : (p : ℕ) (ms : List Message) (i : ℕ) (m : Message) → i < length ms → m ≡ get_or ms i m → messages_by p (take (i + 1) ms) ≡ messages_by p (take i ms) ++ messages_by p (m ∷ [])
 by_more p ms i m within is =

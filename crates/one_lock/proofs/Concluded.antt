@@ -1,10 +1,10 @@
 -- The last asking of a call, before its answer: it leaves all of the member as it was but for its state.
 use Rattle.std.proofs.Common.{◌≡◌, ◌⊎◌, ◌+◌, ◌-◌, ◌<◌, ◌≤◌, ◌^◌, ℕ, min, Result, Err, IfErr, refl, sym, ap, ◌∙◌, subst, inl, inr, arith}
-use Rattle.one_lock.proofs.Common.{Layout, Seat, Goes, AskedEach}
+use Rattle.one_lock.proofs.Common.{Layout, Seat, KeepsProcess, AskedEach}
 use Rattle.crash_plans.specs.Plans.{Askings}
-use Rattle.execution.specs.declared.lock_fault.LockFault.{LockFault}
-use Rattle.execution.specs.declared.lock_fault.LockFault.TheVariants.{Crashed}
-use Rattle.one_lock.specs.Member.{Counts, AskedOnceMore}
+use Rattle.table_runs.specs.declared.lock_fault.LockFault.{LockFault}
+use Rattle.table_runs.specs.declared.lock_fault.LockFault.TheVariants.{Crashed}
+use Rattle.one_lock.specs.Member.{CountsSteps, AskedOnceMore}
 use Rattle.one_lock.specs.declared.member_state.MemberState.{MemberState}
 use Rattle.one_lock.specs.declared.member_state.MemberState.TheVariants.{Lost}
 use Rattle.rmecore.specs.Simulated.{one_more}
@@ -22,13 +22,13 @@ asked_then old x z n a b c each is more then few =
     let first = each below in
     omega (arith, first, sum, is)
 
-pub goes_then : (old x z : Seat) (p : ℕ) (l : Layout) (n : ℕ) → Goes old x → p ≡ x.process → l ≡ x.layout → n ≡ x.steps → (z.process ≡ p) × (z.layout ≡ l) × (n ≤ z.steps) → Goes old z
+pub goes_then : (old x z : Seat) (p : ℕ) (l : Layout) (n : ℕ) → KeepsProcess old x → p ≡ x.process → l ≡ x.layout → n ≡ x.steps → (z.process ≡ p) × (z.layout ≡ l) × (n ≤ z.steps) → KeepsProcess old z
 goes_then old x z p l n goes same_process same_layout is then =
     let few = goes.2 in
     let more = then.2 in
     (then.0 ∙ same_process ∙ goes.0, then.1 ∙ same_layout ∙ goes.1, omega (arith, few, more, is))
 
-pub counts_then : (old x z : Seat) (m n : ℕ) → Counts old x → old.steps ≤ x.steps → m ≡ x.counted → n ≡ x.steps → n ≤ z.steps → z.counted ≡ min (m + (z.steps - n)) (2 ^ 64 - 1) → Counts old z
+pub counts_then : (old x z : Seat) (m n : ℕ) → CountsSteps old x → old.steps ≤ x.steps → m ≡ x.counted → n ≡ x.steps → n ≤ z.steps → z.counted ≡ min (m + (z.steps - n)) (2 ^ 64 - 1) → CountsSteps old z
 counts_then old x z m n counts few same is more then = omega (arith, counts, few, same, is, more, then)
 
 module _ {T : Type 0} (old x y : Seat) (standing : MemberState) (answer result : Result T LockFault) (h : Concluded x standing answer y result) where
@@ -42,10 +42,10 @@ module _ {T : Type 0} (old x y : Seat) (standing : MemberState) (answer result :
   steps_kept : y.steps ≡ x.steps
   steps_kept = kept (λ s. s.steps) refl refl
 
-  pub concluded_goes : Goes old x → Goes old y
+  pub concluded_goes : KeepsProcess old x → KeepsProcess old y
   concluded_goes goes = (kept (λ s. s.process) refl refl ∙ goes.0, kept (λ s. s.layout) refl refl ∙ goes.1, (let few = goes.2 in let same = steps_kept in omega (arith, few, same)))
 
-  pub concluded_counts : Counts old x → Counts old y
+  pub concluded_counts : CountsSteps old x → CountsSteps old y
   concluded_counts counts = kept (λ s. s.counted) refl refl ∙ counts ∙ ap (λ (n : ℕ). min (n - old.steps) (2 ^ 64 - 1)) (sym steps_kept)
 
   pub concluded_asked : (a b c : Askings) → AskedEach old x a b → c.asked ≡ one_more b.asked → AskedOnceMore old y a c

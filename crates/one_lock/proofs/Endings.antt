@@ -2,23 +2,23 @@
 use Rattle.std.proofs.Common.{◌≡◌, ◌≢◌, ℕ, ◌+◌, ◌<◌, ◌≤◌, inl, inr, Bool, true, false, Result, Ok, Err, List, map, length, take, get_or, slice_get, All, Contains, Option, Some, None, option_map, refl, sym, ap, ◌∙◌, subst, arith}
 use Rattle.one_lock.proofs.LabCommon.{true≢false, cases_lt, get_or-map, get_or-take, length-map, length-take-le, take_all, All-more, All-contains, All-get_or, Contains-get_or, Layout, Crashed, OutOfMemory, NotRecoverable, NotYet}
 use Rattle.one_lock.proofs.LabCommon.{AlreadyIn, NotOwner, NotInconsistent, BadIndex, BadWidth, Setup, AllSent, Fault, Refused, LabFault, BadSpec, Member, Spec, HaveAllSent, WantedMemory, fault_by}
-use Rattle.one_lock.proofs.LabCommon.{IsOfLeast, IsReplyTo, WasSent, WereSent, MayEnd, HaveSentBelow, MayEndLab, setup_of, words_sent, Seat, Goes, of_wait, new_seats, place_of}
+use Rattle.one_lock.proofs.LabCommon.{IsOfLeast, IsReplyTo, WasSent, WereSent, MayEnd, HaveSentBelow, MayEndLab, setup_of, words_sent, Seat, KeepsProcess, of_wait, new_seats, place_of}
 use Rattle.std.proofs.lemmas.Option.{slice_get-get_or, slice_get_within, slice_get-map, get_or_from_slice_get}
-use Rattle.one_lock.specs.declared.lab.ending.WorkerEnd.{WorkerEnd}
-use Rattle.one_lock.specs.declared.lab.lab_fault.LabFault.TheVariants.{OutOfMemory as WantsMemory, Reply}
-use Rattle.execution.specs.declared.lock_fault.LockFault.TheVariants.{NumbersSpent}
+use Rattle.table_runs.specs.declared.lab.worker_end.WorkerEnd.{WorkerEnd}
+use Rattle.table_runs.specs.declared.lab.lab_fault.LabFault.TheVariants.{OutOfMemory as WantsMemory, Reply}
+use Rattle.table_runs.specs.declared.lock_fault.LockFault.TheVariants.{NumbersSpent}
 use Rattle.redomail.specs.declared.reply.Reply.{Reply as ReplyOf}
 use Rattle.rmeworld.specs.declared.answer.Answer.TheVariants.{NumbersSpent as SpentAnswer}
 use Rattle.rmeworld.specs.declared.call.Call.TheVariants.{Lock, Append}
-use Rattle.execution.specs.declared.lock_fault.LockFault.{LockFault}
-use Rattle.one_lock.specs.Answers.{IsAnswered, IsReply, EndsAtLock, entry_by}
-use Rattle.one_lock.specs.Whole.{Mends, Replies, Follows, Whole}
+use Rattle.table_runs.specs.declared.lock_fault.LockFault.{LockFault}
+use Rattle.one_lock.specs.Answers.{IsAnsweredCall, IsReply, EndsAtLock, entry_by}
+use Rattle.one_lock.specs.Whole.{Mends, TaskReplies, FollowsLock, Whole}
 use Rattle.one_lock.specs.Member.{Trail, stands_entered}
 use Rattle.one_lock.specs.LabEndings.{WasRuined}
 use Rattle.rmeworld.specs.declared.answer.Answer.{Answer}
 use Rattle.rmeworld.specs.declared.call.Call.{Call}
-use Rattle.execution.specs.declared.entry_kind.Entry.{Entry}
-use Rattle.execution.specs.declared.entry_kind.Entry.TheVariants.{Clean as CleanEntry, OwnerDied as OwnerDiedEntry}
+use Rattle.table_runs.specs.declared.entry_kind.Entry.{Entry}
+use Rattle.table_runs.specs.declared.entry_kind.Entry.TheVariants.{Clean as CleanEntry, OwnerDied as OwnerDiedEntry}
 use Rattle.one_lock.specs.declared.member_state.MemberState.{MemberState}
 use Rattle.one_lock.proofs.Places.{number_at}
 use Rattle.one_lock.proofs.Seats.{new_count}
@@ -39,13 +39,13 @@ all_of P f ds p past before = subst (λ (es : List WorkerEnd). All P es) (take_a
 
 -- the worker with the least number of those that ended early
 pub is_of_least : {D : Type 0} (f : D → WorkerEnd) (ds : List D) (p : ℕ) (d : D) (fault : LabFault) → p < length ds → HaveAllSent (take p (map f ds)) → fault_by p (f (get_or ds p d)) ≡ Some fault → IsOfLeast (map f ds) fault
-is_of_least f ds p d fault within before told =
+is_of_least f ds p d fault within before fact =
     record {
       p = p;
       ending = f (get_or ds p d);
       at = slice_get-get_or (map f ds) p (f d) (inside f ds p within) ∙ ap (λ (e : WorkerEnd). Some e) (ends f ds p d within);
       before = before;
-      told = told;
+      fact = fact;
     }
 
 -- whether some worker ended out of memory
@@ -94,65 +94,65 @@ same_fault : (d e : LockFault) → failed d ≡ failed e → e ≡ d
 same_fault d e is = cc
 
 -- a mending that found the lock ruined
-told_mending : (named : Option Setup) (p : ℕ) (kind : Entry) (from to : Trail) (mended : Result Bool LockFault) → Mends named p (stands_entered (Ok kind)) from to mended → mended ≡ Err NotRecoverable → WasRuined named p
-told_mending named p CleanEntry from to mended (same, fine) ruin = absurd (let none : Result Bool LockFault = Ok false in let e : none ≡ Err NotRecoverable = sym fine ∙ ruin in cc)
-told_mending named p OwnerDiedEntry from to mended (a, is, told) ruin =
+reported_mending : (named : Option Setup) (p : ℕ) (kind : Entry) (from to : Trail) (mended : Result Bool LockFault) → Mends named p (stands_entered (Ok kind)) from to mended → mended ≡ Err NotRecoverable → WasRuined named p
+reported_mending named p CleanEntry from to mended (same, fine) ruin = absurd (let none : Result Bool LockFault = Ok false in let e : none ≡ Err NotRecoverable = sym fine ∙ ruin in cc)
+reported_mending named p OwnerDiedEntry from to mended (a, is, fact) ruin =
     record {
       from = from;
       to = to;
       answer = a;
-      told = inr (is, sym told ∙ ruin);
+      fact = inr (is, sym fact ∙ ruin);
     }
 
-told_inside : (named : Option Setup) (p : ℕ) (task : Call) (kind : Entry) (from at replied : Trail) (mended : Result Bool LockFault) → Mends named p (stands_entered (Ok kind)) from at mended → Replies named p task mended at replied (Err NotRecoverable) → WasRuined named p
-told_inside named p task kind from at replied (Ok repaired) mends replies = absurd replies
-told_inside named p task kind from at replied (Err fault) mends (same, e) =
+reported_inside : (named : Option Setup) (p : ℕ) (task : Call) (kind : Entry) (from at replied : Trail) (mended : Result Bool LockFault) → Mends named p (stands_entered (Ok kind)) from at mended → TaskReplies named p task mended at replied (Err NotRecoverable) → WasRuined named p
+reported_inside named p task kind from at replied (Ok repaired) mends replies = absurd replies
+reported_inside named p task kind from at replied (Err fault) mends (same, e) =
     let f : fault ≡ NotRecoverable = same_fault NotRecoverable fault e in
-    told_mending named p kind from at (Err fault) mends (ap Err f)
+    reported_mending named p kind from at (Err fault) mends (ap Err f)
 
 -- a lock that found it, or what came after the lock
-told_after : (named : Option Setup) (p : ℕ) (s : MemberState) (from at to : Trail) (task : Call) (a : Option Answer) (entry : Result Entry LockFault) → IsAnswered named p s Lock None from at a → entry ≡ entry_by a → Follows named p task entry at to (Err NotRecoverable) → WasRuined named p
-told_after named p s from at to task a (Ok kind) is told works = told_inside named p task kind at works.mended_at works.replied_at works.mended works.mends works.replies
-told_after named p s from at to task a (Err fault) is told (same, e) =
+reports_after : (named : Option Setup) (p : ℕ) (s : MemberState) (from at to : Trail) (task : Call) (a : Option Answer) (entry : Result Entry LockFault) → IsAnsweredCall named p s Lock None from at a → entry ≡ entry_by a → FollowsLock named p task entry at to (Err NotRecoverable) → WasRuined named p
+reports_after named p s from at to task a (Ok kind) is fact works = reported_inside named p task kind at works.mended_at works.replied_at works.mended works.mends works.replies
+reports_after named p s from at to task a (Err fault) is fact (same, e) =
     let f : fault ≡ NotRecoverable = same_fault NotRecoverable fault e in
     record {
       from = from;
       to = at;
       answer = a;
-      told = inl (s, is, sym told ∙ ap Err f);
+      fact = inl (s, is, sym fact ∙ ap Err f);
     }
 
 -- who has found the lock ruined
 was_ruined : (named : Option Setup) (m new : Seat) (task : Call) → Whole named m task None new (Err NotRecoverable) → WasRuined named m.process
 was_ruined named m new task (inl crash) = absurd (let f : NotRecoverable ≡ Crashed = sym (same_fault NotRecoverable Crashed crash) in cc)
 was_ruined named m new task (inr (inl memory)) = absurd (let f : NotRecoverable ≡ OutOfMemory = sym (same_fault NotRecoverable OutOfMemory memory) in cc)
-was_ruined named m new task (inr (inr whole)) = told_after named m.process m.standing m.trail whole.locked_at new.trail task whole.locked (entry_by whole.locked) whole.locks refl whole.follows
+was_ruined named m new task (inr (inr whole)) = reports_after named m.process m.standing m.trail whole.locked_at new.trail task whole.locked (entry_by whole.locked) whole.locks refl whole.follows
 
 -- how a call may end a worker that a crash does not end
-pub ended_by : (named : Option Setup) (m new : Seat) (to : Trail) (task : Call) (e : LockFault) → Goes m new → of_wait e ≡ true → (e ≡ Crashed → ⊥) → EndsAtLock named m None to e → Whole named m task None new (Err e) → (s : Spec) → MayEnd named s new.process (Fault e)
+pub ended_by : (named : Option Setup) (m new : Seat) (to : Trail) (task : Call) (e : LockFault) → KeepsProcess m new → of_wait e ≡ true → (e ≡ Crashed → ⊥) → EndsAtLock named m None to e → Whole named m task None new (Err e) → (s : Spec) → MayEnd named s new.process (Fault e)
 ended_by named m new to task NumbersSpent goes wait crash spent whole s =
-    inl (refl, record { standing = m.standing; from = m.trail; to = to; answered = subst (λ (p : ℕ). IsAnswered named p m.standing Lock None m.trail to (Some SpentAnswer)) (sym goes.0) spent })
-ended_by named m new to task NotRecoverable goes wait crash told whole s = inr (inl (refl, subst (WasRuined named) (sym goes.0) (was_ruined named m new task whole)))
-ended_by named m new to task OutOfMemory goes wait crash told whole s = inr (inr refl)
-ended_by named m new to task Crashed goes wait crash told whole s = absurd (crash refl)
-ended_by named m new to task NotYet goes wait crash told whole s = absurd (true≢false (sym wait))
-ended_by named m new to task AlreadyIn goes wait crash told whole s = absurd (true≢false (sym wait))
-ended_by named m new to task NotOwner goes wait crash told whole s = absurd (true≢false (sym wait))
-ended_by named m new to task NotInconsistent goes wait crash told whole s = absurd (true≢false (sym wait))
-ended_by named m new to task BadIndex goes wait crash told whole s = absurd (true≢false (sym wait))
-ended_by named m new to task BadWidth goes wait crash told whole s = absurd (true≢false (sym wait))
+    inl (refl, record { standing = m.standing; from = m.trail; to = to; answered = subst (λ (p : ℕ). IsAnsweredCall named p m.standing Lock None m.trail to (Some SpentAnswer)) (sym goes.0) spent })
+ended_by named m new to task NotRecoverable goes wait crash fact whole s = inr (inl (refl, subst (WasRuined named) (sym goes.0) (was_ruined named m new task whole)))
+ended_by named m new to task OutOfMemory goes wait crash fact whole s = inr (inr refl)
+ended_by named m new to task Crashed goes wait crash fact whole s = absurd (crash refl)
+ended_by named m new to task NotYet goes wait crash fact whole s = absurd (true≢false (sym wait))
+ended_by named m new to task AlreadyIn goes wait crash fact whole s = absurd (true≢false (sym wait))
+ended_by named m new to task NotOwner goes wait crash fact whole s = absurd (true≢false (sym wait))
+ended_by named m new to task NotInconsistent goes wait crash fact whole s = absurd (true≢false (sym wait))
+ended_by named m new to task BadIndex goes wait crash fact whole s = absurd (true≢false (sym wait))
+ended_by named m new to task BadWidth goes wait crash fact whole s = absurd (true≢false (sym wait))
 
 -- the fault of worker p, if it has ended this way and not out of memory, and those below it have sent all
-told_early : (s : Spec) (p : ℕ) (e : WorkerEnd) (fault : LabFault) → p < s.procs → MayEnd (Some (setup_of s)) s p e → HaveSentBelow s p → (e ≡ Fault OutOfMemory → ⊥) → fault_by p e ≡ Some fault → MayEndLab s fault
-told_early s p AllSent fault below may sent unwanted told = absurd (let none : Option LabFault = None in let e : none ≡ Some fault = told in cc)
-told_early s p (Fault purpose) fault below (inl spent) sent unwanted told =
+reported_early : (s : Spec) (p : ℕ) (e : WorkerEnd) (fault : LabFault) → p < s.procs → MayEnd (Some (setup_of s)) s p e → HaveSentBelow s p → (e ≡ Fault OutOfMemory → ⊥) → fault_by p e ≡ Some fault → MayEndLab s fault
+reported_early s p AllSent fault below may sent unwanted fact = absurd (let none : Option LabFault = None in let e : none ≡ Some fault = fact in cc)
+reported_early s p (Fault purpose) fault below (inl spent) sent unwanted fact =
     let e : Member p purpose ≡ fault = cc in
     subst (MayEndLab s) e (below, inl spent, sent)
-told_early s p (Fault purpose) fault below (inr (inl ruined)) sent unwanted told =
+reported_early s p (Fault purpose) fault below (inr (inl ruined)) sent unwanted fact =
     let e : Member p purpose ≡ fault = cc in
     subst (MayEndLab s) e (below, inr ruined, sent)
-told_early s p (Fault purpose) fault below (inr (inr wants)) sent unwanted told = absurd (unwanted (ap Fault wants))
-told_early s p (Refused reply) fault below may sent unwanted told =
+reported_early s p (Fault purpose) fault below (inr (inr wants)) sent unwanted fact = absurd (unwanted (ap Fault wants))
+reported_early s p (Refused reply) fault below may sent unwanted fact =
     let e : Reply p reply ≡ fault = cc in
     subst (MayEndLab s) e (below, may, sent)
 
@@ -174,8 +174,8 @@ of_least : (es : List WorkerEnd) (s : Spec) (fault : LabFault) → length es ≡
 of_least es s fault count may none least =
     let within = slice_get_within es least.p least.ending least.at in
     let is : get_or es least.p least.ending ≡ least.ending = get_or_from_slice_get es least.p least.ending least.ending least.at in
-    told_early s least.p least.ending fault (subst (λ (k : ℕ). least.p < k) count within) (may least.p least.ending least.at) (sent_below s es least.p may within least.before)
-    (λ wants. none (subst (Contains es) (is ∙ wants) (Contains-get_or es least.p least.ending within))) least.told
+    reported_early s least.p least.ending fault (subst (λ (k : ℕ). least.p < k) count within) (may least.p least.ending least.at) (sent_below s es least.p may within least.before)
+    (λ wants. none (subst (Contains es) (is ∙ wants) (Contains-get_or es least.p least.ending within))) least.fact
 
 -- the faults that the workers of a lab may end it with
 pub may_end_lab : (es : List WorkerEnd) (s : Spec) (fault : LabFault) → length es ≡ s.procs → EachMay (Some (setup_of s)) s es → (WantedMemory es → fault ≡ WantsMemory) → fault ≢ BadSpec → (fault ≢ WantsMemory → IsOfLeast es fault) → MayEndLab s fault

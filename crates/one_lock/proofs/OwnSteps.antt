@@ -1,9 +1,9 @@
 -- The machine of a member's process: it keeps its sizes and its index, and follows the world's steps.
 use Rattle.std.proofs.Common.{◌≡◌, ℕ, ◌+◌, ◌≤◌, Bool, true, false, [], ◌∷◌, ◌++◌, length, Option, Some, None, refl, sym, ap, ◌∙◌, subst, arith, length-append}
-use Rattle.rmecore.specs.Machine.{kind_of, word_of, carried}
+use Rattle.rmecore.specs.Machine.{kind_of, word_of, carried_value}
 use Rattle.rmecore.specs.declared.access.Access.{Access}
 use Rattle.rmecore.specs.declared.happened.Happened.{Happened}
-use Rattle.rmeworld.specs.MachineState.{MachineState, IsSize, IsAllowed, process_state_of, process_state_after, next_access, outcome, stepped, started, crashed}
+use Rattle.rmeworld.specs.MachineState.{MachineState, IsSize, IsAllowed, process_state_of, process_state_after, next_access, outcome, machine_after_step, machine_after_start, machine_after_crash}
 use Rattle.rmeworld.specs.ProcessState.{Moves}
 use Rattle.rmeworld.specs.declared.call.Call.{Call}
 use Rattle.rmeworld.specs.declared.outcome.Outcome.{Outcome}
@@ -11,7 +11,7 @@ use Rattle.rmeworld.specs.WorldState.{HasConfiguration}
 use Rattle.rmeworld.proofs.WorldSteps.{keeps_stepped, keeps_started}
 use Rattle.one_lock.proofs.Common.{Layout, Setup, Seat, Mirrors, Accepts, IsEventOf, IsOwnTrail, AreSizes, new_seat, crashed_if, started_if, opened_machine}
 use Rattle.one_lock.specs.declared.opening.Opening.{Opening}
-use Rattle.one_lock.specs.declared.turn.Turn.{Turn}
+use Rattle.one_lock.specs.declared.turn.StepReport.{StepReport}
 
 pub keeps_then : (s t u : MachineState) → HasConfiguration s.layout s.limit s.index t → HasConfiguration t.layout t.limit t.index u → HasConfiguration s.layout s.limit s.index u
 keeps_then s t u a b = (b.0 ∙ a.0, b.1 ∙ a.1, b.2 ∙ a.2)
@@ -27,21 +27,21 @@ keeps_begun (Some call) s = keeps_started s s.mended call refl
 pub keeps_opened : (o : Opening) (s : MachineState) → HasConfiguration s.layout s.limit s.index (opened_machine o s)
 keeps_opened o s = keeps_then s (crashed_if o.crash s) (opened_machine o s) (keeps_crashed o.crash s) (keeps_begun o.call (crashed_if o.crash s))
 
-pub keeps_taken : (s : MachineState) (v : ℕ) → HasConfiguration s.layout s.limit s.index (stepped s v)
+pub keeps_taken : (s : MachineState) (v : ℕ) → HasConfiguration s.layout s.limit s.index (machine_after_step s v)
 keeps_taken s v = keeps_stepped s s.script_state v
 
 -- after what the machine's calls ensure
-pub kept_by_crash : (s t : MachineState) → t ≡ crashed s → HasConfiguration s.layout s.limit s.index t
+pub kept_by_crash : (s t : MachineState) → t ≡ machine_after_crash s → HasConfiguration s.layout s.limit s.index t
 kept_by_crash s t is = subst (HasConfiguration s.layout s.limit s.index) (sym is) (refl, refl, refl)
 
-pub kept_by_start : (s t : MachineState) (call : Call) → t ≡ started s call → HasConfiguration s.layout s.limit s.index t
+pub kept_by_start : (s t : MachineState) (call : Call) → t ≡ machine_after_start s call → HasConfiguration s.layout s.limit s.index t
 kept_by_start s t call is = subst (HasConfiguration s.layout s.limit s.index) (sym is) (keeps_started s s.mended call refl)
 
-pub kept_by_step : (s t : MachineState) (v : ℕ) → t ≡ stepped s v → HasConfiguration s.layout s.limit s.index t
+pub kept_by_step : (s t : MachineState) (v : ℕ) → t ≡ machine_after_step s v → HasConfiguration s.layout s.limit s.index t
 kept_by_step s t v is = subst (HasConfiguration s.layout s.limit s.index) (sym is) (keeps_taken s v)
 
 -- the event of the machine's next access
-pub is_its_event : (s t : MachineState) (h : Happened) (a : Access) → next_access s ≡ Some a → IsAllowed s a → h.kind ≡ kind_of a → h.word ≡ word_of a → h.value ≡ carried a h.value → t ≡ stepped s h.value → process_state_of t ≡ process_state_after s (next_access s) h.value → IsEventOf s h
+pub is_its_event : (s t : MachineState) (h : Happened) (a : Access) → next_access s ≡ Some a → IsAllowed s a → h.kind ≡ kind_of a → h.word ≡ word_of a → h.value ≡ carried_value a h.value → t ≡ machine_after_step s h.value → process_state_of t ≡ process_state_after s (next_access s) h.value → IsEventOf s h
 is_its_event s t h a next allowed kind word value exact leaves =
     record {
       access = a;
@@ -52,9 +52,9 @@ is_its_event s t h a next allowed kind word value exact leaves =
     }
 
 -- the machine has followed the turn
-pub mirrors_by : (o : Opening) (turn : Turn) (s t : MachineState) (outcome_is : Outcome) → Accepts o.call (crashed_if o.crash s) → t ≡ opened_machine o s → IsEventOf t turn.happened → outcome_is.answer ≡ turn.answer → outcome_is.progress.blocked ≡ turn.blocked → outcome_is ≡ outcome t (next_access t) turn.happened.value → Mirrors o turn s
-mirrors_by o turn s t is accepts opened event answer blocked told =
-    let same : is ≡ outcome (opened_machine o s) (next_access (opened_machine o s)) turn.happened.value = told ∙ ap (λ (m : MachineState). outcome m (next_access m) turn.happened.value) opened in
+pub mirrors_by : (o : Opening) (turn : StepReport) (s t : MachineState) (outcome_is : Outcome) → Accepts o.call (crashed_if o.crash s) → t ≡ opened_machine o s → IsEventOf t turn.happened → outcome_is.answer ≡ turn.answer → outcome_is.progress.blocked ≡ turn.blocked → outcome_is ≡ outcome t (next_access t) turn.happened.value → Mirrors o turn s
+mirrors_by o turn s t is accepts opened event answer blocked fact =
+    let same : is ≡ outcome (opened_machine o s) (next_access (opened_machine o s)) turn.happened.value = fact ∙ ap (λ (m : MachineState). outcome m (next_access m) turn.happened.value) opened in
     record {
       accepts = accepts;
       event = subst (λ (m : MachineState). IsEventOf m turn.happened) opened event;

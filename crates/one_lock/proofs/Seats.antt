@@ -26,8 +26,3 @@ new_arena l limit n ms made e = subst (λ (xs : List Seat). FitAll n xs) (sym ma
 
 pub new_all : (l : Layout) (limit n : ℕ) (ms : List Seat) → ms ≡ new_seats l limit l.procs → l.procs ≡ n → 0 < n → AreAll n ms
 new_all l limit n ms made e some = (some, ap length made ∙ new_count l limit l.procs ∙ e)
-
--- one more of them was taken and handed back
-pub moved_on : {A B C : Type 0} (f : A → C) (g : B → C) (done : List A) (d : A) (x : B) (left rest : List B) (all : List C) → map f done ++ map g left ≡ all → left ≡ x ∷ rest → f d ≡ g x → map f (done ++ d ∷ []) ++ map g rest ≡ all
-moved_on {A = A} {B = B} {C = C} f g done d x left rest all old is same =
-    ap (λ (l : List C). l ++ map g rest) (map-append f done (d ∷ [])) ∙ append_assoc (map f done) (f d ∷ []) (map g rest) ∙ ap (λ (c : C). map f done ++ c ∷ map g rest) same ∙ ap (λ (l : List B). map f done ++ map g l) (sym is) ∙ old

@@ -14,35 +14,35 @@ use Rattle.rmeworld.specs.declared.answer.Answer.TheVariants.{Clean, OwnerDied, 
 use Rattle.rmeworld.specs.declared.outcome.Outcome.{Outcome}
 use Rattle.rmeworld.specs.MachineState.{MachineState}
 use Rattle.rmeworld.specs.ReplyEvents.{HasEvents}
-use Rattle.rmeworld.specs.Replayed.{stepped, advanced, started, crashed, start_refusal, advance_refusal, crash_refusal}
+use Rattle.rmeworld.specs.Replayed.{world_step_report, world_after_step, world_after_start, world_after_crash, start_refusal, advance_refusal, crash_refusal}
 use Rattle.rmeworld.specs.WorldState.{WorldState}
-use Rattle.execution.specs.Under.{Fits}
-use Rattle.execution.specs.declared.entry_kind.Entry.{Entry}
-use Rattle.execution.specs.declared.entry_kind.Entry.TheVariants.{Clean as CleanEntry, OwnerDied as OwnerDiedEntry}
-use Rattle.execution.specs.declared.lock_fault.LockFault.{LockFault}
-use Rattle.execution.specs.declared.lock_fault.LockFault.TheVariants.{Crashed, NotYet, NumbersSpent as SpentFault, NotRecoverable as RuinFault, OutOfMemory}
-use Rattle.execution.specs.declared.setup.Setup.{Setup}
+use Rattle.table_runs.specs.Under.{IsAnswerOf}
+use Rattle.table_runs.specs.declared.entry_kind.Entry.{Entry}
+use Rattle.table_runs.specs.declared.entry_kind.Entry.TheVariants.{Clean as CleanEntry, OwnerDied as OwnerDiedEntry}
+use Rattle.table_runs.specs.declared.lock_fault.LockFault.{LockFault}
+use Rattle.table_runs.specs.declared.lock_fault.LockFault.TheVariants.{Crashed, NotYet, NumbersSpent as SpentFault, NotRecoverable as RuinFault, OutOfMemory}
+use Rattle.table_runs.specs.declared.setup.Setup.{Setup}
 use Rattle.one_lock.specs.declared.opening.Opening.{Opening}
-use Rattle.one_lock.specs.declared.turn.Turn.{Turn}
+use Rattle.one_lock.specs.declared.turn.StepReport.{StepReport}
 use Rattle.one_lock.specs.declared.member_state.MemberState.{MemberState}
 use Rattle.one_lock.specs.declared.member_state.MemberState.TheVariants.{Mended}
-use Rattle.one_lock.specs.Execution.{IsTold, AreSizes}
+use Rattle.one_lock.specs.Execution.{HasExecution, AreSizes}
 use Rattle.one_lock.specs.Member.{Seat, Trail, is_lost}
-use Rattle.one_lock.specs.Trails.{crashed_if, opened_machine, Accepts, IsEventOf, moved_machine, answer_with, is_blocked_with, first_of, further, opening_after, machine_after, blocked_along, events_along, grown}
+use Rattle.one_lock.specs.Trails.{crashed_if, opened_machine, Accepts, IsEventOf, moved_machine, answer_with, is_blocked_with, first_of, later_opening, opening_after, machine_after, blocked_along, events_along, longer_trail}
 
 -- the world after the crash of p, if there is one
 abbrev pub crash_by : Bool → ℕ → WorldState → WorldState
-crash_by true p s = crashed s p
+crash_by true p s = world_after_crash s p
 crash_by false p s = s
 
 -- the world after the start of p's call, if there is one
 abbrev pub start_by : Option Call → ℕ → WorldState → WorldState
 start_by None p s = s
-start_by (Some call) p s = started s p call
+start_by (Some call) p s = world_after_start s p call
 
 -- the world after the crash and the start before a step of p
-abbrev pub opened : Opening → ℕ → WorldState → WorldState
-opened o p s = start_by o.call p (crash_by o.crash p s)
+abbrev pub world_after_opening : Opening → ℕ → WorldState → WorldState
+world_after_opening o p s = start_by o.call p (crash_by o.crash p s)
 
 -- why the crash and the start before a step of p may be refused: out of memory, or the cause of the crash or of the start
 abbrev pub RefusesToOpen : ℕ → Opening → WorldState → Refusal → Type 0
@@ -51,8 +51,8 @@ RefusesToOpen p o s e =
     ⊎ ((call : Call) × (o.call ≡ Some call) × (start_refusal (crash_by o.crash p s) p call ≡ Some e))
 
 -- why a step of p with this opening may be refused: one of those causes, or the step's own
-abbrev pub Refuses : ℕ → Opening → WorldState → Refusal → Type 0
-Refuses p o s e = RefusesToOpen p o s e ⊎ (advance_refusal (opened o p s) p ≡ Some e)
+abbrev pub RefusesStep : ℕ → Opening → WorldState → Refusal → Type 0
+RefusesStep p o s e = RefusesToOpen p o s e ⊎ (advance_refusal (world_after_opening o p s) p ≡ Some e)
 
 -- why a crash, or a start, before a step of p is refused; none where there is no crash or no start
 abbrev pub refusal_of_crash : Bool → ℕ → WorldState → Option Refusal
@@ -70,43 +70,43 @@ Opens p o s = (refusal_of_crash o.crash p s ≡ None) × (refusal_of_start o.cal
 
 -- the next step of p is a look or a weigh that has to be taken again: the count of its blocked steps grows
 abbrev pub IsBlocked : ℕ → WorldState → Type 0
-IsBlocked p s = (tally_at (advanced s p).tallies p).blocked ≢ (tally_at s.tallies p).blocked
+IsBlocked p s = (tally_at (world_after_step s p).tallies p).blocked ≢ (tally_at s.tallies p).blocked
 
 -- Some run from all words 0 ends in a world with the sizes that are named. A step of p with this opening isn't refused
 -- there, and this turn is its report.
-pub record Reports (named : Option Setup) (p : ℕ) (o : Opening) (turn : Turn) : Type 0 where
+pub record Reports (named : Option Setup) (p : ℕ) (o : Opening) (turn : StepReport) : Type 0 where
   pub world : WorldState
   pub steps : ℕ
-  pub told : IsTold world steps
+  pub fact : HasExecution world steps
   pub sizes : AreSizes named world.layout world.limit
   pub opens : Opens p o world
-  pub accepted : advance_refusal (opened o p world) p ≡ None
-  pub happened : (stepped (opened o p world) p).happened ≡ turn.happened
-  pub given : (stepped (opened o p world) p).answer ≡ turn.answer
-  pub held : IsTrue turn.blocked ↔ IsBlocked p (opened o p world)
+  pub accepted : advance_refusal (world_after_opening o p world) p ≡ None
+  pub happened : (world_step_report (world_after_opening o p world) p).happened ≡ turn.happened
+  pub given : (world_step_report (world_after_opening o p world) p).answer ≡ turn.answer
+  pub held : IsTrue turn.blocked ↔ IsBlocked p (world_after_opening o p world)
 
 -- A machine has taken the step that a world reports: the same event, with the same answer, blocked or not.
-pub record Mirrors (o : Opening) (turn : Turn) (s : MachineState) : Type 0 where
+pub record Mirrors (o : Opening) (turn : StepReport) (s : MachineState) : Type 0 where
   pub accepts : Accepts o.call (crashed_if o.crash s)
   pub event : IsEventOf (opened_machine o s) turn.happened
   pub answer : turn.answer ≡ answer_with o s turn.happened.value
   pub blocked : turn.blocked ≡ is_blocked_with o s turn.happened.value
 
 -- A step of p's machine with this opening and value is one that some world reports.
-pub record Gives (named : Option Setup) (p : ℕ) (o : Opening) (s : MachineState) (v : ℕ) : Type 0 where
-  pub turn : Turn
+pub record IsReportedStep (named : Option Setup) (p : ℕ) (o : Opening) (s : MachineState) (v : ℕ) : Type 0 where
+  pub turn : StepReport
   pub reports : Reports named p o turn
   pub mirrors : Mirrors o turn s
   pub value : turn.happened.value ≡ v
 
 -- what the trail says of one more step of p
 abbrev pub TrailGrows : Option Setup → ℕ → Opening → Trail → Outcome → Trail → Type 0
-TrailGrows named p o old outcome new = (v : ℕ) × (new ≡ grown o old v) × Gives named p o old.machine v × (outcome.answer ≡ answer_with o old.machine v) × (outcome.progress.blocked ≡ is_blocked_with o old.machine v)
+TrailGrows named p o old outcome new = (v : ℕ) × (new ≡ longer_trail o old v) × IsReportedStep named p o old.machine v × (outcome.answer ≡ answer_with o old.machine v) × (outcome.progress.blocked ≡ is_blocked_with o old.machine v)
 
 -- p's machine took steps of a call with these values, and none of them had an answer
-abbrev pub HasTaken : Option Setup → ℕ → Opening → MachineState → List ℕ → Type 0
-HasTaken named p first s [] = Unit {0}
-HasTaken named p first s (v ∷ vs) = Gives named p first s v × (answer_with first s v ≡ None) × HasTaken named p further (moved_machine first s v) vs
+abbrev pub HasTakenSteps : Option Setup → ℕ → Opening → MachineState → List ℕ → Type 0
+HasTakenSteps named p first s [] = Unit {0}
+HasTakenSteps named p first s (v ∷ vs) = IsReportedStep named p first s v × (answer_with first s v ≡ None) × HasTakenSteps named p later_opening (moved_machine first s v) vs
 
 -- the turns are enough for k blocked steps; without a limit they always are
 abbrev pub Suffice : Option ℕ → ℕ → Type 0
@@ -114,23 +114,23 @@ Suffice None k = Unit {0}
 Suffice (Some turns) k = k ≤ turns
 
 -- the turns that are left after one of them, if there is one
-abbrev pub spent : Option ℕ → Option ℕ
-spent None = None
-spent (Some zero) = Some zero
-spent (Some (suc turns)) = Some turns
+abbrev pub turns_after_one : Option ℕ → Option ℕ
+turns_after_one None = None
+turns_after_one (Some zero) = Some zero
+turns_after_one (Some (suc turns)) = Some turns
 
 -- A call of p took its trail from one to another. Its last step gave this answer, which fits the call and has the events that
 -- the table of replies asks for. The steps before it gave none, and no more of them were blocked than the call had turns. Without an answer exactly as many were blocked, and
 -- the last step too.
-pub record IsAnswered (named : Option Setup) (p : ℕ) (standing : MemberState) (call : Call) (turns : Option ℕ) (from to : Trail) (answer : Option Answer) : Type 0 where
+pub record IsAnsweredCall (named : Option Setup) (p : ℕ) (standing : MemberState) (call : Call) (turns : Option ℕ) (from to : Trail) (answer : Option Answer) : Type 0 where
   pub index : from.machine.index ≡ p
   pub sizes : AreSizes named from.machine.layout from.machine.limit
   pub before : List ℕ
   pub last : ℕ
-  pub taken : HasTaken named p (first_of standing call) from.machine before
-  pub given : Gives named p (opening_after (first_of standing call) before) (machine_after (first_of standing call) from.machine before) last
+  pub taken : HasTakenSteps named p (first_of standing call) from.machine before
+  pub given : IsReportedStep named p (opening_after (first_of standing call) before) (machine_after (first_of standing call) from.machine before) last
   pub answered : answer_with (opening_after (first_of standing call) before) (machine_after (first_of standing call) from.machine before) last ≡ answer
-  pub fits : IfSome answer (Fits call)
+  pub fits : IfSome answer (IsAnswerOf call)
   pub events : IfSome answer (λ a. HasEvents from.machine.layout from.machine.limit p (crashed_if (is_lost standing) from.machine).mended call a (events_along (first_of standing call) from.machine (before ++ last ∷ [])))
   pub values : to.values ≡ from.values ++ (before ++ last ∷ [])
   pub machine : to.machine ≡ machine_after (first_of standing call) from.machine (before ++ last ∷ [])
@@ -139,8 +139,8 @@ pub record IsAnswered (named : Option Setup) (p : ℕ) (standing : MemberState) 
       → (is_blocked_with (opening_after (first_of standing call) before) (machine_after (first_of standing call) from.machine before) last ≡ true) × (turns ≡ Some (blocked_along (first_of standing call) from.machine before))
 
 -- The result of a member's call is the one of its process's answer, or the call was cut off.
-pub record Answered {T : Type 0} (named : Option Setup) (by : Option Answer → Result T LockFault) (old : Seat) (call : Call) (turns : Option ℕ) (new : Seat) (result : Result T LockFault) : Type 0 where
-  pub told : (result ≡ Err Crashed) ⊎ ((result ≡ Err OutOfMemory) ⊎ ((answer : Option Answer) × (IsAnswered named old.process old.standing call turns old.trail new.trail answer × (result ≡ by answer))))
+pub record ReturnsAnswer {T : Type 0} (named : Option Setup) (by : Option Answer → Result T LockFault) (old : Seat) (call : Call) (turns : Option ℕ) (new : Seat) (result : Result T LockFault) : Type 0 where
+  pub fact : (result ≡ Err Crashed) ⊎ ((result ≡ Err OutOfMemory) ⊎ ((answer : Option Answer) × (IsAnsweredCall named old.process old.standing call turns old.trail new.trail answer × (result ≡ by answer))))
 
 -- the results of a lock (without an answer it has used up its turns), a recovery, a mending, a reading of the board, a call
 -- without a result, and a task, by the answer of the process
@@ -176,11 +176,11 @@ pub record IsReply (named : Option Setup) (p : ℕ) (call : Call) (reply : Reply
   pub answer : Answer
   pub from : Trail
   pub to : Trail
-  pub answered : IsAnswered named p Mended call None from to (Some answer)
+  pub answered : IsAnsweredCall named p Mended call None from to (Some answer)
   pub is : reply ≡ reply_by (Some answer)
 
 -- A whole mailbox call that ends with what its lock was answered, after the lock's steps alone.
 abbrev pub EndsAtLock : Option Setup → Seat → Option ℕ → Trail → LockFault → Type 0
-EndsAtLock named old turns to NotYet = IsAnswered named old.process old.standing Lock turns old.trail to None
-EndsAtLock named old turns to SpentFault = IsAnswered named old.process old.standing Lock turns old.trail to (Some NumbersSpent)
+EndsAtLock named old turns to NotYet = IsAnsweredCall named old.process old.standing Lock turns old.trail to None
+EndsAtLock named old turns to SpentFault = IsAnsweredCall named old.process old.standing Lock turns old.trail to (Some NumbersSpent)
 EndsAtLock named old turns to _ = Unit {0}

@@ -6,7 +6,7 @@ use Rattle.rmeworld.specs.Replayed.{image_of}
 use Rattle.rmeworld.specs.WorldState.{WorldState, global_state_of}
 use Rattle.rmeworld.specs.declared.image.Image.{Image}
 use Rattle.redomail.specs.declared.layout.Layout.{Layout}
-use Rattle.execution.specs.declared.setup.Setup.{Setup}
+use Rattle.table_runs.specs.declared.setup.Setup.{Setup}
 
 -- how many of the events are steps: loads or stores of one word
 abbrev pub steps_of : List WorldEvent → ℕ
@@ -18,15 +18,15 @@ steps_of (Glances p word v ∷ es) = suc (steps_of es)
 
 -- The specification's "History clause": some run from all words 0 has this many steps, has the history as its deeds, and
 -- ends in the world under the mutex.
-pub record IsTold (s : WorldState) (steps : ℕ) : Type 0 where
+pub record HasExecution (s : WorldState) (steps : ℕ) : Type 0 where
   pub execution : List WorldEvent
-  pub told : Execution s.layout s.limit at_first execution
+  pub fact : Execution s.layout s.limit at_first execution
   pub last : last_global_state s.layout s.limit at_first execution ≡ global_state_of s
   pub done : deeds s.layout s.limit at_first execution ≡ s.history
   pub counted : steps_of execution ≡ steps
 
 -- what contracts see of the state under the mutex: the world, and the total of the ledger's book
-pub record Held : Type 0 where
+pub record LockedState : Type 0 where
   pub world : WorldState
   pub total : ℕ
 
@@ -37,4 +37,4 @@ AreSizes (Some named) layout limit = (layout ≡ named.layout) × (limit ≡ nam
 
 -- some run of this many steps, from all words 0, ends in a world with these sizes and words
 abbrev pub IsLeftBy : ℕ → Image → Type 0
-IsLeftBy steps image = (s : WorldState) × IsTold s steps × (image ≡ image_of s)
+IsLeftBy steps image = (s : WorldState) × HasExecution s steps × (image ≡ image_of s)

@@ -1,23 +1,23 @@
 -- How the workers of a laboratory ended, by process from 0 on, and the fault that the lab answers.
 use Rattle.std.specs.Prelude.{◌≡◌, ◌≢◌, ◌<◌, ◌≤◌, ◌⊎◌, ℕ, List, All, Contains, take, slice_get, Option, Some, None, Err}
-use Rattle.one_lock.specs.declared.lab.lab_fault.LabFault.{LabFault}
-use Rattle.one_lock.specs.declared.lab.lab_fault.LabFault.TheVariants.{BadSpec, OutOfMemory as WantsMemory, Member, Reply}
-use Rattle.one_lock.specs.declared.lab.ending.WorkerEnd.{WorkerEnd}
-use Rattle.one_lock.specs.declared.lab.ending.WorkerEnd.TheVariants.{AllSent, Fault, Refused}
+use Rattle.table_runs.specs.declared.lab.lab_fault.LabFault.{LabFault}
+use Rattle.table_runs.specs.declared.lab.lab_fault.LabFault.TheVariants.{BadSpec, OutOfMemory as WantsMemory, Member, Reply}
+use Rattle.table_runs.specs.declared.lab.worker_end.WorkerEnd.{WorkerEnd}
+use Rattle.table_runs.specs.declared.lab.worker_end.WorkerEnd.TheVariants.{AllSent, Fault, Refused}
 use Rattle.redomail.specs.declared.reply.Reply.{Reply as ReplyOf}
 use Rattle.redomail.specs.declared.reply.Reply.TheVariants.{Stored, Already}
 use Rattle.rmeworld.specs.declared.call.Call.TheVariants.{Lock, Append, Consistent}
 use Rattle.rmeworld.specs.declared.answer.Answer.{Answer}
 use Rattle.rmeworld.specs.declared.answer.Answer.TheVariants.{NumbersSpent as SpentAnswer}
-use Rattle.execution.specs.declared.lock_fault.LockFault.TheVariants.{NumbersSpent, NotRecoverable, OutOfMemory}
-use Rattle.execution.specs.declared.setup.Setup.{Setup}
-use Rattle.one_lock.specs.declared.lab.spec.Spec.{Spec}
+use Rattle.table_runs.specs.declared.lock_fault.LockFault.TheVariants.{NumbersSpent, NotRecoverable, OutOfMemory}
+use Rattle.table_runs.specs.declared.setup.Setup.{Setup}
+use Rattle.table_runs.specs.declared.lab.spec.Spec.{Spec}
 use Rattle.one_lock.specs.declared.member_state.MemberState.{MemberState}
 use Rattle.one_lock.specs.declared.member_state.MemberState.TheVariants.{Unmended}
-use Rattle.one_lock.specs.Answers.{IsAnswered, IsReply, entry_by, mended_by}
-use Rattle.one_lock.specs.Endings.{fault_by}
+use Rattle.one_lock.specs.Answers.{IsAnsweredCall, IsReply, entry_by, mended_by}
+use Rattle.table_runs.specs.Endings.{fault_by}
 use Rattle.one_lock.specs.Member.{Trail}
-use Rattle.one_lock.specs.Lab.{setup_of, words_sent}
+use Rattle.table_runs.specs.Lab.{setup_of, words_sent}
 
 -- each worker has sent all its messages
 abbrev pub HaveAllSent : List WorkerEnd → Type 0
@@ -33,7 +33,7 @@ pub record IsOfLeast (endings : List WorkerEnd) (fault : LabFault) : Type 0 wher
   pub ending : WorkerEnd
   pub at : slice_get endings p ≡ Some ending
   pub before : HaveAllSent (take p endings)
-  pub told : fault_by p ending ≡ Some fault
+  pub fact : fault_by p ending ≡ Some fault
 
 -- A lock of p without a limit of turns was answered NumbersSpent: its last step read the limit in its doorway, in a world
 -- with the sizes that are named.
@@ -41,20 +41,20 @@ pub record WasSpent (named : Option Setup) (p : ℕ) : Type 0 where
   pub standing : MemberState
   pub from : Trail
   pub to : Trail
-  pub answered : IsAnswered named p standing Lock None from to (Some SpentAnswer)
+  pub answered : IsAnsweredCall named p standing Lock None from to (Some SpentAnswer)
 
 -- the answer of a lock of p, without a limit of turns, or of a mending of p shows that the lock is ruined
 abbrev pub IsRuin : Option Setup → ℕ → Trail → Trail → Option Answer → Type 0
 IsRuin named p from to answer =
-    ((standing : MemberState) × IsAnswered named p standing Lock None from to answer × (entry_by answer ≡ Err NotRecoverable))
-    ⊎ (IsAnswered named p Unmended Consistent None from to answer × (mended_by answer ≡ Err NotRecoverable))
+    ((standing : MemberState) × IsAnsweredCall named p standing Lock None from to answer × (entry_by answer ≡ Err NotRecoverable))
+    ⊎ (IsAnsweredCall named p Unmended Consistent None from to answer × (mended_by answer ≡ Err NotRecoverable))
 
 -- p has found the lock ruined, in a world with the sizes that are named
 pub record WasRuined (named : Option Setup) (p : ℕ) : Type 0 where
   pub from : Trail
   pub to : Trail
   pub answer : Option Answer
-  pub told : IsRuin named p from to answer
+  pub fact : IsRuin named p from to answer
 
 -- The append of worker p's message with this number was given this reply, in a world with the sizes that are named.
 abbrev pub IsReplyTo : Option Setup → ℕ → ℕ → ℕ → ReplyOf → Type 0

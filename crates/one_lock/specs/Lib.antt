@@ -1,5 +1,3 @@
-pub mod Lab
-pub mod Endings
 pub mod Execution
 pub mod Member
 pub mod Trails

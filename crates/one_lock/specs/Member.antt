@@ -8,10 +8,10 @@ use Rattle.redomail.specs.declared.layout.Layout.{Layout}
 use Rattle.rmeworld.specs.MachineState.{MachineState, resting}
 use Rattle.rmeworld.specs.declared.call.Call.{Call}
 use Rattle.rmeworld.specs.declared.call.Call.TheVariants.{Lock, Recover, Consistent, Append, Close, Withdraw}
-use Rattle.execution.specs.declared.lock_fault.LockFault.{LockFault}
-use Rattle.execution.specs.declared.lock_fault.LockFault.TheVariants.{Crashed, NotYet, NumbersSpent, NotRecoverable, OutOfMemory}
-use Rattle.execution.specs.declared.entry_kind.Entry.{Entry}
-use Rattle.execution.specs.declared.entry_kind.Entry.TheVariants.{Clean, OwnerDied}
+use Rattle.table_runs.specs.declared.lock_fault.LockFault.{LockFault}
+use Rattle.table_runs.specs.declared.lock_fault.LockFault.TheVariants.{Crashed, NotYet, NumbersSpent, NotRecoverable, OutOfMemory}
+use Rattle.table_runs.specs.declared.entry_kind.Entry.{Entry}
+use Rattle.table_runs.specs.declared.entry_kind.Entry.TheVariants.{Clean, OwnerDied}
 use Rattle.one_lock.specs.declared.member_state.MemberState.{MemberState}
 use Rattle.one_lock.specs.declared.member_state.MemberState.TheVariants.{Out, Lost, Mended, Unmended}
 
@@ -64,8 +64,8 @@ may_start standing Withdraw = false
 may_start standing _ = is_in standing
 
 -- no call changes the member's process, or takes back a step
-abbrev pub Goes : Seat → Seat → Type 0
-Goes old new = (new.process ≡ old.process) × (new.layout ≡ old.layout) × (old.steps ≤ new.steps)
+abbrev pub KeepsProcess : Seat → Seat → Type 0
+KeepsProcess old new = (new.process ≡ old.process) × (new.layout ≡ old.layout) × (old.steps ≤ new.steps)
 
 -- the plan was asked once for each own step, with askings a before and b after. They are counted up to 2^64 - 1
 abbrev pub AskedEach : Seat → Seat → Askings → Askings → Type 0
@@ -77,8 +77,8 @@ AskedOnceMore old new a b = b.asked < 2 ^ 64 - 1 → b.asked + old.steps ≡ a.a
 
 -- a call that was started has counted what it added to the member's share; a part of a call has counted on. Both up to the
 -- greatest u64
-abbrev pub Counts : Seat → Seat → Type 0
-Counts old new = new.counted ≡ min (new.steps - old.steps) (2 ^ 64 - 1)
+abbrev pub CountsSteps : Seat → Seat → Type 0
+CountsSteps old new = new.counted ≡ min (new.steps - old.steps) (2 ^ 64 - 1)
 
 -- a part of a call has counted on
 abbrev pub CountsOn : Seat → Seat → Type 0

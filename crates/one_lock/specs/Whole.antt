@@ -5,48 +5,48 @@ use Rattle.redomail.specs.declared.reply.Reply.{Reply}
 use Rattle.rmeworld.specs.declared.answer.Answer.{Answer}
 use Rattle.rmeworld.specs.declared.call.Call.{Call}
 use Rattle.rmeworld.specs.declared.call.Call.TheVariants.{Lock, Unlock, Consistent}
-use Rattle.execution.specs.declared.entry_kind.Entry.{Entry}
-use Rattle.execution.specs.declared.lock_fault.LockFault.{LockFault}
-use Rattle.execution.specs.declared.lock_fault.LockFault.TheVariants.{Crashed, OutOfMemory}
-use Rattle.execution.specs.declared.setup.Setup.{Setup}
+use Rattle.table_runs.specs.declared.entry_kind.Entry.{Entry}
+use Rattle.table_runs.specs.declared.lock_fault.LockFault.{LockFault}
+use Rattle.table_runs.specs.declared.lock_fault.LockFault.TheVariants.{Crashed, OutOfMemory}
+use Rattle.table_runs.specs.declared.setup.Setup.{Setup}
 use Rattle.one_lock.specs.declared.member_state.MemberState.{MemberState}
 use Rattle.one_lock.specs.declared.member_state.MemberState.TheVariants.{Mended, Unmended}
-use Rattle.one_lock.specs.Answers.{IsAnswered, entry_by, mended_by, reply_by}
+use Rattle.one_lock.specs.Answers.{IsAnsweredCall, entry_by, mended_by, reply_by}
 use Rattle.one_lock.specs.Member.{Seat, Trail, stands_entered, stands_mended}
 
 -- p mends, if it has to
 abbrev pub Mends : Option Setup → ℕ → MemberState → Trail → Trail → Result Bool LockFault → Type 0
-Mends named p Unmended from to mended = (answer : Option Answer) × IsAnswered named p Unmended Consistent None from to answer × (mended ≡ mended_by answer)
+Mends named p Unmended from to mended = (answer : Option Answer) × IsAnsweredCall named p Unmended Consistent None from to answer × (mended ≡ mended_by answer)
 Mends named p standing from to mended = (to ≡ from) × (mended ≡ Ok false)
 
 -- the task of p is given this reply; there is none where the mending found the lock ruined
-abbrev pub Replies : Option Setup → ℕ → Call → Result Bool LockFault → Trail → Trail → Result Reply LockFault → Type 0
-Replies named p task (Ok repaired) from to (Ok reply) = (answer : Option Answer) × IsAnswered named p Mended task None from to answer × (reply ≡ reply_by answer)
-Replies named p task (Ok repaired) from to (Err e) = ⊥
-Replies named p task (Err fault) from to reply = (to ≡ from) × (reply ≡ Err fault)
+abbrev pub TaskReplies : Option Setup → ℕ → Call → Result Bool LockFault → Trail → Trail → Result Reply LockFault → Type 0
+TaskReplies named p task (Ok repaired) from to (Ok reply) = (answer : Option Answer) × IsAnsweredCall named p Mended task None from to answer × (reply ≡ reply_by answer)
+TaskReplies named p task (Ok repaired) from to (Err e) = ⊥
+TaskReplies named p task (Err fault) from to reply = (to ≡ from) × (reply ≡ Err fault)
 
 -- what p does inside: it mends, has its task done, and leaves
-pub record Works (named : Option Setup) (p : ℕ) (task : Call) (standing : MemberState) (from to : Trail) (reply : Result Reply LockFault) : Type 0 where
+pub record WorksInside (named : Option Setup) (p : ℕ) (task : Call) (standing : MemberState) (from to : Trail) (reply : Result Reply LockFault) : Type 0 where
   pub mended : Result Bool LockFault
   pub mended_at : Trail
   pub mends : Mends named p standing from mended_at mended
   pub replied_at : Trail
-  pub replies : Replies named p task mended mended_at replied_at reply
+  pub replies : TaskReplies named p task mended mended_at replied_at reply
   pub left : Option Answer
-  pub leaves : IsAnswered named p (stands_mended mended) Unlock None replied_at to left
+  pub leaves : IsAnsweredCall named p (stands_mended mended) Unlock None replied_at to left
 
 -- what follows the lock: where it did not enter, nothing
-abbrev pub Follows : Option Setup → ℕ → Call → Result Entry LockFault → Trail → Trail → Result Reply LockFault → Type 0
-Follows named p task (Ok entry) from to reply = Works named p task (stands_entered (Ok entry)) from to reply
-Follows named p task (Err fault) from to reply = (to ≡ from) × (reply ≡ Err fault)
+abbrev pub FollowsLock : Option Setup → ℕ → Call → Result Entry LockFault → Trail → Trail → Result Reply LockFault → Type 0
+FollowsLock named p task (Ok entry) from to reply = WorksInside named p task (stands_entered (Ok entry)) from to reply
+FollowsLock named p task (Err fault) from to reply = (to ≡ from) × (reply ≡ Err fault)
 
 -- the whole call of a member, which may be blocked as often as it has turns
-pub record IsWhole (named : Option Setup) (old : Seat) (task : Call) (turns : Option ℕ) (to : Trail) (reply : Result Reply LockFault) : Type 0 where
+pub record IsMailboxCall (named : Option Setup) (old : Seat) (task : Call) (turns : Option ℕ) (to : Trail) (reply : Result Reply LockFault) : Type 0 where
   pub locked : Option Answer
   pub locked_at : Trail
-  pub locks : IsAnswered named old.process old.standing Lock turns old.trail locked_at locked
-  pub follows : Follows named old.process task (entry_by locked) locked_at to reply
+  pub locks : IsAnsweredCall named old.process old.standing Lock turns old.trail locked_at locked
+  pub follows : FollowsLock named old.process task (entry_by locked) locked_at to reply
 
 -- the result of such a call; or it was cut off
 abbrev pub Whole : Option Setup → Seat → Call → Option ℕ → Seat → Result Reply LockFault → Type 0
-Whole named old task turns new result = (result ≡ Err Crashed) ⊎ ((result ≡ Err OutOfMemory) ⊎ IsWhole named old task turns new.trail result)
+Whole named old task turns new result = (result ≡ Err Crashed) ⊎ ((result ≡ Err OutOfMemory) ⊎ IsMailboxCall named old task turns new.trail result)

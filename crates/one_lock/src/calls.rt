@@ -4,26 +4,26 @@
 //! ends the call. A call that is refused for the member's state or its arguments takes no step and asks nothing.
 
 ghost use Rattle.std.specs.Prelude.{◌≡◌, ◌≢◌, ◌<◌, ◌≤◌, ◌⊎◌, ◌↔◌, ℕ, Ok, Some, None, IfErr, IsErrOf, OnOk, OnErr, IsNone, IsSome, true, false};
-ghost use Rattle.one_lock.specs.Answers.{Answered, entry_by, found_by, mended_by, word_by};
-ghost use Rattle.one_lock.specs.Member.{Goes, AskedOnceMore, Counts, is_in, of_lock, of_wait, of_steps, of_consistent, falls_by, stands_entered, stands_out, stands_found, stands_mended, stands_still};
+ghost use Rattle.one_lock.specs.Answers.{ReturnsAnswer, entry_by, found_by, mended_by, word_by};
+ghost use Rattle.one_lock.specs.Member.{KeepsProcess, AskedOnceMore, CountsSteps, is_in, of_lock, of_wait, of_steps, of_consistent, falls_by, stands_entered, stands_out, stands_found, stands_mended, stands_still};
 
 use crate::member::Member;
 use crate::member_state::MemberState;
 use crate::sizes::Sizes;
 use crash_plans::CrashPlan;
-use execution::{Entry, LockFault};
 use redomail::Reply;
 use rmecore::Found;
 use rmeworld::{Answer, Call};
 use std::sync::Wait;
 use std::sync::ledger::Ledger;
+use table_runs::{Entry, LockFault};
 
 /// The number of board words.
 const BOARD: u64 = 4;
 
 /// The result of a lock from its answer, and the member's state after it. None: the lock has used up its turns.
-pub(crate) fn entered(answer: Option<Answer>) -> (Result<Entry, LockFault>, MemberState)
-    ensures told { result.0 ≡ entry_by answer }
+pub(crate) fn lock_result(answer: Option<Answer>) -> (Result<Entry, LockFault>, MemberState)
+    ensures fact { result.0 ≡ entry_by answer }
     ensures stands { result.1 ≡ stands_entered result.0 }
     ensures inside { OnOk result.0 (is_in result.1 ≡ true) }
     ensures falls { (f : ℕ) → falls_by result.0 f ≡ f }
@@ -40,8 +40,8 @@ pub(crate) fn entered(answer: Option<Answer>) -> (Result<Entry, LockFault>, Memb
 }
 
 /// The result of a recovery from its answer, and the member's state after it.
-fn found(answer: Option<Answer>) -> (Result<Found, LockFault>, MemberState)
-    ensures told { result.0 ≡ found_by answer }
+fn recovery_result(answer: Option<Answer>) -> (Result<Found, LockFault>, MemberState)
+    ensures fact { result.0 ≡ found_by answer }
     ensures stands { result.1 ≡ stands_found result.0 }
     ensures falls { (f : ℕ) → falls_by result.0 f ≡ f }
     ensures fine { OnErr result.0 ⊥ }
@@ -56,8 +56,8 @@ fn found(answer: Option<Answer>) -> (Result<Found, LockFault>, MemberState)
 }
 
 /// The result of `consistent` from its answer, and the member's state after it.
-pub(crate) fn mended(answer: Option<Answer>) -> (Result<bool, LockFault>, MemberState)
-    ensures told { result.0 ≡ mended_by answer }
+pub(crate) fn mending_result(answer: Option<Answer>) -> (Result<bool, LockFault>, MemberState)
+    ensures fact { result.0 ≡ mended_by answer }
     ensures stands { result.1 ≡ stands_mended result.0 }
     ensures falls { (f : ℕ) → falls_by result.0 f ≡ f }
     ensures faults { IfErr result.0 (λ e. e ≡ LockFault.NotRecoverable) }
@@ -92,12 +92,13 @@ impl<L: Ledger, S: Sizes> Member<L, S> {
         ensures refused { IsErrOf result LockFault.AlreadyIn ↔ (is_in self.old.standing ≡ true) }
         ensures unasked { is_in self.old.standing ≡ true → (self.new ≡ self.old) × (P.askings plan.new ≡ P.askings plan.old) }
         ensures asked { is_in self.old.standing ≡ false → AskedOnceMore self.old self.new (P.askings plan.old) (P.askings plan.new) }
-        ensures counted { is_in self.old.standing ≡ false → Counts self.old self.new }
+        ensures counted { is_in self.old.standing ≡ false → CountsSteps self.old self.new }
         ensures fallen { (P.askings plan.new).fallen ≡ falls_by result (P.askings plan.old).fallen }
-        ensures goes { Goes self.old self.new }
+        ensures goes { KeepsProcess self.old self.new }
         ensures stands { is_in self.old.standing ≡ false → self.new.standing ≡ stands_entered result }
         ensures faults { is_in self.old.standing ≡ false → IfErr result (λ e. of_lock e ≡ true) }
-        ensures answered { is_in self.old.standing ≡ false → Answered S.named entry_by self.old Call.Lock (Some turns) self.new result }
+        ensures answered { is_in self.old.standing ≡ false
+            → ReturnsAnswer S.named entry_by self.old Call.Lock (Some turns) self.new result }
     {
         self.lock_by(rt, plan, Some(turns))
     }
@@ -107,18 +108,18 @@ impl<L: Ledger, S: Sizes> Member<L, S> {
         ensures refused { IsErrOf result LockFault.AlreadyIn ↔ (is_in self.old.standing ≡ true) }
         ensures unasked { is_in self.old.standing ≡ true → (self.new ≡ self.old) × (P.askings plan.new ≡ P.askings plan.old) }
         ensures asked { is_in self.old.standing ≡ false → AskedOnceMore self.old self.new (P.askings plan.old) (P.askings plan.new) }
-        ensures counted { is_in self.old.standing ≡ false → Counts self.old self.new }
+        ensures counted { is_in self.old.standing ≡ false → CountsSteps self.old self.new }
         ensures fallen { (P.askings plan.new).fallen ≡ falls_by result (P.askings plan.old).fallen }
-        ensures goes { Goes self.old self.new }
+        ensures goes { KeepsProcess self.old self.new }
         ensures stands { is_in self.old.standing ≡ false → self.new.standing ≡ stands_entered result }
         ensures faults { is_in self.old.standing ≡ false → IfErr result (λ e. of_wait e ≡ true) }
-        ensures answered { is_in self.old.standing ≡ false → Answered S.named entry_by self.old Call.Lock None self.new result }
+        ensures answered { is_in self.old.standing ≡ false → ReturnsAnswer S.named entry_by self.old Call.Lock None self.new result }
     {
         self.lock_by(rt, plan, None)
     }
 
     /// A lock with this many turns, or without a limit of them.
-    #[tactic(auto, using(crate::proofs::Answered::cut_off, crate::proofs::Answered::as_told))]
+    #[tactic(auto, using(crate::proofs::Answered::cut_off, crate::proofs::Answered::as_reported))]
     fn lock_by<R: Wait, P: CrashPlan>(
         &mut self,
         rt: &R,
@@ -129,23 +130,23 @@ impl<L: Ledger, S: Sizes> Member<L, S> {
         ensures unasked { is_in self.old.standing ≡ true → (self.new ≡ self.old) × (P.askings plan.new ≡ P.askings plan.old) }
         ensures patient { IsErrOf result LockFault.NotYet → IsSome turns }
         ensures asked { is_in self.old.standing ≡ false → AskedOnceMore self.old self.new (P.askings plan.old) (P.askings plan.new) }
-        ensures counted { is_in self.old.standing ≡ false → Counts self.old self.new }
+        ensures counted { is_in self.old.standing ≡ false → CountsSteps self.old self.new }
         ensures fallen { (P.askings plan.new).fallen ≡ falls_by result (P.askings plan.old).fallen }
-        ensures goes { Goes self.old self.new }
+        ensures goes { KeepsProcess self.old self.new }
         ensures stands { is_in self.old.standing ≡ false → self.new.standing ≡ stands_entered result }
         ensures faults { is_in self.old.standing ≡ false → IfErr result (λ e. of_lock e ≡ true) }
-        ensures answered { is_in self.old.standing ≡ false → Answered S.named entry_by self.old Call.Lock turns self.new result }
+        ensures answered { is_in self.old.standing ≡ false → ReturnsAnswer S.named entry_by self.old Call.Lock turns self.new result }
     {
         if self.standing.is_in() {
             return Err(LockFault::AlreadyIn);
         }
-        let (entry, standing) = entered(self.begin(rt, plan, Call::Lock, turns)?);
+        let (entry, standing) = lock_result(self.begin(rt, plan, Call::Lock, turns)?);
         self.conclude(plan, entry, standing)
     }
 
     /// Finds out where a crash has left the process, with as few steps as possible. A process that crashed inside is inside
     /// again, and has to mend. `AlreadyIn`: the process is in the section. `Crashed` and `OutOfMemory` as for `lock_within`.
-    #[tactic(auto, using(crate::proofs::Answered::cut_off, crate::proofs::Answered::as_told))]
+    #[tactic(auto, using(crate::proofs::Answered::cut_off, crate::proofs::Answered::as_reported))]
     pub fn recover<R: Wait, P: CrashPlan>(
         &mut self,
         rt: &R,
@@ -154,24 +155,24 @@ impl<L: Ledger, S: Sizes> Member<L, S> {
         ensures refused { IsErrOf result LockFault.AlreadyIn ↔ (is_in self.old.standing ≡ true) }
         ensures unasked { is_in self.old.standing ≡ true → (self.new ≡ self.old) × (P.askings plan.new ≡ P.askings plan.old) }
         ensures asked { is_in self.old.standing ≡ false → AskedOnceMore self.old self.new (P.askings plan.old) (P.askings plan.new) }
-        ensures counted { is_in self.old.standing ≡ false → Counts self.old self.new }
+        ensures counted { is_in self.old.standing ≡ false → CountsSteps self.old self.new }
         ensures fallen { (P.askings plan.new).fallen ≡ falls_by result (P.askings plan.old).fallen }
-        ensures goes { Goes self.old self.new }
+        ensures goes { KeepsProcess self.old self.new }
         ensures stands { is_in self.old.standing ≡ false → self.new.standing ≡ stands_found result }
         ensures faults { is_in self.old.standing ≡ false → IfErr result (λ e. of_steps e ≡ true) }
-        ensures answered { is_in self.old.standing ≡ false → Answered S.named found_by self.old Call.Recover None self.new result }
+        ensures answered { is_in self.old.standing ≡ false → ReturnsAnswer S.named found_by self.old Call.Recover None self.new result }
     {
         if self.standing.is_in() {
             return Err(LockFault::AlreadyIn);
         }
-        let (found, standing) = found(self.begin(rt, plan, Call::Recover, None)?);
+        let (found, standing) = recovery_result(self.begin(rt, plan, Call::Recover, None)?);
         self.conclude(plan, found, standing)
     }
 
     /// Mends what a crash inside has left (POSIX: pthread_mutex_consistent). True: an append was cut off after its commit.
     /// `NotRecoverable`: the lock is ruined; the member is still inside and has not mended. `NotInconsistent`: there is
     /// nothing to mend, and no step was taken. `Crashed` and `OutOfMemory` as for `lock_within`.
-    #[tactic(auto, using(crate::proofs::Answered::cut_off, crate::proofs::Answered::as_told))]
+    #[tactic(auto, using(crate::proofs::Answered::cut_off, crate::proofs::Answered::as_reported))]
     pub fn consistent<R: Wait, P: CrashPlan>(
         &mut self,
         rt: &R,
@@ -182,34 +183,35 @@ impl<L: Ledger, S: Sizes> Member<L, S> {
             → (self.new ≡ self.old) × (P.askings plan.new ≡ P.askings plan.old) }
         ensures asked { self.old.standing ≡ MemberState.Unmended
             → AskedOnceMore self.old self.new (P.askings plan.old) (P.askings plan.new) }
-        ensures counted { self.old.standing ≡ MemberState.Unmended → Counts self.old self.new }
+        ensures counted { self.old.standing ≡ MemberState.Unmended → CountsSteps self.old self.new }
         ensures fallen { (P.askings plan.new).fallen ≡ falls_by result (P.askings plan.old).fallen }
-        ensures goes { Goes self.old self.new }
+        ensures goes { KeepsProcess self.old self.new }
         ensures stands { self.old.standing ≡ MemberState.Unmended → self.new.standing ≡ stands_mended result }
         ensures faults { self.old.standing ≡ MemberState.Unmended → IfErr result (λ e. of_consistent e ≡ true) }
         ensures answered { self.old.standing ≡ MemberState.Unmended
-            → Answered S.named mended_by self.old Call.Consistent None self.new result }
+            → ReturnsAnswer S.named mended_by self.old Call.Consistent None self.new result }
     {
         if self.standing != MemberState::Unmended {
             return Err(LockFault::NotInconsistent);
         }
-        let (repaired, standing) = mended(self.begin(rt, plan, Call::Consistent, None)?);
+        let (repaired, standing) = mending_result(self.begin(rt, plan, Call::Consistent, None)?);
         self.conclude(plan, repaired, standing)
     }
 
     /// Leaves the section. A holder that has to mend and hasn't ruins the lock. `NotOwner`: the process isn't in the
     /// section. `Crashed` and `OutOfMemory` as for `lock_within`.
-    #[tactic(auto, using(crate::proofs::Answered::cut_off, crate::proofs::Answered::as_told))]
+    #[tactic(auto, using(crate::proofs::Answered::cut_off, crate::proofs::Answered::as_reported))]
     pub fn unlock<R: Wait, P: CrashPlan>(&mut self, rt: &R, plan: &mut P) -> Result<(), LockFault>
         ensures refused { IsErrOf result LockFault.NotOwner ↔ (is_in self.old.standing ≡ false) }
         ensures unasked { is_in self.old.standing ≡ false → (self.new ≡ self.old) × (P.askings plan.new ≡ P.askings plan.old) }
         ensures asked { is_in self.old.standing ≡ true → AskedOnceMore self.old self.new (P.askings plan.old) (P.askings plan.new) }
-        ensures counted { is_in self.old.standing ≡ true → Counts self.old self.new }
+        ensures counted { is_in self.old.standing ≡ true → CountsSteps self.old self.new }
         ensures fallen { (P.askings plan.new).fallen ≡ falls_by result (P.askings plan.old).fallen }
-        ensures goes { Goes self.old self.new }
+        ensures goes { KeepsProcess self.old self.new }
         ensures stands { is_in self.old.standing ≡ true → self.new.standing ≡ stands_out result }
         ensures faults { is_in self.old.standing ≡ true → IfErr result (λ e. of_steps e ≡ true) }
-        ensures answered { is_in self.old.standing ≡ true → Answered S.named (λ _. Ok tt) self.old Call.Unlock None self.new result }
+        ensures answered { is_in self.old.standing ≡ true
+            → ReturnsAnswer S.named (λ _. Ok tt) self.old Call.Unlock None self.new result }
     {
         if !self.standing.is_in() {
             return Err(LockFault::NotOwner);
@@ -220,7 +222,7 @@ impl<L: Ledger, S: Sizes> Member<L, S> {
 
     /// Reads a word of the board, 0 to 3. `BadIndex`: there is no such word. `NotOwner`: the process isn't in the section.
     /// `Crashed` and `OutOfMemory` as for `lock_within`.
-    #[tactic(auto, using(crate::proofs::Answered::cut_off, crate::proofs::Answered::as_told))]
+    #[tactic(auto, using(crate::proofs::Answered::cut_off, crate::proofs::Answered::as_reported))]
     pub fn get<R: Wait, P: CrashPlan>(
         &mut self,
         rt: &R,
@@ -233,13 +235,13 @@ impl<L: Ledger, S: Sizes> Member<L, S> {
         ensures untaken { 4 ≤ i → (self.new ≡ self.old) × (P.askings plan.new ≡ P.askings plan.old) }
         ensures asked { is_in self.old.standing ≡ true → i < 4
             → AskedOnceMore self.old self.new (P.askings plan.old) (P.askings plan.new) }
-        ensures counted { is_in self.old.standing ≡ true → i < 4 → Counts self.old self.new }
+        ensures counted { is_in self.old.standing ≡ true → i < 4 → CountsSteps self.old self.new }
         ensures fallen { (P.askings plan.new).fallen ≡ falls_by result (P.askings plan.old).fallen }
-        ensures goes { Goes self.old self.new }
+        ensures goes { KeepsProcess self.old self.new }
         ensures stands { is_in self.old.standing ≡ true → i < 4 → self.new.standing ≡ stands_still self.old.standing result }
         ensures faults { is_in self.old.standing ≡ true → i < 4 → IfErr result (λ e. of_steps e ≡ true) }
         ensures answered { is_in self.old.standing ≡ true → i < 4
-            → Answered S.named word_by self.old (Call.Get i) None self.new result }
+            → ReturnsAnswer S.named word_by self.old (Call.Get i) None self.new result }
     {
         if !self.standing.is_in() {
             return Err(LockFault::NotOwner);
@@ -254,7 +256,7 @@ impl<L: Ledger, S: Sizes> Member<L, S> {
 
     /// Writes a word of the board, 0 to 3. `BadIndex`: there is no such word. `NotOwner`: the process isn't in the section.
     /// `Crashed` and `OutOfMemory` as for `lock_within`.
-    #[tactic(auto, using(crate::proofs::Answered::cut_off, crate::proofs::Answered::as_told))]
+    #[tactic(auto, using(crate::proofs::Answered::cut_off, crate::proofs::Answered::as_reported))]
     pub fn put<R: Wait, P: CrashPlan>(
         &mut self,
         rt: &R,
@@ -268,13 +270,13 @@ impl<L: Ledger, S: Sizes> Member<L, S> {
         ensures untaken { 4 ≤ i → (self.new ≡ self.old) × (P.askings plan.new ≡ P.askings plan.old) }
         ensures asked { is_in self.old.standing ≡ true → i < 4
             → AskedOnceMore self.old self.new (P.askings plan.old) (P.askings plan.new) }
-        ensures counted { is_in self.old.standing ≡ true → i < 4 → Counts self.old self.new }
+        ensures counted { is_in self.old.standing ≡ true → i < 4 → CountsSteps self.old self.new }
         ensures fallen { (P.askings plan.new).fallen ≡ falls_by result (P.askings plan.old).fallen }
-        ensures goes { Goes self.old self.new }
+        ensures goes { KeepsProcess self.old self.new }
         ensures stands { is_in self.old.standing ≡ true → i < 4 → self.new.standing ≡ stands_still self.old.standing result }
         ensures faults { is_in self.old.standing ≡ true → i < 4 → IfErr result (λ e. of_steps e ≡ true) }
         ensures answered { is_in self.old.standing ≡ true → i < 4
-            → Answered S.named (λ _. Ok tt) self.old (Call.Put i value) None self.new result }
+            → ReturnsAnswer S.named (λ _. Ok tt) self.old (Call.Put i value) None self.new result }
     {
         if !self.standing.is_in() {
             return Err(LockFault::NotOwner);

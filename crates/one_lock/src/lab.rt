@@ -1,20 +1,10 @@
 //! The laboratory: workers send numbered messages through one mailbox while their plans let them crash. Its sizes, gates and
-//! faults are shared by the lab over the running lock.
+//! faults are those of `table_runs::lab`.
 
 mod all_sent;
 mod crew;
-pub mod ending;
-mod gate;
-pub mod lab_fault;
-mod lab_result;
-mod running;
-pub mod sending;
-mod showing;
-pub mod spec;
+mod lab_run;
+mod shown_messages;
 
-pub use ending::WorkerEnd;
-pub use gate::Gate;
-pub use lab_fault::LabFault;
-pub use lab_result::LabResult;
-pub use running::run_lab;
-pub use spec::Spec;
+pub use lab_run::run_lab;
+pub use table_runs::lab::{Gate, LabFault, LabResult, Spec, WorkerEnd};

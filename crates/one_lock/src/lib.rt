@@ -9,11 +9,10 @@
 
 pub mod arena;
 mod calls;
-pub mod gather_fault;
-pub mod gathering;
 pub mod lab;
-mod mailing;
+mod mailbox_calls;
 pub mod member;
+pub mod member_gather;
 pub mod member_state;
 mod opening;
 mod own_process;
@@ -22,10 +21,9 @@ pub mod sizes;
 mod turn;
 
 pub use arena::Arena;
-pub use execution::Entry;
-pub use gather_fault::GatherFault;
-pub use gathering::gather;
 pub use lab::run_lab;
 pub use member::Member;
+pub use member_gather::gather;
 pub use member_state::MemberState;
 pub use sizes::{AnySizes, Sizes};
+pub use table_runs::{Entry, GatherFault};

@@ -2,27 +2,27 @@
 
 ghost use Rattle.std.specs.Prelude.{◌≡◌, ℕ, ◌<◌, ◌≤◌, ◌+◌, ◌↔◌, IfOk, IfErr, OnOk, OnErr, Some, IsNone, IsSome, IsTrue, true, false};
 ghost use Rattle.rmecore.specs.Simulated.{one_more};
-ghost use Rattle.one_lock.specs.Member.{Goes, AskedEach, AskedOnceMore, Counts, CountsOn, falls_by, may_start, new_seat};
+ghost use Rattle.one_lock.specs.Member.{KeepsProcess, AskedEach, AskedOnceMore, CountsSteps, CountsOn, falls_by, may_start, new_seat};
 ghost use Rattle.rmeworld.specs.MachineState.{IsSize};
 ghost use Rattle.rmeworld.specs.WorldState.{HasConfiguration};
-ghost use Rattle.one_lock.specs.Answers.{Mirrors, TrailGrows, IsAnswered, spent};
+ghost use Rattle.one_lock.specs.Answers.{Mirrors, TrailGrows, IsAnsweredCall, turns_after_one};
 ghost use Rattle.one_lock.specs.Execution.{AreSizes};
-ghost use Rattle.one_lock.specs.Trails.{IsOwnTrail, grown, answer_with, is_blocked_with};
+ghost use Rattle.one_lock.specs.Trails.{IsOwnTrail, longer_trail, answer_with, is_blocked_with};
 
 use crate::member_state::MemberState;
 use crate::opening::Opening;
 use crate::own_process::OwnProcess;
 use crate::shared::Shared;
 use crate::sizes::{AnySizes, Sizes};
-use crate::turn::Turn;
+use crate::turn::StepReport;
 use crash_plans::CrashPlan;
 use crossbeam_utils::Backoff;
-use execution::LockFault;
 use redomail::Layout;
 use rmeworld::{Answer, Call, Outcome};
 use std::marker::Model;
 use std::sync::ledger::{Ledger, Share};
 use std::sync::{Arc, Mutex, Wait};
+use table_runs::LockFault;
 
 /// The access of one process to the world. It may move to a thread. Its share of the ledger counts its own steps and takes
 /// no bytes. The steps of its last call are a number of their own. It steps its process's machine beside the world's.
@@ -46,7 +46,8 @@ impl<L: Ledger, S: Sizes> Model for Member<L, S> {
 
     ghost view = { λ m. record { process = m.process; layout = m.layout; standing = m.standing; steps = m.share.amount; counted = m.counted; trail = m.own } };
 
-    ghost invariant = { λ m. (m.share.parts ≡ 1) × (m.process < 64) × IsOwnTrail S.named (record { process = m.process; layout = m.layout; standing = m.standing; steps = m.share.amount; counted = m.counted; trail = m.own }) };
+    ghost invariant = { λ m. (m.share.parts ≡ 1) × (m.process < 64)
+        × IsOwnTrail S.named (record { process = m.process; layout = m.layout; standing = m.standing; steps = m.share.amount; counted = m.counted; trail = m.own }) };
 }
 
 /// Waits for ever.
@@ -59,9 +60,9 @@ pub(crate) fn never_return<R: Wait>(rt: &R)
 
 /// Takes the step that the world has taken. The world has one member for each process, so it takes the step that the member's
 /// machine is at. No contract says so of a world under a mutex: where it did not, the call would not return.
-fn follow<R: Wait>(rt: &R, own: &mut OwnProcess, opening: Opening, turn: Turn) -> Outcome
+fn follow<R: Wait>(rt: &R, own: &mut OwnProcess, opening: Opening, turn: StepReport) -> Outcome
     ensures mirrors { Mirrors opening turn own.old.machine }
-    ensures trail { own.new ≡ grown opening own.old turn.happened.value }
+    ensures trail { own.new ≡ longer_trail opening own.old turn.happened.value }
     ensures outcome { (result.answer ≡ answer_with opening own.old.machine turn.happened.value)
         × (result.progress.blocked ≡ is_blocked_with opening own.old.machine turn.happened.value) }
     ensures sizes { HasConfiguration own.old.machine.layout own.old.machine.limit own.old.machine.index own.new.machine }
@@ -76,7 +77,7 @@ fn follow<R: Wait>(rt: &R, own: &mut OwnProcess, opening: Opening, turn: Turn) -
 /// Takes one of the turns that are left. True: there was none. With no limit of turns it is never true.
 fn is_spent(left: &mut Option<u64>) -> bool
     ensures none { IsTrue result ↔ (left.old ≡ Some 0) }
-    ensures less { result ≡ false → left.new ≡ spent left.old }
+    ensures less { result ≡ false → left.new ≡ turns_after_one left.old }
 {
     match *left {
         Some(0) => return true,
@@ -210,8 +211,8 @@ impl<L: Ledger, S: Sizes> Member<L, S> {
         turns: Option<u64>,
     ) -> Result<Option<Answer>, LockFault>
         requires { may_start self.old.standing call ≡ true }
-        ensures goes { Goes self.old self.new }
-        ensures counted { Counts self.old self.new }
+        ensures goes { KeepsProcess self.old self.new }
+        ensures counted { CountsSteps self.old self.new }
         ensures asked { OnOk result (AskedEach self.old self.new (P.askings plan.old) (P.askings plan.new)) }
         ensures ended { OnErr result (AskedOnceMore self.old self.new (P.askings plan.old) (P.askings plan.new)) }
         ensures fallen { (P.askings plan.new).fallen ≡ falls_by result (P.askings plan.old).fallen }
@@ -221,7 +222,7 @@ impl<L: Ledger, S: Sizes> Member<L, S> {
         ensures patient { IsNone turns → IfOk result (λ answer. IsSome answer) }
         ensures answered { IfOk result
             (λ answer.
-            IsAnswered S.named self.old.process self.old.standing call turns self.old.trail self.new.trail answer) }
+            IsAnsweredCall S.named self.old.process self.old.standing call turns self.old.trail self.new.trail answer) }
     {
         self.counted = 0;
         self.pursue(rt, plan, call, turns)
@@ -239,7 +240,7 @@ impl<L: Ledger, S: Sizes> Member<L, S> {
         turns: Option<u64>,
     ) -> Result<Option<Answer>, LockFault>
         requires { may_start self.old.standing call ≡ true }
-        ensures goes { Goes self.old self.new }
+        ensures goes { KeepsProcess self.old self.new }
         ensures counted { CountsOn self.old self.new }
         ensures asked { OnOk result (AskedEach self.old self.new (P.askings plan.old) (P.askings plan.new)) }
         ensures ended { OnErr result (AskedOnceMore self.old self.new (P.askings plan.old) (P.askings plan.new)) }
@@ -250,7 +251,7 @@ impl<L: Ledger, S: Sizes> Member<L, S> {
         ensures patient { IsNone turns → IfOk result (λ answer. IsSome answer) }
         ensures answered { IfOk result
             (λ answer.
-            IsAnswered S.named self.old.process self.old.standing call turns self.old.trail self.new.trail answer) }
+            IsAnsweredCall S.named self.old.process self.old.standing call turns self.old.trail self.new.trail answer) }
     {
         let mut left = turns;
         let mut opening = Opening {

@@ -1,14 +1,14 @@
 //! The process of a member, which the member steps beside the world's.
 
 ghost use Rattle.std.specs.Prelude.{◌≡◌, ◌<◌, ◌++◌, ◌∷◌, ◌↔◌, IfSome, IsTrue, [], true};
-ghost use Rattle.rmecore.specs.Machine.{kind_of, word_of, carried};
-ghost use Rattle.rmeworld.specs.MachineState.{IsSize, resting, stepped, outcome, next_access};
+ghost use Rattle.rmecore.specs.Machine.{kind_of, word_of, carried_value};
+ghost use Rattle.rmeworld.specs.MachineState.{IsSize, resting, machine_after_step, outcome, next_access};
 ghost use Rattle.rmeworld.specs.WorldState.{HasConfiguration};
 ghost use Rattle.one_lock.specs.Answers.{Mirrors};
-ghost use Rattle.one_lock.specs.Trails.{Accepts, IsEventOf, crashed_if, opened_machine, grown, answer_with, is_blocked_with};
+ghost use Rattle.one_lock.specs.Trails.{Accepts, IsEventOf, crashed_if, opened_machine, longer_trail, answer_with, is_blocked_with};
 
 use crate::opening::Opening;
-use crate::turn::Turn;
+use crate::turn::StepReport;
 use histories::Log;
 use redomail::Layout;
 use rmecore::{Access, Happened};
@@ -34,7 +34,7 @@ impl Model for OwnProcess {
 /// Is this the event of this access?
 fn is_event_of(access: Access, happened: Happened) -> bool
     ensures { IsTrue result ↔ ((happened.kind ≡ kind_of access) × (happened.word ≡ word_of access)
-        × (happened.value ≡ carried access happened.value)) }
+        × (happened.value ≡ carried_value access happened.value)) }
 {
     let value = match access {
         Access::Load(..) => happened.value,
@@ -84,12 +84,12 @@ impl OwnProcess {
 
     /// Takes the step that the world has taken. None: it is another step than the machine's next one, or has another outcome.
     #[tactic(auto, using(crate::proofs::OwnSteps::is_its_event, crate::proofs::OwnSteps::kept_by_step))]
-    fn take(&mut self, turn: Turn) -> Option<Outcome>
+    fn take(&mut self, turn: StepReport) -> Option<Outcome>
         ensures steps { IfSome result (λ o. IsEventOf self.old.machine turn.happened) }
         ensures answer { IfSome result (λ o. (o.answer ≡ turn.answer) × (o.progress.blocked ≡ turn.blocked)
             × (o ≡ outcome self.old.machine (next_access self.old.machine) turn.happened.value)) }
         ensures trail { IfSome result (λ o. self.new ≡ record {
-          machine = stepped self.old.machine turn.happened.value;
+          machine = machine_after_step self.old.machine turn.happened.value;
           values = self.old.values ++ turn.happened.value ∷ [];
         }) }
         ensures sizes { HasConfiguration self.old.machine.layout self.old.machine.limit self.old.machine.index self.new.machine }
@@ -109,9 +109,9 @@ impl OwnProcess {
     /// Takes the step that the world has taken, with its crash and start. None: the machine's next step is another one, or has
     /// another outcome.
     #[tactic(auto, using(crate::proofs::OwnSteps::mirrors_by, crate::proofs::OwnSteps::keeps_then))]
-    pub fn follow(&mut self, opening: Opening, turn: Turn) -> Option<Outcome>
+    pub fn follow(&mut self, opening: Opening, turn: StepReport) -> Option<Outcome>
         ensures mirrors { IfSome result (λ o. Mirrors opening turn self.old.machine) }
-        ensures trail { IfSome result (λ o. self.new ≡ grown opening self.old turn.happened.value) }
+        ensures trail { IfSome result (λ o. self.new ≡ longer_trail opening self.old turn.happened.value) }
         ensures answer { IfSome result
             (λ o. (o.answer ≡ answer_with opening self.old.machine turn.happened.value)
             × (o.progress.blocked ≡ is_blocked_with opening self.old.machine turn.happened.value)) }

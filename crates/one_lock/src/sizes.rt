@@ -1,7 +1,7 @@
 //! The sizes of an arena's world, for contracts alone.
 
 ghost use Rattle.std.specs.Prelude.{Option};
-ghost use Rattle.execution.specs.declared.setup.Setup.{Setup};
+ghost use Rattle.table_runs.specs.declared.setup.Setup.{Setup};
 
 use std::marker::Brand;
 

@@ -5,7 +5,7 @@ use rmeworld::Answer;
 
 /// The report of a step, for the member that took it.
 #[derive(Clone, Copy, Debug)]
-pub struct Turn {
+pub struct StepReport {
     pub happened: Happened,
     /// The answer of the call, if the step ended it.
     pub answer: Option<Answer>,

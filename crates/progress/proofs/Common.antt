@@ -9,13 +9,13 @@ pub use Rattle.rmecore.specs.declared.outer.Outer.TheVariants.{Enter}
 pub use Rattle.rmecore.specs.declared.own.Own.{Own}
 pub use Rattle.rmecore.specs.declared.word.Word.{Word}
 pub use Rattle.rmecore.specs.declared.word.Word.TheVariants.{Choosing, Number, Inside as InsideOf, Data}
-pub use Rattle.rmecore.specs.HomeState.{entries, IsLess, IsFirst}
+pub use Rattle.rmecore.specs.HomeState.{entries, IsLess, IsFirstInLine}
 pub use Rattle.rmecore.specs.Lawful.{IsLawful, all_dead}
 pub use Rattle.rmecore.specs.Machine.{is_blocked}
 pub use Rattle.rmecore.specs.Needs.{put}
 pub use Rattle.rmecore.specs.Paid.{is_glance}
-pub use Rattle.rmecore.specs.Place.{Place, Rest, Dead, Reread, Opening, Door, Shutting, Wait, Inside, Leaving, Withdrawing, Unmarking, has, only, next, Event, Starts, Crashes, Steps, without, others, is_before, restart, started, shut, unmarked, process, moved, span}
-pub use Rattle.rmecore.specs.World.{World, at_rest, is_store, write, May, after, Run, final, Reads, stored, deeds, deed, and_then, step_deed}
+pub use Rattle.rmecore.specs.Place.{Place, Rest, Dead, Reread, Opening, Door, Shutting, Wait, Inside, Leaving, Withdrawing, Unmarking, has, only, next, Event, Starts, Crashes, Steps, without, others, is_before, restart, place_after_start, shut, place_after_unmark, process, place_after_event, span}
+pub use Rattle.rmecore.specs.World.{World, at_rest, is_store, write, May, after, Run, final, Reads, words_after_event, deeds, deed, and_then, step_deed}
 pub use Rattle.progress.specs.Disturbances.{is_disturbance, is_effective, count, disturbances, work, NeverWithdraws}
-pub use Rattle.progress.specs.Pieces.{Owes, is_move, moves, joined, Full}
-pub use Rattle.progress.specs.BoundedWaiting.{most_work, WorkIsBounded, WaitingIsBounded}
+pub use Rattle.progress.specs.Pieces.{Owes, is_move, moves, concatenation, Full}
+pub use Rattle.progress.specs.WaitingBounds.{most_work, WorkIsBounded, WaitingIsBounded}

@@ -4,7 +4,7 @@ use Rattle.std.proofs.lemmas.Bool.{cases_Bool, cases_eq}
 use Rattle.rmecore.proofs.Invariant.{Fits, has-others, has-without, put_same, put_other}
 use Rattle.rmecore.proofs.Runs.{guard}
 use Rattle.rmecore.proofs.SoundWorlds.{Sound}
-use Rattle.rmecore.specs.Place.{Event, Starts, Crashes, Steps, Place, Reread, Opening, Door, Shutting, Wait, Leaving, Withdrawing, Unmarking, has, others, is_before, only, next, started, restart, shut, unmarked, moved, process}
+use Rattle.rmecore.specs.Place.{Event, Starts, Crashes, Steps, Place, Reread, Opening, Door, Shutting, Wait, Leaving, Withdrawing, Unmarking, has, others, is_before, only, next, place_after_start, restart, shut, place_after_unmark, place_after_event, process}
 use Rattle.rmecore.specs.World.{World, May, Reads, after, Run, deed, deeds, and_then, reentry}
 use Rattle.rmecore.specs.declared.core_call.CoreCall.{CoreCall}
 use Rattle.rmecore.specs.declared.core_call.CoreCall.TheVariants.{Lock, Withdraw}
@@ -72,11 +72,11 @@ module _ (n limit p q : ℕ) (below : p < n) (ne : q ≢ p) where
   unseen_shut Lock k = in_others
   unseen_shut _ k = tt
 
-  unseen_unmarked : (call : CoreCall) → Unseen p (unmarked call)
+  unseen_unmarked : (call : CoreCall) → Unseen p (place_after_unmark call)
   unseen_unmarked Lock = tt
   unseen_unmarked _ = tt
 
-  unseen_started : (s : Place) (call : CoreCall) → Unseen p s → Unseen p (unwrap_or (started s call) s)
+  unseen_started : (s : Place) (call : CoreCall) → Unseen p s → Unseen p (unwrap_or (place_after_start s call) s)
   unseen_started (Wait k unpassed looked) Withdraw h = tt
   unseen_started s Withdraw h = h
   unseen_started _ _ h = h
@@ -121,7 +121,7 @@ module _ (n limit p q : ℕ) (below : p < n) (ne : q ≢ p) where
   unseen_next words begun s Glances (InsideOf r) v some reads h = h
   unseen_next words begun _ _ _ _ some reads h = absurd (cc)
 
-  unseen_moved : (words : ℕ → Own) (s : Place) (e : Event) → 0 < (words p).choosing → process e ≡ q → IsSome (moved n limit s e) → Reads words e → Unseen p s → Unseen p (unwrap_or (moved n limit s e) s)
+  unseen_moved : (words : ℕ → Own) (s : Place) (e : Event) → 0 < (words p).choosing → process e ≡ q → IsSome (place_after_event n limit s e) → Reads words e → Unseen p s → Unseen p (unwrap_or (place_after_event n limit s e) s)
   unseen_moved words s (Starts r call) begun is some reads h = unseen_started s call h
   unseen_moved words s (Crashes r) begun is some reads h = tt
   unseen_moved words s (Steps r kind word v) begun is some reads h =
@@ -141,7 +141,7 @@ module _ (n limit p q : ℕ) (below : p < n) (ne : q ≢ p) where
       let at : w.places q ≡ Wait m.number m.unpassed m.looked = ap w.places (sym of_q) ∙ m.place in
       let seen : Unseen p (Wait m.number m.unpassed m.looked) = subst (Unseen p) at h in
       let may_mark : IsSome (next n limit q (Wait m.number m.unpassed m.looked) Marks m.word m.value) =
-      subst (λ s. IsSome (next n limit q s Marks m.word m.value)) at (subst (λ r. IsSome (moved n limit (w.places (process r)) r)) m.event may.1) in
+      subst (λ s. IsSome (next n limit q s Marks m.word m.value)) at (subst (λ r. IsSome (place_after_event n limit (w.places (process r)) r)) m.event may.1) in
       no_mark m.number m.unpassed m.looked m.word m.value may_mark seen
     where
       no_mark : (k : ℕ) (unpassed : List ℕ) (looked : Option ℕ) (word : Word) (v : ℕ) → IsSome (next n limit q (Wait k unpassed looked) Marks word v) → Unseen p (Wait k unpassed looked) → ⊥
@@ -164,8 +164,8 @@ module _ (n limit p q : ℕ) (below : p < n) (ne : q ≢ p) where
   after_mark w e may m =
       let of_q : process e ≡ q = ap process m.event in
       subst (λ r. Unseen p ((after n limit w e).places r)) of_q (subst (Unseen p) (sym (put_same w.places (process e) _))
-      (subst (λ s. IsSome (moved n limit s e) → Unseen p (unwrap_or (moved n limit s e) s)) (sym m.place)
-      (subst (λ r. IsSome (moved n limit (Wait m.number m.unpassed m.looked) r) → Unseen p (unwrap_or (moved n limit (Wait m.number m.unpassed m.looked) r) (Wait m.number m.unpassed m.looked))) (sym m.event)
+      (subst (λ s. IsSome (place_after_event n limit s e) → Unseen p (unwrap_or (place_after_event n limit s e) s)) (sym m.place)
+      (subst (λ r. IsSome (place_after_event n limit (Wait m.number m.unpassed m.looked) r) → Unseen p (unwrap_or (place_after_event n limit (Wait m.number m.unpassed m.looked) r) (Wait m.number m.unpassed m.looked))) (sym m.event)
       (marked m.number m.unpassed m.looked m.word m.value)) may.1))
     where
       marked : (k : ℕ) (unpassed : List ℕ) (looked : Option ℕ) (word : Word) (v : ℕ) → IsSome (next n limit q (Wait k unpassed looked) Marks word v) → Unseen p (unwrap_or (next n limit q (Wait k unpassed looked) Marks word v) (Wait k unpassed looked))

@@ -3,7 +3,7 @@ use Rattle.std.proofs.Common.{◌≡◌, ◌≢◌, ℕ, zero, suc, ◌+◌, ◌
 use Rattle.std.proofs.lemmas.Bool.{not-true, not_from_false}
 use Rattle.progress.proofs.Common.{cases_eq, and_parts, and_from, or_cases, CoreCall, Lock, Unlock, Withdraw, Recover, Kind, Take as Takes, Shut as Shuts, Rereads, Open as Opens, Peek as Peeks, Look as Looks, Weigh as Weighs, Mark as Marks, Drop as Drops, Glance as Glances}
 use Rattle.progress.proofs.Common.{Own, Word, Choosing as ChoosingOf, Number as NumberOf, InsideOf, put, Place, Rest, Dead, Reread, Opening, Door, Shutting, Wait, Inside, Leaving, Withdrawing, Unmarking, has, only, next}
-use Rattle.progress.proofs.Common.{Starts, Steps, without, others, is_before, restart, started, shut, unmarked, World, Reads, stored, is_disturbance, is_effective}
+use Rattle.progress.proofs.Common.{Starts, Steps, without, others, is_before, restart, place_after_start, shut, place_after_unmark, World, Reads, words_after_event, is_disturbance, is_effective}
 use Rattle.rmecore.proofs.Invariant.{Fits, has-without, has-others, put_same}
 use Rattle.rmecore.proofs.Rows.{before_by}
 use Rattle.rmecore.proofs.Runs.{guard}
@@ -64,7 +64,7 @@ module _ (n k p q : ℕ) (below : q < n) (low : p < n) (ne : q ≢ p) (b : Bool)
   shuts x Lock j v fits is = let f = fresh_wait in omega arith
   shuts x _ j v fits is = let r = relocking_waits n b v x.number x.inside is (omega arith) fits.2 in omega arith
 
-  unmarks : (x : Own) (call : CoreCall) (v : ℕ) → Fits x (Unmarking call) → v ≡ 0 → left n k p b (record x { inside = v }) (unmarked call) + 1 ≤ left n k p b x (Unmarking call)
+  unmarks : (x : Own) (call : CoreCall) (v : ℕ) → Fits x (Unmarking call) → v ≡ 0 → left n k p b (record x { inside = v }) (place_after_unmark call) + 1 ≤ left n k p b x (Unmarking call)
   unmarks x Lock v fits is = omega arith
   unmarks x _ v fits is = let r = relocking_home n b x.choosing x.number v fits.0 fits.1 is in omega arith
 
@@ -93,15 +93,15 @@ module _ (n limit k p q : ℕ) (below : q < n) (low : p < n) (ne : q ≢ p) (hel
 
   -- whoever reads the word of p reads k
   reads_p : (j v : ℕ) → (w.words j).number ≡ v → p ≡ j → v ≡ k
-  reads_p j v told is = sym told ∙ ap (λ r. (w.words r).number) (sym is) ∙ number
+  reads_p j v reports is = sym reports ∙ ap (λ r. (w.words r).number) (sym is) ∙ number
 
   -- a doorway that has missed p after a peek missed it before
   missed : (unread : List ℕ) (m j v : ℕ) → (w.words j).number ≡ v → (not (has (without j unread) p) && nat_lt (max m v) k) ≡ true → (not (has unread p) && nat_lt m k) ≡ true
-  missed unread m j v told e =
+  missed unread m j v reports e =
       let both = and_parts (not (has (without j unread) p)) (nat_lt (max m v) k) e in
       let less : max m v < k = ltb-true (max m v) k both.1 in
       elim (cases_eq p j) [
-        | inl is ↦ let same = reads_p j v told is in absurd (omega arith)
+        | inl is ↦ let same = reads_p j v reports is in absurd (omega arith)
         | inr far ↦
             let gone : has unread p ≡ false = sym (has-without unread p j far) ∙ not-true (has (without j unread) p) both.0 in
             and_from (not (has unread p)) (nat_lt m k) (not_from_false (has unread p) gone) (lt-ltb m k (omega arith))
@@ -109,9 +109,9 @@ module _ (n limit k p q : ℕ) (below : q < n) (low : p < n) (ne : q ≢ p) (hel
 
   peeks : (unread : List ℕ) (m j v : ℕ) → has unread j ≡ true → (w.words j).number ≡ v
       → length (without j unread) + 2 + scan n (2 * n - 2) (not (has (without j unread) p) && nat_lt (max m v) k) + 1 ≤ length unread + 2 + scan n (2 * n - 2) (not (has unread p) && nat_lt m k)
-  peeks unread m j v there told =
+  peeks unread m j v there reports =
       let less = without_less unread j there in
-      let sooner = scan_sooner n (2 * n - 2) (not (has (without j unread) p) && nat_lt (max m v) k) (not (has unread p) && nat_lt m k) (missed unread m j v told) in
+      let sooner = scan_sooner n (2 * n - 2) (not (has (without j unread) p) && nat_lt (max m v) k) (not (has unread p) && nat_lt m k) (missed unread m j v reports) in
       omega arith
 
   -- who takes a number ahead of p has missed p
@@ -131,7 +131,7 @@ module _ (n limit k p q : ℕ) (below : q < n) (low : p < n) (ne : q ≢ p) (hel
 
   weighs : (x : Own) (j : ℕ) (unpassed : List ℕ) (r i v : ℕ) (passes : Bool) → ((v == 0) || is_before j q v r) ≡ passes → r ≡ i → x.number ≡ j → (w.words r).number ≡ v → has unpassed i ≡ true → (ahead x ≡ false → has unpassed p ≡ true)
       → Down (scan n (2 * length unpassed - 1) (ahead x)) (not (not passes)) false x (if passes then Wait j (without r unpassed) None else Wait j unpassed (Some i))
-  weighs x j unpassed r i v true e is own told there kept =
+  weighs x j unpassed r i v true e is own reports there kept =
       let less = without_less unpassed r (ap (has unpassed) is ∙ there) in
       let step = scan_step n (2 * length (without r unpassed)) (2 * length unpassed - 1) (ahead x) (omega arith) (λ not_ahead. let more = still not_ahead in omega arith) in
       omega arith
@@ -140,7 +140,7 @@ module _ (n limit k p q : ℕ) (below : q < n) (low : p < n) (ne : q ≢ p) (hel
       still not_ahead =
           elim (cases_eq p r) [
             | inl same ↦
-                let all : v ≡ k = reads_p r v told same in
+                let all : v ≡ k = reads_p r v reports same in
                 elim (or_cases (v == 0) (is_before j q v r) e) [
                   | inl z ↦ let none : v ≡ 0 = eqb-true v 0 z in absurd (omega arith)
                   | inr less ↦
@@ -150,48 +150,48 @@ module _ (n limit k p q : ℕ) (below : q < n) (low : p < n) (ne : q ≢ p) (hel
                 ]
             | inr far ↦ not_empty (without r unpassed) p (has-without unpassed p r far ∙ kept not_ahead)
           ]
-  weighs x j unpassed r i v false e is own told there kept = omega arith
+  weighs x j unpassed r i v false e is own reports there kept = omega arith
 
   pub steps : (s : Place) (kind : Kind) (word : Word) (v : ℕ) → Fits (w.words q) s → Short n s → Unpassed p (ahead (w.words q)) s → IsSome (next n limit q s kind word v) → Reads w.words (Steps q kind word v)
-      → Down (potential (w.words q) s) (is_effective s (Steps q kind word v)) (is_disturbance s (Steps q kind word v)) (stored w.words (Steps q kind word v) q) (unwrap_or (next n limit q s kind word v) s)
-  steps (Reread call []) Rereads (ChoosingOf r) v fits short kept some told =
+      → Down (potential (w.words q) s) (is_effective s (Steps q kind word v)) (is_disturbance s (Steps q kind word v)) (words_after_event w.words (Steps q kind word v) q) (unwrap_or (next n limit q s kind word v) s)
+  steps (Reread call []) Rereads (ChoosingOf r) v fits short kept some reports =
       load (potential (w.words q) (Reread call [])) true false (r == q) _ _ some (λ e. let f = reread n k p (ahead (w.words q)) (w.words q) call [] (v ∷ []) (omega arith) (omega arith) in omega arith)
-  steps (Reread call (c ∷ [])) Rereads (NumberOf r) v fits short kept some told =
+  steps (Reread call (c ∷ [])) Rereads (NumberOf r) v fits short kept some reports =
       load (potential (w.words q) (Reread call (c ∷ []))) true false (r == q) _ _ some (λ e. let f = reread n k p (ahead (w.words q)) (w.words q) call (c ∷ []) (c ∷ v ∷ []) (omega arith) (omega arith) in omega arith)
-  steps (Reread call (c ∷ j ∷ [])) Rereads (InsideOf r) v fits short kept some told =
+  steps (Reread call (c ∷ j ∷ [])) Rereads (InsideOf r) v fits short kept some reports =
       load (potential (w.words q) (Reread call (c ∷ j ∷ []))) true false (r == q) _ _ some
-      (λ e. let f = restarts n k p q below low ne (ahead (w.words q)) (w.words q) call c j v fits.1 fits.2 (ap (λ r. (w.words r).inside) (sym (eqb-true r q e)) ∙ told refl) in omega arith)
-  steps Opening Opens (ChoosingOf r) v fits short kept some told =
+      (λ e. let f = restarts n k p q below low ne (ahead (w.words q)) (w.words q) call c j v fits.1 fits.2 (ap (λ r. (w.words r).inside) (sym (eqb-true r q e)) ∙ reports refl) in omega arith)
+  steps Opening Opens (ChoosingOf r) v fits short kept some reports =
       store (potential (w.words q) Opening) true false (v == 1) (λ x. record x { choosing = v }) r _ _ some (λ e. let f = fresh_door n k p q below low ne (ahead (w.words q)) (record (w.words q) { choosing = v }) in omega arith)
-  steps (Door unread m) Peeks (NumberOf j) v fits short kept some told = load (potential (w.words q) (Door unread m)) true false (has unread j) _ _ some (λ e. let f = peeks unread m j v e (told refl) in omega arith)
-  steps (Door [] m) Takes (NumberOf r) v fits short kept some told =
+  steps (Door unread m) Peeks (NumberOf j) v fits short kept some reports = load (potential (w.words q) (Door unread m)) true false (has unread j) _ _ some (λ e. let f = peeks unread m j v e (reports refl) in omega arith)
+  steps (Door [] m) Takes (NumberOf r) v fits short kept some reports =
       store (potential (w.words q) (Door [] m)) true false (nat_lt m limit && (v == m + 1)) (λ x. record x { number = v }) r _ _ some (λ e. let f = takes m v (eqb-true v (m + 1) (and_parts _ _ e).1) in omega arith)
-  steps (Door [] m) Shuts (ChoosingOf r) v fits short kept some told =
+  steps (Door [] m) Shuts (ChoosingOf r) v fits short kept some reports =
       store (potential (w.words q) (Door [] m)) false true (nat_le limit m && (v == 0)) (λ x. record x { choosing = v }) r _ _ some
       (λ e. let f = relocking_home n (ahead (w.words q)) v (w.words q).number (w.words q).inside (eqb-true v 0 (and_parts _ _ e).1) fits.1 fits.2 in omega arith)
-  steps (Shutting call j) Shuts (ChoosingOf r) v fits short kept some told =
+  steps (Shutting call j) Shuts (ChoosingOf r) v fits short kept some reports =
       store (potential (w.words q) (Shutting call j)) true false (v == 0) (λ x. record x { choosing = v }) r _ _ some (λ e. let f = shuts n k p q below low ne (ahead (w.words q)) (w.words q) call j v fits (eqb-true v 0 e) in omega arith)
-  steps (Wait j unpassed None) Looks (ChoosingOf r) v fits short kept some told =
+  steps (Wait j unpassed None) Looks (ChoosingOf r) v fits short kept some reports =
       load (potential (w.words q) (Wait j unpassed None)) (not (not (v == 0))) false (has unpassed r) _ _ some (λ e. looks (w.words q) j unpassed r (v == 0) e)
-  steps (Wait j unpassed (Some i)) Weighs (NumberOf r) v fits short kept some told =
+  steps (Wait j unpassed (Some i)) Weighs (NumberOf r) v fits short kept some reports =
       load (potential (w.words q) (Wait j unpassed (Some i))) (not (not ((v == 0) || is_before j q v i))) false (r == i) _ _ some (λ e.
       let is : r ≡ i = eqb-true r i e in
       subst (λ a. Down (potential (w.words q) (Wait j unpassed (Some i))) (not (not ((v == 0) || is_before j q v a))) false (w.words q) (if ((v == 0) || is_before j q v r) then Wait j (without r unpassed) None else Wait j unpassed (Some i))) is
-      (weighs (w.words q) j unpassed r i v ((v == 0) || is_before j q v r) refl is fits.1 (told refl) short.1 kept))
-  steps (Wait j [] None) Marks (InsideOf r) v fits short kept some told =
+      (weighs (w.words q) j unpassed r i v ((v == 0) || is_before j q v r) refl is fits.1 (reports refl) short.1 kept))
+  steps (Wait j [] None) Marks (InsideOf r) v fits short kept some reports =
       store (potential (w.words q) (Wait j [] None)) true false (v == 1) (λ x. record x { inside = v }) r _ _ some (λ e. let f = enters n k p (ahead (w.words q)) (w.words q) (ahead (w.words q)) kept in omega arith)
-  steps Leaving Drops (NumberOf r) v fits short kept some told = store (potential (w.words q) Leaving) true false (v == 0) (λ x. record x { number = v }) r _ _ some (λ e. omega arith)
-  steps Withdrawing Drops (NumberOf r) v fits short kept some told =
+  steps Leaving Drops (NumberOf r) v fits short kept some reports = store (potential (w.words q) Leaving) true false (v == 0) (λ x. record x { number = v }) r _ _ some (λ e. omega arith)
+  steps Withdrawing Drops (NumberOf r) v fits short kept some reports =
       store (potential (w.words q) Withdrawing) true false (v == 0) (λ x. record x { number = v }) r _ _ some
       (λ e. let f = relocking_home n (is_before v q k p) (w.words q).choosing v (w.words q).inside fits.0 (eqb-true v 0 e) fits.2 in omega arith)
-  steps (Unmarking call) Marks (InsideOf r) v fits short kept some told =
+  steps (Unmarking call) Marks (InsideOf r) v fits short kept some reports =
       store (potential (w.words q) (Unmarking call)) true false (v == 0) (λ x. record x { inside = v }) r _ _ some (λ e. let f = unmarks n k p q below low ne (ahead (w.words q)) (w.words q) call v fits (eqb-true v 0 e) in omega arith)
-  steps s Glances (ChoosingOf r) v fits short kept some told = same n k p (ahead (w.words q)) (w.words q) s
-  steps s Glances (NumberOf r) v fits short kept some told = same n k p (ahead (w.words q)) (w.words q) s
-  steps s Glances (InsideOf r) v fits short kept some told = same n k p (ahead (w.words q)) (w.words q) s
-  steps _ _ _ _ fits short kept some told = absurd (cc)
+  steps s Glances (ChoosingOf r) v fits short kept some reports = same n k p (ahead (w.words q)) (w.words q) s
+  steps s Glances (NumberOf r) v fits short kept some reports = same n k p (ahead (w.words q)) (w.words q) s
+  steps s Glances (InsideOf r) v fits short kept some reports = same n k p (ahead (w.words q)) (w.words q) s
+  steps _ _ _ _ fits short kept some reports = absurd (cc)
 
-  pub starts : (s : Place) (call : CoreCall) → IsSome (started s call) → Down (potential (w.words q) s) (is_effective s (Starts q call)) (is_disturbance s (Starts q call)) (w.words q) (unwrap_or (started s call) s)
+  pub starts : (s : Place) (call : CoreCall) → IsSome (place_after_start s call) → Down (potential (w.words q) s) (is_effective s (Starts q call)) (is_disturbance s (Starts q call)) (w.words q) (unwrap_or (place_after_start s call) s)
   starts Rest Lock some = omega arith
   starts Rest Recover some = let f = recovering_more n (ahead (w.words q)) (w.words q).choosing (w.words q).number (w.words q).inside in omega arith
   starts Dead Lock some = omega arith

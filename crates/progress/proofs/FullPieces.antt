@@ -1,9 +1,9 @@
 -- Each process can always move by a start or a step, so a full piece can always follow.
 use Rattle.std.proofs.Common.{◌≡◌, ◌≢◌, ℕ, zero, suc, ◌<◌, ◌≤◌, true, false, ◌&&◌, ◌==◌, nat_lt, List, [], ◌∷◌, All, Option, Some, None, IsSome, IfSome, refl, sym, subst, inl, inr, arith, eq-eqb}
 use Rattle.std.proofs.lemmas.List.Elements.{All-nil, All-cons}
-use Rattle.progress.proofs.Common.{cases_Bool, cases_eq, and_from, or_left, or_right, Lock, Unlock, Place, Rest, Dead, Reread, Door, Wait, Inside, next, Event, Starts, Steps, process, started, World, May, after, Run, is_glance, is_move, moves}
+use Rattle.progress.proofs.Common.{cases_Bool, cases_eq, and_from, or_left, or_right, Lock, Unlock, Place, Rest, Dead, Reread, Door, Wait, Inside, next, Event, Starts, Steps, process, place_after_start, World, May, after, Run, is_glance, is_move, moves}
 use Rattle.progress.specs.Pieces.{IsOrdinary, HasFullPiece}
-use Rattle.rmecore.specs.Machine.{access, kind_of, word_of, carried}
+use Rattle.rmecore.specs.Machine.{access, kind_of, word_of, carried_value}
 use Rattle.rmecore.specs.World.{read}
 use Rattle.rmecore.specs.declared.access.Access.{Access}
 use Rattle.rmecore.proofs.Accesses.{all_allowed}
@@ -31,10 +31,10 @@ record Move (n limit q : ℕ) (w : World) : Type 0 where
   ordinary : IsOrdinary event
 
 module _ (n limit q : ℕ) (w : World) (below : q < n) where
-  step : (s : Place) → w.places q ≡ s → (o : Option Access) → o ≢ None → IfSome o (λ a. (v : ℕ) → IsSome (next n limit q s (kind_of a) (word_of a) (carried a v))) → IfSome o KindFits → IfSome o (λ a. is_glance (kind_of a) ≡ false) → Move n limit q w
+  step : (s : Place) → w.places q ≡ s → (o : Option Access) → o ≢ None → IfSome o (λ a. (v : ℕ) → IsSome (next n limit q s (kind_of a) (word_of a) (carried_value a v))) → IfSome o KindFits → IfSome o (λ a. is_glance (kind_of a) ≡ false) → Move n limit q w
   step s at None some allowed fits no_glance = absurd (some refl)
   step s at (Some a) some allowed fits no_glance =
-      let v : ℕ = carried a (read w.words (word_of a)) in
+      let v : ℕ = carried_value a (read w.words (word_of a)) in
       record {
         event = Steps q (kind_of a) (word_of a) v;
         may = (below, subst (λ t. IsSome (next n limit q t (kind_of a) (word_of a) v)) (sym at) (allowed (read w.words (word_of a))), λ loads. reads w.words a v fits refl loads);
@@ -47,9 +47,9 @@ module _ (n limit q : ℕ) (w : World) (below : q < n) where
   steps s at some = step s at (access limit q s) some (all_allowed (record { procs = n; limit = limit; index = q; place = s })) (kind_fits limit q s) (plain limit q s)
 
   begins : (s : Place) → w.places q ≡ s → Fits (w.words q) s → Move n limit q w
-  begins Rest at fits = record { event = Starts q Lock; may = (below, subst (λ t. IsSome (started t Lock)) (sym at) refl, tt); own = refl; is = refl; ordinary = tt }
-  begins Dead at fits = record { event = Starts q Lock; may = (below, subst (λ t. IsSome (started t Lock)) (sym at) refl, tt); own = refl; is = refl; ordinary = tt }
-  begins Inside at fits = record { event = Starts q Unlock; may = (below, subst (λ t. IsSome (started t Unlock)) (sym at) refl, tt); own = refl; is = refl; ordinary = tt }
+  begins Rest at fits = record { event = Starts q Lock; may = (below, subst (λ t. IsSome (place_after_start t Lock)) (sym at) refl, tt); own = refl; is = refl; ordinary = tt }
+  begins Dead at fits = record { event = Starts q Lock; may = (below, subst (λ t. IsSome (place_after_start t Lock)) (sym at) refl, tt); own = refl; is = refl; ordinary = tt }
+  begins Inside at fits = record { event = Starts q Unlock; may = (below, subst (λ t. IsSome (place_after_start t Unlock)) (sym at) refl, tt); own = refl; is = refl; ordinary = tt }
   begins (Reread call (c ∷ k ∷ i ∷ seen)) at fits = absurd fits
   begins (Door [] m) at fits = steps (Door [] m) at (elim (cases_Bool (nat_lt m limit)) [ inl e ↦ rw e (λ f. cc) | inr e ↦ rw e (λ f. cc) ])
   begins (Wait k unpassed (Some j)) at fits = steps (Wait k unpassed (Some j)) at (λ e. cc)

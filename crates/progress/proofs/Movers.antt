@@ -1,6 +1,6 @@
 -- What an event of a run does to the words and places of its own process, and that it leaves all others as they are.
 use Rattle.std.proofs.Common.{◌≡◌, ◌≢◌, ℕ, unwrap_or}
-use Rattle.progress.proofs.Common.{Place, Event, process, moved, World, May, after}
+use Rattle.progress.proofs.Common.{Place, Event, process, place_after_event, World, May, after}
 use Rattle.progress.proofs.Short.{Kept}
 use Rattle.rmecore.proofs.Invariant.{put_same, put_other}
 use Rattle.rmecore.proofs.Runs.{kept}
@@ -8,7 +8,7 @@ use Rattle.rmecore.proofs.Runs.{kept}
 module _ (n limit : ℕ) (w : World) (e : Event) where
   -- the place of the mover after the event
   abbrev pub goes : Place
-  goes = unwrap_or (moved n limit (w.places (process e)) e) (w.places (process e))
+  goes = unwrap_or (place_after_event n limit (w.places (process e)) e) (w.places (process e))
 
   pub place_of_mover : (after n limit w e).places (process e) ≡ goes
   place_of_mover = put_same w.places (process e) goes

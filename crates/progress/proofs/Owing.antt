@@ -3,7 +3,7 @@
 use Rattle.std.proofs.Common.{◌≡◌, ◌≢◌, ℕ, zero, suc, ◌<◌, Bool, true, false, not, ◌&&◌, ◌||◌, ◌==◌, if◌then◌else◌, ◌⊎◌, List, [], ◌∷◌, Some, None, IsSome, unwrap_or, refl, sym, ap, ◌∙◌, subst, inl, inr, arith, eqb-true, eq-eqb}
 use Rattle.std.proofs.lemmas.Bool.{or_from, not-true}
 use Rattle.progress.proofs.Common.{and_parts, or_left, or_right, false_from_ne_true, cases_eq, Kind, Look as Looks, Weigh as Weighs, Glance as Glances, Own, Word, Choosing as ChoosingOf, Number as NumberOf, InsideOf, Data as DataAt, is_blocked, is_glance}
-use Rattle.progress.proofs.Common.{put, Place, Reread, Door, Wait, has, next, Event, Starts, Crashes, Steps, without, is_before, process, World, May, after, Run, Reads, stored, write, is_store, IsFirst, IsLess}
+use Rattle.progress.proofs.Common.{put, Place, Reread, Door, Wait, has, next, Event, Starts, Crashes, Steps, without, is_before, process, World, May, after, Run, Reads, words_after_event, write, is_store, IsFirstInLine, IsLess}
 use Rattle.progress.proofs.Common.{is_disturbance, is_effective, work, disturbances, Owes, is_move, moves}
 use Rattle.rmecore.proofs.Accesses.{passed}
 use Rattle.rmecore.proofs.Invariant.{Fits, put_same, put_other}
@@ -54,7 +54,7 @@ module _ (n limit : ℕ) where
   unmoved w (Crashes q) may e d = absurd (cc)
   unmoved w (Steps q kind word v) may e d =
       let h = idle q (w.places q) kind word v may.1 (either (is_disturbance (w.places q) (Steps q kind word v)) (is_glance kind || is_blocked q (w.places q) kind v) d e) in
-      let words : stored w.words (Steps q kind word v) ≡ w.words = ap (λ b. if b then write w.words word v else w.words) h.1 in
+      let words : words_after_event w.words (Steps q kind word v) ≡ w.words = ap (λ b. if b then write w.words word v else w.words) h.1 in
       let places = same_places w.places q (unwrap_or (next n limit q (w.places q) kind word v) (w.places q)) h.0 in
       λ i. record { words = words i; places = places i }
     where
@@ -108,24 +108,24 @@ module _ (n limit : ℕ) where
   in_doorway x q _ fits some kind v = refl
 
   -- whoever has the least pair is not blocked where nobody is in its doorway
-  module _ (w : World) (closed : (q : ℕ) → q < n → (w.words q).choosing ≡ 0) (q : ℕ) (first : IsFirst n w q) where
+  module _ (w : World) (closed : (q : ℕ) → q < n → (w.words q).choosing ≡ 0) (q : ℕ) (first : IsFirstInLine n w q) where
     passes : (s : Place) → Fits (w.words q) s → Awaits n q s → (kind : Kind) (word : Word) (v : ℕ) → IsSome (next n limit q s kind word v) → Reads w.words (Steps q kind word v) → is_blocked q s kind v ≡ false
-    passes (Wait j unpassed None) fits awaits Looks (ChoosingOf r) v some told =
+    passes (Wait j unpassed None) fits awaits Looks (ChoosingOf r) v some reports =
         let there : has unpassed r ≡ true = passed (has unpassed r) (if v == 0 then Wait j unpassed (Some r) else Wait j unpassed None) some in
-        let zeroed : v ≡ 0 = sym (told refl) ∙ closed r (awaits r there).0 in
+        let zeroed : v ≡ 0 = sym (reports refl) ∙ closed r (awaits r there).0 in
         ap not (eq-eqb v 0 zeroed)
-    passes (Wait j unpassed (Some i)) fits awaits Weighs (NumberOf r) v some told =
+    passes (Wait j unpassed (Some i)) fits awaits Weighs (NumberOf r) v some reports =
         let is : r ≡ i = eqb-true r i (passed (r == i) _ some) in
-        let read : (w.words i).number ≡ v = ap (λ a. (w.words a).number) (sym is) ∙ told refl in
+        let read : (w.words i).number ≡ v = ap (λ a. (w.words a).number) (sym is) ∙ reports refl in
         ap not (elim (cases_eq v 0) [
           | inl zeroed ↦ or_left (v == 0) (is_before j q v i) (eq-eqb v 0 zeroed)
           | inr more ↦
               let less : is_before (w.words q).number q (w.words i).number i ≡ true = first i awaits.1.0 awaits.1.1 (omega arith) in
               or_right (v == 0) (is_before j q v i) (subst (λ a. is_before a q v i ≡ true) fits.1 (subst (λ a. is_before (w.words q).number q a i ≡ true) read less))
         ])
-    passes (Wait j unpassed None) fits awaits Looks _ v some told = absurd (cc)
-    passes (Wait j unpassed (Some i)) fits awaits Weighs _ v some told = absurd (cc)
-    passes _ fits awaits _ _ v some told = refl
+    passes (Wait j unpassed None) fits awaits Looks _ v some reports = absurd (cc)
+    passes (Wait j unpassed (Some i)) fits awaits Weighs _ v some reports = absurd (cc)
+    passes _ fits awaits _ _ v some reports = refl
 
   -- a doorway below m, or none
   doorway : (w : World) (m : ℕ) → ((q : ℕ) × (q < m) × (0 < (w.words q).choosing)) ⊎ ((q : ℕ) → q < m → (w.words q).choosing ≡ 0)
@@ -146,7 +146,7 @@ record Least (m : ℕ) (w : World) : Type 0 where
   who : ℕ
   low : who < m
   holds : 0 < (w.words who).number
-  first : IsFirst m w who
+  first : IsFirstInLine m w who
 
 least_below : (w : World) (m : ℕ) → ((q : ℕ) → q < m → (w.words q).number ≡ 0) ⊎ Least m w
 least_below w zero = inl (λ q low. absurd (omega arith))
@@ -186,7 +186,7 @@ least_below w (suc m) =
 pub owing : (n limit p : ℕ) (w : World) → p < n → 0 < (w.words p).number → Sound n w → Owing n limit w
 owing n limit p w low some h =
     elim (doorway n limit w n) [
-      | inl d ↦ record { who = d.0; below = d.1; owes = inl d.2; ready = λ kind word v may told. in_doorway n limit (w.words d.0) d.0 (w.places d.0) (h.tied.fits d.0 d.1) d.2 kind v }
+      | inl d ↦ record { who = d.0; below = d.1; owes = inl d.2; ready = λ kind word v may reports. in_doorway n limit (w.words d.0) d.0 (w.places d.0) (h.tied.fits d.0 d.1) d.2 kind v }
       | inr closed ↦ elim (least_below w n) [
         | inl none ↦ absurd (let z = none p low in omega arith)
         | inr l ↦ record { who = l.who; below = l.low; owes = inr (l.holds, l.first); ready = passes n limit w closed l.who l.first (w.places l.who) (h.tied.fits l.who l.low) (h.awaits l.who) }

@@ -3,7 +3,7 @@
 use Rattle.std.proofs.Common.{◌≡◌, ◌≢◌, ℕ, zero, suc, ◌+◌, ◌-◌, ◌*◌, ◌<◌, ◌≤◌, Bool, true, false, not, ◌&&◌, ◌||◌, ◌==◌, if◌then◌else◌, List, [], ◌∷◌, length, Some, None, IsSome, unwrap_or, refl, sym, ap, ◌∙◌, subst, arith, eqb-true}
 use Rattle.progress.proofs.Common.{and_parts, CoreCall, Lock, Unlock, Withdraw, Recover, Kind, Shut as Shuts, Rereads, Open as Opens, Look as Looks, Weigh as Weighs, Mark as Marks, Drop as Drops, Glance as Glances}
 use Rattle.progress.proofs.Common.{Enter, Own, Word, Choosing as ChoosingOf, Number as NumberOf, InsideOf, put, Place, Rest, Dead, Reread, Opening, Door, Shutting, Wait, Inside, Leaving, Withdrawing, Unmarking, has, only, next}
-use Rattle.progress.proofs.Common.{Starts, Steps, without, is_before, restart, started, shut, World, Reads, stored, step_deed, is_disturbance, is_effective}
+use Rattle.progress.proofs.Common.{Starts, Steps, without, is_before, restart, place_after_start, shut, World, Reads, words_after_event, step_deed, is_disturbance, is_effective}
 use Rattle.rmecore.proofs.Invariant.{Fits, put_same}
 use Rattle.rmecore.proofs.Runs.{guard}
 use Rattle.rmecore.proofs.Scans.{without_less}
@@ -81,43 +81,43 @@ module _ (n limit k p : ℕ) (below : p < n) (held : 0 < k) where
     weighs x j unpassed r i false h is there = record { falls = omega arith; in_line = h }
 
     pub steps : (s : Place) (kind : Kind) (word : Word) (v : ℕ) → Fits (w.words p) s → Short n s → InLine k (w.words p) s → step_deed p s kind v ≢ Some (Enter p) → IsSome (next n limit p s kind word v) → Reads w.words (Steps p kind word v)
-        → Onward n k (own_left n (w.words p) s) (is_effective s (Steps p kind word v)) (is_disturbance s (Steps p kind word v)) (stored w.words (Steps p kind word v) p) (unwrap_or (next n limit p s kind word v) s)
-    steps (Reread call []) Rereads (ChoosingOf r) v fits short h outside some told =
+        → Onward n k (own_left n (w.words p) s) (is_effective s (Steps p kind word v)) (is_disturbance s (Steps p kind word v)) (words_after_event w.words (Steps p kind word v) p) (unwrap_or (next n limit p s kind word v) s)
+    steps (Reread call []) Rereads (ChoosingOf r) v fits short h outside some reports =
         load (own_left n (w.words p) (Reread call [])) true false (r == p) _ _ some
         (λ e. let f = reread (w.words p) call [] (v ∷ []) (omega arith) (omega arith) in record { falls = omega arith; in_line = at h (Reread call (v ∷ [])) (λ e. cc) })
-    steps (Reread call (c ∷ [])) Rereads (NumberOf r) v fits short h outside some told =
+    steps (Reread call (c ∷ [])) Rereads (NumberOf r) v fits short h outside some reports =
         load (own_left n (w.words p) (Reread call (c ∷ []))) true false (r == p) _ _ some
         (λ e. let f = reread (w.words p) call (c ∷ []) (c ∷ v ∷ []) (omega arith) (omega arith) in record { falls = omega arith; in_line = at h (Reread call (c ∷ v ∷ [])) (λ e. cc) })
-    steps (Reread call (c ∷ j ∷ [])) Rereads (InsideOf r) v fits short h outside some told =
+    steps (Reread call (c ∷ j ∷ [])) Rereads (InsideOf r) v fits short h outside some reports =
         load (own_left n (w.words p) (Reread call (c ∷ j ∷ []))) true false (r == p) _ _ some (λ e.
-        let inside : (w.words p).inside ≡ v = ap (λ r. (w.words r).inside) (sym (eqb-true r p e)) ∙ told refl in
+        let inside : (w.words p).inside ≡ v = ap (λ r. (w.words r).inside) (sym (eqb-true r p e)) ∙ reports refl in
         let out : (w.words p).inside ≡ 0 = h.outside in
         let own : (w.words p).number ≡ k = h.number in
         let f = restarts (w.words p) call c j v fits.1 fits.2 inside (omega arith) (omega arith) in
         record { falls = omega arith; in_line = at h (restart n p call c j v) f.1 })
-    steps (Wait j unpassed None) Looks (ChoosingOf r) v fits short h outside some told =
+    steps (Wait j unpassed None) Looks (ChoosingOf r) v fits short h outside some reports =
         load (own_left n (w.words p) (Wait j unpassed None)) (not (not (v == 0))) false (has unpassed r) _ _ some (λ e. looks (w.words p) j unpassed r (v == 0) h e)
-    steps (Wait j unpassed (Some i)) Weighs (NumberOf r) v fits short h outside some told =
+    steps (Wait j unpassed (Some i)) Weighs (NumberOf r) v fits short h outside some reports =
         load (own_left n (w.words p) (Wait j unpassed (Some i))) (not (not ((v == 0) || is_before j p v i))) false (r == i) _ _ some (λ e.
         let is : r ≡ i = eqb-true r i e in
         subst (λ a. Onward n k (own_left n (w.words p) (Wait j unpassed (Some i))) (not (not ((v == 0) || is_before j p v a))) false (w.words p) (if ((v == 0) || is_before j p v r) then Wait j (without r unpassed) None else Wait j unpassed (Some i))) is
         (weighs (w.words p) j unpassed r i ((v == 0) || is_before j p v r) h is short.1))
-    steps (Wait j [] None) Marks (InsideOf r) v fits short h outside some told = absurd (outside refl)
-    steps (Shutting call j) Shuts (ChoosingOf r) v fits short h outside some told =
+    steps (Wait j [] None) Marks (InsideOf r) v fits short h outside some reports = absurd (outside refl)
+    steps (Shutting call j) Shuts (ChoosingOf r) v fits short h outside some reports =
         store (own_left n (w.words p) (Shutting call j)) true false (v == 0) (λ x. record x { choosing = v }) r _ _ some
         (λ e. let f = shuts (w.words p) call j v (eqb-true v 0 e) in record { falls = omega arith; in_line = record { number = h.number; outside = h.outside; stays = f.1 } })
-    steps Opening Opens (ChoosingOf r) v fits short h outside some told = let own : (w.words p).number ≡ k = h.number in absurd (omega arith)
-    steps (Door unread m) kind word v fits short h outside some told = let own : (w.words p).number ≡ k = h.number in absurd (omega arith)
-    steps Leaving Drops (NumberOf r) v fits short h outside some told = let out : (w.words p).inside ≡ 0 = h.outside in absurd (omega arith)
-    steps Withdrawing kind word v fits short h outside some told = absurd (h.stays refl)
-    steps (Unmarking call) Marks (InsideOf r) v fits short h outside some told = let own : (w.words p).number ≡ k = h.number in absurd (omega arith)
-    steps s Glances (ChoosingOf r) v fits short h outside some told = record { falls = same (w.words p) s; in_line = h }
-    steps s Glances (NumberOf r) v fits short h outside some told = record { falls = same (w.words p) s; in_line = h }
-    steps s Glances (InsideOf r) v fits short h outside some told = record { falls = same (w.words p) s; in_line = h }
-    steps _ _ _ _ fits short h outside some told = absurd (cc)
+    steps Opening Opens (ChoosingOf r) v fits short h outside some reports = let own : (w.words p).number ≡ k = h.number in absurd (omega arith)
+    steps (Door unread m) kind word v fits short h outside some reports = let own : (w.words p).number ≡ k = h.number in absurd (omega arith)
+    steps Leaving Drops (NumberOf r) v fits short h outside some reports = let out : (w.words p).inside ≡ 0 = h.outside in absurd (omega arith)
+    steps Withdrawing kind word v fits short h outside some reports = absurd (h.stays refl)
+    steps (Unmarking call) Marks (InsideOf r) v fits short h outside some reports = let own : (w.words p).number ≡ k = h.number in absurd (omega arith)
+    steps s Glances (ChoosingOf r) v fits short h outside some reports = record { falls = same (w.words p) s; in_line = h }
+    steps s Glances (NumberOf r) v fits short h outside some reports = record { falls = same (w.words p) s; in_line = h }
+    steps s Glances (InsideOf r) v fits short h outside some reports = record { falls = same (w.words p) s; in_line = h }
+    steps _ _ _ _ fits short h outside some reports = absurd (cc)
 
-    pub starts : (s : Place) (call : CoreCall) → call ≢ Withdraw → Fits (w.words p) s → InLine k (w.words p) s → IsSome (started s call)
-        → Onward n k (own_left n (w.words p) s) (is_effective s (Starts p call)) (is_disturbance s (Starts p call)) (w.words p) (unwrap_or (started s call) s)
+    pub starts : (s : Place) (call : CoreCall) → call ≢ Withdraw → Fits (w.words p) s → InLine k (w.words p) s → IsSome (place_after_start s call)
+        → Onward n k (own_left n (w.words p) s) (is_effective s (Starts p call)) (is_disturbance s (Starts p call)) (w.words p) (unwrap_or (place_after_start s call) s)
     starts Rest Lock other fits h some = record { falls = omega arith; in_line = at h (Reread Lock []) (λ e. cc) }
     starts Rest Recover other fits h some = record { falls = omega arith; in_line = at h (Reread Recover []) (λ e. cc) }
     starts Dead Lock other fits h some = record { falls = omega arith; in_line = at h (Reread Lock []) (λ e. cc) }

@@ -2,7 +2,7 @@
 use Rattle.std.proofs.Common.{◌≡◌, ℕ, zero, suc, ◌+◌, ◌-◌, ◌<◌, ◌≤◌, max, Bool, true, false, ◌||◌, ◌==◌, if◌then◌else◌, List, [], ◌∷◌, length, Some, None, IsSome, unwrap_or, refl, sym, subst, inl, inr, arith, eq-eqb, ne_eqb}
 use Rattle.progress.proofs.Common.{cases_eq, CoreCall, Lock, Withdraw, Kind, Take as Takes, Shut as Shuts, Rereads, Open as Opens, Peek as Peeks, Look as Looks, Weigh as Weighs, Mark as Marks, Drop as Drops, Glance as Glances}
 use Rattle.progress.proofs.Common.{Own, Word, Choosing as ChoosingOf, Number as NumberOf, InsideOf, IsLawful, all_dead, Place, Reread, Opening, Door, Shutting, Wait, Leaving, Withdrawing, Unmarking, has, only, next}
-use Rattle.progress.proofs.Common.{Event, Starts, Crashes, Steps, without, others, is_before, restart, started, shut, unmarked, process, moved, span, World, at_rest, May, after, Run, final}
+use Rattle.progress.proofs.Common.{Event, Starts, Crashes, Steps, without, others, is_before, restart, place_after_start, shut, place_after_unmark, process, place_after_event, span, World, at_rest, May, after, Run, final}
 use Rattle.rmecore.proofs.Invariant.{put_same, put_other}
 use Rattle.rmecore.proofs.Runs.{guard}
 use Rattle.rmecore.proofs.Scans.{without_le, without_has, lined_above}
@@ -48,7 +48,7 @@ module _ (n limit p : ℕ) (below : p < n) where
   short_shut Lock k = others_fewer n p below
   short_shut _ k = tt
 
-  short_unmarked : (call : CoreCall) → Short n (unmarked call)
+  short_unmarked : (call : CoreCall) → Short n (place_after_unmark call)
   short_unmarked Lock = tt
   short_unmarked _ = tt
 
@@ -83,12 +83,12 @@ module _ (n limit p : ℕ) (below : p < n) where
   short_next s Glances (InsideOf q) v some h = h
   short_next _ _ _ _ some h = absurd (cc)
 
-  short_started : (s : Place) (call : CoreCall) → Short n s → Short n (unwrap_or (started s call) s)
+  short_started : (s : Place) (call : CoreCall) → Short n s → Short n (unwrap_or (place_after_start s call) s)
   short_started (Wait k unpassed looked) Withdraw h = tt
   short_started s Withdraw h = h
   short_started _ _ h = h
 
-  short_moved : (s : Place) (e : Event) → p ≡ process e → IsSome (moved n limit s e) → Short n s → Short n (unwrap_or (moved n limit s e) s)
+  short_moved : (s : Place) (e : Event) → p ≡ process e → IsSome (place_after_event n limit s e) → Short n s → Short n (unwrap_or (place_after_event n limit s e) s)
   short_moved s (Starts q call) is some h = short_started s call h
   short_moved s (Crashes q) is some h = tt
   short_moved s (Steps q kind word v) is some h =

@@ -2,7 +2,7 @@
 use Rattle.std.proofs.Common.{◌≡◌, ◌≢◌, ℕ, zero, suc, ◌+◌, ◌<◌, ◌≤◌, max, Bool, true, false, ◌&&◌, ◌||◌, ◌==◌, if◌then◌else◌, nat_lt, nat_le, [], ◌∷◌, Some, None, IsSome, unwrap_or, refl, sym, ap, subst, inl, inr, arith, eqb-true}
 use Rattle.progress.proofs.Common.{and_parts, cases_Bool, CoreCall, Lock, Unlock, Withdraw, Recover, Kind, Take as Takes, Shut as Shuts, Rereads, Open as Opens, Peek as Peeks, Look as Looks, Weigh as Weighs, Mark as Marks, Drop as Drops, Glance as Glances}
 use Rattle.progress.proofs.Common.{Own, Word, Choosing as ChoosingOf, Number as NumberOf, InsideOf, put, Place, Rest, Dead, Reread, Opening, Door, Shutting, Wait, Inside, Leaving, Withdrawing, Unmarking, has, only, next}
-use Rattle.progress.proofs.Common.{Starts, Steps, without, others, is_before, restart, started, shut, unmarked, World, Reads, stored}
+use Rattle.progress.proofs.Common.{Starts, Steps, without, others, is_before, restart, place_after_start, shut, place_after_unmark, World, Reads, words_after_event}
 use Rattle.progress.specs.UnspentNumbers.{ReadsUpTo, NumbersUpTo, is_withdraw}
 use Rattle.rmecore.proofs.Invariant.{Fits, put_same}
 use Rattle.rmecore.proofs.Rows.{before_by}
@@ -120,7 +120,7 @@ module _ (n limit k p q greatest : ℕ) (below : q < n) (low : p < n) (ne : q �
   shuts Lock j v = let u = (upto q below).0 in record { rise = 0; falls = omega arith; number = omega arith; read = tt }
   shuts _ j v = let u = (upto q below).0 in record { rise = 0; falls = omega arith; number = omega arith; read = tt }
 
-  unmarks : (call : CoreCall) (v : ℕ) → (w.words q).number ≡ 0 → Goes (takes_by (ahead (w.words q)) (w.words q).number (w.words q).inside) false (record (w.words q) { inside = v }) (unmarked call)
+  unmarks : (call : CoreCall) (v : ℕ) → (w.words q).number ≡ 0 → Goes (takes_by (ahead (w.words q)) (w.words q).number (w.words q).inside) false (record (w.words q) { inside = v }) (place_after_unmark call)
   unmarks Lock v none =
       let u = (upto q below).0 in
       let a = takes_none (ahead (w.words q)) (w.words q).number (w.words q).inside none in
@@ -172,59 +172,59 @@ module _ (n limit k p q greatest : ℕ) (below : q < n) (low : p < n) (ne : q �
       certain false h = let bad = h refl in cc
 
   pub steps : (s : Place) (kind : Kind) (word : Word) (v : ℕ) → Fits (w.words q) s → Short n s → Unpassed p (ahead (w.words q)) s → IsSome (next n limit q s kind word v) → Reads w.words (Steps q kind word v)
-      → ReadsUpTo greatest s → Goes (takes (ahead (w.words q)) (w.words q) s) false (stored w.words (Steps q kind word v) q) (unwrap_or (next n limit q s kind word v) s)
-  steps (Reread call []) Rereads (ChoosingOf r) v fits short kept some told read =
+      → ReadsUpTo greatest s → Goes (takes (ahead (w.words q)) (w.words q) s) false (words_after_event w.words (Steps q kind word v) q) (unwrap_or (next n limit q s kind word v) s)
+  steps (Reread call []) Rereads (ChoosingOf r) v fits short kept some reports read =
       load (takes (ahead (w.words q)) (w.words q) Dead) false (r == q) _ _ some (λ e. comes false Dead (Reread call (v ∷ [])) tt (λ e. cc) (λ e. cc))
-  steps (Reread call (c ∷ [])) Rereads (NumberOf r) v fits short kept some told read =
+  steps (Reread call (c ∷ [])) Rereads (NumberOf r) v fits short kept some reports read =
       load (takes (ahead (w.words q)) (w.words q) Dead) false (r == q) _ _ some (λ e. comes false Dead (Reread call (c ∷ v ∷ [])) tt (λ e. cc) (λ e. cc))
-  steps (Reread call (c ∷ j ∷ [])) Rereads (InsideOf r) v fits short kept some told read =
+  steps (Reread call (c ∷ j ∷ [])) Rereads (InsideOf r) v fits short kept some reports read =
       load (takes (ahead (w.words q)) (w.words q) Dead) false (r == q) _ _ some (λ e. restarts call c j v fits.2)
-  steps Opening Opens (ChoosingOf r) v fits short kept some told read =
+  steps Opening Opens (ChoosingOf r) v fits short kept some reports read =
       store (takes (ahead (w.words q)) (w.words q) Dead) false (v == 1) (λ x. record x { choosing = v }) r _ _ some
       (λ e. let t = takes_none (ahead (w.words q)) (w.words q).number (w.words q).inside fits.1 in opens (takes (ahead (w.words q)) (w.words q) Dead) (record (w.words q) { choosing = v }) (omega arith) fits.1)
-  steps (Door unread m) Peeks (NumberOf j) v fits short kept some told read =
+  steps (Door unread m) Peeks (NumberOf j) v fits short kept some reports read =
       load (takes (ahead (w.words q)) (w.words q) (Door unread m)) false (has unread j) (Door (without j unread) (max m v)) _ some (λ e.
       let u = (upto q below).0 in
       let other = (upto j (short.1 j e)).0 in
-      let is = told refl in
+      let is = reports refl in
       record { rise = 0; falls = omega arith; number = omega arith; read = omega arith })
-  steps (Door [] m) Takes (NumberOf r) v fits short kept some told read =
+  steps (Door [] m) Takes (NumberOf r) v fits short kept some reports read =
       store (takes (ahead (w.words q)) (w.words q) (Door [] m)) false (nat_lt m limit && (v == m + 1)) (λ x. record x { number = v }) r _ _ some (λ e. takes_one m v (eqb-true v (m + 1) (and_parts _ _ e).1) fits.1 fits.2 read)
-  steps (Door [] m) Shuts (ChoosingOf r) v fits short kept some told read =
+  steps (Door [] m) Shuts (ChoosingOf r) v fits short kept some reports read =
       store (takes (ahead (w.words q)) (w.words q) (Door [] m)) false (nat_le limit m && (v == 0)) (λ x. record x { choosing = v }) r _ _ some (λ e.
       let t = takes_none (ahead (w.words q)) (w.words q).number (w.words q).inside fits.1 in
       let u = (upto q below).0 in
       record { rise = 0; falls = omega arith; number = omega arith; read = tt })
-  steps (Shutting call j) Shuts (ChoosingOf r) v fits short kept some told read =
+  steps (Shutting call j) Shuts (ChoosingOf r) v fits short kept some reports read =
       store (takes (ahead (w.words q)) (w.words q) Dead) false (v == 0) (λ x. record x { choosing = v }) r _ _ some (λ e. shuts call j v)
-  steps (Wait j unpassed None) Looks (ChoosingOf r) v fits short kept some told read =
+  steps (Wait j unpassed None) Looks (ChoosingOf r) v fits short kept some reports read =
       load (takes (ahead (w.words q)) (w.words q) Dead) false (has unpassed r) _ _ some (λ e. by (v == 0))
     where
       by : (b : Bool) → Goes (takes (ahead (w.words q)) (w.words q) Dead) false (w.words q) (if b then Wait j unpassed (Some r) else Wait j unpassed None)
       by true = comes false Dead (Wait j unpassed (Some r)) tt (λ e. cc) (λ e. cc)
       by false = comes false Dead (Wait j unpassed None) tt (λ e. cc) (λ e. cc)
-  steps (Wait j unpassed (Some i)) Weighs (NumberOf r) v fits short kept some told read =
+  steps (Wait j unpassed (Some i)) Weighs (NumberOf r) v fits short kept some reports read =
       load (takes (ahead (w.words q)) (w.words q) Dead) false (r == i) _ _ some (λ e. by ((v == 0) || is_before j q v r))
     where
       by : (b : Bool) → Goes (takes (ahead (w.words q)) (w.words q) Dead) false (w.words q) (if b then Wait j (without r unpassed) None else Wait j unpassed (Some i))
       by true = comes false Dead (Wait j (without r unpassed) None) tt (λ e. cc) (λ e. cc)
       by false = comes false Dead (Wait j unpassed (Some i)) tt (λ e. cc) (λ e. cc)
-  steps (Wait j [] None) Marks (InsideOf r) v fits short kept some told read =
+  steps (Wait j [] None) Marks (InsideOf r) v fits short kept some reports read =
       store (takes (ahead (w.words q)) (w.words q) Dead) false (v == 1) (λ x. record x { inside = v }) r _ _ some (λ e. enters v (eqb-true v 1 e) (omega arith) fits.3 kept)
-  steps Leaving Drops (NumberOf r) v fits short kept some told read =
+  steps Leaving Drops (NumberOf r) v fits short kept some reports read =
       store (takes (ahead (w.words q)) (w.words q) Leaving) false (v == 0) (λ x. record x { number = v }) r _ _ some (λ e.
       let t = takes_inside (ahead (w.words q)) (w.words q).number (w.words q).inside fits.2 in
       gives_up (takes (ahead (w.words q)) (w.words q) Leaving) v (Unmarking Unlock) tt (λ e. cc) (omega arith) (eqb-true v 0 e))
-  steps Withdrawing Drops (NumberOf r) v fits short kept some told read =
+  steps Withdrawing Drops (NumberOf r) v fits short kept some reports read =
       store 1 false (v == 0) (λ x. record x { number = v }) r _ _ some (λ e. gives_up 1 v Rest tt (λ e. cc) (omega arith) (eqb-true v 0 e))
-  steps (Unmarking call) Marks (InsideOf r) v fits short kept some told read =
+  steps (Unmarking call) Marks (InsideOf r) v fits short kept some reports read =
       store (takes (ahead (w.words q)) (w.words q) Dead) false (v == 0) (λ x. record x { inside = v }) r _ _ some (λ e. unmarks call v fits.1)
-  steps s Glances (ChoosingOf r) v fits short kept some told read = stays s read
-  steps s Glances (NumberOf r) v fits short kept some told read = stays s read
-  steps s Glances (InsideOf r) v fits short kept some told read = stays s read
-  steps _ _ _ _ fits short kept some told read = absurd (cc)
+  steps s Glances (ChoosingOf r) v fits short kept some reports read = stays s read
+  steps s Glances (NumberOf r) v fits short kept some reports read = stays s read
+  steps s Glances (InsideOf r) v fits short kept some reports read = stays s read
+  steps _ _ _ _ fits short kept some reports read = absurd (cc)
 
-  pub starts : (s : Place) (call : CoreCall) → IsSome (started s call) → Goes (takes (ahead (w.words q)) (w.words q) s) (is_withdraw s (Starts q call)) (w.words q) (unwrap_or (started s call) s)
+  pub starts : (s : Place) (call : CoreCall) → IsSome (place_after_start s call) → Goes (takes (ahead (w.words q)) (w.words q) s) (is_withdraw s (Starts q call)) (w.words q) (unwrap_or (place_after_start s call) s)
   starts Rest Lock some = comes false Rest (Reread Lock []) tt (λ e. cc) (λ e. cc)
   starts Rest Recover some = comes false Rest (Reread Recover []) tt (λ e. cc) (λ e. cc)
   starts Dead Lock some = comes false Dead (Reread Lock []) tt (λ e. cc) (λ e. cc)

@@ -2,7 +2,7 @@
 use Rattle.std.proofs.Common.{◌≡◌, ◌≢◌, ℕ, suc, ◌+◌, ◌-◌, ◌<◌, ◌≤◌, Bool, true, false, ◌&&◌, ◌==◌, if◌then◌else◌, nat_le, List, [], ◌∷◌, IsSome, unwrap_or, refl, sym, ap, ◌∙◌, subst, inl, inr, arith, eq-eqb, ne_eqb, leb-true}
 use Rattle.std.proofs.lemmas.List.Elements.{All-head, All-tail}
 use Rattle.progress.proofs.Common.{and_parts, false_from_ne_true, cases_eq, Withdraw, Kind, Shut as Shuts, Own, Word, Choosing as ChoosingOf, Place, Rest, Door, has, is_before, next}
-use Rattle.progress.proofs.Common.{Event, Starts, Crashes, Steps, process, moved, World, May, after, Run, stored, deeds, deed, entries, NeverWithdraws, count}
+use Rattle.progress.proofs.Common.{Event, Starts, Crashes, Steps, process, place_after_event, World, May, after, Run, words_after_event, deeds, deed, entries, NeverWithdraws, count}
 use Rattle.progress.specs.UnspentNumbers.{ReadsUpTo, NumbersUpTo, is_withdraw, is_spent, NumbersAreUnspent}
 use Rattle.rmecore.proofs.Accesses.{passed}
 use Rattle.rmecore.proofs.Invariant.{Fits}
@@ -61,7 +61,7 @@ module _ (n limit k p : ℕ) (low : p < n) (held : 0 < k) where
 
   module _ (w : World) (h : Kept n w) (line : In n limit k p low held w) (greatest : ℕ) (upto : NumbersUpTo greatest n w) where
     other : (e : Event) → May n limit w e → process e ≢ p
-        → Taken k p (process e) greatest (takes (is_before (w.words (process e)).number (process e) k p) (w.words (process e)) (w.places (process e))) (is_withdraw (w.places (process e)) e) (stored w.words e (process e)) (goes n limit w e)
+        → Taken k p (process e) greatest (takes (is_before (w.words (process e)).number (process e) k p) (w.words (process e)) (w.places (process e))) (is_withdraw (w.places (process e)) e) (words_after_event w.words e (process e)) (goes n limit w e)
     other (Starts q call) may ne = Takes.starts n limit k p q greatest may.0 low ne held w line.number upto (w.places q) call may.1
     other (Crashes q) may ne = Takes.crashes n limit k p q greatest may.0 low ne held w line.number upto (w.places q) (h.sound.tied.fits q may.0)
     other (Steps q kind word v) may ne =

@@ -3,10 +3,10 @@ use Rattle.std.proofs.Common.{◌≡◌, ◌≢◌, ℕ, zero, suc, ◌+◌, ◌
 use Rattle.std.proofs.lemmas.Bool.{cases_Bool}
 use Rattle.progress.proofs.Common.{cases_eq, CoreCall, Lock, Recover, Unlock, Kind, Take as Takes, Shut as Shuts, Rereads, Open as Opens, Peek as Peeks, Mark as Marks, Drop as Drops, Glance as Glances}
 use Rattle.progress.proofs.Common.{Word, Choosing as ChoosingOf, Number as NumberOf, InsideOf, is_glance, Place, Rest, Dead, Reread, Opening, Door, Shutting, Wait, Inside, Leaving, Withdrawing, Unmarking, has, only, next, Event, Starts, Crashes, Steps}
-use Rattle.progress.proofs.Common.{without, others, restart, started, shut, unmarked, process, moved, World, May, after, Run}
+use Rattle.progress.proofs.Common.{without, others, restart, place_after_start, shut, place_after_unmark, process, place_after_event, World, May, after, Run}
 use Rattle.progress.proofs.Short.{others_fewer}
 use Rattle.progress.specs.Bypass.{Throughout}
-use Rattle.progress.specs.WaitFree.{steps_of, IsBeforeLine, IsRereading, IsLeaving, IsRecovering}
+use Rattle.progress.specs.WaitFree.{steps_of, IsBeforeLine, IsRereadOfLock, IsLeaving, IsRecovering}
 use Rattle.rmecore.proofs.Invariant.{put_same, put_other}
 use Rattle.rmecore.proofs.Runs.{guard}
 use Rattle.rmecore.proofs.Scans.{without_less}
@@ -65,7 +65,7 @@ module _ (n limit p : ℕ) (below : p < n) where
   shuts Lock k = omega arith
   shuts _ k = omega arith
 
-  unmarks : (call : CoreCall) → steps_left n (unmarked call) + 1 ≤ steps_left n (Unmarking call)
+  unmarks : (call : CoreCall) → steps_left n (place_after_unmark call) + 1 ≤ steps_left n (Unmarking call)
   unmarks Lock = omega arith
   unmarks _ = omega arith
 
@@ -87,7 +87,7 @@ module _ (n limit p : ℕ) (below : p < n) where
   falls (Door [] m) Shuts (ChoosingOf q) v busy some counts = guarded _ Rest _ _ some (λ e. omega arith)
   falls (Shutting call k) Shuts (ChoosingOf q) v busy some counts = guarded _ (shut n p call k) _ 1 some (λ e. shuts call k)
   falls Leaving Drops (NumberOf q) v busy some counts = guarded _ (Unmarking Unlock) _ _ some (λ e. omega arith)
-  falls (Unmarking call) Marks (InsideOf q) v busy some counts = guarded _ (unmarked call) _ (steps_left n (Unmarking call)) some (λ e. unmarks call)
+  falls (Unmarking call) Marks (InsideOf q) v busy some counts = guarded _ (place_after_unmark call) _ (steps_left n (Unmarking call)) some (λ e. unmarks call)
   falls (Wait k unpassed looked) kind word v busy some counts = absurd busy
   falls Rest kind word v busy some counts = absurd busy
   falls Dead kind word v busy some counts = absurd busy
@@ -163,7 +163,7 @@ falls_in n limit p below busy s kind word v h some counts there = falls n limit 
 -- a part of a call, and a measure that falls with each step in it
 pub record Measure (n limit p : ℕ) (Part : Place → Type 0) (left : Place → ℕ) : Type 0 where
   pub alive : Part Dead → ⊥
-  pub unstarted : (s : Place) (call : CoreCall) → Part s → IsSome (started s call) → ⊥
+  pub unstarted : (s : Place) (call : CoreCall) → Part s → IsSome (place_after_start s call) → ⊥
   pub some_left : (s : Place) → Part s → 0 < left s
   pub fewer : (s : Place) (kind : Kind) (word : Word) (v : ℕ) → Part s → IsSome (next n limit p s kind word v) → is_glance kind ≡ false → Part (unwrap_or (next n limit p s kind word v) s) → left (unwrap_or (next n limit p s kind word v) s) + 1 ≤ left s
 
@@ -183,8 +183,8 @@ module _ (n limit p : ℕ) (below : p < n) {Part : Place → Type 0} {left : Pla
   elsewhere : (w : World) (e : Event) (more : ℕ) → process e ≢ p → more + 1 ≤ left ((after n limit w e).places p) → more + 1 ≤ left (w.places p)
   elsewhere w e more away rest = subst (λ s. more + 1 ≤ left s) (put_other w.places (process e) _ p (λ is. away (sym is))) rest
 
-  place_after_own : (w : World) (e : Event) → process e ≡ p → (after n limit w e).places p ≡ unwrap_or (moved n limit (w.places p) e) (w.places p)
-  place_after_own w e is = subst (λ r. (after n limit w e).places r ≡ unwrap_or (moved n limit (w.places r) e) (w.places r)) is (put_same w.places (process e) _)
+  place_after_own : (w : World) (e : Event) → process e ≡ p → (after n limit w e).places p ≡ unwrap_or (place_after_event n limit (w.places p) e) (w.places p)
+  place_after_own w e is = subst (λ r. (after n limit w e).places r ≡ unwrap_or (place_after_event n limit (w.places r) e) (w.places r)) is (put_same w.places (process e) _)
 
   pub leaves : (w : World) (es : List Event) → Run n limit w es → Throughout (λ v. Part (v.places p)) n limit w es → steps_of p es + 1 ≤ left (w.places p)
   leaves w [] run all = let some = h.some_left (w.places p) all in omega arith
@@ -193,7 +193,7 @@ module _ (n limit p : ℕ) (below : p < n) {Part : Place → Type 0} {left : Pla
       go : (e : Event) → May n limit w e → Part ((after n limit w e).places p) → steps_of p es + 1 ≤ left ((after n limit w e).places p) → steps_of p (e ∷ es) + 1 ≤ left (w.places p)
       go (Starts q call) may there rest =
           elim (cases_eq q p) [
-            | inl is ↦ absurd (h.unstarted (w.places p) call all.0 (subst (λ r. IsSome (started (w.places r) call)) is may.1))
+            | inl is ↦ absurd (h.unstarted (w.places p) call all.0 (subst (λ r. IsSome (place_after_start (w.places r) call)) is may.1))
             | inr away ↦ elsewhere w (Starts q call) (steps_of p es) away rest
           ]
       go (Crashes q) may there rest =
@@ -221,7 +221,7 @@ module _ (n limit p : ℕ) (below : p < n) where
   pub before_line : Measure n limit p IsBeforeLine (steps_left n)
   before_line = record { alive = λ h. h; unstarted = unstarted; some_left = some_left; fewer = falls_in n limit p below busy }
     where
-      unstarted : (s : Place) (call : CoreCall) → IsBeforeLine s → IsSome (started s call) → ⊥
+      unstarted : (s : Place) (call : CoreCall) → IsBeforeLine s → IsSome (place_after_start s call) → ⊥
       unstarted (Reread Lock seen) call h some = cc
       unstarted (Unmarking Lock) call h some = cc
       unstarted Opening call h some = cc
@@ -250,7 +250,7 @@ module _ (n limit p : ℕ) (below : p < n) where
   pub leaving : Measure n limit p IsLeaving (steps_left n)
   leaving = record { alive = λ h. h; unstarted = unstarted; some_left = some_left; fewer = falls_in n limit p below busy }
     where
-      unstarted : (s : Place) (call : CoreCall) → IsLeaving s → IsSome (started s call) → ⊥
+      unstarted : (s : Place) (call : CoreCall) → IsLeaving s → IsSome (place_after_start s call) → ⊥
       unstarted Leaving call h some = cc
       unstarted (Unmarking Unlock) call h some = cc
       unstarted _ call h some = h
@@ -268,7 +268,7 @@ module _ (n limit p : ℕ) (below : p < n) where
   pub recovering : Measure n limit p IsRecovering (steps_left n)
   recovering = record { alive = λ h. h; unstarted = unstarted; some_left = some_left; fewer = falls_in n limit p below busy }
     where
-      unstarted : (s : Place) (call : CoreCall) → IsRecovering s → IsSome (started s call) → ⊥
+      unstarted : (s : Place) (call : CoreCall) → IsRecovering s → IsSome (place_after_start s call) → ⊥
       unstarted (Reread Recover seen) call h some = cc
       unstarted (Shutting Recover k) call h some = cc
       unstarted (Unmarking Recover) call h some = cc
@@ -288,14 +288,14 @@ module _ (n limit p : ℕ) (below : p < n) where
       busy (Unmarking Recover) h = tt
       busy _ h = absurd h
 
-  pub rereading : Measure n limit p IsRereading rereads_left
+  pub rereading : Measure n limit p IsRereadOfLock rereads_left
   rereading = record { alive = λ h. h; unstarted = unstarted; some_left = some_left; fewer = fewer }
     where
-      unstarted : (s : Place) (call : CoreCall) → IsRereading s → IsSome (started s call) → ⊥
+      unstarted : (s : Place) (call : CoreCall) → IsRereadOfLock s → IsSome (place_after_start s call) → ⊥
       unstarted (Reread Lock seen) call h some = cc
       unstarted _ call h some = h
 
-      some_left : (s : Place) → IsRereading s → 0 < rereads_left s
+      some_left : (s : Place) → IsRereadOfLock s → 0 < rereads_left s
       some_left (Reread Lock []) h = omega arith
       some_left (Reread Lock (c ∷ [])) h = omega arith
       some_left (Reread Lock (c ∷ k ∷ seen)) h = omega arith
@@ -309,7 +309,7 @@ module _ (n limit p : ℕ) (below : p < n) where
       no_reread zero (suc k) zero = omega arith
       no_reread zero (suc k) (suc i) = omega arith
 
-      fewer : (s : Place) (kind : Kind) (word : Word) (v : ℕ) → IsRereading s → IsSome (next n limit p s kind word v) → is_glance kind ≡ false → IsRereading (unwrap_or (next n limit p s kind word v) s)
+      fewer : (s : Place) (kind : Kind) (word : Word) (v : ℕ) → IsRereadOfLock s → IsSome (next n limit p s kind word v) → is_glance kind ≡ false → IsRereadOfLock (unwrap_or (next n limit p s kind word v) s)
           → rereads_left (unwrap_or (next n limit p s kind word v) s) + 1 ≤ rereads_left s
       fewer (Reread Lock []) Rereads (ChoosingOf q) v h some not there = guard (q == p) _ _ (λ t. rereads_left t + 1 ≤ 3) some (λ e. omega arith)
       fewer (Reread Lock (c ∷ [])) Rereads (NumberOf q) v h some not there = guard (q == p) _ _ (λ t. rereads_left t + 1 ≤ 2) some (λ e. omega arith)

@@ -3,7 +3,7 @@ use Rattle.std.proofs.Common.{◌≡◌, ◌≢◌, ℕ, suc, ◌+◌, ◌*◌, 
 use Rattle.std.proofs.lemmas.Bool.{true_from_ne_false}
 use Rattle.std.proofs.lemmas.List.Elements.{All-head, All-tail}
 use Rattle.progress.proofs.Common.{cases_eq, Withdraw, Place, Event, Starts, has, process, World, after, Run, final, deeds, deed, entries, NeverWithdraws, is_disturbance, is_effective, count, work, disturbances}
-use Rattle.progress.proofs.Common.{Owes, moves, joined, Full, most_work, WaitingIsBounded}
+use Rattle.progress.proofs.Common.{Owes, moves, concatenation, Full, most_work, WaitingIsBounded}
 use Rattle.progress.proofs.Short.{Kept, kept_after}
 use Rattle.progress.proofs.OwnFalls.{InLine}
 use Rattle.progress.proofs.Works.{In, not_entered, still_in, work_bounded}
@@ -49,15 +49,15 @@ module _ (n limit k p : ℕ) (low : p < n) (held : 0 < k) where
         | inr some ↦ omega arith
       ]
 
-  pieces_few : (w : World) (pieces : List (List Event)) → Kept n w → In n limit k p low held w → Run n limit w (joined pieces) → Full n limit w pieces → NeverWithdraws p (joined pieces) → has (entries (deeds n limit w (joined pieces))) p ≡ false
-      → length pieces ≤ work n limit w (joined pieces) + disturbances n limit w (joined pieces)
+  pieces_few : (w : World) (pieces : List (List Event)) → Kept n w → In n limit k p low held w → Run n limit w (concatenation pieces) → Full n limit w pieces → NeverWithdraws p (concatenation pieces) → has (entries (deeds n limit w (concatenation pieces))) p ≡ false
+      → length pieces ≤ work n limit w (concatenation pieces) + disturbances n limit w (concatenation pieces)
   pieces_few w [] h line run full stays outside = omega arith
   pieces_few w (piece ∷ pieces) h line run full stays outside =
-      let g = goes w piece (joined pieces) h line run stays outside in
+      let g = goes w piece (concatenation pieces) h line run stays outside in
       let rest = pieces_few (final n limit w piece) pieces g.kept g.in_line g.later full.1 g.stays g.outside in
       let here = advances w piece h line g.run full.0 in
-      let a = count_append is_effective n limit w piece (joined pieces) in
-      let b = count_append is_disturbance n limit w piece (joined pieces) in
+      let a = count_append is_effective n limit w piece (concatenation pieces) in
+      let b = count_append is_disturbance n limit w piece (concatenation pieces) in
       omega arith
 
 -- too many pieces
@@ -66,8 +66,8 @@ too_many n most l a d e f g = omega arith
 
 pub waiting_bounded : (n limit p : ℕ) (w : World) → p < n → Kept n w → WaitingIsBounded n limit w p
 waiting_bounded n limit p w low h pieces line run full stays enough =
-    true_from_ne_false (has (entries (deeds n limit w (joined pieces))) p) (λ outside.
+    true_from_ne_false (has (entries (deeds n limit w (concatenation pieces))) p) (λ outside.
     let in_line : InLine (w.words p).number (w.words p) (w.places p) = record { number = refl; outside = line.1; stays = line.2 } in
     let few = pieces_few n limit (w.words p).number p low line.0 w pieces h in_line run full stays outside in
-    let bound = work_bounded n limit p w low h (joined pieces) line run stays outside in
-    too_many n (most_work n) (length pieces) (work n limit w (joined pieces)) (disturbances n limit w (joined pieces)) enough few bound)
+    let bound = work_bounded n limit p w low h (concatenation pieces) line run stays outside in
+    too_many n (most_work n) (length pieces) (work n limit w (concatenation pieces)) (disturbances n limit w (concatenation pieces)) enough few bound)

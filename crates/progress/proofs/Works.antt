@@ -2,8 +2,8 @@
 use Rattle.std.proofs.Common.{◌≡◌, ◌≢◌, ℕ, zero, suc, ◌+◌, ◌-◌, ◌*◌, ◌<◌, ◌≤◌, Bool, true, false, not, ◌&&◌, ◌==◌, nat_lt, if◌then◌else◌, List, [], ◌∷◌, length, Option, Some, None, unwrap_or, refl, sym, ap, ◌∙◌, subst, inl, inr, arith, eq-eqb, ne_eqb}
 use Rattle.std.proofs.lemmas.Bool.{or_parts, true_from_ne_false}
 use Rattle.std.proofs.lemmas.List.Elements.{All-head, All-tail}
-use Rattle.progress.proofs.Common.{cases_eq, Lock, Withdraw, Outer, Enter, Own, Place, Rest, Dead, Reread, Opening, Door, Shutting, Wait, Inside, Leaving, Withdrawing, Unmarking, has, is_before, Event, Starts, Crashes, Steps, process, moved}
-use Rattle.progress.proofs.Common.{World, May, after, Run, stored, deeds, deed, and_then, entries, NeverWithdraws, is_disturbance, is_effective, work, disturbances, most_work, WorkIsBounded}
+use Rattle.progress.proofs.Common.{cases_eq, Lock, Withdraw, Outer, Enter, Own, Place, Rest, Dead, Reread, Opening, Door, Shutting, Wait, Inside, Leaving, Withdrawing, Unmarking, has, is_before, Event, Starts, Crashes, Steps, process, place_after_event}
+use Rattle.progress.proofs.Common.{World, May, after, Run, words_after_event, deeds, deed, and_then, entries, NeverWithdraws, is_disturbance, is_effective, work, disturbances, most_work, WorkIsBounded}
 use Rattle.rmecore.proofs.Invariant.{Before, Pair}
 use Rattle.rmecore.proofs.Bounds.{before_test}
 use Rattle.progress.proofs.Movers.{goes, place_of_mover, same_place, same_words}
@@ -130,7 +130,7 @@ module _ (n limit k p : ℕ) (low : p < n) (held : 0 < k) where
 
     other : (e : Event) → May n limit w e → process e ≢ p
         → Falls n (left n k p (is_before (w.words (process e)).number (process e) k p) (w.words (process e)) (w.places (process e)))
-        (left n k p (is_before (stored w.words e (process e)).number (process e) k p) (stored w.words e (process e)) (goes n limit w e))
+        (left n k p (is_before (words_after_event w.words e (process e)).number (process e) k p) (words_after_event w.words e (process e)) (goes n limit w e))
         (is_effective (w.places (process e)) e) (is_disturbance (w.places (process e)) e)
     other (Starts q call) may ne = falls.starts n limit k p q may.0 low ne held w line.number (w.places q) call may.1
     other (Crashes q) may ne = falls.crashes n k p (is_before (w.words q).number q k p) (w.words q) some (w.places q) (h.sound.tied.fits q may.0)
@@ -138,7 +138,7 @@ module _ (n limit k p : ℕ) (low : p < n) (held : 0 < k) where
         falls.steps n limit k p q may.0 low ne held w line.number (w.places q) kind word v (h.sound.tied.fits q may.0) (h.short q may.0) (unpassed q may.0 ne) may.1 may.2
 
     own : (e : Event) → May n limit w e → process e ≡ p → e ≢ Starts p Withdraw → deed (w.places (process e)) e ≢ Some (Enter p)
-        → Onward n k (own_left n (w.words (process e)) (w.places (process e))) (is_effective (w.places (process e)) e) (is_disturbance (w.places (process e)) e) (stored w.words e (process e)) (goes n limit w e)
+        → Onward n k (own_left n (w.words (process e)) (w.places (process e))) (is_effective (w.places (process e)) e) (is_disturbance (w.places (process e)) e) (words_after_event w.words e (process e)) (goes n limit w e)
     own (Starts q call) may is stays outside =
         own_falls.starts n limit k q may.0 held w (w.places q) call (λ e. stays (λ i. Starts (is i) (e i))) (h.sound.tied.fits q may.0) (subst (λ r. InLine k (w.words r) (w.places r)) (sym is) line) may.1
     own (Crashes q) may is stays outside = own_falls.crashes n limit k q may.0 held w (w.places q) (subst (λ r. InLine k (w.words r) (w.places r)) (sym is) line)
@@ -153,17 +153,17 @@ module _ (n limit k p : ℕ) (low : p < n) (held : 0 < k) where
       -- the potential of the mover
       mover : Falls n (at w (process e)) (at new (process e)) (is_effective (w.places (process e)) e) (is_disturbance (w.places (process e)) e)
       mover =
-          let now : at new (process e) ≡ share n k p (process e) (stored w.words e (process e)) (goes n limit w e) = ap (share n k p (process e) (stored w.words e (process e))) (place_of_mover n limit w e) in
+          let now : at new (process e) ≡ share n k p (process e) (words_after_event w.words e (process e)) (goes n limit w e) = ap (share n k p (process e) (words_after_event w.words e (process e))) (place_of_mover n limit w e) in
           elim (cases_eq (process e) p) [
             | inl is ↦
                 let f = (own e may is stays outside).falls in
                 let a = share_own (process e) (w.words (process e)) (w.places (process e)) is in
-                let b = share_own (process e) (stored w.words e (process e)) (goes n limit w e) is in
+                let b = share_own (process e) (words_after_event w.words e (process e)) (goes n limit w e) is in
                 omega arith
             | inr ne ↦
                 let f = other e may ne in
                 let a = share_other (process e) (w.words (process e)) (w.places (process e)) ne in
-                let b = share_other (process e) (stored w.words e (process e)) (goes n limit w e) ne in
+                let b = share_other (process e) (words_after_event w.words e (process e)) (goes n limit w e) ne in
                 omega arith
           ]
 
@@ -176,7 +176,7 @@ module _ (n limit k p : ℕ) (low : p < n) (held : 0 < k) where
       pub still_in : In new
       still_in =
           elim (cases_eq (process e) p) [
-            | inl is ↦ subst (λ r. InLine k (new.words r) (new.places r)) is (subst (InLine k (stored w.words e (process e))) (sym (place_of_mover n limit w e)) (own e may is stays outside).in_line)
+            | inl is ↦ subst (λ r. InLine k (new.words r) (new.places r)) is (subst (InLine k (words_after_event w.words e (process e))) (sym (place_of_mover n limit w e)) (own e may is stays outside).in_line)
             | inr ne ↦
                 let away : p ≢ process e = λ same. ne (sym same) in
                 subst (λ x. InLine k x (new.places p)) (sym (same_words n limit w e h may p away)) (subst (InLine k (w.words p)) (sym (same_place n limit w e p away)) line)

@@ -1,7 +1,7 @@
 -- Bypass: how often another process enters while p waits (bounded overtaking). It holds of every run, whatever crashes or
 -- gives up.
 use Rattle.std.specs.Prelude.{◌≡◌, ◌≢◌, ℕ, suc, ◌<◌, ◌≤◌, ◌==◌, if◌then◌else◌, List, [], ◌∷◌}
-use Rattle.rmecore.specs.AbstractLock.{Abstract, Legal, done}
+use Rattle.rmecore.specs.AbstractLock.{Abstract, Legal, abstract_after}
 use Rattle.rmecore.specs.Place.{Event}
 use Rattle.rmecore.specs.World.{World, Run, after, deeds}
 use Rattle.rmecore.specs.declared.outer.Outer.{Outer}
@@ -43,7 +43,7 @@ LaterWaitsForDoorway n limit w p =
 -- p is ready in the abstract lock through all these deeds
 abbrev pub ReadyThroughout : ℕ → Abstract → List Outer → Type 0
 ReadyThroughout p a [] = a.phase p ≡ Ready
-ReadyThroughout p a (d ∷ ds) = (a.phase p ≡ Ready) × ReadyThroughout p (done a d) ds
+ReadyThroughout p a (d ∷ ds) = (a.phase p ≡ Ready) × ReadyThroughout p (abstract_after a d) ds
 
 -- the same of every legal history, of whatever lock: while p is ready, each other process enters once at most
 abbrev pub EntersOnceWhileReady : ℕ → Abstract → ℕ → Type 0

@@ -1,8 +1,8 @@
 pub mod Disturbances
 pub mod Pieces
-pub mod BoundedWaiting
+pub mod WaitingBounds
 pub mod Bypass
 pub mod WaitFree
 pub mod UnspentNumbers
-pub mod WorldWaiting
-pub mod ThreadWaiting
+pub mod WorldWaitingBounds
+pub mod ThreadWaitingBounds

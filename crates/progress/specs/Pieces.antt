@@ -1,6 +1,6 @@
 -- Rounds, as asynchronous time is measured: a run is cut into pieces, and in each piece whoever owes a step takes one.
 use Rattle.std.specs.Prelude.{◌≡◌, ◌⊎◌, ℕ, ◌<◌, Bool, true, false, not, ◌&&◌, ◌||◌, ◌==◌, List, [], ◌∷◌, ◌++◌, All}
-use Rattle.rmecore.specs.HomeState.{IsFirst}
+use Rattle.rmecore.specs.HomeState.{IsFirstInLine}
 use Rattle.rmecore.specs.Paid.{is_glance}
 use Rattle.rmecore.specs.Place.{Event, Starts, Crashes, Steps, process}
 use Rattle.rmecore.specs.World.{World, Run, final}
@@ -8,7 +8,7 @@ use Rattle.rmecore.specs.declared.core_call.CoreCall.TheVariants.{Recover, Withd
 
 -- q owes a step: it is in its doorway, or it has the least pair of all that hold a number. Nobody else has to move
 abbrev pub Owes : ℕ → World → ℕ → Type 0
-Owes n w q = (0 < (w.words q).choosing) ⊎ ((0 < (w.words q).number) × IsFirst n w q)
+Owes n w q = (0 < (w.words q).choosing) ⊎ ((0 < (w.words q).number) × IsFirstInLine n w q)
 
 -- a start, or a step that is no glance
 abbrev pub is_move : Event → Bool
@@ -22,9 +22,9 @@ moves q [] = false
 moves q (e ∷ es) = ((process e == q) && is_move e) || moves q es
 
 -- the pieces, one after another
-abbrev pub joined : {A : Type 0} → List (List A) → List A
-joined [] = []
-joined (piece ∷ pieces) = piece ++ joined pieces
+abbrev pub concatenation : {A : Type 0} → List (List A) → List A
+concatenation [] = []
+concatenation (piece ∷ pieces) = piece ++ concatenation pieces
 
 -- in each piece, each process that owes a step at the beginning of the piece moves
 abbrev pub Full : ℕ → ℕ → World → List (List Event) → Type 0

@@ -23,9 +23,9 @@ IsBeforeLine (Shutting Lock number) = Unit {0}
 IsBeforeLine _ = ⊥
 
 -- the rereads of a lock
-abbrev pub IsRereading : Place → Type 0
-IsRereading (Reread Lock seen) = Unit {0}
-IsRereading _ = ⊥
+abbrev pub IsRereadOfLock : Place → Type 0
+IsRereadOfLock (Reread Lock seen) = Unit {0}
+IsRereadOfLock _ = ⊥
 
 -- an exit under way
 abbrev pub IsLeaving : Place → Type 0

@@ -14,19 +14,19 @@ ghost use Rattle.rmeworld.specs.ProcessState.{WorldEvent};
 ghost use Rattle.rmeworld.specs.Reached.{crashed_global_state};
 ghost use Rattle.rmeworld.specs.World.{at_first, Execution, last_global_state};
 ghost use Rattle.rmeworld.specs.WorldState.{global_state_of, image_world};
-ghost use Rattle.execution.specs.Runs.{IsRun};
-ghost use Rattle.progress.specs.BoundedWaiting.{WorkIsBounded, WaitingIsBounded};
+ghost use Rattle.table_runs.specs.Runs.{IsRun};
+ghost use Rattle.progress.specs.WaitingBounds.{WorkIsBounded, WaitingIsBounded};
 ghost use Rattle.progress.specs.Bypass.{EntersOnce, EntersOnceWhileReady, IsInDoorway, LaterWaitsForDoorway};
 ghost use Rattle.progress.specs.Pieces.{HasFullPiece};
-ghost use Rattle.progress.specs.WaitFree.{LeavesWithin, IsBeforeLine, IsRereading, IsLeaving, IsRecovering};
+ghost use Rattle.progress.specs.WaitFree.{LeavesWithin, IsBeforeLine, IsRereadOfLock, IsLeaving, IsRecovering};
 ghost use Rattle.progress.specs.UnspentNumbers.{NumbersAreUnspent};
-ghost use Rattle.progress.specs.ThreadWaiting.{ThreadWaitingIsBounded};
-ghost use Rattle.progress.specs.WorldWaiting.{WorldWaitingIsBounded};
+ghost use Rattle.progress.specs.ThreadWaitingBounds.{ThreadWaitingIsBounded};
+ghost use Rattle.progress.specs.WorldWaitingBounds.{WorldWaitingIsBounded};
 
-use execution::Setup;
-use execution::entry::TakenStep;
 use redomail::Layout;
 use rmeworld::image::Image;
+use table_runs::Setup;
+use table_runs::entry::TakenStep;
 
 /// The law of work. While a process in line has not entered, at most `(n - 1)(6n + 13) + 8` starts and steps that are neither
 /// blocked nor a glance are made by all processes together. Each disturbance adds `3n + 4`. Nothing is asked of a scheduler.
@@ -99,7 +99,7 @@ pub fn doorway_exit_and_recovery_are_wait_free()
     ensures doorway { (n limit p : ℕ) (w : World) → p < n → w.places p ≡ Reread Lock []
         → LeavesWithin (n + 6) IsBeforeLine n limit w p }
     ensures reentry { (n limit p : ℕ) (w : World) → p < n → w.places p ≡ Reread Lock []
-        → LeavesWithin 3 IsRereading n limit w p }
+        → LeavesWithin 3 IsRereadOfLock n limit w p }
     ensures exit { (n limit p : ℕ) (w : World) → p < n → w.places p ≡ Leaving → LeavesWithin 2 IsLeaving n limit w p }
     ensures recovery { (n limit p : ℕ) (w : World) → p < n → w.places p ≡ Reread Recover []
         → LeavesWithin 4 IsRecovering n limit w p }

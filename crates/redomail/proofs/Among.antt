@@ -48,4 +48,4 @@ answered_is_shown l p seq value old now reply w h (inl stored) =
     record { before = old.shown; value = value; later = []; found = e.1 }
 answered_is_shown l p seq value old now reply w h (inr already) =
     let e : Safe l p (message p seq value) old (Done Already) w now = subst (λ r. Safe l p (message p seq value) old (Done r) w now) already h in
-    let told = e.1 in told.3
+    let reports = e.1 in reports.3

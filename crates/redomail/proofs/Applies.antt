@@ -1,10 +1,10 @@
 -- The apply steps and the storing of a record are safe.
 use Rattle.std.proofs.Common.{◌≡◌, ℕ, suc, ◌+◌, ◌-◌, true, false, ◌==◌, List, [], ◌∷◌, ◌++◌, length, refl, sym, ◌∙◌, subst, inl, inr, arith, eq-eqb, ne_eqb}
-use Rattle.redomail.proofs.Common.{cond_both, put, Layout, Message, Record, Reply, deeds_of_put, row, Words, held, last_at, place_at, message, Mailbox, done, Safe, Added, Done, Put, puts, entry}
+use Rattle.redomail.proofs.Common.{cond_both, put, Layout, Message, Record, Reply, deeds_of_put, row, Words, saturate, last_at, place_at, message, Mailbox, mailbox_after, Safe, Added, Done, Put, puts, entry}
 use Rattle.redomail.proofs.Common.{apply_steps, store_steps}
 use Rattle.redomail.specs.declared.deed.Deed.TheVariants as deed
 use Rattle.redomail.specs.declared.reply.Reply.TheVariants as reply
-use Rattle.redomail.specs.Replies.{Tells, Disarms}
+use Rattle.redomail.specs.Replies.{ReplyMeans, Disarms}
 use Rattle.redomail.proofs.Leading.{no_deed, one_deed}
 use Rattle.redomail.proofs.Safe.{silent, same_row, row_of}
 use Rattle.redomail.proofs.Scripts.{held-small}
@@ -18,12 +18,12 @@ IsApplied reply.Stored = Unit {0}
 IsApplied (reply.Mended true) = Unit {0}
 IsApplied _ = ⊥
 
-tells_shown : (l : Layout) (p : ℕ) (m : Message) (s0 s : Mailbox) (a : Reply) → IsApplied a → s.shown ≡ s0.shown ++ m ∷ [] → Tells l p m s0 a s
+tells_shown : (l : Layout) (p : ℕ) (m : Message) (s0 s : Mailbox) (a : Reply) → IsApplied a → s.shown ≡ s0.shown ++ m ∷ [] → ReplyMeans l p m s0 a s
 tells_shown l p m s0 s reply.Stored is e = e
 tells_shown l p m s0 s (reply.Mended true) is e = inr e
 tells_shown l p m s0 s _ is e = absurd is
 
-added_from_tells : (l : Layout) (p : ℕ) (m : Message) (s0 s : Mailbox) (a : Reply) → IsApplied a → Tells l p m s0 a s → Added m s0 s
+added_from_tells : (l : Layout) (p : ℕ) (m : Message) (s0 s : Mailbox) (a : Reply) → IsApplied a → ReplyMeans l p m s0 a s → Added m s0 s
 added_from_tells l p m s0 s reply.Stored is h = inr h
 added_from_tells l p m s0 s (reply.Mended true) is h = h
 added_from_tells l p m s0 s _ is h = absurd is
@@ -34,7 +34,7 @@ disarms (reply.Mended true) w is e = e
 disarms _ w is e = absurd is
 
 module _ (l : Layout) (p : ℕ) (m : Message) (s0 : Mailbox) where
-  end_of_whole : (r : Record) (a : Reply) (w : Words) (s : Mailbox) → IsApplied a → Whole l p w s r → Tells l p m s0 a s → Safe l p m s0 (Put 3 0 (Done a)) w s
+  end_of_whole : (r : Record) (a : Reply) (w : Words) (s : Mailbox) → IsApplied a → Whole l p w s r → ReplyMeans l p m s0 a s → Safe l p m s0 (Put 3 0 (Done a)) w s
   end_of_whole r a w s is h tells =
       let added = added_from_tells l p m s0 s a is tells in
       let low = place_low l l.cap in (
@@ -48,16 +48,16 @@ module _ (l : Layout) (p : ℕ) (m : Message) (s0 : Mailbox) where
       )
 
   abbrev last_steps : Record → List (ℕ × ℕ)
-  last_steps r = (last_at l p, r.seq) ∷ (2, held (r.at + 1)) ∷ (3, 0) ∷ []
+  last_steps r = (last_at l p, r.seq) ∷ (2, saturate (r.at + 1)) ∷ (3, 0) ∷ []
 
   -- a record that is shown already: nothing changes except armed
-  count_of_whole : (r : Record) (a : Reply) (w : Words) (s : Mailbox) → IsApplied a → Whole l p w s r → Tells l p m s0 a s → Safe l p m s0 (Put 2 (held (r.at + 1)) (Put 3 0 (Done a))) w s
+  count_of_whole : (r : Record) (a : Reply) (w : Words) (s : Mailbox) → IsApplied a → Whole l p w s r → ReplyMeans l p m s0 a s → Safe l p m s0 (Put 2 (saturate (r.at + 1)) (Put 3 0 (Done a))) w s
   count_of_whole r a w s is h tells =
       let low = place_low l l.cap in
       let layout = h.armed.base.layout in
       let room = h.armed.room in
       let small = layout.small in
-      let same : held (r.at + 1) ≡ r.at + 1 = held-small (r.at + 1) (omega arith) in
+      let same : saturate (r.at + 1) ≡ r.at + 1 = held-small (r.at + 1) (omega arith) in
       let stands : (w 2 == r.at + 1) ≡ true = eq-eqb (w 2) (r.at + 1) h.count in
       let rest = end_of_whole r a w s is h tells in
       let P : ℕ → Type 0 = λ v. Safe l p m s0 (Put 2 v (Put 3 0 (Done a))) w s in
@@ -67,19 +67,19 @@ module _ (l : Layout) (p : ℕ) (m : Message) (s0 : Mailbox) where
         (s, rw stands refl, subst (λ x. Safe l p m s0 (Put 3 0 (Done a)) x s) (sym (put-nothing w 2 (r.at + 1) h.count)) rest),
       )
 
-  last_of_whole : (r : Record) (a : Reply) (w : Words) (s : Mailbox) → IsApplied a → Whole l p w s r → Tells l p m s0 a s → Safe l p m s0 (puts (last_steps r) (Done a)) w s
+  last_of_whole : (r : Record) (a : Reply) (w : Words) (s : Mailbox) → IsApplied a → Whole l p w s r → ReplyMeans l p m s0 a s → Safe l p m s0 (puts (last_steps r) (Done a)) w s
   last_of_whole r a w s is h tells =
       let low = place_low l l.cap in
       let process = h.armed.base.process in
-      silent l p m s0 (last_at l p) r.seq (Put 2 (held (r.at + 1)) (Put 3 0 (Done a))) w s (omega arith) (omega arith) (Shape-from_whole l p w s r h, added_from_tells l p m s0 s a is tells)
-      (subst (λ x. Safe l p m s0 (Put 2 (held (r.at + 1)) (Put 3 0 (Done a))) x s) (sym (put-nothing w (last_at l p) r.seq (Whole-last l p w s r h)))
+      silent l p m s0 (last_at l p) r.seq (Put 2 (saturate (r.at + 1)) (Put 3 0 (Done a))) w s (omega arith) (omega arith) (Shape-from_whole l p w s r h, added_from_tells l p m s0 s a is tells)
+      (subst (λ x. Safe l p m s0 (Put 2 (saturate (r.at + 1)) (Put 3 0 (Done a))) x s) (sym (put-nothing w (last_at l p) r.seq (Whole-last l p w s r h)))
       (count_of_whole r a w s is h tells))
 
   -- the words of the entry, which are there already
   stands : (r : Record) (w : Words) → length r.value ≡ l.width → entry l w r.at ≡ message p r.seq r.value → row w (place_at l r.at) (length (p ∷ r.seq ∷ r.value)) ≡ p ∷ r.seq ∷ r.value
   stands r w wide e = rw wide (row-from_entry l w r.at p r.seq r.value e)
 
-  pub apply_whole : (r : Record) (a : Reply) (w : Words) (s : Mailbox) → IsApplied a → Whole l p w s r → Tells l p m s0 a s → Safe l p m s0 (puts (apply_steps l p r) (Done a)) w s
+  pub apply_whole : (r : Record) (a : Reply) (w : Words) (s : Mailbox) → IsApplied a → Whole l p w s r → ReplyMeans l p m s0 a s → Safe l p m s0 (puts (apply_steps l p r) (Done a)) w s
   apply_whole r a w s is h tells =
       let low = place_low l r.at in
       let up = place_up l r.at l.cap h.armed.room in
@@ -96,14 +96,14 @@ module _ (l : Layout) (p : ℕ) (m : Message) (s0 : Mailbox) where
 
   -- a record that isn't shown, after the puts of its entry and of p's last number
   count_of_half : (r : Record) (a : Reply) (w : Words) (s : Mailbox) → IsApplied a → message p r.seq r.value ≡ m → s.shown ≡ s0.shown → Half l p w s r
-      → entry l w r.at ≡ message p r.seq r.value → w (last_at l p) ≡ r.seq → Safe l p m s0 (Put 2 (held (r.at + 1)) (Put 3 0 (Done a))) w s
+      → entry l w r.at ≡ message p r.seq r.value → w (last_at l p) ≡ r.seq → Safe l p m s0 (Put 2 (saturate (r.at + 1)) (Put 3 0 (Done a))) w s
   count_of_half r a w s is mine same h whole last =
       let low = place_low l l.cap in
       let layout = h.armed.base.layout in
       let room = h.armed.room in
       let small = layout.small in
-      let count : held (r.at + 1) ≡ r.at + 1 = held-small (r.at + 1) (omega arith) in
-      let t : Mailbox = done s (deed.Show p r.at r.seq r.value) in
+      let count : saturate (r.at + 1) ≡ r.at + 1 = held-small (r.at + 1) (omega arith) in
+      let t : Mailbox = mailbox_after s (deed.Show p r.at r.seq r.value) in
       let P : ℕ → Type 0 = λ v. Safe l p m s0 (Put 2 v (Put 3 0 (Done a))) w s in
       subst P (sym count) (
         (Shape-from_half l p w s r h, inl same),
@@ -123,7 +123,7 @@ module _ (l : Layout) (p : ℕ) (m : Message) (s0 : Mailbox) where
       let process = h.armed.base.process in
       let v : Words = put w (last_at l p) r.seq in
       let en : entry l v r.at ≡ entry l w r.at = entry-alike l v w r.at (λ j x y. put-other w (last_at l p) r.seq j (λ e. omega arith)) in
-      silent l p m s0 (last_at l p) r.seq (Put 2 (held (r.at + 1)) (Put 3 0 (Done a))) w s (omega arith) (omega arith) (Shape-from_half l p w s r h, inl same)
+      silent l p m s0 (last_at l p) r.seq (Put 2 (saturate (r.at + 1)) (Put 3 0 (Done a))) w s (omega arith) (omega arith) (Shape-from_half l p w s r h, inl same)
       (count_of_half r a v s is mine same (Half-put-last l p w s r whole h) (en ∙ whole) (put-same w (last_at l p) r.seq (last_at l p) refl))
 
   pub apply_half : (r : Record) (a : Reply) (w : Words) (s : Mailbox) → IsApplied a → message p r.seq r.value ≡ m → s.shown ≡ s0.shown → Half l p w s r
@@ -155,7 +155,7 @@ module _ (l : Layout) (p : ℕ) (m : Message) (s0 : Mailbox) where
   arm r w s mine same h at seq value =
       let low = place_low l l.cap in
       let e : deeds_of_put l p w 3 1 ≡ deed.Commit p r.seq r.value ∷ [] = rw (h.idle.disarmed, seq, value) refl in
-      let t : Mailbox = done s (deed.Commit p r.seq r.value) in (
+      let t : Mailbox = mailbox_after s (deed.Commit p r.seq r.value) in (
         (Shape-from_idle l p w s h.idle, inl same),
         omega arith,
         (

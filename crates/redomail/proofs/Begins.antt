@@ -1,7 +1,7 @@
 -- Each task is safe if the process inside may begin it.
 use Rattle.std.proofs.Common.{◌≡◌, ℕ, zero, suc, ◌+◌, ◌<◌, ◌≤◌, Bool, true, false, ◌==◌, nat_lt, nat_le, List, [], ◌∷◌, ◌++◌, length, refl, not, sym, ◌∙◌, ap, subst, inl, inr, arith, append_assoc, eqb-true, leb-true, leb-false, ltb-true, ltb-false, true≢false, append-nil, Option}
-use Rattle.redomail.proofs.Common.{cond_both, eqb-false, put, Layout, Message, Reply, Task, deeds_of_put, row, Words, last_at, board_at, MailLeads, message, IsAmong, Mailbox, done, MayBegin, added_by}
-use Rattle.redomail.proofs.Common.{Safe, Seen, Done, Put, Script, gets, entry, entries, count_of, Shape, bit, recorded, RecordRule, ListRule, record_of, redo, decided, append, close, repair, script}
+use Rattle.redomail.proofs.Common.{cond_both, eqb-false, put, Layout, Message, Reply, Task, deeds_of_put, row, Words, last_at, board_at, MailLeads, message, IsAmong, Mailbox, mailbox_after, MayBegin, added_by}
+use Rattle.redomail.proofs.Common.{Safe, Seen, Done, Put, Script, gets, entry, entries, count_of, Shape, bit, recorded_message, RecordRule, ListRule, record_of, redo, append_decision, append, close, repair, script}
 use Rattle.redomail.specs.declared.deed.Deed.TheVariants as deed
 use Rattle.redomail.specs.declared.task.Task.TheVariants as task
 use Rattle.redomail.specs.declared.reply.Reply.TheVariants as reply
@@ -29,7 +29,7 @@ module _ (l : Layout) (p : ℕ) (m : Message) (s0 : Mailbox) where
   seen_idle : (w : Words) (s : Mailbox) → Idle l p w s → s.shown ≡ s0.shown → Seen l p m s0 w s
   seen_idle w s h same = (Shape-from_idle l p w s h, inl same)
 
-  decided_safe : (seq : ℕ) (value : List ℕ) (w : Words) (s : Mailbox) → Fresh l p m s0 seq value w s → Safe l p m s0 (decided l p seq value (w 1) (w 2) (w (last_at l p))) w s
+  decided_safe : (seq : ℕ) (value : List ℕ) (w : Words) (s : Mailbox) → Fresh l p m s0 seq value w s → Safe l p m s0 (append_decision l p seq value (w 1) (w 2) (w (last_at l p))) w s
   decided_safe seq value w s h =
       let P : Option Reply → Type 0 = λ o. Safe l p m s0 (unless_replied o (puts (store_steps l p (record_of (w 2) seq value)) (Done reply.Stored))) w s in
       let look = seen_idle w s h.idle h.same in
@@ -79,7 +79,7 @@ module _ (l : Layout) (p : ℕ) (m : Message) (s0 : Mailbox) where
             let off = closed_off s (w 1) h.base.closed (eqb-false (w 1) 1 n) in
             let z : w 1 ≡ 0 = h.base.closed ∙ (rw off refl) in
             let e : deeds_of_put l p w 1 1 ≡ deed.Close p ∷ [] = rw z refl in
-            let t : Mailbox = done s (deed.Close p) in
+            let t : Mailbox = mailbox_after s (deed.Close p) in
             let idle = Idle-closed l p w s h in (
               look,
               omega arith,
@@ -174,7 +174,7 @@ ruin_safe l p m w s h =
           (s, refl, subst (λ x. Safe l p m s (Done reply.Done) x s) (sym same) ((h, inl refl), refl, tt)))
           (λ n.
           let off = ruined_off s (w 0) h.ruined (eqb-false (w 0) 1 n) in
-          let t : Mailbox = done s (deed.Ruin p) in
+          let t : Mailbox = mailbox_after s (deed.Ruin p) in
           let e3 : not s.ruined ≡ true = ap not off in
           let kept : Shape l p (put w 0 1) t =
           Shape-alike l p (put w 0 1) w s t (λ j a b. put-other w 0 1 j (λ e. omega arith)) (λ j a. put-other w 0 1 j (λ e. omega arith))
@@ -204,7 +204,7 @@ begun_safe l p task.Close w s may =
     close_safe l p _ s w s (Idle-from_shape l p w s base may.allowed.1 may.shape) refl
 begun_safe l p task.Repair w s may =
     let base = base_of l p w s may.layout may.process may.allowed may.shape in
-    let m = recorded l p w in
+    let m = recorded_message l p w in
     let look : Seen l p m s w s = (may.shape, inl refl) in
     elim (Mode-from_shape l p w s base may.shape may.shape.armed) [
       | inl i ↦ repair_idle l p m s w s i refl
@@ -212,17 +212,17 @@ begun_safe l p task.Repair w s may =
       | inr (inr a) ↦ repair_armed l p m s w s a.armed.armed look (apply_whole l p m s (record_in l w) (reply.Mended true) w s tt a (inl refl))
     ]
 begun_safe l p (task.BoardGet i) w s may =
-    let look : Seen l p (recorded l p w) s w s = (may.shape, inl refl) in (look, (look, refl, tt))
+    let look : Seen l p (recorded_message l p w) s w s = (may.shape, inl refl) in (look, (look, refl, tt))
 begun_safe l p (task.BoardPut i v) w s may = board_safe l p _ i v w s may.allowed may.shape
 begun_safe l p task.Ruin w s may = ruin_safe l p _ w s may.shape
 begun_safe l p task.Check w s may =
-    let look : Seen l p (recorded l p w) s w s = (may.shape, inl refl) in (look, (look, (refl, is_ruined s (w 0) may.shape.ruined), tt))
+    let look : Seen l p (recorded_message l p w) s w s = (may.shape, inl refl) in (look, (look, (refl, is_ruined s (w 0) may.shape.ruined), tt))
 
 pub consistent_safe : ConsistentIsSafe
 consistent_safe l p w s layout process shape =
-    let look : Seen l p (recorded l p w) s w s = (shape, inl refl) in (
+    let look : Seen l p (recorded_message l p w) s w s = (shape, inl refl) in (
       look,
-      cond_both (w 0 == 1) (Done (reply.Ruined true)) (repair l p) (λ e. Safe l p (recorded l p w) s e w s)
+      cond_both (w 0 == 1) (Done (reply.Ruined true)) (repair l p) (λ e. Safe l p (recorded_message l p w) s e w s)
           (λ y. (look, (refl, sym (ruined_on s (w 0) shape.ruined (eqb-true (w 0) 1 y))), tt))
           (λ n.
           begun_safe l p task.Repair w s record {

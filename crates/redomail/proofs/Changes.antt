@@ -1,6 +1,6 @@
 -- What a put keeps of a mode, and the mode after a deed.
 use Rattle.std.proofs.Common.{◌≡◌, ℕ, zero, suc, ◌+◌, ◌<◌, ◌≤◌, true, false, not, ◌==◌, nat_lt, cond, List, [], ◌∷◌, ◌++◌, length, is_none, refl, sym, ◌∙◌, ap, inl, inr, arith, add-one, length-append, below_more, eq-eqb, ne_eqb, lt-ltb}
-use Rattle.redomail.proofs.Common.{cases_eq, bytes_eq-Decides, put, AllHold, Layout, Message, Record, row, Words, last_at, place_at, message, Mailbox, done, is_by, is_pending, entry, entries}
+use Rattle.redomail.proofs.Common.{cases_eq, bytes_eq-Decides, put, AllHold, Layout, Message, Record, row, Words, last_at, place_at, message, Mailbox, mailbox_after, is_by, is_pending, entry, entries}
 use Rattle.redomail.proofs.Common.{count_of, bit}
 use Rattle.std.proofs.lemmas.List.Sums.{sum_by-append}
 use Rattle.redomail.specs.declared.deed.Deed.TheVariants as deed
@@ -106,7 +106,7 @@ Allowed-show l p w s r h =
 
 -- the messages shown after a Show are those of the words after the put of count
 pub Whole-from_half : (l : Layout) (p : ℕ) (w : Words) (s : Mailbox) (r : Record) → entry l w r.at ≡ message p r.seq r.value → w (last_at l p) ≡ r.seq → Half l p w s r
-    → Whole l p (put w 2 (r.at + 1)) (done s (deed.Show p r.at r.seq r.value)) r
+    → Whole l p (put w 2 (r.at + 1)) (mailbox_after s (deed.Show p r.at r.seq r.value)) r
 Whole-from_half l p w s r whole last h =
     let b = h.armed.base in
     let v = put w 2 (r.at + 1) in
@@ -120,7 +120,7 @@ Whole-from_half l p w s r whole last h =
     let number : r.seq ≡ v (place_at l r.at + 1) = sym (ap (λ x. x.seq) en) in
     record {
       armed = record {
-        base = Base-put l p w s (done s (deed.Show p r.at r.seq r.value)) 2 (r.at + 1) (omega arith) refl refl b;
+        base = Base-put l p w s (mailbox_after s (deed.Show p r.at r.seq r.value)) 2 (r.at + 1) (omega arith) refl refl b;
         open_yet = h.armed.open_yet;
         armed = h.armed.armed;
         at = h.armed.at;
@@ -195,7 +195,7 @@ Allowed-commit l p w s r h =
     (refl, (e3, (e4, (e5, (e6, (e7, tt))))))
 
 pub Half-from_ready : (l : Layout) (p : ℕ) (w : Words) (s : Mailbox) (r : Record) → w 4 ≡ r.at → w 5 ≡ r.seq → row w 6 l.width ≡ r.value → Ready l p w s r
-    → Half l p (put w 3 1) (done s (deed.Commit p r.seq r.value)) r
+    → Half l p (put w 3 1) (mailbox_after s (deed.Commit p r.seq r.value)) r
 Half-from_ready l p w s r at seq value h =
     let b = h.idle.base in
     let v = put w 3 1 in
@@ -204,7 +204,7 @@ Half-from_ready l p w s r at seq value h =
     let number : r.seq ≡ count_of p (entries l w (w 2)) + 1 = h.next ∙ ap (λ x. x + 1) (h.idle.listed.counted p b.process) in
     record {
       armed = record {
-        base = Base-put l p w s (done s (deed.Commit p r.seq r.value)) 3 1 (omega arith) refl refl b;
+        base = Base-put l p w s (mailbox_after s (deed.Commit p r.seq r.value)) 3 1 (omega arith) refl refl b;
         open_yet = h.open_yet;
         armed = refl;
         at = at;
@@ -229,7 +229,7 @@ Allowed-close l p w s open_yet h =
     let e4 : not s.closed ≡ true = ap not open_yet in
     (refl, (e3, (e4, tt)))
 
-pub Idle-closed : (l : Layout) (p : ℕ) (w : Words) (s : Mailbox) → Idle l p w s → Idle l p (put w 1 1) (done s (deed.Close p))
+pub Idle-closed : (l : Layout) (p : ℕ) (w : Words) (s : Mailbox) → Idle l p w s → Idle l p (put w 1 1) (mailbox_after s (deed.Close p))
 Idle-closed l p w s h =
     let b = h.base in
     let v = put w 1 1 in

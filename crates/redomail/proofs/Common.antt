@@ -12,13 +12,13 @@ pub use Rattle.redomail.specs.declared.task.Task.{Task}
 pub use Rattle.redomail.specs.Content.{HeadsHold, AreCountsFrom, AreLastsFrom, IsNumberedIn, IsListedIn, IsNext}
 pub use Rattle.redomail.specs.Deeds.{deeds_of_put}
 pub use Rattle.redomail.specs.Jobs.{left_at, value_width, buffer_width, words_read, steps_done, board_index, FitsStage}
-pub use Rattle.redomail.specs.Layout.{row, Words, held, last_at, board_at, IsLayout, words_of, size}
+pub use Rattle.redomail.specs.Layout.{row, Words, saturate, last_at, board_at, IsLayout, words_of, size}
 unfoldable pub use Rattle.redomail.specs.Layout.{place_at}
 pub use Rattle.redomail.specs.Leads.{MailLeads, AreOwn}
-pub use Rattle.redomail.specs.Left.{left}
-pub use Rattle.redomail.specs.Mailbox.{message, IsAmong, Mailbox, done, is_by, is_pending}
-pub use Rattle.redomail.specs.Runs.{MayBegin, added_by, final, written, StepKept, Run, stepped_to, ran, start, Kept, steps, answer, steps_of}
+pub use Rattle.redomail.specs.Left.{script_left}
+pub use Rattle.redomail.specs.Mailbox.{message, IsAmong, Mailbox, mailbox_after, is_by, is_pending}
+pub use Rattle.redomail.specs.Runs.{MayBegin, added_by, final, words_after_puts, StepKept, ScriptRun, stepped_to, run_steps, start, IsTaskUnderWay, steps, answer, steps_of}
 pub use Rattle.redomail.specs.Safe.{Safe, Added, Seen}
 pub use Rattle.redomail.specs.Script.{Done, Put, puts, Script, gets, in_row, tail, Get, head}
-pub use Rattle.redomail.specs.Shape.{entry, entries, count_of, IsNumbered, Shape, bit, recorded, RecordRule, ListRule, Unshown, Shown, pending_in}
-pub use Rattle.redomail.specs.Tasks.{apply_steps, store_steps, record_of, redo, decided, append, close, repair, script}
+pub use Rattle.redomail.specs.Shape.{entry, entries, count_of, IsNumbered, Shape, bit, recorded_message, RecordRule, ListRule, Unshown, Shown, pending_in}
+pub use Rattle.redomail.specs.Tasks.{apply_steps, store_steps, record_of, redo, append_decision, append, close, repair, script}

@@ -1,7 +1,7 @@
 -- The words ruined and armed after the tasks.
 use Rattle.std.proofs.Common.{◌≡◌, ℕ, ◌+◌, true, ◌==◌, List, [], ◌∷◌, ◌++◌, refl, sym, ap, ◌∙◌, arith, append_assoc, eqb-true, Option, Some, None}
-use Rattle.redomail.proofs.Common.{cond_both, eqb-false, put, Layout, Record, Reply, row, Words, held, last_at, board_at, place_at, final, written, Done, puts, Script, in_row, apply_steps}
-use Rattle.redomail.proofs.Common.{store_steps, record_of, redo, decided, close, repair}
+use Rattle.redomail.proofs.Common.{cond_both, eqb-false, put, Layout, Record, Reply, row, Words, saturate, last_at, board_at, place_at, final, words_after_puts, Done, puts, Script, in_row, apply_steps}
+use Rattle.redomail.proofs.Common.{store_steps, record_of, redo, append_decision, close, repair}
 use Rattle.redomail.specs.declared.reply.Reply.TheVariants as reply
 use Rattle.redomail.specs.declared.task.Task.TheVariants as task
 use Rattle.redomail.specs.Tasks.{early_reply, unless_replied}
@@ -9,7 +9,7 @@ use Rattle.redomail.specs.Laws.{TasksEnd, ConsistentEnds}
 use Rattle.redomail.proofs.Words.{put-other, place_low}
 use Rattle.redomail.proofs.Repairs.{Outside, Outside-append, Outside-in_row, written-append, final-puts, final-gets, flag_off}
 
-written-other : (xs : List (ℕ × ℕ)) (w : Words) (i : ℕ) → Outside xs i → written xs w i ≡ w i
+written-other : (xs : List (ℕ × ℕ)) (w : Words) (i : ℕ) → Outside xs i → words_after_puts xs w i ≡ w i
 written-other [] w i out = refl
 written-other (x ∷ xs) w i out = written-other xs (put w x.0 x.1) i out.1 ∙ put-other w x.0 x.1 i out.0
 
@@ -21,7 +21,7 @@ module _ (l : Layout) (p : ℕ) (r : Record) where
   outside_apply : Outside (apply_steps l p r) 0
   outside_apply =
       let low = place_low l r.at in
-      Outside-append (in_row (place_at l r.at) (p ∷ r.seq ∷ r.value)) ((last_at l p, r.seq) ∷ (2, held (r.at + 1)) ∷ (3, 0) ∷ []) 0
+      Outside-append (in_row (place_at l r.at) (p ∷ r.seq ∷ r.value)) ((last_at l p, r.seq) ∷ (2, saturate (r.at + 1)) ∷ (3, 0) ∷ []) 0
       (Outside-in_row (place_at l r.at) (p ∷ r.seq ∷ r.value) 0 (omega arith) (omega arith))
       ((λ e. omega arith), ((λ e. omega arith), ((λ e. omega arith), tt)))
 
@@ -37,17 +37,17 @@ module _ (l : Layout) (p : ℕ) (r : Record) where
   store_ends : (a : Reply) (w : Words) → Ends w (puts (store_steps l p r) (Done a))
   store_ends a w =
       let split : store_steps l p r ≡ front ++ apply_steps l p r = sym (append_assoc (in_row 4 (r.at ∷ r.seq ∷ r.value)) ((3, 1) ∷ []) (apply_steps l p r)) in
-      let all : written (store_steps l p r) w ≡ written (apply_steps l p r) (written front w) = ap (λ xs. written xs w) split ∙ written-append front (apply_steps l p r) w in
-      let first : written front w 0 ≡ w 0 =
+      let all : words_after_puts (store_steps l p r) w ≡ words_after_puts (apply_steps l p r) (words_after_puts front w) = ap (λ xs. words_after_puts xs w) split ∙ written-append front (apply_steps l p r) w in
+      let first : words_after_puts front w 0 ≡ w 0 =
       written-other front w 0
       (Outside-append (in_row 4 (r.at ∷ r.seq ∷ r.value)) ((3, 1) ∷ []) 0 (Outside-in_row 4 (r.at ∷ r.seq ∷ r.value) 0 (omega arith) (omega arith))
       ((λ e. omega arith), tt)) in (
-        ap (λ f. f 0) (final-puts (store_steps l p r) (Done a) w) ∙ (ap (λ f. f 0) all ∙ (written-other (apply_steps l p r) (written front w) 0 outside_apply ∙ first)),
-        ap (λ f. f 3) (final-puts (store_steps l p r) (Done a) w) ∙ (ap (λ f. f 3) all ∙ flag_off l p r (written front w)),
+        ap (λ f. f 0) (final-puts (store_steps l p r) (Done a) w) ∙ (ap (λ f. f 0) all ∙ (written-other (apply_steps l p r) (words_after_puts front w) 0 outside_apply ∙ first)),
+        ap (λ f. f 3) (final-puts (store_steps l p r) (Done a) w) ∙ (ap (λ f. f 3) all ∙ flag_off l p r (words_after_puts front w)),
       )
 
 module _ (l : Layout) (p : ℕ) (w : Words) where
-  decided_ends : (seq : ℕ) (value : List ℕ) (closed count last : ℕ) → w 3 ≡ 0 → Ends w (decided l p seq value closed count last)
+  decided_ends : (seq : ℕ) (value : List ℕ) (closed count last : ℕ) → w 3 ≡ 0 → Ends w (append_decision l p seq value closed count last)
   decided_ends seq value closed count last off = by (early_reply l.cap seq closed count last)
     where
       by : (o : Option Reply) → Ends w (unless_replied o (puts (store_steps l p (record_of count seq value)) (Done reply.Stored)))

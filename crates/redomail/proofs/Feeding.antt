@@ -1,7 +1,7 @@
 -- A job after one more word: it still fits its layout, and the rest of it is the tail of its script.
 use Rattle.std.proofs.Common.{◌≡◌, ℕ, ◌+◌, ◌-◌, ◌*◌, ◌<◌, ◌≤◌, Bool, true, false, ◌==◌, nat_lt, nat_le, if◌then◌else◌, List, length, take, slice_set, refl, sym, ap, ◌∙◌, inl, inr, arith, length-take, length-set, ltb-true, ltb-false, Option, Some, None}
 use Rattle.redomail.proofs.Common.{cases_Bool, Layout, Reply, Task, left_at, value_width, buffer_width, words_read, steps_done, board_index, FitsStage, IsLayout, Done, puts, tail, store_steps}
-use Rattle.redomail.proofs.Common.{record_of, redo, decided}
+use Rattle.redomail.proofs.Common.{record_of, redo, append_decision}
 use Rattle.redomail.specs.declared.reply.Reply.TheVariants as reply
 use Rattle.redomail.specs.declared.stage.JobStage.{JobStage}
 use Rattle.redomail.specs.declared.stage.JobStage.TheVariants as stage
@@ -47,7 +47,7 @@ module _ (l : Layout) (lawful : IsLayout l) where
       by None = fits (stage.Write (record_of count seq value) 0 reply.Stored) wide refl refl refl refl
       by (Some answer) = fits_ended answer
 
-  left_decided : (p seq : ℕ) (value : List ℕ) (closed count last : ℕ) → left_at l p (decided_stage l seq value closed count last) ≡ decided l p seq value closed count last
+  left_decided : (p seq : ℕ) (value : List ℕ) (closed count last : ℕ) → left_at l p (decided_stage l seq value closed count last) ≡ append_decision l p seq value closed count last
   left_decided p seq value closed count last = by (early_reply l.cap seq closed count last)
     where
       by : (o : Option Reply) → left_at l p (unless_ended o (stage.Write (record_of count seq value) 0 reply.Stored)) ≡ unless_replied o (puts (store_steps l p (record_of count seq value)) (Done reply.Stored))

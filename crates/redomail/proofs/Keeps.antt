@@ -1,6 +1,6 @@
 -- A run of a safe script keeps the mailbox and the entries below count.
 use Rattle.std.proofs.Common.{ℕ, zero, suc, List, refl, subst, sym}
-use Rattle.redomail.proofs.Common.{Deed, Layout, Message, Reply, Task, deeds_of_put, Words, MailLeads, Mailbox, MayBegin, added_by, StepKept, Run, stepped_to, ran, start, Kept, Safe, Done, Put}
+use Rattle.redomail.proofs.Common.{Deed, Layout, Message, Reply, Task, deeds_of_put, Words, MailLeads, Mailbox, MayBegin, added_by, StepKept, ScriptRun, stepped_to, run_steps, start, IsTaskUnderWay, Safe, Done, Put}
 use Rattle.redomail.proofs.Common.{Script, tail, Get, script}
 use Rattle.redomail.proofs.Leading.{leads_on}
 use Rattle.redomail.specs.Laws.{StepsStaySafe, EntriesStand}
@@ -10,7 +10,7 @@ use Rattle.redomail.proofs.Begins.{begun_safe}
 
 module _ (l : Layout) (p : ℕ) (m : Message) (s0 : Mailbox) where
   -- after some steps: the deeds so far are allowed, and the rest is safe
-  abbrev pub Stood : Run Reply → Type 0
+  abbrev pub Stood : ScriptRun Reply → Type 0
   Stood x = (s : Mailbox) × MailLeads l.cap s0 x.deeds s × Safe l p m s0 x.left x.words s
 
   step_on : (e : Script Reply) (w : Words) (ds : List Deed) (s : Mailbox) → MailLeads l.cap s0 ds s → Safe l p m s0 e w s → Stood (stepped_to l p e w ds)
@@ -19,12 +19,12 @@ module _ (l : Layout) (p : ℕ) (m : Message) (s0 : Mailbox) where
       let g = h.2 in (g.0, leads_on l.cap s0 s g.0 ds (deeds_of_put l p w i v) e g.1, g.2)
   step_on (Done a) w ds s e h = (s, e, h)
 
-  pub Stood-ran : (k : ℕ) (x : Run Reply) → Stood x → Stood (ran l p k x)
+  pub Stood-ran : (k : ℕ) (x : ScriptRun Reply) → Stood x → Stood (run_steps l p k x)
   Stood-ran zero x h = h
   Stood-ran (suc k) x h =
-      let g = Stood-ran k x h in let y = ran l p k x in step_on y.left y.words y.deeds g.0 g.1 g.2
+      let g = Stood-ran k x h in let y = run_steps l p k x in step_on y.left y.words y.deeds g.0 g.1 g.2
 
-  pub Kept-from_stood : (x : Run Reply) → Stood x → Kept l p m s0 x
+  pub Kept-from_stood : (x : ScriptRun Reply) → Stood x → IsTaskUnderWay l p m s0 x
   Kept-from_stood x h =
       let a = seen l p m s0 x.left x.words h.0 h.2 in
       record { state = h.0; legal = h.1; shape = a.0; shown = a.1 }
@@ -39,14 +39,14 @@ step_kept (Get i next) x l p m old w now h e = (now, refl, subst (λ y. Safe l p
 step_kept (Put i v rest) x l p m old w now h e = h.2
 step_kept (Done a) x l p m old w now h e = (now, refl, h)
 
-pub stood : (l : Layout) (p : ℕ) (t : Task) (w : Words) (s : Mailbox) (k : ℕ) → MayBegin l p t w s → Stood l p (added_by l t p w) s (ran l p k (start (script l p t) w))
+pub stood : (l : Layout) (p : ℕ) (t : Task) (w : Words) (s : Mailbox) (k : ℕ) → MayBegin l p t w s → Stood l p (added_by l t p w) s (run_steps l p k (start (script l p t) w))
 stood l p t w s k may = Stood-ran l p (added_by l t p w) s k (start (script l p t) w) (s, refl, begun_safe l p t w s may)
 
-pub tasks_keep : (l : Layout) (p : ℕ) (t : Task) (w : Words) (s : Mailbox) (k : ℕ) → MayBegin l p t w s → Kept l p (added_by l t p w) s (ran l p k (start (script l p t) w))
+pub tasks_keep : (l : Layout) (p : ℕ) (t : Task) (w : Words) (s : Mailbox) (k : ℕ) → MayBegin l p t w s → IsTaskUnderWay l p (added_by l t p w) s (run_steps l p k (start (script l p t) w))
 tasks_keep l p t w s k may = Kept-from_stood l p (added_by l t p w) s _ (stood l p t w s k may)
 
 pub entries_stand : EntriesStand
 entries_stand l p t w s k may =
     let kept = tasks_keep l p t w s k may in
-    shown_entries_stand l p p w (ran l p k (start (script l p t) w)).words s kept.state
-    (ran l p k (start (script l p t) w)).deeds may.shape kept.legal kept.shape
+    shown_entries_stand l p p w (run_steps l p k (start (script l p t) w)).words s kept.state
+    (run_steps l p k (start (script l p t) w)).deeds may.shape kept.legal kept.shape

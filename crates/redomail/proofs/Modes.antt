@@ -1,6 +1,6 @@
 -- The three modes of the words during a task: no record is armed, one is armed and not shown, one is armed and shown.
 use Rattle.std.proofs.Common.{◌≡◌, ◌≢◌, ℕ, ◌+◌, ◌<◌, ◌≤◌, false, Some, None, refl, ◌⊎◌, sym, ◌∙◌, ap, subst, inl, inr, arith, length, zero, suc, eq-eqb, ne_eqb}
-use Rattle.redomail.proofs.Common.{cond_both, Layout, Record, row, Words, last_at, IsLayout, message, Mailbox, entry, entries, count_of, IsNumbered, Shape, bit, recorded, RecordRule, ListRule}
+use Rattle.redomail.proofs.Common.{cond_both, Layout, Record, row, Words, last_at, IsLayout, message, Mailbox, entry, entries, count_of, IsNumbered, Shape, bit, recorded_message, RecordRule, ListRule}
 use Rattle.redomail.proofs.Common.{Unshown, Shown, pending_in}
 
 -- the facts of every mode
@@ -89,7 +89,7 @@ Shape-from_armed l p w s r h room shown rule pending = record {
 pub Shape-from_half : (l : Layout) (p : ℕ) (w : Words) (s : Mailbox) (r : Record) → Half l p w s r → Shape l p w s
 Shape-from_half l p w s r h =
     let same : w 2 ≡ w 4 = h.count ∙ sym h.armed.at in
-    let message_same : message p r.seq r.value ≡ recorded l p w = rw (h.armed.seq, h.armed.value) refl in
+    let message_same : message p r.seq r.value ≡ recorded_message l p w = rw (h.armed.seq, h.armed.value) refl in
     Shape-from_armed l p w s r h.armed (omega (arith, h.count, h.armed.room)) (rw h.count h.shown)
     (inl record {
       count = same;

@@ -1,6 +1,6 @@
 -- A script over a list of words: the state after some of its steps.
 use Rattle.std.proofs.Common.{◌≡◌, ◌≢◌, ℕ, zero, suc, ◌+◌, ◌<◌, List, length, slice_index, slice_set, refl, sym, ◌∙◌, ap, subst, inl, inr, arith, get_or-set_same, get_or-set_other}
-use Rattle.redomail.proofs.Common.{length-set, cases_eq, put, Deed, Layout, Message, held, Reply, Task, Words, words_of, size, Mailbox, added_by, Run, stepped_to, ran, start, Safe, Done, Put, Script, tail}
+use Rattle.redomail.proofs.Common.{length-set, cases_eq, put, Deed, Layout, Message, saturate, Reply, Task, Words, words_of, size, Mailbox, added_by, ScriptRun, stepped_to, run_steps, start, Safe, Done, Put, Script, tail}
 use Rattle.redomail.proofs.Common.{Get, head, Shape, script}
 use Rattle.redomail.specs.declared.next.Next.TheVariants as want
 use Rattle.redomail.specs.Cells.{step_over, steps_over, steps_left, outcome, IsOnWay, StopsAfter, Ready, TaskKept, TaskAnswered}
@@ -18,7 +18,7 @@ pub record IsReached (e : Script Reply) (xs : List ℕ) (f : Script Reply) (ys :
 pub record IsReachedBy (e : Script Reply) (xs : List ℕ) (f : Script Reply) (ys : List ℕ) (before now : ℕ) : Type 0 where
   pub reached : IsReached e xs f ys
   pub steps : reached.count + steps_left f ys ≡ steps_left e xs
-  pub calls : held now ≡ held (before + reached.count)
+  pub calls : saturate now ≡ saturate (before + reached.count)
 
 outcome-step : (f : Script Reply) (ys : List ℕ) → outcome (step_over f ys).0 (step_over f ys).1 ≡ outcome f ys
 outcome-step (Get i next) ys = refl
@@ -74,7 +74,7 @@ reached_put e xs f ys i v f2 ys2 en ef ey h =
 pub not_begun : (e : Script Reply) (xs : List ℕ) (before : ℕ) → IsReachedBy e xs e xs before before
 not_begun e xs before =
     let same : before ≡ before + 0 = omega arith in
-    record { reached = record { count = 0; left_is = refl; words_is = refl; same = refl }; steps = omega arith; calls = ap held same }
+    record { reached = record { count = 0; left_is = refl; words_is = refl; same = refl }; steps = omega arith; calls = ap saturate same }
 
 steps_of_get : (f : Script Reply) (ys : List ℕ) (i : ℕ) → want.Get i ≡ head f → steps_left f ys ≡ suc (steps_left (step_over f ys).0 (step_over f ys).1)
 steps_of_get (Get j next) ys i e = refl
@@ -87,7 +87,7 @@ steps_of_put (Put j u rest) ys i v e = refl
 steps_of_put (Done a) ys i v e = cc
 
 -- one call more
-called_more : (before k now later : ℕ) → held now ≡ held (before + k) → later ≡ held (now + 1) → held later ≡ held (before + suc k)
+called_more : (before k now later : ℕ) → saturate now ≡ saturate (before + k) → later ≡ saturate (now + 1) → saturate later ≡ saturate (before + suc k)
 called_more before k now later here more = omega (arith, here, more)
 
 steps_more : (e : Script Reply) (xs : List ℕ) (f : Script Reply) (ys : List ℕ) (k : ℕ) (f2 : Script Reply) (ys2 : List ℕ)
@@ -95,7 +95,7 @@ steps_more : (e : Script Reply) (xs : List ℕ) (f : Script Reply) (ys : List �
 steps_more e xs f ys k f2 ys2 here one = omega (arith, here, one)
 
 pub got_by : (e : Script Reply) (xs : List ℕ) (f : Script Reply) (ys : List ℕ) (i word : ℕ) (f2 : Script Reply) (ys2 : List ℕ) (before now later : ℕ) → want.Get i ≡ head f → word ≡ slice_index ys i → f2 ≡ tail f word → ys2 ≡ ys
-    → later ≡ held (now + 1) → IsReachedBy e xs f ys before now → IsReachedBy e xs f2 ys2 before later
+    → later ≡ saturate (now + 1) → IsReachedBy e xs f ys before now → IsReachedBy e xs f2 ys2 before later
 got_by e xs f ys i word f2 ys2 before now later en ew ef ey more h =
     let s : step_over f ys ≡ (tail f (slice_index ys i), ys) = step_of_get f ys i en in
     let a : (step_over f ys).0 ≡ f2 = ap (λ z. z.0) s ∙ sym (ef ∙ ap (tail f) ew) in
@@ -107,7 +107,7 @@ got_by e xs f ys i word f2 ys2 before now later en ew ef ey more h =
     })
 
 pub put_by : (e : Script Reply) (xs : List ℕ) (f : Script Reply) (ys : List ℕ) (i v : ℕ) (f2 : Script Reply) (ys2 : List ℕ) (before now later : ℕ) → want.Put i v ≡ head f → f2 ≡ tail f 0 → ys2 ≡ slice_set ys i v
-    → later ≡ held (now + 1) → IsReachedBy e xs f ys before now → IsReachedBy e xs f2 ys2 before later
+    → later ≡ saturate (now + 1) → IsReachedBy e xs f ys before now → IsReachedBy e xs f2 ys2 before later
 put_by e xs f ys i v f2 ys2 before now later en ef ey more h =
     let s : step_over f ys ≡ (tail f 0, slice_set ys i v) = step_of_put f ys i v en in
     let a : (step_over f ys).0 ≡ f2 = ap (λ z. z.0) s ∙ sym ef in
@@ -119,14 +119,14 @@ put_by e xs f ys i v f2 ys2 before now later en ef ey more h =
     })
 
 -- a call of the next step stopped
-pub stops_at_get : (e : Script Reply) (xs : List ℕ) (f : Script Reply) (ys zs : List ℕ) (i before now later : ℕ) → want.Get i ≡ head f → zs ≡ ys → later ≡ held (now + 1) → IsReachedBy e xs f ys before now → StopsAfter e xs zs before later
+pub stops_at_get : (e : Script Reply) (xs : List ℕ) (f : Script Reply) (ys zs : List ℕ) (i before now later : ℕ) → want.Get i ≡ head f → zs ≡ ys → later ≡ saturate (now + 1) → IsReachedBy e xs f ys before now → StopsAfter e xs zs before later
 stops_at_get e xs f ys zs i before now later en same more h =
     let one = steps_of_get f ys i en in
     let steps = h.steps in
     let calls = h.calls in
     (h.reached.count, omega (arith, one, steps), same ∙ sym h.reached.words_is, omega (arith, calls, more))
 
-pub stops_at_put : (e : Script Reply) (xs : List ℕ) (f : Script Reply) (ys zs : List ℕ) (i v before now later : ℕ) → want.Put i v ≡ head f → zs ≡ ys → later ≡ held (now + 1) → IsReachedBy e xs f ys before now → StopsAfter e xs zs before later
+pub stops_at_put : (e : Script Reply) (xs : List ℕ) (f : Script Reply) (ys zs : List ℕ) (i v before now later : ℕ) → want.Put i v ≡ head f → zs ≡ ys → later ≡ saturate (now + 1) → IsReachedBy e xs f ys before now → StopsAfter e xs zs before later
 stops_at_put e xs f ys zs i v before now later en same more h =
     let one = steps_of_put f ys i v en in
     let steps = h.steps in
@@ -134,13 +134,13 @@ stops_at_put e xs f ys zs i v before now later en same more h =
     (h.reached.count, omega (arith, one, steps), same ∙ sym h.reached.words_is, omega (arith, calls, more))
 
 -- nothing is left, so all its steps were taken
-pub all_called : (e : Script Reply) (xs : List ℕ) (f : Script Reply) (ys : List ℕ) (a : Reply) (before now : ℕ) → f ≡ Done a → IsReachedBy e xs f ys before now → held now ≡ held (before + steps_left e xs)
+pub all_called : (e : Script Reply) (xs : List ℕ) (f : Script Reply) (ys : List ℕ) (a : Reply) (before now : ℕ) → f ≡ Done a → IsReachedBy e xs f ys before now → saturate now ≡ saturate (before + steps_left e xs)
 all_called e xs f ys a before now ended h =
     let none : steps_left f ys ≡ 0 = subst (λ z. steps_left z ys ≡ 0) (sym ended) refl in
     let steps = h.steps in
     let calls = h.calls in
     let same : h.reached.count ≡ steps_left e xs = omega (arith, none, steps) in
-    subst (λ k. held now ≡ held (before + k)) same calls
+    subst (λ k. saturate now ≡ saturate (before + k)) same calls
 
 words_of-set : (xs : List ℕ) (i v : ℕ) → i < length xs → put (words_of xs) i v ≡ words_of (slice_set xs i v)
 words_of-set xs i v l = λ t j. each j t
@@ -152,7 +152,7 @@ words_of-set xs i v l = λ t j. each j t
     ]
 
 -- the run over the list is the run over the words as a function
-record Agrees (l : Layout) (x : Run Reply) (f : Script Reply) (ys : List ℕ) : Type 0 where
+record Agrees (l : Layout) (x : ScriptRun Reply) (f : Script Reply) (ys : List ℕ) : Type 0 where
   pub left_is : x.left ≡ f
   pub words_is : x.words ≡ words_of ys
   pub size_is : length ys ≡ size l
@@ -173,11 +173,11 @@ agrees_step l p m s0 e w ds f ys s safe ef ew n =
     let Q : Words → Type 0 = λ u. Agrees l (stepped_to l p f u ds) (step_over f ys).0 (step_over f ys).1 in
     subst P (sym ef) (subst Q (sym ew) (agrees_by l p m s0 f ys ds s here n))
 
-agrees : (l : Layout) (p : ℕ) (e : Script Reply) (xs : List ℕ) (t : Task) (s : Mailbox) (k : ℕ) → Ready l p e xs t s → Agrees l (ran l p k (start (script l p t) (words_of xs))) (steps_over k e xs).0 (steps_over k e xs).1
+agrees : (l : Layout) (p : ℕ) (e : Script Reply) (xs : List ℕ) (t : Task) (s : Mailbox) (k : ℕ) → Ready l p e xs t s → Agrees l (run_steps l p k (start (script l p t) (words_of xs))) (steps_over k e xs).0 (steps_over k e xs).1
 agrees l p e xs t s zero h = record { left_is = sym h.begins; words_is = refl; size_is = h.size }
 agrees l p e xs t s (suc k) h =
     let a = agrees l p e xs t s k h in
-    let x : Run Reply = ran l p k (start (script l p t) (words_of xs)) in
+    let x : ScriptRun Reply = run_steps l p k (start (script l p t) (words_of xs)) in
     let g = stood l p t (words_of xs) s k h.may in
     agrees_step l p (added_by l t p (words_of xs)) s x.left x.words x.deeds (steps_over k e xs).0 (steps_over k e xs).1 g.0 g.2 a.left_is a.words_is a.size_is
 
@@ -192,7 +192,7 @@ kept_on_way e xs ys way l p t s h =
     let kept = tasks_keep l p t (words_of xs) s k h.may in
     record {
       state = kept.state;
-      deeds = (ran l p k (start (script l p t) (words_of xs))).deeds;
+      deeds = (run_steps l p k (start (script l p t) (words_of xs))).deeds;
       legal = kept.legal;
       size = ap length same ∙ a.size_is;
       shape = subst (λ w. Shape l p w kept.state) (a.words_is ∙ ap words_of (sym same)) kept.shape;
@@ -205,7 +205,7 @@ answered_at e xs f ys reply ended r l p t s h =
     let a = agrees l p e xs t s k h in
     let m = added_by l t p (words_of xs) in
     let g = stood l p t (words_of xs) s k h.may in
-    let x : Run Reply = ran l p k (start (script l p t) (words_of xs)) in
+    let x : ScriptRun Reply = run_steps l p k (start (script l p t) (words_of xs)) in
     let left : x.left ≡ Done reply = a.left_is ∙ (r.left_is ∙ ended) in
     let words : x.words ≡ words_of ys = a.words_is ∙ ap words_of r.words_is in
     let safe : Safe l p m s (Done reply) (words_of ys) g.0 = subst (λ z. Safe l p m s z (words_of ys) g.0) left (subst (λ u. Safe l p m s x.left u g.0) words g.2) in

@@ -1,6 +1,6 @@
 -- Safety of a script, put by put.
 use Rattle.std.proofs.Common.{◌≡◌, ℕ, ◌+◌, ◌<◌, ◌≤◌, List, [], ◌∷◌, ◌++◌, length, refl, sym, ◌∙◌, subst, arith}
-use Rattle.redomail.proofs.Common.{put, Layout, Message, Reply, row, Words, held, IsLayout, size, Mailbox, Safe, Seen, Put, puts, Script, in_row, Get}
+use Rattle.redomail.proofs.Common.{put, Layout, Message, Reply, row, Words, saturate, IsLayout, size, Mailbox, Safe, Seen, Put, puts, Script, in_row, Get}
 use Rattle.redomail.proofs.Leading.{no_deed}
 use Rattle.redomail.proofs.Scripts.{held-small}
 use Rattle.redomail.proofs.Words.{put-other, put-same, put-nothing, place_small, deeds_of_put-none}
@@ -23,7 +23,7 @@ module _ (l : Layout) (p : ℕ) (m : Message) (s0 : Mailbox) where
   same_row i [] ys e w s layout low high stands h = h
   same_row i (v ∷ vs) ys e w s layout low high stands h =
       let small = size_small l layout in
-      let same : held i ≡ i = held-small i (omega arith) in
+      let same : saturate i ≡ i = held-small i (omega arith) in
       let here : w i ≡ v = cc in
       let next : row w (i + 1) (length vs) ≡ vs = cc in
       let rest = same_row (i + 1) vs ys e w s layout (omega arith) (omega arith) next h in
@@ -40,7 +40,7 @@ module _ (l : Layout) (p : ℕ) (m : Message) (s0 : Mailbox) where
   row_of Known low high s layout above below look keep i [] ys e w a b known go = go w known refl (λ j _. refl)
   row_of Known low high s layout above below look keep i (x ∷ vs) ys e w a b known go =
       let small = size_small l layout in
-      let same : held i ≡ i = held-small i (omega arith) in
+      let same : saturate i ≡ i = held-small i (omega arith) in
       let rest = row_of Known low high s layout above below look keep (i + 1) vs ys e (put w i x) (omega arith) (omega arith)
       (keep w i x a (omega arith) known)
       (λ v kv stands alike.

@@ -1,15 +1,15 @@
 -- Puts and gets in a row, after some of their steps.
 use Rattle.std.proofs.Common.{◌≡◌, ℕ, zero, suc, ◌+◌, ◌-◌, ◌*◌, ◌<◌, ◌≤◌, List, [], ◌∷◌, ◌++◌, length, take, drop, slice_index, slice_set, refl, sym, ◌∙◌, ap, arith, length-append}
-use Rattle.redomail.proofs.Common.{Layout, Record, Reply, held, last_at, place_at, puts, Script, gets, in_row, tail, apply_steps, store_steps}
+use Rattle.redomail.proofs.Common.{Layout, Record, Reply, saturate, last_at, place_at, puts, Script, gets, in_row, tail, apply_steps, store_steps}
 use Rattle.std.proofs.lemmas.List.{take_more_set}
 
 abbrev Puts : Type 0
 Puts = List (ℕ × ℕ)
 
-pub held-small : (x : ℕ) → x ≤ 1000000 → held x ≡ x
+pub held-small : (x : ℕ) → x ≤ 1000000 → saturate x ≡ x
 held-small x h = omega arith
 
-drop-in_row : (i : ℕ) (vs : List ℕ) (ys : List (ℕ × ℕ)) (j : ℕ) → j < length vs → drop j (in_row i vs ++ ys) ≡ (held (i + j), slice_index vs j) ∷ drop (j + 1) (in_row i vs ++ ys)
+drop-in_row : (i : ℕ) (vs : List ℕ) (ys : List (ℕ × ℕ)) (j : ℕ) → j < length vs → drop j (in_row i vs ++ ys) ≡ (saturate (i + j), slice_index vs j) ∷ drop (j + 1) (in_row i vs ++ ys)
 drop-in_row i [] ys j h = absurd (omega arith)
 drop-in_row i (v ∷ vs) ys zero h =
     let e : i + 0 ≡ i = omega arith in rw e refl
@@ -36,37 +36,37 @@ module _ (l : Layout) (p : ℕ) (r : Record) where
   past_commit : (k j : ℕ) → k ≡ 3 + length r.value + j → drop k (store_steps l p r) ≡ drop j (apply_steps l p r)
   past_commit k j h = past_record k (suc j) (omega arith)
 
-  past_entry : (k j : ℕ) → k ≡ 5 + 2 * length r.value + j → drop k (store_steps l p r) ≡ drop j ((last_at l p, r.seq) ∷ (2, held (r.at + 1)) ∷ (3, 0) ∷ [])
+  past_entry : (k j : ℕ) → k ≡ 5 + 2 * length r.value + j → drop k (store_steps l p r) ≡ drop j ((last_at l p, r.seq) ∷ (2, saturate (r.at + 1)) ∷ (3, 0) ∷ [])
   past_entry k j h =
       past_commit k (2 + length r.value + j) (omega arith)
-      ∙ drop-past_row (place_at l r.at) (p ∷ r.seq ∷ r.value) ((last_at l p, r.seq) ∷ (2, held (r.at + 1)) ∷ (3, 0) ∷ []) (2 + length r.value + j) j (omega arith)
+      ∙ drop-past_row (place_at l r.at) (p ∷ r.seq ∷ r.value) ((last_at l p, r.seq) ∷ (2, saturate (r.at + 1)) ∷ (3, 0) ∷ []) (2 + length r.value + j) j (omega arith)
 
   pub step-record : (k : ℕ) → length r.value ≤ 8 → k < 2 + length r.value → drop k (store_steps l p r) ≡ (4 + k, slice_index (r.at ∷ r.seq ∷ r.value) k) ∷ drop (k + 1) (store_steps l p r)
   step-record k small h =
-      let e : held (4 + k) ≡ 4 + k = held-small (4 + k) (omega arith) in
+      let e : saturate (4 + k) ≡ 4 + k = held-small (4 + k) (omega arith) in
       drop-in_row 4 (r.at ∷ r.seq ∷ r.value) ((3, 1) ∷ apply_steps l p r) k (omega arith) ∙ rw e refl
 
   pub step-commit : (k : ℕ) → k ≡ 2 + length r.value → drop k (store_steps l p r) ≡ (3, 1) ∷ drop (k + 1) (store_steps l p r)
   step-commit k h = past_record k 0 (omega arith) ∙ ap (λ xs. (3, 1) ∷ xs) (sym (past_record (k + 1) 1 (omega arith)))
 
-  pub step-entry : (k j : ℕ) → k ≡ 3 + length r.value + j → j < 2 + length r.value → drop k (store_steps l p r) ≡ (held (place_at l r.at + j), slice_index (p ∷ r.seq ∷ r.value) j) ∷ drop (k + 1) (store_steps l p r)
+  pub step-entry : (k j : ℕ) → k ≡ 3 + length r.value + j → j < 2 + length r.value → drop k (store_steps l p r) ≡ (saturate (place_at l r.at + j), slice_index (p ∷ r.seq ∷ r.value) j) ∷ drop (k + 1) (store_steps l p r)
   step-entry k j h small =
       past_commit k j h
-      ∙ (drop-in_row (place_at l r.at) (p ∷ r.seq ∷ r.value) ((last_at l p, r.seq) ∷ (2, held (r.at + 1)) ∷ (3, 0) ∷ []) j (omega arith)
-      ∙ ap (λ xs. (held (place_at l r.at + j), slice_index (p ∷ r.seq ∷ r.value) j) ∷ xs) (sym (past_commit (k + 1) (j + 1) (omega arith))))
+      ∙ (drop-in_row (place_at l r.at) (p ∷ r.seq ∷ r.value) ((last_at l p, r.seq) ∷ (2, saturate (r.at + 1)) ∷ (3, 0) ∷ []) j (omega arith)
+      ∙ ap (λ xs. (saturate (place_at l r.at + j), slice_index (p ∷ r.seq ∷ r.value) j) ∷ xs) (sym (past_commit (k + 1) (j + 1) (omega arith))))
 
   pub step-last : (k : ℕ) → k ≡ 5 + 2 * length r.value → drop k (store_steps l p r) ≡ (last_at l p, r.seq) ∷ drop (k + 1) (store_steps l p r)
   step-last k h = past_entry k 0 (omega arith) ∙ ap (λ xs. (last_at l p, r.seq) ∷ xs) (sym (past_entry (k + 1) 1 (omega arith)))
 
-  pub step-count : (k : ℕ) → k ≡ 6 + 2 * length r.value → drop k (store_steps l p r) ≡ (2, held (r.at + 1)) ∷ drop (k + 1) (store_steps l p r)
-  step-count k h = past_entry k 1 (omega arith) ∙ ap (λ xs. (2, held (r.at + 1)) ∷ xs) (sym (past_entry (k + 1) 2 (omega arith)))
+  pub step-count : (k : ℕ) → k ≡ 6 + 2 * length r.value → drop k (store_steps l p r) ≡ (2, saturate (r.at + 1)) ∷ drop (k + 1) (store_steps l p r)
+  step-count k h = past_entry k 1 (omega arith) ∙ ap (λ xs. (2, saturate (r.at + 1)) ∷ xs) (sym (past_entry (k + 1) 2 (omega arith)))
 
   pub step-disarm : (k : ℕ) → k ≡ 7 + 2 * length r.value → drop k (store_steps l p r) ≡ (3, 0) ∷ drop (k + 1) (store_steps l p r)
   step-disarm k h = past_entry k 2 (omega arith) ∙ ap (λ xs. (3, 0) ∷ xs) (sym (past_entry (k + 1) 3 (omega arith)))
 
   pub length-store_steps : length (store_steps l p r) ≡ 8 + 2 * length r.value
   length-store_steps =
-      let tail3 : Puts = (last_at l p, r.seq) ∷ (2, held (r.at + 1)) ∷ (3, 0) ∷ [] in
+      let tail3 : Puts = (last_at l p, r.seq) ∷ (2, saturate (r.at + 1)) ∷ (3, 0) ∷ [] in
       omega (
         arith,
         length-append (in_row 4 (r.at ∷ r.seq ∷ r.value)) ((3, 1) ∷ apply_steps l p r),

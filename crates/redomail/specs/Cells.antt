@@ -7,11 +7,11 @@ use Rattle.redomail.specs.Leads.{MailLeads}
 use Rattle.redomail.specs.declared.layout.Layout.{Layout}
 use Rattle.redomail.specs.declared.task.Task.{Task}
 use Rattle.redomail.specs.declared.reply.Reply.{Reply}
-use Rattle.redomail.specs.Layout.{words_of, size, held}
+use Rattle.redomail.specs.Layout.{words_of, size, saturate}
 use Rattle.redomail.specs.Script.{Script, Get, Put, Done}
 use Rattle.redomail.specs.Tasks.{script}
 use Rattle.redomail.specs.Shape.{Shape}
-use Rattle.redomail.specs.Replies.{Tells, Disarms}
+use Rattle.redomail.specs.Replies.{ReplyMeans, Disarms}
 use Rattle.redomail.specs.Safe.{Added}
 use Rattle.redomail.specs.Runs.{MayBegin, added_by}
 
@@ -43,7 +43,7 @@ IsOnWay e old new = (k : ℕ) × (new ≡ (steps_over k e old).1)
 
 -- A call stopped after k of the script's steps, each of which was one call. The words are those after these steps.
 abbrev pub StopsAfter : {A : Type 0} → Script A → List ℕ → List ℕ → ℕ → ℕ → Type 0
-StopsAfter e old new before now = (k : ℕ) × (k < steps_left e old) × (new ≡ (steps_over k e old).1) × (now ≡ held (before + k + 1))
+StopsAfter e old new before now = (k : ℕ) × (k < steps_left e old) × (new ≡ (steps_over k e old).1) × (now ≡ saturate (before + k + 1))
 
 -- The script is this task of p, and p may begin it on these words.
 pub record Ready (l : Layout) (p : ℕ) (e : Script Reply) (xs : List ℕ) (t : Task) (s : Mailbox) : Type 0 where
@@ -72,7 +72,7 @@ pub record Answered (l : Layout) (p : ℕ) (m : Message) (s : Mailbox) (reply : 
   pub legal : MailLeads l.cap s deeds state
   pub shape : Shape l p (words_of xs) state
   pub disarmed : Disarms reply (words_of xs)
-  pub tells : Tells l p m s reply state
+  pub tells : ReplyMeans l p m s reply state
 
 -- the meaning of any task's reply, whichever mailbox the words had at its beginning
 abbrev pub TaskAnswered : Script Reply → List ℕ → Reply → List ℕ → Type 0

@@ -8,15 +8,15 @@ use Rattle.redomail.specs.declared.reply.Reply.TheVariants.{ClosedNow, Word, Rui
 use Rattle.redomail.specs.declared.reply.Reply.TheVariants as reply
 use Rattle.redomail.specs.Layout.{board_at, last_at}
 use Rattle.redomail.specs.Script.{Script, Get, Put, Done, puts, gets}
-use Rattle.redomail.specs.Tasks.{store_steps, decided, append, repair, consistent, redo, close}
+use Rattle.redomail.specs.Tasks.{store_steps, append_decision, append, repair, consistent, redo, close}
 
 -- the script that a stage leaves
 abbrev pub left_at : Layout → ℕ → JobStage → Script Reply
 left_at l p (stage.AskClosed seq value) = append l p seq value
 left_at l p (stage.AskCount seq value closed) =
-    Get 2 (λ count. Get (last_at l p) (λ last. decided l p seq value closed count last))
+    Get 2 (λ count. Get (last_at l p) (λ last. append_decision l p seq value closed count last))
 left_at l p (stage.AskLast seq value closed count) =
-    Get (last_at l p) (λ last. decided l p seq value closed count last)
+    Get (last_at l p) (λ last. append_decision l p seq value closed count last)
 left_at l p stage.AskUsable = consistent l p
 left_at l p stage.AskArmed = repair l p
 left_at l p stage.AskAt = Get 4 (λ at. Get 5 (λ seq. gets 6 l.width [] (redo l p at seq)))

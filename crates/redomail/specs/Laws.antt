@@ -16,11 +16,11 @@ use Rattle.redomail.specs.Deeds.{deeds_of_put}
 use Rattle.redomail.specs.Layout.{Words, words_of, row, size, IsLayout}
 use Rattle.redomail.specs.Script.{Script, Done}
 use Rattle.redomail.specs.Tasks.{script, consistent, apply_steps, repair}
-use Rattle.redomail.specs.Shape.{Shape, RecordRule, entry, entries, recorded, count_of, IsNumbered, mailbox_of}
+use Rattle.redomail.specs.Shape.{Shape, RecordRule, entry, entries, recorded_message, count_of, IsNumbered, mailbox_of}
 use Rattle.redomail.specs.Content.{IsContent}
-use Rattle.redomail.specs.Safe.{Seen, Goes, Safe}
+use Rattle.redomail.specs.Safe.{Seen, DeedsLeadTo, Safe}
 use Rattle.redomail.specs.Endings.{FindsArmed, ruined_after, armed_after}
-use Rattle.redomail.specs.Runs.{stepped_to, ran, start, final, answer, steps, steps_of, written, added_by, FitsTask, MayBegin, Kept}
+use Rattle.redomail.specs.Runs.{stepped_to, run_steps, start, final, answer, steps, steps_of, words_after_puts, added_by, FitsTask, MayBegin, IsTaskUnderWay}
 
 -- Each task that may begin is a safe script.
 abbrev pub TasksAreSafe : Type 0
@@ -30,7 +30,7 @@ TasksAreSafe =
 -- `consistent` is a safe script whenever a process is inside.
 abbrev pub ConsistentIsSafe : Type 0
 ConsistentIsSafe =
-    (l : Layout) (p : ℕ) (w : Words) (s : Mailbox) → IsLayout l → p < l.procs → Shape l p w s → Safe l p (recorded l p w) s (consistent l p) w s
+    (l : Layout) (p : ℕ) (w : Words) (s : Mailbox) → IsLayout l → p < l.procs → Shape l p w s → Safe l p (recorded_message l p w) s (consistent l p) w s
 
 -- While a safe script runs, the words have the shape.
 abbrev pub SafeIsSeen : Type 0
@@ -41,7 +41,7 @@ SafeIsSeen =
 abbrev pub StepsStaySafe : Type 0
 StepsStaySafe =
     (l : Layout) (p : ℕ) (m : Message) (old : Mailbox) (e : Script Reply) (w : Words) (now : Mailbox) → Safe l p m old e w now
-    → let x = stepped_to l p e w [] in Goes l now x.deeds (Safe l p m old x.left x.words)
+    → let x = stepped_to l p e w [] in DeedsLeadTo l now x.deeds (Safe l p m old x.left x.words)
 
 -- A put's deeds are deeds of the mailbox, by the process that puts.
 abbrev pub PutsAreOwn : Type 0
@@ -51,7 +51,7 @@ PutsAreOwn = (l : Layout) (p : ℕ) (w : Words) (i v : ℕ) → AreOwn p (deeds_
 abbrev pub TasksKeep : Type 0
 TasksKeep =
     (l : Layout) (p : ℕ) (t : Task) (w : Words) (s : Mailbox) (k : ℕ) → MayBegin l p t w s
-    → Kept l p (added_by l t p w) s (ran l p k (start (script l p t) w))
+    → IsTaskUnderWay l p (added_by l t p w) s (run_steps l p k (start (script l p t) w))
 
 -- No deed removes a message that is shown.
 abbrev pub ShownGrows : Type 0
@@ -69,7 +69,7 @@ ShownEntriesStand =
 abbrev pub EntriesStand : Type 0
 EntriesStand =
     (l : Layout) (p : ℕ) (t : Task) (w : Words) (s : Mailbox) (k : ℕ) → MayBegin l p t w s
-    → let v = (ran l p k (start (script l p t) w)).words in
+    → let v = (run_steps l p k (start (script l p t) w)).words in
     (w 2 ≤ v 2) × ((a : ℕ) → a < w 2 → entry l v a ≡ entry l w a)
 
 -- A repair that begins after some of the apply steps of the armed record ends with the words after all of them.
@@ -77,11 +77,11 @@ abbrev pub RepairCompletes : Type 0
 RepairCompletes =
     (l : Layout) (p : ℕ) (r : Record) (w : Words) (j : ℕ) → IsLayout l → p < l.procs → r.at < l.cap
     → w 3 ≡ 1 → w 4 ≡ r.at → w 5 ≡ r.seq → row w 6 l.width ≡ r.value
-    → (i : ℕ) → final (repair l p) (written (take j (apply_steps l p r)) w) i ≡ written (apply_steps l p r) w i
+    → (i : ℕ) → final (repair l p) (words_after_puts (take j (apply_steps l p r)) w) i ≡ words_after_puts (apply_steps l p r) w i
 
 -- "Tasks": the number of steps of each task, for any words.
-abbrev pub StepsTold : Type 0
-StepsTold =
+abbrev pub RepliesHaveTheirSteps : Type 0
+RepliesHaveTheirSteps =
     (l : Layout) (p : ℕ) (t : Task) (w : Words) → FitsTask l t → steps (script l p t) w ≡ steps_of l t (answer (script l p t) w)
 
 -- the number of steps of a `consistent` with this reply
@@ -91,8 +91,8 @@ consistent_steps l (Mended false) = 2
 consistent_steps l _ = 1
 
 -- `consistent`: its number of steps, and its reply. A ruined lock is reported, else whether a record was armed.
-abbrev pub ConsistentTold : Type 0
-ConsistentTold =
+abbrev pub MendingHasItsSteps : Type 0
+MendingHasItsSteps =
     (l : Layout) (p : ℕ) (w : Words)
     → (steps (consistent l p) w ≡ consistent_steps l (answer (consistent l p) w))
     × (answer (consistent l p) w ≡ (if w 0 == 1 then Ruined true else Mended (not (w 3 == 0))))

@@ -16,17 +16,17 @@ pub record Pending : Type 0 where
   pub stage : JobStage
 
 -- the rest of its script
-abbrev pub left : Pending → Script Reply
-left job = left_at job.layout job.sender job.stage
+abbrev pub script_left : Pending → Script Reply
+script_left job = left_at job.layout job.sender job.stage
 
 -- a task at its first step
-abbrev pub begun : Layout → ℕ → Task → Pending
-begun l p t = record { layout = l; sender = p; stage = first_stage t }
+abbrev pub pending_task : Layout → ℕ → Task → Pending
+pending_task l p t = record { layout = l; sender = p; stage = first_stage t }
 
 -- the call consistent at its first step
 abbrev pub mending : Layout → ℕ → Pending
 mending l p = record { layout = l; sender = p; stage = AskUsable }
 
 -- the job after a step with this word
-abbrev pub fed : Pending → ℕ → Pending
-fed job word = record job { stage = stage_after job.layout job.stage word }
+abbrev pub job_after_word : Pending → ℕ → Pending
+job_after_word job word = record job { stage = stage_after job.layout job.stage word }

@@ -64,9 +64,9 @@ row cap inside m (Close p) = (inside, NotInside) ∷ (is_none m.pending, MailOrd
 row cap inside m (Ruin p) = (inside, NotInside) ∷ (not m.ruined, MailOrder) ∷ []
 
 -- the effect of a deed ("does" in the judge table)
-abbrev pub done : Mailbox → Deed → Mailbox
-done m (Outer d) = m
-done m (Commit p seq v) = record m { pending = Some (message p seq v) }
-done m (Show p at seq v) = record m { shown = m.shown ++ message p seq v ∷ []; pending = None }
-done m (Close p) = record m { closed = true }
-done m (Ruin p) = record m { ruined = true }
+abbrev pub mailbox_after : Mailbox → Deed → Mailbox
+mailbox_after m (Outer d) = m
+mailbox_after m (Commit p seq v) = record m { pending = Some (message p seq v) }
+mailbox_after m (Show p at seq v) = record m { shown = m.shown ++ message p seq v ∷ []; pending = None }
+mailbox_after m (Close p) = record m { closed = true }
+mailbox_after m (Ruin p) = record m { ruined = true }

@@ -18,8 +18,8 @@ is_other_width width (task.Append seq value) = not (length value == width)
 is_other_width width _ = false
 
 -- the refusal of a task of p, if any
-abbrev pub refused : Layout → ℕ → Task → Option Refusal
-refused l p t =
+abbrev pub task_refusal : Layout → ℕ → Task → Option Refusal
+task_refusal l p t =
     if l.procs == 0 || nat_lt 64 l.procs then Some BadProcs
     else if l.cap == 0 || nat_lt 65536 l.cap then Some BadCap
     else if nat_le l.procs p then Some NoSuchProcess

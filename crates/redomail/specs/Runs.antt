@@ -13,31 +13,31 @@ use Rattle.redomail.specs.declared.reply.Reply.TheVariants.{Stored, ClosedNow, M
 use Rattle.redomail.specs.Layout.{Words, IsLayout}
 use Rattle.redomail.specs.Deeds.{deeds_of_put}
 use Rattle.redomail.specs.Script.{Script, Get, Put, Done}
-use Rattle.redomail.specs.Safe.{Added, Goes, Safe}
-use Rattle.redomail.specs.Shape.{Shape, recorded}
+use Rattle.redomail.specs.Safe.{Added, DeedsLeadTo, Safe}
+use Rattle.redomail.specs.Shape.{Shape, recorded_message}
 
 -- A script in progress: the rest of it, the words, and the deeds of its puts so far.
-pub record Run (A : Type 0) : Type 0 where
+pub record ScriptRun (A : Type 0) : Type 0 where
   pub left : Script A
   pub words : Words
   pub deeds : List Deed
 
 -- one step, and k steps
-abbrev pub stepped_to : {A : Type 0} → Layout → ℕ → Script A → Words → List Deed → Run A
+abbrev pub stepped_to : {A : Type 0} → Layout → ℕ → Script A → Words → List Deed → ScriptRun A
 stepped_to l p (Get i next) w ds = record { left = next (w i); words = w; deeds = ds }
 stepped_to l p (Put i v rest) w ds =
     record { left = rest; words = put w i v; deeds = ds ++ deeds_of_put l p w i v }
 stepped_to l p (Done a) w ds = record { left = Done a; words = w; deeds = ds }
 
-abbrev pub stepped : {A : Type 0} → Layout → ℕ → Run A → Run A
-stepped l p x = stepped_to l p x.left x.words x.deeds
+abbrev pub run_step : {A : Type 0} → Layout → ℕ → ScriptRun A → ScriptRun A
+run_step l p x = stepped_to l p x.left x.words x.deeds
 
-abbrev pub ran : {A : Type 0} → Layout → ℕ → ℕ → Run A → Run A
-ran l p zero x = x
-ran l p (suc k) x = stepped l p (ran l p k x)
+abbrev pub run_steps : {A : Type 0} → Layout → ℕ → ℕ → ScriptRun A → ScriptRun A
+run_steps l p zero x = x
+run_steps l p (suc k) x = run_step l p (run_steps l p k x)
 
 -- the beginning of a script's run
-abbrev pub start : {A : Type 0} → Script A → Words → Run A
+abbrev pub start : {A : Type 0} → Script A → Words → ScriptRun A
 start left w = record { left = left; words = w; deeds = [] }
 
 -- the word passed to a script: after a get the word that was read, after a put any
@@ -50,7 +50,7 @@ IsGiven _ w x = Unit {0}
 abbrev pub StepKept : Script Reply → ℕ → Script Reply → Type 0
 StepKept e x rest =
     (l : Layout) (p : ℕ) (m : Message) (old : Mailbox) (w : Words) (now : Mailbox) → Safe l p m old e w now → IsGiven e w x
-    → let y = stepped_to l p e w [] in Goes l now y.deeds (Safe l p m old rest y.words)
+    → let y = stepped_to l p e w [] in DeedsLeadTo l now y.deeds (Safe l p m old rest y.words)
 
 -- the words at a script's end
 abbrev pub final : {A : Type 0} → Script A → Words → Words
@@ -67,7 +67,7 @@ steps (Done a) w = 0
 -- the message that a task may add: its own, or the record's
 abbrev pub added_by : Layout → Task → ℕ → Words → Message
 added_by l (task.Append seq value) p w = message p seq value
-added_by l _ p w = recorded l p w
+added_by l _ p w = recorded_message l p w
 
 -- the value of an append has the layout's width
 abbrev pub FitsTask : Layout → Task → Type 0
@@ -93,16 +93,16 @@ pub record MayBegin (l : Layout) (p : ℕ) (t : Task) (w : Words) (s : Mailbox) 
 
 -- After some steps of a task: the deeds of its puts are allowed and lead to the mailbox of the words. It shows the messages
 -- from before, or these and m.
-pub record Kept (l : Layout) (p : ℕ) (m : Message) (s : Mailbox) (x : Run Reply) : Type 0 where
+pub record IsTaskUnderWay (l : Layout) (p : ℕ) (m : Message) (s : Mailbox) (x : ScriptRun Reply) : Type 0 where
   pub state : Mailbox
   pub legal : MailLeads l.cap s x.deeds state
   pub shape : Shape l p x.words state
   pub shown : Added m s state
 
 -- the words after these puts
-abbrev pub written : List (ℕ × ℕ) → Words → Words
-written [] w = w
-written (x ∷ xs) w = written xs (put w x.0 x.1)
+abbrev pub words_after_puts : List (ℕ × ℕ) → Words → Words
+words_after_puts [] w = w
+words_after_puts (x ∷ xs) w = words_after_puts xs (put w x.0 x.1)
 
 -- the reply at a script's end
 abbrev pub answer : {A : Type 0} → Script A → Words → A

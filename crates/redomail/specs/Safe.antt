@@ -12,7 +12,7 @@ use Rattle.redomail.specs.Layout.{Words, size}
 use Rattle.redomail.specs.Script.{Script, Get, Put, Done}
 use Rattle.redomail.specs.Shape.{Shape}
 use Rattle.redomail.specs.Deeds.{deeds_of_put}
-use Rattle.redomail.specs.Replies.{Tells, Disarms}
+use Rattle.redomail.specs.Replies.{ReplyMeans, Disarms}
 
 -- the messages shown are those from before, or these and m
 abbrev pub Added : Message → Mailbox → Mailbox → Type 0
@@ -23,8 +23,8 @@ abbrev pub Seen : Layout → ℕ → Message → Mailbox → Words → Mailbox �
 Seen l p m old w now = Shape l p w now × Added m old now
 
 -- these deeds are allowed, and lead to a mailbox with this property
-abbrev pub Goes : Layout → Mailbox → List Deed → (Mailbox → Type 0) → Type 0
-Goes l now deeds Stands = (then : Mailbox) × MailLeads l.cap now deeds then × Stands then
+abbrev pub DeedsLeadTo : Layout → Mailbox → List Deed → (Mailbox → Type 0) → Type 0
+DeedsLeadTo l now deeds Stands = (then : Mailbox) × MailLeads l.cap now deeds then × Stands then
 
 -- The script is safe for p over words of the mailbox `now`. It began with the mailbox `old`, and m is the message that it
 -- may add. Before each step the words have the shape. Each put is within the words, and its deeds are allowed and lead to
@@ -32,5 +32,5 @@ Goes l now deeds Stands = (then : Mailbox) × MailLeads l.cap now deeds then × 
 abbrev pub Safe : Layout → ℕ → Message → Mailbox → Script Reply → Words → Mailbox → Type 0
 Safe l p m old (Get i next) w now = Seen l p m old w now × Safe l p m old (next (w i)) w now
 Safe l p m old (Put i v rest) w now =
-    Seen l p m old w now × (i < size l) × Goes l now (deeds_of_put l p w i v) (Safe l p m old rest (put w i v))
-Safe l p m old (Done reply) w now = Seen l p m old w now × Tells l p m old reply now × Disarms reply w
+    Seen l p m old w now × (i < size l) × DeedsLeadTo l now (deeds_of_put l p w i v) (Safe l p m old rest (put w i v))
+Safe l p m old (Done reply) w now = Seen l p m old w now × ReplyMeans l p m old reply now × Disarms reply w

@@ -3,7 +3,7 @@ use Rattle.std.specs.Prelude.{ℕ, zero, suc, ◌+◌, List, [], ◌∷◌, ◌+
 use Rattle.redomail.specs.declared.reply.Reply.{Reply}
 use Rattle.redomail.specs.declared.next.Next.{Next}
 use Rattle.redomail.specs.declared.next.Next.TheVariants as want
-use Rattle.redomail.specs.Layout.{held}
+use Rattle.redomail.specs.Layout.{saturate}
 
 -- Get this word and continue with its value, put that word and continue, or end with this reply.
 pub data Script (A : Type 0) : Type 0 where
@@ -36,7 +36,7 @@ puts (x ∷ xs) rest = Put x.0 x.1 (puts xs rest)
 -- the puts of these words at rising indexes
 abbrev pub in_row : ℕ → List ℕ → List (ℕ × ℕ)
 in_row i [] = []
-in_row i (v ∷ vs) = (held i, v) ∷ in_row (i + 1) vs
+in_row i (v ∷ vs) = (saturate i, v) ∷ in_row (i + 1) vs
 
 -- Gets of n words at rising indexes. The words read before come first.
 abbrev pub gets : {A : Type 0} → ℕ → ℕ → List ℕ → (List ℕ → Script A) → Script A

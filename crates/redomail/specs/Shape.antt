@@ -29,8 +29,8 @@ pub record ListRule (l : Layout) (w : Words) (k : ℕ) : Type 0 where
   pub counted : (q : ℕ) → q < l.procs → w (last_at l q) ≡ count_of q (entries l w k)
 
 -- the record's message, with sender p
-abbrev pub recorded : Layout → ℕ → Words → Message
-recorded l p w = message p (w 5) (row w 6 l.width)
+abbrev pub recorded_message : Layout → ℕ → Words → Message
+recorded_message l p w = message p (w 5) (row w 6 l.width)
 
 -- "Record rule", case (a), not shown yet: the record has the number after those of p's entries. p's last number is the one
 -- before, or the record's where the entry is written already.
@@ -39,13 +39,13 @@ pub record Unshown (l : Layout) (p : ℕ) (w : Words) : Type 0 where
   pub numbered : IsNumbered l w (w 2)
   pub others : (q : ℕ) → q < l.procs → q ≢ p → w (last_at l q) ≡ count_of q (entries l w (w 2))
   pub next : w 5 ≡ count_of p (entries l w (w 2)) + 1
-  pub last : (w (last_at l p) + 1 ≡ w 5) ⊎ ((w (last_at l p) ≡ w 5) × (entry l w (w 4) ≡ recorded l p w))
+  pub last : (w (last_at l p) + 1 ≡ w 5) ⊎ ((w (last_at l p) ≡ w 5) × (entry l w (w 4) ≡ recorded_message l p w))
 
 -- "Record rule", case (b), shown already.
 pub record Shown (l : Layout) (p : ℕ) (w : Words) : Type 0 where
   pub count : w 2 ≡ w 4 + 1
   pub listed : ListRule l w (w 2)
-  pub entry : entry l w (w 4) ≡ recorded l p w
+  pub entry : entry l w (w 4) ≡ recorded_message l p w
 
 -- "Record rule" for p.
 pub record RecordRule (l : Layout) (p : ℕ) (w : Words) : Type 0 where
@@ -58,7 +58,7 @@ bit b = cond b 1 0
 
 -- the pending message of the words: p's record, if it is armed and not shown
 abbrev pub pending_in : Layout → ℕ → Words → Option Message
-pending_in l p w = if (w 3 == 1) && (w 2 == w 4) then Some (recorded l p w) else None
+pending_in l p w = if (w 3 == 1) && (w 2 == w 4) then Some (recorded_message l p w) else None
 
 -- the mailbox that the words describe, with p inside
 abbrev pub mailbox_of : Layout → ℕ → Words → Mailbox

@@ -7,7 +7,7 @@ use Rattle.redomail.specs.declared.task.Task.TheVariants as task
 use Rattle.redomail.specs.declared.reply.Reply.TheVariants.{Stored, Already, OutOfOrder, Full, Closed, ClosedNow, AlreadyClosed, Mended, Word, Ruined}
 use Rattle.redomail.specs.declared.reply.Reply.TheVariants as reply
 use Rattle.redomail.specs.declared.record.Record.{Record}
-use Rattle.redomail.specs.Layout.{held, board_at, last_at, place_at}
+use Rattle.redomail.specs.Layout.{saturate, board_at, last_at, place_at}
 use Rattle.redomail.specs.Script.{Script, Get, Put, Done, puts, in_row, gets}
 
 abbrev pub record_of : ℕ → ℕ → List ℕ → Record
@@ -16,7 +16,7 @@ record_of at seq value = record { at = at; seq = seq; value = value }
 -- "Apply steps" of p's record: the entry, p's last number, count, and armed := 0.
 abbrev pub apply_steps : Layout → ℕ → Record → List (ℕ × ℕ)
 apply_steps l p r =
-    in_row (place_at l r.at) (p ∷ r.seq ∷ r.value) ++ (last_at l p, r.seq) ∷ (2, held (r.at + 1)) ∷ (3, 0) ∷ []
+    in_row (place_at l r.at) (p ∷ r.seq ∷ r.value) ++ (last_at l p, r.seq) ∷ (2, saturate (r.at + 1)) ∷ (3, 0) ∷ []
 
 -- Storing: the record, armed := 1 (the commit), the apply steps.
 abbrev pub store_steps : Layout → ℕ → Record → List (ℕ × ℕ)
@@ -38,14 +38,14 @@ unless_replied None left = left
 unless_replied (Some reply) left = Done reply
 
 -- "Append" after its three gets: what is left of it
-abbrev pub decided : Layout → ℕ → ℕ → List ℕ → ℕ → ℕ → ℕ → Script Reply
-decided l p seq value closed count last =
+abbrev pub append_decision : Layout → ℕ → ℕ → List ℕ → ℕ → ℕ → ℕ → Script Reply
+append_decision l p seq value closed count last =
     unless_replied (early_reply l.cap seq closed count last) (puts (store_steps l p (record_of count seq value)) (Done Stored))
 
 -- "Append": the three gets, then the first condition that holds
 abbrev pub append : Layout → ℕ → ℕ → List ℕ → Script Reply
 append l p seq value =
-    Get 1 (λ closed. Get 2 (λ count. Get (last_at l p) (λ last. decided l p seq value closed count last)))
+    Get 1 (λ closed. Get 2 (λ count. Get (last_at l p) (λ last. append_decision l p seq value closed count last)))
 
 -- the apply steps of a record that was read, and the reply
 abbrev pub redo : Layout → ℕ → ℕ → ℕ → List ℕ → Script Reply

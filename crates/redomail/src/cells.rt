@@ -1,9 +1,9 @@
 //! The data words as an interface whose calls may stop, and a task run over them.
 
 ghost use Rattle.std.specs.Prelude.{◌≡◌, ℕ, ◌+◌, List, slice_index, slice_set, IfOk, OnOk, OnErr};
-ghost use Rattle.redomail.specs.Layout.{held};
+ghost use Rattle.redomail.specs.Layout.{saturate};
 ghost use Rattle.redomail.specs.Cells.{outcome, steps_left, IsOnWay, StopsAfter, TaskKept, TaskAnswered};
-ghost use Rattle.redomail.specs.Left.{left};
+ghost use Rattle.redomail.specs.Left.{script_left};
 
 use crate::job::Job;
 use crate::next::Next;
@@ -31,32 +31,34 @@ pub trait Cells {
         ensures word { IfOk result (λ v. v ≡ slice_index (words self.old) i) }
         ensures same { words self.new ≡ words self.old }
         ensures calm { OnOk result (stops self.new ≡ stops self.old) }
-        ensures stopped { OnErr result (stops self.new ≡ held (stops self.old + 1)) }
-        ensures called { calls self.new ≡ held (calls self.old + 1) };
+        ensures stopped { OnErr result (stops self.new ≡ saturate (stops self.old + 1)) }
+        ensures called { calls self.new ≡ saturate (calls self.old + 1) };
 
     /// Stores a value into the word at an index. Past the end nothing changes.
     fn put(&mut self, i: u64, v: u64) -> Result<(), Stop>
         ensures word { OnOk result (words self.new ≡ slice_set (words self.old) i v) }
         ensures same { OnErr result (words self.new ≡ words self.old) }
         ensures calm { OnOk result (stops self.new ≡ stops self.old) }
-        ensures stopped { OnErr result (stops self.new ≡ held (stops self.old + 1)) }
-        ensures called { calls self.new ≡ held (calls self.old + 1) };
+        ensures stopped { OnErr result (stops self.new ≡ saturate (stops self.old + 1)) }
+        ensures called { calls self.new ≡ saturate (calls self.old + 1) };
 }
 
 /// Runs a task to its end, or up to a stop. Each `Next` of the job is one call of the cells. It does not allocate.
 pub fn run_task<C: Cells>(cells: &mut C, job: Job) -> Result<Reply, Stop>
     // A reply comes with the words at the script's end. A stop leaves the words after some of the script's steps.
-    ensures done { IfOk result (λ reply. outcome (left job) (C.words cells.old) ≡ (reply, C.words cells.new)) }
-    ensures on_way { IsOnWay (left job) (C.words cells.old) (C.words cells.new) }
+    ensures done { IfOk result (λ reply. outcome (script_left job) (C.words cells.old) ≡ (reply, C.words cells.new)) }
+    ensures on_way { IsOnWay (script_left job) (C.words cells.old) (C.words cells.new) }
     ensures calm { OnOk result (C.stops cells.new ≡ C.stops cells.old) }
-    ensures stopped { OnErr result (C.stops cells.new ≡ held (C.stops cells.old + 1)) }
+    ensures stopped { OnErr result (C.stops cells.new ≡ saturate (C.stops cells.old + 1)) }
     // Each step is one call: as many as the task has, or those up to the one that stopped.
-    ensures counted { OnOk result (held (C.calls cells.new) ≡ held (C.calls cells.old + steps_left (left job) (C.words cells.old))) }
-    ensures cut { OnErr result (StopsAfter (left job) (C.words cells.old) (C.words cells.new) (C.calls cells.old) (C.calls cells.new)) }
+    ensures counted { OnOk result (saturate (C.calls cells.new)
+        ≡ saturate (C.calls cells.old + steps_left (script_left job) (C.words cells.old))) }
+    ensures cut { OnErr result (StopsAfter (script_left job) (C.words cells.old) (C.words cells.new) (C.calls cells.old)
+        (C.calls cells.new)) }
 
     // The mailbox is kept, also by a stop. The reply says what changed in it.
-    ensures kept { TaskKept (left job) (C.words cells.old) (C.words cells.new) }
-    ensures answered { IfOk result (λ reply. TaskAnswered (left job) (C.words cells.old) reply (C.words cells.new)) }
+    ensures kept { TaskKept (script_left job) (C.words cells.old) (C.words cells.new) }
+    ensures answered { IfOk result (λ reply. TaskAnswered (script_left job) (C.words cells.old) reply (C.words cells.new)) }
 {
     let mut job = job;
     loop {

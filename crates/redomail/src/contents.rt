@@ -2,7 +2,7 @@
 
 ghost use Rattle.std.specs.Prelude.{◌≡◌, ℕ, ◌+◌, ◌-◌, ◌<◌, ◌≤◌, ◌^◌, ◌↔◌, ◌⊎◌, IsTrue, IfOk, OnOk, OnErr, IfErr, IsErrOf, IfSome, IsSome, IsNone, IfNone, MatchOption, length, slice_index, slice_set};
 ghost use Rattle.redomail.specs.Layout.{words_of, row, last_at, place_at};
-ghost use Rattle.redomail.specs.Shape.{entry as entry_of, entries, count_of, recorded, IsNumbered, RecordRule};
+ghost use Rattle.redomail.specs.Shape.{entry as entry_of, entries, count_of, recorded_message, IsNumbered, RecordRule};
 ghost use Rattle.redomail.specs.Content.{HeadsHold, EntriesHold, IsContent, AreCounts, LastsAre};
 ghost use Rattle.redomail.specs.Content.{IsNumberedIn, AreCountsFrom, AreLastsFrom, IsListedIn, IsListedBut, IsNext};
 
@@ -31,7 +31,7 @@ pub fn content<A: Allocator>(
     if !heads_hold(layout, words) || !entries_hold(layout, words) {
         return Err(Refusal::BadShape);
     }
-    Ok(shown(alloc, layout, words)?)
+    Ok(messages_below(alloc, layout, words)?)
 }
 
 /// Whether the entries and the record keep their rules.
@@ -126,7 +126,7 @@ fn entry(layout: Layout, words: &[u64], a: u64) -> Message
 }
 
 /// The messages of the entries below count.
-fn shown<A: Allocator>(
+fn messages_below<A: Allocator>(
     alloc: A,
     layout: Layout,
     words: &[u64],
@@ -252,7 +252,7 @@ fn is_recorded(layout: Layout, words: &[u64], p: u64) -> bool
     requires heads { HeadsHold layout words.now }
     requires room { slice_index words.now 4 < layout.cap }
     ensures { IsTrue result
-        ↔ (entry_of layout (words_of words.now) (slice_index words.now 4) ≡ recorded layout p (words_of words.now)) }
+        ↔ (entry_of layout (words_of words.now) (slice_index words.now 4) ≡ recorded_message layout p (words_of words.now)) }
 {
     let at = place(layout, words, word(words, RECORD));
     word(words, at) == p
@@ -271,7 +271,7 @@ pub fn has_record(layout: Layout, words: &[u64], counts: &[u64], p: u64) -> bool
     lasts_are(layout, words, counts, p) && fits_record(layout, words, counts[p as usize], p)
 }
 
-/// Whether the record rule holds for p, where the list rule holds for all others. `counted` is the number of p's entries.
+/// Whether the record rule holds for p, where the list rule holds for all others. `entry_count` is the number of p's entries.
 #[tactic(auto, using(crate::proofs::Words::place_low))]
 fn fits_record(layout: Layout, words: &[u64], counted: u64, p: u64) -> bool
     requires heads { HeadsHold layout words.now }
@@ -297,7 +297,7 @@ fn fits_record(layout: Layout, words: &[u64], counted: u64, p: u64) -> bool
 }
 
 /// The number of p's entries below count.
-fn counted(layout: Layout, words: &[u64], p: u64) -> u64
+fn entry_count(layout: Layout, words: &[u64], p: u64) -> u64
     requires { HeadsHold layout words.now }
     ensures { result ≡ count_of p (entries layout (words_of words.now) (slice_index words.now 2)) }
 {
@@ -317,7 +317,7 @@ fn keeps_record(layout: Layout, words: &[u64], p: u64) -> bool
 {
     p < layout.procs
         && are_listed(layout, words, p)
-        && fits_record(layout, words, counted(layout, words, p), p)
+        && fits_record(layout, words, entry_count(layout, words, p), p)
 }
 
 /// A process whose last number is the one before the record's.

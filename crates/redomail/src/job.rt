@@ -3,7 +3,7 @@
 ghost use Rattle.std.specs.Prelude.{◌≡◌, ◌<◌, ◌↔◌, Some, None, IfSome, IsSome, IfOk, IfErr, OnOk};
 ghost use Rattle.redomail.specs.Jobs.{FitsStage};
 ghost use Rattle.redomail.specs.Layout.{IsLayout};
-ghost use Rattle.redomail.specs.Refusals.{refused as refusal_of};
+ghost use Rattle.redomail.specs.Refusals.{task_refusal as refusal_of};
 ghost use Rattle.redomail.specs.Runs.{StepKept};
 ghost use Rattle.redomail.specs.Script.{head, tail, reply_in};
 ghost use Rattle.redomail.specs.Tasks.{script, consistent};
@@ -48,15 +48,15 @@ impl Model for Job {
 }
 
 impl Job {
-    ghost use Rattle.redomail.specs.Left.{left, begun, mending, fed};
+    ghost use Rattle.redomail.specs.Left.{script_left, pending_task, mending, job_after_word};
 
     /// A task of process `sender`, at its first step.
     ///
     /// The first cause in this order is the answer: `BadProcs`, `BadCap`, `NoSuchProcess` (a sender that is no process of
     /// the layout), `BadIndex` (a board index that is not below 4), `BadWidth` (of the layout, or of the task's value).
     pub fn new(layout: Layout, sender: u64, task: Task) -> Result<Job, Refusal>
-        ensures made { IfOk result (λ job. left job ≡ script layout sender task) }
-        ensures exact { IfOk result (λ job. job ≡ begun layout sender task) }
+        ensures made { IfOk result (λ job. script_left job ≡ script layout sender task) }
+        ensures exact { IfOk result (λ job. job ≡ pending_task layout sender task) }
         ensures allowed { OnOk result (refusal_of layout sender task ≡ None) }
         ensures refused { IfErr result (λ refusal. refusal_of layout sender task ≡ Some refusal) }
     {
@@ -74,7 +74,7 @@ impl Job {
     pub fn seam_mending(layout: Layout, sender: u64) -> Job
         requires lawful { IsLayout layout }
         requires below { sender < layout.procs }
-        ensures left { left result ≡ consistent layout sender }
+        ensures left { script_left result ≡ consistent layout sender }
         ensures exact { result ≡ mending layout sender }
     {
         Job {
@@ -86,7 +86,7 @@ impl Job {
 
     /// The next access, or the reply.
     pub fn next(&self) -> Next
-        ensures { result ≡ head (left self.now) }
+        ensures { result ≡ head (script_left self.now) }
     {
         self.stage.next(self.layout, self.sender)
     }
@@ -95,7 +95,7 @@ impl Job {
     // Inline: one call a step.
     #[inline(always)]
     pub fn reply(&self) -> Option<Reply>
-        ensures { result ≡ reply_in (head (left self.now)) }
+        ensures { result ≡ reply_in (head (script_left self.now)) }
     {
         self.stage.reply()
     }
@@ -105,9 +105,9 @@ impl Job {
     // Inline: one call a step.
     #[inline(always)]
     pub fn feed(&mut self, value: u64)
-        ensures left { left self.new ≡ tail (left self.old) value }
-        ensures kept { StepKept (left self.old) value (left self.new) }
-        ensures exact { self.new ≡ fed self.old value }
+        ensures left { script_left self.new ≡ tail (script_left self.old) value }
+        ensures kept { StepKept (script_left self.old) value (script_left self.new) }
+        ensures exact { self.new ≡ job_after_word self.old value }
     {
         self.stage.go_on(self.layout, self.sender, value);
     }

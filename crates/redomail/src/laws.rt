@@ -1,6 +1,6 @@
 //! Laws of the mailbox, over every run of its definitions. Each law is the contract of a function with an empty body.
 
-ghost use Rattle.redomail.specs.Laws.{TasksAreSafe, ConsistentIsSafe, SafeIsSeen, StepsStaySafe, PutsAreOwn, TasksKeep, ShownGrows, ShownEntriesStand, EntriesStand, RepairCompletes, StepsTold, ConsistentTold, TasksEnd, ConsistentEnds, NumbersAreShown, AnsweredIsShown, NewWords, ShapePassesOn, MayLeave, ShapeIsContent, ContentIsShape};
+ghost use Rattle.redomail.specs.Laws.{TasksAreSafe, ConsistentIsSafe, SafeIsSeen, StepsStaySafe, PutsAreOwn, TasksKeep, ShownGrows, ShownEntriesStand, EntriesStand, RepairCompletes, RepliesHaveTheirSteps, MendingHasItsSteps, TasksEnd, ConsistentEnds, NumbersAreShown, AnsweredIsShown, NewWords, ShapePassesOn, MayLeave, ShapeIsContent, ContentIsShape};
 
 /// Each task that may begin is a safe script.
 pub fn tasks_are_safe()
@@ -53,13 +53,13 @@ pub fn repair_completes()
 {}
 
 /// Each task takes the steps that its reply has in the table of own steps.
-pub fn steps_told()
-    ensures { StepsTold }
+pub fn replies_have_their_steps()
+    ensures { RepliesHaveTheirSteps }
 {}
 
 /// `consistent` takes the steps that its reply has in the table of own steps.
-pub fn consistent_told()
-    ensures { ConsistentTold }
+pub fn mending_has_its_steps()
+    ensures { MendingHasItsSteps }
 {}
 
 /// After each task the words ruined and armed are those that its reply says.

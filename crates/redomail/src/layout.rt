@@ -1,7 +1,7 @@
 //! The indexes of the data words.
 
 ghost use Rattle.std.specs.Prelude.{◌≡◌, ◌+◌, ◌<◌, ◌≤◌, ◌^◌, ◌↔◌, IsTrue};
-ghost use Rattle.redomail.specs.Layout.{IsLayout, held, place_at, size, last_at as last_index, board_at as board_index};
+ghost use Rattle.redomail.specs.Layout.{IsLayout, saturate, place_at, size, last_at as last_index, board_at as board_index};
 
 /// The sizes of a mailbox, which decide the index of each data word: 1 to 64 processes, a capacity of 1 to 65,536 places,
 /// and 1 to 8 words for each value. A layout outside these limits has indexes too. They saturate at the greatest u64.
@@ -54,7 +54,7 @@ impl Layout {
     pub fn place(&self, a: u64, k: u64) -> u64
         requires narrow { self.now.width ≤ 8 }
         requires within { k < 10 }
-        ensures { result ≡ held (place_at self.now a + k) }
+        ensures { result ≡ saturate (place_at self.now a + k) }
     {
         a.saturating_mul(2 + self.width)
             .saturating_add(10 + self.width + k)
@@ -64,7 +64,7 @@ impl Layout {
     /// The number of data words.
     pub fn words(&self) -> u64
         requires narrow { self.now.width ≤ 8 }
-        ensures { result ≡ held (size self.now) }
+        ensures { result ≡ saturate (size self.now) }
     {
         self.place(self.cap, 0)
     }

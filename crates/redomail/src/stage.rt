@@ -3,10 +3,10 @@
 ghost use Rattle.std.specs.Prelude.{◌≡◌, ℕ, ◌<◌, ◌+◌, ◌↔◌, None, IsTrue, length, slice_set};
 ghost use Rattle.redomail.specs.Layout.{IsLayout};
 ghost use Rattle.redomail.specs.Jobs.{FitsStage, left_at};
-ghost use Rattle.redomail.specs.Refusals.{refused};
+ghost use Rattle.redomail.specs.Refusals.{task_refusal};
 ghost use Rattle.redomail.specs.Script.{head, tail, reply_in};
 ghost use Rattle.redomail.specs.Stages.{first_stage, stage_after, read_stage, decided_stage, StoresNothing};
-ghost use Rattle.redomail.specs.Tasks.{script, decided as decided_by};
+ghost use Rattle.redomail.specs.Tasks.{script, append_decision as decided_by};
 
 use crate::append::early_reply;
 use crate::layout::{ARMED, CLOSED, COUNT, Layout, RECORD, RUINED};
@@ -50,7 +50,7 @@ pub enum JobStage {
 impl JobStage {
     /// The first stage of a task.
     pub(crate) fn first(layout: Layout, sender: u64, task: Task) -> JobStage
-        requires { refused layout sender task ≡ None }
+        requires { task_refusal layout sender task ≡ None }
         ensures left { left_at layout sender result ≡ script layout sender task }
         ensures exact { result ≡ first_stage task }
         ensures fits { FitsStage layout result }
@@ -174,7 +174,7 @@ impl JobStage {
         match *self {
             JobStage::AskClosed(seq, value) => JobStage::AskCount(seq, value, word),
             JobStage::AskCount(seq, value, closed) => JobStage::AskLast(seq, value, closed, word),
-            JobStage::AskLast(seq, value, closed, count) => decided(
+            JobStage::AskLast(seq, value, closed, count) => append_decision(
                 layout, seq, value, closed, count, word,
             ),
             JobStage::AskUsable if word == 1 => JobStage::Ended(Reply::Ruined(true)),
@@ -240,7 +240,14 @@ fn read_on(layout: Layout, at: u64, seq: u64, words: [u64; 8], read: u64, word: 
 }
 
 /// What an append does after it has read its three words: the first condition that holds decides.
-fn decided(layout: Layout, seq: u64, value: Body, closed: u64, count: u64, last: u64) -> JobStage
+fn append_decision(
+    layout: Layout,
+    seq: u64,
+    value: Body,
+    closed: u64,
+    count: u64,
+    last: u64,
+) -> JobStage
     requires lawful { IsLayout layout }
     requires fits { length value ≡ layout.width }
     ensures left { (p : ℕ) → left_at layout p result ≡ decided_by layout p seq value closed count last }

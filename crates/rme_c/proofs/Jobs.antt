@@ -1,17 +1,17 @@
 -- A step of a job, as the process sees it: the job goes on, or ends with its reply.
 use Rattle.std.proofs.Common.{◌≡◌, ℕ, zero, suc, ◌+◌, ◌-◌, ◌*◌, ◌<◌, Bool, false, is_none, List, [], ◌∷◌, length, take, drop, Option, Some, None, IsSome, IfSome, refl, arith}
-use Rattle.rme_c.proofs.Common.{Access, kind_of, carried, Place, Layout, Reply, left_at, Pending, left, Done, tail, Script, Get as Asks, Put as Writes, puts, gets, store_steps, redo}
+use Rattle.rme_c.proofs.Common.{Access, kind_of, carried_value, Place, Layout, Reply, left_at, Pending, script_left, Done, tail, Script, Get as Asks, Put as Writes, puts, gets, store_steps, redo}
 use Rattle.rme_c.proofs.Common.{length-store_steps, Answer, Doing as Does, Purpose, by_script, answer_by, blocked_by, HasStep, next_access, MachineState, job_left, outcome, access_by, with}
 use Rattle.redomail.specs.declared.record.Record.{Record}
 use Rattle.redomail.specs.declared.stage.JobStage.TheVariants as stage
 use Rattle.rmeworld.specs.ProcessState.{Doing}
 
 -- what a script's step answers: it is never blocked
-told : (limit p : ℕ) (s : Place) (b c : Bool) (purpose : Purpose) (e : Script Reply) (v : ℕ) → HasStep e
-    → IfSome (access_by limit p s (Doing purpose e)) (λ a. (answer_by s b c (Doing purpose e) (kind_of a) (carried a v) ≡ by_script purpose b (tail e v)) × (blocked_by p s (Doing purpose e) (kind_of a) (carried a v) ≡ false))
-told limit p s b c purpose (Asks i rest) v h = (refl, refl)
-told limit p s b c purpose (Writes i x rest) v h = (refl, refl)
-told limit p s b c purpose (Done reply) v h = absurd h
+reports : (limit p : ℕ) (s : Place) (b c : Bool) (purpose : Purpose) (e : Script Reply) (v : ℕ) → HasStep e
+    → IfSome (access_by limit p s (Doing purpose e)) (λ a. (answer_by s b c (Doing purpose e) (kind_of a) (carried_value a v) ≡ by_script purpose b (tail e v)) × (blocked_by p s (Doing purpose e) (kind_of a) (carried_value a v) ≡ false))
+reports limit p s b c purpose (Asks i rest) v h = (refl, refl)
+reports limit p s b c purpose (Writes i x rest) v h = (refl, refl)
+reports limit p s b c purpose (Done reply) v h = absurd h
 
 -- a script that has a step left has a next access
 pub wants : (limit p : ℕ) (s : Place) (purpose : Purpose) (e : Script Reply) → HasStep e → is_none (access_by limit p s (Doing purpose e)) ≡ false
@@ -25,15 +25,15 @@ has_access limit p s purpose (Writes i x rest) h = cc
 has_access limit p s purpose (Done reply) h = absurd h
 
 -- the outcome of a job's step for its call
-abbrev pub Told : MachineState → ℕ → Option Answer → Type 0
-Told s v answer = ((outcome s (next_access s) v).answer ≡ answer) × ((outcome s (next_access s) v).progress.blocked ≡ false)
+abbrev pub Report : MachineState → ℕ → Option Answer → Type 0
+Report s v answer = ((outcome s (next_access s) v).answer ≡ answer) × ((outcome s (next_access s) v).progress.blocked ≡ false)
 
-pub is_told : (s : MachineState) (purpose : Purpose) (job : Pending) (v : ℕ) → HasStep (left job) → Told (with s (Does purpose job)) v (by_script purpose s.mended (tail (left job) v))
-is_told s purpose job v h =
-    by (access_by s.limit s.index s.lock (Doing purpose (left job))) (told s.limit s.index s.lock s.mended s.barred purpose (left job) v h) (has_access s.limit s.index s.lock purpose (left job) h)
+pub is_reported : (s : MachineState) (purpose : Purpose) (job : Pending) (v : ℕ) → HasStep (script_left job) → Report (with s (Does purpose job)) v (by_script purpose s.mended (tail (script_left job) v))
+is_reported s purpose job v h =
+    by (access_by s.limit s.index s.lock (Doing purpose (script_left job))) (reports s.limit s.index s.lock s.mended s.barred purpose (script_left job) v h) (has_access s.limit s.index s.lock purpose (script_left job) h)
   where
-    by : (o : Option Access) → IfSome o (λ a. (answer_by s.lock s.mended s.barred (Doing purpose (left job)) (kind_of a) (carried a v) ≡ by_script purpose s.mended (tail (left job) v)) × (blocked_by s.index s.lock (Doing purpose (left job)) (kind_of a) (carried a v) ≡ false)) → IsSome o
-        → ((outcome (with s (Does purpose job)) o v).answer ≡ by_script purpose s.mended (tail (left job) v)) × ((outcome (with s (Does purpose job)) o v).progress.blocked ≡ false)
+    by : (o : Option Access) → IfSome o (λ a. (answer_by s.lock s.mended s.barred (Doing purpose (script_left job)) (kind_of a) (carried_value a v) ≡ by_script purpose s.mended (tail (script_left job) v)) × (blocked_by s.index s.lock (Doing purpose (script_left job)) (kind_of a) (carried_value a v) ≡ false)) → IsSome o
+        → ((outcome (with s (Does purpose job)) o v).answer ≡ by_script purpose s.mended (tail (script_left job) v)) × ((outcome (with s (Does purpose job)) o v).progress.blocked ≡ false)
     by None h some = cc
     by (Some a) h some = h
 

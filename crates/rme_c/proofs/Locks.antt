@@ -2,7 +2,7 @@
 use Rattle.std.proofs.Common.{◌≡◌, ℕ, Bool, true, false, nat_lt, if◌then◌else◌, List, [], ◌∷◌, Option, Some, None, IfSome, is_none, refl, sym, inl, inr}
 use Rattle.rme_c.proofs.Common.{cases_Bool, Access, Stage}
 use Rattle.rme_c.proofs.Common.{Door as AtDoor, Wait as AtWait, place_of, first, access, word_of}
-use Rattle.rme_c.proofs.Common.{InLock, Place, above, Layout, Check, begun, Free as IsFree, Doing as Does, Checking, is_entry, InWords, landing, lock_at, script_state_at}
+use Rattle.rme_c.proofs.Common.{InLock, Place, above, Layout, Check, pending_task, Free as IsFree, Doing as Does, Checking, is_entry, InWords, landing, lock_at, script_state_at}
 use Rattle.rmeworld.proofs.Projection.{entry_inside}
 use Rattle.rmecore.specs.Place.{Door, Wait}
 use Rattle.rmecore.specs.Refused.{is_idle}
@@ -14,7 +14,7 @@ lands n p s t to true e place = sym (entry_inside s t (sym e))
 lands n p s t to false e place = place
 
 pub has_script_state : (l : Layout) (p : ℕ) (words : List ℕ) (s t : Place) (to : Stage) (checks : Bool) → checks ≡ is_entry s t
-    → script_state_at l p words (landing checks to) ≡ (if is_entry s t then Does Checking (begun l p Check) else IsFree)
+    → script_state_at l p words (landing checks to) ≡ (if is_entry s t then Does Checking (pending_task l p Check) else IsFree)
 has_script_state l p words s t to true e = rw (← e) refl
 has_script_state l p words s t to false e = rw (← e) refl
 

@@ -1,25 +1,25 @@
 -- Which run is answered, and the code that says so.
 use Rattle.std.proofs.Common.{◌≡◌, ℕ, ◌+◌, ◌*◌, ◌<◌, ◌≤◌, ◌==◌, true, false, is_none, if◌then◌else◌, Bool, List, [], ◌∷◌, Option, Some, None, refl, sym, ap, ◌∙◌, subst, inl, inr, arith}
-use Rattle.rme_c.proofs.Common.{cases_Bool, lt-ltb, le-ltb, le-leb, Stage, above, above_past, first, MachineState, next_access, stepped, Lock, RmeProcess, layout_of, machine_state_at, machine_state_of, position_of, stage_of, script_position_of, by_parts, is_placed, ScriptPosition, IsFed}
+use Rattle.rme_c.proofs.Common.{cases_Bool, lt-ltb, le-ltb, le-leb, Stage, above, above_past, first, MachineState, next_access, machine_after_step, Lock, RmeProcess, layout_of, machine_state_at, machine_state_of, position_of, stage_of, script_position_of, by_parts, is_placed, ScriptPosition, IsFed}
 use Rattle.rmecore.specs.Place.{Door, Wait, Unmarking}
 use Rattle.rmecore.specs.declared.core_call.CoreCall.TheVariants as call
 use Rattle.rmecore.specs.declared.stage.Stage.TheVariants as stage
-use Rattle.rme_c.specs.Codes.{told}
+use Rattle.rme_c.specs.Codes.{code_after_step}
 use Rattle.rme_c.specs.Positions.{stage_now}
 use Rattle.rme_c.specs.declared.process.RmeAccess.{RmeAccess}
 use Rattle.rme_c.specs.declared.process.RmePosition.{RmePosition}
-use Rattle.rme_c.specs.declared.runs.Run.{Run}
-use Rattle.rme_c.specs.declared.runs.Run.TheVariants as run
-use Rattle.rme_c.specs.Runs.{Counted, counted_of, fed_zeros, run_code, run_at, next_run, goes_on, run_or, run_for, feed_code, GoesOn}
+use Rattle.rme_c.specs.declared.runs.AccessRun.{AccessRun}
+use Rattle.rme_c.specs.declared.runs.AccessRun.TheVariants as run
+use Rattle.rme_c.specs.Runs.{Counted, counted_of, fed_zeros, run_code, run_at, next_run, goes_on, run_or, run_for, feed_code, CallGoesOn}
 use Rattle.rme_c.proofs.RunFeeds.{here_at, lands_at, opened_go, shut_go}
 use Rattle.rme_c.proofs.RunSteps.{reached, unmarks}
 
-goes_true : (code : ℕ) → GoesOn code → goes_on code ≡ true
+goes_true : (code : ℕ) → CallGoesOn code → goes_on code ≡ true
 goes_true code (inl zero) = rw zero refl
 goes_true code (inr big) = elim (cases_Bool (code == 0)) [ inl z ↦ rw z refl | inr z ↦ rw (z, le-leb 64 code big) refl ]
 
 -- the call goes on, and this run comes next
-pub run_is : (r t : ℕ) (s : MachineState) (x : Run) → GoesOn t → next_run s ≡ Some x → r ≡ run_code x → r ≡ feed_code t s
+pub run_is : (r t : ℕ) (s : MachineState) (x : AccessRun) → CallGoesOn t → next_run s ≡ Some x → r ≡ run_code x → r ≡ feed_code t s
 run_is r t s x goes is e = rw (goes_true t goes, is) e
 
 -- no run comes next
@@ -27,20 +27,20 @@ pub no_run : (r t : ℕ) (s : MachineState) → t ≡ r → next_run s ≡ None 
 no_run r t s e none = elim (cases_Bool (goes_on t)) [ inl on ↦ rw (on, none) (sym e) | inr off ↦ rw off (sym e) ]
 
 -- after a feed with no run next
-pub told_after : (m q : RmeProcess) (c : Counted) (v : ℕ) (b a : RmeAccess) (r : ℕ) → counted_of m ≡ c → IsFed m v q b a r → next_run (machine_state_of q) ≡ None → r ≡ feed_code (told c.machine v) (machine_state_of q)
-told_after m q c v b a r is fed none = no_run r (told c.machine v) (machine_state_of q) (ap (λ (y : Counted). told y.machine v) (sym is) ∙ sym fed.told) none
+pub reports_after : (m q : RmeProcess) (c : Counted) (v : ℕ) (b a : RmeAccess) (r : ℕ) → counted_of m ≡ c → IsFed m v q b a r → next_run (machine_state_of q) ≡ None → r ≡ feed_code (code_after_step c.machine v) (machine_state_of q)
+reports_after m q c v b a r is fed none = no_run r (code_after_step c.machine v) (machine_state_of q) (ap (λ (y : Counted). code_after_step y.machine v) (sym is) ∙ sym fed.reports) none
 
 -- after single feeds
-pub told_singly : (m : RmeProcess) (c : Counted) (v r t : ℕ) (s : MachineState) (o : Option Run) → counted_of m ≡ c → t ≡ told (machine_state_of m) v → o ≡ run_for t s → r ≡ run_or t o → r ≡ feed_code (told c.machine v) s
-told_singly m c v r t s o is tells comes e = e ∙ ap (run_or t) comes ∙ ap (λ k. feed_code k s) (tells ∙ ap (λ (y : Counted). told y.machine v) is)
+pub reported_singly : (m : RmeProcess) (c : Counted) (v r t : ℕ) (s : MachineState) (o : Option AccessRun) → counted_of m ≡ c → t ≡ code_after_step (machine_state_of m) v → o ≡ run_for t s → r ≡ run_or t o → r ≡ feed_code (code_after_step c.machine v) s
+reported_singly m c v r t s o is tells comes e = e ∙ ap (run_or t) comes ∙ ap (λ k. feed_code k s) (tells ∙ ap (λ (y : Counted). code_after_step y.machine v) is)
 
 pub inside_rests : (q : RmeProcess) → position_of q ≡ Lock stage.Inside → next_run (machine_state_of q) ≡ None
 inside_rests q there = ap (λ y. next_run (machine_state_at q y)) there
 
 -- after the last store of an exit
-pub left_rests : (p m q : RmeProcess) (v c : ℕ) → counted_of m ≡ reached p (Unmarking call.Unlock) c → machine_state_of q ≡ stepped (machine_state_of m) v → next_run (machine_state_of q) ≡ None
+pub left_rests : (p m q : RmeProcess) (v c : ℕ) → counted_of m ≡ reached p (Unmarking call.Unlock) c → machine_state_of q ≡ machine_after_step (machine_state_of m) v → next_run (machine_state_of q) ≡ None
 left_rests p m q v c is exact =
-    ap next_run (exact ∙ ap (λ (y : Counted). stepped y.machine v) is ∙ ap (λ (y : Counted). y.machine) (unmarks p v 0 (omega arith)))
+    ap next_run (exact ∙ ap (λ (y : Counted). machine_after_step y.machine v) is ∙ ap (λ (y : Counted). y.machine) (unmarks p v 0 (omega arith)))
 
 -- in no stage of the lock's part
 no_stage : (b : Bool) (o : Option Stage) → b ≡ true → (if b then o else None) ≡ None → o ≡ None
@@ -62,7 +62,7 @@ unstaged p none =
       | inr not ↦ rw not refl
     ]
 
-pub staged : (p : RmeProcess) (t : Stage) (o : Option Run) → position_of p ≡ Lock t → o ≡ next_run (machine_state_at p (Lock t)) → o ≡ next_run (machine_state_of p)
+pub staged : (p : RmeProcess) (t : Stage) (o : Option AccessRun) → position_of p ≡ Lock t → o ≡ next_run (machine_state_at p (Lock t)) → o ≡ next_run (machine_state_of p)
 staged p t o here is = is ∙ ap (λ y. next_run (machine_state_at p y)) (sym here)
 
 -- the runs of a doorway and of a wait
@@ -97,21 +97,21 @@ module _ (p : RmeProcess) (x : RmePosition) (steps r : ℕ) (a : RmeAccess) (bel
   q = record p { position = x; steps = steps }
 
   pub peeked_code : (zeros : ℕ) → position_of p ≡ Lock stage.Opening → stage_of x ≡ Some (stage.Door p.procs 0) → zeros + 1 ≡ p.procs → 0 < p.limit → steps ≡ p.steps + zeros + 1 → r ≡ run_code (run.Takes 1)
-      → r ≡ feed_code (told (fed_zeros zeros (counted_of p)).machine 0) (machine_state_of q)
+      → r ≡ feed_code (code_after_step (fed_zeros zeros (counted_of p)).machine 0) (machine_state_of q)
   peeked_code zeros here there all some counts coded =
       let is = here_at p _ here in
       let none : above p.procs p.index p.procs ≡ [] = above_past p.procs p.index p.procs (omega arith) in
       let lands = lands_at p (stage.Door p.procs 0) x steps below few there in
       run_is r _ (machine_state_of q) (run.Takes 1)
-      (subst (λ (y : Counted). GoesOn (told (fed_zeros zeros y).machine 0)) (sym is) (opened_go p x steps a r below few big small zeros p.steps all (omega (arith, counts, small))))
+      (subst (λ (y : Counted). CallGoesOn (code_after_step (fed_zeros zeros y).machine 0)) (sym is) (opened_go p x steps a r below few big small zeros p.steps all (omega (arith, counts, small))))
       (ap (λ (y : Counted). next_run y.machine) lands ∙ sym (takes_at p.limit 0 (above p.procs p.index p.procs) none some)) coded
 
   pub passed_code : (zeros from m : ℕ) → position_of p ≡ Lock (stage.Door from m) → above p.procs p.index from ≡ [] → stage_of x ≡ Some (stage.Wait (m + 1) p.procs false) → zeros + 1 ≡ 2 * p.procs → m < p.limit → steps ≡ p.steps + zeros + 1 → r ≡ run_code run.Marks
-      → r ≡ feed_code (told (fed_zeros zeros (counted_of p)).machine 0) (machine_state_of q)
+      → r ≡ feed_code (code_after_step (fed_zeros zeros (counted_of p)).machine 0) (machine_state_of q)
   passed_code zeros from m here read there all free counts coded =
       let is : counted_of p ≡ reached p (Door [] m) p.steps = here_at p _ here ∙ ap (λ l. reached p (Door l m) p.steps) read in
       let none : above p.procs p.index p.procs ≡ [] = above_past p.procs p.index p.procs (omega arith) in
       let lands = lands_at p (stage.Wait (m + 1) p.procs false) x steps below few there in
       run_is r _ (machine_state_of q) run.Marks
-      (subst (λ (y : Counted). GoesOn (told (fed_zeros zeros y).machine 0)) (sym is) (shut_go p x steps a r below few big small m p.steps free zeros all (omega (arith, counts, small))))
+      (subst (λ (y : Counted). CallGoesOn (code_after_step (fed_zeros zeros y).machine 0)) (sym is) (shut_go p x steps a r below few big small m p.steps free zeros all (omega (arith, counts, small))))
       (ap (λ (y : Counted). next_run y.machine) lands ∙ sym (marks_at p.limit (m + 1) (above p.procs p.index p.procs) false none)) coded

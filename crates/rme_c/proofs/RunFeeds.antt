@@ -1,9 +1,9 @@
 -- A run that is fed, and the run that comes next.
 use Rattle.std.proofs.Common.{◌≡◌, ℕ, zero, suc, min, ◌+◌, ◌*◌, ◌<◌, ◌≤◌, true, false, Bool, if◌then◌else◌, IfSome, is_none, List, [], ◌∷◌, ◌++◌, length, Option, Some, None, refl, sym, ap, ◌∙◌, subst, eq-eqb, arith}
-use Rattle.rme_c.proofs.Common.{lt-ltb, Access, Stage, place_of, above, above_past, first, Position, Lock, Within, RmeProcess, machine_state_at, machine_state_of, position_of, stage_of, IsFed, IsStep, MachineState, Told, held, next_access, outcome, stepped}
-use Rattle.rme_c.proofs.Feeds.{busy_told}
+use Rattle.rme_c.proofs.Common.{lt-ltb, Access, Stage, place_of, above, above_past, first, Position, Lock, Within, RmeProcess, machine_state_at, machine_state_of, position_of, stage_of, IsFed, IsStep, MachineState, Effect, saturate, next_access, outcome, machine_after_step}
+use Rattle.rme_c.proofs.Feeds.{busy_reported}
 use Rattle.rme_c.proofs.Numbers.{stands}
-use Rattle.rme_c.proofs.RunSteps.{place_at, reached, zeros_first, length_others, length_waits, reread_choosing, reread_number, reread_inside, opened, taken, shuts, drops, peeks_all, waits_all, peeks_run, waits_run, peeks_then, waits_then, zeros_sum, told_goes, peeks_go, waits_go}
+use Rattle.rme_c.proofs.RunSteps.{place_at, reached, zeros_first, length_others, length_waits, reread_choosing, reread_number, reread_inside, opened, taken, shuts, drops, peeks_all, waits_all, peeks_run, waits_run, peeks_then, waits_then, zeros_sum, reported_goes, peeks_go, waits_go}
 use Rattle.rmecore.specs.Place.{Reread, Opening, Door, Shutting, Wait, Leaving, Unmarking}
 use Rattle.rmecore.specs.declared.access.Access.TheVariants.{Load, Store}
 use Rattle.rmecore.specs.declared.core_call.CoreCall.TheVariants as call
@@ -12,17 +12,17 @@ use Rattle.rmecore.specs.declared.stage.Stage.TheVariants as stage
 use Rattle.rmecore.specs.declared.word.Word.TheVariants as word
 use Rattle.rmecore.specs.declared.refusal.Refusal.{Refusal}
 use Rattle.rmecore.specs.declared.refusal.Refusal.TheVariants as refusal
-use Rattle.rme_c.specs.Codes.{told, told_as, shown, refusal_code}
+use Rattle.rme_c.specs.Codes.{code_after_step, reported_as, next_for_c, refusal_code}
 use Rattle.rme_c.specs.declared.process.RmeAccess.{RmeAccess}
 use Rattle.rme_c.specs.declared.process.RmePosition.{RmePosition}
-use Rattle.rme_c.specs.declared.runs.Run.{Run}
-use Rattle.rme_c.specs.declared.runs.Run.TheVariants as run
+use Rattle.rme_c.specs.declared.runs.AccessRun.{AccessRun}
+use Rattle.rme_c.specs.declared.runs.AccessRun.TheVariants as run
 use Rattle.rme_c.specs.declared.script_position.ScriptPosition.TheVariants as script_position
-use Rattle.rme_c.specs.Runs.{Counted, counted_of, counted_at, fed_once, fed_zeros, IsRun, peeks, waits, run_by, GoesOn, IsNextRun, IsFedRun}
+use Rattle.rme_c.specs.Runs.{Counted, counted_of, counted_at, fed_once, fed_zeros, AreNextAccesses, peeks, waits, run_by, CallGoesOn, IsNextRun, IsFedRun}
 
 -- an access that was made, and those that follow
-more : (p : RmeProcess) (x y : Counted) (a : Access) (rest : List Access) → fed_once x 0 ≡ y → IsRun y.machine rest → IsRun (stepped x.machine 0) rest
-more p x y a rest e r = subst (λ s. IsRun s rest) (sym (ap (λ (z : Counted). z.machine) e)) r
+more : (p : RmeProcess) (x y : Counted) (a : Access) (rest : List Access) → fed_once x 0 ≡ y → AreNextAccesses y.machine rest → AreNextAccesses (machine_after_step x.machine 0) rest
+more p x y a rest e r = subst (λ s. AreNextAccesses s rest) (sym (ap (λ (z : Counted). z.machine) e)) r
 
 module _ (p : RmeProcess) where
   abbrev n : ℕ
@@ -48,11 +48,11 @@ module _ (p : RmeProcess) where
 
   pub peeks_next : (i m j : ℕ) → first (above n own i) ≡ Some j → above n own j ≡ above n own i → IsNextRun (place_at p (Door (above n own i) m)) n own (run.Peeks j)
   peeks_next i m j f same =
-      record { some = peeks_some j (above n own j) (ap first same ∙ f); each = subst (λ l. IsRun (place_at p (Door (above n own i) m)) (peeks l)) (sym same) (peeks_run p (above n own i) i m refl) }
+      record { some = peeks_some j (above n own j) (ap first same ∙ f); each = subst (λ l. AreNextAccesses (place_at p (Door (above n own i) m)) (peeks l)) (sym same) (peeks_run p (above n own i) i m refl) }
 
   pub looks_next : (i k j : ℕ) → first (above n own i) ≡ Some j → above n own j ≡ above n own i → IsNextRun (place_at p (Wait k (above n own i) None)) n own (run.Looks j)
   looks_next i k j f same =
-      record { some = waits_some j (above n own j) (ap first same ∙ f); each = subst (λ l. IsRun (place_at p (Wait k (above n own i) None)) (waits l)) (sym same) (waits_run p (above n own i) i k refl) }
+      record { some = waits_some j (above n own j) (ap first same ∙ f); each = subst (λ l. AreNextAccesses (place_at p (Wait k (above n own i) None)) (waits l)) (sym same) (waits_run p (above n own i) i k refl) }
 
   pub takes_next : (js : List ℕ) (m : ℕ) → js ≡ [] → m < p.limit → IsNextRun (place_at p (Door js m)) n own (run.Takes (m + 1))
   takes_next js m none free =
@@ -72,7 +72,7 @@ module _ (p : RmeProcess) where
       (record { some = omega arith; each = (refl, (rw (eq-eqb own own refl) refl, tt)) })
 
   -- a wait with a process left, which was looked at or not
-  pub look_next : (i k j : ℕ) (looked : Bool) (o : Option Run) → o ≡ (if looked then None else Some (run.Looks j)) → first (above n own i) ≡ Some j → above n own j ≡ above n own i
+  pub look_next : (i k j : ℕ) (looked : Bool) (o : Option AccessRun) → o ≡ (if looked then None else Some (run.Looks j)) → first (above n own i) ≡ Some j → above n own j ≡ above n own i
       → IfSome o (λ r. IsNextRun (place_at p (Wait k (above n own i) (if looked then first (above n own i) else None))) n own r)
   look_next i k j true o e f same = rw e tt
   look_next i k j false o e f same = rw e (looks_next i k j f same)
@@ -88,7 +88,7 @@ module _ (p : RmeProcess) where
   abbrev takes : List Access
   takes = Store kind.Take (word.Number own) 1 ∷ Store kind.Shut (word.Choosing own) 0 ∷ (waits (above n own 0) ++ ends)
 
-  takes_run : 0 < p.limit → IsRun (place_at p (Door [] 0)) takes
+  takes_run : 0 < p.limit → AreNextAccesses (place_at p (Door [] 0)) takes
   takes_run some = (
     rw (lt-ltb 0 p.limit some) refl,
     more p (reached p (Door [] 0) 0) (reached p (Shutting call.Lock 1) 1) (Store kind.Take (word.Number own) 1) (Store kind.Shut (word.Choosing own) 0 ∷ (waits (above n own 0) ++ ends)) (taken p 0 0 0 some (omega arith)) (
@@ -134,7 +134,7 @@ module _ (p : RmeProcess) where
       ap (counted_at p c) is
 
 -- where the call goes on with a run
-pub fed_on : (q : RmeProcess) (c : Counted) (v : ℕ) (a : RmeAccess) (r : ℕ) (next : Run) → counted_of q ≡ fed_once c v → GoesOn (told c.machine v) → IsNextRun (machine_state_of q) q.procs q.index next
+pub fed_on : (q : RmeProcess) (c : Counted) (v : ℕ) (a : RmeAccess) (r : ℕ) (next : AccessRun) → counted_of q ≡ fed_once c v → CallGoesOn (code_after_step c.machine v) → IsNextRun (machine_state_of q) q.procs q.index next
     → run_by r a.value ≡ next → 256 ≤ r → IsFedRun c v q a r
 fed_on q c v a r next exact goes comes back big =
     record {
@@ -152,39 +152,39 @@ fed_after m c v q b a r is fed =
     subst (λ (x : Counted). IsFedRun x v q a r) is
     (record {
       exact = λ i. record { machine = fed.exact i; steps = fed.steps i };
-      code = λ h. fed.told;
+      code = λ h. fed.reports;
       goes = λ h. absurd (omega (arith, h, few));
       run = λ h. absurd (omega (arith, h, few));
       next = fed.next;
     })
 
 -- by one step of a script, from this position and after this many steps
-pub step_counted : (p : RmeProcess) (c v : ℕ) (x : Position) (m q : RmeProcess) (y : Position) (t : Told) (o : Option Access) (a : RmeAccess) (r : ℕ)
+pub step_counted : (p : RmeProcess) (c v : ℕ) (x : Position) (m q : RmeProcess) (y : Position) (t : Effect) (o : Option Access) (a : RmeAccess) (r : ℕ)
     → is_none (next_access (machine_state_at p x)) ≡ false → IsStep p x v m y t → position_of q ≡ y → machine_state_at q y ≡ machine_state_at m y → q.steps ≡ c + 1 → c < 18446744073709551615
-    → o ≡ next_access (machine_state_at q y) → r ≡ told_as t.answer t.blocked o → (r < 64 → a ≡ shown p.procs t.answer o) → r < 256 → IsFedRun (counted_at p c x) v q a r
+    → o ≡ next_access (machine_state_at q y) → r ≡ reported_as t.answer t.blocked o → (r < 64 → a ≡ next_for_c p.procs t.answer o) → r < 256 → IsFedRun (counted_at p c x) v q a r
 step_counted p c v x m q y t o a r busy step there same counts some wants tells shows few =
     let now : MachineState = machine_state_at p x in
-    let led : machine_state_at q y ≡ stepped now v = same ∙ step.exact in
-    let more : q.steps ≡ held (c + 1) = omega (arith, counts, some) in
-    let follows : o ≡ next_access (stepped now v) = wants ∙ ap next_access led in
+    let led : machine_state_at q y ≡ machine_after_step now v = same ∙ step.exact in
+    let more : q.steps ≡ saturate (c + 1) = omega (arith, counts, some) in
+    let follows : o ≡ next_access (machine_after_step now v) = wants ∙ ap next_access led in
     record {
       exact = rw busy (λ i. record { machine = (ap (machine_state_at q) there ∙ led) i; steps = more i });
       code =
           λ h.
           tells
-          ∙ (λ i. told_as (step.answer i) (step.blocked i) (follows i))
-          ∙ sym (busy_told (next_access now) (outcome now (next_access now) v) (next_access (stepped now v)) busy);
+          ∙ (λ i. reported_as (step.answer i) (step.blocked i) (follows i))
+          ∙ sym (busy_reported (next_access now) (outcome now (next_access now) v) (next_access (machine_after_step now v)) busy);
       goes = λ h. absurd (omega (arith, h, few));
       run = λ h. absurd (omega (arith, h, few));
-      next = λ h. shows h ∙ (λ i. shown p.procs (step.answer i) (wants i)) ∙ ap (λ z. shown p.procs (outcome now (next_access now) v).answer (next_access (machine_state_at q z))) (sym there);
+      next = λ h. shows h ∙ (λ i. next_for_c p.procs (step.answer i) (wants i)) ∙ ap (λ z. next_for_c p.procs (outcome now (next_access now) v).answer (next_access (machine_state_at q z))) (sym there);
     }
 
 -- the same, where after the feed a run comes next
-pub fed_more : (m q : RmeProcess) (c : Counted) (v : ℕ) (b a d : RmeAccess) (code r : ℕ) (next : Run) → counted_of m ≡ c → IsFed m v q b a code → GoesOn code → IsNextRun (machine_state_of q) q.procs q.index next
+pub fed_more : (m q : RmeProcess) (c : Counted) (v : ℕ) (b a d : RmeAccess) (code r : ℕ) (next : AccessRun) → counted_of m ≡ c → IsFed m v q b a code → CallGoesOn code → IsNextRun (machine_state_of q) q.procs q.index next
     → run_by r d.value ≡ next → 256 ≤ r → IsFedRun c v q d r
 fed_more m q c v b a d code r next is fed goes comes back big =
     let done = fed_after m c v q b a code is fed in
-    fed_on q c v d r next done.exact (subst GoesOn (done.code fed.few) goes) comes back big
+    fed_on q c v d r next done.exact (subst CallGoesOn (done.code fed.few) goes) comes back big
 
 pub none_left : (js : List ℕ) → first js ≡ None → js ≡ []
 none_left [] e = refl
@@ -216,11 +216,11 @@ module _ (p : RmeProcess) (x : RmePosition) (steps : ℕ) (a : RmeAccess) (r : �
   abbrev others : List ℕ
   others = above p.procs p.index 0
 
-  pub opened_go : (k c : ℕ) → k + 1 ≡ p.procs → c + k + 1 ≤ 18446744073709551615 → GoesOn (told (fed_zeros k (reached p Opening c)).machine 0)
-  opened_go zero c all most = told_goes p Opening (Store kind.Open (word.Choosing p.index) 1) 0 refl refl refl
+  pub opened_go : (k c : ℕ) → k + 1 ≡ p.procs → c + k + 1 ≤ 18446744073709551615 → CallGoesOn (code_after_step (fed_zeros k (reached p Opening c)).machine 0)
+  opened_go zero c all most = reported_goes p Opening (Store kind.Open (word.Choosing p.index) 1) 0 refl refl refl
   opened_go (suc k) c all most =
       let l = length_others p.procs p.index below in
-      subst (λ (y : Counted). GoesOn (told y.machine 0)) (sym (zeros_first k _ ∙ ap (fed_zeros k) (opened p 0 c (omega (arith, most)))))
+      subst (λ (y : Counted). CallGoesOn (code_after_step y.machine 0)) (sym (zeros_first k _ ∙ ap (fed_zeros k) (opened p 0 c (omega (arith, most)))))
       (peeks_go p others 0 0 (c + 1) k refl (omega (arith, l, all)) (omega (arith, l, all, most)))
 
   opened_all : (k c : ℕ) → k + 1 ≡ p.procs → c + k + 1 ≤ 18446744073709551615 → fed_once (fed_zeros k (reached p Opening c)) 0 ≡ reached p (Door [] 0) (c + k + 1)
@@ -242,22 +242,22 @@ module _ (p : RmeProcess) (x : RmePosition) (steps : ℕ) (a : RmeAccess) (r : �
       let most : p.steps + zeros + 1 ≤ 18446744073709551615 = omega (arith, counts, small) in
       fed_on q _ 0 a r (run.Takes 1)
       (lands ∙ ap (reached p (Door [] 0)) counts ∙ sym (opened_all zeros p.steps all most) ∙ ap (λ y. fed_once (fed_zeros zeros y) 0) (sym is))
-      (subst (λ (y : Counted). GoesOn (told (fed_zeros zeros y).machine 0)) (sym is) (opened_go zeros p.steps all most))
+      (subst (λ (y : Counted). CallGoesOn (code_after_step (fed_zeros zeros y).machine 0)) (sym is) (opened_go zeros p.steps all most))
       (subst (λ (y : Counted). IsNextRun y.machine p.procs p.index (run.Takes 1)) (sym lands) (takes_next p [] 0 refl some)) back big
 
   module _ (m c : ℕ) (free : m < p.limit) where
     abbrev number : ℕ
     number = m + 1
 
-    pub shut_go : (k : ℕ) → k + 1 ≡ 2 * p.procs → c + k + 1 ≤ 18446744073709551615 → GoesOn (told (fed_zeros k (reached p (Door [] m) c)).machine 0)
+    pub shut_go : (k : ℕ) → k + 1 ≡ 2 * p.procs → c + k + 1 ≤ 18446744073709551615 → CallGoesOn (code_after_step (fed_zeros k (reached p (Door [] m) c)).machine 0)
     shut_go zero all most = absurd (omega (arith, all))
     shut_go (suc zero) all most =
-        subst (λ (y : Counted). GoesOn (told y.machine 0)) (sym (taken p m 0 c free (omega (arith, most))))
-        (told_goes p (Shutting call.Lock number) (Store kind.Shut (word.Choosing p.index) 0) 0 refl refl refl)
+        subst (λ (y : Counted). CallGoesOn (code_after_step y.machine 0)) (sym (taken p m 0 c free (omega (arith, most))))
+        (reported_goes p (Shutting call.Lock number) (Store kind.Shut (word.Choosing p.index) 0) 0 refl refl refl)
     shut_go (suc (suc k)) all most =
         let l = length_others p.procs p.index below in
         let w = length_waits others in
-        subst (λ (y : Counted). GoesOn (told y.machine 0))
+        subst (λ (y : Counted). CallGoesOn (code_after_step y.machine 0))
         (sym (zeros_first (suc k) _ ∙ ap (fed_zeros (suc k)) (taken p m 0 c free (omega (arith, most))) ∙ zeros_first k _ ∙ ap (fed_zeros k) (shuts p number 0 (c + 1) (omega (arith, most)))))
         (waits_go p others 0 number (c + 1 + 1) k refl (omega (arith, l, w, all)) (omega (arith, l, w, all, most)))
 
@@ -287,7 +287,7 @@ module _ (p : RmeProcess) (x : RmePosition) (steps : ℕ) (a : RmeAccess) (r : �
       let most : p.steps + zeros + 1 ≤ 18446744073709551615 = omega (arith, counts, small) in
       fed_on q _ 0 a r run.Marks
       (lands ∙ ap (reached p (Wait (m + 1) [] None)) counts ∙ sym (passed_all m p.steps free zeros all most) ∙ ap (λ y. fed_once (fed_zeros zeros y) 0) (sym is))
-      (subst (λ (y : Counted). GoesOn (told (fed_zeros zeros y).machine 0)) (sym is) (shut_go m p.steps free zeros all most))
+      (subst (λ (y : Counted). CallGoesOn (code_after_step (fed_zeros zeros y).machine 0)) (sym is) (shut_go m p.steps free zeros all most))
       (subst (λ (y : Counted). IsNextRun y.machine p.procs p.index run.Marks) (sym lands) (marks_next p [] (m + 1) refl)) back big
 
 module _ (p : RmeProcess) (x : RmePosition) (steps : ℕ) (below : p.index < p.procs) (few : p.procs ≤ 64) (small : p.steps < 18446744073709551615) where

@@ -1,7 +1,7 @@
 -- The steps of runs: each load reads 0.
 use Rattle.std.proofs.Common.{◌≡◌, ℕ, zero, suc, ◌+◌, ◌-◌, ◌*◌, ◌<◌, ◌≤◌, ◌≢◌, min, max, ◌==◌, not, true, false, nat_lt, is_none, List, [], ◌∷◌, ◌++◌, length, Option, Some, None, refl, sym, ap, ◌∙◌, subst, inl, inr, eq-eqb, eqb-true, arith}
 use Rattle.std.proofs.lemmas.Bool.{eqb-false}
-use Rattle.rme_c.proofs.Common.{lt-ltb, cases_Bool, Access, Place, access, first, kind_of, word_of, carried, above, is_entry, mended_entered, MachineState, next_access, stepped, RmeProcess, layout_of, Free as IsFree}
+use Rattle.rme_c.proofs.Common.{lt-ltb, cases_Bool, Access, Place, access, first, kind_of, word_of, carried_value, above, is_entry, mended_entered, MachineState, next_access, machine_after_step, RmeProcess, layout_of, Free as IsFree}
 use Rattle.rmecore.proofs.Scans.{above_first, without-first, without-next, has-first}
 use Rattle.rmecore.specs.Machine.{answer, is_blocked}
 use Rattle.rmecore.specs.Place.{Rest, Reread, Opening, Door, Shutting, Wait, Leaving, Unmarking, next, without, span}
@@ -12,8 +12,8 @@ use Rattle.rmecore.specs.declared.kind.Kind.TheVariants as kind
 use Rattle.rmecore.specs.declared.word.Word.TheVariants as word
 use Rattle.rmeworld.specs.MachineState.{outcome}
 use Rattle.rmeworld.specs.declared.outcome.Outcome.{Outcome}
-use Rattle.rme_c.specs.Codes.{told, told_by, goes_as}
-use Rattle.rme_c.specs.Runs.{Counted, fed_once, fed_zeros, IsRun, peeks, waits, GoesOn}
+use Rattle.rme_c.specs.Codes.{code_after_step, reports_by, goes_as}
+use Rattle.rme_c.specs.Runs.{Counted, fed_once, fed_zeros, AreNextAccesses, peeks, waits, CallGoesOn}
 
 -- one feed of 0 more, at the front
 pub zeros_first : (k : ℕ) (c : Counted) → fed_zeros (suc k) c ≡ fed_zeros k (fed_once c 0)
@@ -27,7 +27,7 @@ zeros_sum a (suc b) s c e =
     let more : s ≡ suc (a + b) = omega (arith, e) in
     ap (λ k. fed_zeros k c) more ∙ ap (λ x. fed_once x 0) (zeros_sum a b (a + b) c refl)
 
-pub goes_goes : (o : Option Access) → GoesOn (goes_as o)
+pub goes_goes : (o : Option Access) → CallGoesOn (goes_as o)
 goes_goes None = inl refl
 goes_goes (Some (Load kind (word.Choosing p))) = inr (omega arith)
 goes_goes (Some (Load kind (word.Number p))) = inr (omega arith)
@@ -35,9 +35,9 @@ goes_goes (Some (Load kind (word.Inside p))) = inr (omega arith)
 goes_goes (Some (Load kind (word.Data i))) = inl refl
 goes_goes (Some (Store kind word v)) = inl refl
 
-told_on : (o : Option Access) (x : Outcome) (next : Option Access) → is_none o ≡ false → x.answer ≡ None → x.progress.blocked ≡ false → told_by o x next ≡ goes_as next
-told_on None x next busy none free = cc
-told_on (Some a) x next busy none free = rw (none, free) refl
+reported_on : (o : Option Access) (x : Outcome) (next : Option Access) → is_none o ≡ false → x.answer ≡ None → x.progress.blocked ≡ false → reports_by o x next ≡ goes_as next
+reported_on None x next busy none free = cc
+reported_on (Some a) x next busy none free = rw (none, free) refl
 
 length_span_out : (p i k : ℕ) → p < i → length (span p i k) ≡ k
 length_span_out p i zero h = refl
@@ -95,7 +95,7 @@ module _ (p : RmeProcess) where
   reached t c = record { machine = place_at t; steps = c }
 
   -- a step of the lock's part that is no entry
-  step : (s t : Place) (a : Access) (v c : ℕ) → access p.limit p.index s ≡ Some a → next p.procs p.limit p.index s (kind_of a) (word_of a) (carried a v) ≡ Some t
+  step : (s t : Place) (a : Access) (v c : ℕ) → access p.limit p.index s ≡ Some a → next p.procs p.limit p.index s (kind_of a) (word_of a) (carried_value a v) ≡ Some t
       → is_entry s t ≡ false → mended_entered (p.unmended == 0) s t ≡ (p.unmended == 0) → c < 18446744073709551615 → fed_once (reached s c) v ≡ reached t (c + 1)
   step s t a v c is goes entry mended few =
       let counts : min (c + 1) 18446744073709551615 ≡ c + 1 = omega (arith, few) in
@@ -162,62 +162,62 @@ module _ (p : RmeProcess) where
       ∙ ap (reached (Wait k [] None)) same
 
   -- the accesses of a scan come one after another
-  pub peeks_run : (js : List ℕ) (i m : ℕ) → js ≡ above n own i → IsRun (place_at (Door js m)) (peeks js)
+  pub peeks_run : (js : List ℕ) (i m : ℕ) → js ≡ above n own i → AreNextAccesses (place_at (Door js m)) (peeks js)
   peeks_run [] i m e = tt
   peeks_run (j ∷ js) i m e =
       let t = tail_is n own j js i e in
-      (refl, subst (λ s. IsRun s (peeks js)) (sym (ap (λ (x : Counted). x.machine) (peeked j js m 0 t (omega arith)))) (peeks_run js (j + 1) m t))
+      (refl, subst (λ s. AreNextAccesses s (peeks js)) (sym (ap (λ (x : Counted). x.machine) (peeked j js m 0 t (omega arith)))) (peeks_run js (j + 1) m t))
 
-  pub waits_run : (js : List ℕ) (i k : ℕ) → js ≡ above n own i → IsRun (place_at (Wait k js None)) (waits js)
+  pub waits_run : (js : List ℕ) (i k : ℕ) → js ≡ above n own i → AreNextAccesses (place_at (Wait k js None)) (waits js)
   waits_run [] i k e = tt
   waits_run (j ∷ js) i k e =
       let t = tail_is n own j js i e in
       let weigh : Access = Load kind.Weigh (word.Number j) in (
         refl,
-        subst (λ s. IsRun s (weigh ∷ waits js)) (sym (ap (λ (x : Counted). x.machine) (looks k j js 0 (omega arith))))
-            (refl, subst (λ s. IsRun s (waits js)) (sym (ap (λ (x : Counted). x.machine) (weighs k j js 0 t (omega arith)))) (waits_run js (j + 1) k t)),
+        subst (λ s. AreNextAccesses s (weigh ∷ waits js)) (sym (ap (λ (x : Counted). x.machine) (looks k j js 0 (omega arith))))
+            (refl, subst (λ s. AreNextAccesses s (waits js)) (sym (ap (λ (x : Counted). x.machine) (weighs k j js 0 t (omega arith)))) (waits_run js (j + 1) k t)),
       )
 
   -- a scan, and what follows it
-  pub peeks_then : (js : List ℕ) (i m : ℕ) (rest : List Access) → js ≡ above n own i → IsRun (place_at (Door [] m)) rest → IsRun (place_at (Door js m)) (peeks js ++ rest)
+  pub peeks_then : (js : List ℕ) (i m : ℕ) (rest : List Access) → js ≡ above n own i → AreNextAccesses (place_at (Door [] m)) rest → AreNextAccesses (place_at (Door js m)) (peeks js ++ rest)
   peeks_then [] i m rest e r = r
   peeks_then (j ∷ js) i m rest e r =
       let t = tail_is n own j js i e in
-      (refl, subst (λ s. IsRun s (peeks js ++ rest)) (sym (ap (λ (x : Counted). x.machine) (peeked j js m 0 t (omega arith)))) (peeks_then js (j + 1) m rest t r))
+      (refl, subst (λ s. AreNextAccesses s (peeks js ++ rest)) (sym (ap (λ (x : Counted). x.machine) (peeked j js m 0 t (omega arith)))) (peeks_then js (j + 1) m rest t r))
 
-  pub waits_then : (js : List ℕ) (i k : ℕ) (rest : List Access) → js ≡ above n own i → IsRun (place_at (Wait k [] None)) rest → IsRun (place_at (Wait k js None)) (waits js ++ rest)
+  pub waits_then : (js : List ℕ) (i k : ℕ) (rest : List Access) → js ≡ above n own i → AreNextAccesses (place_at (Wait k [] None)) rest → AreNextAccesses (place_at (Wait k js None)) (waits js ++ rest)
   waits_then [] i k rest e r = r
   waits_then (j ∷ js) i k rest e r =
       let t = tail_is n own j js i e in
       let weigh : Access = Load kind.Weigh (word.Number j) in (
         refl,
-        subst (λ s. IsRun s (weigh ∷ (waits js ++ rest))) (sym (ap (λ (x : Counted). x.machine) (looks k j js 0 (omega arith))))
-            (refl, subst (λ s. IsRun s (waits js ++ rest)) (sym (ap (λ (x : Counted). x.machine) (weighs k j js 0 t (omega arith)))) (waits_then js (j + 1) k rest t r)),
+        subst (λ s. AreNextAccesses s (weigh ∷ (waits js ++ rest))) (sym (ap (λ (x : Counted). x.machine) (looks k j js 0 (omega arith))))
+            (refl, subst (λ s. AreNextAccesses s (waits js ++ rest)) (sym (ap (λ (x : Counted). x.machine) (weighs k j js 0 t (omega arith)))) (waits_then js (j + 1) k rest t r)),
       )
 
   -- a step that neither ends its call nor is blocked
-  pub told_goes : (s : Place) (a : Access) (v : ℕ) → access p.limit p.index s ≡ Some a → answer s (kind_of a) (carried a v) ≡ None → is_blocked p.index s (kind_of a) (carried a v) ≡ false → GoesOn (told (place_at s) v)
-  told_goes s a v is ends blocks =
+  pub reported_goes : (s : Place) (a : Access) (v : ℕ) → access p.limit p.index s ≡ Some a → answer s (kind_of a) (carried_value a v) ≡ None → is_blocked p.index s (kind_of a) (carried_value a v) ≡ false → CallGoesOn (code_after_step (place_at s) v)
+  reported_goes s a v is ends blocks =
       let o : Outcome = outcome (place_at s) (next_access (place_at s)) v in
       let busy : is_none (next_access (place_at s)) ≡ false = rw is refl in
       let none : o.answer ≡ None = rw (is, ends) refl in
       let free : o.progress.blocked ≡ false = rw (is, blocks) refl in
-      subst GoesOn (sym (told_on (next_access (place_at s)) o (next_access (stepped (place_at s) v)) busy none free)) (goes_goes (next_access (stepped (place_at s) v)))
+      subst CallGoesOn (sym (reported_on (next_access (place_at s)) o (next_access (machine_after_step (place_at s) v)) busy none free)) (goes_goes (next_access (machine_after_step (place_at s) v)))
 
-  pub peeks_go : (js : List ℕ) (i m c k : ℕ) → js ≡ above n own i → k < length js → c + length js ≤ 18446744073709551615 → GoesOn (told (fed_zeros k (reached (Door js m) c)).machine 0)
+  pub peeks_go : (js : List ℕ) (i m c k : ℕ) → js ≡ above n own i → k < length js → c + length js ≤ 18446744073709551615 → CallGoesOn (code_after_step (fed_zeros k (reached (Door js m) c)).machine 0)
   peeks_go [] i m c k e h few = absurd (omega arith)
-  peeks_go (j ∷ js) i m c zero e h few = told_goes (Door (j ∷ js) m) (Load kind.Peek (word.Number j)) 0 refl refl refl
+  peeks_go (j ∷ js) i m c zero e h few = reported_goes (Door (j ∷ js) m) (Load kind.Peek (word.Number j)) 0 refl refl refl
   peeks_go (j ∷ js) i m c (suc k) e h few =
       let t = tail_is n own j js i e in
-      subst (λ (x : Counted). GoesOn (told x.machine 0)) (sym (zeros_first k _ ∙ ap (fed_zeros k) (peeked j js m c t (omega (arith, few))))) (peeks_go js (j + 1) m (c + 1) k t (omega arith) (omega (arith, few)))
+      subst (λ (x : Counted). CallGoesOn (code_after_step x.machine 0)) (sym (zeros_first k _ ∙ ap (fed_zeros k) (peeked j js m c t (omega (arith, few))))) (peeks_go js (j + 1) m (c + 1) k t (omega arith) (omega (arith, few)))
 
-  pub waits_go : (js : List ℕ) (i k c r : ℕ) → js ≡ above n own i → r < length (waits js) → c + length (waits js) ≤ 18446744073709551615 → GoesOn (told (fed_zeros r (reached (Wait k js None) c)).machine 0)
+  pub waits_go : (js : List ℕ) (i k c r : ℕ) → js ≡ above n own i → r < length (waits js) → c + length (waits js) ≤ 18446744073709551615 → CallGoesOn (code_after_step (fed_zeros r (reached (Wait k js None) c)).machine 0)
   waits_go [] i k c r e h few = absurd (omega arith)
-  waits_go (j ∷ js) i k c zero e h few = told_goes (Wait k (j ∷ js) None) (Load kind.Look (word.Choosing j)) 0 refl refl refl
+  waits_go (j ∷ js) i k c zero e h few = reported_goes (Wait k (j ∷ js) None) (Load kind.Look (word.Choosing j)) 0 refl refl refl
   waits_go (j ∷ js) i k c (suc zero) e h few =
-      subst (λ (x : Counted). GoesOn (told x.machine 0)) (sym (looks k j js c (omega (arith, few)))) (told_goes (Wait k (j ∷ js) (Some j)) (Load kind.Weigh (word.Number j)) 0 refl refl refl)
+      subst (λ (x : Counted). CallGoesOn (code_after_step x.machine 0)) (sym (looks k j js c (omega (arith, few)))) (reported_goes (Wait k (j ∷ js) (Some j)) (Load kind.Weigh (word.Number j)) 0 refl refl refl)
   waits_go (j ∷ js) i k c (suc (suc r)) e h few =
       let t = tail_is n own j js i e in
-      subst (λ (x : Counted). GoesOn (told x.machine 0))
+      subst (λ (x : Counted). CallGoesOn (code_after_step x.machine 0))
       (sym (zeros_first (suc r) _ ∙ ap (fed_zeros (suc r)) (looks k j js c (omega (arith, few))) ∙ zeros_first r _ ∙ ap (fed_zeros r) (weighs k j js (c + 1) t (omega (arith, few)))))
       (waits_go js (j + 1) k (c + 1 + 1) r t (omega arith) (omega (arith, few)))

@@ -1,12 +1,12 @@
 -- An append by one feed.
 use Rattle.std.proofs.Common.{◌≡◌, ◌↔◌, ℕ, zero, suc, min, ◌+◌, ◌*◌, ◌<◌, ◌≤◌, false, List, [], ◌∷◌, ◌++◌, length, take, drop, slice_index, None, refl, sym, ap, ◌∙◌, subst, arith, length-take}
-use Rattle.rme_c.proofs.Common.{Place, Reply, Done, Script, puts, store_steps, record_of, length-store_steps, step-record, step-commit, step-entry, step-last, step-count, step-disarm, held, Purpose, MachineState, next_access, access_by, Position, Lock, Within, RmeProcess, purpose_of, layout_of, machine_state_at, Fits, position_of, Told, IsStep, stepped}
+use Rattle.rme_c.proofs.Common.{Place, Reply, Done, Script, puts, store_steps, record_of, length-store_steps, step-record, step-commit, step-entry, step-last, step-count, step-disarm, saturate, Purpose, MachineState, next_access, access_by, Position, Lock, Within, RmeProcess, purpose_of, layout_of, machine_state_at, FitsPosition, position_of, Effect, IsStep, machine_after_step}
 use Rattle.redomail.specs.declared.reply.Reply.TheVariants.{Stored}
 use Rattle.redomail.specs.Layout.{place_at, last_at}
 use Rattle.rmecore.specs.Place as place
 use Rattle.rmecore.specs.declared.stage.Stage.TheVariants as stage
 use Rattle.rmeworld.specs.ProcessState.{Doing}
-use Rattle.rme_c.specs.Codes.{shown}
+use Rattle.rme_c.specs.Codes.{next_for_c}
 use Rattle.rme_c.specs.declared.process.RmeAccess.{RmeAccess}
 use Rattle.rme_c.specs.declared.process.RmeStores.{RmeStores}
 use Rattle.rme_c.specs.declared.script_position.ScriptPosition.TheVariants as script_position
@@ -22,14 +22,14 @@ puts_next limit p s w (x ∷ xs) (suc k) e h = puts_next limit p s w xs k e (ome
 abbrev store_of : ℕ → ℕ → RmeAccess
 store_of i v = record { store = 1; place = i; value = v }
 
-module _ (p : RmeProcess) (eight : length p.value ≡ 8) (at seq : ℕ) (fits : Fits p (Within (script_position.Store at seq 0))) where
+module _ (p : RmeProcess) (eight : length p.value ≡ 8) (at seq : ℕ) (fits : FitsPosition p (Within (script_position.Store at seq 0))) where
   abbrev all : ℕ
   all = 8 + 2 * p.width
 
   abbrev here : ℕ → Position
   here k = Within (script_position.Store at seq k)
 
-  pub fits_at : (k : ℕ) → k < all → Fits p (here k)
+  pub fits_at : (k : ℕ) → k < all → FitsPosition p (here k)
   fits_at k h = (fits.0, (fits.1.0, (fits.1.1.0, h)))
 
   more : (k c v : ℕ) → k + 1 < all → c < 18446744073709551615 → fed_once (counted_at p c (here k)) v ≡ counted_at p (c + 1) (here (k + 1))
@@ -52,7 +52,7 @@ module _ (p : RmeProcess) (eight : length p.value ≡ 8) (at seq : ℕ) (fits : 
   named_is (suc k) c h few =
       let before = named_is k c (omega (arith, h)) (omega (arith, few)) in
       let there = zeros k c (omega (arith, h)) (omega (arith, few)) in
-      λ i. before i ++ shown p.procs None (next_access (there i).machine) ∷ []
+      λ i. before i ++ next_for_c p.procs None (next_access (there i).machine) ∷ []
 
   is_store : (k : ℕ) → k < all → IsStore (next_access (machine_state_at p (here k)))
   is_store k h =
@@ -78,52 +78,52 @@ module _ (p : RmeProcess) (eight : length p.value ≡ 8) (at seq : ℕ) (fits : 
   wide = let most = fits.1.1.0.most in omega (arith, length-take p.width p.value, eight, most)
 
   -- store k, from the put of the mailbox that it is
-  put_at : (k i v : ℕ) → drop k steps ≡ (i, v) ∷ drop (k + 1) steps → store_at p at seq k ≡ record { store = 1; place = held (3 * p.procs + i); value = v }
+  put_at : (k i v : ℕ) → drop k steps ≡ (i, v) ∷ drop (k + 1) steps → store_at p at seq k ≡ record { store = 1; place = saturate (3 * p.procs + i); value = v }
   put_at k i v e =
-      ap (λ xs. shown p.procs None (access_by p.limit p.index place.Inside (Doing (purpose_of (layout_of p) p.value (script_position.Store at seq k)) (puts xs (Done Stored))))) e
+      ap (λ xs. next_for_c p.procs None (access_by p.limit p.index place.Inside (Doing (purpose_of (layout_of p) p.value (script_position.Store at seq k)) (puts xs (Done Stored))))) e
 
   moved : (i j v : ℕ) → i ≡ j → store_of i v ≡ store_of j v
   moved i j v e = ap (λ x. store_of x v) e
 
   -- the record, from this place of the block on
-  pub record_row : (start j : ℕ) → start ≡ 3 * p.procs + 4 → j < 2 + p.width → store_at p at seq (0 + j) ≡ record { store = 1; place = held (start + j); value = slice_index (at ∷ seq ∷ values) j }
+  pub record_row : (start j : ℕ) → start ≡ 3 * p.procs + 4 → j < 2 + p.width → store_at p at seq (0 + j) ≡ record { store = 1; place = saturate (start + j); value = slice_index (at ∷ seq ∷ values) j }
   record_row start j e h =
       let most = fits.1.1.0.most in
       let v : ℕ = slice_index (at ∷ seq ∷ values) j in
       let same : 0 + j ≡ j = omega arith in
       ap (store_at p at seq) same
       ∙ put_at j (4 + j) v (step-record (layout_of p) p.index (record_of at seq values) j (omega (arith, wide, most)) (omega (arith, wide, h)))
-      ∙ moved (held (3 * p.procs + (4 + j))) (held (start + j)) v (omega (arith, e))
+      ∙ moved (saturate (3 * p.procs + (4 + j))) (saturate (start + j)) v (omega (arith, e))
 
   pub commit : (k i : ℕ) → k ≡ 2 + p.width → i ≡ 3 * p.procs + 3 → i < 18446744073709551615 → store_at p at seq k ≡ record { store = 1; place = i; value = 1 }
-  commit k i h e small = put_at k 3 1 (step-commit (layout_of p) p.index (record_of at seq values) k (omega (arith, wide, h))) ∙ moved (held (3 * p.procs + 3)) i 1 (omega (arith, e, small))
+  commit k i h e small = put_at k 3 1 (step-commit (layout_of p) p.index (record_of at seq values) k (omega (arith, wide, h))) ∙ moved (saturate (3 * p.procs + 3)) i 1 (omega (arith, e, small))
 
   -- the entry
-  pub entry_row : (k start j : ℕ) → k ≡ 3 + p.width → start ≡ held (held (place_at (layout_of p) at + 0) + 3 * p.procs) → j < 2 + p.width
-      → store_at p at seq (k + j) ≡ record { store = 1; place = held (start + j); value = slice_index (p.index ∷ seq ∷ values) j }
+  pub entry_row : (k start j : ℕ) → k ≡ 3 + p.width → start ≡ saturate (saturate (place_at (layout_of p) at + 0) + 3 * p.procs) → j < 2 + p.width
+      → store_at p at seq (k + j) ≡ record { store = 1; place = saturate (start + j); value = slice_index (p.index ∷ seq ∷ values) j }
   entry_row k start j h e small =
       let v : ℕ = slice_index (p.index ∷ seq ∷ values) j in
       let x : ℕ = place_at (layout_of p) at in
-      put_at (k + j) (held (x + j)) v (step-entry (layout_of p) p.index (record_of at seq values) (k + j) j (omega (arith, wide, h)) (omega (arith, wide, small)))
-      ∙ moved (held (3 * p.procs + held (x + j))) (held (start + j)) v (omega (arith, e))
+      put_at (k + j) (saturate (x + j)) v (step-entry (layout_of p) p.index (record_of at seq values) (k + j) j (omega (arith, wide, h)) (omega (arith, wide, small)))
+      ∙ moved (saturate (3 * p.procs + saturate (x + j))) (saturate (start + j)) v (omega (arith, e))
 
   pub numbered : (k i : ℕ) → k ≡ 5 + 2 * p.width → i ≡ 3 * p.procs + last_at (layout_of p) p.index → i < 18446744073709551615 → store_at p at seq k ≡ record { store = 1; place = i; value = seq }
   numbered k i h e small =
       put_at k (last_at (layout_of p) p.index) seq (step-last (layout_of p) p.index (record_of at seq values) k (omega (arith, wide, h)))
-      ∙ moved (held (3 * p.procs + last_at (layout_of p) p.index)) i seq (omega (arith, e, small))
+      ∙ moved (saturate (3 * p.procs + last_at (layout_of p) p.index)) i seq (omega (arith, e, small))
 
-  pub counts : (k i v : ℕ) → k ≡ 6 + 2 * p.width → i ≡ 3 * p.procs + 2 → i < 18446744073709551615 → v ≡ held (at + 1) → store_at p at seq k ≡ record { store = 1; place = i; value = v }
+  pub counts : (k i v : ℕ) → k ≡ 6 + 2 * p.width → i ≡ 3 * p.procs + 2 → i < 18446744073709551615 → v ≡ saturate (at + 1) → store_at p at seq k ≡ record { store = 1; place = i; value = v }
   counts k i v h e small more =
-      put_at k 2 (held (at + 1)) (step-count (layout_of p) p.index (record_of at seq values) k (omega (arith, wide, h)))
-      ∙ moved (held (3 * p.procs + 2)) i (held (at + 1)) (omega (arith, e, small))
+      put_at k 2 (saturate (at + 1)) (step-count (layout_of p) p.index (record_of at seq values) k (omega (arith, wide, h)))
+      ∙ moved (saturate (3 * p.procs + 2)) i (saturate (at + 1)) (omega (arith, e, small))
       ∙ ap (store_of i) (sym more)
 
   pub disarm : (k i : ℕ) → k ≡ 7 + 2 * p.width → i ≡ 3 * p.procs + 3 → i < 18446744073709551615 → store_at p at seq k ≡ record { store = 1; place = i; value = 0 }
-  disarm k i h e small = put_at k 3 0 (step-disarm (layout_of p) p.index (record_of at seq values) k (omega (arith, wide, h))) ∙ moved (held (3 * p.procs + 3)) i 0 (omega (arith, e, small))
+  disarm k i h e small = put_at k 3 0 (step-disarm (layout_of p) p.index (record_of at seq values) k (omega (arith, wide, h))) ∙ moved (saturate (3 * p.procs + 3)) i 0 (omega (arith, e, small))
 
   -- all stores are named, and the last one is fed
-  pub stored : (c step : ℕ) (q : RmeProcess) (s : RmeStores) (a : RmeAccess) → c ≤ 4611686018427387906 → step + 1 ≡ all → IsFedRun (counted_at p (c + step) (here step)) 0 q a s.told → s.count ≡ all
-      → take s.count s.each ≡ named_to p at seq s.count → s.told ≡ 28 → IsStored (counted_at p c (here 0)) q s a
+  pub stored : (c step : ℕ) (q : RmeProcess) (s : RmeStores) (a : RmeAccess) → c ≤ 4611686018427387906 → step + 1 ≡ all → IsFedRun (counted_at p (c + step) (here step)) 0 q a s.reports → s.count ≡ all
+      → take s.count s.each ≡ named_to p at seq s.count → s.reports ≡ 28 → IsStored (counted_at p c (here 0)) q s a
   stored c step q s a few last fed count names done =
       let most = fits.1.1.0.most in
       let within : c + all ≤ 18446744073709551615 = omega (arith, few, most) in
@@ -135,7 +135,7 @@ module _ (p : RmeProcess) (eight : length p.value ≡ 8) (at seq : ℕ) (fits : 
             λ z e.
             let same : step ≡ z = omega (arith, e, count, last) in
             let made : counted_at p (c + step) (here step) ≡ fed_zeros z from = sym (zeros step c (omega (arith, last)) (omega (arith, within, last))) ∙ ap (λ k. fed_zeros k from) same in
-            subst (λ x. IsFedRun x 0 q a s.told) made fed;
+            subst (λ x. IsFedRun x 0 q a s.reports) made fed;
         ends = done;
       }
 
@@ -158,23 +158,23 @@ module _ (p : RmeProcess) (seq closed count last : ℕ) (here : position_of p �
       let is : counted_of p ≡ counted_at p p.steps (Within (script_position.Closed seq)) = ap (counted_at p p.steps) here in sym asked ∙ ap (λ x. fed_two x closed count) (sym is)
 
   -- the message is stored, from where the third load leads
-  pub stored_from : (m q : RmeProcess) (s : RmeStores) (a : RmeAccess) (y : Position) (t : Told) (at n : ℕ) → m ≡ p → IsStep p third last m y t
+  pub stored_from : (m q : RmeProcess) (s : RmeStores) (a : RmeAccess) (y : Position) (t : Effect) (at n : ℕ) → m ≡ p → IsStep p third last m y t
       → y ≡ Within (script_position.Store at n 0) → IsStored (counted_at m (m.steps + 3) (Within (script_position.Store at n 0))) q s a → IsStored (fed_once (fed_two (counted_of p) closed count) last) q s a
   stored_from m q s a y t at n same step is makes =
       let there : Position = Within (script_position.Store at n 0) in
-      let exact : machine_state_at m there ≡ stepped (machine_state_at p third) last = sym (ap (machine_state_at m) is) ∙ step.exact in
+      let exact : machine_state_at m there ≡ machine_after_step (machine_state_at p third) last = sym (ap (machine_state_at m) is) ∙ step.exact in
       let steps : m.steps ≡ p.steps = ap (λ (z : RmeProcess). z.steps) same in
-      let more : m.steps + 3 ≡ held (p.steps + 2 + 1) = omega (arith, few, steps) in
+      let more : m.steps + 3 ≡ saturate (p.steps + 2 + 1) = omega (arith, few, steps) in
       let led : counted_at m (m.steps + 3) there ≡ fed_once (counted_at p (p.steps + 2) third) last = λ i. record { machine = exact i; steps = more i } in
       subst (λ x. IsStored x q s a) (led ∙ ap (λ x. fed_once x last) asked_from) makes
 
   -- the third load leads to an answer
-  pub no_store : (m : RmeProcess) (y : Position) (t : Told) → IsStep p third last m y t → y ≡ Lock stage.Inside → IsStore (next_access (fed_once (fed_two (counted_of p) closed count) last).machine) → ⊥
+  pub no_store : (m : RmeProcess) (y : Position) (t : Effect) → IsStep p third last m y t → y ≡ Lock stage.Inside → IsStore (next_access (fed_once (fed_two (counted_of p) closed count) last).machine) → ⊥
   no_store m y t step is h =
       let led : (fed_once (fed_two (counted_of p) closed count) last).machine ≡ machine_state_at m (Lock stage.Inside) = ap (λ x. (fed_once x last).machine) (sym asked_from) ∙ sym step.exact ∙ ap (machine_state_at m) is in
       subst (λ (z : MachineState). IsStore (next_access z)) led h
 
-  pub appended : (q : RmeProcess) (s : RmeStores) (a : RmeAccess) → ((0 < s.count) ↔ IsStore (next_access (fed_once (fed_two (counted_of p) closed count) last).machine)) → (s.count ≡ 0 → IsFedRun (fed_two (counted_of p) closed count) last q a s.told) → (0 < s.count → IsStored (fed_once (fed_two (counted_of p) closed count) last) q s a) → IsAppended p closed count last q s a
+  pub appended : (q : RmeProcess) (s : RmeStores) (a : RmeAccess) → ((0 < s.count) ↔ IsStore (next_access (fed_once (fed_two (counted_of p) closed count) last).machine)) → (s.count ≡ 0 → IsFedRun (fed_two (counted_of p) closed count) last q a s.reports) → (0 < s.count → IsStored (fed_once (fed_two (counted_of p) closed count) last) q s a) → IsAppended p closed count last q s a
   appended q s a when ended stored =
       record {
         loads_closed = ap (λ y. next_access (machine_state_at p y)) here;

@@ -7,11 +7,11 @@ use Rattle.rmecore.specs.Place.{Leaving, Unmarking}
 use Rattle.rmecore.specs.declared.core_call.CoreCall.TheVariants as call
 use Rattle.rmecore.specs.declared.stage.Stage.TheVariants as stage
 use Rattle.rmeworld.specs.declared.call.Call.TheVariants as start
-use Rattle.rme_c.specs.Codes.{told}
-use Rattle.rme_c.specs.Starts.{size_cause, call_cause, cause_behind}
+use Rattle.rme_c.specs.Codes.{code_after_step}
+use Rattle.rme_c.specs.Starts.{size_cause, call_cause, first_of_causes}
 use Rattle.rme_c.specs.declared.process.RmeAccess.{RmeAccess}
 use Rattle.rme_c.specs.declared.process.RmePosition.{RmePosition}
-use Rattle.rme_c.specs.declared.runs.Run.TheVariants as run
+use Rattle.rme_c.specs.declared.runs.AccessRun.TheVariants as run
 use Rattle.rme_c.specs.Runs.{Counted, counted_of, fed_once, fed_zeros, after_start, IsNextRun, IsWholeCall}
 
 -- after the start
@@ -36,11 +36,11 @@ module _ (p : RmeProcess) (here : position_of p ≡ Lock stage.Inside) (mended :
     leaves sized =
         let made : counted_of (record (begun p) { position = x; steps = 1 }) ≡ fed_zeros 1 (after_start (machine_state_of p) start.Unlock) = lands ∙ sym (drops (begun p) 0 0 (omega arith)) ∙ ap (λ y. fed_once y 0) (sym starts) in
         record {
-          allowed = ap (λ o. cause_behind o (call_cause (machine_state_of p) (Some start.Unlock))) sized ∙ may_leave;
+          allowed = ap (λ o. first_of_causes o (call_cause (machine_state_of p) (Some start.Unlock))) sized ∙ may_leave;
           run = subst (λ (y : Counted). IsNextRun y.machine p.procs p.index run.Leaves) (sym starts) (leaves_next (begun p));
           all = omega arith;
           fed = fed_after (record (begun p) { position = x; steps = 1 }) (fed_zeros 1 (after_start (machine_state_of p) start.Unlock)) 0 q b a code made fed;
         }
 
     pub unlocked : code ≡ 21
-    unlocked = fed.told ∙ ap (λ (y : Counted). told y.machine 0) lands
+    unlocked = fed.reports ∙ ap (λ (y : Counted). code_after_step y.machine 0) lands

@@ -10,11 +10,11 @@ use Rattle.rmecore.specs.declared.refusal.Refusal.{Refusal}
 use Rattle.rmecore.specs.Refused.{number_of}
 use Rattle.redomail.specs.declared.reply.Reply.{Reply}
 use Rattle.redomail.specs.declared.reply.Reply.TheVariants as reply
-use Rattle.redomail.specs.Layout.{held}
+use Rattle.redomail.specs.Layout.{saturate}
 use Rattle.rmeworld.specs.declared.answer.Answer.{Answer}
 use Rattle.rmeworld.specs.declared.answer.Answer.TheVariants as answer
 use Rattle.rmeworld.specs.declared.outcome.Outcome.{Outcome}
-use Rattle.rmeworld.specs.MachineState.{MachineState, next_access, outcome, stepped}
+use Rattle.rmeworld.specs.MachineState.{MachineState, next_access, outcome, machine_after_step}
 use Rattle.rme_c.specs.declared.process.RmeAccess.{RmeAccess}
 
 -- the index of a word in the block of n processes: three lock words for each, then the data words
@@ -22,12 +22,12 @@ abbrev pub place : ℕ → Word → ℕ
 place n (word.Choosing p) = 3 * p
 place n (word.Number p) = 3 * p + 1
 place n (word.Inside p) = 3 * p + 2
-place n (word.Data i) = held (3 * n + i)
+place n (word.Data i) = saturate (3 * n + i)
 
 -- a load, or a store of a value
-abbrev pub wanted : ℕ → Access → RmeAccess
-wanted n (Load kind word) = record { store = 0; place = place n word; value = 0 }
-wanted n (Store kind word v) = record { store = 1; place = place n word; value = v }
+abbrev pub access_for_c : ℕ → Access → RmeAccess
+access_for_c n (Load kind word) = record { store = 0; place = place n word; value = 0 }
+access_for_c n (Store kind word v) = record { store = 1; place = place n word; value = v }
 
 -- the code of what a recovery finds
 abbrev pub found_code : Found → ℕ
@@ -83,22 +83,22 @@ goes_as (Some (Load kind (word.Data i))) = 0
 goes_as (Some (Store kind word v)) = 0
 
 -- the code of a step with its next access: an answer, 16 if it was blocked, how its call goes on, or 7 if there was no step
-abbrev pub told_as : Option Answer → Bool → Option Access → ℕ
-told_as (Some a) blocked next = answer_code a
-told_as None true next = 16
-told_as None false next = goes_as next
+abbrev pub reported_as : Option Answer → Bool → Option Access → ℕ
+reported_as (Some a) blocked next = answer_code a
+reported_as None true next = 16
+reported_as None false next = goes_as next
 
 -- the code of a step, if there is one
-abbrev pub told_by : Option Access → Outcome → Option Access → ℕ
-told_by None o next = 7
-told_by (Some a) o next = told_as o.answer o.progress.blocked next
+abbrev pub reports_by : Option Access → Outcome → Option Access → ℕ
+reports_by None o next = 7
+reports_by (Some a) o next = reported_as o.answer o.progress.blocked next
 
 -- the code that `rme_feed` answers
-abbrev pub told : MachineState → ℕ → ℕ
-told s v = told_by (next_access s) (outcome s (next_access s) v) (next_access (stepped s v))
+abbrev pub code_after_step : MachineState → ℕ → ℕ
+code_after_step s v = reports_by (next_access s) (outcome s (next_access s) v) (next_access (machine_after_step s v))
 
 -- what `next` is after a step: the next access, or the board word that was read
-abbrev pub shown : ℕ → Option Answer → Option Access → RmeAccess
-shown n (Some a) next = record { store = 0; place = 0; value = answer_word a }
-shown n None (Some a) = wanted n a
-shown n None None = record { store = 0; place = 0; value = 0 }
+abbrev pub next_for_c : ℕ → Option Answer → Option Access → RmeAccess
+next_for_c n (Some a) next = record { store = 0; place = 0; value = answer_word a }
+next_for_c n None (Some a) = access_for_c n a
+next_for_c n None None = record { store = 0; place = 0; value = 0 }

@@ -108,10 +108,10 @@ FitsAt l (position.Within c) = FitsScriptPosition l c
 FitsAt l _ = Unit {0}
 
 -- the process is one of its world's, and its sizes fit the position
-abbrev pub Fits : RmeProcess → Position → Type 0
-Fits p position.Lost = Unit {0}
-Fits p (position.Lock t) = (p.index < p.procs) × (p.procs ≤ 64)
-Fits p (position.Within c) = (p.index < p.procs) × ((p.procs ≤ 64) × FitsScriptPosition (layout_of p) c)
+abbrev pub FitsPosition : RmeProcess → Position → Type 0
+FitsPosition p position.Lost = Unit {0}
+FitsPosition p (position.Lock t) = (p.index < p.procs) × (p.procs ≤ 64)
+FitsPosition p (position.Within c) = (p.index < p.procs) × ((p.procs ≤ 64) × FitsScriptPosition (layout_of p) c)
 
 -- the position after a step of the lock's part: after an entry by a lock it is the ruin check
 abbrev pub landing : Bool → Stage → Position

@@ -16,8 +16,8 @@ use Rattle.rme_c.specs.declared.script_position.ScriptPosition.{ScriptPosition}
 use Rattle.rme_c.specs.declared.script_position.ScriptPosition.TheVariants as script_position
 
 -- the words of a record's value that were read, with zeros after them
-abbrev pub padded : ℕ → List ℕ → List ℕ
-padded read words = take read words ++ replicate (8 - read) 0
+abbrev pub padded_value : ℕ → List ℕ → List ℕ
+padded_value read words = take read words ++ replicate (8 - read) 0
 
 -- the stage of the script's job
 abbrev pub job_stage : Layout → List ℕ → ScriptPosition → JobStage
@@ -27,7 +27,7 @@ job_stage l words script_position.Ruining = stage.PutRuined
 job_stage l words script_position.Armed = stage.AskArmed
 job_stage l words script_position.At = stage.AskAt
 job_stage l words (script_position.Seq at) = stage.AskSeq at
-job_stage l words (script_position.Value at seq read) = stage.AskValue at seq (padded read words) read
+job_stage l words (script_position.Value at seq read) = stage.AskValue at seq (padded_value read words) read
 job_stage l words (script_position.Redo at seq step) = stage.Write (record_of at seq (take l.width words)) step (Mended true)
 job_stage l words (script_position.Closed seq) = stage.AskClosed seq (take l.width words)
 job_stage l words (script_position.Count seq closed) = stage.AskCount seq (take l.width words) closed

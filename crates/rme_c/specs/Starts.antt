@@ -45,13 +45,13 @@ call_cause s None = Some BadIndex
 call_cause s (Some call) = start_refusal s.layout (process_state_of s) call
 
 -- the first cause, if there is one
-abbrev pub cause_behind : Option Refusal → Option Refusal → Option Refusal
-cause_behind (Some r) _ = Some r
-cause_behind None cause = cause
+abbrev pub first_of_causes : Option Refusal → Option Refusal → Option Refusal
+first_of_causes (Some r) _ = Some r
+first_of_causes None cause = cause
 
 -- why a start of this call is refused
 abbrev pub refusal_of : MachineState → Option Call → Option Refusal
-refusal_of s call = cause_behind (size_cause s.layout s.limit s.index) (call_cause s call)
+refusal_of s call = first_of_causes (size_cause s.layout s.limit s.index) (call_cause s call)
 
 -- why a start is refused
 abbrev pub start_cause : MachineState → RmeCall → Option Refusal

@@ -16,7 +16,7 @@ use Rattle.rme_c.specs.declared.process.RmeAccess.{RmeAccess}
 use Rattle.rme_c.specs.declared.process.RmeProcess.{RmeProcess}
 use Rattle.rme_c.specs.declared.process.RmeStores.{RmeStores}
 use Rattle.rme_c.specs.declared.script_position.ScriptPosition.TheVariants as script_position
-use Rattle.rme_c.specs.Codes.{reply_code, shown}
+use Rattle.rme_c.specs.Codes.{reply_code, next_for_c}
 use Rattle.rme_c.specs.Positions.{layout_of, machine_state_at}
 use Rattle.rme_c.specs.Runs.{Counted, counted_of, fed_once, fed_zeros, IsFedRun}
 
@@ -44,11 +44,11 @@ IsStores (suc k) c = IsStores k c × IsStore (next_access (fed_zeros k c).machin
 -- this many accesses that come next where each reads 0, as they are shown
 abbrev pub shown_next : ℕ → ℕ → Counted → List RmeAccess
 shown_next n zero c = []
-shown_next n (suc k) c = shown_next n k c ++ shown n None (next_access (fed_zeros k c).machine) ∷ []
+shown_next n (suc k) c = shown_next n k c ++ next_for_c n None (next_access (fed_zeros k c).machine) ∷ []
 
 -- store k of an append, as it is shown
 abbrev pub store_at : RmeProcess → ℕ → ℕ → ℕ → RmeAccess
-store_at p at seq k = shown p.procs None (next_access (machine_state_at p (Within (script_position.Store at seq k))))
+store_at p at seq k = next_for_c p.procs None (next_access (machine_state_at p (Within (script_position.Store at seq k))))
 
 -- the first stores of an append, this many
 abbrev pub named_to : RmeProcess → ℕ → ℕ → ℕ → List RmeAccess
@@ -60,8 +60,8 @@ named_to p at seq (suc k) = named_to p at seq k ++ store_at p at seq k ∷ []
 pub record IsStored (c : Counted) (q : RmeProcess) (s : RmeStores) (a : RmeAccess) : Type 0 where
   pub stores : IsStores s.count c
   pub named : take s.count s.each ≡ shown_next c.machine.layout.procs s.count c
-  pub fed : (zeros : ℕ) → zeros + 1 ≡ s.count → IsFedRun (fed_zeros zeros c) 0 q a s.told
-  pub ends : s.told ≡ reply_code Stored
+  pub fed : (zeros : ℕ) → zeros + 1 ≡ s.count → IsFedRun (fed_zeros zeros c) 0 q a s.reports
+  pub ends : s.reports ≡ reply_code Stored
 
 -- after these two words
 abbrev pub fed_two : Counted → ℕ → ℕ → Counted
@@ -74,5 +74,5 @@ pub record IsAppended (p : RmeProcess) (closed count last : ℕ) (q : RmeProcess
   pub loads_count : next_access (fed_once (counted_of p) closed).machine ≡ Some (Load Gets (Data 2))
   pub loads_last : next_access (fed_two (counted_of p) closed count).machine ≡ Some (Load Gets (Data (last_at (layout_of p) p.index)))
   pub when : (0 < s.count) ↔ IsStore (next_access (fed_once (fed_two (counted_of p) closed count) last).machine)
-  pub ended : s.count ≡ 0 → IsFedRun (fed_two (counted_of p) closed count) last q a s.told
+  pub ended : s.count ≡ 0 → IsFedRun (fed_two (counted_of p) closed count) last q a s.reports
   pub stored : 0 < s.count → IsStored (fed_once (fed_two (counted_of p) closed count) last) q s a

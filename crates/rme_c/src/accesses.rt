@@ -3,7 +3,7 @@
 ghost use Rattle.std.specs.Prelude.{◌≡◌, ◌≤◌, IfSome};
 ghost use Rattle.rmecore.specs.Machine.{word_of};
 ghost use Rattle.rmeworld.specs.MachineState.{next_access, InWords};
-ghost use Rattle.rme_c.specs.Positions.{machine_state_at, Fits};
+ghost use Rattle.rme_c.specs.Positions.{machine_state_at, FitsPosition};
 ghost use Rattle.rme_c.specs.declared.position.Position.TheVariants as Position;
 
 use crate::position::Position;
@@ -17,7 +17,7 @@ use rmecore::{Access, Stage};
 // Inline: once in each C step.
 #[inline(always)]
 fn lock_next(p: &RmeProcess, stage: Stage) -> Option<Access>
-    requires { Fits p.now (Position.Lock stage) }
+    requires { FitsPosition p.now (Position.Lock stage) }
     ensures next { result ≡ next_access (machine_state_at p.now (Position.Lock stage)) }
     ensures word { IfSome result (λ a. InWords p.now.procs (word_of a)) }
 {
@@ -28,7 +28,7 @@ fn lock_next(p: &RmeProcess, stage: Stage) -> Option<Access>
 // Inline: once in each C step.
 #[inline(always)]
 pub fn next_at(p: &RmeProcess, position: Position) -> Option<Access>
-    requires { Fits p.now position }
+    requires { FitsPosition p.now position }
     ensures next { result ≡ next_access (machine_state_at p.now position) }
     ensures word { IfSome result (λ a. InWords p.now.procs (word_of a)) }
     ensures placed { IfSome result (λ _. p.now.procs ≤ 64) }

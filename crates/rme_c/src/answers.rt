@@ -3,7 +3,7 @@
 ghost use Rattle.std.specs.Prelude.{◌≡◌, ◌<◌, ◌≤◌, IfSome, None};
 ghost use Rattle.rmecore.specs.Machine.{word_of};
 ghost use Rattle.rmeworld.specs.MachineState.{InWords};
-ghost use Rattle.rme_c.specs.Codes.{place as place_at, wanted as wanted_by, found_code as code_of_found, reply_code as code_of_reply, answer_code as code_of_answer, answer_word as word_of_answer, refusal_code as code_of_refusal, told_as, goes_as, shown as shown_by};
+ghost use Rattle.rme_c.specs.Codes.{place as place_at, access_for_c as wanted_by, found_code as code_of_found, reply_code as code_of_reply, answer_code as code_of_answer, answer_word as word_of_answer, refusal_code as code_of_refusal, reported_as, goes_as, next_for_c as shown_by};
 
 use crate::process::RmeAccess;
 use redomail::Reply;
@@ -17,7 +17,7 @@ const STORE: u64 = 1;
 
 /// What a step meant for its call.
 #[derive(Clone, Copy)]
-pub struct Told {
+pub struct Effect {
     pub answer: Option<Answer>,
     /// A look or a weigh that has to be taken again.
     pub blocked: bool,
@@ -49,7 +49,7 @@ fn place(procs: u64, word: Word) -> u64
 /// A load or store for C.
 // Inline: once in each C step.
 #[inline(always)]
-pub fn wanted(procs: u64, access: Access) -> RmeAccess
+pub fn access_for_c(procs: u64, access: Access) -> RmeAccess
     requires procs { procs ≤ 64 }
     requires word { InWords procs (word_of access) }
     ensures { result ≡ wanted_by procs access }
@@ -141,7 +141,7 @@ fn answer_word(answer: Answer) -> u64
 /// What `next` is after an answer.
 // Inline: once in each answer.
 #[inline(always)]
-fn answered(answer: Answer) -> RmeAccess
+fn answer_for_c(answer: Answer) -> RmeAccess
     ensures { result ≡ record { store = 0; place = 0; value = word_of_answer answer } }
 {
     RmeAccess {
@@ -154,14 +154,14 @@ fn answered(answer: Answer) -> RmeAccess
 /// What `next` is: the next access, or after an answer.
 // Inline: once in each C step.
 #[inline(always)]
-pub fn shown(procs: u64, answer: Option<Answer>, next: Option<Access>) -> RmeAccess
+pub fn next_for_c(procs: u64, answer: Option<Answer>, next: Option<Access>) -> RmeAccess
     requires procs { procs ≤ 64 }
     requires word { IfSome next (λ a. InWords procs (word_of a)) }
     ensures { result ≡ shown_by procs answer next }
 {
     match (answer, next) {
-        (Some(answer), _) => answered(answer),
-        (None, Some(access)) => wanted(procs, access),
+        (Some(answer), _) => answer_for_c(answer),
+        (None, Some(access)) => access_for_c(procs, access),
         (None, None) => NOTHING,
     }
 }
@@ -182,7 +182,7 @@ fn goes_on(procs: u64, after: Option<Access>, next: &mut RmeAccess) -> u64
         Some(Access::Load(_, Word::Number(j))) => 64 + (3 * j + 1),
         Some(Access::Load(_, Word::Inside(j))) => 64 + (3 * j + 2),
         Some(Access::Load(_, Word::Data(_)) | Access::Store(_, _, _)) | None => {
-            *next = shown(procs, None, after);
+            *next = next_for_c(procs, None, after);
             0
         }
     }
@@ -191,21 +191,21 @@ fn goes_on(procs: u64, after: Option<Access>, next: &mut RmeAccess) -> u64
 /// The code of a step. `next` is the next access or the board word that was read, unless the code says it all.
 // Inline: once in each C step.
 #[inline(always)]
-pub fn tell(procs: u64, told: Told, after: Option<Access>, next: &mut RmeAccess) -> u64
+pub fn tell(procs: u64, reports: Effect, after: Option<Access>, next: &mut RmeAccess) -> u64
     requires procs { procs ≤ 64 }
     requires word { IfSome after (λ a. InWords procs (word_of a)) }
-    ensures code { result ≡ told_as told.answer told.blocked after }
-    ensures next { result < 64 → next.new ≡ shown_by procs told.answer after }
+    ensures code { result ≡ reported_as reports.answer reports.blocked after }
+    ensures next { result < 64 → next.new ≡ shown_by procs reports.answer after }
     ensures kept { 64 ≤ result → next.new ≡ next.old }
     ensures few { result < 256 }
 {
-    match told.answer {
+    match reports.answer {
         Some(answer) => {
-            *next = answered(answer);
+            *next = answer_for_c(answer);
             answer_code(answer)
         }
-        None if told.blocked => {
-            *next = shown(procs, None, after);
+        None if reports.blocked => {
+            *next = next_for_c(procs, None, after);
             16
         }
         None => goes_on(procs, after, next),

@@ -2,8 +2,8 @@
 //! after.
 
 ghost use Rattle.std.specs.Prelude.{◌≡◌, ◌≢◌, ℕ, ◌+◌, ◌*◌, ◌<◌, ◌≤◌, ◌↔◌, ◌∷◌, true, None, length, take, slice_index};
-ghost use Rattle.redomail.specs.Layout.{held};
-ghost use Rattle.rme_c.specs.Positions.{machine_state_of, position_of, Fits};
+ghost use Rattle.redomail.specs.Layout.{saturate};
+ghost use Rattle.rme_c.specs.Positions.{machine_state_of, position_of, FitsPosition};
 ghost use Rattle.rme_c.specs.Runs.{counted_at};
 ghost use Rattle.rme_c.specs.Stores.{append_begins, named_to, store_at, IsStored, IsAppended};
 ghost use Rattle.rme_c.specs.declared.position.Position.TheVariants as PositionOf;
@@ -15,13 +15,13 @@ use crate::position::{Position, append_position, layout, machine_state};
 use crate::process::{RmeAccess, RmeProcess, RmeStores};
 use crate::runs::MANY;
 use crate::script_position::ScriptPosition;
-use crate::steps::{decided, stored};
+use crate::steps::{after_decision, after_store};
 use redomail::layout::{ARMED, COUNT, RECORD};
 use redomail::record::row_word;
 
 /// A message that is stored: its place and its number. Its words are those of the process.
 #[derive(Clone, Copy)]
-struct NewEntry {
+struct NewMessage {
     at: u64,
     seq: u64,
 }
@@ -31,7 +31,7 @@ struct NewEntry {
 #[inline(always)]
 fn name(
     p: &RmeProcess,
-    entry: NewEntry,
+    entry: NewMessage,
     step: u64,
     place: u64,
     value: u64,
@@ -58,7 +58,7 @@ fn name(
 #[inline(always)]
 fn name_row(
     p: &RmeProcess,
-    entry: NewEntry,
+    entry: NewMessage,
     step: u64,
     start: u64,
     first: u64,
@@ -67,7 +67,7 @@ fn name_row(
     requires before { take step each.old ≡ named_to p.now entry.at entry.seq step }
     requires row { (j : ℕ) → j < 2 + p.now.width → store_at p.now entry.at entry.seq (step + j) ≡ record {
       store = 1;
-      place = held (start + j);
+      place = saturate (start + j);
       value = slice_index (first ∷ entry.seq ∷ take p.now.width p.now.value) j;
     } }
     requires few { p.now.width ≤ 8 }
@@ -85,8 +85,8 @@ fn name_row(
 /// Names the stores of an append, in order.
 // Inline: once in each append.
 #[inline(always)]
-fn name_stores(p: &RmeProcess, entry: NewEntry, each: &mut [RmeAccess; 24])
-    requires fits { Fits p.now (PositionOf.Within (ScriptPositionOf.Store entry.at entry.seq 0)) }
+fn name_stores(p: &RmeProcess, entry: NewMessage, each: &mut [RmeAccess; 24])
+    requires fits { FitsPosition p.now (PositionOf.Within (ScriptPositionOf.Store entry.at entry.seq 0)) }
     requires eight { length p.now.value ≡ 8 }
     requires room { length each.old ≡ 24 }
     ensures room { length each.new ≡ 24 }
@@ -121,8 +121,8 @@ fn name_stores(p: &RmeProcess, entry: NewEntry, each: &mut [RmeAccess; 24])
 /// Names the stores of an append, in order, and takes their steps, after those of its three loads.
 // Inline: once in each append.
 #[inline(always)]
-fn store_all(p: &mut RmeProcess, entry: NewEntry, stores: &mut RmeStores, next: &mut RmeAccess)
-    requires fits { Fits p.old (PositionOf.Within (ScriptPositionOf.Store entry.at entry.seq 0)) }
+fn store_all(p: &mut RmeProcess, entry: NewMessage, stores: &mut RmeStores, next: &mut RmeAccess)
+    requires fits { FitsPosition p.old (PositionOf.Within (ScriptPositionOf.Store entry.at entry.seq 0)) }
     requires eight { length p.old.value ≡ 8 }
     requires room { length stores.old.each ≡ 24 }
     requires few { p.old.steps < 4611686018427387904 }
@@ -133,16 +133,16 @@ fn store_all(p: &mut RmeProcess, entry: NewEntry, stores: &mut RmeStores, next: 
     let count = 8 + 2 * p.width;
     name_stores(p, entry, &mut stores.each);
     stores.count = count;
-    let (to, told) = stored(p, entry.at, entry.seq, count - 1, 0);
+    let (to, reports) = after_store(p, entry.at, entry.seq, count - 1, 0);
     machine_state(p, to);
     p.steps += 3 + count;
-    stores.told = tell(p.procs, told, next_at(p, to), next);
+    stores.reports = tell(p.procs, reports, next_at(p, to), next);
 }
 
 /// Takes the steps of an append that has loaded these three words, and those of its stores.
 // Inline: once in each append.
 #[inline(always)]
-fn appended(
+fn append_run(
     p: &mut RmeProcess,
     seq: u64,
     closed: u64,
@@ -152,22 +152,22 @@ fn appended(
     next: &mut RmeAccess,
 )
     requires here { position_of p.old ≡ PositionOf.Within (ScriptPositionOf.Closed seq) }
-    requires fits { Fits p.old (PositionOf.Within (ScriptPositionOf.Closed seq)) }
+    requires fits { FitsPosition p.old (PositionOf.Within (ScriptPositionOf.Closed seq)) }
     requires eight { length p.old.value ≡ 8 }
     requires room { length stores.old.each ≡ 24 }
     requires few { p.old.steps < 4611686018427387904 }
     ensures { IsAppended p.old closed count last p.new stores.new next.new }
 {
-    let (to, told) = decided(p, seq, closed, count, last);
+    let (to, reports) = after_decision(p, seq, closed, count, last);
     match to {
         Position::Within(ScriptPosition::Store { at, seq, step: 0 }) => {
-            store_all(p, NewEntry { at, seq }, stores, next);
+            store_all(p, NewMessage { at, seq }, stores, next);
         }
         _ => {
             machine_state(p, to);
             p.steps += 3;
             stores.count = 0;
-            stores.told = tell(p.procs, told, next_at(p, to), next);
+            stores.reports = tell(p.procs, reports, next_at(p, to), next);
         }
     }
 }
@@ -192,7 +192,7 @@ pub extern "C" fn rme_feed_append(
     let (_whole, _room) = (*p, *stores);
     match append_position(p) {
         Some(ScriptPosition::Closed { seq }) if p.steps < MANY => {
-            appended(p, seq, closed, count, last, stores, next);
+            append_run(p, seq, closed, count, last, stores, next);
             1
         }
         _ => 0,

@@ -35,7 +35,7 @@ pub fn is_block(layout: Layout, limit: u64, words: &[u64]) -> bool
 }
 
 /// The lock words of a process.
-fn own(words: &[u64], p: u64) -> Own
+fn own_words(words: &[u64], p: u64) -> Own
     requires { 3 * p + 2 < length words.now }
     ensures { result ≡ own_in words.now p }
 {
@@ -54,7 +54,7 @@ fn owns(alloc: Global, words: &[u64], procs: u64) -> Option<Owns>
 {
     let mut all = Vec::new(alloc);
     for p in 0..procs {
-        all.push(own(words, p)).ok()?;
+        all.push(own_words(words, p)).ok()?;
     }
     Some(Owns::new(all))
 }

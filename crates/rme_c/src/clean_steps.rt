@@ -5,7 +5,7 @@ ghost use Rattle.rmecore.specs.Machine.{place_of, after_access, progress, next_a
 ghost use Rattle.rmecore.specs.declared.core_call.CoreCall.TheVariants as CallOf;
 ghost use Rattle.rmecore.specs.declared.stage.Stage.TheVariants as StageOf;
 ghost use Rattle.rmecore.specs.Refused.{is_idle};
-ghost use Rattle.rme_c.specs.Positions.{standing_at, position_of, Fits};
+ghost use Rattle.rme_c.specs.Positions.{standing_at, position_of, FitsPosition};
 ghost use Rattle.rme_c.specs.Steps.{IsLanding, IsFed};
 ghost use Rattle.rme_c.specs.declared.position.Position.TheVariants as Position;
 
@@ -166,7 +166,7 @@ pub fn quick_feed(
     next: &mut RmeAccess,
 ) -> Option<u64>
     requires here { position_of p.old ≡ Position.Lock stage }
-    requires fits { Fits p.old (Position.Lock stage) }
+    requires fits { FitsPosition p.old (Position.Lock stage) }
     requires steps { steps ≡ p.old.steps + 1 }
     ensures fed { IfSome result (λ code. IsFed p.old value p.new next.old next.new code) }
     ensures none { result ≡ None → (p.new ≡ p.old) × (next.new ≡ next.old) }

@@ -1,23 +1,23 @@
 //! The functions that C calls.
 
 ghost use Rattle.std.specs.Prelude.{◌≡◌, ◌≢◌, ◌+◌, ◌*◌, ◌<◌, ◌≤◌, ◌↔◌, IfSome, Some, None, true, false, is_none, if◌then◌else◌, length};
-ghost use Rattle.redomail.specs.Layout.{held, size};
+ghost use Rattle.redomail.specs.Layout.{saturate, size};
 ghost use Rattle.rmeworld.specs.ImageRules.{IsLawfulImage, IsFirstBroken};
-ghost use Rattle.rmeworld.specs.MachineState.{resting, crashed, started, stepped, next_access, outcome};
+ghost use Rattle.rmeworld.specs.MachineState.{resting, machine_after_crash, machine_after_start, machine_after_step, next_access, outcome};
 ghost use Rattle.rme_c.specs.Blocks.{is_block as is_block_of, image_of};
-ghost use Rattle.rme_c.specs.Codes.{refusal_code as code_of_refusal, told as told_of, wanted as wanted_of, shown as shown_of};
-ghost use Rattle.rme_c.specs.Positions.{machine_state_at, machine_state_of, position_of, stage_now, Fits};
+ghost use Rattle.rme_c.specs.Codes.{refusal_code as code_of_refusal, code_after_step as reports_of, access_for_c as wanted_of, next_for_c as shown_of};
+ghost use Rattle.rme_c.specs.Positions.{machine_state_at, machine_state_of, position_of, stage_now, FitsPosition};
 ghost use Rattle.rme_c.specs.Runs.{counted_of, fed_zeros, feed_code, IsFedRun, IsStartedRun, IsWholeCall};
 ghost use Rattle.rme_c.specs.Starts.{size_cause, call_by, refusal_of, start_cause};
 ghost use Rattle.rme_c.specs.Steps.{IsFed};
 ghost use Rattle.rme_c.specs.declared.script_position.ScriptPosition.TheVariants as ScriptPositionOf;
 ghost use Rattle.rme_c.specs.declared.position.Position.TheVariants as PositionOf;
-ghost use Rattle.rme_c.specs.declared.runs.Run.TheVariants as RunOf;
+ghost use Rattle.rme_c.specs.declared.runs.AccessRun.TheVariants as RunOf;
 ghost use Rattle.rmecore.specs.declared.stage.Stage.TheVariants as StageOf;
 ghost use Rattle.rmeworld.specs.declared.call.Call.TheVariants as CallOf;
 
 use crate::accesses::next_at;
-use crate::answers::{NOTHING, refusal_code, tell, wanted};
+use crate::answers::{NOTHING, access_for_c, refusal_code, tell};
 use crate::blocks::{block_words, image, is_block};
 use crate::clean_steps::quick_feed;
 use crate::lock_arms::{lock_feed, scan_feed};
@@ -26,10 +26,10 @@ use crate::position::{
     position_now, scan_stage,
 };
 use crate::process::{RmeAccess, RmeCall, RmePosition, RmeProcess};
-use crate::runs::{begun, feed_run, leave};
+use crate::runs::{feed_run, leave, run_at_start};
 use crate::script_position::ScriptPosition;
 use crate::starts::{is_sized, quick_start, size_refusal, start};
-use crate::steps::{checked, script_position_step};
+use crate::steps::{after_check, script_position_step};
 use redomail::Layout;
 use rmecore::Stage;
 use rmeworld::first_rule;
@@ -90,7 +90,7 @@ pub extern "C" fn rme_init(
 /// A crash: the private memory is lost.
 #[unsafe(no_mangle)]
 pub extern "C" fn rme_crash(p: &mut RmeProcess)
-    ensures crashed { machine_state_of p.new ≡ crashed (machine_state_of p.old) }
+    ensures crashed { machine_state_of p.new ≡ machine_after_crash (machine_state_of p.old) }
     // The count of own steps stays that of the last call.
     ensures steps { p.new.steps ≡ p.old.steps }
 {
@@ -110,7 +110,7 @@ pub extern "C" fn rme_crash(p: &mut RmeProcess)
 pub extern "C" fn rme_start(p: &mut RmeProcess, call: &RmeCall, next: &mut RmeAccess) -> u64
     ensures status { result ≡ code_of_refusal (start_cause (machine_state_of p.old) call.now) }
     ensures started { result ≡ 0 → IfSome (call_by p.old.width call.now)
-        (λ c. machine_state_of p.new ≡ started (machine_state_of p.old) c) }
+        (λ c. machine_state_of p.new ≡ machine_after_start (machine_state_of p.old) c) }
     ensures next { result ≡ 0 → next.new ≡ shown_of p.old.procs None (next_access (machine_state_of p.new)) }
     ensures steps { result ≡ 0 → p.new.steps ≡ 0 }
     ensures refused { result ≢ 0 → (p.new ≡ p.old) × (next.new ≡ next.old) }
@@ -128,16 +128,16 @@ pub(crate) fn script_position_feed(
     next: &mut RmeAccess,
 ) -> u64
     requires here { position_of p.old ≡ PositionOf.Within script_position }
-    requires fits { Fits p.old (PositionOf.Within script_position) }
+    requires fits { FitsPosition p.old (PositionOf.Within script_position) }
     requires eight { length p.old.value ≡ 8 }
     ensures { IsFed p.old value p.new next.old next.new result }
 {
     // For the proof alone: its value is read.
     let _whole = *p;
-    let (to, told) = script_position_step(p, script_position, value);
+    let (to, reports) = script_position_step(p, script_position, value);
     machine_state(p, to);
     p.steps = p.steps.saturating_add(1);
-    tell(p.procs, told, next_at(p, to), next)
+    tell(p.procs, reports, next_at(p, to), next)
 }
 
 /// Takes the step of the ruin check.
@@ -145,7 +145,7 @@ pub(crate) fn script_position_feed(
 #[inline(always)]
 pub(crate) fn check_feed(p: &mut RmeProcess, value: u64, steps: u64, next: &mut RmeAccess) -> u64
     requires here { position_of p.old ≡ PositionOf.Within ScriptPositionOf.Checking }
-    requires fits { Fits p.old (PositionOf.Within ScriptPositionOf.Checking) }
+    requires fits { FitsPosition p.old (PositionOf.Within ScriptPositionOf.Checking) }
     requires eight { length p.old.value ≡ 8 }
     requires steps { steps ≡ p.old.steps + 1 }
     ensures fed { IsFed p.old value p.new next.old next.new result }
@@ -153,10 +153,10 @@ pub(crate) fn check_feed(p: &mut RmeProcess, value: u64, steps: u64, next: &mut 
 {
     // For the proof alone: its value is read.
     let _whole = *p;
-    let (behind, told) = checked(p, value);
-    machine_state(p, behind);
+    let (after_it, reports) = after_check(p, value);
+    machine_state(p, after_it);
     p.steps = steps;
-    tell(p.procs, told, next_at(p, behind), next)
+    tell(p.procs, reports, next_at(p, after_it), next)
 }
 
 /// Takes the next step at a stage of the lock's part. 7: no call is under way.
@@ -164,7 +164,7 @@ pub(crate) fn check_feed(p: &mut RmeProcess, value: u64, steps: u64, next: &mut 
 #[inline(always)]
 fn whole_feed(p: &mut RmeProcess, stage: Stage, value: u64, next: &mut RmeAccess) -> u64
     requires here { position_of p.old ≡ PositionOf.Lock stage }
-    requires fits { Fits p.old (PositionOf.Lock stage) }
+    requires fits { FitsPosition p.old (PositionOf.Lock stage) }
     requires eight { length p.old.value ≡ 8 }
     ensures { IsFed p.old value p.new next.old next.new result }
 {
@@ -216,7 +216,7 @@ fn nowhere(p: &mut RmeProcess, value: u64, next: &mut RmeAccess) -> u64
 #[inline(always)]
 fn scan_on(p: &mut RmeProcess, stage: Stage, value: u64, steps: u64, next: &mut RmeAccess) -> u64
     requires here { position_of p.old ≡ PositionOf.Lock stage }
-    requires fits { Fits p.old (PositionOf.Lock stage) }
+    requires fits { FitsPosition p.old (PositionOf.Lock stage) }
     requires eight { length p.old.value ≡ 8 }
     requires steps { steps ≡ p.old.steps + 1 }
     ensures { IsFed p.old value p.new next.old next.new result }
@@ -240,7 +240,7 @@ pub(crate) fn stage_feed(
     next: &mut RmeAccess,
 ) -> u64
     requires here { position_of p.old ≡ PositionOf.Lock stage }
-    requires fits { Fits p.old (PositionOf.Lock stage) }
+    requires fits { FitsPosition p.old (PositionOf.Lock stage) }
     requires eight { length p.old.value ≡ 8 }
     requires steps { steps ≡ p.old.steps + 1 }
     ensures { IsFed p.old value p.new next.old next.new result }
@@ -310,7 +310,7 @@ pub extern "C" fn rme_next(p: &RmeProcess, next: &mut RmeAccess) -> u64
 {
     match next_at(p, position_now(p)) {
         Some(access) => {
-            *next = wanted(p.procs, access);
+            *next = access_for_c(p.procs, access);
             0
         }
         None => 7,
@@ -323,14 +323,14 @@ pub extern "C" fn rme_next(p: &RmeProcess, next: &mut RmeAccess) -> u64
 /// word that was read.
 #[unsafe(no_mangle)]
 pub extern "C" fn rme_feed(p: &mut RmeProcess, value: u64, next: &mut RmeAccess) -> u64
-    ensures exact { machine_state_of p.new ≡ stepped (machine_state_of p.old) value }
-    ensures told { result ≡ told_of (machine_state_of p.old) value }
+    ensures exact { machine_state_of p.new ≡ machine_after_step (machine_state_of p.old) value }
+    ensures reports { result ≡ reports_of (machine_state_of p.old) value }
     ensures next { result < 64 → next.new ≡ shown_of p.old.procs
         (outcome (machine_state_of p.old) (next_access (machine_state_of p.old)) value).answer
         (next_access (machine_state_of p.new)) }
     ensures kept { 64 ≤ result → next.new ≡ next.old }
     ensures few { result < 256 }
-    ensures steps { p.new.steps ≡ if is_none (next_access (machine_state_of p.old)) then p.old.steps else held (p.old.steps + 1) }
+    ensures steps { p.new.steps ≡ if is_none (next_access (machine_state_of p.old)) then p.old.steps else saturate (p.old.steps + 1) }
     ensures idle { is_none (next_access (machine_state_of p.old)) ≡ true → p.new ≡ p.old }
 {
     // For the proof alone: its value is read.
@@ -357,7 +357,7 @@ fn any_start_run(p: &mut RmeProcess, call: &RmeCall, next: &mut RmeAccess) -> u6
     if refused != 0 {
         return refused;
     }
-    begun(p, next)
+    run_at_start(p, next)
 }
 
 /// Starts a call by the short way, if it has one, and answers the run that comes next. None: it has none, and nothing changed.
@@ -369,7 +369,7 @@ fn quick_start_run(p: &mut RmeProcess, call: &RmeCall, next: &mut RmeAccess) -> 
 {
     match quick_start(p, call, next) {
         Some(Some(refusal)) => Some(refusal_code(Some(refusal))),
-        Some(None) => Some(begun(p, next)),
+        Some(None) => Some(run_at_start(p, next)),
         None => None,
     }
 }
@@ -413,7 +413,7 @@ pub extern "C" fn rme_feed_run(
     next: &mut RmeAccess,
 ) -> u64
     ensures fed { IsFedRun (fed_zeros zeros (counted_of p.old)) value p.new next.new result }
-    ensures code { result ≡ feed_code (told_of (fed_zeros zeros (counted_of p.old)).machine value) (machine_state_of p.new) }
+    ensures code { result ≡ feed_code (reports_of (fed_zeros zeros (counted_of p.old)).machine value) (machine_state_of p.new) }
     // No call is under way: nothing is done.
     ensures kept { is_none (next_access (machine_state_of p.old)) ≡ true → p.new ≡ p.old }
 {

@@ -7,7 +7,7 @@ ghost use Rattle.rmecore.specs.Machine.{first as first_of, place_of, after_acces
 ghost use Rattle.rmecore.specs.declared.stage.Stage.TheVariants as StageOf;
 ghost use Rattle.rmecore.specs.Refused.{is_idle};
 ghost use Rattle.rmeworld.specs.MachineState.{next_access as next_access_of};
-ghost use Rattle.rme_c.specs.Positions.{standing_at, machine_state_at, position_of, Fits};
+ghost use Rattle.rme_c.specs.Positions.{standing_at, machine_state_at, position_of, FitsPosition};
 ghost use Rattle.rme_c.specs.Steps.{IsLanding, IsFed};
 ghost use Rattle.rme_c.specs.declared.position.Position.TheVariants as Position;
 
@@ -280,7 +280,7 @@ fn by_machine(p: &mut RmeProcess, stage: Stage, value: u64, next: &mut RmeAccess
 /// Takes a step of a scan. None: the stage is no scan's, and nothing changed.
 // Inline: each scan step, the hottest.
 #[inline(always)]
-fn scanned(
+fn scan_step(
     p: &mut RmeProcess,
     stage: Stage,
     value: u64,
@@ -325,12 +325,12 @@ pub fn scan_feed(
     next: &mut RmeAccess,
 ) -> Option<u64>
     requires here { position_of p.old ≡ Position.Lock stage }
-    requires fits { Fits p.old (Position.Lock stage) }
+    requires fits { FitsPosition p.old (Position.Lock stage) }
     requires steps { steps ≡ p.old.steps + 1 }
     ensures fed { IfSome result (λ code. IsFed p.old value p.new next.old next.new code) }
     ensures none { result ≡ None → (p.new ≡ p.old) × (next.new ≡ next.old) }
 {
-    match scanned(p, stage, value, steps, next) {
+    match scan_step(p, stage, value, steps, next) {
         Some(landing) => Some(landing.code),
         None => None,
     }
@@ -339,7 +339,7 @@ pub fn scan_feed(
 /// Takes any step of the lock's part.
 pub fn lock_feed(p: &mut RmeProcess, stage: Stage, value: u64, next: &mut RmeAccess) -> u64
     requires here { position_of p.old ≡ Position.Lock stage }
-    requires fits { Fits p.old (Position.Lock stage) }
+    requires fits { FitsPosition p.old (Position.Lock stage) }
     requires busy { is_none (next_access_of (machine_state_at p.old (Position.Lock stage))) ≡ false }
     ensures { IsFed p.old value p.new next.old next.new result }
 {

@@ -6,13 +6,13 @@ ghost use Rattle.rmecore.specs.declared.stage.Stage.TheVariants as StageOf;
 ghost use Rattle.rmeworld.specs.Entered.{mended_done, checks_done};
 ghost use Rattle.rmeworld.specs.Answered.{by_lock};
 ghost use Rattle.rmeworld.specs.MachineState.{next_access as next_access_of};
-ghost use Rattle.rme_c.specs.Codes.{goes_as, shown as shown_by};
-ghost use Rattle.rme_c.specs.Positions.{landing, stage_of, machine_state_at, Fits};
+ghost use Rattle.rme_c.specs.Codes.{goes_as, next_for_c as shown_by};
+ghost use Rattle.rme_c.specs.Positions.{landing, stage_of, machine_state_at, FitsPosition};
 ghost use Rattle.rme_c.specs.declared.position.Position.TheVariants as PositionOf;
 ghost use Rattle.rme_c.specs.Steps.{IsLanding};
 
 use crate::accesses::next_at;
-use crate::answers::{Told, tell};
+use crate::answers::{Effect, tell};
 use crate::position::{Position, numbers};
 use crate::process::{RmeAccess, RmePosition, RmeProcess};
 use crate::script_position::ScriptPosition;
@@ -34,7 +34,7 @@ pub struct Landing {
 /// 1 if there is something to mend after a step, 0 if not.
 // Inline: once in each lock step.
 #[inline(always)]
-fn unmended(before: u64, done: Option<CoreDone>) -> u64
+fn mend_flag(before: u64, done: Option<CoreDone>) -> u64
     ensures { (result == 0) ≡ mended_done (before == 0) done }
 {
     match done {
@@ -59,11 +59,11 @@ fn enters(done: Option<CoreDone>) -> bool
 /// The position after a step of the lock's part: after an entry by a lock it is the ruin check.
 // Inline: once in each lock step.
 #[inline(always)]
-fn behind(p: &RmeProcess, checks: bool, stage: Stage) -> Position
+fn position_after(p: &RmeProcess, checks: bool, stage: Stage) -> Position
     requires below { p.now.index < p.now.procs }
     requires few { p.now.procs ≤ 64 }
     ensures is { result ≡ landing checks stage }
-    ensures fits { Fits p.now result }
+    ensures fits { FitsPosition p.now result }
 {
     // For the proof alone: its value is read.
     let _ = &p.index;
@@ -91,13 +91,13 @@ pub fn lands(
     ensures blocked { result.blocked ≡ blocked }
     ensures numbers { IsLanding p.old result p.new next.old next.new }
 {
-    let position = behind(p, enters(done), to);
+    let position = position_after(p, enters(done), to);
     let answer = core_answer(p.barred != 0, done);
     let after = next_at(p, position);
-    p.unmended = unmended(p.unmended, done);
+    p.unmended = mend_flag(p.unmended, done);
     p.position = numbers(p.position, position);
     p.steps = p.steps.saturating_add(1);
-    let code = tell(p.procs, Told { answer, blocked }, after, next);
+    let code = tell(p.procs, Effect { answer, blocked }, after, next);
     Landing {
         to,
         done,
@@ -232,11 +232,11 @@ pub fn comes_in(p: &mut RmeProcess, steps: u64, next: &mut RmeAccess) -> Landing
     p.unmended = 0;
     p.position = numbers(p.position, Position::Within(ScriptPosition::Checking));
     p.steps = steps;
-    let told = Told {
+    let reports = Effect {
         answer: None,
         blocked: false,
     };
-    let code = tell(p.procs, told, Some(access), next);
+    let code = tell(p.procs, reports, Some(access), next);
     Landing {
         to: Stage::Inside,
         done: Some(CoreDone::In),
@@ -267,11 +267,11 @@ fn ends(
 {
     p.position = numbers(p.position, Position::Lock(Stage::Rest));
     p.steps = steps;
-    let told = Told {
+    let reports = Effect {
         answer: Some(answer),
         blocked: false,
     };
-    let code = tell(p.procs, told, None, next);
+    let code = tell(p.procs, reports, None, next);
     Landing {
         to: Stage::Rest,
         done: Some(done),

@@ -51,11 +51,11 @@ pub struct RmeAccess {
     pub value: u64,
 }
 
-/// The stores of an append, in order, and how it ended (`told`, as `rme_feed` answers it). `count` 0: none are named.
+/// The stores of an append, in order, and how it ended (`reports`, as `rme_feed` answers it). `count` 0: none are named.
 #[repr(C)]
 #[derive(Clone, Copy)]
 pub struct RmeStores {
-    pub told: u64,
+    pub reports: u64,
     pub count: u64,
     pub each: [RmeAccess; 24],
 }

@@ -7,12 +7,12 @@ ghost use Rattle.rmecore.specs.Place.{above};
 ghost use Rattle.rmecore.specs.declared.core_call.CoreCall.TheVariants as CallOf;
 ghost use Rattle.rmecore.specs.declared.stage.Stage.TheVariants as StageOf;
 ghost use Rattle.rmeworld.specs.MachineState.{next_access};
-ghost use Rattle.rme_c.specs.Codes.{told as told_of};
-ghost use Rattle.rme_c.specs.Positions.{layout_of, machine_state_at, machine_state_of, position_of, Fits};
-ghost use Rattle.rme_c.specs.Runs.{counted_of, fed_zeros, run_code, run_by, next_run as run_next, run_for, run_or, feed_code, BeginsBelow, GoesOn, IsNextRun, IsFedRun, IsWholeCall};
+ghost use Rattle.rme_c.specs.Codes.{code_after_step as reports_of};
+ghost use Rattle.rme_c.specs.Positions.{layout_of, machine_state_at, machine_state_of, position_of, FitsPosition};
+ghost use Rattle.rme_c.specs.Runs.{counted_of, fed_zeros, run_code, run_by, next_run as run_next, run_for, run_or, feed_code, BeginsBelow, CallGoesOn, IsNextRun, IsFedRun, IsWholeCall};
 ghost use Rattle.rme_c.specs.Starts.{size_cause};
 ghost use Rattle.rme_c.specs.declared.position.Position.TheVariants as Position;
-ghost use Rattle.rme_c.specs.declared.runs.Run.TheVariants as RunOf;
+ghost use Rattle.rme_c.specs.declared.runs.AccessRun.TheVariants as RunOf;
 ghost use Rattle.rmeworld.specs.declared.call.Call.TheVariants as CallStart;
 
 use crate::exports::{check_feed, rme_feed, stage_feed};
@@ -26,7 +26,7 @@ pub(crate) const MANY: u64 = 1 << 62;
 
 /// Accesses that come one after another as long as each load reads 0.
 #[derive(Clone, Copy)]
-pub enum Run {
+pub enum AccessRun {
     /// All of a lock that reads nothing but zeros, up to its ruin check.
     Locks,
     /// Opens the doorway, and reads the numbers of all others.
@@ -46,15 +46,15 @@ pub enum Run {
 /// The run that begins a call, if one does.
 // Inline: once in each run.
 #[inline(always)]
-fn first_run(p: &RmeProcess, call: CoreCall) -> Option<Run>
-    requires { Fits p.now (Position.Lock (StageOf.ReadingChoosing call)) }
+fn first_run(p: &RmeProcess, call: CoreCall) -> Option<AccessRun>
+    requires { FitsPosition p.now (Position.Lock (StageOf.ReadingChoosing call)) }
     ensures is { IfSome result (λ r. IsNextRun (machine_state_at p.now (Position.Lock (StageOf.ReadingChoosing call)))
         p.now.procs p.now.index r) }
     ensures next { result ≡ run_next (machine_state_at p.now (Position.Lock (StageOf.ReadingChoosing call))) }
     ensures below { IfSome result BeginsBelow }
 {
     match call {
-        CoreCall::Lock if p.limit > 0 => Some(Run::Locks),
+        CoreCall::Lock if p.limit > 0 => Some(AccessRun::Locks),
         _ => None,
     }
 }
@@ -62,16 +62,16 @@ fn first_run(p: &RmeProcess, call: CoreCall) -> Option<Run>
 /// The run that begins in a doorway, if one does.
 // Inline: once in each run.
 #[inline(always)]
-fn door_run(p: &RmeProcess, next: u64, greatest: u64) -> Option<Run>
-    requires { Fits p.now (Position.Lock (StageOf.Door next greatest)) }
+fn door_run(p: &RmeProcess, next: u64, greatest: u64) -> Option<AccessRun>
+    requires { FitsPosition p.now (Position.Lock (StageOf.Door next greatest)) }
     ensures is { IfSome result (λ r. IsNextRun (machine_state_at p.now (Position.Lock (StageOf.Door next greatest)))
         p.now.procs p.now.index r) }
     ensures next { result ≡ run_next (machine_state_at p.now (Position.Lock (StageOf.Door next greatest))) }
     ensures below { IfSome result BeginsBelow }
 {
     match first_other(p.procs, p.index, next) {
-        Some(j) => Some(Run::Peeks(j)),
-        None if greatest < p.limit => Some(Run::Takes(greatest + 1)),
+        Some(j) => Some(AccessRun::Peeks(j)),
+        None if greatest < p.limit => Some(AccessRun::Takes(greatest + 1)),
         None => None,
     }
 }
@@ -79,17 +79,21 @@ fn door_run(p: &RmeProcess, next: u64, greatest: u64) -> Option<Run>
 /// The run that begins with a look at this process. None: it was taken already.
 // Inline: once in each run.
 #[inline(always)]
-fn look_run(j: u64, looked: bool) -> Option<Run>
+fn look_run(j: u64, looked: bool) -> Option<AccessRun>
     ensures { result ≡ if looked then None else Some (RunOf.Looks j) }
 {
-    if looked { None } else { Some(Run::Looks(j)) }
+    if looked {
+        None
+    } else {
+        Some(AccessRun::Looks(j))
+    }
 }
 
 /// The run that begins in a wait, if one does.
 // Inline: once in each run.
 #[inline(always)]
-fn wait_run(p: &RmeProcess, number: u64, next: u64, looked: bool) -> Option<Run>
-    requires { Fits p.now (Position.Lock (StageOf.Wait number next looked)) }
+fn wait_run(p: &RmeProcess, number: u64, next: u64, looked: bool) -> Option<AccessRun>
+    requires { FitsPosition p.now (Position.Lock (StageOf.Wait number next looked)) }
     ensures is { IfSome result (λ r. IsNextRun (machine_state_at p.now (Position.Lock (StageOf.Wait number next looked)))
         p.now.procs p.now.index r) }
     ensures next { result ≡ run_next (machine_state_at p.now (Position.Lock (StageOf.Wait number next looked))) }
@@ -99,29 +103,29 @@ fn wait_run(p: &RmeProcess, number: u64, next: u64, looked: bool) -> Option<Run>
     let _ = number;
     match first_other(p.procs, p.index, next) {
         Some(j) => look_run(j, looked),
-        None => Some(Run::Marks),
+        None => Some(AccessRun::Marks),
     }
 }
 
 /// The run that begins at a stage, if one does.
 // Inline: once in each run.
 #[inline(always)]
-fn run_at(p: &RmeProcess, stage: Stage) -> Option<Run>
-    requires { Fits p.now (Position.Lock stage) }
+fn run_at(p: &RmeProcess, stage: Stage) -> Option<AccessRun>
+    requires { FitsPosition p.now (Position.Lock stage) }
     ensures is { IfSome result (λ r. IsNextRun (machine_state_at p.now (Position.Lock stage)) p.now.procs p.now.index r) }
     ensures next { result ≡ run_next (machine_state_at p.now (Position.Lock stage)) }
     ensures below { IfSome result BeginsBelow }
 {
     match stage {
         Stage::ReadingChoosing { call } => first_run(p, call),
-        Stage::Opening => Some(Run::Opens),
+        Stage::Opening => Some(AccessRun::Opens),
         Stage::Door { next, greatest } => door_run(p, next, greatest),
         Stage::Wait {
             number,
             next,
             looked,
         } => wait_run(p, number, next, looked),
-        Stage::Leaving => Some(Run::Leaves),
+        Stage::Leaving => Some(AccessRun::Leaves),
         _ => None,
     }
 }
@@ -129,7 +133,7 @@ fn run_at(p: &RmeProcess, stage: Stage) -> Option<Run>
 /// The run that begins where the process is, if one does.
 // Inline: once in each run.
 #[inline(always)]
-fn run_now(p: &RmeProcess) -> Option<Run>
+fn run_now(p: &RmeProcess) -> Option<AccessRun>
     ensures is { IfSome result (λ r. IsNextRun (machine_state_of p.now) p.now.procs p.now.index r) }
     ensures next { result ≡ run_next (machine_state_of p.now) }
     ensures below { IfSome result BeginsBelow }
@@ -140,30 +144,36 @@ fn run_now(p: &RmeProcess) -> Option<Run>
 /// The code of a run. The number that it takes is the value of `next`.
 // Inline: once in each run.
 #[inline(always)]
-fn code(run: Run, next: &mut RmeAccess) -> u64
+fn code(run: AccessRun, next: &mut RmeAccess) -> u64
     requires { BeginsBelow run }
     ensures is { result ≡ run_code run }
     ensures back { run_by result next.new.value ≡ run }
     ensures beyond { 256 ≤ result }
 {
     match run {
-        Run::Locks => 384,
-        Run::Opens => 385,
-        Run::Takes(number) => {
+        AccessRun::Locks => 384,
+        AccessRun::Opens => 385,
+        AccessRun::Takes(number) => {
             next.value = number;
             386
         }
-        Run::Marks => 387,
-        Run::Leaves => 388,
-        Run::Peeks(j) => 256 + j,
-        Run::Looks(j) => 320 + j,
+        AccessRun::Marks => 387,
+        AccessRun::Leaves => 388,
+        AccessRun::Peeks(j) => 256 + j,
+        AccessRun::Looks(j) => 320 + j,
     }
 }
 
 /// After all of a lock that read nothing but zeros, with what its ruin check read.
 // Inline: once in each lock.
 #[inline(always)]
-fn locked(p: &mut RmeProcess, zeros: u64, value: u64, steps: u64, next: &mut RmeAccess) -> u64
+fn after_lock_run(
+    p: &mut RmeProcess,
+    zeros: u64,
+    value: u64,
+    steps: u64,
+    next: &mut RmeAccess,
+) -> u64
     requires here { position_of p.old ≡ Position.Lock (StageOf.ReadingChoosing CallOf.Lock) }
     requires below { p.old.index < p.old.procs }
     requires few { p.old.procs ≤ 64 }
@@ -173,7 +183,7 @@ fn locked(p: &mut RmeProcess, zeros: u64, value: u64, steps: u64, next: &mut Rme
     requires sound { value ≢ 1 }
     requires steps { steps ≡ p.old.steps + zeros + 1 }
     ensures fed { IsFedRun (fed_zeros zeros (counted_of p.old)) value p.new next.new result }
-    ensures code { result ≡ feed_code (told_of (fed_zeros zeros (counted_of p.old)).machine value) (machine_state_of p.new) }
+    ensures code { result ≡ feed_code (reports_of (fed_zeros zeros (counted_of p.old)).machine value) (machine_state_of p.new) }
 {
     let q = p.position;
     p.unmended = 0;
@@ -185,7 +195,13 @@ fn locked(p: &mut RmeProcess, zeros: u64, value: u64, steps: u64, next: &mut Rme
 /// After a doorway that read nothing but zeros: the least number is taken.
 // Inline: once in each lock.
 #[inline(always)]
-fn peeked(p: &mut RmeProcess, zeros: u64, value: u64, steps: u64, next: &mut RmeAccess) -> u64
+fn after_doorway_run(
+    p: &mut RmeProcess,
+    zeros: u64,
+    value: u64,
+    steps: u64,
+    next: &mut RmeAccess,
+) -> u64
     requires here { position_of p.old ≡ Position.Lock StageOf.Opening }
     requires below { p.old.index < p.old.procs }
     requires few { p.old.procs ≤ 64 }
@@ -194,19 +210,19 @@ fn peeked(p: &mut RmeProcess, zeros: u64, value: u64, steps: u64, next: &mut Rme
     requires zero { value ≡ 0 }
     requires steps { steps ≡ p.old.steps + zeros + 1 }
     ensures fed { IsFedRun (fed_zeros zeros (counted_of p.old)) value p.new next.new result }
-    ensures code { result ≡ feed_code (told_of (fed_zeros zeros (counted_of p.old)).machine value) (machine_state_of p.new) }
+    ensures code { result ≡ feed_code (reports_of (fed_zeros zeros (counted_of p.old)).machine value) (machine_state_of p.new) }
 {
     // For the proof alone: its value is read.
     let _ = (zeros, value);
     p.position = at(256, 0, p.position.second, p.procs);
     p.steps = steps;
-    code(Run::Takes(1), next)
+    code(AccessRun::Takes(1), next)
 }
 
 /// After a number was taken, and nothing but zeros read of the others: the mark comes next.
 // Inline: once in each lock.
 #[inline(always)]
-fn passed(
+fn after_take_run(
     p: &mut RmeProcess,
     from: u64,
     greatest: u64,
@@ -224,19 +240,19 @@ fn passed(
     requires zero { value ≡ 0 }
     requires steps { steps ≡ p.old.steps + zeros + 1 }
     ensures fed { IsFedRun (fed_zeros zeros (counted_of p.old)) value p.new next.new result }
-    ensures code { result ≡ feed_code (told_of (fed_zeros zeros (counted_of p.old)).machine value) (machine_state_of p.new) }
+    ensures code { result ≡ feed_code (reports_of (fed_zeros zeros (counted_of p.old)).machine value) (machine_state_of p.new) }
 {
     // For the proof alone: its value is read.
     let _ = (zeros, value, from);
     p.position = at(257, greatest + 1, p.position.second, p.procs);
     p.steps = steps;
-    code(Run::Marks, next)
+    code(AccessRun::Marks, next)
 }
 
 /// After the mark that ends a wait, with what the ruin check read.
 // Inline: once in each lock.
 #[inline(always)]
-fn marked(
+fn after_mark_run(
     p: &mut RmeProcess,
     number: u64,
     from: u64,
@@ -254,7 +270,7 @@ fn marked(
     requires sound { value ≢ 1 }
     requires steps { steps ≡ p.old.steps + zeros + 1 }
     ensures fed { IsFedRun (fed_zeros zeros (counted_of p.old)) value p.new next.new result }
-    ensures code { result ≡ feed_code (told_of (fed_zeros zeros (counted_of p.old)).machine value) (machine_state_of p.new) }
+    ensures code { result ≡ feed_code (reports_of (fed_zeros zeros (counted_of p.old)).machine value) (machine_state_of p.new) }
 {
     // For the proof alone: its value is read.
     let _ = (number, from, zeros);
@@ -268,7 +284,13 @@ fn marked(
 /// After both stores of an exit.
 // Inline: once in each unlock.
 #[inline(always)]
-fn left(p: &mut RmeProcess, zeros: u64, value: u64, steps: u64, next: &mut RmeAccess) -> u64
+fn after_exit_run(
+    p: &mut RmeProcess,
+    zeros: u64,
+    value: u64,
+    steps: u64,
+    next: &mut RmeAccess,
+) -> u64
     requires here { position_of p.old ≡ Position.Lock StageOf.Leaving }
     requires below { p.old.index < p.old.procs }
     requires few { p.old.procs ≤ 64 }
@@ -276,7 +298,7 @@ fn left(p: &mut RmeProcess, zeros: u64, value: u64, steps: u64, next: &mut RmeAc
     requires one { zeros ≡ 1 }
     requires steps { steps ≡ p.old.steps + zeros + 1 }
     ensures fed { IsFedRun (fed_zeros zeros (counted_of p.old)) value p.new next.new result }
-    ensures code { result ≡ feed_code (told_of (fed_zeros zeros (counted_of p.old)).machine value) (machine_state_of p.new) }
+    ensures code { result ≡ feed_code (reports_of (fed_zeros zeros (counted_of p.old)).machine value) (machine_state_of p.new) }
 {
     // For the proof alone: its value is read.
     let _ = zeros;
@@ -325,12 +347,12 @@ fn whole_run(
     next: &mut RmeAccess,
 ) -> Option<u64>
     requires here { position_of p.old ≡ Position.Lock stage }
-    requires fits { Fits p.old (Position.Lock stage) }
+    requires fits { FitsPosition p.old (Position.Lock stage) }
     requires eight { length p.old.value ≡ 8 }
     requires steps { steps ≡ p.old.steps + zeros + 1 }
     ensures fed { IfSome result (λ r. IsFedRun (fed_zeros zeros (counted_of p.old)) value p.new next.new r) }
     ensures code { IfSome result
-        (λ r. r ≡ feed_code (told_of (fed_zeros zeros (counted_of p.old)).machine value) (machine_state_of p.new)) }
+        (λ r. r ≡ feed_code (reports_of (fed_zeros zeros (counted_of p.old)).machine value) (machine_state_of p.new)) }
     ensures none { result ≡ None → (p.new ≡ p.old) × (next.new ≡ next.old) }
     ensures busy { result ≢ None → is_none (next_access (machine_state_of p.old)) ≡ false }
 {
@@ -338,17 +360,17 @@ fn whole_run(
         Stage::ReadingChoosing {
             call: CoreCall::Lock,
         } if zeros == 3 * p.procs + 4 && value != 1 && p.limit > 0 => {
-            Some(locked(p, zeros, value, steps, next))
+            Some(after_lock_run(p, zeros, value, steps, next))
         }
         Stage::Opening if zeros + 1 == p.procs && value == 0 && p.limit > 0 => {
-            Some(peeked(p, zeros, value, steps, next))
+            Some(after_doorway_run(p, zeros, value, steps, next))
         }
         Stage::Door {
             next: from,
             greatest,
         } if zeros + 1 == 2 * p.procs && value == 0 && greatest < p.limit => {
             match first_other(p.procs, p.index, from) {
-                None => Some(passed(p, from, greatest, zeros, value, steps, next)),
+                None => Some(after_take_run(p, from, greatest, zeros, value, steps, next)),
                 Some(_) => None,
             }
         }
@@ -357,10 +379,10 @@ fn whole_run(
             next: from,
             looked: false,
         } if zeros == 1 && value != 1 => match first_other(p.procs, p.index, from) {
-            None => Some(marked(p, number, from, zeros, value, steps, next)),
+            None => Some(after_mark_run(p, number, from, zeros, value, steps, next)),
             Some(_) => None,
         },
-        Stage::Leaving if zeros == 1 => Some(left(p, zeros, value, steps, next)),
+        Stage::Leaving if zeros == 1 => Some(after_exit_run(p, zeros, value, steps, next)),
         _ => None,
     }
 }
@@ -380,13 +402,13 @@ fn feed_zeros(p: &mut RmeProcess, zeros: u64, next: &mut RmeAccess)
 /// The run that comes next after a feed with this code, if one does.
 // Inline: once in each run.
 #[inline(always)]
-fn next_run(p: &RmeProcess, told: u64) -> Option<Run>
-    ensures goes { IfSome result (λ _. GoesOn told) }
+fn next_run(p: &RmeProcess, reports: u64) -> Option<AccessRun>
+    ensures goes { IfSome result (λ _. CallGoesOn reports) }
     ensures is { IfSome result (λ r. IsNextRun (machine_state_of p.now) p.now.procs p.now.index r) }
-    ensures next { result ≡ run_for told (machine_state_of p.now) }
+    ensures next { result ≡ run_for reports (machine_state_of p.now) }
     ensures below { IfSome result BeginsBelow }
 {
-    if told == 0 || told >= 64 {
+    if reports == 0 || reports >= 64 {
         run_now(p)
     } else {
         None
@@ -398,14 +420,14 @@ fn next_run(p: &RmeProcess, told: u64) -> Option<Run>
 #[inline(never)]
 fn fed_singly(p: &mut RmeProcess, zeros: u64, value: u64, next: &mut RmeAccess) -> u64
     ensures fed { IsFedRun (fed_zeros zeros (counted_of p.old)) value p.new next.new result }
-    ensures code { result ≡ feed_code (told_of (fed_zeros zeros (counted_of p.old)).machine value) (machine_state_of p.new) }
+    ensures code { result ≡ feed_code (reports_of (fed_zeros zeros (counted_of p.old)).machine value) (machine_state_of p.new) }
     ensures kept { is_none (next_access (machine_state_of p.old)) ≡ true → p.new ≡ p.old }
 {
     feed_zeros(p, zeros, next);
-    let told = rme_feed(p, value, next);
-    match next_run(p, told) {
+    let reports = rme_feed(p, value, next);
+    match next_run(p, reports) {
         Some(run) => code(run, next),
-        None => told,
+        None => reports,
     }
 }
 
@@ -415,7 +437,7 @@ fn fed_singly(p: &mut RmeProcess, zeros: u64, value: u64, next: &mut RmeAccess) 
 pub fn feed_run(p: &mut RmeProcess, zeros: u64, value: u64, next: &mut RmeAccess) -> u64
     requires eight { length p.old.value ≡ 8 }
     ensures fed { IsFedRun (fed_zeros zeros (counted_of p.old)) value p.new next.new result }
-    ensures code { result ≡ feed_code (told_of (fed_zeros zeros (counted_of p.old)).machine value) (machine_state_of p.new) }
+    ensures code { result ≡ feed_code (reports_of (fed_zeros zeros (counted_of p.old)).machine value) (machine_state_of p.new) }
     ensures kept { is_none (next_access (machine_state_of p.old)) ≡ true → p.new ≡ p.old }
 {
     if p.steps >= MANY || zeros >= MANY {
@@ -434,7 +456,7 @@ pub fn feed_run(p: &mut RmeProcess, zeros: u64, value: u64, next: &mut RmeAccess
 /// The run that comes next after a start, by its code. 0: none.
 // Inline: the export's body.
 #[inline(always)]
-pub fn begun(p: &RmeProcess, next: &mut RmeAccess) -> u64
+pub fn run_at_start(p: &RmeProcess, next: &mut RmeAccess) -> u64
     ensures run { 256 ≤ result → IsNextRun (machine_state_of p.now) p.now.procs p.now.index (run_by result next.new.value) }
     ensures code { result ≡ run_or 0 (run_next (machine_state_of p.now)) }
     ensures few { result < 256 → (result ≡ 0) × (next.new ≡ next.old) }

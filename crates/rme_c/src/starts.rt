@@ -3,15 +3,15 @@
 ghost use Rattle.std.specs.Prelude.{◌≡◌, ◌≤◌, ◌<◌, ◌↔◌, OnOk, OnErr, IfErr, IfSome, IsSome, IsTrue, Some, None, length};
 ghost use Rattle.redomail.specs.Layout.{IsLayout};
 ghost use Rattle.rmeworld.specs.Refused.{is_idle, is_inside, is_waiting, start_refusal};
-ghost use Rattle.rmeworld.specs.MachineState.{process_state_of, started, next_access, IsSize};
-ghost use Rattle.rme_c.specs.Codes.{shown as shown_of};
-ghost use Rattle.rme_c.specs.Positions.{machine_state_at, machine_state_of, layout_of, position_of, Fits};
+ghost use Rattle.rmeworld.specs.MachineState.{process_state_of, machine_after_start, next_access, IsSize};
+ghost use Rattle.rme_c.specs.Codes.{next_for_c as shown_of};
+ghost use Rattle.rme_c.specs.Positions.{machine_state_at, machine_state_of, layout_of, position_of, FitsPosition};
 ghost use Rattle.rme_c.specs.Starts.{size_cause, call_by, call_cause, start_cause};
 ghost use Rattle.rme_c.specs.declared.position.Position.TheVariants as PositionOf;
 ghost use Rattle.rmecore.specs.declared.stage.Stage.TheVariants as StageOf;
 
 use crate::accesses::next_at;
-use crate::answers::shown;
+use crate::answers::next_for_c;
 use crate::position::{Position, is_inside, layout, machine_state, position_now};
 use crate::process::{RmeAccess, RmeCall, RmeProcess};
 use crate::script_position::ScriptPosition;
@@ -113,8 +113,8 @@ fn begin(p: &mut RmeProcess, position: Position, call: Call) -> Position
     requires allowed { start_refusal (layout_of p.old) (process_state_of (machine_state_at p.old position)) call ≡ None }
     requires lawful { IsLayout (layout_of p.old) }
     requires below { p.old.index < p.old.procs }
-    ensures exact { machine_state_at p.new result ≡ started (machine_state_at p.old position) call }
-    ensures fits { Fits p.new result }
+    ensures exact { machine_state_at p.new result ≡ machine_after_start (machine_state_at p.old position) call }
+    ensures fits { FitsPosition p.new result }
     ensures same { p.new ≡ record p.old { barred = p.new.barred; value = p.new.value } }
 {
     p.barred = 0;
@@ -147,7 +147,7 @@ fn start_read(p: &mut RmeProcess, call: Call, next: &mut RmeAccess) -> Result<()
     requires below { p.old.index < p.old.procs }
     ensures accepted { OnOk result (call_cause (machine_state_of p.old) (Some call) ≡ None) }
     ensures refused { IfErr result (λ e. call_cause (machine_state_of p.old) (Some call) ≡ Some e) }
-    ensures started { OnOk result (machine_state_of p.new ≡ started (machine_state_of p.old) call) }
+    ensures started { OnOk result (machine_state_of p.new ≡ machine_after_start (machine_state_of p.old) call) }
     ensures fresh { OnOk result (p.new.steps ≡ 0) }
     ensures next { OnOk result (next.new ≡ shown_of p.old.procs None (next_access (machine_state_of p.new))) }
     ensures err { OnErr result ((p.new ≡ p.old) × (next.new ≡ next.old)) }
@@ -157,7 +157,7 @@ fn start_read(p: &mut RmeProcess, call: Call, next: &mut RmeAccess) -> Result<()
     let to = begin(p, here, call);
     machine_state(p, to);
     p.steps = 0;
-    *next = shown(p.procs, None, next_at(p, to));
+    *next = next_for_c(p.procs, None, next_at(p, to));
     Ok(())
 }
 
@@ -169,7 +169,7 @@ fn start_any(p: &mut RmeProcess, call: &RmeCall, next: &mut RmeAccess) -> Option
     requires below { p.old.index < p.old.procs }
     ensures cause { result ≡ call_cause (machine_state_of p.old) (call_by p.old.width call.now) }
     ensures started { result ≡ None → IfSome (call_by p.old.width call.now)
-        (λ c. machine_state_of p.new ≡ started (machine_state_of p.old) c) }
+        (λ c. machine_state_of p.new ≡ machine_after_start (machine_state_of p.old) c) }
     ensures fresh { result ≡ None → p.new.steps ≡ 0 }
     ensures next { result ≡ None → next.new ≡ shown_of p.old.procs None (next_access (machine_state_of p.new)) }
     ensures refused { IsSome result → (p.new ≡ p.old) × (next.new ≡ next.old) }
@@ -207,7 +207,8 @@ fn start_append(p: &mut RmeProcess, call: &RmeCall, next: &mut RmeAccess)
     requires append { call.now.code ≡ 5 }
     requires eight { length call.now.value ≡ 8 }
     ensures cause { call_cause (machine_state_of p.old) (call_by p.old.width call.now) ≡ None }
-    ensures started { IfSome (call_by p.old.width call.now) (λ c. machine_state_of p.new ≡ started (machine_state_of p.old) c) }
+    ensures started { IfSome (call_by p.old.width call.now) (λ c. machine_state_of p.new
+        ≡ machine_after_start (machine_state_of p.old) c) }
     ensures fresh { p.new.steps ≡ 0 }
     ensures next { next.new ≡ shown_of p.old.procs None (next_access (machine_state_of p.new)) }
 {
@@ -217,7 +218,7 @@ fn start_append(p: &mut RmeProcess, call: &RmeCall, next: &mut RmeAccess)
     p.steps = 0;
     machine_state(p, to);
     let first = next_at(p, to);
-    *next = shown(p.procs, None, first);
+    *next = next_for_c(p.procs, None, first);
 }
 
 /// Starts a lock at rest: the frequent case. None: it is another start, and nothing changed.
@@ -230,7 +231,7 @@ pub fn quick_start(
 ) -> Option<Option<Refusal>>
     ensures cause { IfSome result (λ r. r ≡ start_cause (machine_state_of p.old) call.now) }
     ensures started { result ≡ Some None → IfSome (call_by p.old.width call.now)
-        (λ c. machine_state_of p.new ≡ started (machine_state_of p.old) c) }
+        (λ c. machine_state_of p.new ≡ machine_after_start (machine_state_of p.old) c) }
     ensures fresh { result ≡ Some None → p.new.steps ≡ 0 }
     ensures next { result ≡ Some None → next.new ≡ shown_of p.old.procs None (next_access (machine_state_of p.new)) }
     ensures refused { IfSome result (λ r. IsSome r → (p.new ≡ p.old) × (next.new ≡ next.old)) }
@@ -248,7 +249,7 @@ pub fn quick_start(
 pub fn start(p: &mut RmeProcess, call: &RmeCall, next: &mut RmeAccess) -> Option<Refusal>
     ensures cause { result ≡ start_cause (machine_state_of p.old) call.now }
     ensures started { result ≡ None → IfSome (call_by p.old.width call.now)
-        (λ c. machine_state_of p.new ≡ started (machine_state_of p.old) c) }
+        (λ c. machine_state_of p.new ≡ machine_after_start (machine_state_of p.old) c) }
     ensures fresh { result ≡ None → p.new.steps ≡ 0 }
     ensures next { result ≡ None → next.new ≡ shown_of p.old.procs None (next_access (machine_state_of p.new)) }
     ensures refused { IsSome result → (p.new ≡ p.old) × (next.new ≡ next.old) }

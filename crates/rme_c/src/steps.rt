@@ -8,12 +8,12 @@ ghost use Rattle.rmecore.specs.declared.stage.Stage.TheVariants as StageOf;
 ghost use Rattle.rmecore.specs.declared.word.Word.TheVariants as WordOf;
 ghost use Rattle.rmeworld.specs.declared.answer.Answer.TheVariants as AnswerOf;
 ghost use Rattle.rmeworld.specs.MachineState.{next_access, InWords};
-ghost use Rattle.rme_c.specs.Positions.{machine_state_at, Fits};
+ghost use Rattle.rme_c.specs.Positions.{machine_state_at, FitsPosition};
 ghost use Rattle.rme_c.specs.Steps.{IsStep};
 ghost use Rattle.rme_c.specs.declared.position.Position.TheVariants as Position;
 ghost use Rattle.rme_c.specs.declared.script_position.ScriptPosition.TheVariants as ScriptPosition;
 
-use crate::answers::Told;
+use crate::answers::Effect;
 use crate::position::{Position, layout};
 use crate::process::RmeProcess;
 use crate::script_position::ScriptPosition;
@@ -37,7 +37,7 @@ fn get(i: u64) -> Access
 // Inline: once in each entry.
 #[inline(always)]
 pub fn check_next(p: &RmeProcess) -> Access
-    requires { Fits p.now (Position.Within ScriptPosition.Checking) }
+    requires { FitsPosition p.now (Position.Within ScriptPosition.Checking) }
     ensures next { next_access (machine_state_at p.now (Position.Within ScriptPosition.Checking)) ≡ Some result }
     ensures word { InWords p.now.procs (word_of result) }
 {
@@ -50,7 +50,7 @@ pub fn check_next(p: &RmeProcess) -> Access
 // Inline: each step of an append.
 #[inline(always)]
 pub fn script_position_next(p: &RmeProcess, script_position: ScriptPosition) -> Access
-    requires { Fits p.now (Position.Within script_position) }
+    requires { FitsPosition p.now (Position.Within script_position) }
     ensures next { next_access (machine_state_at p.now (Position.Within script_position)) ≡ Some result }
     ensures word { InWords p.now.procs (word_of result) }
 {
@@ -81,20 +81,20 @@ pub fn script_position_next(p: &RmeProcess, script_position: ScriptPosition) -> 
 /// The call ends with this answer, at this stage.
 // Inline: once in each answer.
 #[inline(always)]
-fn ends(stage: Stage, answer: Answer) -> (Position, Told)
+fn ends(stage: Stage, answer: Answer) -> (Position, Effect)
     ensures { result ≡ (Position.Lock stage, record { answer = Some answer; blocked = false }) }
 {
-    let told = Told {
+    let reports = Effect {
         answer: Some(answer),
         blocked: false,
     };
-    (Position::Lock(stage), told)
+    (Position::Lock(stage), reports)
 }
 
 /// The call ends inside, with this reply.
 // Inline: once in each answer.
 #[inline(always)]
-fn replied(reply: Reply) -> (Position, Told)
+fn after_reply(reply: Reply) -> (Position, Effect)
     ensures { result ≡ (Position.Lock StageOf.Inside, record { answer = Some (AnswerOf.Mail reply); blocked = false }) }
 {
     ends(Stage::Inside, Answer::Mail(reply))
@@ -103,34 +103,34 @@ fn replied(reply: Reply) -> (Position, Told)
 /// The call goes on at the exit.
 // Inline: once in each script step.
 #[inline(always)]
-fn leaves() -> (Position, Told)
+fn leaves() -> (Position, Effect)
     ensures { result ≡ (Position.Lock StageOf.Leaving, record { answer = None; blocked = false }) }
 {
-    let told = Told {
+    let reports = Effect {
         answer: None,
         blocked: false,
     };
-    (Position::Lock(Stage::Leaving), told)
+    (Position::Lock(Stage::Leaving), reports)
 }
 
 /// The call goes on with this script state.
 // Inline: once in each script step.
 #[inline(always)]
-fn on(script_position: ScriptPosition) -> (Position, Told)
+fn on(script_position: ScriptPosition) -> (Position, Effect)
     ensures { result ≡ (Position.Within script_position, record { answer = None; blocked = false }) }
 {
-    let told = Told {
+    let reports = Effect {
         answer: None,
         blocked: false,
     };
-    (Position::Within(script_position), told)
+    (Position::Within(script_position), reports)
 }
 
 /// After the ruin check that follows an entry.
 // Inline: once in each entry.
 #[inline(always)]
-pub fn checked(p: &mut RmeProcess, value: u64) -> (Position, Told)
-    requires { Fits p.old (Position.Within ScriptPosition.Checking) }
+pub fn after_check(p: &mut RmeProcess, value: u64) -> (Position, Effect)
+    requires { FitsPosition p.old (Position.Within ScriptPosition.Checking) }
     ensures step { IsStep p.old (Position.Within ScriptPosition.Checking) value p.new result.0 result.1 }
     ensures same { p.new ≡ record p.old { barred = p.new.barred } }
     ensures inside { value ≢ 1 → result.0 ≡ Position.Lock StageOf.Inside }
@@ -147,8 +147,8 @@ pub fn checked(p: &mut RmeProcess, value: u64) -> (Position, Told)
 }
 
 /// After the get of ruined with which `consistent` begins: unless the lock is ruined, the repair is next.
-fn asked(p: &mut RmeProcess, value: u64) -> (Position, Told)
-    requires { Fits p.old (Position.Within ScriptPosition.Asking) }
+fn after_ruined(p: &mut RmeProcess, value: u64) -> (Position, Effect)
+    requires { FitsPosition p.old (Position.Within ScriptPosition.Asking) }
     ensures step { IsStep p.old (Position.Within ScriptPosition.Asking) value p.new result.0 result.1 }
     ensures same { p.new ≡ p.old }
 {
@@ -162,21 +162,21 @@ fn asked(p: &mut RmeProcess, value: u64) -> (Position, Told)
 }
 
 /// After the get of armed.
-fn armed(p: &mut RmeProcess, value: u64) -> (Position, Told)
-    requires { Fits p.old (Position.Within ScriptPosition.Armed) }
+fn after_armed(p: &mut RmeProcess, value: u64) -> (Position, Effect)
+    requires { FitsPosition p.old (Position.Within ScriptPosition.Armed) }
     ensures step { IsStep p.old (Position.Within ScriptPosition.Armed) value p.new result.0 result.1 }
     ensures same { p.new ≡ record p.old { unmended = p.new.unmended } }
 {
     if value == 0 {
         p.unmended = 0;
-        return replied(Reply::Mended(false));
+        return after_reply(Reply::Mended(false));
     }
     on(ScriptPosition::At)
 }
 
 /// After the get of one more word of the record's value.
-fn read_on(p: &mut RmeProcess, at: u64, seq: u64, read: u64, value: u64) -> (Position, Told)
-    requires fits { Fits p.old (Position.Within (ScriptPosition.Value at seq read)) }
+fn read_on(p: &mut RmeProcess, at: u64, seq: u64, read: u64, value: u64) -> (Position, Effect)
+    requires fits { FitsPosition p.old (Position.Within (ScriptPosition.Value at seq read)) }
     requires eight { length p.old.value ≡ 8 }
     ensures step { IsStep p.old (Position.Within (ScriptPosition.Value at seq read)) value p.new result.0 result.1 }
     ensures same { p.new ≡ record p.old { value = p.new.value } }
@@ -197,8 +197,8 @@ fn read_on(p: &mut RmeProcess, at: u64, seq: u64, read: u64, value: u64) -> (Pos
 }
 
 /// After a put of a record that is stored again.
-fn redone(p: &mut RmeProcess, at: u64, seq: u64, step: u64, value: u64) -> (Position, Told)
-    requires fits { Fits p.old (Position.Within (ScriptPosition.Redo at seq step)) }
+fn after_redo(p: &mut RmeProcess, at: u64, seq: u64, step: u64, value: u64) -> (Position, Effect)
+    requires fits { FitsPosition p.old (Position.Within (ScriptPosition.Redo at seq step)) }
     requires eight { length p.old.value ≡ 8 }
     ensures step { IsStep p.old (Position.Within (ScriptPosition.Redo at seq step)) value p.new result.0 result.1 }
     ensures same { p.new ≡ record p.old { unmended = p.new.unmended } }
@@ -213,21 +213,27 @@ fn redone(p: &mut RmeProcess, at: u64, seq: u64, step: u64, value: u64) -> (Posi
         });
     }
     p.unmended = 0;
-    replied(Reply::Mended(true))
+    after_reply(Reply::Mended(true))
 }
 
 /// What an append does once it has read the three words.
 // Inline: each step of an append.
 #[inline(always)]
-pub fn decided(p: &mut RmeProcess, seq: u64, closed: u64, count: u64, last: u64) -> (Position, Told)
-    requires { Fits p.old (Position.Within (ScriptPosition.Last seq closed count)) }
+pub fn after_decision(
+    p: &mut RmeProcess,
+    seq: u64,
+    closed: u64,
+    count: u64,
+    last: u64,
+) -> (Position, Effect)
+    requires { FitsPosition p.old (Position.Within (ScriptPosition.Last seq closed count)) }
     ensures step { IsStep p.old (Position.Within (ScriptPosition.Last seq closed count)) last p.new result.0 result.1 }
     ensures same { p.new ≡ p.old }
     ensures ends { (result.0 ≡ Position.Lock StageOf.Inside)
         ⊎ (result.0 ≡ Position.Within (ScriptPosition.Store count seq 0)) }
 {
     match early_reply(p.cap, seq, closed, count, last) {
-        Some(reply) => replied(reply),
+        Some(reply) => after_reply(reply),
         None => on(ScriptPosition::Store {
             at: count,
             seq,
@@ -239,23 +245,29 @@ pub fn decided(p: &mut RmeProcess, seq: u64, closed: u64, count: u64, last: u64)
 /// After a put of a message that is stored.
 // Inline: each step of an append.
 #[inline(always)]
-pub fn stored(p: &mut RmeProcess, at: u64, seq: u64, step: u64, value: u64) -> (Position, Told)
-    requires fits { Fits p.old (Position.Within (ScriptPosition.Store at seq step)) }
+pub fn after_store(
+    p: &mut RmeProcess,
+    at: u64,
+    seq: u64,
+    step: u64,
+    value: u64,
+) -> (Position, Effect)
+    requires fits { FitsPosition p.old (Position.Within (ScriptPosition.Store at seq step)) }
     requires eight { length p.old.value ≡ 8 }
     ensures step { IsStep p.old (Position.Within (ScriptPosition.Store at seq step)) value p.new result.0 result.1 }
     ensures same { p.new ≡ p.old }
 {
     // For the proof alone: its value is read.
     let _ = value;
-    let behind = step + 1;
-    if behind < 8 + 2 * p.width {
+    let after_it = step + 1;
+    if after_it < 8 + 2 * p.width {
         return on(ScriptPosition::Store {
             at,
             seq,
-            step: behind,
+            step: after_it,
         });
     }
-    replied(Reply::Stored)
+    after_reply(Reply::Stored)
 }
 
 /// Takes a step of a script.
@@ -265,17 +277,17 @@ pub fn script_position_step(
     p: &mut RmeProcess,
     script_position: ScriptPosition,
     value: u64,
-) -> (Position, Told)
-    requires fits { Fits p.old (Position.Within script_position) }
+) -> (Position, Effect)
+    requires fits { FitsPosition p.old (Position.Within script_position) }
     requires eight { length p.old.value ≡ 8 }
     ensures step { IsStep p.old (Position.Within script_position) value p.new result.0 result.1 }
     ensures same { p.new ≡ record p.old { unmended = p.new.unmended; barred = p.new.barred; value = p.new.value } }
 {
     match script_position {
-        ScriptPosition::Asking => asked(p, value),
-        ScriptPosition::Checking => checked(p, value),
+        ScriptPosition::Asking => after_ruined(p, value),
+        ScriptPosition::Checking => after_check(p, value),
         ScriptPosition::Ruining => leaves(),
-        ScriptPosition::Armed => armed(p, value),
+        ScriptPosition::Armed => after_armed(p, value),
         ScriptPosition::At => on(ScriptPosition::Seq { at: value }),
         ScriptPosition::Seq { at } => on(ScriptPosition::Value {
             at,
@@ -283,19 +295,19 @@ pub fn script_position_step(
             read: 0,
         }),
         ScriptPosition::Value { at, seq, read } => read_on(p, at, seq, read, value),
-        ScriptPosition::Redo { at, seq, step } => redone(p, at, seq, step, value),
+        ScriptPosition::Redo { at, seq, step } => after_redo(p, at, seq, step, value),
         ScriptPosition::Closed { seq } => on(ScriptPosition::Count { seq, closed: value }),
         ScriptPosition::Count { seq, closed } => on(ScriptPosition::Last {
             seq,
             closed,
             count: value,
         }),
-        ScriptPosition::Last { seq, closed, count } => decided(p, seq, closed, count, value),
-        ScriptPosition::Store { at, seq, step } => stored(p, at, seq, step, value),
-        ScriptPosition::Closing if value == 1 => replied(Reply::AlreadyClosed),
+        ScriptPosition::Last { seq, closed, count } => after_decision(p, seq, closed, count, value),
+        ScriptPosition::Store { at, seq, step } => after_store(p, at, seq, step, value),
+        ScriptPosition::Closing if value == 1 => after_reply(Reply::AlreadyClosed),
         ScriptPosition::Closing => on(ScriptPosition::Close),
-        ScriptPosition::Close => replied(Reply::ClosedNow),
-        ScriptPosition::Getting { .. } => replied(Reply::Word(value)),
-        ScriptPosition::Putting { .. } => replied(Reply::Done),
+        ScriptPosition::Close => after_reply(Reply::ClosedNow),
+        ScriptPosition::Getting { .. } => after_reply(Reply::Word(value)),
+        ScriptPosition::Putting { .. } => after_reply(Reply::Done),
     }
 }

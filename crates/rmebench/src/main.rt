@@ -11,7 +11,7 @@ mod work;
 
 use crate::fault::RunningJudgeFault;
 use crate::order::Order;
-use crate::work::done;
+use crate::work::do_work;
 use std::alloc::Global;
 use std::io;
 use std::process::ExitCode;
@@ -28,7 +28,7 @@ fn words_given<R: Env + Alloc<A = Global>>(rt: &R) -> io::Result<Vec<String>> {
 }
 
 /// Writes a fault of the work to standard error, and answers the exit status of such a fault.
-fn told<R: Eprint>(rt: &R, fault: RunningJudgeFault) -> ExitCode {
+fn reports<R: Eprint>(rt: &R, fault: RunningJudgeFault) -> ExitCode {
     let _ = eprintln!(rt; "rmebench: {fault}");
     ExitCode::from(3)
 }
@@ -36,18 +36,18 @@ fn told<R: Eprint>(rt: &R, fault: RunningJudgeFault) -> ExitCode {
 /// Does the work that the words ask for, and prints how many entries or messages there were.
 fn main(rt: HostRuntime) -> ExitCode {
     let Ok(words) = words_given(&rt) else {
-        return told(&rt, RunningJudgeFault::OutOfMemory);
+        return reports(&rt, RunningJudgeFault::OutOfMemory);
     };
     let Some(order) = Order::of_words(&words) else {
         let _ = eprintln!(rt; "{USAGE}");
         return ExitCode::from(2);
     };
-    let name = order.counted();
-    match done(&rt, rt.alloc(), order) {
+    let name = order.counted_name();
+    match do_work(&rt, rt.alloc(), order) {
         Ok(count) => match println!(rt; "{name} {count}") {
             Ok(()) => ExitCode::from(0),
             Err(_) => ExitCode::from(3),
         },
-        Err(fault) => told(&rt, fault),
+        Err(fault) => reports(&rt, fault),
     }
 }

@@ -63,7 +63,7 @@ impl Order {
     }
 
     /// The name of what is counted.
-    pub fn counted(&self) -> &str {
+    pub fn counted_name(&self) -> &str {
         match self {
             Order::Lock { .. } => "entries",
             Order::Append { .. } => "messages",

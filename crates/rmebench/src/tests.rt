@@ -1,29 +1,29 @@
 //! Each kind of work once, and the words that ask for it.
 
 use crate::order::Order;
-use crate::work::done;
+use crate::work::do_work;
 use std::alloc::{AllocError, Global};
 use std::test::Fail;
 
 #[test]
-fn members_enter_as_often_as_they_are_told(rt: HostRuntime) -> Result<(), Fail> {
+fn members_enter_as_often_as_they_are_asked(rt: HostRuntime) -> Result<(), Fail> {
     let order = Order::Lock {
         procs: 3,
         threads: 2,
         rounds: 10,
     };
-    assert_eq!(rt; done(&rt, rt.alloc(), order), Ok(20));
+    assert_eq!(rt; do_work(&rt, rt.alloc(), order), Ok(20));
     Ok(())
 }
 
 #[test]
-fn a_member_appends_as_often_as_it_is_told(rt: HostRuntime) -> Result<(), Fail> {
+fn a_member_appends_as_often_as_it_is_asked(rt: HostRuntime) -> Result<(), Fail> {
     let order = Order::Append {
         procs: 2,
         width: 3,
         rounds: 10,
     };
-    assert_eq!(rt; done(&rt, rt.alloc(), order), Ok(10));
+    assert_eq!(rt; do_work(&rt, rt.alloc(), order), Ok(10));
     Ok(())
 }
 
@@ -44,7 +44,7 @@ fn words_for_a_lock(rt: HostRuntime) -> Result<(), Fail> {
         rounds: 10,
     };
     assert_eq!(rt; asked(rt.alloc(), "rmebench lock 64 3 10")?, Some(order));
-    assert_eq!(rt; order.counted(), "entries");
+    assert_eq!(rt; order.counted_name(), "entries");
     Ok(())
 }
 
@@ -59,7 +59,7 @@ fn words_for_appends(rt: HostRuntime) -> Result<(), Fail> {
         asked(rt.alloc(), "rmebench append 3 8 65536")?,
         Some(order)
     );
-    assert_eq!(rt; order.counted(), "messages");
+    assert_eq!(rt; order.counted_name(), "messages");
     Ok(())
 }
 

@@ -18,7 +18,7 @@ use std::thread::Threads;
 const MOST: u64 = 1 << 62;
 
 /// Does the work, and answers how many entries or messages there were. A fault says why the work stopped early.
-pub fn done<R: Threads + Wait + Sync>(
+pub fn do_work<R: Threads + Wait + Sync>(
     rt: &R,
     alloc: Global,
     order: Order,

@@ -1,7 +1,7 @@
 -- The next step is allowed, whatever a load reads. It is the least that is allowed. Its word is a lock word.
 use Rattle.std.proofs.Common.{◌≡◌, ℕ, ◌+◌, ◌<◌, ◌≤◌, Bool, true, false, ◌&&◌, ◌==◌, nat_lt, nat_le, List, [], ◌∷◌, Option, Some, None, IsSome, IfSome, refl, sym, subst, inl, inr, arith, eqb-true, le-leb, ltb-false}
 use Rattle.rmecore.proofs.Common.{cases_Bool, and_parts, Store, Take as Takes, Shut as Shuts, Word, Choosing as ChoosingOf, Number as NumberOf, InsideOf, first, place_of, access, kind_of, word_of}
-use Rattle.rmecore.proofs.Common.{carried, Standing, next_access, owner, InLock, IsLeast, IsAllowed, StoresOwn, Place, Rest, Dead, Reread, Opening, Door, Shutting, Wait, Inside, Leaving, Withdrawing}
+use Rattle.rmecore.proofs.Common.{carried_value, Standing, next_access, owner, InLock, IsLeast, IsAllowed, StoresOwn, Place, Rest, Dead, Reread, Opening, Door, Shutting, Wait, Inside, Leaving, Withdrawing}
 use Rattle.rmecore.proofs.Common.{Unmarking, has, above, only, next}
 use Rattle.rmecore.proofs.Invariant.{eqb_self}
 use Rattle.rmecore.proofs.Scans.{Lined, lined_above, has-first}
@@ -36,7 +36,7 @@ passes false t e = cc
 not_below : (m limit : ℕ) → nat_lt m limit ≡ false → nat_le limit m ≡ true
 not_below m limit e = le-leb limit m (ltb-false m limit e)
 
-pub allowed : (n limit p : ℕ) (place : Place) (v : ℕ) → IfSome (access limit p place) (λ a. IsSome (next n limit p place (kind_of a) (word_of a) (carried a v)))
+pub allowed : (n limit p : ℕ) (place : Place) (v : ℕ) → IfSome (access limit p place) (λ a. IsSome (next n limit p place (kind_of a) (word_of a) (carried_value a v)))
 allowed n limit p (Door (j ∷ js) m) v = passes _ _ (has-first j js)
 allowed n limit p (Door [] m) v =
     elim (cases_Bool (nat_lt m limit)) [

@@ -2,7 +2,7 @@
 use Rattle.std.proofs.Common.{◌≡◌, ℕ, ◌+◌, ◌<◌, ◌≤◌, max, Bool, true, false, ◌&&◌, ◌||◌, ◌==◌, if◌then◌else◌, nat_lt, nat_le, List, [], ◌∷◌, Option, Some, None, IsSome, unwrap_or, refl, sym, subst, eqb-true, ltb-true, leb-true}
 use Rattle.rmecore.proofs.Common.{and_parts, CoreCall, Lock, Unlock, Kind, Take as Takes, Shut as Shuts, Rereads, Open as Opens, Peek as Peeks, Look as Looks, Weigh as Weighs, Mark as Marks, Drop as Drops, Glance as Glances}
 use Rattle.rmecore.proofs.Common.{Word, Choosing as ChoosingOf, Number as NumberOf, InsideOf, Place, Rest, Reread, Opening, Door, Shutting, Wait, Inside, Leaving, Withdrawing, Unmarking, has, only, next, without, others}
-use Rattle.rmecore.proofs.Common.{is_before, restart, shut, unmarked}
+use Rattle.rmecore.proofs.Common.{is_before, restart, shut, place_after_unmark}
 
 -- an event that was allowed passed its test
 pub guard : (b : Bool) (t s : Place) (P : Place → Type 0) → IsSome (only b t) → (b ≡ true → P t) → P (unwrap_or (only b t) s)
@@ -26,7 +26,7 @@ pub record EachStep (n limit p : ℕ) (C : Place → Kind → Word → ℕ → P
   pub marks : (k : ℕ) → C (Wait k [] None) Marks (InsideOf p) 1 Inside
   pub drops : C Leaving Drops (NumberOf p) 0 (Unmarking Unlock)
   pub withdraws : C Withdrawing Drops (NumberOf p) 0 Rest
-  pub unmarks : (call : CoreCall) → C (Unmarking call) Marks (InsideOf p) 0 (unmarked call)
+  pub unmarks : (call : CoreCall) → C (Unmarking call) Marks (InsideOf p) 0 (place_after_unmark call)
   pub glances : (s : Place) (word : Word) (v : ℕ) → C s Glances word v s
 
 module _ (p : ℕ) where
@@ -78,7 +78,7 @@ module _ {n limit p : ℕ} {C : Place → Kind → Word → ℕ → Place → Ty
   by_step (Wait k [] None) Marks (InsideOf q) v some = own_store p (λ q v t. C (Wait k [] None) Marks (InsideOf q) v t) q v 1 (λ _. Inside) _ some (each.marks k)
   by_step Leaving Drops (NumberOf q) v some = own_store p (λ q v t. C Leaving Drops (NumberOf q) v t) q v 0 (λ _. Unmarking Unlock) _ some each.drops
   by_step Withdrawing Drops (NumberOf q) v some = own_store p (λ q v t. C Withdrawing Drops (NumberOf q) v t) q v 0 (λ _. Rest) _ some each.withdraws
-  by_step (Unmarking call) Marks (InsideOf q) v some = own_store p (λ q v t. C (Unmarking call) Marks (InsideOf q) v t) q v 0 (λ _. unmarked call) _ some (each.unmarks call)
+  by_step (Unmarking call) Marks (InsideOf q) v some = own_store p (λ q v t. C (Unmarking call) Marks (InsideOf q) v t) q v 0 (λ _. place_after_unmark call) _ some (each.unmarks call)
   by_step s Glances (ChoosingOf q) v some = each.glances s (ChoosingOf q) v
   by_step s Glances (NumberOf q) v some = each.glances s (NumberOf q) v
   by_step s Glances (InsideOf q) v some = each.glances s (InsideOf q) v

@@ -1,7 +1,7 @@
 -- The needs of a deed as facts about the abstract lock, in both directions.
 use Rattle.std.proofs.Common.{◌≡◌, ◌≢◌, ℕ, zero, suc, ◌<◌, Bool, true, false, ◌==◌, ◌⊎◌, refl, ap, inl, inr, arith, eq-eqb, eqb-true, lt-ltb, ltb-true, ◌≤◌}
 use Rattle.rmecore.proofs.Common.{cases_Bool, or_cases, false_from_ne_true, cond_both, Outer, Begin, Enter, Crash, Reenter, Leave, Quit, Phase, Out, AtDoor as Door, Ready, Within as Inside, DeadIn, Abstract}
-use Rattle.rmecore.proofs.Common.{is_out, is_door, is_ready, is_inside, is_dead_in, needs, AllHold, least, none_below, put}
+use Rattle.rmecore.proofs.Common.{is_out, is_door, is_ready, is_inside, is_dead_in, needs, AllHold, least_below, none_below, put}
 use Rattle.rmecore.specs.declared.outer.Outer.TheVariants.{Ready as IsReady}
 
 -- what a deed needs, as facts
@@ -15,7 +15,7 @@ Allows n a (Reenter p) = (p < n) × (a.phase p ≡ DeadIn)
 Allows n a (Leave p) = (p < n) × (a.phase p ≡ Inside)
 Allows n a (Quit p) = (p < n) × ((a.phase p ≡ Door) ⊎ (a.phase p ≡ Ready))
 
-pub least-none : (n : ℕ) (test : ℕ → Bool) → ((q : ℕ) → q < n → test q ≡ false) → least n test ≡ n
+pub least-none : (n : ℕ) (test : ℕ → Bool) → ((q : ℕ) → q < n → test q ≡ false) → least_below n test ≡ n
 least-none zero test none = refl
 least-none (suc n) test none = rw (none 0 (omega arith)) (ap suc (least-none n (λ k. test (suc k)) (λ q h. none (suc q) (omega arith))))
 
@@ -55,15 +55,15 @@ needs_hold n a (Quit p) h = (lt-ltb p n h.0, (elim h.1 [ inl e ↦ rw e refl | i
 -- the other direction
 
 -- the least number with the test is at most every number with the test
-pub least-le : (n : ℕ) (test : ℕ → Bool) (k : ℕ) → k < n → test k ≡ true → least n test ≤ k
+pub least-le : (n : ℕ) (test : ℕ → Bool) (k : ℕ) → k < n → test k ≡ true → least_below n test ≤ k
 least-le zero test k h e = absurd (omega arith)
 least-le (suc n) test zero h e = rw e (omega arith)
 least-le (suc n) test (suc k) h e =
     let ih = least-le n (λ j. test (suc j)) k (omega arith) e in
-    cond_both (test zero) 0 (suc (least n (λ j. test (suc j)))) (λ x. x ≤ suc k) (λ _. omega arith) (λ _. omega arith)
+    cond_both (test zero) 0 (suc (least_below n (λ j. test (suc j)))) (λ x. x ≤ suc k) (λ _. omega arith) (λ _. omega arith)
 
 pub none_below-at : (n : ℕ) (test : ℕ → Bool) → none_below n test ≡ true → (q : ℕ) → q < n → test q ≡ false
-none_below-at n test e q h = false_from_ne_true _ (λ on. let low = least-le n test q h on in let all = eqb-true (least n test) n e in omega arith)
+none_below-at n test e q h = false_from_ne_true _ (λ on. let low = least-le n test q h on in let all = eqb-true (least_below n test) n e in omega arith)
 
 inside-not : (phase : Phase) → is_inside phase ≡ false → phase ≢ Inside
 inside-not phase e is = let f : is_inside phase ≡ true = ap is_inside is in cc

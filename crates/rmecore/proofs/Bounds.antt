@@ -3,7 +3,7 @@ use Rattle.std.proofs.Common.{◌≡◌, ℕ, zero, suc, ◌≤◌, Bool, true, 
 use Rattle.rmecore.proofs.Common.{cases_eq, cases_lt, and_from, or_left, or_right, CoreCall, Lock, Withdraw, Kind}
 use Rattle.rmecore.proofs.Common.{Own, Word, Choosing as ChoosingOf, Number as NumberOf, InsideOf}
 use Rattle.rmecore.proofs.Common.{Data as DataAt, Abstract, IsRow, IsLawful, all_dead, put, Place, Rest, Dead, Door}
-use Rattle.rmecore.proofs.Common.{next, Event, Starts, Crashes, Steps, is_before, restart, started, shut, unmarked, World, at_rest, is_store, read, write, May, after, Run}
+use Rattle.rmecore.proofs.Common.{next, Event, Starts, Crashes, Steps, is_before, restart, place_after_start, shut, place_after_unmark, World, at_rest, is_store, read, write, May, after, Run}
 use Rattle.rmecore.proofs.Common.{final}
 use Rattle.rmecore.proofs.Invariant.{Before, Stands, Tied, put_same, put_other, row_of}
 use Rattle.rmecore.proofs.AllowedSteps.{by_step}
@@ -53,7 +53,7 @@ module _ (limit : ℕ) where
   within_shut n p Lock k = tt
   within_shut n p _ k = tt
 
-  within_unmarked : (call : CoreCall) → Within (unmarked call)
+  within_unmarked : (call : CoreCall) → Within (place_after_unmark call)
   within_unmarked Lock = tt
   within_unmarked _ = tt
 
@@ -85,23 +85,23 @@ module _ (limit : ℕ) where
   within_next n p words small =
       by_step {C = λ s kind word v t. (is_store kind ≡ false → read words word ≡ v) → Within s → Within t} (
       record {
-        rereads_choosing = λ call v told h. tt;
-        rereads_number = λ call c v told h. tt;
-        rereads_inside = λ call c k v told h. within_restart n p call c k v;
-        opens = λ told h. omega arith;
-        peeks = λ unread m j v there told h. let le = (small j).number in let is = told refl in omega arith;
-        takes = λ m less told h. tt;
-        spends = λ m most told h. tt;
-        shuts = λ call k told h. within_shut n p call k;
-        looks = λ k unpassed j there told h. tt;
-        looks_again = λ k unpassed j v there blocked told h. tt;
-        weighs = λ k unpassed j v passes told h. tt;
-        weighs_again = λ k unpassed j v blocked told h. tt;
-        marks = λ k told h. tt;
-        drops = λ told h. tt;
-        withdraws = λ told h. tt;
-        unmarks = λ call told h. within_unmarked call;
-        glances = λ s word v told h. h;
+        rereads_choosing = λ call v reports h. tt;
+        rereads_number = λ call c v reports h. tt;
+        rereads_inside = λ call c k v reports h. within_restart n p call c k v;
+        opens = λ reports h. omega arith;
+        peeks = λ unread m j v there reports h. let le = (small j).number in let is = reports refl in omega arith;
+        takes = λ m less reports h. tt;
+        spends = λ m most reports h. tt;
+        shuts = λ call k reports h. within_shut n p call k;
+        looks = λ k unpassed j there reports h. tt;
+        looks_again = λ k unpassed j v there blocked reports h. tt;
+        weighs = λ k unpassed j v passes reports h. tt;
+        weighs_again = λ k unpassed j v blocked reports h. tt;
+        marks = λ k reports h. tt;
+        drops = λ reports h. tt;
+        withdraws = λ reports h. tt;
+        unmarks = λ call reports h. within_unmarked call;
+        glances = λ s word v reports h. h;
       })
 
   pub record Bounded (w : World) : Type 0 where
@@ -115,7 +115,7 @@ module _ (limit : ℕ) where
         | inr ne ↦ subst Within (sym (put_other places p s q ne)) (h q)
       ]
 
-  within_started : (s : Place) (call : CoreCall) → Within s → Within (unwrap_or (started s call) s)
+  within_started : (s : Place) (call : CoreCall) → Within s → Within (unwrap_or (place_after_start s call) s)
   within_started Rest Withdraw h = h
   within_started s Withdraw h = h
   within_started _ _ h = h

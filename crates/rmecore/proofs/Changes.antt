@@ -76,8 +76,8 @@ knows_nothing out past look nobody =
     }
 
 -- what another process knows of p, when p's number and place change
-pub stays_behind : {b : Bool} {q : ℕ} {z : Own} {u : Place} {p : ℕ} {x : Own} {s : Place} → Pair b q z u p x s → (x' : Own) (s' : Place) → (Counted z.number q s → Counted z.number q s') → (Stands z.number q p x s → (x'.number ≡ 0) ⊎ Before z.number q x'.number p) → Pair b q z u p x' s'
-stays_behind {q = q} {z = z} {p = p} {x = x} {s = s} h x' s' counted less =
+pub stays_after : {b : Bool} {q : ℕ} {z : Own} {u : Place} {p : ℕ} {x : Own} {s : Place} → Pair b q z u p x s → (x' : Own) (s' : Place) → (Counted z.number q s → Counted z.number q s') → (Stands z.number q p x s → (x'.number ≡ 0) ⊎ Before z.number q x'.number p) → Pair b q z u p x' s'
+stays_after {q = q} {z = z} {p = p} {x = x} {s = s} h x' s' counted less =
     let on = λ (k : Stands z.number q p x s). let r : Stands z.number q p x' s' = record { less = less k; counted = counted k.counted } in r in
     record {
       passed = λ e. on (h.passed e);
@@ -130,4 +130,4 @@ pub silent : {n : ℕ} {w : World} {a : Abstract} {p : ℕ} {x : Own} {s : Place
 silent h x' s' phase plain fits mine rest number inside =
     calm h x' s' phase fits mine rest
     (λ i below ne k. goes_on k x' s' number inside (λ e. absurd (plain_past s' i plain e)) (λ e. absurd (plain_look s' i plain e)))
-    (λ q below ne k. stays_behind k x' s' (λ c. plain_counted s' _ q plain) (λ c. rw number c.less))
+    (λ q below ne k. stays_after k x' s' (λ c. plain_counted s' _ q plain) (λ c. rw number c.less))

@@ -1,9 +1,9 @@
 -- A step of one process in a simulated core is a step of the definition.
 use Rattle.std.proofs.Common.{◌≡◌, ℕ, ◌<◌, ◌≤◌, ◌++◌, true, false, List, [], ◌∷◌, length, take, slice_index_or, slice_set, replicate, Option, Some, None, IsSome, IfSome, unwrap_or, refl, sym, ap, ◌∙◌, subst, inl, inr, get_or-set_same, get_or-set_other, length-set}
 use Rattle.rmecore.proofs.Common.{take-append_seam, cases_eq, cases_lt, get_or_default, get_or_past, get_or-replicate, length-replicate, Access, Store, Load, CoreCall, Own, Tally, Word, nobody}
-use Rattle.rmecore.proofs.Common.{IsLawful, access, kind_of, word_of, carried, Standing, next_access, owner, IsLeast, IsAllowed, StoresOwn, absent, after_access, performed, put, Place, Rest, Dead}
-use Rattle.rmecore.proofs.Common.{next, Event, Starts, Crashes, Steps, started, process, moved, Simulated, zeros, own_at, standing_at, place_at, world_of, HasConfiguration, IsConfigured, Takes, fresh, World}
-use Rattle.rmecore.proofs.Common.{at_rest, is_store, read, May, after, IsReached, Reads, stored}
+use Rattle.rmecore.proofs.Common.{IsLawful, access, kind_of, word_of, carried_value, Standing, next_access, owner, IsLeast, IsAllowed, StoresOwn, absent_process, after_access, words_performed, put, Place, Rest, Dead}
+use Rattle.rmecore.proofs.Common.{next, Event, Starts, Crashes, Steps, place_after_start, process, place_after_event, Simulated, zeros, own_at, standing_at, place_at, world_of, HasConfiguration, IsConfigured, Takes, new_tally, World}
+use Rattle.rmecore.proofs.Common.{at_rest, is_store, read, May, after, IsReached, Reads, words_after_event}
 use Rattle.rmecore.proofs.Invariant.{put_same, put_other}
 use Rattle.rmecore.proofs.Accesses.{stores_own}
 use Rattle.rmecore.proofs.Bounds.{final_lawful, rest_bounded, rest_rows}
@@ -39,15 +39,15 @@ kind_fits limit p place = of (access limit p place) (stores_own limit p place)
     of None h = tt
     of (Some a) h = fits_by p a h
 
-pub settled : (a : Access) (v x : ℕ) → v ≡ carried a x → carried a v ≡ v
+pub settled : (a : Access) (v x : ℕ) → v ≡ carried_value a x → carried_value a v ≡ v
 settled (Load kind word) v x e = refl
 settled (Store kind word y) v x e = sym e
 
-pub stores : (words words' : ℕ → Own) (a : Access) (p v x : ℕ) → KindFits a → v ≡ carried a x → words' ≡ performed words a → words' ≡ stored words (Steps p (kind_of a) (word_of a) v)
+pub stores : (words words' : ℕ → Own) (a : Access) (p v x : ℕ) → KindFits a → v ≡ carried_value a x → words' ≡ words_performed words a → words' ≡ words_after_event words (Steps p (kind_of a) (word_of a) v)
 stores words words' (Load kind word) p v x fits e h = rw fits h
 stores words words' (Store kind word y) p v x fits e h = rw (fits, e) h
 
-pub reads : (words : ℕ → Own) (a : Access) (v : ℕ) → KindFits a → v ≡ carried a (read words (word_of a)) → is_store (kind_of a) ≡ false → read words (word_of a) ≡ v
+pub reads : (words : ℕ → Own) (a : Access) (v : ℕ) → KindFits a → v ≡ carried_value a (read words (word_of a)) → is_store (kind_of a) ≡ false → read words (word_of a) ≡ v
 reads words (Load kind word) v fits e load = sym e
 reads words (Store kind word y) v fits e load = cc
 
@@ -59,14 +59,14 @@ pub record Moves (n limit p : ℕ) (words words' : List Own) (processes : List S
   pub each : length processes ≡ n
   pub next : next_access s ≡ Some a
   pub allowed : IsAllowed s a
-  pub value : v ≡ carried a (read (own_at words) (word_of a))
-  pub words_now : own_at words' ≡ performed (own_at words) a
+  pub value : v ≡ carried_value a (read (own_at words) (word_of a))
+  pub words_now : own_at words' ≡ words_performed (own_at words) a
   pub moved : s' ≡ record s { place = after_access s (next_access s) v }
 
 module _ {n limit p : ℕ} {words words' : List Own} {processes : List Standing} {s s' : Standing} {a : Access} {v : ℕ} (m : Moves n limit p words words' processes s s' a v) where
-  steps_to : next n limit p s.place (kind_of a) (word_of a) v ≡ next s.procs s.limit s.index s.place (kind_of a) (word_of a) (carried a v)
+  steps_to : next n limit p s.place (kind_of a) (word_of a) v ≡ next s.procs s.limit s.index s.place (kind_of a) (word_of a) (carried_value a v)
   steps_to =
-      let again : carried a v ≡ v = settled a v _ m.value in
+      let again : carried_value a v ≡ v = settled a v _ m.value in
       let procs = m.configuration.0 in
       let limits = m.configuration.1 in
       let index = m.configuration.2 in
@@ -85,7 +85,7 @@ module _ {n limit p : ℕ} {words words' : List Own} {processes : List Standing}
             let to : s'.place ≡ unwrap_or (next n limit p (place_at processes p) (kind_of a) (word_of a) v) (place_at processes p) = rw (is, steps_to) (ap (λ t. t.place) m.moved ∙ ap (λ o. after_access s o v) m.next) in
             let there : place_at (slice_set processes p s') ≡ put (place_at processes) p (unwrap_or (next n limit p (place_at processes p) (kind_of a) (word_of a) v) (place_at processes p)) =
             place_at-set processes p s' (rw m.each m.below) ∙ ap (put (place_at processes) p) to in
-            let now : own_at words' ≡ stored (own_at words) (Steps p (kind_of a) (word_of a) v) = stores (own_at words) (own_at words') a p v _ fits m.value m.words_now in
+            let now : own_at words' ≡ words_after_event (own_at words) (Steps p (kind_of a) (word_of a) v) = stores (own_at words) (own_at words') a p v _ fits m.value m.words_now in
             λ i. record { words = now i; places = there i };
         procs = refl;
         limit = refl;
@@ -137,13 +137,13 @@ least_here n limit p processes s a configuration here least word v some =
 -- an event that changes no word and moves process p to the place of s'
 alone :
     (n limit p : ℕ) (words : List Own) (processes : List Standing) (tallies tallies' : List Tally) (s' : Standing) (e : Event) → process e ≡ p → p < n → length processes ≡ n
-    → Reads (own_at words) e → stored (own_at words) e ≡ own_at words → moved n limit (place_at processes p) e ≡ Some s'.place
+    → Reads (own_at words) e → words_after_event (own_at words) e ≡ own_at words → place_after_event n limit (place_at processes p) e ≡ Some s'.place
     → Takes (record { procs = n; limit = limit; words = words; processes = processes; tallies = tallies }) e (record { procs = n; limit = limit; words = words; processes = slice_set processes p s'; tallies = tallies' })
 alone n limit p words processes tallies tallies' s' e mine below each reads calm to =
     record {
       may = (rw mine below, rw (mine, to) refl, reads);
       world =
-          let there : place_at (slice_set processes p s') ≡ put (place_at processes) (process e) (unwrap_or (moved n limit (place_at processes (process e)) e) (place_at processes (process e))) =
+          let there : place_at (slice_set processes p s') ≡ put (place_at processes) (process e) (unwrap_or (place_after_event n limit (place_at processes (process e)) e) (place_at processes (process e))) =
           rw (mine, to) (place_at-set processes p s' (rw each below)) in
           λ i. record { words = sym calm i; places = there i };
       procs = refl;
@@ -151,10 +151,10 @@ alone n limit p words processes tallies tallies' s' e mine below each reads calm
     }
 
 pub starts_takes :
-    (n limit p : ℕ) (words : List Own) (processes : List Standing) (tallies tallies' : List Tally) (s s' : Standing) (call : CoreCall) → standing_at processes p ≡ s → p < n → length processes ≡ n → started s.place call ≡ Some s'.place
+    (n limit p : ℕ) (words : List Own) (processes : List Standing) (tallies tallies' : List Tally) (s s' : Standing) (call : CoreCall) → standing_at processes p ≡ s → p < n → length processes ≡ n → place_after_start s.place call ≡ Some s'.place
     → Takes (record { procs = n; limit = limit; words = words; processes = processes; tallies = tallies }) (Starts p call) (record { procs = n; limit = limit; words = words; processes = slice_set processes p s'; tallies = tallies' })
 starts_takes n limit p words processes tallies tallies' s s' call here below each to =
-    alone n limit p words processes tallies tallies' s' (Starts p call) refl below each tt refl (ap (λ t. started t.place call) here ∙ to)
+    alone n limit p words processes tallies tallies' s' (Starts p call) refl below each tt refl (ap (λ t. place_after_start t.place call) here ∙ to)
 
 pub crash_takes :
     (n limit p : ℕ) (words : List Own) (processes : List Standing) (tallies tallies' : List Tally) (s' : Standing) → p < n → length processes ≡ n → s'.place ≡ Dead
@@ -190,11 +190,11 @@ first_places n limit processes len h = λ i. λ p. each p i
     each p =
         elim (cases_lt p n) [
           | inl below ↦ ap (λ t. t.place) (h p below)
-          | inr past ↦ ap (λ t. t.place) (get_or_past processes p absent (rw len past))
+          | inr past ↦ ap (λ t. t.place) (get_or_past processes p absent_process (rw len past))
         ]
 
 pub first_configured :
-    (n limit : ℕ) (words : List Own) (processes : List Standing) (tallies : List Tally) → words ≡ replicate n zeros → length processes ≡ n → tallies ≡ replicate n (fresh zeros)
+    (n limit : ℕ) (words : List Own) (processes : List Standing) (tallies : List Tally) → words ≡ replicate n zeros → length processes ≡ n → tallies ≡ replicate n (new_tally zeros)
     → ((p : ℕ) → p < n → standing_at processes p ≡ record { procs = n; limit = limit; index = p; place = Rest }) → IsConfigured n limit words processes tallies
 first_configured n limit words processes tallies e len f h =
     record { words_each = rw e (length-replicate n _); processes_each = len; tallies_each = rw f (length-replicate n _); configurations = λ p below. subst (HasConfiguration n limit p) (sym (h p below)) (refl, refl, refl) }

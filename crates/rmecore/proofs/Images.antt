@@ -1,7 +1,7 @@
 -- Runs from an image and to an image. A process's place follows from its own events.
 use Rattle.std.proofs.Common.{◌≡◌, ◌≢◌, ℕ, ◌<◌, true, false, ◌==◌, ◌⊎◌, List, [], ◌∷◌, ◌++◌, Option, Some, None, unwrap_or, refl, sym, ap, ◌∙◌, subst, inl, inr, arith, eq-eqb, ne_eqb}
 use Rattle.rmecore.proofs.Common.{and_parts, cases_eq, and_right, Outer, Own, Phase, AtDoor, Ready as Waiting, is_ready, IsLawful, all_dead, dead_phase, phase_by, is_ahead, start_of, Dead, Event}
-use Rattle.rmecore.proofs.Common.{is_before, process, moved, World, May, after, Run, final, deeds, own_events, place_after, deed, and_then}
+use Rattle.rmecore.proofs.Common.{is_before, process, place_after_event, World, May, after, Run, final, deeds, own_events, place_after, deed, and_then}
 use Rattle.rmecore.proofs.Invariant.{Tied, Passed, Before, phase_at, waiting_means, put_same, put_other}
 use Rattle.rmecore.proofs.Rows.{before_by}
 
@@ -34,9 +34,9 @@ at_image n limit words h =
         passed = λ e. record { less = passed p i hp hi ne e; counted = tt };
         looked = λ e. absurd e;
         ahead = λ e.
-            let told = ahead_tells _ i (words i) p (words p) refl e in
-            let m = waiting_means _ _ _ true (ap is_ready (sym (same_phase _ _ _)) ∙ told.0) in
-            (m.0, m.1, record { less = told.1; counted = tt });
+            let reports = ahead_tells _ i (words i) p (words p) refl e in
+            let m = waiting_means _ _ _ true (ap is_ready (sym (same_phase _ _ _)) ∙ reports.0) in
+            (m.0, m.1, record { less = reports.1; counted = tt });
       };
     }
   where
@@ -58,8 +58,8 @@ place_own n limit w p (e ∷ es) =
     elim (cases_eq p (process e)) [
       | inl same ↦
           let yes_own : (process e == p) ≡ true = eq-eqb _ _ (sym same) in
-          let now : (after n limit w e).places p ≡ unwrap_or (moved n limit (w.places p) e) (w.places p) =
-          subst (λ r. (after n limit w e).places r ≡ unwrap_or (moved n limit (w.places r) e) (w.places r)) (sym same) (put_same w.places (process e) _) in
+          let now : (after n limit w e).places p ≡ unwrap_or (place_after_event n limit (w.places p) e) (w.places p) =
+          subst (λ r. (after n limit w e).places r ≡ unwrap_or (place_after_event n limit (w.places r) e) (w.places r)) (sym same) (put_same w.places (process e) _) in
           rw (yes_own, now) refl
       | inr ne ↦
           let not_own : (process e == p) ≡ false = ne_eqb _ _ (λ same. ne (sym same)) in

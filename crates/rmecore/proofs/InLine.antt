@@ -3,7 +3,7 @@ use Rattle.std.proofs.Common.{◌≡◌, ◌≢◌, ℕ, zero, suc, ◌<◌, Boo
 use Rattle.std.proofs.lemmas.List.Elements.{All-head, All-tail}
 use Rattle.rmecore.proofs.Common.{cases_Bool, cases_eq, or_left, cond_both, CoreCall, Lock, Recover, Unlock, Withdraw, Kind, Take as Takes, Shut as Shuts, Rereads, Open as Opens, Peek as Peeks, Look as Looks, Weigh as Weighs, Mark as Marks}
 use Rattle.rmecore.proofs.Common.{Drop as Drops, Glance as Glances, Outer, Enter, Own, Word, Choosing as ChoosingOf, Number as NumberOf, InsideOf, Place, Rest, Dead, Reread, Opening, Door, Shutting, Wait, Inside, Leaving, Withdrawing, Unmarking}
-use Rattle.rmecore.proofs.Common.{has, only, next, Event, Starts, Crashes, Steps, without, is_before, restart, started, shut, unmarked, process, moved, World, May, after, Run, final, stored, write, own_events, deeds, deed, and_then, step_deed, answer}
+use Rattle.rmecore.proofs.Common.{has, only, next, Event, Starts, Crashes, Steps, without, is_before, restart, place_after_start, shut, place_after_unmark, process, place_after_event, World, May, after, Run, final, words_after_event, write, own_events, deeds, deed, and_then, step_deed, answer}
 use Rattle.rmecore.proofs.Common.{IsUninterrupted, IsInLine, answer_of, IsAnswered, entries, is_idle}
 use Rattle.rmecore.proofs.Invariant.{Fits, eqb_self, put_same, put_other}
 use Rattle.rmecore.proofs.Runs.{guard, kept}
@@ -37,7 +37,7 @@ module _ (n limit p : ℕ) (words : ℕ → Own) where
 
   -- p has its number still, and doesn't withdraw
   abbrev Still : Kind → Word → ℕ → Place → Type 0
-  Still kind word v t = Keeps (words p) (stored words (Steps p kind word v) p) × Stands t
+  Still kind word v t = Keeps (words p) (words_after_event words (Steps p kind word v) p) × Stands t
 
   stands_restart : (call : CoreCall) (c k i : ℕ) → Stands (restart n p call c k i)
   stands_restart Lock (suc c) zero i = tt
@@ -83,7 +83,7 @@ module _ (n limit p : ℕ) (words : ℕ → Own) where
   step_keeps _ _ _ v some f k i st other = absurd (cc)
 
 -- an event of p that is no entry, and no crash or withdraw
-start_stands : (s : Place) (call : CoreCall) → IsUninterrupted (Starts 0 call) → IsSome (started s call) → Stands (unwrap_or (started s call) s)
+start_stands : (s : Place) (call : CoreCall) → IsUninterrupted (Starts 0 call) → IsSome (place_after_start s call) → Stands (unwrap_or (place_after_start s call) s)
 start_stands s Withdraw whole some = absurd whole
 start_stands Rest Lock whole some = tt
 start_stands Rest Recover whole some = tt
@@ -106,7 +106,7 @@ pub record InLineWith (w : World) (p k : ℕ) : Type 0 where
 
 module _ (n limit : ℕ) where
   own_event : (w : World) (e : Event) → May n limit w e → IsUninterrupted e → Sound n w → IsInLine w (process e) → has (entries (and_then (deed (w.places (process e)) e) [])) (process e) ≡ false
-      → Keeps (w.words (process e)) (stored w.words e (process e)) × Stands (unwrap_or (moved n limit (w.places (process e)) e) (w.places (process e)))
+      → Keeps (w.words (process e)) (words_after_event w.words e (process e)) × Stands (unwrap_or (place_after_event n limit (w.places (process e)) e) (w.places (process e)))
   own_event w (Starts p Withdraw) may whole sound h other = absurd whole
   own_event w (Starts p Lock) may whole sound h other = (the_same (w.words p), start_stands (w.places p) Lock tt may.1)
   own_event w (Starts p Recover) may whole sound h other = (the_same (w.words p), start_stands (w.places p) Recover tt may.1)
@@ -172,7 +172,7 @@ module _ (n limit : ℕ) where
   answer_shut p k Lock e = cc
   answer_shut p k _ e = refl
 
-  answer_unmarked : (call : CoreCall) → is_idle (unmarked call) ≡ true → IsSome (answer (Unmarking call) Marks 0)
+  answer_unmarked : (call : CoreCall) → is_idle (place_after_unmark call) ≡ true → IsSome (answer (Unmarking call) Marks 0)
   answer_unmarked Lock e = cc
   answer_unmarked Unlock e = refl
   answer_unmarked _ e = refl
@@ -206,7 +206,7 @@ module _ (n limit : ℕ) where
   step_answers p s Glances (InsideOf q) v busy some e = cc
   step_answers p _ _ _ v busy some e = absurd (cc)
 
-  event_answers : (s : Place) (e : Event) → is_idle s ≡ false → IsSome (moved n limit s e) → IsUninterrupted e → is_idle (unwrap_or (moved n limit s e) s) ≡ true → IsSome (answer_of s e)
+  event_answers : (s : Place) (e : Event) → is_idle s ≡ false → IsSome (place_after_event n limit s e) → IsUninterrupted e → is_idle (unwrap_or (place_after_event n limit s e) s) ≡ true → IsSome (answer_of s e)
   event_answers s (Starts p Withdraw) busy some whole idle = absurd whole
   event_answers Rest (Starts p call) busy some whole idle = absurd (cc)
   event_answers Dead (Starts p call) busy some whole idle = absurd (cc)
@@ -225,9 +225,9 @@ module _ (n limit : ℕ) where
       elim (cases_eq p (process e)) [
         | inl is ↦
             let yes_own : (process e == p) ≡ true = eq-eqb _ _ (sym is) in
-            let t : Place = unwrap_or (moved n limit (w.places p) e) (w.places p) in
-            let now : (after n limit w e).places p ≡ t = subst (λ r. (after n limit w e).places r ≡ unwrap_or (moved n limit (w.places r) e) (w.places r)) (sym is) (put_same w.places (process e) _) in
-            let some : IsSome (moved n limit (w.places p) e) = subst (λ r. IsSome (moved n limit (w.places r) e)) (sym is) run.0.1 in
+            let t : Place = unwrap_or (place_after_event n limit (w.places p) e) (w.places p) in
+            let now : (after n limit w e).places p ≡ t = subst (λ r. (after n limit w e).places r ≡ unwrap_or (place_after_event n limit (w.places r) e) (w.places r)) (sym is) (put_same w.places (process e) _) in
+            let some : IsSome (place_after_event n limit (w.places p) e) = subst (λ r. IsSome (place_after_event n limit (w.places r) e)) (sym is) run.0.1 in
             let here : IsSome (answer_of (w.places p) e) ⊎ IsAnswered n limit t (own_events p es) = elim (cases_Bool (is_idle t)) [
               | inl over ↦ inl (event_answers (w.places p) e busy some (All-head IsUninterrupted e es whole) over)
               | inr still ↦ inr (subst (λ x. IsAnswered n limit x (own_events p es)) now (rest (ap is_idle now ∙ still)))

@@ -1,6 +1,6 @@
 -- The invariant of every world of a run together with the abstract lock.
 use Rattle.std.proofs.Common.{◌≡◌, ◌≢◌, ℕ, zero, suc, ◌+◌, ◌-◌, ◌<◌, ◌≤◌, Bool, true, false, ◌||◌, ◌==◌, ◌⊎◌, List, [], ◌∷◌, Some, refl, ap, ◌∙◌, inl, inr, arith, eqb-true, eq-eqb, ne_eqb}
-use Rattle.rmecore.proofs.Common.{cases_Bool, cases_eq, Own, Phase, Out, AtDoor, Ready as Waiting, Within, DeadIn as DeadWithin, Abstract, is_ready, crashed, put, Place, Rest, Dead, Reread, Opening}
+use Rattle.rmecore.proofs.Common.{cases_Bool, cases_eq, Own, Phase, Out, AtDoor, Ready as Waiting, Within, DeadIn as DeadWithin, Abstract, is_ready, phase_after_crash, put, Place, Rest, Dead, Reread, Opening}
 use Rattle.rmecore.proofs.Common.{Door, Shutting, Wait, Inside, Leaving, Withdrawing, Unmarking, has, without, others, span, World}
 
 -- lists as sets
@@ -150,7 +150,7 @@ waiting_means c k i b e = grind arith
 pub phase_any : (c k i : ℕ) (b b' : Bool) → (k ≡ 0) ⊎ (i ≡ 0) → phase_at c k i b ≡ phase_at c k i b'
 phase_any c k i b b' e = grind arith
 
-pub phase_crashed : (c k i : ℕ) (b : Bool) → crashed (phase_at c k i b) ≡ phase_at c k i true
+pub phase_crashed : (c k i : ℕ) (b : Bool) → phase_after_crash (phase_at c k i b) ≡ phase_at c k i true
 phase_crashed c k i b = grind arith
 
 -- the words at every place are a row of the restart table

@@ -2,8 +2,8 @@
 use Rattle.std.proofs.Common.{◌≡◌, ◌≢◌, ℕ, zero, suc, ◌<◌, ◌≤◌, Bool, true, false, not, ◌&&◌, ◌==◌, ◌⊎◌, List, [], ◌∷◌, All, Option, Some, None, IfSome, refl, sym, ap, ◌∙◌, subst, inl, inr, arith, eqb-true, eq-eqb, ne_eqb}
 use Rattle.std.proofs.lemmas.List.Elements.{All-head, All-tail}
 use Rattle.rmecore.proofs.Common.{cases_Bool, cases_eq, and_parts, or_left, or_right, Kind, Take as Takes, Shut as Shuts, Rereads, Open as Opens, Mark as Marks, Drop as Drops, Outer, Begin, Enter, Quit}
-use Rattle.rmecore.proofs.Common.{Ready as Waiting, Abstract, is_door, is_ready, done, doer, put, Place, Reread, Opening, Door, Wait, Leaving, Withdrawing, Event, Starts, Crashes, Steps, is_before, process, World, May, after, Run, final, deed, step_deed}
-use Rattle.rmecore.proofs.Common.{IsWaiting, IsFirst, IsAheadOfDoorways, Counts, IsOfDoorway, CanEnter, reentry}
+use Rattle.rmecore.proofs.Common.{Ready as Waiting, Abstract, is_door, is_ready, abstract_after, doer, put, Place, Reread, Opening, Door, Wait, Leaving, Withdrawing, Event, Starts, Crashes, Steps, is_before, process, World, May, after, Run, final, deed, step_deed}
+use Rattle.rmecore.proofs.Common.{IsWaiting, IsFirstInLine, IsAheadOfDoorways, TakesLaterNumber, IsOfDoorway, CanEnter, reentry}
 use Rattle.rmecore.proofs.Invariant.{Tied, Before, Counted, Stands, eqb_self, put_same, put_other, phase_waiting, phase_door, is_lost, Fits}
 use Rattle.rmecore.proofs.Bounds.{before_test}
 use Rattle.rmecore.proofs.Rows.{after_deed, before_by}
@@ -42,7 +42,7 @@ pub record IsAhead (p : ℕ) (a : Abstract) : Type 0 where
   pub each : (q : ℕ) → q ≢ p → a.ahead q p ≡ true
 
 -- it stays so with each deed of another process
-each_still : (p : ℕ) (a : Abstract) (d : Outer) → doer d ≢ p → IsAhead p a → (q : ℕ) → q ≢ p → (done a d).ahead q p ≡ true
+each_still : (p : ℕ) (a : Abstract) (d : Outer) → doer d ≢ p → IsAhead p a → (q : ℕ) → q ≢ p → (abstract_after a d).ahead q p ≡ true
 each_still p a (Begin r) ne h q far =
     let ready_now : ℕ → Bool = λ q. is_ready (a.phase q) in
     elim (cases_eq q r) [
@@ -53,7 +53,7 @@ each_still p a (Enter r) ne h q far = put_other (a.ahead q) r false p (λ e. ne 
 each_still p a (Quit r) ne h q far = put_other (a.ahead q) r false p (λ e. ne (sym e)) ∙ h.each q far
 each_still p a d ne h q far = h.each q far
 
-still_ahead : (p : ℕ) (a : Abstract) (d : Outer) → doer d ≢ p → IsAhead p a → IsAhead p (done a d)
+still_ahead : (p : ℕ) (a : Abstract) (d : Outer) → doer d ≢ p → IsAhead p a → IsAhead p (abstract_after a d)
 still_ahead p a d ne h = record { ready = phase_other a d p (λ e. ne (sym e)) ∙ h.ready; each = each_still p a d ne h }
 
 after_own : (p r : ℕ) (a : Abstract) (o : Option Outer) → IfSome o (λ d. doer d ≡ r) → r ≢ p → IsAhead p a → IsAhead p (after_deed a o)
@@ -79,13 +79,13 @@ front_final n limit p w [] away run f = f
 front_final n limit p w (e ∷ es) away run f =
     front_final n limit p (after n limit w e) es (All-tail (λ e. process e ≢ p) e es away) run.1 (front_after n limit p w e run.0 (All-head (λ e. process e ≢ p) e es away) f)
 
-counted_as : (k p : ℕ) (t : Place) → Counts p k t → Counted k p t
+counted_as : (k p : ℕ) (t : Place) → TakesLaterNumber p k t → Counted k p t
 counted_as k p (Door unread m) h = h
 counted_as k p _ h = tt
 
 -- a doorway that p is ahead of counts p
 pub counts_of :
-    {n : ℕ} {w : World} {a : Abstract} → Tied n w a → (p q : ℕ) → p < n → q < n → IsWaiting (w.places p) → IsAheadOfDoorways n a p → (s : Place) → w.places q ≡ s → Counts p (w.words p).number s
+    {n : ℕ} {w : World} {a : Abstract} → Tied n w a → (p q : ℕ) → p < n → q < n → IsWaiting (w.places p) → IsAheadOfDoorways n a p → (s : Place) → w.places q ≡ s → TakesLaterNumber p (w.words p).number s
 counts_of {w = w} {a = a} t p q hp hq waits ahead (Door unread m) at =
     let f : Fits (w.words q) (Door unread m) = subst (Fits (w.words q)) at (t.fits q hq) in
     let far : q ≢ p = λ is. subst IsWaiting at (subst (λ r. IsWaiting (w.places r)) (sym is) waits) in
@@ -103,7 +103,7 @@ module _ (n p : ℕ) (below : p < n) where
       (f.0, omega arith, f.3)
 
   -- the abstract lock with p ahead of all others is one of this world too
-  pub front_of : {w : World} → Sound n w → IsWaiting (w.places p) → IsFirst n w p → ((q : ℕ) → q < n → Counts p (w.words p).number (w.places q)) → Front n p w
+  pub front_of : {w : World} → Sound n w → IsWaiting (w.places p) → IsFirstInLine n w p → ((q : ℕ) → q < n → TakesLaterNumber p (w.words p).number (w.places q)) → Front n p w
   front_of {w = w} sound waits first counts =
       let own = waiting sound waits in
       record {
@@ -187,7 +187,7 @@ module _ (n limit : ℕ) where
   all_close zero low sound = ended (record { sound = sound; closed = λ q low. absurd (omega arith); words = λ q none. refl; places = λ q none. refl })
   all_close (suc m) low sound = followed (all_close m (omega arith) sound) (λ w' h. closes_next (omega arith) h)
 
-  pub can_enter : {w : World} (p : ℕ) → p < n → Sound n w → IsWaiting (w.places p) → IsFirst n w p → ((q : ℕ) → q < n → Counts p (w.words p).number (w.places q)) → CanEnter n limit w p
+  pub can_enter : {w : World} (p : ℕ) → p < n → Sound n w → IsWaiting (w.places p) → IsFirstInLine n w p → ((q : ℕ) → q < n → TakesLaterNumber p (w.words p).number (w.places q)) → CanEnter n limit w p
   can_enter {w = w} p below sound waits first counts =
       let own = waiting n p below sound waits in
       let c = all_close n (omega arith) sound in
@@ -205,5 +205,5 @@ module _ (n limit : ℕ) where
         entered = entered-append n limit w c.events e.events c.entered e.entered;
       }
 
-  pub can_enter_ahead : {w : World} {a : Abstract} (p : ℕ) → p < n → Sound n w → Tied n w a → IsWaiting (w.places p) → IsFirst n w p → IsAheadOfDoorways n a p → CanEnter n limit w p
+  pub can_enter_ahead : {w : World} {a : Abstract} (p : ℕ) → p < n → Sound n w → Tied n w a → IsWaiting (w.places p) → IsFirstInLine n w p → IsAheadOfDoorways n a p → CanEnter n limit w p
   can_enter_ahead {w = w} p below sound t waits first ahead = can_enter p below sound waits first (λ q low. counts_of t p q below low waits ahead (w.places q) refl)

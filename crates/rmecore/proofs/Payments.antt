@@ -3,7 +3,7 @@ use Rattle.std.proofs.Common.{◌≡◌, ℕ, zero, suc, ◌+◌, ◌-◌, ◌*�
 use Rattle.rmecore.proofs.Common.{cases_Bool, false_from_ne_true, cases_eq, CoreCall, Lock, Unlock, CoreDone, Kind}
 use Rattle.rmecore.proofs.Common.{Word, is_blocked, answer, reread_answer}
 use Rattle.rmecore.proofs.Common.{shut_answer, unmark_answer, most_steps, own_steps, is_glance, Distinct, Pays, ReadsBegun, Place, Reread, Opening, Door, Shutting, Wait, Leaving}
-use Rattle.rmecore.proofs.Common.{Withdrawing, Unmarking, has, next, without, others, restart, shut, unmarked, span, is_idle}
+use Rattle.rmecore.proofs.Common.{Withdrawing, Unmarking, has, next, without, others, restart, shut, place_after_unmark, span, is_idle}
 use Rattle.rmecore.proofs.Invariant.{has-without}
 use Rattle.rmecore.proofs.AllowedSteps.{by_step}
 use Rattle.rmecore.proofs.Scans.{has-span-low}
@@ -109,7 +109,7 @@ module _ (n p : ℕ) (below : p < n) where
   shuts Lock c k i x steps h = let l = each in ((all, same _ h (omega arith)), tt)
   shuts _ c k i x steps h = (tt, h)
 
-  unmarks : (call : CoreCall) (c k i steps : ℕ) → Pays n c k i (Unmarking call) steps → Goes c k i (unmark_answer call) steps (unmarked call)
+  unmarks : (call : CoreCall) (c k i steps : ℕ) → Pays n c k i (Unmarking call) steps → Goes c k i (unmark_answer call) steps (place_after_unmark call)
   unmarks Lock c k i steps h = ((same _ h.0 (omega arith), same _ h.1 (omega arith)), tt)
   unmarks _ c k i steps h = (tt, h)
 

@@ -1,11 +1,11 @@
 -- One lemma for each kind of step: the deed is allowed, and the invariant holds again.
 use Rattle.std.proofs.Common.{◌≡◌, ◌≢◌, ℕ, zero, suc, ◌+◌, ◌<◌, max, Bool, true, false, ◌||◌, ◌==◌, ◌⊎◌, List, [], ◌∷◌, Option, Some, None, IsSome, unwrap_or, refl, sym, ap, ◌∙◌, subst, inl, inr, arith, eqb-true, ltb-true}
 use Rattle.rmecore.proofs.Common.{and_parts, or_cases, false_from_ne_true, cases_eq, CoreCall, Lock, Unlock, Withdraw, Recover, Rereads, Outer, Begin, Enter, Crash, Reenter, Leave, Quit, Own, Out}
-use Rattle.rmecore.proofs.Common.{AtDoor, Ready as Waiting, Within, DeadIn as DeadWithin, Abstract, is_ready, crashed, done, put, Place, Rest, Dead, Reread, Opening, Door, Shutting, Wait, Inside}
-use Rattle.rmecore.proofs.Common.{Leaving, Withdrawing, Unmarking, has, without, others, is_before, restart, started, shut, unmarked, World, step_deed}
+use Rattle.rmecore.proofs.Common.{AtDoor, Ready as Waiting, Within, DeadIn as DeadWithin, Abstract, is_ready, phase_after_crash, abstract_after, put, Place, Rest, Dead, Reread, Opening, Door, Shutting, Wait, Inside}
+use Rattle.rmecore.proofs.Common.{Leaving, Withdrawing, Unmarking, has, without, others, is_before, restart, place_after_start, shut, place_after_unmark, World, step_deed}
 use Rattle.rmecore.proofs.Allowing.{Allows, put_false, put_false_self, put_false_kept}
 use Rattle.rmecore.proofs.Invariant.{Fits, phase_of, Before, Counted, Stands, Pair, has-without, has-others, put_same, put_other, phase_any, phase_crashed, row_of, phase_out, phase_door, phase_waiting, phase_within, phase_dead, within_means, dead_means, waiting_means}
-use Rattle.rmecore.proofs.Changes.{Here, fewer, goes_on, knows_nothing, stays_behind, calm, Plain, silent}
+use Rattle.rmecore.proofs.Changes.{Here, fewer, goes_on, knows_nothing, stays_after, calm, Plain, silent}
 use Rattle.rmecore.specs.declared.outer.Outer.TheVariants.{Ready}
 
 abbrev pub Allowed : ℕ → Abstract → Option Outer → Type 0
@@ -14,7 +14,7 @@ Allowed n a (Some d) = Allows n a d
 
 abbrev pub after_deed : Abstract → Option Outer → Abstract
 after_deed a None = a
-after_deed a (Some d) = done a d
+after_deed a (Some d) = abstract_after a d
 
 -- the result of p's step: words x, place s, and this deed
 abbrev pub Outcome : ℕ → World → Abstract → ℕ → Own → Place → Option Outer → Type 0
@@ -67,7 +67,7 @@ module _ {n : ℕ} {w : World} {a : Abstract} {p : ℕ} (below : p < n) where
     tt,
     calm h x (Door (without j unread) (max m v)) a.phase h.fits h.phase (λ q ne. refl)
         (λ i hi ne k. goes_on k x (Door (without j unread) (max m v)) refl (λ e. refl) (λ e. absurd e) (λ e. absurd e))
-        (λ q hq ne k. stays_behind k x (Door (without j unread) (max m v)) (λ c. counted q c) (λ c. c.less)),
+        (λ q hq ne k. stays_after k x (Door (without j unread) (max m v)) (λ c. counted q c) (λ c. c.less)),
   )
     where
       counted : (q : ℕ) → Counted (w.words q).number q (Door unread m) → Counted (w.words q).number q (Door (without j unread) (max m v))
@@ -82,7 +82,7 @@ module _ {n : ℕ} {w : World} {a : Abstract} {p : ℕ} (below : p < n) where
     (below, h.phase ∙ phase_door _ _ _ _ h.fits.0 h.fits.1),
     calm h (record x { number = v }) (Shutting Lock v) (put a.phase p Waiting) (refl, omega arith, h.fits.2) (put_same a.phase p Waiting ∙ sym (phase_waiting _ v _ _ (omega arith) h.fits.2)) (put_other a.phase p Waiting)
         (λ i hi ne k. knows_nothing (λ e. omega arith) (λ e. e) (λ e. e) (λ e. let f : 0 < x.number = (k.ahead e).0 in omega arith))
-        (λ q hq ne k. stays_behind k (record x { number = v }) (Shutting Lock v) (λ c. tt) (λ c. elim c.counted [ inl f ↦ cc | inr f ↦ inr (inl (omega arith)) ])),
+        (λ q hq ne k. stays_after k (record x { number = v }) (Shutting Lock v) (λ c. tt) (λ c. elim c.counted [ inl f ↦ cc | inr f ↦ inr (inl (omega arith)) ])),
   )
 
   -- p gives up its place in line
@@ -94,7 +94,7 @@ module _ {n : ℕ} {w : World} {a : Abstract} {p : ℕ} (below : p < n) where
       phase = put_same a.phase p Out ∙ sym (phase_out _ _ _ _ choosing number);
       self = λ q. put_false_kept (a.ahead q) p q (h.self q);
       first = λ i hi ne. knows_nothing (λ e. omega arith) (λ e. e) (λ e. e) (λ e. absurd (put_false_self (a.ahead i) p e));
-      second = λ q hq ne. fewer (λ e. put_false (a.ahead p) p q e) (stays_behind (h.second q hq ne) x' Rest (λ e. tt) (λ e. inl number));
+      second = λ q hq ne. fewer (λ e. put_false (a.ahead p) p q e) (stays_after (h.second q hq ne) x' Rest (λ e. tt) (λ e. inl number));
       others_fit = h.others_fit;
       others_phase = λ q hq ne. put_other a.phase p Out q ne ∙ h.others_phase q hq ne;
       others_pairs = λ q i hq hi ne far away. fewer (λ e. put_false (a.ahead i) p q e) (h.others_pairs q i hq hi ne far away);
@@ -112,7 +112,7 @@ module _ {n : ℕ} {w : World} {a : Abstract} {p : ℕ} (below : p < n) where
   waits {x = x} {s = s} x' k h fits number inside phase =
       calm h x' (Wait k (others n p) None) a.phase fits (phase ∙ sym (phase_waiting _ _ _ _ (omega arith) fits.3)) (λ q ne. refl)
       (λ i hi ne c. goes_on c x' (Wait k (others n p) None) number (λ e. inside) (λ e. absurd (true≢false_at (has-others n p i hi ne) e)) (λ e. absurd e))
-      (λ q hq ne c. stays_behind c x' (Wait k (others n p) None) (λ e. tt) (λ e. rw number e.less))
+      (λ q hq ne c. stays_after c x' (Wait k (others n p) None) (λ e. tt) (λ e. rw number e.less))
     where
       true≢false_at : {b : Bool} → b ≡ true → b ≡ false → ⊥
       true≢false_at e f = cc
@@ -128,7 +128,7 @@ module _ {n : ℕ} {w : World} {a : Abstract} {p : ℕ} (below : p < n) where
     tt,
     calm h x (Wait k unpassed (Some j)) a.phase h.fits h.phase (λ q ne. refl)
         (λ i hi ne c. goes_on c x (Wait k unpassed (Some j)) refl (λ e. refl) (λ e. c.passed (inr e)) (λ e. not_in_door (w.words i) (w.places i) (h.others_fit i hi ne) (ap (λ r. (w.words r).choosing) (sym e) ∙ is ∙ zeroed)))
-        (λ q hq ne c. stays_behind c x (Wait k unpassed (Some j)) (λ e. tt) (λ e. e.less)),
+        (λ q hq ne c. stays_after c x (Wait k unpassed (Some j)) (λ e. tt) (λ e. e.less)),
   )
     where
       not_in_door : (y : Own) (t : Place) → Fits y t → y.choosing ≡ 0 → Counted x.number p t
@@ -140,7 +140,7 @@ module _ {n : ℕ} {w : World} {a : Abstract} {p : ℕ} (below : p < n) where
     tt,
     calm h x (Wait k (without j unpassed) None) a.phase h.fits h.phase (λ q ne. refl)
         (λ i hi ne c. goes_on c x (Wait k (without j unpassed) None) refl (λ e. refl) (passes i c) (λ e. absurd e))
-        (λ q hq ne c. stays_behind c x (Wait k (without j unpassed) None) (λ e. tt) (λ e. e.less)),
+        (λ q hq ne c. stays_after c x (Wait k (without j unpassed) None) (λ e. tt) (λ e. e.less)),
   )
     where
       passes : (i : ℕ) → Pair (a.ahead i p) p x (Wait k unpassed (Some j)) i (w.words i) (w.places i) → has (without j unpassed) i ≡ false → Stands x.number p i (w.words i) (w.places i)
@@ -148,8 +148,8 @@ module _ {n : ℕ} {w : World} {a : Abstract} {p : ℕ} (below : p < n) where
           elim (cases_eq i j) [
             | inl f ↦
                 let number : (w.words i).number ≡ v = ap (λ r. (w.words r).number) f ∙ is in
-                let told : (v ≡ 0) ⊎ Before x.number p v i = rw (f, h.fits.1) (before_from k p v j less) in
-                record { less = rw number told; counted = c.looked (sym f) }
+                let reports : (v ≡ 0) ⊎ Before x.number p v i = rw (f, h.fits.1) (before_from k p v j less) in
+                record { less = rw number reports; counted = c.looked (sym f) }
             | inr ne ↦ c.passed (inr (sym (has-without unpassed i j ne) ∙ e))
           ]
 
@@ -180,7 +180,7 @@ module _ {n : ℕ} {w : World} {a : Abstract} {p : ℕ} (below : p < n) where
         looked = λ e. absurd e;
         ahead = λ e. absurd (put_false_self (a.ahead i) p e);
       };
-      second = λ q hq ne. fewer (λ e. put_false (a.ahead p) p q e) (stays_behind (h.second q hq ne) (record x { inside = v }) Inside (λ e. tt) (λ e. e.less));
+      second = λ q hq ne. fewer (λ e. put_false (a.ahead p) p q e) (stays_after (h.second q hq ne) (record x { inside = v }) Inside (λ e. tt) (λ e. e.less));
       others_fit = h.others_fit;
       others_phase = λ q hq ne. put_other a.phase p Within q ne ∙ h.others_phase q hq ne;
       others_pairs = λ q i hq hi ne far away. fewer (λ e. put_false (a.ahead i) p q e) (h.others_pairs q i hq hi ne far away);
@@ -206,10 +206,10 @@ module _ {n : ℕ} {w : World} {a : Abstract} {p : ℕ} (below : p < n) where
     (below, h.phase ∙ phase_within _ _ _ h.fits.1 h.fits.2),
     calm h (record x { number = v }) (Unmarking Unlock) (put a.phase p Out) (h.fits.0, is) (put_same a.phase p Out ∙ sym (phase_out _ _ _ _ h.fits.0 is)) (put_other a.phase p Out)
         (λ i hi ne k. knows_nothing (λ e. omega arith) (λ e. e) (λ e. e) (λ e. let f : x.inside ≡ 0 = (k.ahead e).1 in omega arith))
-        (λ q hq ne k. stays_behind k (record x { number = v }) (Unmarking Unlock) (λ c. tt) (λ c. inl is)),
+        (λ q hq ne k. stays_after k (record x { number = v }) (Unmarking Unlock) (λ c. tt) (λ c. inl is)),
   )
 
-  pub unmarks : {x : Own} (call : CoreCall) (v : ℕ) → Here n w a p x (Unmarking call) → v ≡ 0 → Outcome n w a p (record x { inside = v }) (unmarked call) None
+  pub unmarks : {x : Own} (call : CoreCall) (v : ℕ) → Here n w a p x (Unmarking call) → v ≡ 0 → Outcome n w a p (record x { inside = v }) (place_after_unmark call) None
   unmarks {x = x} Lock v h is =
       (tt, silent h (record x { inside = v }) Opening a.phase tt (h.fits.0, h.fits.1, is) (h.phase ∙ phase_out _ _ _ _ h.fits.0 h.fits.1 ∙ sym (phase_out _ _ v _ h.fits.0 h.fits.1)) (λ q ne. refl) refl (λ e. absurd (omega arith)))
   unmarks {x = x} _ v h is =
@@ -231,7 +231,7 @@ module _ {n : ℕ} {w : World} {a : Abstract} {p : ℕ} (below : p < n) where
         tt,
         calm h x (Door (others n p) 0) a.phase (omega arith, h.fits.2, out) (h.phase ∙ phase_any _ _ _ _ _ (inl h.fits.2)) (λ q ne. refl)
             (λ i hi ne k. goes_on k x (Door (others n p) 0) refl (λ e. refl) (λ e. absurd e) (λ e. absurd e))
-            (λ q hq ne k. stays_behind k x (Door (others n p) 0) (λ e. inl (has-others n p q hq ne)) (λ e. e.less)),
+            (λ q hq ne k. stays_after k x (Door (others n p) 0) (λ e. inl (has-others n p q hq ne)) (λ e. e.less)),
       )
   restarts {x = x} Lock (suc c) (suc k) i h is = let out : x.inside ≡ 0 = omega arith in (tt, comes (Shutting Lock (suc k)) h tt (h.fits.2, omega arith, out) (phase_any _ _ _ _ _ (inr out)))
   restarts {x = x} Lock zero zero zero h is = (tt, comes Opening h tt (h.fits.1, h.fits.2, is) (phase_any _ _ _ _ _ (inl h.fits.2)))
@@ -248,10 +248,10 @@ module _ {n : ℕ} {w : World} {a : Abstract} {p : ℕ} (below : p < n) where
   pub crashes : {x : Own} (s : Place) → Here n w a p x s → Outcome n w a p x Dead (Some (Crash p))
   crashes {x = x} s h = (
     below,
-    silent h x Dead (put a.phase p (crashed (a.phase p))) tt (row_of x s h.fits) (put_same a.phase p _ ∙ ap crashed h.phase ∙ phase_crashed _ _ _ _) (put_other a.phase p _) refl (λ e. refl),
+    silent h x Dead (put a.phase p (phase_after_crash (a.phase p))) tt (row_of x s h.fits) (put_same a.phase p _ ∙ ap phase_after_crash h.phase ∙ phase_crashed _ _ _ _) (put_other a.phase p _) refl (λ e. refl),
   )
 
-  pub starts : {x : Own} (s : Place) (call : CoreCall) → Here n w a p x s → IsSome (started s call) → Outcome n w a p x (unwrap_or (started s call) s) None
+  pub starts : {x : Own} (s : Place) (call : CoreCall) → Here n w a p x s → IsSome (place_after_start s call) → Outcome n w a p x (unwrap_or (place_after_start s call) s) None
   starts Rest Lock h some = (tt, comes (Reread Lock []) h tt (inr h.fits.0) (phase_any _ _ _ _ _ (inr h.fits.0)))
   starts Rest Recover h some = (tt, comes (Reread Recover []) h tt (inr h.fits.0) (phase_any _ _ _ _ _ (inr h.fits.0)))
   starts Dead Lock h some = (tt, comes (Reread Lock []) h tt h.fits refl)

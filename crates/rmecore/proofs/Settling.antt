@@ -2,7 +2,7 @@
 use Rattle.std.proofs.Common.{◌≡◌, ◌≢◌, ℕ, zero, suc, ◌+◌, ◌<◌, ◌≤◌, max, ◌⊎◌, List, [], ◌∷◌, ◌++◌, length, Option, Some, None, IsSome, unwrap_or, refl, sym, ap, ◌∙◌, subst, inl, inr, arith, lt-ltb, le-leb}
 use Rattle.rmecore.proofs.Common.{cases_eq, cases_lt, CoreCall, Lock, Unlock, Recover, Kind, Take as Takes, Shut as Shuts, Rereads, Open as Opens, Peek as Peeks, Mark as Marks, Drop as Drops, Own, Word, Choosing as ChoosingOf}
 use Rattle.rmecore.proofs.Common.{Number as NumberOf, InsideOf, put, Place, Rest, Dead, Reread, Opening, Door, Shutting, Wait, Inside, Leaving, Withdrawing, Unmarking, next, Event, Starts, Steps, without, others}
-use Rattle.rmecore.proofs.Common.{restart, started, unmarked, process, moved, World, May, after, Reads, stored, and_then, step_deed}
+use Rattle.rmecore.proofs.Common.{restart, place_after_start, place_after_unmark, process, place_after_event, World, May, after, Reads, words_after_event, and_then, step_deed}
 use Rattle.rmecore.proofs.Common.{IsUninterrupted, IsHome, IsWaiting, entries, reentry}
 use Rattle.rmecore.proofs.Invariant.{Fits, eqb_self, put_same, put_other}
 use Rattle.rmecore.proofs.Runs.{kept}
@@ -17,11 +17,11 @@ zeroed x c k i = λ t. record { choosing = c t; number = k t; inside = i t }
 pub record Stepped (n p : ℕ) (w : World) (e : Event) (t : Place) (w' : World) : Type 0 where
   pub sound : Sound n w'
   pub place : w'.places p ≡ t
-  pub now : w'.words ≡ stored w.words e
+  pub now : w'.words ≡ words_after_event w.words e
   pub words : (q : ℕ) → q ≢ p → w'.words q ≡ w.words q
   pub places : (q : ℕ) → q ≢ p → w'.places q ≡ w.places q
 
-pub after_event : (n limit : ℕ) (w : World) (e : Event) (t : Place) → Sound n w → May n limit w e → moved n limit (w.places (process e)) e ≡ Some t → Stepped n (process e) w e t (after n limit w e)
+pub after_event : (n limit : ℕ) (w : World) (e : Event) (t : Place) → Sound n w → May n limit w e → place_after_event n limit (w.places (process e)) e ≡ Some t → Stepped n (process e) w e t (after n limit w e)
 after_event n limit w e t sound may goes =
     record {
       sound = sound_after n limit w e may sound;
@@ -76,10 +76,10 @@ module _ (n limit p : ℕ) (below : p < n) where
 
   -- the start of a call, and what follows
   pub start :
-      {Q : Event → Type 0} {w : World} {line : List ℕ} {G : World → Type 0} (s t : Place) (call : CoreCall) → Q (Starts p call) → Sound n w → w.places p ≡ s → started s call ≡ Some t
+      {Q : Event → Type 0} {w : World} {line : List ℕ} {G : World → Type 0} (s t : Place) (call : CoreCall) → Q (Starts p call) → Sound n w → w.places p ≡ s → place_after_start s call ≡ Some t
       → ((w' : World) → Stepped n p w (Starts p call) t w' → Continues n limit Q w' line G) → Continues n limit Q w line G
   start {w = w} s t call right sound at is on =
-      let goes : started (w.places p) call ≡ Some t = subst (λ x. started x call ≡ Some t) (sym at) is in
+      let goes : place_after_start (w.places p) call ≡ Some t = subst (λ x. place_after_start x call ≡ Some t) (sym at) is in
       let may : May n limit w (Starts p call) = (below, subst (λ o. IsSome o) (sym goes) refl, tt) in
       event_then (Starts p call) None right may refl (on _ (after_event n limit w (Starts p call) t sound may goes))
 
@@ -93,7 +93,7 @@ module _ (n limit p : ℕ) (below : p < n) where
 
   goes :
       {S : World → Type 0} {w : World} (s t : Place) (kind : Kind) (word : Word) (v : ℕ) → Sound n w → w.places p ≡ s → next n limit p s kind word v ≡ Some t → Reads w.words (Steps p kind word v) → entries (and_then (step_deed p s kind v) []) ≡ []
-      → ((w' : World) → Sound n w' → w'.places p ≡ t → w'.words ≡ stored w.words (Steps p kind word v) → Reaches S w') → Reaches S w
+      → ((w' : World) → Sound n w' → w'.places p ≡ t → w'.words ≡ words_after_event w.words (Steps p kind word v) → Reaches S w') → Reaches S w
   goes s t kind word v sound at is reads silent on = step {Q = IsOwn p} s t kind word v (tt, refl) sound at is reads silent (λ w' r. longer r (on w' r.sound r.place r.now))
 
   home_now : {w : World} → Sound n w → IsHome w p → Reaches (λ w. IsHome w p) w
@@ -104,7 +104,7 @@ module _ (n limit p : ℕ) (below : p < n) where
 
   -- the exit
 
-  unmarks : {w : World} (call : CoreCall) → unmarked call ≡ Rest → Sound n w → w.places p ≡ Unmarking call → Reaches (λ w. IsHome w p) w
+  unmarks : {w : World} (call : CoreCall) → place_after_unmark call ≡ Rest → Sound n w → w.places p ≡ Unmarking call → Reaches (λ w. IsHome w p) w
   unmarks {w = w} call rests sound at =
       let h = fits n p below sound at in
       let x : Own = record (w.words p) { inside = 0 } in
@@ -191,7 +191,7 @@ module _ (n limit p : ℕ) (below : p < n) where
   locks_again zero (suc k) zero sound at = waits (suc k) (others n p) None sound at
   locks_again zero (suc k) (suc i) sound at = comes_home (leaves sound at)
 
-  locks : {w : World} (s : Place) → started s Lock ≡ Some (Reread Lock []) → Sound n w → w.places p ≡ s → Reaches (λ w. IsSettled w p) w
+  locks : {w : World} (s : Place) → place_after_start s Lock ≡ Some (Reread Lock []) → Sound n w → w.places p ≡ s → Reaches (λ w. IsSettled w p) w
   locks s may sound at = start {Q = IsOwn p} s (Reread Lock []) Lock (tt, refl) sound at may (λ w' r. longer r (rereads Lock [] r.sound r.place (λ w'' sound'' at''. locks_again (w'.words p).choosing (w'.words p).number (w'.words p).inside sound'' at'')))
 
   rests : {w : World} → Sound n w → w.places p ≡ Rest → Reaches (λ w. IsSettled w p) w

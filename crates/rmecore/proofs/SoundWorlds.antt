@@ -2,8 +2,8 @@
 use Rattle.std.proofs.Common.{◌≡◌, ◌≢◌, ℕ, zero, suc, ◌<◌, true, List, [], ◌∷◌, Some, None, IsSome, unwrap_or, refl, sym, subst, inl, inr}
 use Rattle.rmecore.proofs.Common.{cases_eq, CoreCall, Lock, Withdraw, Kind}
 use Rattle.rmecore.proofs.Common.{Own, Word, Abstract, nobody, IsLawful, all_dead, start_of, Place}
-use Rattle.rmecore.proofs.Common.{Wait, has, next, Event, Starts, Crashes, Steps, others, restart, started, shut, unmarked}
-use Rattle.rmecore.proofs.Common.{process, moved, World, at_rest, May, after, Run, final, deed}
+use Rattle.rmecore.proofs.Common.{Wait, has, next, Event, Starts, Crashes, Steps, others, restart, place_after_start, shut, place_after_unmark}
+use Rattle.rmecore.proofs.Common.{process, place_after_event, World, at_rest, May, after, Run, final, deed}
 use Rattle.rmecore.proofs.Invariant.{Tied, put_same, put_other}
 use Rattle.rmecore.proofs.AllowedSteps.{by_step}
 use Rattle.rmecore.proofs.Runs.{kept, at_first}
@@ -36,7 +36,7 @@ module _ (n limit p : ℕ) where
   awaits_shut Lock k = awaits_others
   awaits_shut _ k = tt
 
-  awaits_unmarked : (call : CoreCall) → Awaits n p (unmarked call)
+  awaits_unmarked : (call : CoreCall) → Awaits n p (place_after_unmark call)
   awaits_unmarked Lock = tt
   awaits_unmarked _ = tt
 
@@ -63,12 +63,12 @@ module _ (n limit p : ℕ) where
         glances = λ s word v h. h;
       })
 
-  awaits_started : (s : Place) (call : CoreCall) → Awaits n p s → Awaits n p (unwrap_or (started s call) s)
+  awaits_started : (s : Place) (call : CoreCall) → Awaits n p s → Awaits n p (unwrap_or (place_after_start s call) s)
   awaits_started (Wait k unpassed looked) Withdraw h = tt
   awaits_started s Withdraw h = h
   awaits_started _ _ h = h
 
-  awaits_moved : (s : Place) (e : Event) → p ≡ process e → IsSome (moved n limit s e) → Awaits n p s → Awaits n p (unwrap_or (moved n limit s e) s)
+  awaits_moved : (s : Place) (e : Event) → p ≡ process e → IsSome (place_after_event n limit s e) → Awaits n p s → Awaits n p (unwrap_or (place_after_event n limit s e) s)
   awaits_moved s (Starts q call) is some h = awaits_started s call h
   awaits_moved s (Crashes q) is some h = tt
   awaits_moved s (Steps q kind word v) is some h =

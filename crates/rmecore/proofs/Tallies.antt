@@ -2,8 +2,8 @@
 use Rattle.std.proofs.Common.{◌≡◌, ℕ, ◌+◌, ◌<◌, Bool, true, false, nat_lt, if◌then◌else◌, [], ◌∷◌, Option, Some, None, IsSome, IfSome, unwrap_or, refl, sym, ap, ◌∙◌, inl, inr, arith, eqb-true}
 use Rattle.rmecore.proofs.Common.{cases_Bool, CoreCall, Lock, CoreDone, Kind, Rereads}
 use Rattle.rmecore.proofs.Common.{Glance as Glances, Own, Tally, Word, Choosing as ChoosingOf, Number as NumberOf, InsideOf, access, kind_of, is_blocked, answer, is_glance, ReadsBegun}
-use Rattle.rmecore.proofs.Common.{Place, Reread, Door, Wait, next, Steps, shut, unmarked, counted, IsExact, HasTaken, IsTallied, IsRereading}
-use Rattle.rmecore.proofs.Common.{World, is_store, write, Reads, stored}
+use Rattle.rmecore.proofs.Common.{Place, Reread, Door, Wait, next, Steps, shut, place_after_unmark, tally_after_step, IsExact, HasTaken, IsTallied, IsRereading}
+use Rattle.rmecore.proofs.Common.{World, is_store, write, Reads, words_after_event}
 use Rattle.rmecore.proofs.Accesses.{passed}
 use Rattle.rmecore.proofs.Payments.{Comes, pays}
 use Rattle.rmecore.proofs.AllowedSteps.{by_step}
@@ -18,10 +18,10 @@ never_glances limit p _ = assumption
 
 -- the counts after a step
 
-pub exact_before : (t : Tally) (b : Bool) → IsExact (counted t b) → IsExact t
+pub exact_before : (t : Tally) (b : Bool) → IsExact (tally_after_step t b) → IsExact t
 exact_before t b e = omega arith
 
-pub sums : (t : Tally) (b : Bool) (x : ℕ) → IsExact (counted t b) → t.steps ≡ x + t.blocked → (counted t b).steps ≡ (if b then x else x + 1) + (counted t b).blocked
+pub sums : (t : Tally) (b : Bool) (x : ℕ) → IsExact (tally_after_step t b) → t.steps ≡ x + t.blocked → (tally_after_step t b).steps ≡ (if b then x else x + 1) + (tally_after_step t b).blocked
 sums t true x e h = omega arith
 sums t false x e h = omega arith
 
@@ -35,7 +35,7 @@ shut_not : (n p : ℕ) (call : CoreCall) (k : ℕ) → IsRereading (shut n p cal
 shut_not n p Lock k h = h
 shut_not n p _ k h = h
 
-unmarked_not : (call : CoreCall) → IsRereading (unmarked call) → ⊥
+unmarked_not : (call : CoreCall) → IsRereading (place_after_unmark call) → ⊥
 unmarked_not Lock h = h
 unmarked_not _ h = h
 
@@ -76,7 +76,7 @@ reads_begun n limit w p began (Reread call seen) kind word v some not_glance rea
 reads_begun n limit w p began _ kind word v some not_glance reads h = tt
 
 -- the counts after one step of a process at place s. The call began with the words in its tally
-module _ (n limit : ℕ) (w : World) (p : ℕ) (kind : Kind) (word : Word) (v : ℕ) (t : Tally) (below : p < n) (some : IsSome (next n limit p (w.places p) kind word v)) (not_glance : is_glance kind ≡ false) (told : Reads w.words (Steps p kind word v))
+module _ (n limit : ℕ) (w : World) (p : ℕ) (kind : Kind) (word : Word) (v : ℕ) (t : Tally) (below : p < n) (some : IsSome (next n limit p (w.places p) kind word v)) (not_glance : is_glance kind ≡ false) (reports : Reads w.words (Steps p kind word v))
     (tallied : IsTallied n (w.words p) (w.places p) t) where
   abbrev b : Bool
   b = is_blocked p (w.places p) kind v
@@ -84,21 +84,21 @@ module _ (n limit : ℕ) (w : World) (p : ℕ) (kind : Kind) (word : Word) (v : 
   abbrev to : Place
   to = unwrap_or (next n limit p (w.places p) kind word v) (w.places p)
 
-  counts : IsExact (counted t b) → (x : ℕ) × Comes n t.began.choosing t.began.number t.began.inside (answer (w.places p) kind v) to x × ((counted t b).steps ≡ x + (counted t b).blocked)
+  counts : IsExact (tally_after_step t b) → (x : ℕ) × Comes n t.began.choosing t.began.number t.began.inside (answer (w.places p) kind v) to x × ((tally_after_step t b).steps ≡ x + (tally_after_step t b).blocked)
   counts exact =
       let old = tallied.taking (exact_before t b exact) in
-      let reads = reads_begun n limit w p t.began (w.places p) kind word v some not_glance told tallied.began in
+      let reads = reads_begun n limit w p t.began (w.places p) kind word v some not_glance reports tallied.began in
       (if b then old.0 else old.0 + 1, pays n p below limit _ _ _ (w.places p) kind word v old.0 some not_glance reads old.1, sums t b old.0 exact old.2)
 
   -- with the answer, the steps are exactly those of the table
-  pub answered : IfSome (answer (w.places p) kind v) (λ done. IsExact (counted t b) → HasTaken n (counted t b) done)
+  pub answered : IfSome (answer (w.places p) kind v) (λ done. IsExact (tally_after_step t b) → HasTaken n (tally_after_step t b) done)
   answered = of (answer (w.places p) kind v) counts
     where
-      of : (o : Option CoreDone) → (IsExact (counted t b) → (x : ℕ) × Comes n t.began.choosing t.began.number t.began.inside o to x × ((counted t b).steps ≡ x + (counted t b).blocked)) → IfSome o (λ done. IsExact (counted t b) → HasTaken n (counted t b) done)
+      of : (o : Option CoreDone) → (IsExact (tally_after_step t b) → (x : ℕ) × Comes n t.began.choosing t.began.number t.began.inside o to x × ((tally_after_step t b).steps ≡ x + (tally_after_step t b).blocked)) → IfSome o (λ done. IsExact (tally_after_step t b) → HasTaken n (tally_after_step t b) done)
       of None f = tt
       of (Some done) f = λ exact. let c = f exact in (c.0, c.1.1, c.2)
 
-  pub tallied_on : IsTallied n (stored w.words (Steps p kind word v) p) to (counted t b)
+  pub tallied_on : IsTallied n (words_after_event w.words (Steps p kind word v) p) to (tally_after_step t b)
   tallied_on =
       record {
         began = λ h.

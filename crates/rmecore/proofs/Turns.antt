@@ -2,7 +2,7 @@
 use Rattle.std.proofs.Common.{◌≡◌, ℕ, zero, suc, [], ◌∷◌, Some, None, IsSome, refl}
 use Rattle.rmecore.proofs.Common.{CoreCall, Lock, Kind, Take as Takes, Rereads, Weigh as Weighs, Mark as Marks}
 use Rattle.rmecore.proofs.Common.{Glance as Glances, Word, Data as DataAt, Place, Reread, Door, Wait}
-use Rattle.rmecore.proofs.Common.{next, restart, shut, unmarked, step_deed}
+use Rattle.rmecore.proofs.Common.{next, restart, shut, place_after_unmark, step_deed}
 use Rattle.rmecore.proofs.AllowedSteps.{by_step_to}
 use Rattle.rmecore.specs.Turn.{Elsewhere, Turn, Enters, Reenters, Exits, Same, Else}
 
@@ -22,7 +22,7 @@ module _ (n limit p : ℕ) where
   shut_else Lock k = tt
   shut_else _ k = tt
 
-  unmarked_else : (call : CoreCall) → Elsewhere (unmarked call)
+  unmarked_else : (call : CoreCall) → Elsewhere (place_after_unmark call)
   unmarked_else Lock = tt
   unmarked_else _ = tt
 

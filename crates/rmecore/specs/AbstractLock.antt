@@ -1,7 +1,7 @@
 -- Abstract lock of docs/theory/judge.md (Golab and Ramaraju; Jayanti and Joshi): a phase for each process and, for each
 -- process, the set of those ahead of it. It has no numbers. Its deeds are the rows Begin to Quit of the judge table.
 use Rattle.std.specs.Prelude.{ℕ, Bool, true, false, ◌||◌, nat_lt, List, [], ◌∷◌}
-use Rattle.rmecore.specs.Needs.{AllHold, least, none_below, put}
+use Rattle.rmecore.specs.Needs.{AllHold, least_below, none_below, put}
 use Rattle.rmecore.specs.declared.fault.Fault.{Fault}
 use Rattle.rmecore.specs.declared.fault.Fault.TheVariants.{OutOfPlace, TwoInside, NotReentered, Overtaken}
 use Rattle.rmecore.specs.declared.outer.Outer.{Outer}
@@ -41,9 +41,9 @@ is_dead_in DeadIn = true
 is_dead_in _ = false
 
 -- the phase after a crash
-abbrev pub crashed : Phase → Phase
-crashed Inside = DeadIn
-crashed phase = phase
+abbrev pub phase_after_crash : Phase → Phase
+phase_after_crash Inside = DeadIn
+phase_after_crash phase = phase
 
 -- the process of a deed
 abbrev pub doer : Outer → ℕ
@@ -63,7 +63,7 @@ row n a (Enter p) =
     (is_ready (a.phase p), OutOfPlace)
     ∷ (none_below n (λ q. is_inside (a.phase q)), TwoInside)
     ∷ (none_below n (λ q. is_dead_in (a.phase q)), NotReentered)
-    ∷ (none_below n (a.ahead p), Overtaken p (least n (a.ahead p)))
+    ∷ (none_below n (a.ahead p), Overtaken p (least_below n (a.ahead p)))
     ∷ []
 row n a (Crash p) = []
 row n a (Reenter p) = (is_dead_in (a.phase p), OutOfPlace) ∷ []
@@ -75,16 +75,16 @@ abbrev pub needs : ℕ → Abstract → Outer → List (Bool × Fault)
 needs n a d = (nat_lt (doer d) n, OutOfPlace) ∷ row n a d
 
 -- the effect of a deed ("does" in the judge table)
-abbrev pub done : Abstract → Outer → Abstract
-done a (Begin p) = record { phase = put a.phase p Door; ahead = put a.ahead p (λ q. is_ready (a.phase q)) }
-done a (IsReady p) = record { phase = put a.phase p Ready; ahead = a.ahead }
-done a (Enter p) = record { phase = put a.phase p Inside; ahead = λ q. put (a.ahead q) p false }
-done a (Crash p) = record { phase = put a.phase p (crashed (a.phase p)); ahead = a.ahead }
-done a (Reenter p) = record { phase = put a.phase p Inside; ahead = a.ahead }
-done a (Leave p) = record { phase = put a.phase p Out; ahead = a.ahead }
-done a (Quit p) = record { phase = put a.phase p Out; ahead = λ q. put (a.ahead q) p false }
+abbrev pub abstract_after : Abstract → Outer → Abstract
+abstract_after a (Begin p) = record { phase = put a.phase p Door; ahead = put a.ahead p (λ q. is_ready (a.phase q)) }
+abstract_after a (IsReady p) = record { phase = put a.phase p Ready; ahead = a.ahead }
+abstract_after a (Enter p) = record { phase = put a.phase p Inside; ahead = λ q. put (a.ahead q) p false }
+abstract_after a (Crash p) = record { phase = put a.phase p (phase_after_crash (a.phase p)); ahead = a.ahead }
+abstract_after a (Reenter p) = record { phase = put a.phase p Inside; ahead = a.ahead }
+abstract_after a (Leave p) = record { phase = put a.phase p Out; ahead = a.ahead }
+abstract_after a (Quit p) = record { phase = put a.phase p Out; ahead = λ q. put (a.ahead q) p false }
 
 -- "Legal history", the lock's part: each deed is allowed after those before it
 abbrev pub Legal : ℕ → Abstract → List Outer → Type 0
 Legal n a [] = Unit {0}
-Legal n a (d ∷ ds) = AllHold (needs n a d) × Legal n (done a d) ds
+Legal n a (d ∷ ds) = AllHold (needs n a d) × Legal n (abstract_after a d) ds

@@ -3,7 +3,7 @@
 use Rattle.std.specs.Prelude.{◌≡◌, ◌≢◌, ◌⊎◌, ◌++◌, ℕ, ◌<◌, ◌≤◌, true, false, List, [], ◌∷◌, All, Option, None, IsSome, unwrap_or}
 use Rattle.rmecore.specs.AbstractLock.{Abstract, is_door}
 use Rattle.rmecore.specs.Machine.{answer}
-use Rattle.rmecore.specs.Place.{Event, Starts, Crashes, Steps, Place, Rest, Door, Wait, Inside, Withdrawing, has, is_before, process, moved}
+use Rattle.rmecore.specs.Place.{Event, Starts, Crashes, Steps, Place, Rest, Door, Wait, Inside, Withdrawing, has, is_before, process, place_after_event}
 use Rattle.rmecore.specs.Refused.{is_idle}
 use Rattle.rmecore.specs.World.{World, Run, deeds, final, own_events}
 use Rattle.rmecore.specs.declared.core_call.CoreCall.TheVariants.{Withdraw}
@@ -59,7 +59,7 @@ answer_of place _ = None
 -- among the own events of a process, from this place, one has an answer
 abbrev pub IsAnswered : ℕ → ℕ → Place → List Event → Type 0
 IsAnswered n limit place [] = ⊥
-IsAnswered n limit place (e ∷ es) = IsSome (answer_of place e) ⊎ IsAnswered n limit (unwrap_or (moved n limit place e) place) es
+IsAnswered n limit place (e ∷ es) = IsSome (answer_of place e) ⊎ IsAnswered n limit (unwrap_or (place_after_event n limit place e) place) es
 
 -- A continuation without crash and withdraw brings all processes home. Each call that is under way at its beginning is
 -- answered in it: no other call of the process starts before that answer.
@@ -80,13 +80,13 @@ pub record CanStillEnter (n limit : ℕ) (w : World) (p : ℕ) : Type 0 where
   pub inside : (final n limit w events).places p ≡ Inside
 
 -- no number above 0 is in a pair before that of p
-abbrev pub IsFirst : ℕ → World → ℕ → Type 0
-IsFirst n w p = (q : ℕ) → q < n → q ≢ p → 0 < (w.words q).number → IsLess w p q
+abbrev pub IsFirstInLine : ℕ → World → ℕ → Type 0
+IsFirstInLine n w p = (q : ℕ) → q < n → q ≢ p → 0 < (w.words q).number → IsLess w p q
 
 -- A doorway under way still has p to read, or has read a number that is no less than p's.
-abbrev pub Counts : ℕ → ℕ → Place → Type 0
-Counts p number (Door unread greatest) = (has unread p ≡ true) ⊎ (number ≤ greatest)
-Counts p number _ = Unit {0}
+abbrev pub TakesLaterNumber : ℕ → ℕ → Place → Type 0
+TakesLaterNumber p number (Door unread greatest) = (has unread p ≡ true) ⊎ (number ≤ greatest)
+TakesLaterNumber p number _ = Unit {0}
 
 -- an own step of p
 abbrev pub IsStepOf : ℕ → Event → Type 0
@@ -109,7 +109,7 @@ pub record CanEnter (n limit : ℕ) (w : World) (p : ℕ) : Type 0 where
 -- p waits with the least pair, and each doorway counts it
 abbrev pub CanEnterIfFirst : ℕ → ℕ → World → ℕ → Type 0
 CanEnterIfFirst n limit w p =
-    IsWaiting (w.places p) → IsFirst n w p → ((q : ℕ) → q < n → Counts p (w.words p).number (w.places q)) → CanEnter n limit w p
+    IsWaiting (w.places p) → IsFirstInLine n w p → ((q : ℕ) → q < n → TakesLaterNumber p (w.words p).number (w.places q)) → CanEnter n limit w p
 
 -- p is ahead of each process in its doorway: p finished its own doorway before that one began
 abbrev pub IsAheadOfDoorways : ℕ → Abstract → ℕ → Type 0
@@ -117,4 +117,4 @@ IsAheadOfDoorways n a p = (q : ℕ) → q < n → q ≢ p → is_door (a.phase q
 
 -- p waits with the least pair, and is ahead of all doorways
 abbrev pub CanEnterIfAhead : ℕ → ℕ → World → Abstract → ℕ → Type 0
-CanEnterIfAhead n limit w a p = IsWaiting (w.places p) → IsFirst n w p → IsAheadOfDoorways n a p → CanEnter n limit w p
+CanEnterIfAhead n limit w a p = IsWaiting (w.places p) → IsFirstInLine n w p → IsAheadOfDoorways n a p → CanEnter n limit w p

@@ -68,9 +68,9 @@ word_of (Load kind word) = word
 word_of (Store kind word x) = word
 
 -- the event's value: what a load read, or what a store writes
-abbrev pub carried : Access → ℕ → ℕ
-carried (Load kind word) v = v
-carried (Store kind word x) v = x
+abbrev pub carried_value : Access → ℕ → ℕ
+carried_value (Load kind word) v = v
+carried_value (Store kind word x) v = x
 
 -- the state of a process, as contracts see it
 pub record Standing : Type 0 where
@@ -80,8 +80,8 @@ pub record Standing : Type 0 where
   pub place : Place
 
 -- the default for an index that is no process
-abbrev pub absent : Standing
-absent = record { procs = 0; limit = 0; index = 0; place = Rest }
+abbrev pub absent_process : Standing
+absent_process = record { procs = 0; limit = 0; index = 0; place = Rest }
 
 -- the next step of a process
 abbrev pub next_access : Standing → Option Access
@@ -90,16 +90,16 @@ next_access s = access s.limit s.index s.place
 -- the place after the step, by the definition
 abbrev pub after_access : Standing → Option Access → ℕ → Place
 after_access s None v = s.place
-after_access s (Some a) v = unwrap_or (next s.procs s.limit s.index s.place (kind_of a) (word_of a) (carried a v)) s.place
+after_access s (Some a) v = unwrap_or (next s.procs s.limit s.index s.place (kind_of a) (word_of a) (carried_value a v)) s.place
 
 -- a Recover's answer after its rereads, if it ends with them
-abbrev pub found : ℕ → ℕ → ℕ → Option CoreDone
-found (suc c) zero i = Some (Finds Doorway)
-found (suc c) (suc k) i = None
-found zero zero zero = Some (Finds Idle)
-found zero zero (suc i) = None
-found zero (suc k) zero = Some (Finds Waiting)
-found zero (suc k) (suc i) = Some (Finds FoundInside)
+abbrev pub recovery_answer : ℕ → ℕ → ℕ → Option CoreDone
+recovery_answer (suc c) zero i = Some (Finds Doorway)
+recovery_answer (suc c) (suc k) i = None
+recovery_answer zero zero zero = Some (Finds Idle)
+recovery_answer zero zero (suc i) = None
+recovery_answer zero (suc k) zero = Some (Finds Waiting)
+recovery_answer zero (suc k) (suc i) = Some (Finds FoundInside)
 
 -- a Lock's answer after its rereads, if it ends with them
 abbrev pub again : ℕ → ℕ → ℕ → Option CoreDone
@@ -109,7 +109,7 @@ again _ _ _ = None
 -- the answers of calls after their rereads, after a shut and after the mark is cleared
 abbrev pub reread_answer : CoreCall → ℕ → ℕ → ℕ → Option CoreDone
 reread_answer Lock c k i = again c k i
-reread_answer _ c k i = found c k i
+reread_answer _ c k i = recovery_answer c k i
 
 abbrev pub shut_answer : CoreCall → Option CoreDone
 shut_answer Lock = None
@@ -137,17 +137,17 @@ is_blocked p (Wait k unpassed (Some j)) Weighs v = not ((v == 0) || is_before k 
 is_blocked _ _ _ _ = false
 
 -- no deed, no answer, not blocked
-abbrev pub silent : Progress
-silent = record { outer = None; done = None; blocked = false }
+abbrev pub no_progress : Progress
+no_progress = record { outer = None; done = None; blocked = false }
 
 -- the effects of a step: its deed, the answer, and whether it was blocked
 abbrev pub progress : Standing → Option Access → ℕ → Progress
-progress s None v = silent
+progress s None v = no_progress
 progress s (Some a) v =
     record {
-      outer = step_deed s.index s.place (kind_of a) (carried a v);
-      done = answer s.place (kind_of a) (carried a v);
-      blocked = is_blocked s.index s.place (kind_of a) (carried a v);
+      outer = step_deed s.index s.place (kind_of a) (carried_value a v);
+      done = answer s.place (kind_of a) (carried_value a v);
+      blocked = is_blocked s.index s.place (kind_of a) (carried_value a v);
     }
 
 -- the process in its doorway
@@ -183,12 +183,12 @@ IsLeast s a = (word : Word) (v : ℕ) → IsSome (next s.procs s.limit s.index s
 
 -- "Step" allows the access, whatever a load reads
 abbrev pub IsAllowed : Standing → Access → Type 0
-IsAllowed s a = (v : ℕ) → IsSome (next s.procs s.limit s.index s.place (kind_of a) (word_of a) (carried a v))
+IsAllowed s a = (v : ℕ) → IsSome (next s.procs s.limit s.index s.place (kind_of a) (word_of a) (carried_value a v))
 
 -- the words after the step
-abbrev pub performed : (ℕ → Own) → Access → ℕ → Own
-performed words (Load kind word) = words
-performed words (Store kind word x) = write words word x
+abbrev pub words_performed : (ℕ → Own) → Access → ℕ → Own
+words_performed words (Load kind word) = words
+words_performed words (Store kind word x) = write words word x
 
 -- a load has a kind that loads. A store has a kind that stores, and its word is the process's own
 abbrev pub StoresOwn : ℕ → Access → Type 0

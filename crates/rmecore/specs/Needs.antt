@@ -13,13 +13,13 @@ first_fault [] = None
 first_fault (need ∷ rest) = if need.0 then first_fault rest else Some need.1
 
 -- the least number below n for which the test holds, or n if there is none
-abbrev pub least : ℕ → (ℕ → Bool) → ℕ
-least zero test = 0
-least (suc n) test = if test zero then 0 else suc (least n (λ k. test (suc k)))
+abbrev pub least_below : ℕ → (ℕ → Bool) → ℕ
+least_below zero test = 0
+least_below (suc n) test = if test zero then 0 else suc (least_below n (λ k. test (suc k)))
 
 -- the test holds for no number below n
 abbrev pub none_below : ℕ → (ℕ → Bool) → Bool
-none_below n test = least n test == n
+none_below n test = least_below n test == n
 
 -- f, with the value x at p
 abbrev pub put : {A : Type 0} → (ℕ → A) → ℕ → A → ℕ → A

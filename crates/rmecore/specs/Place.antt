@@ -62,27 +62,27 @@ only b place = if b then Some place else None
 
 -- "Restart table" over choosing, number and inside: what a lock does next, and what a recovery does. Choosing and inside are
 -- never both set, so that case is arbitrary.
-abbrev pub relocked : ℕ → ℕ → ℕ → ℕ → ℕ → Place
-relocked n p (suc c) zero i = Door (others n p) 0
-relocked n p (suc c) (suc k) i = Shutting Lock (suc k)
-relocked n p zero zero zero = Opening
-relocked n p zero zero (suc i) = Unmarking Lock
-relocked n p zero (suc k) zero = Wait (suc k) (others n p) None
-relocked n p zero (suc k) (suc i) = Inside
+abbrev pub lock_restart : ℕ → ℕ → ℕ → ℕ → ℕ → Place
+lock_restart n p (suc c) zero i = Door (others n p) 0
+lock_restart n p (suc c) (suc k) i = Shutting Lock (suc k)
+lock_restart n p zero zero zero = Opening
+lock_restart n p zero zero (suc i) = Unmarking Lock
+lock_restart n p zero (suc k) zero = Wait (suc k) (others n p) None
+lock_restart n p zero (suc k) (suc i) = Inside
 
 -- "Restart table": what a recovery does
-abbrev pub recovered : ℕ → ℕ → ℕ → Place
-recovered (suc c) zero i = Rest
-recovered (suc c) (suc k) i = Shutting Recover (suc k)
-recovered zero zero zero = Rest
-recovered zero zero (suc i) = Unmarking Recover
-recovered zero (suc k) zero = Rest
-recovered zero (suc k) (suc i) = Inside
+abbrev pub recovery_restart : ℕ → ℕ → ℕ → Place
+recovery_restart (suc c) zero i = Rest
+recovery_restart (suc c) (suc k) i = Shutting Recover (suc k)
+recovery_restart zero zero zero = Rest
+recovery_restart zero zero (suc i) = Unmarking Recover
+recovery_restart zero (suc k) zero = Rest
+recovery_restart zero (suc k) (suc i) = Inside
 
 -- "Restart table", by the call
 abbrev pub restart : ℕ → ℕ → CoreCall → ℕ → ℕ → ℕ → Place
-restart n p Lock c k i = relocked n p c k i
-restart n p _ c k i = recovered c k i
+restart n p Lock c k i = lock_restart n p c k i
+restart n p _ c k i = recovery_restart c k i
 
 -- the place after choosing := 0
 abbrev pub shut : ℕ → ℕ → CoreCall → ℕ → Place
@@ -90,9 +90,9 @@ shut n p Lock k = Wait k (others n p) None
 shut n p _ k = Rest
 
 -- the place after inside := 0
-abbrev pub unmarked : CoreCall → Place
-unmarked Lock = Opening
-unmarked _ = Rest
+abbrev pub place_after_unmark : CoreCall → Place
+place_after_unmark Lock = Opening
+place_after_unmark _ = Rest
 
 -- "Step": the place after one step of process p, with the value that it read or wrote. In a run the greatest number is never
 -- above limit, and choosing and inside are never both set. The definition is total all the same, so that it can be followed
@@ -113,21 +113,21 @@ next n limit p (Wait k unpassed (Some i)) Weighs (NumberOf j) v =
 next n limit p (Wait k [] None) Marks (InsideOf q) v = only ((q == p) && (v == 1)) Inside
 next n limit p Leaving Drops (NumberOf q) v = only ((q == p) && (v == 0)) (Unmarking Unlock)
 next n limit p Withdrawing Drops (NumberOf q) v = only ((q == p) && (v == 0)) Rest
-next n limit p (Unmarking call) Marks (InsideOf q) v = only ((q == p) && (v == 0)) (unmarked call)
+next n limit p (Unmarking call) Marks (InsideOf q) v = only ((q == p) && (v == 0)) (place_after_unmark call)
 next n limit p place Glances (ChoosingOf q) v = Some place
 next n limit p place Glances (NumberOf q) v = Some place
 next n limit p place Glances (InsideOf q) v = Some place
 next _ _ _ _ _ _ _ = None
 
 -- the place after the start of a call
-abbrev pub started : Place → CoreCall → Option Place
-started Rest Lock = Some (Reread Lock [])
-started Rest Recover = Some (Reread Recover [])
-started Dead Lock = Some (Reread Lock [])
-started Dead Recover = Some (Reread Recover [])
-started Inside Unlock = Some Leaving
-started (Wait k unpassed looked) Withdraw = Some Withdrawing
-started _ _ = None
+abbrev pub place_after_start : Place → CoreCall → Option Place
+place_after_start Rest Lock = Some (Reread Lock [])
+place_after_start Rest Recover = Some (Reread Recover [])
+place_after_start Dead Lock = Some (Reread Lock [])
+place_after_start Dead Recover = Some (Reread Recover [])
+place_after_start Inside Unlock = Some Leaving
+place_after_start (Wait k unpassed looked) Withdraw = Some Withdrawing
+place_after_start _ _ = None
 
 -- the process of an event
 abbrev pub process : Event → ℕ
@@ -136,7 +136,7 @@ process (Crashes p) = p
 process (Steps p kind word v) = p
 
 -- the place after an event of its process. After a crash it is always the same
-abbrev pub moved : ℕ → ℕ → Place → Event → Option Place
-moved n limit place (Starts p call) = started place call
-moved n limit place (Crashes p) = Some Dead
-moved n limit place (Steps p kind word v) = next n limit p place kind word v
+abbrev pub place_after_event : ℕ → ℕ → Place → Event → Option Place
+place_after_event n limit place (Starts p call) = place_after_start place call
+place_after_event n limit place (Crashes p) = Some Dead
+place_after_event n limit place (Steps p kind word v) = next n limit p place kind word v

@@ -2,7 +2,7 @@
 use Rattle.std.specs.Prelude.{◌≡◌, ℕ, ◌+◌, ◌-◌, ◌^◌, ◌<◌, ◌≤◌, min, Bool, ◌&&◌, nat_lt, nat_le, if◌then◌else◌, List, length, slice_index_or, Option, Some, None, IsSome}
 use Rattle.rmecore.specs.Place.{Event, Steps, Place, next}
 use Rattle.rmecore.specs.World.{World, May, after}
-use Rattle.rmecore.specs.Machine.{Standing, absent, owner}
+use Rattle.rmecore.specs.Machine.{Standing, absent_process, owner}
 use Rattle.rmecore.specs.Refused.{start_refusal, is_idle}
 use Rattle.rmecore.specs.declared.happened.Happened.{Happened}
 use Rattle.rmecore.specs.declared.refusal.Refusal.{Refusal}
@@ -29,7 +29,7 @@ own_at words p = slice_index_or words p zeros
 
 -- the process at an index, its place and its counts
 abbrev pub standing_at : List Standing → ℕ → Standing
-standing_at processes p = slice_index_or processes p absent
+standing_at processes p = slice_index_or processes p absent_process
 
 abbrev pub place_at : List Standing → ℕ → Place
 place_at processes p = (standing_at processes p).place
@@ -80,12 +80,12 @@ abbrev pub one_more : ℕ → ℕ
 one_more x = min (x + 1) (2 ^ 64 - 1)
 
 -- the counts after one more step
-abbrev pub counted : Tally → Bool → Tally
-counted t blocked = record { steps = one_more t.steps; blocked = if blocked then one_more t.blocked else t.blocked; began = t.began }
+abbrev pub tally_after_step : Tally → Bool → Tally
+tally_after_step t blocked = record { steps = one_more t.steps; blocked = if blocked then one_more t.blocked else t.blocked; began = t.began }
 
 -- the counts at the start of a call
-abbrev pub fresh : Own → Tally
-fresh own = record { steps = 0; blocked = 0; began = own }
+abbrev pub new_tally : Own → Tally
+new_tally own = record { steps = 0; blocked = 0; began = own }
 
 -- the refusal for a core of this size. Out of memory is not among them
 abbrev pub new_refusal : ℕ → ℕ → Option Refusal

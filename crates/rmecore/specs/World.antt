@@ -1,7 +1,7 @@
 -- "World", "Run" and "Deeds of a run", for the lock's part: all processes with their shared words, which survive every
 -- crash, and their private places, which don't (Golab and Ramaraju). One step is one load or one store.
 use Rattle.std.specs.Prelude.{◌≡◌, ℕ, zero, suc, ◌<◌, ◌==◌, Bool, true, false, List, [], ◌∷◌, Option, Some, None, IsSome, unwrap_or, if◌then◌else◌}
-use Rattle.rmecore.specs.Place.{Event, Starts, Crashes, Steps, Place, Rest, Reread, Opening, Door, Wait, Leaving, Withdrawing, moved, process}
+use Rattle.rmecore.specs.Place.{Event, Starts, Crashes, Steps, Place, Rest, Reread, Opening, Door, Wait, Leaving, Withdrawing, place_after_event, process}
 use Rattle.rmecore.specs.Needs.{put}
 use Rattle.rmecore.specs.declared.outer.Outer.{Outer}
 use Rattle.rmecore.specs.declared.outer.Outer.TheVariants.{Begin, Ready, Enter, Crash, Reenter, Leave, Quit}
@@ -50,20 +50,20 @@ Reads words (Steps p kind word v) = is_store kind ≡ false → read words word 
 Reads words _ = Unit {0}
 
 -- a store changes its own word alone. No other event changes a word
-abbrev pub stored : (ℕ → Own) → Event → ℕ → Own
-stored words (Steps p kind word v) = if is_store kind then write words word v else words
-stored words _ = words
+abbrev pub words_after_event : (ℕ → Own) → Event → ℕ → Own
+words_after_event words (Steps p kind word v) = if is_store kind then write words word v else words
+words_after_event words _ = words
 
 -- an event is allowed if its process's place allows it and a load reads the current value
 abbrev pub May : ℕ → ℕ → World → Event → Type 0
-May n limit w e = (process e < n) × IsSome (moved n limit (w.places (process e)) e) × Reads w.words e
+May n limit w e = (process e < n) × IsSome (place_after_event n limit (w.places (process e)) e) × Reads w.words e
 
 -- the world after an event
 abbrev pub after : ℕ → ℕ → World → Event → World
 after n limit w e =
     record {
-      words = stored w.words e;
-      places = put w.places (process e) (unwrap_or (moved n limit (w.places (process e)) e) (w.places (process e)));
+      words = words_after_event w.words e;
+      places = put w.places (process e) (unwrap_or (place_after_event n limit (w.places (process e)) e) (w.places (process e)));
     }
 
 -- "Run": each event is allowed after those before it
@@ -115,7 +115,7 @@ own_events p (e ∷ es) = if process e == p then e ∷ own_events p es else own_
 -- the place after a list of events
 abbrev pub place_after : ℕ → ℕ → Place → List Event → Place
 place_after n limit place [] = place
-place_after n limit place (e ∷ es) = place_after n limit (unwrap_or (moved n limit place e) place) es
+place_after n limit place (e ∷ es) = place_after n limit (unwrap_or (place_after_event n limit place e) place) es
 
 -- a world at the end of some run from rest
 pub record IsReached (n limit : ℕ) (w : World) : Type 0 where

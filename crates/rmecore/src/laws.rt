@@ -14,8 +14,8 @@ ghost use Rattle.rmecore.specs.declared.core_call.CoreCall.{CoreCall};
 ghost use Rattle.rmecore.specs.World.{World, IsReached, at_rest, May, Run, after, final, own_events, place_after, deed, deeds, and_then, step_deed};
 ghost use Rattle.rmecore.specs.Lawful.{IsRow, IsLawful, all_dead, start_of};
 ghost use Rattle.rmecore.specs.Needs.{AllHold};
-ghost use Rattle.rmecore.specs.AbstractLock.{Abstract, nobody, needs, done, doer, Legal};
-ghost use Rattle.rmecore.specs.Sole.{IsIn, IsEnter, IsLeave, Sole, all_done};
+ghost use Rattle.rmecore.specs.AbstractLock.{Abstract, nobody, needs, abstract_after, doer, Legal};
+ghost use Rattle.rmecore.specs.Sole.{IsInSection, IsEnter, IsLeave, Sole, all_done};
 ghost use Rattle.rmecore.specs.Turn.{Turn};
 ghost use Rattle.rmecore.specs.HomeState.{CanComeHome, CanStillEnter, CanEnterIfAhead, CanEnterIfFirst};
 
@@ -77,12 +77,12 @@ pub fn a_run()
 
 /// The abstract lock refuses three faults: a second process inside, an entry before a process that crashed inside has
 /// entered again, and an entry out of order.
-pub fn refused()
+pub fn abstract_lock_refuses()
     ensures two_inside { Legal 2 nobody (Outer.Begin 0 ∷ Outer.Ready 0 ∷ Outer.Begin 1 ∷ Outer.Ready 1 ∷ Outer.Enter 0
         ∷ Outer.Enter 1 ∷ []) → ⊥ }
     ensures not_reentered { Legal 2 nobody (Outer.Begin 0 ∷ Outer.Ready 0 ∷ Outer.Begin 1 ∷ Outer.Ready 1 ∷ Outer.Enter 0
         ∷ Outer.Crash 0 ∷ Outer.Enter 1 ∷ []) → ⊥ }
-    ensures overtaken_from_behind { Legal 2 nobody (Outer.Begin 0 ∷ Outer.Ready 0 ∷ Outer.Begin 1 ∷ Outer.Ready 1
+    ensures overtaken_from_after { Legal 2 nobody (Outer.Begin 0 ∷ Outer.Ready 0 ∷ Outer.Begin 1 ∷ Outer.Ready 1
         ∷ Outer.Quit 1 ∷ Outer.Begin 1 ∷ Outer.Ready 1 ∷ Outer.Enter 1 ∷ []) → ⊥ }
     ensures overtaken { Legal 2 nobody (Outer.Begin 0 ∷ Outer.Ready 0 ∷ Outer.Begin 1 ∷ Outer.Ready 1 ∷ Outer.Enter 1 ∷ [])
         → ⊥ }
@@ -111,7 +111,7 @@ pub fn steps_of_a_call()
     ensures answered { (n limit p c k i : ℕ) (place : Place) (kind : Kind) (word : Word) (v steps : ℕ) → p < n
         → IsSome (next n limit p place kind word v) → is_glance kind ≡ false → ReadsBegun c k i place v
         → Pays n c k i place steps → IfSome (answer place kind v)
-        (λ done. own_steps n c k i done ≡ Some (if is_blocked p place kind v then steps else steps + 1)) }
+        (λ abstract_after. own_steps n c k i abstract_after ≡ Some (if is_blocked p place kind v then steps else steps + 1)) }
     ensures fresh_start { (n p k steps : ℕ) → p < n → Pays n 0 0 0 (Wait k (others n p) None) steps → steps ≡ n + 5 }
     ensures most { (n c k i : ℕ) (place : Place) (steps : ℕ) → 0 < n → is_idle place ≡ false → Pays n c k i place steps
         → steps < most_steps n }
@@ -121,13 +121,14 @@ pub fn steps_of_a_call()
 /// only the phase of its own process. Only an entry brings a process in, and only an exit takes it out.
 pub fn one_is_in()
     ensures nobody { (n : ℕ) → Sole n nobody }
-    ensures each { (n : ℕ) (a : Abstract) (d : Outer) → AllHold (needs n a d) → Sole n a → Sole n (done a d) }
+    ensures each { (n : ℕ) (a : Abstract) (d : Outer) → AllHold (needs n a d) → Sole n a → Sole n (abstract_after a d) }
     ensures legal { (n : ℕ) (a : Abstract) (ds : List Outer) → Legal n a ds → Sole n a → Sole n (all_done a ds) }
-    ensures others { (a : Abstract) (d : Outer) (q : ℕ) → q ≢ doer d → (done a d).phase q ≡ a.phase q }
+    ensures others { (a : Abstract) (d : Outer) (q : ℕ) → q ≢ doer d → (abstract_after a d).phase q ≡ a.phase q }
     ensures came { (n : ℕ) (a : Abstract) (d : Outer) (q : ℕ) → AllHold (needs n a d) → (IsEnter d → ⊥)
-        → IsIn ((done a d).phase q) → IsIn (a.phase q) }
-    ensures stays { (n : ℕ) (a : Abstract) (d : Outer) (q : ℕ) → AllHold (needs n a d) → (IsLeave d → ⊥) → IsIn (a.phase q)
-        → IsIn ((done a d).phase q) }
+        → IsInSection ((abstract_after a d).phase q) → IsInSection (a.phase q) }
+    ensures stays { (n : ℕ) (a : Abstract) (d : Outer) (q : ℕ) → AllHold (needs n a d) → (IsLeave d → ⊥)
+        → IsInSection (a.phase q)
+        → IsInSection ((abstract_after a d).phase q) }
 {}
 
 /// What a step changes in who is in the section: an entry, a re-entry, an exit, or nothing. No step of the core touches a

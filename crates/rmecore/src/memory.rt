@@ -2,7 +2,7 @@
 
 ghost use Rattle.std.specs.Prelude.{◌≡◌, length};
 ghost use Rattle.rmecore.specs.World.{read, write};
-ghost use Rattle.rmecore.specs.Machine.{InLock, carried, word_of, performed};
+ghost use Rattle.rmecore.specs.Machine.{InLock, carried_value, word_of, words_performed};
 ghost use Rattle.rmecore.specs.Simulated.{own_at};
 
 use crate::access::Access;
@@ -38,8 +38,8 @@ fn store(words: &mut [Own], word: Word, value: u64)
 /// Loads or stores one lock word. The result is the value read or written.
 pub fn perform(words: &mut [Own], access: Access) -> u64
     requires { InLock (length words.old) (word_of access) }
-    ensures value { result ≡ carried access (read (own_at words.old) (word_of access)) }
-    ensures words { own_at words.new ≡ performed (own_at words.old) access }
+    ensures value { result ≡ carried_value access (read (own_at words.old) (word_of access)) }
+    ensures words { own_at words.new ≡ words_performed (own_at words.old) access }
 {
     match access {
         Access::Load(_, word) => load(words, word),

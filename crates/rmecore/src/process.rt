@@ -11,7 +11,7 @@ use crate::kind::Kind;
 use crate::outer::Outer;
 use crate::progress::{BLOCKED, Progress, SILENT};
 use crate::refusal::Refusal;
-use crate::restart::{after_shut, after_unmark, restarted};
+use crate::restart::{after_shut, after_unmark, restart_call};
 use crate::rules::{access_at, first_other, passes};
 use crate::scan::Scan;
 use crate::stage::Stage;
@@ -47,7 +47,7 @@ impl Model for LockProcess {
 
 impl LockProcess {
     ghost use Rattle.std.specs.Prelude.{◌<◌};
-    ghost use Rattle.rmecore.specs.Place.{Rest, Dead, started};
+    ghost use Rattle.rmecore.specs.Place.{Rest, Dead, place_after_start};
     ghost use Rattle.rmecore.specs.Refused.{start_refusal, is_idle};
     ghost use Rattle.rmecore.specs.Named.{own_number, own_call};
     ghost use Rattle.rmecore.specs.Machine.{Standing, first, place_of, next_access, after_access, at_door, at_wait, at_scan, progress, word_of, InLock, IsAllowed, IsLeast, StoresOwn};
@@ -98,11 +98,11 @@ impl LockProcess {
     {
         // For the proof alone: its value is read.
         let _ = &self.stage;
-        self.scanned()
+        self.scan_access()
     }
 
     /// The scan in progress with its next load, by the stage alone.
-    fn scanned(&self) -> Option<(Scan, Access)>
+    fn scan_access(&self) -> Option<(Scan, Access)>
         ensures at { IfSome result (λ r. at_scan self.now r.0 ≡ self.now) }
         ensures next { IfSome result (λ r. next_access self.now ≡ Some r.1) }
     {
@@ -156,8 +156,8 @@ impl LockProcess {
                 call,
                 choosing,
                 number,
-            } => restarted(own, call, choosing, number, value),
-            Stage::Opening => (Stage::DOORWAY, Progress::outer(Outer::Begin(own))),
+            } => restart_call(own, call, choosing, number, value),
+            Stage::Opening => (Stage::DOORWAY, Progress::deed(Outer::Begin(own))),
             Stage::Door { next, greatest } => self.after_door(next, greatest, value),
             Stage::Shutting { call, number } => after_shut(call, number),
             Stage::Wait {
@@ -185,7 +185,7 @@ impl LockProcess {
         let call = CoreCall::Unlock;
         (
             Stage::Unmarking { call },
-            Progress::outer(Outer::Leave(self.index)),
+            Progress::deed(Outer::Leave(self.index)),
         )
     }
 
@@ -193,7 +193,10 @@ impl LockProcess {
     fn quit(&self, done: CoreDone) -> (Stage, Progress)
         ensures { result ≡ (Stage.Rest, record { outer = Some (Outer.Quit self.now.index); done = Some done; blocked = false }) }
     {
-        (Stage::Rest, Progress::ended(Outer::Quit(self.index), done))
+        (
+            Stage::Rest,
+            Progress::deed_and_end(Outer::Quit(self.index), done),
+        )
     }
 
     /// The stage after a step in the doorway, and its effects.
@@ -215,7 +218,7 @@ impl LockProcess {
                     call: CoreCall::Lock,
                     number: greatest + 1,
                 },
-                Progress::outer(Outer::Ready(self.index)),
+                Progress::deed(Outer::Ready(self.index)),
             ),
             None => self.quit(CoreDone::Spent),
         }
@@ -255,7 +258,7 @@ impl LockProcess {
             ),
             None => (
                 Stage::Inside,
-                Progress::ended(Outer::Enter(self.index), CoreDone::In),
+                Progress::deed_and_end(Outer::Enter(self.index), CoreDone::In),
             ),
         }
     }
@@ -327,7 +330,7 @@ impl LockProcess {
     pub fn refusal(&self, call: CoreCall) -> Option<Refusal>
         ensures { result ≡ start_refusal self.now.place call }
     {
-        self.started(call).err()
+        self.stage_at_start(call).err()
     }
 
     /// The process's own number, if the stage holds it.
@@ -361,23 +364,23 @@ impl LockProcess {
     /// `CallUnderWay`: another call has to end first. `AlreadyIn`: a lock or a recovery of a process that is inside.
     /// `NotOwner`: an unlock of a process that is not inside. `NotWaiting`: a withdraw where no lock waits.
     pub fn start(&mut self, call: CoreCall) -> Result<(), Refusal>
-        ensures ok { OnOk result (started self.old.place call ≡ Some self.new.place) }
+        ensures ok { OnOk result (place_after_start self.old.place call ≡ Some self.new.place) }
         ensures same { self.new ≡ record self.old { place = self.new.place } }
         ensures accepted { OnOk result (start_refusal self.old.place call ≡ None) }
         ensures refused { IfErr result (λ e. start_refusal self.old.place call ≡ Some e) }
-        ensures not_allowed { OnErr result (started self.old.place call ≡ None) }
+        ensures not_allowed { OnErr result (place_after_start self.old.place call ≡ None) }
         ensures err { OnErr result (self.new ≡ self.old) }
     {
-        self.stage = self.started(call)?;
+        self.stage = self.stage_at_start(call)?;
         Ok(())
     }
 
     /// The stage in which a call begins, or why it is refused.
-    fn started(&self, call: CoreCall) -> Result<Stage, Refusal>
-        ensures ok { IfOk result (λ stage. started self.now.place call ≡ Some (place_of self.now.procs self.now.index stage)) }
+    fn stage_at_start(&self, call: CoreCall) -> Result<Stage, Refusal>
+        ensures ok { IfOk result (λ stage. place_after_start self.now.place call ≡ Some (place_of self.now.procs self.now.index stage)) }
         ensures accepted { OnOk result (start_refusal self.now.place call ≡ None) }
         ensures refused { IfErr result (λ e. start_refusal self.now.place call ≡ Some e) }
-        ensures not_allowed { OnErr result (started self.now.place call ≡ None) }
+        ensures not_allowed { OnErr result (place_after_start self.now.place call ≡ None) }
     {
         match (call, self.stage) {
             (CoreCall::Withdraw, Stage::Wait { .. }) => Ok(Stage::Withdrawing),

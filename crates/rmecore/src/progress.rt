@@ -29,7 +29,7 @@ pub(crate) const BLOCKED: Progress = Progress {
 
 impl Progress {
     /// A deed in the middle of a call.
-    pub(crate) fn outer(outer: Outer) -> Progress
+    pub(crate) fn deed(outer: Outer) -> Progress
         ensures { result ≡ record { outer = Some outer; done = None; blocked = false } }
     {
         Progress {
@@ -40,7 +40,7 @@ impl Progress {
     }
 
     /// The end of a call, without a deed.
-    pub(crate) fn done(done: CoreDone) -> Progress
+    pub(crate) fn end(done: CoreDone) -> Progress
         ensures { result ≡ record { outer = None; done = Some done; blocked = false } }
     {
         Progress {
@@ -51,7 +51,7 @@ impl Progress {
     }
 
     /// A deed that also ends the call.
-    pub(crate) fn ended(outer: Outer, done: CoreDone) -> Progress
+    pub(crate) fn deed_and_end(outer: Outer, done: CoreDone) -> Progress
         ensures { result ≡ record { outer = Some outer; done = Some done; blocked = false } }
     {
         Progress {

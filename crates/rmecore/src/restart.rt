@@ -1,8 +1,8 @@
 //! The restart table: what a call does after it has reread the process's own words.
 
 ghost use Rattle.std.specs.Prelude.{◌≡◌, Some, None, false, ℕ};
-ghost use Rattle.rmecore.specs.Place.{relocked, recovered, restart, shut, unmarked};
-ghost use Rattle.rmecore.specs.Machine.{place_of, found, again, reread_answer, shut_answer, unmark_answer};
+ghost use Rattle.rmecore.specs.Place.{lock_restart, recovery_restart, restart, shut, place_after_unmark};
+ghost use Rattle.rmecore.specs.Machine.{place_of, recovery_answer, again, reread_answer, shut_answer, unmark_answer};
 ghost use Rattle.rmecore.specs.World.{reentry};
 
 use crate::core_call::CoreCall;
@@ -13,7 +13,7 @@ use crate::progress::{Progress, SILENT};
 use crate::stage::Stage;
 
 /// What a call of process `own` does after its three rereads.
-pub fn restarted(
+pub fn restart_call(
     own: u64,
     call: CoreCall,
     choosing: u64,
@@ -28,16 +28,16 @@ pub fn restarted(
     } }
 {
     match call {
-        CoreCall::Lock => relocked(own, choosing, number, inside),
+        CoreCall::Lock => lock_restart(own, choosing, number, inside),
         CoreCall::Recover | CoreCall::Unlock | CoreCall::Withdraw => {
-            recovered(own, choosing, number, inside)
+            recovery_restart(own, choosing, number, inside)
         }
     }
 }
 
 /// The row for a lock: it goes on with what is left to do.
-fn relocked(own: u64, choosing: u64, number: u64, inside: u64) -> (Stage, Progress)
-    ensures place { (n : ℕ) → place_of n own result.0 ≡ relocked n own choosing number inside }
+fn lock_restart(own: u64, choosing: u64, number: u64, inside: u64) -> (Stage, Progress)
+    ensures place { (n : ℕ) → place_of n own result.0 ≡ lock_restart n own choosing number inside }
     ensures progress { result.1 ≡ record {
       outer = reentry own choosing number inside;
       done = again choosing number inside;
@@ -51,7 +51,7 @@ fn relocked(own: u64, choosing: u64, number: u64, inside: u64) -> (Stage, Progre
             (Stage::Unmarking { call }, SILENT)
         }
         (0, _, 0) => (Stage::waiting(number), SILENT),
-        (0, _, _) => (Stage::Inside, reentered(own, CoreDone::InAgain)),
+        (0, _, _) => (Stage::Inside, reentry_progress(own, CoreDone::InAgain)),
         (_, 0, _) => (Stage::DOORWAY, SILENT),
         (_, _, _) => {
             let call = CoreCall::Lock;
@@ -61,26 +61,26 @@ fn relocked(own: u64, choosing: u64, number: u64, inside: u64) -> (Stage, Progre
 }
 
 /// The row for a recovery: it never scans, and takes at most one step more.
-fn recovered(own: u64, choosing: u64, number: u64, inside: u64) -> (Stage, Progress)
-    ensures place { (n : ℕ) → place_of n own result.0 ≡ recovered choosing number inside }
+fn recovery_restart(own: u64, choosing: u64, number: u64, inside: u64) -> (Stage, Progress)
+    ensures place { (n : ℕ) → place_of n own result.0 ≡ recovery_restart choosing number inside }
     ensures progress { result.1 ≡ record {
       outer = reentry own choosing number inside;
-      done = found choosing number inside;
+      done = recovery_answer choosing number inside;
       blocked = false;
     } }
 {
     match (choosing, number, inside) {
-        (0, 0, 0) => (Stage::Rest, Progress::done(CoreDone::Found(Found::Idle))),
+        (0, 0, 0) => (Stage::Rest, Progress::end(CoreDone::Found(Found::Idle))),
         (0, 0, _) => {
             let call = CoreCall::Recover;
             (Stage::Unmarking { call }, SILENT)
         }
-        (0, _, 0) => (Stage::Rest, Progress::done(CoreDone::Found(Found::Waiting))),
+        (0, _, 0) => (Stage::Rest, Progress::end(CoreDone::Found(Found::Waiting))),
         (0, _, _) => (
             Stage::Inside,
-            reentered(own, CoreDone::Found(Found::Inside)),
+            reentry_progress(own, CoreDone::Found(Found::Inside)),
         ),
-        (_, 0, _) => (Stage::Rest, Progress::done(CoreDone::Found(Found::Doorway))),
+        (_, 0, _) => (Stage::Rest, Progress::end(CoreDone::Found(Found::Doorway))),
         (_, _, _) => {
             let call = CoreCall::Recover;
             (Stage::Shutting { call, number }, SILENT)
@@ -89,10 +89,10 @@ fn recovered(own: u64, choosing: u64, number: u64, inside: u64) -> (Stage, Progr
 }
 
 /// The effects of a step that enters again after a crash inside, and ends the call.
-fn reentered(own: u64, done: CoreDone) -> Progress
+fn reentry_progress(own: u64, done: CoreDone) -> Progress
     ensures { result ≡ record { outer = Some (Outer.Reenter own); done = Some done; blocked = false } }
 {
-    Progress::ended(Outer::Reenter(own), done)
+    Progress::deed_and_end(Outer::Reenter(own), done)
 }
 
 /// After choosing := 0. A lock waits now. A recovery answers that the process was waiting.
@@ -103,21 +103,21 @@ pub fn after_shut(call: CoreCall, number: u64) -> (Stage, Progress)
     match call {
         CoreCall::Lock => (Stage::waiting(number), SILENT),
         CoreCall::Recover | CoreCall::Unlock | CoreCall::Withdraw => {
-            (Stage::Rest, Progress::done(CoreDone::Found(Found::Waiting)))
+            (Stage::Rest, Progress::end(CoreDone::Found(Found::Waiting)))
         }
     }
 }
 
 /// After inside := 0. A lock opens its doorway. Any other call is over.
 pub fn after_unmark(call: CoreCall) -> (Stage, Progress)
-    ensures place { (n p : ℕ) → place_of n p result.0 ≡ unmarked call }
+    ensures place { (n p : ℕ) → place_of n p result.0 ≡ place_after_unmark call }
     ensures progress { result.1 ≡ record { outer = None; done = unmark_answer call; blocked = false } }
 {
     match call {
         CoreCall::Lock => (Stage::Opening, SILENT),
-        CoreCall::Unlock => (Stage::Rest, Progress::done(CoreDone::Out)),
+        CoreCall::Unlock => (Stage::Rest, Progress::end(CoreDone::Out)),
         CoreCall::Recover | CoreCall::Withdraw => {
-            (Stage::Rest, Progress::done(CoreDone::Found(Found::Left)))
+            (Stage::Rest, Progress::end(CoreDone::Found(Found::Left)))
         }
     }
 }

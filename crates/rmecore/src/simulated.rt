@@ -2,7 +2,7 @@
 
 ghost use Rattle.std.specs.Prelude.{◌≡◌, ◌<◌, ◌≤◌, ◌⊎◌, ◌↔◌, IfSome, IfOk, IfErr, OnOk, OnErr, IsErrOf, Ok, Err, Some, None, ℕ, length, vec_len, slice_index_or, slice_set, replicate};
 ghost use Rattle.rmecore.specs.Place.{Starts, Crashes, Rest};
-ghost use Rattle.rmecore.specs.Machine.{absent};
+ghost use Rattle.rmecore.specs.Machine.{absent_process};
 ghost use Rattle.rmecore.specs.World.{at_rest, deed, IsReached};
 ghost use Rattle.rmecore.specs.Lawful.{IsLawful};
 ghost use Rattle.rmecore.specs.Machine.{answer, is_blocked};
@@ -58,7 +58,7 @@ impl Model for Core {
 fn all_at_rest(alloc: Global, procs: u64, limit: u64) -> Result<Vec<LockProcess>, Refusal>
     ensures length { IfOk result (λ processes. vec_len processes ≡ procs) }
     ensures each { IfOk result (λ processes. (p : ℕ) → p < procs
-        → slice_index_or processes.items p absent ≡ record { procs = procs; limit = limit; index = p; place = Rest }) }
+        → slice_index_or processes.items p absent_process ≡ record { procs = procs; limit = limit; index = p; place = Rest }) }
     ensures memory { IfErr result (λ e. e ≡ Refusal.OutOfMemory) }
 {
     let mut processes = Vec::with_capacity(alloc, procs as usize)?;
@@ -74,7 +74,7 @@ impl Core {
     ghost use Rattle.rmecore.specs.Paid.{is_glance};
     ghost use Rattle.rmecore.specs.Refused.{is_idle};
     ghost use Rattle.rmecore.specs.Tallied.{IsExact, HasTaken, IsTaking, IsRereading};
-    ghost use Rattle.rmecore.specs.Simulated.{world_of, own_at, place_at, tally_at, Takes, event_of, ChoosesLeast, refusal_at, step_refusal, counted, fresh, zeros, new_refusal, cause};
+    ghost use Rattle.rmecore.specs.Simulated.{world_of, own_at, place_at, tally_at, Takes, event_of, ChoosesLeast, refusal_at, step_refusal, tally_after_step, new_tally, zeros, new_refusal, cause};
 
     /// A core with all words 0 and all processes at rest. `limit` is the greatest number that a process may take.
     ///
@@ -85,7 +85,7 @@ impl Core {
         ensures refused { IfErr result (λ e. new_refusal procs limit ≡ cause e) }
         ensures sizes { IfOk result (λ core. (core.procs ≡ procs) × (core.limit ≡ limit)) }
         ensures world { IfOk result (λ core. world_of core ≡ at_rest) }
-        ensures tallies { IfOk result (λ core. core.tallies ≡ replicate procs (fresh zeros)) }
+        ensures tallies { IfOk result (λ core. core.tallies ≡ replicate procs (new_tally zeros)) }
     {
         if procs == 0 || procs > MOST_PROCS {
             return Err(Refusal::BadProcs);
@@ -113,7 +113,7 @@ impl Core {
         ensures refused { IfErr result (λ e. refusal_at self.old p CoreCall.Lock ≡ Some e) }
         ensures start { OnOk result (Takes self.old (Starts p CoreCall.Lock) self.new) }
         ensures reached { OnOk result (IsReached self.new.procs self.new.limit (world_of self.new)) }
-        ensures tally { OnOk result (self.new.tallies ≡ slice_set self.old.tallies p (fresh (own_at self.old.words p))) }
+        ensures tally { OnOk result (self.new.tallies ≡ slice_set self.old.tallies p (new_tally (own_at self.old.words p))) }
         ensures err { OnErr result (self.new ≡ self.old) }
     {
         self.start(p, CoreCall::Lock)
@@ -127,7 +127,7 @@ impl Core {
         ensures refused { IfErr result (λ e. refusal_at self.old p CoreCall.Recover ≡ Some e) }
         ensures start { OnOk result (Takes self.old (Starts p CoreCall.Recover) self.new) }
         ensures reached { OnOk result (IsReached self.new.procs self.new.limit (world_of self.new)) }
-        ensures tally { OnOk result (self.new.tallies ≡ slice_set self.old.tallies p (fresh (own_at self.old.words p))) }
+        ensures tally { OnOk result (self.new.tallies ≡ slice_set self.old.tallies p (new_tally (own_at self.old.words p))) }
         ensures err { OnErr result (self.new ≡ self.old) }
     {
         self.start(p, CoreCall::Recover)
@@ -141,7 +141,7 @@ impl Core {
         ensures refused { IfErr result (λ e. refusal_at self.old p CoreCall.Unlock ≡ Some e) }
         ensures start { OnOk result (Takes self.old (Starts p CoreCall.Unlock) self.new) }
         ensures reached { OnOk result (IsReached self.new.procs self.new.limit (world_of self.new)) }
-        ensures tally { OnOk result (self.new.tallies ≡ slice_set self.old.tallies p (fresh (own_at self.old.words p))) }
+        ensures tally { OnOk result (self.new.tallies ≡ slice_set self.old.tallies p (new_tally (own_at self.old.words p))) }
         ensures err { OnErr result (self.new ≡ self.old) }
     {
         self.start(p, CoreCall::Unlock)
@@ -155,7 +155,7 @@ impl Core {
         ensures refused { IfErr result (λ e. refusal_at self.old p CoreCall.Withdraw ≡ Some e) }
         ensures start { OnOk result (Takes self.old (Starts p CoreCall.Withdraw) self.new) }
         ensures reached { OnOk result (IsReached self.new.procs self.new.limit (world_of self.new)) }
-        ensures tally { OnOk result (self.new.tallies ≡ slice_set self.old.tallies p (fresh (own_at self.old.words p))) }
+        ensures tally { OnOk result (self.new.tallies ≡ slice_set self.old.tallies p (new_tally (own_at self.old.words p))) }
         ensures err { OnErr result (self.new ≡ self.old) }
     {
         self.start(p, CoreCall::Withdraw)
@@ -188,7 +188,7 @@ impl Core {
         ensures outer { IfOk result (λ h. h.outer ≡ deed (place_at self.old.processes p) (event_of p h)) }
         ensures done { IfOk result (λ h. h.done ≡ answer (place_at self.old.processes p) h.kind h.value) }
         ensures tally { IfOk result (λ h. self.new.tallies ≡ slice_set self.old.tallies p
-            (counted (tally_at self.old.tallies p) (is_blocked p (place_at self.old.processes p) h.kind h.value))) }
+            (tally_after_step (tally_at self.old.tallies p) (is_blocked p (place_at self.old.processes p) h.kind h.value))) }
         ensures taken { IfOk result (λ h. IfSome h.done (λ done. IsExact (tally_at self.new.tallies p)
             → HasTaken self.old.procs (tally_at self.new.tallies p) done)) }
         ensures err { OnErr result (self.new ≡ self.old) }
@@ -218,7 +218,7 @@ impl Core {
         ensures refused { IfErr result (λ e. refusal_at self.old p call ≡ Some e) }
         ensures start { OnOk result (Takes self.old (Starts p call) self.new) }
         ensures reached { OnOk result (IsReached self.new.procs self.new.limit (world_of self.new)) }
-        ensures tally { OnOk result (self.new.tallies ≡ slice_set self.old.tallies p (fresh (own_at self.old.words p))) }
+        ensures tally { OnOk result (self.new.tallies ≡ slice_set self.old.tallies p (new_tally (own_at self.old.words p))) }
         ensures err { OnErr result (self.new ≡ self.old) }
     {
         if p >= self.procs {

@@ -13,7 +13,7 @@ pub struct Tally {
 }
 
 impl Tally {
-    ghost use Rattle.rmecore.specs.Simulated.{counted};
+    ghost use Rattle.rmecore.specs.Simulated.{tally_after_step};
 
     /// The counts of a process before its first call, where its words are 0.
     pub const UNSTARTED: Tally = Tally {
@@ -24,7 +24,7 @@ impl Tally {
 
     /// Counts one more step.
     pub fn count(&mut self, blocked: bool)
-        ensures { self.new ≡ counted self.old blocked }
+        ensures { self.new ≡ tally_after_step self.old blocked }
     {
         self.steps = self.steps.saturating_add(1);
         if blocked {

@@ -2,12 +2,12 @@
 -- start grants. Steps of other processes don't change that, since no other process puts a data word meanwhile.
 use Rattle.std.proofs.Common.{◌≡◌, ◌≢◌, ℕ, ◌<◌, Bool, true, false, ◌&&◌, ◌==◌, nat_lt, length, List, [], ◌∷◌, ◌++◌, Option, Some, None, All, Contains, refl, sym, ap, ◌∙◌, subst, inl, inr, ◌⊎◌, arith, eqb-true, append_assoc, lt-ltb}
 use Rattle.rmeworld.proofs.Common.{cases_Bool, cases_eq, and_parts, All-nil, All-cons, All-append, Contains-append_right, Kind, Gets, Puts, Outer, Phase, Within, Word, Data as DataAt, Abstract, Legal}
-use Rattle.rmeworld.proofs.Common.{nobody, put, Place, next, IsIn, is_store, put_same, put_other, after_deed as done_by, Deed, Layout, Reply, deeds_of_put, Words, IsLayout, size, Mailbox, Script}
-use Rattle.rmeworld.proofs.Common.{Get as Asks, Put as Writes, Done, script, consistent, empty, Call, Lock, Unlock, Consistent, Recover, Append, Close, Withdraw, Purpose, Ruining, Mending, Working}
-use Rattle.rmeworld.proofs.Common.{is_entry, puts_data, IsAsked, EveryDeedWasAsked, ScriptState, Free, Doing, ProcessState, dead, WorldEvent, Begins, Falls, Moves, Glances, who, settled, script_state_entered, at_lock}
-use Rattle.rmeworld.proofs.Common.{inside_only, begun_from, moved_by, next_process_state, outer, reading, event_deeds, GlobalState, at_first, Reads, put_cell, cells_after, Execution, onward, last_global_state, outer_deeds}
+use Rattle.rmeworld.proofs.Common.{nobody, put, Place, next, IsInSection, is_store, put_same, put_other, after_deed as done_by, Deed, Layout, Reply, deeds_of_put, Words, IsLayout, size, Mailbox, Script}
+use Rattle.rmeworld.proofs.Common.{Get as Asks, Put as Writes, Done, script, consistent, empty_state, Call, Lock, Unlock, Consistent, Recover, Append, Close, Withdraw, Purpose, Ruining, Mending, Working}
+use Rattle.rmeworld.proofs.Common.{is_entry, puts_data, IsAsked, EveryDeedWasAsked, ScriptState, Free, Doing, ProcessState, dead_process, WorldEvent, Begins, Falls, Moves, Glances, who, process_after_script, script_state_entered, at_lock}
+use Rattle.rmeworld.proofs.Common.{inside_only, begun_from, moved_by, next_process_state, lock_deed, reading, event_deeds, GlobalState, at_first, ReadsWord, put_cell, cells_after, Execution, state_after_event, last_global_state, outer_deeds}
 use Rattle.rmeworld.proofs.Common.{mail_deeds, deeds}
-use Rattle.rmecore.specs.Place.{started}
+use Rattle.rmecore.specs.Place.{place_after_start}
 use Rattle.rmecore.specs.declared.core_call.CoreCall.TheVariants as core
 use Rattle.redomail.specs.declared.deed.Deed.TheVariants as deed
 use Rattle.redomail.specs.declared.task.Task.TheVariants as task
@@ -45,9 +45,9 @@ module _ (l : Layout) (limit : ℕ) (layout : IsLayout l) (D : Deed → Type 0) 
 
   abbrev pub AllStart : GlobalState → List WorldEvent → Type 0
   AllStart w [] = Unit {0}
-  AllStart w (e ∷ es) = Starts w e × AllStart (onward l limit w e) es
+  AllStart w (e ∷ es) = Starts w e × AllStart (state_after_event l limit w e) es
 
-  settled_carries : (p : ℕ) (b c : Bool) (purpose : Purpose) (e : Script Reply) (w : Words) → Sends l p D e w → Carries p w (settled b c purpose e).script_state
+  settled_carries : (p : ℕ) (b c : Bool) (purpose : Purpose) (e : Script Reply) (w : Words) → Sends l p D e w → Carries p w (process_after_script b c purpose e).script_state
   settled_carries p b c purpose (Asks i rest) w h = h
   settled_carries p b c purpose (Writes i v rest) w h = h
   settled_carries p b c purpose (Done a) w h = tt
@@ -62,10 +62,10 @@ module _ (l : Layout) (limit : ℕ) (layout : IsLayout l) (D : Deed → Type 0) 
   by_script p lock b fits purpose left s' w e h = let r = inside_some lock b fits purpose left s' e in subst (λ (x : ProcessState). Carries p w x.script_state) r.2 (h r.1)
 
   begins : (p : ℕ) (lock : Place) (b : Bool) (script_state : ScriptState) (call : Call) (s' : ProcessState) (w : Words) → begun_from l p lock b script_state call ≡ Some s' → Grants p b call → Carries p w s'.script_state
-  begins p lock b Free Lock s' w e g = by_lock p lock b false (started lock core.Lock) s' w e
-  begins p lock b Free Recover s' w e g = by_lock p lock b false (started lock core.Recover) s' w e
-  begins p lock b Free Withdraw s' w e g = by_lock p lock b false (started lock core.Withdraw) s' w e
-  begins p lock true Free Unlock s' w e g = by_lock p lock true false (started lock core.Unlock) s' w e
+  begins p lock b Free Lock s' w e g = by_lock p lock b false (place_after_start lock core.Lock) s' w e
+  begins p lock b Free Recover s' w e g = by_lock p lock b false (place_after_start lock core.Recover) s' w e
+  begins p lock b Free Withdraw s' w e g = by_lock p lock b false (place_after_start lock core.Withdraw) s' w e
+  begins p lock true Free Unlock s' w e g = by_lock p lock true false (place_after_start lock core.Unlock) s' w e
   begins p lock false Free Unlock s' w e g = by_script p lock false true Ruining (script l p task.Ruin) s' w e (λ _. ruin_sends l p D (shows p) w (g refl))
   begins p lock false Free Consistent s' w e g = by_script p lock false true Mending (consistent l p) s' w e (λ _. consistent_sends l p D (shows p) w)
   begins p lock b Free (Append seq value) s' w e g =
@@ -88,12 +88,12 @@ module _ (l : Layout) (limit : ℕ) (layout : IsLayout l) (D : Deed → Type 0) 
         by_lock p lock b c (next l.procs limit p lock kind word v) s' (cells_after l w.cells (Moves p kind word v)) e,
       )
   moves w ph m p lock b c (Doing purpose (Asks j rest)) Gets (DataAt i) v s' e reads post h =
-      let r = only_some (i == j) (settled b c purpose (rest v)) s' e in
+      let r = only_some (i == j) (process_after_script b c purpose (rest v)) s' e in
       let read : w.cells j ≡ v = ap w.cells (sym (eqb-true i j r.0)) ∙ reads refl in
       let now : Sends l p D (rest v) w.cells = subst (λ x. Sends l p D (rest x) w.cells) read h in
       (All-nil D, subst (λ (x : ProcessState). Carries p w.cells x.script_state) r.1 (settled_carries p b c purpose (rest v) w.cells now))
   moves w ph m p lock b c (Doing purpose (Writes j x rest)) Puts (DataAt i) v s' e reads post h =
-      let r = only_some ((i == j) && (v == x)) (settled b c purpose rest) s' e in
+      let r = only_some ((i == j) && (v == x)) (process_after_script b c purpose rest) s' e in
       let both = and_parts (i == j) (v == x) r.0 in
       let at : i ≡ j = eqb-true i j both.0 in
       let value : v ≡ x = eqb-true v x both.1 in
@@ -104,10 +104,10 @@ module _ (l : Layout) (limit : ℕ) (layout : IsLayout l) (D : Deed → Type 0) 
       subst (λ i'. P i' v) (sym at) (subst (P j) (sym value) there)
   moves w ph m p lock b c _ _ _ v s' e reads post h = absurd (cc)
 
-  steps : (w : GlobalState) (ph : Phase) (m : Mailbox) (e : WorldEvent) (s' : ProcessState) → next_process_state l limit (w.process_states (who e)) e ≡ Some s' → Reads w e → PostAt l (who e) ph w.cells m (w.process_states (who e)) → Starts w e → Carries (who e) w.cells (w.process_states (who e)).script_state
+  steps : (w : GlobalState) (ph : Phase) (m : Mailbox) (e : WorldEvent) (s' : ProcessState) → next_process_state l limit (w.process_states (who e)) e ≡ Some s' → ReadsWord w e → PostAt l (who e) ph w.cells m (w.process_states (who e)) → Starts w e → Carries (who e) w.cells (w.process_states (who e)).script_state
       → Steps w e s'
   steps w ph m (Begins p call) s' e reads post g h = let x = w.process_states p in (All-nil D, begins p x.lock x.mended x.script_state call s' w.cells e g)
-  steps w ph m (Falls p) s' e reads post g h = let is : dead ≡ s' = cc in (All-nil D, subst (λ (x : ProcessState). Carries p w.cells x.script_state) is tt)
+  steps w ph m (Falls p) s' e reads post g h = let is : dead_process ≡ s' = cc in (All-nil D, subst (λ (x : ProcessState). Carries p w.cells x.script_state) is tt)
   steps w ph m (Moves p kind word v) s' e reads post g h = let x = w.process_states p in moves w ph m p x.lock x.mended x.barred x.script_state kind word v s' e reads post h
   steps w ph m (Glances p word v) s' e reads post g h = let is : w.process_states p ≡ s' = cc in (All-nil D, subst (λ (x : ProcessState). Carries p w.cells x.script_state) is h)
 
@@ -118,7 +118,7 @@ module _ (l : Layout) (limit : ℕ) (layout : IsLayout l) (D : Deed → Type 0) 
     where
       by : (script_state : ScriptState) → Post l q (a.phase q) w.cells at.mail x.mended script_state x.lock → Carries q w.cells script_state → (puts_data e ≡ true) ⊎ (puts_data e ≡ false) → Carries q (cells_after l w.cells e) script_state
       by Free k c d = tt
-      by (Doing purpose left) k c (inl p) = absurd (ne (at.kept.sole q (who e) lt below (subst IsIn (sym k.1) tt) (subst IsIn (sym (puts p)) tt)))
+      by (Doing purpose left) k c (inl p) = absurd (ne (at.kept.sole q (who e) lt below (subst IsInSection (sym k.1) tt) (subst IsInSection (sym (puts p)) tt)))
       by (Doing purpose left) k c (inr f) = subst (λ u. Sends l q D left u) (sym (cells_kept l w.cells e f)) c
 
   abbrev pub AllCarry : GlobalState → Type 0
@@ -131,7 +131,7 @@ module _ (l : Layout) (limit : ℕ) (layout : IsLayout l) (D : Deed → Type 0) 
   pub all_have : (w : GlobalState) (a : Abstract) (es : List WorldEvent) → At l limit layout w a → AllCarry w → Execution l limit w es → Legal l.procs a (outers l limit w es) → AllStart w es → All D (deeds l limit w es)
   all_have w a [] at carry execution legal start = All-nil D
   all_have w a (e ∷ es) at carry execution legal start =
-      let o : Option Outer = outer (w.process_states (who e)) e in
+      let o : Option Outer = lock_deed (w.process_states (who e)) e in
       let below = execution.0.0 in
       let x = some_of l limit (next_process_state l limit (w.process_states (who e)) e) (w.process_states (who e)) execution.0.1 in
       let post = at.posts (who e) below in
@@ -141,10 +141,10 @@ module _ (l : Layout) (limit : ℕ) (layout : IsLayout l) (D : Deed → Type 0) 
         | inl same ↦ subst (λ r. Carries r cells (put w.process_states (who e) x.0 r).script_state) (sym same) (subst (λ (y : ProcessState). Carries (who e) cells y.script_state) (sym (put_same w.process_states (who e) x.0)) s.1)
         | inr ne ↦ subst (λ (y : ProcessState). Carries q cells y.script_state) (sym (put_other w.process_states (who e) x.0 q ne)) (stays w a at e q below lt ne (λ puts. putter_in l limit w a at.mail e execution.0.1 post puts) (w.process_states q) (at.posts q lt) (carry q lt))
       ] in
-      let next_carry : AllCarry (onward l limit w e) = subst (λ z. (q : ℕ) → q < l.procs → Carries q cells (put w.process_states (who e) z q).script_state) (sym x.2) more in
-      let r = head l limit layout a o (outers l limit (onward l limit w e) es) legal in
-      All-append D (event_deeds l w e) (deeds l limit (onward l limit w e) es) (All-append D (outer_deeds o) (mail_deeds l w.cells e) (outer_has o) s.0)
-      (all_have (onward l limit w e) (done_by a o) es (one l limit layout w a e es at execution legal).0 next_carry execution.1 r.1 start.1)
+      let next_carry : AllCarry (state_after_event l limit w e) = subst (λ z. (q : ℕ) → q < l.procs → Carries q cells (put w.process_states (who e) z q).script_state) (sym x.2) more in
+      let r = head l limit layout a o (outers l limit (state_after_event l limit w e) es) legal in
+      All-append D (event_deeds l w e) (deeds l limit (state_after_event l limit w e) es) (All-append D (outer_deeds o) (mail_deeds l w.cells e) (outer_has o) s.0)
+      (all_have (state_after_event l limit w e) (done_by a o) es (one l limit layout w a e es at execution legal).0 next_carry execution.1 r.1 start.1)
 
 module _ (l : Layout) (limit : ℕ) (layout : IsLayout l) (execution : List WorldEvent) where
   abbrev Asked : Deed → Type 0
@@ -173,10 +173,10 @@ module _ (l : Layout) (limit : ℕ) (layout : IsLayout l) (execution : List Worl
       (starts front e es is, subst (λ w. AllStart l limit layout Asked shown_freely locked_freely w es) (last_more l limit at_first front e) rest)
 
   deeds_asked : Execution l limit at_first execution → All Asked (deeds l limit at_first execution)
-  deeds_asked told =
-      let o = origin l limit at_first (empty l.procs l.cap) layout (inl (refl, refl)) in
-      let legal = (execution_comes l limit execution layout told).0 in
-      all_have l limit layout Asked shown_freely locked_freely at_first nobody execution (record { mail = (empty l.procs l.cap).mail; kept = o.kept; posts = o.posts }) (λ q lt. tt) told legal (all_start [] execution refl)
+  deeds_asked reports =
+      let o = origin l limit at_first (empty_state l.procs l.cap) layout (inl (refl, refl)) in
+      let legal = (execution_comes l limit execution layout reports).0 in
+      all_have l limit layout Asked shown_freely locked_freely at_first nobody execution (record { mail = (empty_state l.procs l.cap).mail; kept = o.kept; posts = o.posts }) (λ q lt. tt) reports legal (all_start [] execution refl)
 
 pub every_deed_was_asked : EveryDeedWasAsked
-every_deed_was_asked l limit execution layout told = deeds_asked l limit layout execution told
+every_deed_was_asked l limit execution layout reports = deeds_asked l limit layout execution reports

@@ -38,7 +38,7 @@ follows_new l limit may =
     record {
       world = world_new l limit size.0 size.1;
       ordered = λ p below. subst IsOrdered (sym (rest-at l limit 0 l.procs p below)) (ordered_rest l limit (0 + p));
-      comes = record { execution = []; told = tt; last = sym (new_global_state l limit); done = refl };
+      comes = record { execution = []; reports = tt; last = sym (new_global_state l limit); done = refl };
     }
 
 pub follows_image : (i : Image) → IsLawfulImage i → Follows (crashed_global_state (length i.lock) (own_at i.lock) (words_of i.cells)) (image_world i) []
@@ -46,14 +46,14 @@ follows_image i lawful =
     record {
       world = image_world_is i lawful;
       ordered = λ p below. subst IsOrdered (sym (crashed-at (layout_of i) i.limit 0 (length i.lock) p below)) (ordered_crashed (resting (layout_of i) i.limit (0 + p)));
-      comes = record { execution = []; told = tt; last = sym (image_global_state i); done = refl };
+      comes = record { execution = []; reports = tt; last = sym (image_global_state i); done = refl };
     }
 
 -- what came after a beginning is legal from the judge's state there
 pub follows_legal : (first : GlobalState) (state : State) (s : WorldState) (history : List Deed) → IsOrigin s.layout s.limit first state → Follows first s history → (t : State) × Leads state history t
 follows_legal first state s history begins h =
     let layout = h.world.sized.layout in
-    let a = arrives s.layout s.limit first state h.comes.execution layout (origin s.layout s.limit first state layout begins) h.comes.told in
+    let a = arrives s.layout s.limit first state h.comes.execution layout (origin s.layout s.limit first state layout begins) h.comes.reports in
     (a.now, subst (λ ds. Leads state ds a.now) h.comes.done a.leads)
 
 pub image_origin : (i : Image) (s : Start) → IsLawfulImage i → IsStartOf i s → IsOrigin (layout_of i) i.limit (crashed_global_state (length i.lock) (own_at i.lock) (words_of i.cells)) (state_of s)
@@ -61,10 +61,10 @@ image_origin i s lawful start = inr (refl, started_later i s lawful start)
 
 -- every execution of a lawful image's world is sound
 pub later_is_sound : EveryLaterExecutionIsSound
-later_is_sound i s execution lawful start told =
+later_is_sound i s execution lawful start reports =
     let l : Layout = layout_of i in
     let w : GlobalState = global_state_of (image_world i) in
     let layout = (image_world_is i lawful).sized.layout in
     let o = origin l i.limit w (state_of s) layout (inr (image_global_state i, started_later i s lawful start)) in
-    let a = arrives l i.limit w (state_of s) execution layout o told in
-    (sound_from l i.limit w (state_of s) execution layout o told, a.lawful, (a.now, a.leads))
+    let a = arrives l i.limit w (state_of s) execution layout o reports in
+    (sound_from l i.limit w (state_of s) execution layout o reports, a.lawful, (a.now, a.leads))

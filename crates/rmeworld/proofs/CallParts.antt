@@ -3,7 +3,7 @@ use Rattle.std.proofs.Common.{◌≡◌, ℕ, zero, suc, ◌==◌, ◌||◌, max
 use Rattle.rmeworld.proofs.Common.{cases_Bool, CoreCall, CoreDone, In, InAgain, Spent, Out, Found as Finds, Withdrawn, Kind, Open as Opens, Rereads, Peek as Peeks, Take as Takes, Shut as Shuts}
 use Rattle.rmeworld.proofs.Common.{Look as Looks, Weigh as Weighs, Mark as Marks, Drop as Drops, Glance as Glances, Word, Choosing as ChoosingOf, Number as NumberOf, answer, reread_answer}
 use Rattle.rmeworld.proofs.Common.{shut_answer, unmark_answer, is_glance, Place, Door, Wait, next, Rest, Reread, Shutting, Leaving, Withdrawing, Unmarking, Opening, Inside, has, without, others}
-use Rattle.rmeworld.proofs.Common.{is_before, restart, shut, unmarked, guard, lock_part}
+use Rattle.rmeworld.proofs.Common.{is_before, restart, shut, place_after_unmark, guard, lock_part}
 use Rattle.rmecore.specs.declared.core_call.CoreCall.TheVariants.{Lock, Recover, Unlock, Withdraw}
 use Rattle.rmecore.specs.declared.word.Word.TheVariants.{Inside as InsideOf}
 use Rattle.rmeworld.proofs.Entries.{Enters}
@@ -38,7 +38,7 @@ module _ (n p : ℕ) where
   shuts Lock k = (refl, (refl, λ b. refl), refl)
   shuts _ k = (refl, (refl, λ b. refl), (refl, refl))
 
-  unmarks : (call : CoreCall) → On (unmark_answer call) (Unmarking call) (unmarked call)
+  unmarks : (call : CoreCall) → On (unmark_answer call) (Unmarking call) (place_after_unmark call)
   unmarks Lock = (refl, (refl, λ b. refl), refl)
   unmarks _ = (refl, (refl, λ b. refl), (refl, refl))
 
@@ -62,6 +62,6 @@ module _ (n p : ℕ) where
   goes_on limit (Wait k [] None) Marks (InsideOf q) v some moves = guard _ Inside _ (On (Some In) (Wait k [] None)) some (λ e. (refl, (refl, λ b. refl), (refl, refl)))
   goes_on limit Leaving Drops (NumberOf q) v some moves = guard _ (Unmarking Unlock) _ (On None Leaving) some (λ e. (refl, (refl, λ b. refl), refl))
   goes_on limit Withdrawing Drops (NumberOf q) v some moves = guard _ Rest _ (On (Some Withdrawn) Withdrawing) some (λ e. (refl, (refl, λ b. refl), (refl, refl)))
-  goes_on limit (Unmarking call) Marks (InsideOf q) v some moves = guard _ (unmarked call) _ (On (unmark_answer call) (Unmarking call)) some (λ e. unmarks call)
+  goes_on limit (Unmarking call) Marks (InsideOf q) v some moves = guard _ (place_after_unmark call) _ (On (unmark_answer call) (Unmarking call)) some (λ e. unmarks call)
   goes_on limit s Glances word v some moves = absurd (cc)
   goes_on limit _ _ _ v some moves = absurd (cc)

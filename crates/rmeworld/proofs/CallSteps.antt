@@ -4,7 +4,7 @@ use Rattle.rmeworld.proofs.Common.{and_parts, CoreCall, CoreDone, In, InAgain, S
 use Rattle.rmeworld.proofs.Common.{is_blocked as is_blocked_place, reentry_steps, entry_steps, is_glance, ReadsBegun, Place, Wait, next, Rest, Leaving, Inside, Dead, Layout, Reply, Mended, Ruined}
 use Rattle.rmeworld.proofs.Common.{Task, Script, Get as Asks, Put as Writes, Done, script, Answer, Call, Lock, Unlock, Consistent, Recover, Append, Close, Withdraw, Purpose, Ruining, Mending, Working}
 use Rattle.rmeworld.proofs.Common.{Checking, answer_at, answer_by, by_lock, by_script, blocked_by, next_or_same, checks_done, mended_done, HasStep, and_more, either, core_steps, task_steps, own_steps}
-use Rattle.rmeworld.proofs.Common.{Costs, checked_steps, script_steps, PaysCore, Exits, PaysPart, PaysBy, PaysAt, entry_of, ScriptState, Free, Doing, ProcessState, Begins, Moves, settled, script_state_entered, at_lock}
+use Rattle.rmeworld.proofs.Common.{Costs, checked_steps, script_steps, PaysCore, Exits, PaysPart, PaysBy, PaysAt, entry_of, ScriptState, Free, Doing, ProcessState, Begins, Moves, process_after_script, script_state_entered, at_lock}
 use Rattle.rmeworld.proofs.Common.{begun_from, moved_by, next_process_state, only_process_state, mended_entered, working, lock_part, part_call, purpose_call, call_by, call_at, task_call}
 use Rattle.rmecore.specs.declared.core_call.CoreCall.TheVariants as core
 use Rattle.rmecore.proofs.Payments.{Comes, pays}
@@ -106,7 +106,7 @@ module _ (l : Layout) (p : ℕ) (w : Own) where
   part_to _ (Some _) s t m c b steps some follows pays h = absurd (cc)
 
   -- a script with its next step, or with its reply
-  script_to : (purpose : Purpose) (left : Script Reply) (m : Bool) (steps : ℕ) → Costs (script_steps l w m purpose) left steps → To l w m (purpose_call purpose) (by_script purpose m left) (settled m false purpose left) steps
+  script_to : (purpose : Purpose) (left : Script Reply) (m : Bool) (steps : ℕ) → Costs (script_steps l w m purpose) left steps → To l w m (purpose_call purpose) (by_script purpose m left) (process_after_script m false purpose left) steps
   script_to purpose (Asks i rest) m steps h = ((refl, tt, h), refl, λ e. refl)
   script_to purpose (Writes i v rest) m steps h = ((refl, tt, h), refl, λ e. refl)
   script_to Checking (Done (Ruined true)) m steps h =
@@ -134,8 +134,8 @@ module _ (l : Layout) (p : ℕ) (w : Own) where
       λ i. record { lock = t; mended = enters.1 m i; barred = c; script_state = if enters.0 i then Doing Checking (script l p task.Check) else Free } in
       subst (λ process_state. To l w m' call a process_state steps) is (h refl)
 
-  settled_to : (purpose : Purpose) (left : Script Reply) (m c : Bool) (steps : ℕ) → c ≡ false → Costs (script_steps l w m purpose) left steps → To l w m (purpose_call purpose) (by_script purpose m left) (settled m c purpose left) steps
-  settled_to purpose left m c steps calm h = subst (λ x. To l w m (purpose_call purpose) (by_script purpose m left) (settled m x purpose left) steps) (sym calm) (script_to purpose left m steps h)
+  settled_to : (purpose : Purpose) (left : Script Reply) (m c : Bool) (steps : ℕ) → c ≡ false → Costs (script_steps l w m purpose) left steps → To l w m (purpose_call purpose) (by_script purpose m left) (process_after_script m c purpose left) steps
+  settled_to purpose left m c steps calm h = subst (λ x. To l w m (purpose_call purpose) (by_script purpose m left) (process_after_script m x purpose left) steps) (sym calm) (script_to purpose left m steps h)
 
   module _ (limit : ℕ) (below : p < l.procs) where
     moved_to : (s : Place) (m c : Bool) (e : ScriptState) (d : ProcessState) (kind : Kind) (word : Word) (v steps : ℕ) → IsSome (moved_by l limit p s m c e kind word v) → is_glance kind ≡ false → (e ≡ Free → ReadsBegun w.choosing w.number w.inside s v) → PaysBy l w s m c e steps
@@ -146,9 +146,9 @@ module _ (l : Layout) (p : ℕ) (w : Own) where
         (λ may. part_to (lock_part s) (answer s kind v) s _ m c (is_blocked_place p s kind v) steps (on may).0 (on may).2
         (λ x now. pays l.procs p below limit w.choosing w.number w.inside s kind word v x may moves (reads refl) now) h)
     moved_to s m c (Doing purpose (Asks j rest)) d Gets (DataAt i) v steps some moves reads h =
-        guard_process_state (i == j) (settled m c purpose (rest v)) d (λ process_state. To l w m (purpose_call purpose) (by_script purpose m (rest v)) process_state (steps + 1)) some (λ e. settled_to purpose (rest v) m c (steps + 1) h.0 (h.2 v))
+        guard_process_state (i == j) (process_after_script m c purpose (rest v)) d (λ process_state. To l w m (purpose_call purpose) (by_script purpose m (rest v)) process_state (steps + 1)) some (λ e. settled_to purpose (rest v) m c (steps + 1) h.0 (h.2 v))
     moved_to s m c (Doing purpose (Writes j x rest)) d Puts (DataAt i) v steps some moves reads h =
-        guard_process_state ((i == j) && (v == x)) (settled m c purpose rest) d (λ process_state. To l w m (purpose_call purpose) (by_script purpose m rest) process_state (steps + 1)) some (λ e. settled_to purpose rest m c (steps + 1) h.0 h.2)
+        guard_process_state ((i == j) && (v == x)) (process_after_script m c purpose rest) d (λ process_state. To l w m (purpose_call purpose) (by_script purpose m rest) process_state (steps + 1)) some (λ e. settled_to purpose rest m c (steps + 1) h.0 h.2)
     moved_to s m c (Doing purpose _) d _ _ v steps some moves reads h = absurd (cc)
 
     -- one step of a call, whatever it reads. In the lock's part a reread has the process's words

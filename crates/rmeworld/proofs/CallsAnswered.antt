@@ -1,9 +1,9 @@
 -- A call under way that is over after events without crash and withdraw was answered in them.
 use Rattle.std.proofs.Common.{◌≡◌, ℕ, zero, suc, Bool, true, false, ◌||◌, ◌==◌, if◌then◌else◌, List, [], ◌∷◌, All, Option, Some, None, IsSome, unwrap_or, refl, sym, ap, ◌∙◌, subst, inl, inr, ◌⊎◌, eq-eqb, ne_eqb}
 use Rattle.rmeworld.proofs.Common.{cases_Bool, cases_eq, All-head, All-tail, put_same, put_other, CoreCall, Kind, Gets, Puts, Rereads, Open, Peek, Take, Shut, Look, Weigh, Mark, Drop, Glance, Word, Choosing, Number, Data as DataAt, answer, Place, next}
-use Rattle.rmeworld.proofs.Common.{Rest, Dead, Reread, Opening, Door, Shutting, Wait, Inside, Leaving, Withdrawing, Unmarking, only, is_before, restart, shut, unmarked, is_idle, Layout, Reply, Ruined, Script, Get as Asks, Put as Writes, Done, Call, Lock}
-use Rattle.rmeworld.proofs.Common.{Unlock, Consistent, Recover, Append, Close, Withdraw, Purpose, Ruining, Mending, Checking, Working, is_entry, ScriptState, Free, Doing, ProcessState, WorldEvent, Begins, Falls, Moves, Glances, who, settled}
-use Rattle.rmeworld.proofs.Common.{begun_from, moved_by, next_process_state, GlobalState, Execution, onward, last_global_state, purpose_call, call_by, call_at}
+use Rattle.rmeworld.proofs.Common.{Rest, Dead, Reread, Opening, Door, Shutting, Wait, Inside, Leaving, Withdrawing, Unmarking, only, is_before, restart, shut, place_after_unmark, is_idle, Layout, Reply, Ruined, Script, Get as Asks, Put as Writes, Done, Call, Lock}
+use Rattle.rmeworld.proofs.Common.{Unlock, Consistent, Recover, Append, Close, Withdraw, Purpose, Ruining, Mending, Checking, Working, is_entry, ScriptState, Free, Doing, ProcessState, WorldEvent, Begins, Falls, Moves, Glances, who, process_after_script}
+use Rattle.rmeworld.proofs.Common.{begun_from, moved_by, next_process_state, GlobalState, Execution, state_after_event, last_global_state, purpose_call, call_by, call_at}
 use Rattle.rmecore.specs.declared.core_call.CoreCall.TheVariants as core
 use Rattle.rmecore.specs.declared.word.Word.TheVariants.{Inside as InsideOf}
 use Rattle.redomail.specs.Tasks.{script}
@@ -41,7 +41,7 @@ module _ (n limit p : ℕ) (barred : Bool) where
   tells_shut k v core.Lock e = cc
   tells_shut k v _ e = refl
 
-  tells_unmarked : (v : ℕ) (call : CoreCall) → is_idle (unmarked call) ≡ true → Tells (Unmarking call) Mark v
+  tells_unmarked : (v : ℕ) (call : CoreCall) → is_idle (place_after_unmark call) ≡ true → Tells (Unmarking call) Mark v
   tells_unmarked v core.Lock e = cc
   tells_unmarked v core.Unlock e = out
   tells_unmarked v core.Recover e = refl
@@ -107,7 +107,7 @@ idle_call Inside barred some = cc
 idle_call _ barred some = refl
 
 -- the end of a script is its call's answer, or the call goes on with the exit
-script_done : (b c : Bool) (purpose : Purpose) (a : Reply) → IsSome (by_script purpose b (Done a)) ⊎ IsSome (call_at (settled b c purpose (Done a)))
+script_done : (b c : Bool) (purpose : Purpose) (a : Reply) → IsSome (by_script purpose b (Done a)) ⊎ IsSome (call_at (process_after_script b c purpose (Done a)))
 script_done b c Checking (Ruined true) = inr refl
 script_done true c Checking a = inl refl
 script_done false c Checking a = inl refl
@@ -117,7 +117,7 @@ script_done b c Mending (Ruined ruined) = inl refl
 script_done b c Mending a = inl refl
 script_done b c (Working t) a = inl refl
 
-script_step : (b c : Bool) (purpose : Purpose) (left : Script Reply) → IsSome (purpose_call purpose) → IsSome (by_script purpose b left) ⊎ IsSome (call_at (settled b c purpose left))
+script_step : (b c : Bool) (purpose : Purpose) (left : Script Reply) → IsSome (purpose_call purpose) → IsSome (by_script purpose b left) ⊎ IsSome (call_at (process_after_script b c purpose left))
 script_step b c purpose (Done a) some = script_done b c purpose a
 script_step b c purpose (Asks i rest) some = inr some
 script_step b c purpose (Writes i v rest) some = inr some
@@ -184,14 +184,14 @@ module _ (l : Layout) (limit : ℕ) where
       → IsAnswered l limit (w.process_states p) (own_world_events p es)
   is_answered w [] p execution whole some none = cc
   is_answered w (e ∷ es) p execution whole some none =
-      let rest : IsSome (call_at ((onward l limit w e).process_states p)) → IsAnswered l limit ((onward l limit w e).process_states p) (own_world_events p es) =
-      λ still. is_answered (onward l limit w e) es p execution.1 (All-tail IsUninterrupted e es whole) still none in
+      let rest : IsSome (call_at ((state_after_event l limit w e).process_states p)) → IsAnswered l limit ((state_after_event l limit w e).process_states p) (own_world_events p es) =
+      λ still. is_answered (state_after_event l limit w e) es p execution.1 (All-tail IsUninterrupted e es whole) still none in
       elim (cases_eq p (who e)) [
         | inl is ↦
             let yes_own : (who e == p) ≡ true = eq-eqb _ _ (sym is) in
             let s : ProcessState = w.process_states p in
             let t : ProcessState = unwrap_or (next_process_state l limit s e) s in
-            let now : (onward l limit w e).process_states p ≡ t = subst (λ r. (onward l limit w e).process_states r ≡ unwrap_or (next_process_state l limit (w.process_states r) e) (w.process_states r)) (sym is) (put_same w.process_states (who e) _) in
+            let now : (state_after_event l limit w e).process_states p ≡ t = subst (λ r. (state_after_event l limit w e).process_states r ≡ unwrap_or (next_process_state l limit (w.process_states r) e) (w.process_states r)) (sym is) (put_same w.process_states (who e) _) in
             let can : IsSome (next_process_state l limit s e) = subst (λ r. IsSome (next_process_state l limit (w.process_states r) e)) (sym is) execution.0.1 in
             let here : IsSome (answer_of s e) ⊎ IsAnswered l limit t (own_world_events p es) = elim (event_goes l limit p s e t (sym is) some (some_state (next_process_state l limit s e) s can) (All-head IsUninterrupted e es whole)) [
               | inl answered ↦ inl answered
@@ -200,6 +200,6 @@ module _ (l : Layout) (limit : ℕ) where
             rw yes_own here
         | inr ne ↦
             let not_own : (who e == p) ≡ false = ne_eqb _ _ (λ same. ne (sym same)) in
-            let now : (onward l limit w e).process_states p ≡ w.process_states p = put_other w.process_states (who e) _ p ne in
+            let now : (state_after_event l limit w e).process_states p ≡ w.process_states p = put_other w.process_states (who e) _ p ne in
             rw not_own (subst (λ (x : ProcessState). IsAnswered l limit x (own_world_events p es)) now (rest (subst (λ (x : ProcessState). IsSome (call_at x)) (sym now) some)))
       ]

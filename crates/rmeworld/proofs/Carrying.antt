@@ -4,11 +4,11 @@ use Rattle.std.proofs.Common.{◌≡◌, ◌≢◌, ℕ, zero, suc, ◌<◌, ◌
 use Rattle.std.specs.Prelude.{All}
 use Rattle.std.proofs.lemmas.List.Elements.{All-append}
 use Rattle.rmeworld.proofs.Common.{cases_Bool, cases_eq, All-nil, All-cons, All-head, All-tail, put_same, put_other, not_data, CoreCall, Kind, Gets, Puts, Glance, Outer, Own, Word, Data as DataAt, Choosing, Number, put}
-use Rattle.rmeworld.proofs.Common.{has, Place, next, Rest, Leaving, Inside, Wait, Dead, Event, Starts, Crashes, Steps, is_store, step_deed, and_then, World, stored, Run, deed, final, write, Layout, Words, Reply, Script}
+use Rattle.rmeworld.proofs.Common.{has, Place, next, Rest, Leaving, Inside, Wait, Dead, Event, Starts, Crashes, Steps, is_store, step_deed, and_then, World, words_after_event, Run, deed, final, write, Layout, Words, Reply, Script}
 use Rattle.rmeworld.proofs.Common.{Get as Asks, Put as Writes, Done, script, Call, Lock, Unlock, Recover, Purpose, Ruining, Checking, is_entry, core_of, ScriptState, Free, Doing, ProcessState, WorldEvent, Begins, Moves}
-use Rattle.rmeworld.proofs.Common.{who, settled, script_state_entered, at_lock, begun_from, next_process_state, outer, only_process_state, mended_entered, GlobalState, Reads, reading, cells_after, words_after, Execution, onward, last_global_state}
+use Rattle.rmeworld.proofs.Common.{who, process_after_script, script_state_entered, at_lock, begun_from, next_process_state, lock_deed, only_process_state, mended_entered, GlobalState, ReadsWord, reading, cells_after, words_after, Execution, state_after_event, last_global_state}
 use Rattle.rmecore.specs.HomeState.{CanComeHome as LockCanComeHome, CanStillEnter as LockCanStillEnter, EnterInLine, IsUninterrupted as IsUninterruptedOfLock, entries}
-use Rattle.rmecore.specs.Place.{started, process}
+use Rattle.rmecore.specs.Place.{place_after_start, process}
 use Rattle.rmecore.specs.World.{May, after, deeds as lock_deeds_of, read}
 use Rattle.rmecore.specs.declared.core_call.CoreCall.TheVariants as core
 use Rattle.rmecore.specs.declared.word.Word.TheVariants.{Inside as InsideOf}
@@ -42,7 +42,7 @@ pub record Settles (p : ℕ) (Ends : ProcessState → Type 0) (w w' : GlobalStat
   pub here : Ends (w'.process_states p)
 
 abbrev Ending : Type 0 → Bool → Bool → Purpose → Reply → Type 0
-Ending S b c purpose a = IsAt S Inside (settled b c purpose (Done a))
+Ending S b c purpose a = IsAt S Inside (process_after_script b c purpose (Done a))
 
 -- the end of a script under way: inside, or at the start of the exit of a ruined lock
 script_ends : (S : Type 0) (b c : Bool) (purpose : Purpose) (left : Script Reply) → HasStep left → Orderly (Doing purpose left) → (S → IsRuining (Doing purpose left) → ⊥) → Replies S (Ending S b c purpose) left
@@ -62,7 +62,7 @@ some_place None some = absurd (cc)
 some_place (Some t) some = (t, refl)
 
 -- a start is no entry
-no_entry : (s : Place) (call : CoreCall) (t : Place) → started s call ≡ Some t → is_entry s t ≡ false
+no_entry : (s : Place) (call : CoreCall) (t : Place) → place_after_start s call ≡ Some t → is_entry s t ≡ false
 no_entry Rest core.Lock t e = subst (λ x. is_entry Rest x ≡ false) (some_is _ t e) refl
 no_entry Rest core.Recover t e = subst (λ x. is_entry Rest x ≡ false) (some_is _ t e) refl
 no_entry Dead core.Lock t e = subst (λ x. is_entry Dead x ≡ false) (some_is _ t e) refl
@@ -71,12 +71,12 @@ no_entry Inside core.Unlock t e = subst (λ x. is_entry Inside x ≡ false) (som
 no_entry (Wait k unpassed looked) core.Withdraw t e = subst (λ x. is_entry (Wait k unpassed looked) x ≡ false) (some_is _ t e) refl
 no_entry _ _ t e = absurd (cc)
 
-unlock_from : (s t : Place) → started s core.Unlock ≡ Some t → (s ≡ Inside) × (t ≡ Leaving)
+unlock_from : (s t : Place) → place_after_start s core.Unlock ≡ Some t → (s ≡ Inside) × (t ≡ Leaving)
 unlock_from Inside t e = (refl, sym (some_is _ t e))
 unlock_from _ t e = absurd (cc)
 
 -- a start inside is an unlock
-start_inside : (call : CoreCall) (t : Place) → started Inside call ≡ Some t → t ≡ Leaving
+start_inside : (call : CoreCall) (t : Place) → place_after_start Inside call ≡ Some t → t ≡ Leaving
 start_inside core.Unlock t e = sym (some_is _ t e)
 start_inside _ t e = absurd (cc)
 
@@ -109,22 +109,22 @@ module _ (l : Layout) (limit : ℕ) (S : Type 0) where
   stop : (w : GlobalState) (P : GlobalState → Type 0) → P w → Continues w [] P
   stop w P h = record { events = []; execution = tt; uninterrupted = All-nil IsUninterrupted; same = refl; no_ruin = λ _. All-nil IsNoRuin; ends = h }
 
-  by_event : (w : GlobalState) (e : WorldEvent) (s : ProcessState) (d : Option Outer) (ds : List Outer) (P : GlobalState → Type 0) → who e < l.procs → next_process_state l limit (w.process_states (who e)) e ≡ Some s → Reads w e → IsUninterrupted e
-      → outer (w.process_states (who e)) e ≡ d → Kept w → (S → IsHarmless l w.cells e × Keeps s.script_state)
+  by_event : (w : GlobalState) (e : WorldEvent) (s : ProcessState) (d : Option Outer) (ds : List Outer) (P : GlobalState → Type 0) → who e < l.procs → next_process_state l limit (w.process_states (who e)) e ≡ Some s → ReadsWord w e → IsUninterrupted e
+      → lock_deed (w.process_states (who e)) e ≡ d → Kept w → (S → IsHarmless l w.cells e × Keeps s.script_state)
       → (Kept (record { words = words_after w.words e; cells = cells_after l w.cells e; process_states = put w.process_states (who e) s }) → Continues (record { words = words_after w.words e; cells = cells_after l w.cells e; process_states = put w.process_states (who e) s }) ds P)
       → Continues w (and_then d ds) P
   by_event w e s d ds P below next reads whole is kept harmless rest =
       let here : Option ProcessState → GlobalState = λ o. record { words = words_after w.words e; cells = cells_after l w.cells e; process_states = put w.process_states (who e) (unwrap_or o (w.process_states (who e))) } in
       let now : Kept (here (Some s)) = λ h. kept_put l.procs (who e) w (here (Some s)) s (kept h) (harmless h).0.ruined refl (harmless h).1 in
-      let on : Continues (onward l limit w e) ds P = subst (λ o. Continues (here o) ds P) (sym next) (rest now) in
+      let on : Continues (state_after_event l limit w e) ds P = subst (λ o. Continues (here o) ds P) (sym next) (rest now) in
       record {
         events = e ∷ on.events;
         execution = ((below, subst (λ o. IsSome o) (sym next) refl, reads), on.execution);
         uninterrupted = All-cons IsUninterrupted e on.events whole on.uninterrupted;
-        same = ap (λ o. and_then o (outers l limit (onward l limit w e) on.events)) is ∙ ap (and_then d) on.same;
+        same = ap (λ o. and_then o (outers l limit (state_after_event l limit w e) on.events)) is ∙ ap (and_then d) on.same;
         no_ruin = λ h.
-            All-append IsNoRuin (event_deeds l w e) (deeds l limit (onward l limit w e) on.events)
-            (All-append IsNoRuin (outer_deeds (outer (w.process_states (who e)) e)) (mail_deeds l w.cells e) (no_ruin_of_lock (outer (w.process_states (who e)) e)) (harmless h).0.deeds) (on.no_ruin h);
+            All-append IsNoRuin (event_deeds l w e) (deeds l limit (state_after_event l limit w e) on.events)
+            (All-append IsNoRuin (outer_deeds (lock_deed (w.process_states (who e)) e)) (mail_deeds l w.cells e) (no_ruin_of_lock (lock_deed (w.process_states (who e)) e)) (harmless h).0.deeds) (on.no_ruin h);
         ends = on.ends;
       }
 
@@ -133,27 +133,27 @@ module _ (l : Layout) (limit : ℕ) (S : Type 0) where
   Next p Ends w ds P = (w' : GlobalState) → Settles p Ends w w' → Kept w' → Continues w' ds P
 
   -- a script to its end
-  finish : (Ends : ProcessState → Type 0) (ds : List Outer) (P : GlobalState → Type 0) (p : ℕ) → p < l.procs → (b c : Bool) (purpose : Purpose) (left : Script Reply) → Replies S (λ a. Ends (settled b c purpose (Done a))) left → (w : GlobalState) → Kept w
-      → w.process_states p ≡ settled b c purpose left → Next p Ends w ds P → Continues w ds P
+  finish : (Ends : ProcessState → Type 0) (ds : List Outer) (P : GlobalState → Type 0) (p : ℕ) → p < l.procs → (b c : Bool) (purpose : Purpose) (left : Script Reply) → Replies S (λ a. Ends (process_after_script b c purpose (Done a))) left → (w : GlobalState) → Kept w
+      → w.process_states p ≡ process_after_script b c purpose left → Next p Ends w ds P → Continues w ds P
   finish Ends ds P p below b c purpose (Done a) ends w kept is k = k w (record { words = refl; others = λ q ne. refl; here = subst Ends (sym is) ends }) kept
   finish Ends ds P p below b c purpose (Asks i rest) ends w kept is k =
       let v : ℕ = w.cells i in
       let e : WorldEvent = Moves p Gets (DataAt i) v in
-      let s : ProcessState = settled b c purpose (rest v) in
+      let s : ProcessState = process_after_script b c purpose (rest v) in
       let w' : GlobalState = record { words = w.words; cells = w.cells; process_states = put w.process_states p s } in
       let to : next_process_state l limit (w.process_states p) e ≡ Some s = ap (λ z. next_process_state l limit z e) is ∙ ap (λ t. only_process_state t s) (eq-eqb i i refl) in
       let keeps : S → Keeps (Doing purpose (Asks i rest)) = λ h. subst (λ (z : ProcessState). Keeps z.script_state) is ((kept h).scripts p below) in
-      by_event w e s None ds P below to (λ _. refl) tt (ap (λ z. outer z e) is) kept (λ h. (harmless_get l w.cells p i v, keeps_after_get b c purpose i v rest (keeps h)))
+      by_event w e s None ds P below to (λ _. refl) tt (ap (λ z. lock_deed z e) is) kept (λ h. (harmless_get l w.cells p i v, keeps_after_get b c purpose i v rest (keeps h)))
       (λ now. finish Ends ds P p below b c purpose (rest v) (ends v (λ h zero_is. ap w.cells zero_is ∙ (kept h).ruined)) w' now (put_same w.process_states p s) (λ u h later. k u (settles_after p Ends w u w.cells s h) later))
   finish Ends ds P p below b c purpose (Writes i x rest) ends w kept is k =
       let e : WorldEvent = Moves p Puts (DataAt i) x in
-      let s : ProcessState = settled b c purpose rest in
+      let s : ProcessState = process_after_script b c purpose rest in
       let same : ((i == i) && (x == x)) ≡ true = rw (eq-eqb i i refl, eq-eqb x x refl) refl in
       let to : next_process_state l limit (w.process_states p) e ≡ Some s = ap (λ z. next_process_state l limit z e) is ∙ ap (λ t. only_process_state t s) same in
       let cells : Words = cells_after l w.cells e in
       let w' : GlobalState = record { words = w.words; cells = cells; process_states = put w.process_states p s } in
       let keeps : S → Keeps (Doing purpose (Writes i x rest)) = λ h. subst (λ (z : ProcessState). Keeps z.script_state) is ((kept h).scripts p below) in
-      by_event w e s None ds P below to (λ load. absurd (cc)) tt (ap (λ z. outer z e) is) kept (λ h. (harmless_put l w.cells p i x (keeps_put purpose i x rest (keeps h)), keeps_after_put b c purpose i x rest (keeps h)))
+      by_event w e s None ds P below to (λ load. absurd (cc)) tt (ap (λ z. lock_deed z e) is) kept (λ h. (harmless_put l w.cells p i x (keeps_put purpose i x rest (keeps h)), keeps_after_put b c purpose i x rest (keeps h)))
       (λ now. finish Ends ds P p below b c purpose rest ends w' now (put_same w.process_states p s) (λ u h later. k u (settles_after p Ends w u cells s h) later))
 
   -- the same lock words, and each process follows the lock's
@@ -189,7 +189,7 @@ module _ (l : Layout) (limit : ℕ) (S : Type 0) where
   module _ (p : ℕ) (below : p < l.procs) (ds : List Outer) (P : GlobalState → Type 0) (v : World) where
     -- a start of the lock's part
     starts : (w : GlobalState) → Matches v w → Kept w → (call : Call) (part : CoreCall) (s : Place) (b : Bool) (t : Place)
-        → begun_from l p (w.process_states p).lock (w.process_states p).mended (w.process_states p).script_state call ≡ at_lock l p s b false (started s part) → started s part ≡ Some t → IsUninterrupted (Begins p call) → Then p v t v.words ds P → Continues w ds P
+        → begun_from l p (w.process_states p).lock (w.process_states p).mended (w.process_states p).script_state call ≡ at_lock l p s b false (place_after_start s part) → place_after_start s part ≡ Some t → IsUninterrupted (Begins p call) → Then p v t v.words ds P → Continues w ds P
     starts w m kept call part s b t begun is whole k =
         let x : ProcessState = record { lock = t; mended = mended_entered b s t; barred = false; script_state = script_state_entered l p s t } in
         let w' : GlobalState = record { words = w.words; cells = w.cells; process_states = put w.process_states p x } in
@@ -199,10 +199,10 @@ module _ (l : Layout) (limit : ℕ) (S : Type 0) where
         (k w' (matches_put v w w' p t v.words m m.words (put_other w.process_states p x) (subst (IsAt S t) (sym (put_same w.process_states p x)) here)))
 
     -- an unlock of a holder that is not mended, in a lock that was ruined
-    ruins : (w : GlobalState) → Matches v w → Kept w → (S → ⊥) → begun_from l p (w.process_states p).lock (w.process_states p).mended (w.process_states p).script_state Unlock ≡ Some (settled false false Ruining (script l p task.Ruin)) → Then p v Leaving v.words ds P
+    ruins : (w : GlobalState) → Matches v w → Kept w → (S → ⊥) → begun_from l p (w.process_states p).lock (w.process_states p).mended (w.process_states p).script_state Unlock ≡ Some (process_after_script false false Ruining (script l p task.Ruin)) → Then p v Leaving v.words ds P
         → Continues w ds P
     ruins w m kept not begun k =
-        let x : ProcessState = settled false false Ruining (script l p task.Ruin) in
+        let x : ProcessState = process_after_script false false Ruining (script l p task.Ruin) in
         let w' : GlobalState = record { words = w.words; cells = w.cells; process_states = put w.process_states p x } in
         by_event w (Begins p Unlock) x None ds P below begun tt tt refl kept (λ h. absurd (not h))
         (λ now. finish (IsAt S Leaving) ds P p below false false Ruining (script l p task.Ruin) (record { free = refl; at = inl refl }) w' now (put_same w.process_states p x)
@@ -212,11 +212,11 @@ module _ (l : Layout) (limit : ℕ) (S : Type 0) where
     mends : (w : GlobalState) → Matches v w → Kept w → v.places p ≡ Inside → (w.process_states p).lock ≡ Inside → (w.process_states p).mended ≡ false → (w.process_states p).script_state ≡ Free
         → ((w' : GlobalState) → Matches v w' → Kept w' → IsMended S (w'.process_states p) → Continues w' ds P) → Continues w ds P
     mends w m kept place at fails free k =
-        let x : ProcessState = settled false false Mending (consistent l p) in
+        let x : ProcessState = process_after_script false false Mending (consistent l p) in
         let w' : GlobalState = record { words = w.words; cells = w.cells; process_states = put w.process_states p x } in
         let begun : begun_from l p (w.process_states p).lock (w.process_states p).mended (w.process_states p).script_state Consistent ≡ Some x = λ i. begun_from l p (at i) (fails i) (free i) Consistent in
         by_event w (Begins p Consistent) x None ds P below begun tt tt refl kept (λ _. (harmless_start l w.cells p Consistent, (consistent_keeps l p, λ h. h)))
-        (λ now. finish (IsMended S) ds P p below false false Mending (consistent l p) (consistent_replies S (λ a. IsMended S (settled false false Mending (Done a))) l p (λ b. (refl, refl, inl refl)) (λ no. (refl, refl, inr (refl, no)))) w' now (put_same w.process_states p x)
+        (λ now. finish (IsMended S) ds P p below false false Mending (consistent l p) (consistent_replies S (λ a. IsMended S (process_after_script false false Mending (Done a))) l p (λ b. (refl, refl, inl refl)) (λ no. (refl, refl, inr (refl, no)))) w' now (put_same w.process_states p x)
         (λ u h later. k u
         (matches_still v w u p m h.words (λ q ne. h.others q ne ∙ put_other w.process_states p x q ne) (record { free = h.here.1; at = inl (h.here.0 ∙ sym place) })) later h.here))
 
@@ -239,7 +239,7 @@ module _ (l : Layout) (limit : ℕ) (S : Type 0) where
     free : s.script_state ≡ Free
     free = (m.follows p below).free
 
-    begins_by : (s.lock ≡ v.places p) ⊎ ((v.places p ≡ Inside) × (s.lock ≡ Leaving) × (S → ⊥)) → (part : CoreCall) (t : Place) → started (v.places p) part ≡ Some t → IsUninterruptedOfLock (Starts p part) → Then p v t v.words ds P → Continues w ds P
+    begins_by : (s.lock ≡ v.places p) ⊎ ((v.places p ≡ Inside) × (s.lock ≡ Leaving) × (S → ⊥)) → (part : CoreCall) (t : Place) → place_after_start (v.places p) part ≡ Some t → IsUninterruptedOfLock (Starts p part) → Then p v t v.words ds P → Continues w ds P
     begins_by at core.Withdraw t is whole k = absurd whole
     begins_by (inl same) core.Lock t is whole k = starts p below ds P v w m kept Lock core.Lock (v.places p) s.mended t (λ i. begun_from l p (same i) s.mended (free i) Lock) is tt k
     begins_by (inl same) core.Recover t is whole k = starts p below ds P v w m kept Recover core.Recover (v.places p) s.mended t (λ i. begun_from l p (same i) s.mended (free i) Recover) is tt k
@@ -252,16 +252,16 @@ module _ (l : Layout) (limit : ℕ) (S : Type 0) where
           | inr fails ↦ mends p below ds P v w m kept from.0 at fails free (λ u h later mended. unlocks p below ds P v u h later from.0 mended leaves)
         ]
     begins_by (inr h) part t is whole k =
-        let leaves : t ≡ Leaving = start_inside part t (subst (λ z. started z part ≡ Some t) h.0 is) in
+        let leaves : t ≡ Leaving = start_inside part t (subst (λ z. place_after_start z part ≡ Some t) h.0 is) in
         stays t v.words m.words (record { free = free; at = inl (h.1 ∙ sym leaves) }) k
 
-    begins : (part : CoreCall) (t : Place) → started (v.places p) part ≡ Some t → IsUninterruptedOfLock (Starts p part) → Then p v t v.words ds P → Continues w ds P
+    begins : (part : CoreCall) (t : Place) → place_after_start (v.places p) part ≡ Some t → IsUninterruptedOfLock (Starts p part) → Then p v t v.words ds P → Continues w ds P
     begins part t is whole k = begins_by (m.follows p below).at part t is whole k
 
     -- a step of the lock's part
-    moves : (kind : Kind) (word : Word) (x : ℕ) (t : Place) → (w.process_states p).lock ≡ v.places p → next l.procs limit p (v.places p) kind word x ≡ Some t → (is_store kind ≡ false → read v.words word ≡ x) → Then p v t (stored v.words (Steps p kind word x)) ds P
+    moves : (kind : Kind) (word : Word) (x : ℕ) (t : Place) → (w.process_states p).lock ≡ v.places p → next l.procs limit p (v.places p) kind word x ≡ Some t → (is_store kind ≡ false → read v.words word ≡ x) → Then p v t (words_after_event v.words (Steps p kind word x)) ds P
         → Continues w (and_then (step_deed p (v.places p) kind x) ds) P
-    moves kind word x t same is told k =
+    moves kind word x t same is reports k =
         let at : Place = v.places p in
         let b : Bool = s.mended in
         let c : Bool = s.barred in
@@ -269,47 +269,47 @@ module _ (l : Layout) (limit : ℕ) (S : Type 0) where
         let state : s ≡ record { lock = at; mended = b; barred = c; script_state = Free } = λ i. record { lock = same i; mended = b; barred = c; script_state = free i } in
         let to : ProcessState = record { lock = t; mended = mended_entered b at t; barred = c; script_state = script_state_entered l p at t } in
         let w' : GlobalState = record { words = words_after w.words e; cells = cells_after l w.cells e; process_states = put w.process_states p to } in
-        let words : w'.words ≡ stored v.words (Steps p kind word x) = ap (λ z. words_after z e) m.words in
+        let words : w'.words ≡ words_after_event v.words (Steps p kind word x) = ap (λ z. words_after z e) m.words in
         let some : IsSome (next l.procs limit p at kind word x) = subst (λ o. IsSome o) (sym is) refl in
-        let reads : Reads w e = λ load. reads_lock l.procs limit p at kind word x w some (subst (λ z. read z word ≡ x) (sym m.words) (told load)) in
-        by_event w e to (step_deed p at kind x) ds P below (ap (λ z. next_process_state l limit z e) state ∙ ap (at_lock l p at b c) is) reads tt (ap (λ z. outer z e) state) kept (λ _. (harmless_step l limit w.cells p at kind word x some, entered_keeps l p at t)) (
+        let reads : ReadsWord w e = λ load. reads_lock l.procs limit p at kind word x w some (subst (λ z. read z word ≡ x) (sym m.words) (reports load)) in
+        by_event w e to (step_deed p at kind x) ds P below (ap (λ z. next_process_state l limit z e) state ∙ ap (at_lock l p at b c) is) reads tt (ap (λ z. lock_deed z e) state) kept (λ _. (harmless_step l limit w.cells p at kind word x some, entered_keeps l p at t)) (
         λ now. elim (cases_Bool (is_entry at t)) [
           | inl holds ↦
               (let inside : t ≡ Inside = entry_inside at t holds in
               let checks : script_state_entered l p at t ≡ Doing Checking (script l p task.Check) = ap (λ (z : Bool). if z then Doing Checking (script l p task.Check) else Free) holds in
-              let started : put w.process_states p to p ≡ settled (mended_entered b at t) c Checking (script l p task.Check) = put_same w.process_states p to ∙ (λ i. record { lock = inside i; mended = mended_entered b at t; barred = c; script_state = checks i }) in
-              finish (IsAt S Inside) ds P p below (mended_entered b at t) c Checking (script l p task.Check) (script_ends S (mended_entered b at t) c Checking (script l p task.Check) tt (refl, λ x. refl) (λ _ h. h)) w' now started
-              (λ u h later. k u (matches_put v w u p t (stored v.words (Steps p kind word x)) m (h.words ∙ words) (λ q ne. h.others q ne ∙ put_other w.process_states p to q ne) (subst (λ z. IsAt S z (u.process_states p)) (sym inside) h.here)) later))
+              let place_after_start : put w.process_states p to p ≡ process_after_script (mended_entered b at t) c Checking (script l p task.Check) = put_same w.process_states p to ∙ (λ i. record { lock = inside i; mended = mended_entered b at t; barred = c; script_state = checks i }) in
+              finish (IsAt S Inside) ds P p below (mended_entered b at t) c Checking (script l p task.Check) (script_ends S (mended_entered b at t) c Checking (script l p task.Check) tt (refl, λ x. refl) (λ _ h. h)) w' now place_after_start
+              (λ u h later. k u (matches_put v w u p t (words_after_event v.words (Steps p kind word x)) m (h.words ∙ words) (λ q ne. h.others q ne ∙ put_other w.process_states p to q ne) (subst (λ z. IsAt S z (u.process_states p)) (sym inside) h.here)) later))
           | inr fails ↦
               (let free : script_state_entered l p at t ≡ Free = ap (λ (z : Bool). if z then Doing Checking (script l p task.Check) else Free) fails in
               let here : IsAt S t to = record { free = free; at = inl refl } in
-              k w' (matches_put v w w' p t (stored v.words (Steps p kind word x)) m words (put_other w.process_states p to) (subst (IsAt S t) (sym (put_same w.process_states p to)) here)) now)
+              k w' (matches_put v w w' p t (words_after_event v.words (Steps p kind word x)) m words (put_other w.process_states p to) (subst (IsAt S t) (sym (put_same w.process_states p to)) here)) now)
         ]
         )
 
-    steps : (kind : Kind) (word : Word) (x : ℕ) (t : Place) → next l.procs limit p (v.places p) kind word x ≡ Some t → (is_store kind ≡ false → read v.words word ≡ x) → Then p v t (stored v.words (Steps p kind word x)) ds P → Continues w (and_then (step_deed p (v.places p) kind x) ds) P
-    steps kind word x t is told k =
+    steps : (kind : Kind) (word : Word) (x : ℕ) (t : Place) → next l.procs limit p (v.places p) kind word x ≡ Some t → (is_store kind ≡ false → read v.words word ≡ x) → Then p v t (words_after_event v.words (Steps p kind word x)) ds P → Continues w (and_then (step_deed p (v.places p) kind x) ds) P
+    steps kind word x t is reports k =
         elim (m.follows p below).at [
-          | inl same ↦ moves kind word x t same is told k
+          | inl same ↦ moves kind word x t same is reports k
           | inr h ↦
               (let r = step_inside l.procs limit p kind word x t (subst (λ z. next l.procs limit p z kind word x ≡ Some t) h.0 is) in
-              let words : stored v.words (Steps p kind word x) ≡ v.words = ap (λ (z : Bool). if z then write v.words word x else v.words) r.1 in
+              let words : words_after_event v.words (Steps p kind word x) ≡ v.words = ap (λ (z : Bool). if z then write v.words word x else v.words) r.1 in
               let none : step_deed p (v.places p) kind x ≡ None = ap (λ z. step_deed p z kind x) h.0 ∙ r.2 in
-              subst (λ d. Continues w (and_then d ds) P) (sym none) (stays t (stored v.words (Steps p kind word x)) (m.words ∙ sym words) (record { free = free; at = inr (r.0, h.1, h.2) }) k))
+              subst (λ d. Continues w (and_then d ds) P) (sym none) (stays t (words_after_event v.words (Steps p kind word x)) (m.words ∙ sym words) (record { free = free; at = inr (r.0, h.1, h.2) }) k))
         ]
 
   -- one event of the lock
   follow : (v : World) (w : GlobalState) (e : Event) (ds : List Outer) (P : GlobalState → Type 0) → Matches v w → Kept w → May l.procs limit v e → IsUninterruptedOfLock e → ((w' : GlobalState) → Matches (after l.procs limit v e) w' → Kept w' → Continues w' ds P)
       → Continues w (and_then (deed (v.places (process e)) e) ds) P
   follow v w (Starts p part) ds P m kept may whole k =
-      let r = some_place (started (v.places p) part) may.1 in
-      let to : r.0 ≡ unwrap_or (started (v.places p) part) (v.places p) = sym (ap (λ o. unwrap_or o (v.places p)) r.1) in
+      let r = some_place (place_after_start (v.places p) part) may.1 in
+      let to : r.0 ≡ unwrap_or (place_after_start (v.places p) part) (v.places p) = sym (ap (λ o. unwrap_or o (v.places p)) r.1) in
       begins v w m kept p may.0 ds P part r.0 r.1 whole (λ w' h. k w' (subst (λ z. Matches (record { words = v.words; places = put v.places p z }) w') to h))
   follow v w (Crashes p) ds P m kept may whole k = absurd whole
   follow v w (Steps p kind word x) ds P m kept may whole k =
       let r = some_place (next l.procs limit p (v.places p) kind word x) may.1 in
       let to : r.0 ≡ unwrap_or (next l.procs limit p (v.places p) kind word x) (v.places p) = sym (ap (λ o. unwrap_or o (v.places p)) r.1) in
-      steps v w m kept p may.0 ds P kind word x r.0 r.1 may.2 (λ w' h. k w' (subst (λ z. Matches (record { words = stored v.words (Steps p kind word x); places = put v.places p z }) w') to h))
+      steps v w m kept p may.0 ds P kind word x r.0 r.1 may.2 (λ w' h. k w' (subst (λ z. Matches (record { words = words_after_event v.words (Steps p kind word x); places = put v.places p z }) w') to h))
 
   -- where a continuation of the lock's run has been followed
   pub record Followed (v : World) (w : GlobalState) : Type 0 where
@@ -324,12 +324,12 @@ module _ (l : Layout) (limit : ℕ) (S : Type 0) where
 
   -- the script of one process, if it has one
   finish_doing : (ds : List Outer) (P : GlobalState → Type 0) (p : ℕ) → p < l.procs → (w : GlobalState) → Kept w → (purpose : Purpose) (left : Script Reply) → HasStep left → Orderly (Doing purpose left) → (w.process_states p).lock ≡ Inside
-      → (w.process_states p).script_state ≡ Doing purpose left → w.process_states p ≡ settled (w.process_states p).mended (w.process_states p).barred purpose left → Next p (IsAt S (w.process_states p).lock) w ds P → Continues w ds P
+      → (w.process_states p).script_state ≡ Doing purpose left → w.process_states p ≡ process_after_script (w.process_states p).mended (w.process_states p).barred purpose left → Next p (IsAt S (w.process_states p).lock) w ds P → Continues w ds P
   finish_doing ds P p below w kept purpose left step orderly inside doing is k =
       let s : ProcessState = w.process_states p in
       let not : S → IsRuining (Doing purpose left) → ⊥ = λ h. subst (λ z. IsRuining z → ⊥) doing ((kept h).scripts p below).1 in
       let ends : Replies S (Ending S s.mended s.barred purpose) left = script_ends S s.mended s.barred purpose left step orderly not in
-      finish (IsAt S s.lock) ds P p below s.mended s.barred purpose left (subst (λ z. Replies S (λ a. IsAt S z (settled s.mended s.barred purpose (Done a))) left) (sym inside) ends) w kept is k
+      finish (IsAt S s.lock) ds P p below s.mended s.barred purpose left (subst (λ z. Replies S (λ a. IsAt S z (process_after_script s.mended s.barred purpose (Done a))) left) (sym inside) ends) w kept is k
 
   finish_one : (ds : List Outer) (P : GlobalState → Type 0) (p : ℕ) → p < l.procs → (w : GlobalState) → Kept w → (script_state : ScriptState) → (w.process_states p).script_state ≡ script_state → Held script_state (w.process_states p).lock → Orderly script_state
       → Next p (IsAt S (w.process_states p).lock) w ds P → Continues w ds P

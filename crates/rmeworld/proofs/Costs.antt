@@ -1,6 +1,6 @@
 -- Each script of a call ends with the table's number for its reply.
 use Rattle.std.proofs.Common.{◌≡◌, ℕ, zero, suc, ◌+◌, ◌*◌, ◌≤◌, true, ◌==◌, List, [], ◌∷◌, ◌++◌, length, Option, Some, refl, ap, ◌∙◌, arith, length-append, nat_le, nat_lt}
-use Rattle.rmeworld.proofs.Common.{cond_both, Layout, Record, Reply, Script, Get as Asks, Put as Writes, Done, puts, gets, consistent, apply_steps, store_steps, record_of, decided, append, redo}
+use Rattle.rmeworld.proofs.Common.{cond_both, Layout, Record, Reply, Script, Get as Asks, Put as Writes, Done, puts, gets, consistent, apply_steps, store_steps, record_of, append_decision, append, redo}
 use Rattle.rmeworld.proofs.Common.{repair, close, length-store_steps, task_steps, mending_steps, Costs}
 use Rattle.redomail.specs.declared.reply.Reply.TheVariants as reply
 use Rattle.redomail.specs.declared.task.Task.TheVariants as task
@@ -20,7 +20,7 @@ costs-gets f i (suc n) read next steps h = λ v.
     costs-gets f (i + 1) n (read ++ v ∷ []) next (steps + 1) (λ xs is. rw e at (h xs (omega arith)))
 
 module _ (l : Layout) (p : ℕ) where
-  decided_costs : (seq : ℕ) (value : List ℕ) (closed count last : ℕ) → length value ≡ l.width → Costs (task_steps l (task.Append seq value)) (decided l p seq value closed count last) 3
+  decided_costs : (seq : ℕ) (value : List ℕ) (closed count last : ℕ) → length value ≡ l.width → Costs (task_steps l (task.Append seq value)) (append_decision l p seq value closed count last) 3
   decided_costs seq value closed count last wide =
       let P : Option Reply → Type 0 = λ o. Costs (task_steps l (task.Append seq value)) (unless_replied o (puts (store_steps l p (record_of count seq value)) (Done reply.Stored))) 3 in
       cond_both (seq == 0) _ _ P (λ _. refl) (λ _.

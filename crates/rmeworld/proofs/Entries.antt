@@ -1,8 +1,8 @@
 -- The core answers In, InAgain or Found(Inside) exactly when the process becomes inside.
 use Rattle.std.proofs.Common.{◌≡◌, ℕ, zero, suc, Bool, false, [], ◌∷◌, Option, Some, None, IsSome, IfSome, unwrap_or, refl}
 use Rattle.rmeworld.proofs.Common.{Access, CoreCall as Call, CoreDone, Rereads, Shut as Shuts, Mark as Marks, Standing, kind_of, word_of, answer, progress}
-use Rattle.rmeworld.proofs.Common.{after_access, lock_access as next_access, carried, Place, next, Reread, Shutting, Unmarking, Inside}
-use Rattle.rmeworld.proofs.Common.{restart, shut, unmarked, is_entry, checks_done, mended_done, mended_entered}
+use Rattle.rmeworld.proofs.Common.{after_access, lock_access as next_access, carried_value, Place, next, Reread, Shutting, Unmarking, Inside}
+use Rattle.rmeworld.proofs.Common.{restart, shut, place_after_unmark, is_entry, checks_done, mended_done, mended_entered}
 use Rattle.rmecore.specs.declared.core_call.CoreCall.TheVariants.{Lock}
 use Rattle.rmecore.specs.Machine.{IsAllowed}
 use Rattle.rmecore.specs.Paid.{is_glance}
@@ -25,7 +25,7 @@ shuts : (n p : ℕ) (call : Call) (k v : ℕ) → Enters (answer (Shutting call 
 shuts n p Lock k v = (refl, λ b. refl)
 shuts n p _ k v = (refl, λ b. refl)
 
-unmarks : (call : Call) (v : ℕ) → Enters (answer (Unmarking call) Marks v) (Unmarking call) (unmarked call)
+unmarks : (call : Call) (v : ℕ) → Enters (answer (Unmarking call) Marks v) (Unmarking call) (place_after_unmark call)
 unmarks Lock v = (refl, λ b. refl)
 unmarks _ v = (refl, λ b. refl)
 
@@ -55,7 +55,7 @@ entered n limit p =
 -- the core's answer decides whether the process has entered
 of_step : (s : Standing) (v : ℕ) (o : Option Access) → IfSome o (IsAllowed s) → IfSome o (λ a. is_glance (kind_of a) ≡ false) → Enters None s.place s.place → Enters (progress s o v).done s.place (after_access s o v)
 of_step s v None h moves same = same
-of_step s v (Some a) h moves same = entered s.procs s.limit s.index s.place (kind_of a) (word_of a) (carried a v) (h v) moves
+of_step s v (Some a) h moves same = entered s.procs s.limit s.index s.place (kind_of a) (word_of a) (carried_value a v) (h v) moves
 
 pub stays : (s : Place) → Enters None s s
 stays Inside = (refl, λ b. refl)

@@ -1,11 +1,11 @@
 -- Every event keeps the invariant, so every execution is sound.
 use Rattle.std.proofs.Common.{◌≡◌, ℕ, zero, suc, nat_lt, ◌<◌, Bool, true, false, ◌&&◌, ◌==◌, if◌then◌else◌, List, [], ◌∷◌, Option, Some, None, IsSome, refl, sym, ap, ◌∙◌, subst, inl, inr, ◌⊎◌, arith, eqb-true, ltb-true, lt-ltb}
 use Rattle.rmeworld.proofs.Common.{cases_Bool, cases_eq, and_parts, Kind, Gets, Puts, Outer, Crash, Own, Word, Data as DataAt, Abstract, Legal, nobody, dead_phase, start_of, put, Place, next}
-use Rattle.rmeworld.proofs.Common.{is_before, IsIn, is_store, step_deed, and_then, put_same, put_other, after_deed as done_by, sole_nobody, not_data, Layout, deeds_of_put, NewWords, Words, IsLayout}
-use Rattle.rmeworld.proofs.Common.{size, Mailbox, nothing_shown, Get, Put, Leads, State, judged_all-append, Sits, IsLater, ScriptStateTells, Sound, outer_by, ScriptState, Free, Doing, ProcessState, dead, WorldEvent}
-use Rattle.rmeworld.proofs.Common.{Begins, Falls, Moves, Glances, who, settled, moved_by, next_process_state, outer, reading, event_deeds, GlobalState, at_first, Reads as GlobalState-Reads, put_cell, cells_after, Execution}
-use Rattle.rmeworld.proofs.Common.{onward, mail_deeds, deeds}
-use Rattle.rmeworld.specs.Law.{Tells}
+use Rattle.rmeworld.proofs.Common.{is_before, IsInSection, is_store, step_deed, and_then, put_same, put_other, after_deed as done_by, sole_nobody, not_data, Layout, deeds_of_put, NewWords, Words, IsLayout}
+use Rattle.rmeworld.proofs.Common.{size, Mailbox, nothing_shown, Get, Put, Leads, State, judged_all-append, Sits, IsLater, ScriptStateTells, Sound, outer_by, ScriptState, Free, Doing, ProcessState, dead_process, WorldEvent}
+use Rattle.rmeworld.proofs.Common.{Begins, Falls, Moves, Glances, who, process_after_script, moved_by, next_process_state, lock_deed, reading, event_deeds, GlobalState, at_first, ReadsWord as GlobalState-Reads, put_cell, cells_after, Execution}
+use Rattle.rmeworld.proofs.Common.{state_after_event, mail_deeds, deeds}
+use Rattle.rmeworld.specs.Law.{EventEndsAppend}
 use Rattle.rmeworld.proofs.Projection.{at_lock_some, only_some, some_of, outers}
 use Rattle.rmeworld.proofs.Knowing.{Post, PostAt}
 use Rattle.rmeworld.proofs.WorldEvents.{AllowsBy, judge_of, Kept, Outcome, nothing, begins, falls, gets, puts, locks}
@@ -34,7 +34,7 @@ before_is x p y q e =
     ]
 
 -- a process that crashed inside had a number and a mark
-pub in_numbers : (c x i : ℕ) → IsIn (dead_phase c x i) → (0 < x) × (0 < i)
+pub in_numbers : (c x i : ℕ) → IsInSection (dead_phase c x i) → (0 < x) × (0 < i)
 in_numbers c (suc x) (suc i) h = (omega arith, omega arith)
 in_numbers zero _ _ h = absurd h
 in_numbers _ _ _ h = absurd h
@@ -43,7 +43,7 @@ module _ (l : Layout) (limit : ℕ) (layout : IsLayout l) where
   -- the state after one event, and the meaning of its answer
   abbrev pub Left : GlobalState → Abstract → Mailbox → WorldEvent → ProcessState → Type 0
   Left w a m e s' =
-      (o : Outcome l a w.cells m (who e) (outer (w.process_states (who e)) e) (mail_deeds l w.cells e) (cells_after l w.cells e) s') × Tells w e o.mail.shown
+      (o : Outcome l a w.cells m (who e) (lock_deed (w.process_states (who e)) e) (mail_deeds l w.cells e) (cells_after l w.cells e) s') × EventEndsAppend w e o.mail.shown
 
   -- the same for a process at this place with this job
   abbrev Stepped : GlobalState → Abstract → Mailbox → ℕ → Place → ScriptState → Kind → Word → ℕ → ProcessState → Type 0
@@ -63,12 +63,12 @@ module _ (l : Layout) (limit : ℕ) (layout : IsLayout l) where
         tt,
       )
   moves w a m p below k lock b c (Doing purpose (Get j rest)) Gets (DataAt i) v s' e reads may h =
-      let r = only_some (i == j) (settled b c purpose (rest v)) s' e in
+      let r = only_some (i == j) (process_after_script b c purpose (rest v)) s' e in
       let at : i ≡ j = eqb-true i j r.0 in
       let read : w.cells j ≡ v = ap w.cells (sym at) ∙ reads refl in
       gets l a w.cells m p layout below k b c purpose j rest v s' r.1 read h.1 h.2
   moves w a m p below k lock b c (Doing purpose (Put j x rest)) Puts (DataAt i) v s' e reads may h =
-      let r = only_some ((i == j) && (v == x)) (settled b c purpose rest) s' e in
+      let r = only_some ((i == j) && (v == x)) (process_after_script b c purpose rest) s' e in
       let both = and_parts (i == j) (v == x) r.0 in
       let at : i ≡ j = eqb-true i j both.0 in
       let value : v ≡ x = eqb-true v x both.1 in
@@ -78,12 +78,12 @@ module _ (l : Layout) (limit : ℕ) (layout : IsLayout l) where
       subst (λ i'. P i' v (put_cell l w.cells (DataAt i') v)) (sym at) (subst (λ v'. P j v' (put_cell l w.cells (DataAt j) v')) (sym value) there)
   moves w a m p below k lock b c _ _ _ v s' e reads may h = absurd (cc)
 
-  pub happens : (w : GlobalState) (a : Abstract) (m : Mailbox) (e : WorldEvent) (s' : ProcessState) → who e < l.procs → Kept l a w.cells m → next_process_state l limit (w.process_states (who e)) e ≡ Some s' → GlobalState-Reads w e → AllowsBy l.procs a (outer (w.process_states (who e)) e)
+  pub happens : (w : GlobalState) (a : Abstract) (m : Mailbox) (e : WorldEvent) (s' : ProcessState) → who e < l.procs → Kept l a w.cells m → next_process_state l limit (w.process_states (who e)) e ≡ Some s' → GlobalState-Reads w e → AllowsBy l.procs a (lock_deed (w.process_states (who e)) e)
       → PostAt l (who e) (a.phase (who e)) w.cells m (w.process_states (who e)) → Left w a m e s'
   happens w a m (Begins p call) s' below k e reads may h =
       let x = w.process_states p in (begins l a w.cells m p layout below k x.lock x.mended x.script_state call s' e h, tt)
   happens w a m (Falls p) s' below k e reads may h =
-      let is : dead ≡ s' = cc in
+      let is : dead_process ≡ s' = cc in
       (subst (λ x. Outcome l a w.cells m p (Some (Crash p)) [] w.cells x) is (falls l a w.cells m p layout below k may), tt)
   happens w a m (Moves p kind word v) s' below k e reads may h =
       let x = w.process_states p in moves w a m p below k x.lock x.mended x.barred x.script_state kind word v s' e reads may h
@@ -101,10 +101,10 @@ module _ (l : Layout) (limit : ℕ) (layout : IsLayout l) where
   abbrev pub AllPosts : Abstract → Words → Mailbox → (ℕ → ProcessState) → Type 0
   AllPosts a w m process_states = (q : ℕ) → q < l.procs → PostAt l q (a.phase q) w m (process_states q)
 
-  pub posts : (w : GlobalState) (a : Abstract) (m : Mailbox) (e : WorldEvent) (s' : ProcessState) (o : Outcome l a w.cells m (who e) (outer (w.process_states (who e)) e) (mail_deeds l w.cells e) (cells_after l w.cells e) s') → AllPosts a w.cells m w.process_states
-      → AllPosts (done_by a (outer (w.process_states (who e)) e)) (cells_after l w.cells e) o.mail (put w.process_states (who e) s')
+  pub posts : (w : GlobalState) (a : Abstract) (m : Mailbox) (e : WorldEvent) (s' : ProcessState) (o : Outcome l a w.cells m (who e) (lock_deed (w.process_states (who e)) e) (mail_deeds l w.cells e) (cells_after l w.cells e) s') → AllPosts a w.cells m w.process_states
+      → AllPosts (done_by a (lock_deed (w.process_states (who e)) e)) (cells_after l w.cells e) o.mail (put w.process_states (who e) s')
   posts w a m e s' o all q lt =
-      let a' : Abstract = done_by a (outer (w.process_states (who e)) e) in
+      let a' : Abstract = done_by a (lock_deed (w.process_states (who e)) e) in
       elim (cases_eq q (who e)) [
         | inl same ↦ subst (λ r. PostAt l r (a'.phase r) (cells_after l w.cells e) o.mail (put w.process_states (who e) s' r)) (sym same) (subst (PostAt l (who e) (a'.phase (who e)) (cells_after l w.cells e) o.mail) (sym (put_same w.process_states (who e) s')) o.here)
         | inr ne ↦ subst (PostAt l q (a'.phase q) (cells_after l w.cells e) o.mail) (sym (put_other w.process_states (who e) s' q ne)) (o.others q lt ne (w.process_states q) (all q lt))
@@ -114,19 +114,19 @@ module _ (l : Layout) (limit : ℕ) (layout : IsLayout l) where
   sound w a m [] k all execution legal = sits a w.cells m k
   sound w a m (e ∷ es) k all execution legal =
       let x = some_of l limit (next_process_state l limit (w.process_states (who e)) e) (w.process_states (who e)) execution.0.1 in
-      let r = head a (outer (w.process_states (who e)) e) (outers l limit (onward l limit w e) es) legal in
+      let r = head a (lock_deed (w.process_states (who e)) e) (outers l limit (state_after_event l limit w e) es) legal in
       let left = happens w a m e x.0 execution.0.0 k x.1 execution.0.2 r.0 (all (who e) execution.0.0) in
       let o = left.0 in
-      let next_all : AllPosts (done_by a (outer (w.process_states (who e)) e)) (cells_after l w.cells e) o.mail (onward l limit w e).process_states =
-      subst (λ z. AllPosts (done_by a (outer (w.process_states (who e)) e)) (cells_after l w.cells e) o.mail (put w.process_states (who e) z)) (sym x.2) (posts w a m e x.0 o all) in
-      (sits a w.cells m k, (judge_of l (done_by a (outer (w.process_states (who e)) e)) o.mail, o.leads, left.1, sound (onward l limit w e) (done_by a (outer (w.process_states (who e)) e)) o.mail es o.kept next_all execution.1 r.1))
+      let next_all : AllPosts (done_by a (lock_deed (w.process_states (who e)) e)) (cells_after l w.cells e) o.mail (state_after_event l limit w e).process_states =
+      subst (λ z. AllPosts (done_by a (lock_deed (w.process_states (who e)) e)) (cells_after l w.cells e) o.mail (put w.process_states (who e) z)) (sym x.2) (posts w a m e x.0 o all) in
+      (sits a w.cells m k, (judge_of l (done_by a (lock_deed (w.process_states (who e)) e)) o.mail, o.leads, left.1, sound (state_after_event l limit w e) (done_by a (lock_deed (w.process_states (who e)) e)) o.mail es o.kept next_all execution.1 r.1))
 
   pub legal_by : (w : GlobalState) (s : State) (es : List WorldEvent) → Sound l limit w s es → (t : State) × Leads s (deeds l limit w es) t
   legal_by w s [] h = (s, refl)
   legal_by w s (e ∷ es) h =
       let g = h.1 in
-      let rest = legal_by (onward l limit w e) g.0 es g.3 in
-      (rest.0, judged_all-append s g.0 (event_deeds l w e) (deeds l limit (onward l limit w e) es) g.1 ∙ rest.1)
+      let rest = legal_by (state_after_event l limit w e) g.0 es g.3 in
+      (rest.0, judged_all-append s g.0 (event_deeds l w e) (deeds l limit (state_after_event l limit w e) es) g.1 ∙ rest.1)
 
   -- the first global state
   pub first : NewWords → Kept l nobody at_first.cells nothing_shown

@@ -1,12 +1,12 @@
 -- A world as a machine, over all its calls: it follows an execution from its beginning, and its history is the deeds.
 use Rattle.std.proofs.Common.{◌≡◌, ℕ, ◌<◌, Bool, true, false, ◌&&◌, ◌==◌, nat_lt, if◌then◌else◌, List, [], ◌∷◌, ◌++◌, length, slice_set, Option, Some, None, IfSome, refl, sym, ap, ◌∙◌, subst, inl, inr, append-nil, ltb-true, get_or-set_same, get_or-set_other}
 use Rattle.rmeworld.proofs.Common.{cases_Bool, cases_eq, Access, Load, Store, Outer, Refusal, Word, Data as DataAt, word_of, Deed, Layout, deeds_of_put, Words, IsLayout, words_of, Call, IsWorld}
-use Rattle.rmeworld.proofs.Common.{start_refusal as process_state_refusal, world_event, or_else, mail_by, the_deed, stepped_if, advanced_if, started, advance_refusal, advanced, crash_refusal, crash_deed}
-use Rattle.rmeworld.proofs.Common.{list_of, advanced_by, WorldEvent, Begins, next_process_state, MachineState, outcome, IsLeast, IsAllowed, process_state_of, stepped as machine_state_stepped, next_access, StoresOwn, machine_state_started}
-use Rattle.rmeworld.proofs.Common.{crashed as machine_state_crashed, reading, event_deeds, GlobalState, onward, Can, put_deeds, WorldState, machine_state_at, process_state_at, global_state_of, Takes, absent}
+use Rattle.rmeworld.proofs.Common.{start_refusal as process_state_refusal, world_event, or_else, mail_by, the_deed, stepped_if, advanced_if, world_after_start, advance_refusal, world_after_step, crash_refusal, crash_deed}
+use Rattle.rmeworld.proofs.Common.{list_of, advanced_by, WorldEvent, Begins, next_process_state, MachineState, outcome, IsLeast, IsAllowed, process_state_of, machine_after_step as machine_state_stepped, next_access, StoresOwn, machine_state_started}
+use Rattle.rmeworld.proofs.Common.{machine_after_crash as machine_state_crashed, reading, event_deeds, GlobalState, state_after_event, Can, put_deeds, WorldState, machine_state_at, process_state_at, global_state_of, Takes, absent_machine}
 use Rattle.rmecore.specs.declared.refusal.Refusal.TheVariants.{NoSuchProcess, NothingToDo}
 use Rattle.rmeworld.specs.Refused.{is_idle}
-use Rattle.rmeworld.specs.Replayed.{start_refusal, stepped, crashed}
+use Rattle.rmeworld.specs.Replayed.{start_refusal, world_step_report, world_after_crash}
 use Rattle.rmeworld.proofs.Ordered.{IsOrdered, ordered_crashed, ordered_stepped, goes, allowed, owns, least, has_step, begins}
 use Rattle.rmeworld.proofs.ExecutionGrows.{Comes, comes_more}
 use Rattle.rmeworld.proofs.WorldSteps.{IsStep, step_takes, start_takes, crash_takes}
@@ -23,14 +23,14 @@ ordered_set : (s : WorldState) (p : ℕ) (t : MachineState) → length s.process
     → (q : ℕ) → q < s.layout.procs → IsOrdered (machine_state_at (slice_set s.processes p t) q)
 ordered_set s p t each below new all q less =
     elim (cases_eq q p) [
-      | inl e ↦ subst (λ r. IsOrdered (machine_state_at (slice_set s.processes p t) r)) (sym e) (subst IsOrdered (sym (get_or-set_same s.processes p t absent (subst (λ n. p < n) (sym each) below))) new)
-      | inr ne ↦ subst IsOrdered (sym (get_or-set_other s.processes p q t absent ne)) (all q less)
+      | inl e ↦ subst (λ r. IsOrdered (machine_state_at (slice_set s.processes p t) r)) (sym e) (subst IsOrdered (sym (get_or-set_same s.processes p t absent_machine (subst (λ n. p < n) (sym each) below))) new)
+      | inr ne ↦ subst IsOrdered (sym (get_or-set_other s.processes p q t absent_machine ne)) (all q less)
     ]
 
 comes_by : {s new : WorldState} {e : WorldEvent} (l : Layout) (limit : ℕ) (first : GlobalState) (history : List Deed) → s.layout ≡ l → s.limit ≡ limit → Takes s e new → Comes l limit first (global_state_of s) history → Comes l limit first (global_state_of new) (history ++ event_deeds l (global_state_of s) e)
 comes_by {s = s} {new = new} {e = e} l limit first history layout limited takes comes =
     let can = subst (λ x. Can x limit (global_state_of s) e) layout (subst (λ x. Can s.layout x (global_state_of s) e) limited takes.can) in
-    let global_state : global_state_of new ≡ onward l limit (global_state_of s) e = takes.global_state ∙ (λ i. onward (layout i) (limited i) (global_state_of s) e) in
+    let global_state : global_state_of new ≡ state_after_event l limit (global_state_of s) e = takes.global_state ∙ (λ i. state_after_event (layout i) (limited i) (global_state_of s) e) in
     subst (λ w. Comes l limit first w (history ++ event_deeds l (global_state_of s) e)) (sym global_state) (comes_more l limit first (global_state_of s) history e comes can)
 
 pub below_if : (p n : ℕ) (o : Option Refusal) → (if nat_lt p n then o else Some NoSuchProcess) ≡ None → (p < n) × (o ≡ None)
@@ -45,25 +45,25 @@ below_if p n o h = elim (cases_Bool (nat_lt p n)) [
 -- a start that is not refused is the definition's
 pub start_is : {first : GlobalState} {history : List Deed} (s : WorldState) (p : ℕ) (call : Call) → Follows first s history → start_refusal s p call ≡ None
     → (p < s.layout.procs) × (next_process_state (machine_state_at s.processes p).layout (machine_state_at s.processes p).limit (process_state_at s.processes p) (Begins (machine_state_at s.processes p).index call) ≡ Some (process_state_of (machine_state_started (machine_state_at s.processes p) call)))
-    × IsOrdered (machine_state_started (machine_state_at s.processes p) call) × Takes s (Begins p call) (started s p call)
+    × IsOrdered (machine_state_started (machine_state_at s.processes p) call) × Takes s (Begins p call) (world_after_start s p call)
 start_is s p call h may =
     let has = below_if p s.layout.procs _ may in
     let t : MachineState = machine_state_at s.processes p in
     let configuration = h.world.configured.configurations p has.0 in
     let lawful = subst IsLayout (sym configuration.0) h.world.sized.layout in
     let begun = begins t call lawful (h.ordered p has.0) (subst (λ l. process_state_refusal l (process_state_of t) call ≡ None) (sym configuration.0) has.1) in
-    (has.0, begun.0, begun.1, start_takes s p call (machine_state_started t call) (started s p call).tallies h.world.configured has.0 begun.0)
+    (has.0, begun.0, begun.1, start_takes s p call (machine_state_started t call) (world_after_start s p call).tallies h.world.configured has.0 begun.0)
 
-pub follows_started : {first : GlobalState} {history : List Deed} (s : WorldState) (p : ℕ) (call : Call) → Follows first s history → start_refusal s p call ≡ None → Follows first (started s p call) history
+pub follows_started : {first : GlobalState} {history : List Deed} (s : WorldState) (p : ℕ) (call : Call) → Follows first s history → start_refusal s p call ≡ None → Follows first (world_after_start s p call) history
 follows_started {first = first} {history = history} s p call h may =
     let is = start_is s p call h may in
     record {
       world = world_start s p call h.world is.0 is.1;
       ordered = ordered_set s p (machine_state_started (machine_state_at s.processes p) call) h.world.configured.processes_each is.0 is.2 h.ordered;
-      comes = subst (Comes s.layout s.limit first (global_state_of (started s p call))) (append-nil history) (comes_by s.layout s.limit first history refl refl is.3 h.comes);
+      comes = subst (Comes s.layout s.limit first (global_state_of (world_after_start s p call))) (append-nil history) (comes_by s.layout s.limit first history refl refl is.3 h.comes);
     }
 
-pub follows_crashed : {first : GlobalState} {history : List Deed} (s : WorldState) (p : ℕ) → Follows first s history → crash_refusal s p ≡ None → Follows first (crashed s p) (history ++ crash_deed p ∷ [])
+pub follows_crashed : {first : GlobalState} {history : List Deed} (s : WorldState) (p : ℕ) → Follows first s history → crash_refusal s p ≡ None → Follows first (world_after_crash s p) (history ++ crash_deed p ∷ [])
 follows_crashed {first = first} {history = history} s p h may =
     let has = below_if p s.layout.procs None may in
     record {
@@ -143,7 +143,7 @@ step_is s p h may = by (next_access t) refl
           one = subst Single deeds (single_or (outcome t (Some a) v).progress.outer _ (single_mail s.layout p (words_of s.cells) a));
         }
 
-pub follows_advanced : {first : GlobalState} {history : List Deed} (s : WorldState) (p : ℕ) → Follows first s history → advance_refusal s p ≡ None → Follows first (advanced s p) (history ++ list_of (stepped s p).deed)
+pub follows_advanced : {first : GlobalState} {history : List Deed} (s : WorldState) (p : ℕ) → Follows first s history → advance_refusal s p ≡ None → Follows first (world_after_step s p) (history ++ list_of (world_step_report s p).deed)
 follows_advanced {first = first} {history = history} s p h may =
     let is = step_is s p h may in
     let a : Access = is.access in

@@ -1,17 +1,17 @@
 -- The words of a lawful image are possible after a crash of every process, with the judge's state that they describe.
 use Rattle.std.proofs.Common.{◌≡◌, ℕ, zero, suc, ◌+◌, ◌<◌, ◌≤◌, true, false, ◌==◌, nat_lt, if◌then◌else◌, List, [], ◌∷◌, length, map, refl, sym, ap, ◌∙◌, subst, inl, inr, ◌⊎◌, arith, eq-eqb, lt-ltb}
-use Rattle.rmeworld.proofs.Common.{cases_eq, cases_lt, get_or_past, length-map, Own, Abstract, dead_phase, phase_by, start_of, own_at, zeros, fresh, IsIn, Layout, Words, words_of, Shape, RecordRule}
+use Rattle.rmeworld.proofs.Common.{cases_eq, cases_lt, get_or_past, length-map, Own, Abstract, dead_phase, phase_by, start_of, own_at, zeros, new_tally, IsInSection, Layout, Words, words_of, Shape, RecordRule}
 use Rattle.rmeworld.proofs.Common.{mailbox_of, shape_passes_on, Start, state_of, phase_in as phase_of_list, State, Image, layout_of, IsLawfulImage, IsStartOf, IsInAlone, Sits, IsLater, IsWorld}
-use Rattle.rmeworld.proofs.Common.{crashed_global_state, dead, at_rest, MachineState, resting, process_state_of, crashed, machine_state_at, process_state_at, global_state_of, image_world, absent, HasConfiguration, crashed_from}
+use Rattle.rmeworld.proofs.Common.{crashed_global_state, dead_process, at_rest, MachineState, resting, process_state_of, machine_after_crash, machine_state_at, process_state_at, global_state_of, image_world, absent_machine, HasConfiguration, crashed_from}
 use Rattle.redomail.proofs.Readings.{content_is_shape}
-use Rattle.rmeworld.specs.ImageRules.{IsIn as IsInImage}
+use Rattle.rmeworld.specs.ImageRules.{IsInsideByImage as IsInImage}
 use Rattle.rmeworld.proofs.LawfulNow.{find_in}
 use Rattle.rmeworld.proofs.WorldSteps.{le-ltb}
 use Rattle.rmeworld.proofs.WorldTallies.{unstarted}
 use Rattle.rmeworld.proofs.ImageRules.{only_one, lawful_content}
 use Rattle.rmeworld.proofs.Executions.{in_numbers}
 
-numbers_in : (c k i : ℕ) → 0 < k → 0 < i → IsIn (dead_phase c k i)
+numbers_in : (c k i : ℕ) → 0 < k → 0 < i → IsInSection (dead_phase c k i)
 numbers_in c zero i h x = absurd (omega arith)
 numbers_in c (suc k) zero h x = absurd (omega arith)
 numbers_in zero (suc k) (suc i) h x = tt
@@ -27,10 +27,10 @@ module _ (i : Image) (k : IsLawfulImage i) where
   abbrev lock : Abstract
   lock = start_of (own_at i.lock)
 
-  pub is_in : (p : ℕ) → p < length i.lock → IsIn (lock.phase p) → IsInImage i p
+  pub is_in : (p : ℕ) → p < length i.lock → IsInSection (lock.phase p) → IsInImage i p
   is_in p below h = let x = in_numbers (own_at i.lock p).choosing (own_at i.lock p).number (own_at i.lock p).inside h in (below, x.0, x.1)
 
-  pub phase_in : (p : ℕ) → IsInImage i p → IsIn (lock.phase p)
+  pub phase_in : (p : ℕ) → IsInImage i p → IsInSection (lock.phase p)
   phase_in p h = numbers_in (own_at i.lock p).choosing (own_at i.lock p).number (own_at i.lock p).inside h.1 h.2
 
   someone : 0 < length i.lock
@@ -71,10 +71,10 @@ module _ (i : Image) (k : IsLawfulImage i) where
   sits_by s at mail =
       record {
         shape = λ q only.
-            let solely : IsInAlone i q = λ p h. only p h.0 (subst (λ x. IsIn (x.phase p)) (sym at) (phase_in p h)) in
+            let solely : IsInAlone i q = λ p h. only p h.0 (subst (λ x. IsInSection (x.phase p)) (sym at) (phase_in p h)) in
             subst (Shape l q w) (sym (mail q solely)) (shape_at q solely (cases_lt q (length i.lock)));
         rest = λ none clean.
-            elim (calm (λ p h. none p h.0 (subst (λ x. IsIn (x.phase p)) (sym at) (phase_in p h)))) [ inl e ↦ e | inr e ↦ absurd (omega (arith, e, clean)) ];
+            elim (calm (λ p h. none p h.0 (subst (λ x. IsInSection (x.phase p)) (sym at) (phase_in p h)))) [ inl e ↦ e | inr e ↦ absurd (omega (arith, e, clean)) ];
       }
     where
       shape_at : (q : ℕ) → IsInAlone i q → (q < length i.lock) ⊎ (length i.lock ≤ q) → Shape l q w (mailbox_of l q w)
@@ -93,36 +93,36 @@ length-crashed : (l : Layout) (limit p n : ℕ) → length (crashed_from l limit
 length-crashed l limit p zero = refl
 length-crashed l limit p (suc n) = ap suc (length-crashed l limit (p + 1) n)
 
-pub crashed-at : (l : Layout) (limit p n q : ℕ) → q < n → machine_state_at (crashed_from l limit p n) q ≡ crashed (resting l limit (p + q))
+pub crashed-at : (l : Layout) (limit p n q : ℕ) → q < n → machine_state_at (crashed_from l limit p n) q ≡ machine_after_crash (resting l limit (p + q))
 crashed-at l limit p zero q h = absurd (omega arith)
-crashed-at l limit p (suc n) zero h = let e : p ≡ p + 0 = omega arith in ap (λ x. crashed (resting l limit x)) e
-crashed-at l limit p (suc n) (suc q) h = let e : p + 1 + q ≡ p + suc q = omega arith in crashed-at l limit (p + 1) n q (omega arith) ∙ ap (λ x. crashed (resting l limit x)) e
+crashed-at l limit p (suc n) zero h = let e : p ≡ p + 0 = omega arith in ap (λ x. machine_after_crash (resting l limit x)) e
+crashed-at l limit p (suc n) (suc q) h = let e : p + 1 + q ≡ p + suc q = omega arith in crashed-at l limit (p + 1) n q (omega arith) ∙ ap (λ x. machine_after_crash (resting l limit x)) e
 
-pub crashed_is : (l : Layout) (limit : ℕ) (xs : List MachineState) (p n : ℕ) → length xs ≡ n → ((q : ℕ) → q < n → machine_state_at xs q ≡ crashed (resting l limit (p + q))) → xs ≡ crashed_from l limit p n
+pub crashed_is : (l : Layout) (limit : ℕ) (xs : List MachineState) (p n : ℕ) → length xs ≡ n → ((q : ℕ) → q < n → machine_state_at xs q ≡ machine_after_crash (resting l limit (p + q))) → xs ≡ crashed_from l limit p n
 crashed_is l limit [] p zero len each = refl
 crashed_is l limit [] p (suc n) len each = cc
 crashed_is l limit (x ∷ xs) p zero len each = absurd (omega arith)
 crashed_is l limit (x ∷ xs) p (suc n) len each =
     let zero_ : p + 0 ≡ p = omega arith in
-    let here : x ≡ crashed (resting l limit p) = each 0 (omega arith) ∙ ap (λ y. crashed (resting l limit y)) zero_ in
-    let rest = crashed_is l limit xs (p + 1) n (omega (arith, len)) (λ q h. let e : p + suc q ≡ p + 1 + q = omega arith in each (suc q) (omega arith) ∙ ap (λ y. crashed (resting l limit y)) e) in
+    let here : x ≡ machine_after_crash (resting l limit p) = each 0 (omega arith) ∙ ap (λ y. machine_after_crash (resting l limit y)) zero_ in
+    let rest = crashed_is l limit xs (p + 1) n (omega (arith, len)) (λ q h. let e : p + suc q ≡ p + 1 + q = omega arith in each (suc q) (omega arith) ∙ ap (λ y. machine_after_crash (resting l limit y)) e) in
     λ i. here i ∷ rest i
 
 crashed_process_states : (l : Layout) (limit : ℕ) → process_state_at (crashed_from l limit 0 l.procs) ≡ (crashed_global_state l.procs (λ p. zeros) (λ p. 0)).process_states
 crashed_process_states l limit = λ i. λ p. each p i
   where
-    each : (p : ℕ) → process_state_at (crashed_from l limit 0 l.procs) p ≡ (if nat_lt p l.procs then dead else at_rest)
+    each : (p : ℕ) → process_state_at (crashed_from l limit 0 l.procs) p ≡ (if nat_lt p l.procs then dead_process else at_rest)
     each p =
         elim (cases_lt p l.procs) [
           | inl h ↦ rw (lt-ltb p l.procs h) (ap process_state_of (crashed-at l limit 0 l.procs p h))
-          | inr h ↦ let off : nat_lt p l.procs ≡ false = le-ltb p l.procs h in rw off (ap process_state_of (get_or_past (crashed_from l limit 0 l.procs) p absent (rw length-crashed h)))
+          | inr h ↦ let off : nat_lt p l.procs ≡ false = le-ltb p l.procs h in rw off (ap process_state_of (get_or_past (crashed_from l limit 0 l.procs) p absent_machine (rw length-crashed h)))
         ]
 
 -- some process beside which no other is in
 pub alone : (i : Image) → IsLawfulImage i → (p : ℕ) × IsInAlone i p
 alone i k = by (find_in (length i.lock) (start_of (own_at i.lock)).phase)
   where
-    by : ((r : ℕ) × (r < length i.lock) × IsIn ((start_of (own_at i.lock)).phase r)) ⊎ ((r : ℕ) → r < length i.lock → IsIn ((start_of (own_at i.lock)).phase r) → ⊥) → (p : ℕ) × IsInAlone i p
+    by : ((r : ℕ) × (r < length i.lock) × IsInSection ((start_of (own_at i.lock)).phase r)) ⊎ ((r : ℕ) → r < length i.lock → IsInSection ((start_of (own_at i.lock)).phase r) → ⊥) → (p : ℕ) × IsInAlone i p
     by (inl h) = let x = is_in i k h.0 h.1 h.2 in (h.0, λ q y. only_one (length i.lock) i.limit (own_at i.lock) q h.0 (k.lawful (omega arith)) y.0 h.1 y.1 y.2 x.1 x.2)
     by (inr h) = (0, λ q y. absurd (h q y.0 (phase_in i k q y)))
 
@@ -133,7 +133,7 @@ state_at i p = record { procs = length i.lock; cap = i.cap; lock = start_of (own
 pub one_mailbox : (i : Image) (k : IsLawfulImage i) (p q : ℕ) → IsInAlone i p → IsInAlone i q → mailbox_of (layout_of i) p (words_of i.cells) ≡ mailbox_of (layout_of i) q (words_of i.cells)
 one_mailbox i k p q hp hq = by (find_in (length i.lock) (start_of (own_at i.lock)).phase)
   where
-    by : ((r : ℕ) × (r < length i.lock) × IsIn ((start_of (own_at i.lock)).phase r)) ⊎ ((r : ℕ) → r < length i.lock → IsIn ((start_of (own_at i.lock)).phase r) → ⊥) → mailbox_of (layout_of i) p (words_of i.cells) ≡ mailbox_of (layout_of i) q (words_of i.cells)
+    by : ((r : ℕ) × (r < length i.lock) × IsInSection ((start_of (own_at i.lock)).phase r)) ⊎ ((r : ℕ) → r < length i.lock → IsInSection ((start_of (own_at i.lock)).phase r) → ⊥) → mailbox_of (layout_of i) p (words_of i.cells) ≡ mailbox_of (layout_of i) q (words_of i.cells)
     by (inl h) = let x = is_in i k h.0 h.1 h.2 in let e : p ≡ q = sym (hp h.0 x) ∙ hq h.0 x in ap (λ r. mailbox_of (layout_of i) r (words_of i.cells)) e
     by (inr h) = mail_same i k p q (λ r x. h r x.0 (phase_in i k r x))
 
@@ -164,7 +164,7 @@ image_world_is i k =
       configured = record {
         words_each = refl;
         processes_each = length-crashed l i.limit 0 n;
-        tallies_each = length-map i.lock fresh;
+        tallies_each = length-map i.lock new_tally;
         configurations = λ p below. subst (HasConfiguration l i.limit p) (sym (crashed-at l i.limit 0 n p below)) (let e : 0 + p ≡ p = omega arith in (refl, refl, e));
       };
       reached = record {
@@ -172,7 +172,7 @@ image_world_is i k =
         state = state_at i a.0;
         origin = inr (refl, later_by i k (state_at i a.0) refl refl refl (λ p h. one_mailbox i k a.0 p a.1 h));
         execution = [];
-        told = tt;
+        reports = tt;
         last = sym (image_global_state i);
         done = refl;
       };

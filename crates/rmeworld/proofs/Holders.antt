@@ -1,9 +1,9 @@
 -- A process that puts a data word is in, and a process that has entered stays in until it leaves.
 use Rattle.std.proofs.Common.{◌≡◌, ℕ, ◌<◌, Bool, true, List, [], ◌∷◌, ◌++◌, Option, Some, None, IsSome, refl, sym, ap, ◌∙◌, subst, inl, inr}
-use Rattle.rmeworld.proofs.Common.{cases_eq, All-head, All-tail, Kind, Outer, Begin, Ready, Enter, Crash, Reenter, Leave, Quit, Within, Data as DataAt, Abstract, Legal, nobody, needs, done, put}
-use Rattle.rmeworld.proofs.Common.{AllHold, Place, next, IsIn, all_done, is_store, and_then, allows_from, put_same, put_other, after_deed as done_by, legal, in_after, not_data, Deed, Layout, Words}
-use Rattle.rmeworld.proofs.Common.{core_of, IsLayout, AreOwn, Mailbox, outers as lock_deeds, Leads, empty, judged_all-append, puts_data, AllPutBy, NoEndOf, OnlyHoldersPut, ScriptState, Free, Doing, WorldEvent}
-use Rattle.rmeworld.proofs.Common.{Moves, who, moved_by, next_process_state, outer, event_deeds, GlobalState, at_first, Execution, onward, last_global_state, outer_deeds, mail_deeds, deeds}
+use Rattle.rmeworld.proofs.Common.{cases_eq, All-head, All-tail, Kind, Outer, Begin, Ready, Enter, Crash, Reenter, Leave, Quit, Within, Data as DataAt, Abstract, Legal, nobody, needs, abstract_after, put}
+use Rattle.rmeworld.proofs.Common.{AllHold, Place, next, IsInSection, all_done, is_store, and_then, allows_from, put_same, put_other, after_deed as done_by, legal, in_after, not_data, Deed, Layout, Words}
+use Rattle.rmeworld.proofs.Common.{core_of, IsLayout, AreOwn, Mailbox, outers as lock_deeds, Leads, empty_state, judged_all-append, puts_data, AllPutBy, NoEndOf, OnlyHoldersPut, ScriptState, Free, Doing, WorldEvent}
+use Rattle.rmeworld.proofs.Common.{Moves, who, moved_by, next_process_state, lock_deed, event_deeds, GlobalState, at_first, Execution, state_after_event, last_global_state, outer_deeds, mail_deeds, deeds}
 use Rattle.rmecore.specs.declared.phase.Phase.TheVariants.{Out as IsOut}
 use Rattle.redomail.specs.declared.deed.Deed.TheVariants as deed
 use Rattle.judge.specs.Plain.{IsEndOf}
@@ -32,24 +32,24 @@ one_lock_deed (Some d) ms xs none = ap (λ (ds : List Outer). d ∷ (ds ++ xs)) 
 pub lock_deeds_are : (l : Layout) (limit : ℕ) (w : GlobalState) (es : List WorldEvent) → lock_deeds (deeds l limit w es) ≡ outers l limit w es
 lock_deeds_are l limit w [] = refl
 lock_deeds_are l limit w (e ∷ es) =
-    lock_deeds-append (event_deeds l w e) (deeds l limit (onward l limit w e) es) ∙ ap (λ (xs : List Outer). lock_deeds (event_deeds l w e) ++ xs) (lock_deeds_are l limit (onward l limit w e) es)
-    ∙ one_lock_deed (outer (w.process_states (who e)) e) (mail_deeds l w.cells e) (outers l limit (onward l limit w e) es) (own_none (who e) (mail_deeds l w.cells e) (mail_own l w.cells e))
+    lock_deeds-append (event_deeds l w e) (deeds l limit (state_after_event l limit w e) es) ∙ ap (λ (xs : List Outer). lock_deeds (event_deeds l w e) ++ xs) (lock_deeds_are l limit (state_after_event l limit w e) es)
+    ∙ one_lock_deed (lock_deed (w.process_states (who e)) e) (mail_deeds l w.cells e) (outers l limit (state_after_event l limit w e) es) (own_none (who e) (mail_deeds l w.cells e) (mail_own l w.cells e))
 
 -- after a deed other than p's Leave, p is still in
 abbrev Stays : ℕ → List Outer → Type 0
 Stays p [] = Unit {0}
 Stays p (d ∷ ds) = (d ≡ Leave p → ⊥) × Stays p ds
 
-stays_in : (n : ℕ) (a : Abstract) (d : Outer) (p : ℕ) → AllHold (needs n a d) → (d ≡ Leave p → ⊥) → IsIn (a.phase p) → IsIn ((done a d).phase p)
+stays_in : (n : ℕ) (a : Abstract) (d : Outer) (p : ℕ) → AllHold (needs n a d) → (d ≡ Leave p → ⊥) → IsInSection (a.phase p) → IsInSection ((abstract_after a d).phase p)
 stays_in n a (Begin q) p h ne i = in_after n a (Begin q) p (allows_from n a (Begin q) h) (λ x. x) i
 stays_in n a (Ready q) p h ne i = in_after n a (Ready q) p (allows_from n a (Ready q) h) (λ x. x) i
 stays_in n a (Enter q) p h ne i = in_after n a (Enter q) p (allows_from n a (Enter q) h) (λ x. x) i
 stays_in n a (Crash q) p h ne i = in_after n a (Crash q) p (allows_from n a (Crash q) h) (λ x. x) i
 stays_in n a (Reenter q) p h ne i = in_after n a (Reenter q) p (allows_from n a (Reenter q) h) (λ x. x) i
 stays_in n a (Quit q) p h ne i = in_after n a (Quit q) p (allows_from n a (Quit q) h) (λ x. x) i
-stays_in n a (Leave q) p h ne i = elim (cases_eq p q) [ inl e ↦ absurd (ne (ap Leave (sym e))) | inr other ↦ subst IsIn (sym (put_other a.phase q IsOut p other)) i ]
+stays_in n a (Leave q) p h ne i = elim (cases_eq p q) [ inl e ↦ absurd (ne (ap Leave (sym e))) | inr other ↦ subst IsInSection (sym (put_other a.phase q IsOut p other)) i ]
 
-stays_by : (n : ℕ) (a : Abstract) (o : Option Outer) (ds : List Outer) (p : ℕ) → AllowsBy n a o → Stays p (and_then o ds) → IsIn (a.phase p) → IsIn ((done_by a o).phase p) × Stays p ds
+stays_by : (n : ℕ) (a : Abstract) (o : Option Outer) (ds : List Outer) (p : ℕ) → AllowsBy n a o → Stays p (and_then o ds) → IsInSection (a.phase p) → IsInSection ((done_by a o).phase p) × Stays p ds
 stays_by n a None ds p h s i = (i, s)
 stays_by n a (Some d) ds p h s i = (stays_in n a d p h s.0 i, s.1)
 
@@ -62,13 +62,13 @@ none_ends p (deed.Close q ∷ ds) h = none_ends p ds (All-tail (λ (x : Deed). I
 none_ends p (deed.Ruin q ∷ ds) h = none_ends p ds (All-tail (λ (x : Deed). IsEndOf p x → ⊥) (deed.Ruin q) ds h)
 
 -- after deeds that end with an Enter, its process is in
-entered_in : (a : Abstract) (ds : List Outer) (p : ℕ) → IsIn ((all_done a (ds ++ Enter p ∷ [])).phase p)
-entered_in a [] p = subst IsIn (sym (put_same a.phase p Within)) tt
-entered_in a (d ∷ ds) p = entered_in (done a d) ds p
+entered_in : (a : Abstract) (ds : List Outer) (p : ℕ) → IsInSection ((all_done a (ds ++ Enter p ∷ [])).phase p)
+entered_in a [] p = subst IsInSection (sym (put_same a.phase p Within)) tt
+entered_in a (d ∷ ds) p = entered_in (abstract_after a d) ds p
 
 legal_back : (n : ℕ) (a : Abstract) (ds es : List Outer) → Legal n a (ds ++ es) → Legal n (all_done a ds) es
 legal_back n a [] es h = h
-legal_back n a (d ∷ ds) es h = legal_back n (done a d) ds es h.1
+legal_back n a (d ∷ ds) es h = legal_back n (abstract_after a d) ds es h.1
 
 and_then-append : (o : Option Outer) (ds es : List Outer) → and_then o (ds ++ es) ≡ and_then o ds ++ es
 and_then-append None ds es = refl
@@ -77,15 +77,15 @@ and_then-append (Some d) ds es = refl
 module _ (l : Layout) (limit : ℕ) where
   outers-append : (w : GlobalState) (xs ys : List WorldEvent) → outers l limit w (xs ++ ys) ≡ outers l limit w xs ++ outers l limit (last_global_state l limit w xs) ys
   outers-append w [] ys = refl
-  outers-append w (x ∷ xs) ys = ap (and_then (outer (w.process_states (who x)) x)) (outers-append (onward l limit w x) xs ys) ∙ and_then-append (outer (w.process_states (who x)) x) (outers l limit (onward l limit w x) xs) (outers l limit (last_global_state l limit (onward l limit w x) xs) ys)
+  outers-append w (x ∷ xs) ys = ap (and_then (lock_deed (w.process_states (who x)) x)) (outers-append (state_after_event l limit w x) xs ys) ∙ and_then-append (lock_deed (w.process_states (who x)) x) (outers l limit (state_after_event l limit w x) xs) (outers l limit (last_global_state l limit (state_after_event l limit w x) xs) ys)
 
   pub execution_front : (w : GlobalState) (xs ys : List WorldEvent) → Execution l limit w (xs ++ ys) → Execution l limit w xs
   execution_front w [] ys h = tt
-  execution_front w (x ∷ xs) ys h = (h.0, execution_front (onward l limit w x) xs ys h.1)
+  execution_front w (x ∷ xs) ys h = (h.0, execution_front (state_after_event l limit w x) xs ys h.1)
 
   pub execution_back : (w : GlobalState) (xs ys : List WorldEvent) → Execution l limit w (xs ++ ys) → Execution l limit (last_global_state l limit w xs) ys
   execution_back w [] ys h = h
-  execution_back w (x ∷ xs) ys h = execution_back (onward l limit w x) xs ys h.1
+  execution_back w (x ∷ xs) ys h = execution_back (state_after_event l limit w x) xs ys h.1
 
   -- a process that stores into a data word is inside
   putter : (cells : Words) (a : Abstract) (m : Mailbox) (p : ℕ) (lock : Place) (b c : Bool) (script_state : ScriptState) (kind : Kind) (i v : ℕ) → IsSome (moved_by l limit p lock b c script_state kind (DataAt i) v) → Post l p (a.phase p) cells m b script_state lock → is_store kind ≡ true → a.phase p ≡ Within
@@ -105,16 +105,16 @@ module _ (l : Layout) (limit : ℕ) where
 
     -- after an event, with the state that its deeds lead to
     pub one : (w : GlobalState) (a : Abstract) (e : WorldEvent) (es : List WorldEvent) (at : At w a) → Execution l limit w (e ∷ es) → Legal l.procs a (outers l limit w (e ∷ es))
-        → (next : At (onward l limit w e) (done_by a (outer (w.process_states (who e)) e))) × Leads (judge_of l a at.mail) (event_deeds l w e) (judge_of l (done_by a (outer (w.process_states (who e)) e)) next.mail)
+        → (next : At (state_after_event l limit w e) (done_by a (lock_deed (w.process_states (who e)) e))) × Leads (judge_of l a at.mail) (event_deeds l w e) (judge_of l (done_by a (lock_deed (w.process_states (who e)) e)) next.mail)
     one w a e es at execution legal =
-        let o = outer (w.process_states (who e)) e in
+        let o = lock_deed (w.process_states (who e)) e in
         let x = some_of l limit (next_process_state l limit (w.process_states (who e)) e) (w.process_states (who e)) execution.0.1 in
-        let r = head l limit layout a o (outers l limit (onward l limit w e) es) legal in
+        let r = head l limit layout a o (outers l limit (state_after_event l limit w e) es) legal in
         let left = happens l limit layout w a at.mail e x.0 execution.0.0 at.kept x.1 execution.0.2 r.0 (at.posts (who e) execution.0.0) in (
           record {
             mail = left.0.mail;
             kept = left.0.kept;
-            posts = subst (λ z. AllPosts l limit layout (done_by a o) (onward l limit w e).cells left.0.mail (put w.process_states (who e) z)) (sym x.2) (posts l limit layout w a at.mail e x.0 left.0 at.posts);
+            posts = subst (λ z. AllPosts l limit layout (done_by a o) (state_after_event l limit w e).cells left.0.mail (put w.process_states (who e) z)) (sym x.2) (posts l limit layout w a at.mail e x.0 left.0 at.posts);
           },
           left.0.leads,
         )
@@ -124,34 +124,34 @@ module _ (l : Layout) (limit : ℕ) where
         → (there : At (last_global_state l limit w es) (all_done a (outers l limit w es))) × Leads (judge_of l a at.mail) (deeds l limit w es) (judge_of l (all_done a (outers l limit w es)) there.mail)
     comes_to w a [] at execution legal = (at, refl)
     comes_to w a (e ∷ es) at execution legal =
-        let o = outer (w.process_states (who e)) e in
-        let r = head l limit layout a o (outers l limit (onward l limit w e) es) legal in
+        let o = lock_deed (w.process_states (who e)) e in
+        let r = head l limit layout a o (outers l limit (state_after_event l limit w e) es) legal in
         let now = one w a e es at execution legal in
-        let rest = comes_to (onward l limit w e) (done_by a o) es now.0 execution.1 r.1 in
+        let rest = comes_to (state_after_event l limit w e) (done_by a o) es now.0 execution.1 r.1 in
         let Comes : Abstract → Type 0 = λ b. (there : At (last_global_state l limit w (e ∷ es)) b) × Leads (judge_of l a at.mail) (deeds l limit w (e ∷ es)) (judge_of l b there.mail) in
-        subst Comes (sym (done-and_then a o (outers l limit (onward l limit w e) es)))
-        (rest.0, judged_all-append (judge_of l a at.mail) (judge_of l (done_by a o) now.0.mail) (event_deeds l w e) (deeds l limit (onward l limit w e) es) now.1 ∙ rest.1)
+        subst Comes (sym (done-and_then a o (outers l limit (state_after_event l limit w e) es)))
+        (rest.0, judged_all-append (judge_of l a at.mail) (judge_of l (done_by a o) now.0.mail) (event_deeds l w e) (deeds l limit (state_after_event l limit w e) es) now.1 ∙ rest.1)
 
-    only_puts : (w : GlobalState) (a : Abstract) (es : List WorldEvent) (p : ℕ) → p < l.procs → At w a → Execution l limit w es → Legal l.procs a (outers l limit w es) → IsIn (a.phase p) → Stays p (outers l limit w es) → AllPutBy p es
+    only_puts : (w : GlobalState) (a : Abstract) (es : List WorldEvent) (p : ℕ) → p < l.procs → At w a → Execution l limit w es → Legal l.procs a (outers l limit w es) → IsInSection (a.phase p) → Stays p (outers l limit w es) → AllPutBy p es
     only_puts w a [] p below at execution legal i stays = tt
     only_puts w a (e ∷ es) p below at execution legal i stays =
-        let o = outer (w.process_states (who e)) e in
-        let r = head l limit layout a o (outers l limit (onward l limit w e) es) legal in
-        let s = stays_by l.procs a o (outers l limit (onward l limit w e) es) p r.0 stays i in (
-          λ puts. sym (at.kept.sole p (who e) below execution.0.0 i (subst IsIn (sym (putter_in w a at.mail e execution.0.1 (at.posts (who e) execution.0.0) puts)) tt)),
-          only_puts (onward l limit w e) (done_by a o) es p below (one w a e es at execution legal).0 execution.1 r.1 s.0 s.1,
+        let o = lock_deed (w.process_states (who e)) e in
+        let r = head l limit layout a o (outers l limit (state_after_event l limit w e) es) legal in
+        let s = stays_by l.procs a o (outers l limit (state_after_event l limit w e) es) p r.0 stays i in (
+          λ puts. sym (at.kept.sole p (who e) below execution.0.0 i (subst IsInSection (sym (putter_in w a at.mail e execution.0.1 (at.posts (who e) execution.0.0) puts)) tt)),
+          only_puts (state_after_event l limit w e) (done_by a o) es p below (one w a e es at execution legal).0 execution.1 r.1 s.0 s.1,
         )
 
 -- after an execution from the first global state
 pub execution_comes : (l : Layout) (limit : ℕ) (execution : List WorldEvent) (layout : IsLayout l) → Execution l limit at_first execution
     → Legal l.procs nobody (outers l limit at_first execution) × ((at : At l limit layout (last_global_state l limit at_first execution) (all_done nobody (outers l limit at_first execution)))
-    × Leads (empty l.procs l.cap) (deeds l limit at_first execution) (judge_of l (all_done nobody (outers l limit at_first execution)) at.mail))
-execution_comes l limit execution layout told =
+    × Leads (empty_state l.procs l.cap) (deeds l limit at_first execution) (judge_of l (all_done nobody (outers l limit at_first execution)) at.mail))
+execution_comes l limit execution layout reports =
     let n = l.procs in
-    let o = origin l limit at_first (empty n l.cap) layout (inl (refl, refl)) in
-    let r = projected l limit at_first execution o.held told in
+    let o = origin l limit at_first (empty_state n l.cap) layout (inl (refl, refl)) in
+    let r = projected l limit at_first execution o.held reports in
     let all : Legal n nobody (outers l limit at_first execution) = subst (Legal n nobody) r.same (legal n limit (core_of at_first) nobody r.events o.tied r.run) in
-    (all, comes_to l limit layout at_first nobody execution (record { mail = (empty n l.cap).mail; kept = o.kept; posts = o.posts }) told all)
+    (all, comes_to l limit layout at_first nobody execution (record { mail = (empty_state n l.cap).mail; kept = o.kept; posts = o.posts }) reports all)
 
 pub holders_put : OnlyHoldersPut
 holders_put l limit p before since earlier layout below execution entered none =
@@ -161,6 +161,6 @@ holders_put l limit p before since earlier layout below execution entered none =
     subst (Legal n nobody) (outers-append l limit at_first before since) whole.0 in
     let there = execution_comes l limit before layout (execution_front l limit at_first before since execution) in
     let is : outers l limit at_first before ≡ lock_deeds earlier ++ Enter p ∷ [] = sym (lock_deeds_are l limit at_first before) ∙ ap lock_deeds entered ∙ lock_deeds-append earlier (deed.Outer (Enter p) ∷ []) in
-    let within : IsIn ((all_done nobody (outers l limit at_first before)).phase p) = subst (λ (ds : List Outer). IsIn ((all_done nobody ds).phase p)) (sym is) (entered_in nobody (lock_deeds earlier) p) in
+    let within : IsInSection ((all_done nobody (outers l limit at_first before)).phase p) = subst (λ (ds : List Outer). IsInSection ((all_done nobody ds).phase p)) (sym is) (entered_in nobody (lock_deeds earlier) p) in
     only_puts l limit layout (last_global_state l limit at_first before) (all_done nobody (outers l limit at_first before)) since p below there.1.0 (execution_back l limit at_first before since execution) (legal_back n nobody (outers l limit at_first before) (outers l limit (last_global_state l limit at_first before) since) all) within
     (subst (Stays p) (lock_deeds_are l limit (last_global_state l limit at_first before) since) (none_ends p (deeds l limit (last_global_state l limit at_first before) since) none))

@@ -17,12 +17,12 @@ pub use Rattle.redomail.specs.declared.layout.Layout.{Layout}
 pub use Rattle.redomail.specs.Content.{IsContent, HeadsHold}
 pub use Rattle.redomail.specs.Layout.{Words, size, words_of, row, last_at}
 unfoldable pub use Rattle.redomail.specs.Layout.{place_at}
-pub use Rattle.redomail.specs.Shape.{RecordRule, mailbox_of, entry, entries, recorded, IsNumbered, count_of, ListRule, Unshown, Shown}
+pub use Rattle.redomail.specs.Shape.{RecordRule, mailbox_of, entry, entries, recorded_message, IsNumbered, count_of, ListRule, Unshown, Shown}
 pub use Rattle.redomail.proofs.Words.{place_low, entry-from_row}
-pub use Rattle.judge.specs.Starts.{phase_in, is_named, IsNext, AreNumbered, LockHolds, MailHolds, IsStart}
+pub use Rattle.judge.specs.Starts.{phase_in, is_named, IsNextMessage, AreNumbered, LockHolds, MailHolds, IsStart}
 pub use Rattle.rmeworld.specs.declared.image.Image.{Image}
-pub use Rattle.rmeworld.specs.ImageRules.{layout_of, IsLawfulImage, IsRecorded, Keeps, IsSized}
+pub use Rattle.rmeworld.specs.ImageRules.{layout_of, IsLawfulImage, IsRecorded, KeepsRules, IsSized}
 pub use Rattle.rmeworld.specs.ImageStart.{IsStartOf}
 pub use Rattle.rmeworld.specs.ImageText.{whole_data, width_member, image_data, own_data, written_data, Spells, IsFirstBrokenAs, IsUnread}
-pub use Rattle.rmeworld.specs.ImageWiden.{padded, widened, IsWider, shown_in}
+pub use Rattle.rmeworld.specs.ImageWiden.{padded_words, widened_message, IsWider, shown_in}
 pub use Rattle.rmeworld.specs.WideWords.{words_from, wide_place, wide_words}

@@ -1,7 +1,7 @@
 -- A judge can start from the start of a lawful image.
 use Rattle.std.proofs.Common.{◌≡◌, ◌≢◌, ℕ, zero, suc, ◌+◌, ◌<◌, ◌≤◌, Bool, true, false, ◌==◌, List, [], ◌∷◌, take, length, map, count_by, All, IfSome, is_none, refl, sym, ◌∙◌, ap, subst, inl, inr, arith, get_or, eq-eqb, ne_eqb, eqb-true, append-nil}
 use Rattle.rmeworld.proofs.ImageCommon.{take-append_seam, cases_Bool, cases_eq, cases_lt, false≢true, length-map, get_or-map, get_or_default, take-append-le, Own, dead_phase, phase_by}
-use Rattle.rmeworld.proofs.ImageCommon.{is_ahead as is_ahead_by, own_at, zeros, Layout, Words, words_of, RecordRule, mailbox_of, entry, entries, recorded, IsNumbered, phase_in, is_named, IsNext}
+use Rattle.rmeworld.proofs.ImageCommon.{is_ahead as is_ahead_by, own_at, zeros, Layout, Words, words_of, RecordRule, mailbox_of, entry, entries, recorded_message, IsNumbered, phase_in, is_named, IsNextMessage}
 use Rattle.rmeworld.proofs.ImageCommon.{AreNumbered, LockHolds, MailHolds, IsStart, Image, layout_of, IsLawfulImage, IsStartOf}
 use Rattle.std.specs.List.{list_any}
 use Rattle.std.proofs.lemmas.List.Folds.{list_any-from_Any, list_any_none}
@@ -86,7 +86,7 @@ numbered_to l w k (suc i) n h =
     let m = entry l w i in
     let front = take_entries l w k i (omega arith) in
     let here = n i (omega arith) in
-    let next : IsNext l.procs (take i (entries l w k)) m = rw front (here.0, here.1) in
+    let next : IsNextMessage l.procs (take i (entries l w k)) m = rw front (here.0, here.1) in
     let more = Numbered-more l.procs (entries l w k) i m (omega (arith, length-entries l w k)) (sym (get_or-entries l w k i m (omega arith))) next before in
     let e : i + 1 ≡ suc i = omega arith in rw e at more
 
@@ -160,7 +160,7 @@ module _ (i : Image) (s : Start) (k : IsLawfulImage i) (h : IsStartOf i s) where
   closed_is = ap (λ m. m.closed) (h.mail p (alone i k).1)
 
   -- an armed record that isn't shown is the next message of the process inside
-  record_is_next : w 3 ≡ 1 → w 0 ≢ 1 → w 2 ≡ w 4 → IsNext (length i.lock) (entries l w (w 2)) (recorded l p w) × (length (entries l w (w 2)) < i.cap)
+  record_is_next : w 3 ≡ 1 → w 0 ≢ 1 → w 2 ≡ w 4 → IsNextMessage (length i.lock) (entries l w (w 2)) (recorded_message l p w) × (length (entries l w (w 2)) < i.cap)
   record_is_next armed clean at =
       let heads = k.heads (omega arith) in
       let x = (k.recorded (omega arith)).clean armed (omega (arith, heads.ruined, clean)) in
@@ -172,7 +172,7 @@ module _ (i : Image) (s : Start) (k : IsLawfulImage i) (h : IsStartOf i s) where
         | inr shown ↦ absurd (omega (arith, shown.count, at))
       ]
 
-  pending_holds : IfSome (mailbox_of l p w).pending (λ m. IsNext (length i.lock) (entries l w (w 2)) m × (length (entries l w (w 2)) < i.cap))
+  pending_holds : IfSome (mailbox_of l p w).pending (λ m. IsNextMessage (length i.lock) (entries l w (w 2)) m × (length (entries l w (w 2)) < i.cap))
   pending_holds =
       elim (cases_eq (w 0) 1) [
         | inl ruined ↦ rw (eq-eqb (w 0) 1 ruined) tt

@@ -1,9 +1,9 @@
 -- The rules of an image, each from those before it.
 use Rattle.std.proofs.Common.{◌≡◌, ◌≢◌, ℕ, ◌<◌, true, length, slice_index, inl, inr, sym, subst, arith}
-use Rattle.rmeworld.proofs.Common.{cases_eq, Own, IsLawful, is_before, own_at, Layout, Words, words_of, RecordRule, IsNumbered, Image, layout_of, IsLawfulImage, IsRecorded, Keeps}
+use Rattle.rmeworld.proofs.Common.{cases_eq, Own, IsLawful, is_before, own_at, Layout, Words, words_of, RecordRule, IsNumbered, Image, layout_of, IsLawfulImage, IsRecorded, KeepsRules}
 use Rattle.redomail.specs.Content.{IsContent}
 use Rattle.std.proofs.lemmas.Bool.Decides.{nat_tests}
-use Rattle.rmeworld.specs.ImageRules.{IsIn}
+use Rattle.rmeworld.specs.ImageRules.{IsInsideByImage}
 
 pub record_is_numbered : (l : Layout) (p : ℕ) (w : Words) → RecordRule l p w → IsNumbered l w (w 2)
 record_is_numbered l p w r = elim r.rule [ inl h ↦ h.numbered | inr h ↦ h.listed.numbered ]
@@ -21,7 +21,7 @@ only_one n limit words p q h lp lq kp ip kq iq =
     ]
 
 -- if the entries aren't numbered, no record rule holds
-pub unnumbered : (i : Image) → Keeps 7 i → slice_index i.cells 3 ≢ 0 → (IsNumbered (layout_of i) (words_of i.cells) (slice_index i.cells 2) → ⊥) → IsRecorded i → ⊥
+pub unnumbered : (i : Image) → KeepsRules 7 i → slice_index i.cells 3 ≢ 0 → (IsNumbered (layout_of i) (words_of i.cells) (slice_index i.cells 2) → ⊥) → IsRecorded i → ⊥
 unnumbered i k armed none r =
     let heads = k.heads (omega arith) in
     elim (cases_eq (slice_index i.cells 0) 0) [
@@ -30,14 +30,14 @@ unnumbered i k armed none r =
     ]
 
 -- in a lock that isn't ruined, the record is that of the process inside
-pub by_inside : (i : Image) (p : ℕ) → Keeps 7 i → IsIn i p → slice_index i.cells 3 ≢ 0 → slice_index i.cells 0 ≢ 1 → IsRecorded i → RecordRule (layout_of i) p (words_of i.cells)
+pub by_inside : (i : Image) (p : ℕ) → KeepsRules 7 i → IsInsideByImage i p → slice_index i.cells 3 ≢ 0 → slice_index i.cells 0 ≢ 1 → IsRecorded i → RecordRule (layout_of i) p (words_of i.cells)
 by_inside i p k inside armed clean r =
     let heads = k.heads (omega arith) in
     let h = r.clean (omega (arith, heads.armed, armed)) (omega (arith, heads.ruined, clean)) in
     let same = only_one (length i.lock) i.limit (own_at i.lock) h.0 p (k.lawful (omega arith)) h.1.0 inside.0 h.1.1 h.1.2 inside.1 inside.2 in
     subst (λ q. RecordRule (layout_of i) q (words_of i.cells)) same h.2
 
-pub is_recorded_by : (i : Image) (p : ℕ) → IsIn i p → slice_index i.cells 0 ≢ 1 → RecordRule (layout_of i) p (words_of i.cells) → IsRecorded i
+pub is_recorded_by : (i : Image) (p : ℕ) → IsInsideByImage i p → slice_index i.cells 0 ≢ 1 → RecordRule (layout_of i) p (words_of i.cells) → IsRecorded i
 is_recorded_by i p inside clean r = record {
   clean = λ armed c. (p, inside, r);
   ruined = λ armed ruined. absurd (clean ruined);

@@ -1,7 +1,7 @@
 -- A text has at most one image, and an image's own line has that image.
 use Rattle.std.proofs.Common.{◌≡◌, ◌≤◌, ℕ, Bool, true, false, List, [], ◌∷◌, ◌++◌, map, max, Some, inl, inr, refl, sym, ap, ap₂, subst, ◌∙◌, arith, IsUtf8, true≢false}
 use Rattle.rmeworld.proofs.ImageCommon.{tokens, print, array, Items, no_items, item, Members, no_members, member, null, number, unsigned, depth, items_depth, read, max_depth, items_of, Own, Refusal}
-use Rattle.rmeworld.proofs.ImageCommon.{OutOfMemory, Image, IsLawfulImage, Keeps, whole_data, image_data, own_data, written_data, Spells, IsFirstBrokenAs, IsUnread}
+use Rattle.rmeworld.proofs.ImageCommon.{OutOfMemory, Image, IsLawfulImage, KeepsRules, whole_data, image_data, own_data, written_data, Spells, IsFirstBrokenAs, IsUnread}
 use Rattle.std.proofs.lemmas.Str.{IsUtf8-append}
 use Rattle.serde_json.specs.Data.{Data}
 use Rattle.json.proofs.Found.{Some_inj}
@@ -45,8 +45,8 @@ width_in : Members → ℕ
 width_in no_members = 1
 width_in (member k d ms) = whole_in d
 
-behind_five : Members → Members
-behind_five ms = rest_of_members (rest_of_members (rest_of_members (rest_of_members (rest_of_members ms))))
+after_five : Members → Members
+after_five ms = rest_of_members (rest_of_members (rest_of_members (rest_of_members (rest_of_members ms))))
 
 -- the image of these members
 image_by : Members → Image
@@ -61,7 +61,7 @@ image_by ms =
       limit = whole_in (first_of ms2);
       lock = lock_in (first_of ms3);
       version = whole_in (first_of ms4);
-      width = width_in (behind_five ms);
+      width = width_in (after_five ms);
     }
 
 numbers_again : (ns : List ℕ) → numbers_in (items_of (map whole_data ns)) ≡ ns
@@ -75,14 +75,14 @@ owns_again [] = refl
 owns_again (x ∷ xs) = ap (λ l. x ∷ l) (owns_again xs)
 
 image_again : (wide : Bool) (i : Image) → (wide ≡ false → i.width ≡ 1) → image_by (members_or (image_data wide i)) ≡ i
-unfolding image_by first_of list_in lock_in whole_in width_in behind_five
+unfolding image_by first_of list_in lock_in whole_in width_in after_five
 image_again true i narrow = ap₂ (λ cells lock. record i { cells = cells; lock = lock }) (numbers_again i.cells) (owns_again i.lock)
 image_again false i narrow =
     ap₂ (λ cells lock. record i { cells = cells; lock = lock; width = 1 }) (numbers_again i.cells) (owns_again i.lock)
     ∙ ap (λ w. record i { width = w }) (sym (narrow refl))
 
-wide_again : (wide : Bool) (i : Image) → is_some (behind_five (members_or (image_data wide i))) ≡ wide
-unfolding is_some behind_five
+wide_again : (wide : Bool) (i : Image) → is_some (after_five (members_or (image_data wide i))) ≡ wide
+unfolding is_some after_five
 wide_again true i = refl
 wide_again false i = refl
 
@@ -90,7 +90,7 @@ wide_again false i = refl
 pub one_image : (text : List ℕ) (wide also : Bool) (i j : Image) → Spells text wide i → Spells text also j → (wide ≡ also) × (i ≡ j)
 one_image text wide also i j a b =
     let same = Some_inj (image_data wide i) (image_data also j) (sym a.read ∙ b.read) in (
-      sym (wide_again wide i) ∙ ap (λ d. is_some (behind_five (members_or d))) same ∙ wide_again also j,
+      sym (wide_again wide i) ∙ ap (λ d. is_some (after_five (members_or d))) same ∙ wide_again also j,
       sym (image_again wide i a.narrow) ∙ ap (λ d. image_by (members_or d)) same ∙ image_again also j b.narrow,
     )
 
@@ -116,7 +116,7 @@ line_spells i text line utf8 compact back e = record {
 }
 
 -- a lawful image keeps the rules up to any one, in version 2 too
-keeps : (i : Image) (rule : ℕ) → IsLawfulImage i → Keeps rule (record i { version = 2 })
+keeps : (i : Image) (rule : ℕ) → IsLawfulImage i → KeepsRules rule (record i { version = 2 })
 keeps i rule k =
     let s = k.sized (omega arith) in
     let r = k.recorded (omega arith) in

@@ -1,8 +1,8 @@
 -- A wider image keeps the rules, and its messages.
 use Rattle.std.proofs.Common.{◌≡◌, ℕ, zero, suc, ◌+◌, ◌<◌, ◌≤◌, List, [], ◌∷◌, length, map, cond, ◌==◌, inl, inr, refl, sym, ap, subst, ◌∙◌, arith}
-use Rattle.rmeworld.proofs.ImageCommon.{map-append, own_at, Layout, HeadsHold, Words, words_of, row, last_at, place_at, RecordRule, entry, entries, recorded, IsNumbered, count_of, ListRule, Unshown, Shown}
-use Rattle.rmeworld.proofs.ImageCommon.{Image, layout_of, IsLawfulImage, IsRecorded, IsSized, padded, widened, IsWider, shown_in}
-use Rattle.rmeworld.specs.ImageRules.{IsIn}
+use Rattle.rmeworld.proofs.ImageCommon.{map-append, own_at, Layout, HeadsHold, Words, words_of, row, last_at, place_at, RecordRule, entry, entries, recorded_message, IsNumbered, count_of, ListRule, Unshown, Shown}
+use Rattle.rmeworld.proofs.ImageCommon.{Image, layout_of, IsLawfulImage, IsRecorded, IsSized, padded_words, widened_message, IsWider, shown_in}
+use Rattle.rmeworld.specs.ImageRules.{IsInsideByImage}
 use Rattle.redomail.proofs.Changes.{count_of-push}
 
 head_or : ℕ → List ℕ → ℕ
@@ -23,10 +23,10 @@ in_rows v w i j (suc n) (suc k) h e =
     let b : j + suc k ≡ j + 1 + k = omega arith in
     rw (a, b) (in_rows v w (i + 1) (j + 1) n k (omega arith) (ap rest_of e))
 
-module _ (l m : Layout) (w v : Words) (wide : ℕ) (places : (a : ℕ) → a < l.cap → entry m v a ≡ widened wide (entry l w a)) where
-  pub entries-widened : (k : ℕ) → k ≤ l.cap → entries m v k ≡ map (widened wide) (entries l w k)
+module _ (l m : Layout) (w v : Words) (wide : ℕ) (places : (a : ℕ) → a < l.cap → entry m v a ≡ widened_message wide (entry l w a)) where
+  pub entries-widened : (k : ℕ) → k ≤ l.cap → entries m v k ≡ map (widened_message wide) (entries l w k)
   entries-widened zero h = refl
-  entries-widened (suc k) h = rw (entries-widened k (omega arith), places k (omega arith)) (sym (map-append (widened wide) (entries l w k) (entry l w k ∷ [])))
+  entries-widened (suc k) h = rw (entries-widened k (omega arith), places k (omega arith)) (sym (map-append (widened_message wide) (entries l w k) (entry l w k ∷ [])))
 
   counts-same : (q k : ℕ) → k ≤ l.cap → count_of q (entries m v k) ≡ count_of q (entries l w k)
   counts-same q zero h = refl
@@ -47,8 +47,8 @@ module _ (l m : Layout) (w v : Words) (wide : ℕ) (places : (a : ℕ) → a < l
 
 -- the words of the wider image beside those of the old one
 module _ (l m : Layout) (w v : Words) (wide : ℕ) (procs : m.procs ≡ l.procs) (width : m.width ≡ wide) (cap : m.cap ≡ l.cap)
-    (heads : row v 0 6 ≡ row w 0 6) (record_is : row v 6 wide ≡ padded wide (row w 6 l.width)) (others : row v (6 + wide) (4 + l.procs) ≡ row w (6 + l.width) (4 + l.procs))
-    (places : (a : ℕ) → a < l.cap → entry m v a ≡ widened wide (entry l w a)) where
+    (heads : row v 0 6 ≡ row w 0 6) (record_is : row v 6 wide ≡ padded_words wide (row w 6 l.width)) (others : row v (6 + wide) (4 + l.procs) ≡ row w (6 + l.width) (4 + l.procs))
+    (places : (a : ℕ) → a < l.cap → entry m v a ≡ widened_message wide (entry l w a)) where
   pub head : (k : ℕ) → k < 6 → v k ≡ w k
   head k h = let e : 0 + k ≡ k = omega arith in let t = in_rows v w 0 0 6 k h heads in rw e at t
 
@@ -59,7 +59,7 @@ module _ (l m : Layout) (w v : Words) (wide : ℕ) (procs : m.procs ≡ l.procs)
       let b : last_at l q ≡ 6 + l.width + (4 + q) = omega arith in
       rw (a, b) t
 
-  recorded-widened : (p : ℕ) → recorded m p v ≡ widened wide (recorded l p w)
+  recorded-widened : (p : ℕ) → recorded_message m p v ≡ widened_message wide (recorded_message l p w)
   recorded-widened p = rw (width, record_is, head 5 (omega arith)) refl
 
   pub ListRule-widened : (k : ℕ) → k ≤ l.cap → ListRule l w k → ListRule m v k
@@ -70,8 +70,8 @@ module _ (l m : Layout) (w v : Words) (wide : ℕ) (procs : m.procs ≡ l.procs)
         last q low ∙ r.counted q low ∙ sym (counts-same l m w v wide places q k h);
   }
 
-  at_record : (p : ℕ) → w 4 < l.cap → entry l w (w 4) ≡ recorded l p w → entry m v (v 4) ≡ recorded m p v
-  at_record p room e = rw (head 4 (omega arith)) (places (w 4) room ∙ ap (widened wide) e ∙ sym (recorded-widened p))
+  at_record : (p : ℕ) → w 4 < l.cap → entry l w (w 4) ≡ recorded_message l p w → entry m v (v 4) ≡ recorded_message m p v
+  at_record p room e = rw (head 4 (omega arith)) (places (w 4) room ∙ ap (widened_message wide) e ∙ sym (recorded-widened p))
 
   unshown : (p : ℕ) → p < l.procs → w 2 ≤ l.cap → w 4 < l.cap → Unshown l p w → Unshown m p v
   unshown p lp low room r =
@@ -154,7 +154,7 @@ module _ (wide : ℕ) (i j : Image) (k : IsLawfulImage i) (least : i.width ≤ w
         apart = λ c a. old.apart (sym closed ∙ c) (sym armed ∙ a);
       }
 
-  in_is : (p : ℕ) → IsIn i p → IsIn j p
+  in_is : (p : ℕ) → IsInsideByImage i p → IsInsideByImage j p
   in_is p x = let o : own_at j.lock p ≡ own_at i.lock p = ap (λ lock. own_at lock p) h.lock in (omega (arith, procs, x.0), rw o x.1, rw o x.2)
 
   recorded_is : IsRecorded j
@@ -185,7 +185,7 @@ module _ (wide : ℕ) (i j : Image) (k : IsLawfulImage i) (least : i.width ≤ w
     recorded = λ _. recorded_is;
   }
 
-  pub wider_shows : shown_in j ≡ map (widened wide) (shown_in i)
+  pub wider_shows : shown_in j ≡ map (widened_message wide) (shown_in i)
   wider_shows =
       ap (entries (layout_of j) v) (head_is 2 (omega arith))
       ∙ entries-widened (layout_of i) (layout_of j) w v wide h.places (w 2) (k.heads (omega arith)).room

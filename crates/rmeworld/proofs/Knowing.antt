@@ -2,14 +2,14 @@
 -- and mended: the words are clean. At its exit: they are clean or ruined.
 use Rattle.std.proofs.Common.{◌≡◌, ℕ, ◌<◌, Bool, true, false, ◌&&◌, ◌==◌, length, if◌then◌else◌, List, refl, sym, ap, ◌∙◌, subst, inl, inr, arith, eqb-true, true≢false}
 use Rattle.rmeworld.proofs.Common.{cases_Bool, and_parts, eqb-false, Phase, Within, Place, Leaving, Inside, Layout, Message, Reply, Mended, Ruined, Stored, Already, Task, Words, IsLayout, Mailbox}
-use Rattle.rmeworld.proofs.Common.{message, Safe, Script, Get, Put, Done, Shape, bit, recorded, script, consistent, Purpose, Ruining, Mending, Working, Checking, AppendTells, PurposeTells, ScriptState, Free}
-use Rattle.rmeworld.proofs.Common.{Doing, ProcessState, settled, end_place, end_mended}
+use Rattle.rmeworld.proofs.Common.{message, Safe, Script, Get, Put, Done, Shape, bit, recorded_message, script, consistent, Purpose, Ruining, Mending, Working, Checking, AppendTells, PurposeTells, ScriptState, Free}
+use Rattle.rmeworld.proofs.Common.{Doing, ProcessState, process_after_script, end_place, end_mended}
 use Rattle.redomail.specs.declared.task.Task.TheVariants as task
 use Rattle.redomail.specs.Runs.{answer, final, added_by, Allowed, MayBegin}
 use Rattle.redomail.specs.Endings.{FindsArmed, ruined_after, armed_after}
 use Rattle.redomail.proofs.Begins.{begun_safe, consistent_safe}
 use Rattle.redomail.proofs.Endings.{tasks_end, consistent_ends}
-use Rattle.redomail.proofs.Steps.{consistent_told}
+use Rattle.redomail.proofs.Steps.{consistent_reported}
 use Rattle.redomail.proofs.Among.{answered_is_shown}
 
 -- ruined is 0 and no record is armed
@@ -58,7 +58,7 @@ module _ (l : Layout) (p : ℕ) where
   end_post ph w s b (Working t) a h e = (h, e)
 
   -- after a step of a script
-  pub settled_post : (ph : Phase) (w : Words) (s : Mailbox) (b c : Bool) (purpose : Purpose) (e : Script Reply) → ph ≡ Within → Work l p w s b purpose e → PostAt l p ph w s (settled b c purpose e)
+  pub settled_post : (ph : Phase) (w : Words) (s : Mailbox) (b c : Bool) (purpose : Purpose) (e : Script Reply) → ph ≡ Within → Work l p w s b purpose e → PostAt l p ph w s (process_after_script b c purpose e)
   settled_post ph w s b c purpose (Get i rest) h k = (refl, h, k)
   settled_post ph w s b c purpose (Put i v rest) h k = (refl, h, k)
   settled_post ph w s b c purpose (Done a) h k = end_post ph w s b purpose a h k.ends
@@ -114,13 +114,13 @@ module _ (l : Layout) (p : ℕ) (w : Words) (s : Mailbox) (layout : IsLayout l) 
 
   pub mending : Work l p w s false Mending (consistent l p)
   mending =
-      let told = consistent_told l p w in
+      let reports = consistent_reported l p w in
       let ends = consistent_ends l p w in
       record {
-        m = recorded l p w;
+        m = recorded_message l p w;
         old = s;
         safe = consistent_safe l p w s layout below shape;
-        ends = mended_by (answer (consistent l p) w) (final (consistent l p) w) (w 0 == 1) _ refl told.1 ends.0 ends.1;
+        ends = mended_by (answer (consistent l p) w) (final (consistent l p) w) (w 0 == 1) _ refl reports.1 ends.0 ends.1;
         mine = tt;
       }
 

@@ -1,31 +1,31 @@
 -- The image of a global state at the end of an execution is lawful.
 use Rattle.std.proofs.Common.{◌≡◌, ℕ, zero, suc, ◌<◌, ◌≤◌, ◌^◌, Bool, true, false, List, length, slice_index, refl, sym, ap, ◌∙◌, subst, inl, inr, ◌⊎◌, arith}
-use Rattle.rmeworld.proofs.Common.{cases_eq, Phase, Within as Inside, DeadIn, own_at, IsIn, Deed, Layout, Words, size, words_of, Shape, RecordRule, bit, State, Image, layout_of, IsLawfulImage}
+use Rattle.rmeworld.proofs.Common.{cases_eq, Phase, Within as Inside, DeadIn, own_at, IsInSection, Deed, Layout, Words, size, words_of, Shape, RecordRule, bit, State, Image, layout_of, IsLawfulImage}
 use Rattle.rmeworld.proofs.Common.{IsWorld, IsImageOf, EveryExecutionLeavesAnImage, IsLegalHistory, image_of, ProcessState, IsSize, GlobalState, WorldState, global_state_of}
 use Rattle.redomail.specs.Content.{HeadsHold}
 use Rattle.rmeworld.proofs.Reaching.{Arrived, arrives, origin, reached_arrives}
 use Rattle.rmeworld.proofs.Executions.{before_is}
 
 -- a process is in, or it is not
-decides : (phase : Phase) → IsIn phase ⊎ (IsIn phase → ⊥)
+decides : (phase : Phase) → IsInSection phase ⊎ (IsInSection phase → ⊥)
 decides Inside = inl tt
 decides DeadIn = inl tt
 decides _ = inr (λ h. h)
 
 abbrev pub Someone : ℕ → (ℕ → Phase) → Type 0
-Someone n phases = (p : ℕ) × (p < n) × IsIn (phases p)
+Someone n phases = (p : ℕ) × (p < n) × IsInSection (phases p)
 
 abbrev pub Nobody : ℕ → (ℕ → Phase) → Type 0
-Nobody n phases = (p : ℕ) → p < n → IsIn (phases p) → ⊥
+Nobody n phases = (p : ℕ) → p < n → IsInSection (phases p) → ⊥
 
 pub find_in : (n : ℕ) (phases : ℕ → Phase) → Someone n phases ⊎ Nobody n phases
 find_in zero phases = inr (λ p below i. omega arith)
 find_in (suc n) phases = by (find_in n phases) (decides (phases n))
   where
-    by : Someone n phases ⊎ Nobody n phases → IsIn (phases n) ⊎ (IsIn (phases n) → ⊥) → Someone (suc n) phases ⊎ Nobody (suc n) phases
+    by : Someone n phases ⊎ Nobody n phases → IsInSection (phases n) ⊎ (IsInSection (phases n) → ⊥) → Someone (suc n) phases ⊎ Nobody (suc n) phases
     by (inl h) here = inl (h.0, omega (arith, h.1), h.2)
     by (inr h) (inl here) = inl (n, omega arith, here)
-    by (inr h) (inr out) = inr (λ p below i. elim (cases_eq p n) [ inl e ↦ out (subst (λ q. IsIn (phases q)) e i) | inr ne ↦ h p (omega (arith, ne)) i ])
+    by (inr h) (inr out) = inr (λ p below i. elim (cases_eq p n) [ inl e ↦ out (subst (λ q. IsInSection (phases q)) e i) | inr ne ↦ h p (omega (arith, ne)) i ])
 
 bit_least : (b : Bool) → bit b ≤ 1
 bit_least true = omega arith
@@ -47,7 +47,7 @@ module _ (i : Image) (process_states : ℕ → ProcessState) (history : List Dee
   w = words_of i.cells
 
   -- only one process is in
-  only : (p : ℕ) → p < l.procs → IsIn (a.now.lock.phase p) → (r : ℕ) → r < l.procs → IsIn (a.now.lock.phase r) → r ≡ p
+  only : (p : ℕ) → p < l.procs → IsInSection (a.now.lock.phase p) → (r : ℕ) → r < l.procs → IsInSection (a.now.lock.phase r) → r ≡ p
   only p below here r low there =
       elim (cases_eq r p) [
         | inl same ↦ same
@@ -59,7 +59,7 @@ module _ (i : Image) (process_states : ℕ → ProcessState) (history : List Dee
             absurd (omega (arith, e, f)))
       ]
 
-  shape_in : (p : ℕ) → p < l.procs → IsIn (a.now.lock.phase p) → Shape l p w a.now.mail
+  shape_in : (p : ℕ) → p < l.procs → IsInSection (a.now.lock.phase p) → Shape l p w a.now.mail
   shape_in p below here = a.sits.shape p (only p below here)
 
   shape_by : Someone l.procs a.now.lock.phase ⊎ Nobody l.procs a.now.lock.phase → (p : ℕ) × Shape l p w a.now.mail
@@ -132,8 +132,8 @@ image_ends {l = l} {limit = limit} {w = w} {history = history} state i sized lim
     (is.filled ∙ ap size (sym is.layout))
 
 pub every_execution_leaves_an_image : EveryExecutionLeavesAnImage
-every_execution_leaves_an_image l limit w s execution i sized limited start told is =
-    image_ends s i sized limited is (arrives l limit w s execution sized.layout (origin l limit w s sized.layout start) told)
+every_execution_leaves_an_image l limit w s execution i sized limited start reports is =
+    image_ends s i sized limited is (arrives l limit w s execution sized.layout (origin l limit w s sized.layout start) reports)
 
 pub image_is_lawful : (s : WorldState) → IsWorld s → IsLawfulImage (image_of s)
 image_is_lawful s world =

@@ -1,9 +1,9 @@
 -- The invariant of each process's private memory in a world, under which its machine takes the definition's steps.
 use Rattle.std.proofs.Common.{◌≡◌, ℕ, Bool, true, false, ◌&&◌, ◌==◌, nat_lt, [], ◌∷◌, length, Option, Some, None, IfSome, refl, sym, ◌∙◌, subst, inl, inr, arith, eqb-true, ltb-true, true≢false}
 use Rattle.rmeworld.proofs.Common.{cases_Bool, Access, Store, Refusal, Data as DataAt, after_access, lock_access, IsLeastOfLock, Place, Wait, Rest, Inside, Dead, Layout, Reply, Ruined, IsLayout, Pending}
-use Rattle.rmeworld.proofs.Common.{left, fed, Script, Get as Asks, Put as Writes, Done, tail, stage_after, Call, Lock, Unlock, Consistent, Recover, Append, Close, Withdraw, Chore, IsFree, Does, Purpose, HasStep}
-use Rattle.rmeworld.proofs.Common.{Checking, is_entry, script_state_of, Held, first_cause, start_refusal, is_idle_by, Doing, ProcessState, Begins, begun_from, next_process_state, only_process_state, end_place, MachineState, standing, IsLeast}
-use Rattle.rmeworld.proofs.Common.{resting, IsAllowed, process_state_of, lock_moved, job_left, stepped, stepped_by, access_by, next_access, process_state_after, StoresOwn, machine_state_started as started, crashed}
+use Rattle.rmeworld.proofs.Common.{script_left, job_after_word, Script, Get as Asks, Put as Writes, Done, tail, stage_after, Call, Lock, Unlock, Consistent, Recover, Append, Close, Withdraw, Chore, IsFree, Does, Purpose, HasStep}
+use Rattle.rmeworld.proofs.Common.{Checking, is_entry, script_state_of, HoldsJob, first_cause, start_refusal, is_idle_by, Doing, ProcessState, Begins, begun_from, next_process_state, only_process_state, end_place, MachineState, standing, IsLeast}
+use Rattle.rmeworld.proofs.Common.{resting, IsAllowed, process_state_of, lock_moved, job_left, machine_after_step, stepped_by, access_by, next_access, process_state_after, StoresOwn, machine_state_started as started, machine_after_crash}
 use Rattle.rmecore.specs.declared.refusal.Refusal.TheVariants.{Unmended, BadIndex, BadWidth}
 use Rattle.rmecore.specs.Machine.{StoresOwn as IsLockOwn}
 use Rattle.rmecore.proofs.Accesses.{all_allowed, stores_own}
@@ -23,27 +23,27 @@ FitsChore l IsFree = Unit {0}
 FitsChore l (Does purpose job) = (job.layout ≡ l) × FitsStage l job.stage
 
 pub record IsOrdered (s : MachineState) : Type 0 where
-  pub held : Held s.script_state s.lock
+  pub held : HoldsJob s.script_state s.lock
   pub fits : FitsChore s.layout s.script_state
   pub scanned : IsScanned s.layout.procs s.index s.lock
 
 pub ordered_rest : (l : Layout) (limit p : ℕ) → IsOrdered (resting l limit p)
 ordered_rest l limit p = record { held = tt; fits = tt; scanned = tt }
 
-pub ordered_crashed : (s : MachineState) → IsOrdered (crashed s)
+pub ordered_crashed : (s : MachineState) → IsOrdered (machine_after_crash s)
 ordered_crashed s = record { held = tt; fits = tt; scanned = tt }
 
 -- the next step
 
-job_left_after : (l : Layout) (job : Pending) (v : ℕ) → IsLayout l → job.layout ≡ l → FitsStage l job.stage → left (fed job v) ≡ tail (left job) v
+job_left_after : (l : Layout) (job : Pending) (v : ℕ) → IsLayout l → job.layout ≡ l → FitsStage l job.stage → script_left (job_after_word job v) ≡ tail (script_left job) v
 job_left_after l job v lawful is fits = left_after job.layout (subst IsLayout (sym is) lawful) job.sender job.stage v (subst (λ x. FitsStage x job.stage) (sym is) fits)
 
-pub goes : (s : MachineState) (v : ℕ) → IsLayout s.layout → IsOrdered s → process_state_of (stepped s v) ≡ process_state_after s (next_access s) v
+pub goes : (s : MachineState) (v : ℕ) → IsLayout s.layout → IsOrdered s → process_state_of (machine_after_step s v) ≡ process_state_after s (next_access s) v
 goes s v lawful h = by s.script_state h.held h.fits
   where
-    by : (e : Chore) → Held e s.lock → FitsChore s.layout e → Goes s e v
+    by : (e : Chore) → HoldsJob e s.lock → FitsChore s.layout e → Goes s e v
     by IsFree held fits = lock_goes s v (all_allowed (standing s))
-    by (Does purpose job) held fits = job_goes s purpose job (fed job v) v held (job_left_after s.layout job v lawful fits.0 fits.1)
+    by (Does purpose job) held fits = job_goes s purpose job (job_after_word job v) v held (job_left_after s.layout job v lawful fits.0 fits.1)
 
 pub allowed : (s : MachineState) → IfSome (next_access s) (IsAllowed s)
 allowed s = by s.script_state
@@ -71,14 +71,14 @@ owns s = by s.script_state
 
     by : (e : Chore) → IfSome (next_access (with s e)) (StoresOwn s.index)
     by IsFree = lifted (lock_access (standing s)) (stores_own s.limit s.index s.lock)
-    by (Does purpose job) = doing purpose (left job)
+    by (Does purpose job) = doing purpose (script_left job)
 
 -- the end of a script
 end_scanned : (n p : ℕ) (purpose : Purpose) (reply : Reply) → IsScanned n p (end_place purpose reply)
 end_scanned n p Checking (Ruined true) = tt
 end_scanned n p _ _ = tt
 
-pub ordered_stepped : (s : MachineState) (v : ℕ) → IsLayout s.layout → IsOrdered s → IsOrdered (stepped s v)
+pub ordered_stepped : (s : MachineState) (v : ℕ) → IsLayout s.layout → IsOrdered s → IsOrdered (machine_after_step s v)
 ordered_stepped s v lawful h = by s.script_state h.held h.fits
   where
     moved : (t : Place) → IsScanned s.layout.procs s.index t → IsOrdered (lock_moved s t)
@@ -87,17 +87,17 @@ ordered_stepped s v lawful h = by s.script_state h.held h.fits
       | inr e ↦ rw e (record { held = tt; fits = tt; scanned = scanned })
     ]
 
-    on : (purpose : Purpose) (job : Pending) → s.lock ≡ Inside → FitsChore s.layout (Does purpose job) → (x : Script Reply) → left job ≡ x → IsOrdered (job_left s purpose job x)
+    on : (purpose : Purpose) (job : Pending) → s.lock ≡ Inside → FitsChore s.layout (Does purpose job) → (x : Script Reply) → script_left job ≡ x → IsOrdered (job_left s purpose job x)
     on purpose job inside fits (Done reply) is = record { held = tt; fits = tt; scanned = end_scanned s.layout.procs s.index purpose reply }
     on purpose job inside fits (Asks i rest) is = record { held = (inside, subst HasStep (sym is) tt); fits = fits; scanned = h.scanned }
     on purpose job inside fits (Writes i x rest) is = record { held = (inside, subst HasStep (sym is) tt); fits = fits; scanned = h.scanned }
 
-    by : (e : Chore) → Held e s.lock → FitsChore s.layout e → IsOrdered (stepped_by s e v)
+    by : (e : Chore) → HoldsJob e s.lock → FitsChore s.layout e → IsOrdered (stepped_by s e v)
     by IsFree held fits = moved (after_access (standing s) (lock_access (standing s)) v) (scanned_after s.layout.procs s.limit s.index s.lock v h.scanned)
     by (Does purpose job) held fits =
         let stage = fits_after s.layout lawful job.stage v fits.1 in
-        let next : FitsChore s.layout (Does purpose (fed job v)) = (fits.0, subst (λ l. FitsStage s.layout (stage_after l job.stage v)) (sym fits.0) stage) in
-        on purpose (fed job v) held.0 next (left (fed job v)) refl
+        let next : FitsChore s.layout (Does purpose (job_after_word job v)) = (fits.0, subst (λ l. FitsStage s.layout (stage_after l job.stage v)) (sym fits.0) stage) in
+        on purpose (job_after_word job v) held.0 next (script_left (job_after_word job v)) refl
 
 -- the next step is one of the least process
 pub least : (s : MachineState) → IsOrdered s → IfSome (next_access s) (IsLeast s)
@@ -114,7 +114,7 @@ least s h = by s.script_state
 
     by : (e : Chore) → IfSome (next_access (with s e)) (IsLeast (with s e))
     by IsFree = lifted (lock_access (standing s)) (least_of_lock (standing s) h.scanned)
-    by (Does purpose job) = doing (Does purpose job) purpose (left job)
+    by (Does purpose job) = doing (Does purpose job) purpose (script_left job)
 
 -- if a call is under way there is a next step
 pub has_step : (s : MachineState) → IsOrdered s → is_idle (process_state_of s) ≡ false → next_access s ≡ None → ⊥
@@ -125,9 +125,9 @@ has_step s h = by s.script_state h.held
     doing purpose (Writes i x rest) has none = cc
     doing purpose (Done reply) has none = has
 
-    by : (e : Chore) → Held e s.lock → is_idle_by s.lock (script_state_of e) ≡ false → access_by s.limit s.index s.lock (script_state_of e) ≡ None → ⊥
+    by : (e : Chore) → HoldsJob e s.lock → is_idle_by s.lock (script_state_of e) ≡ false → access_by s.limit s.index s.lock (script_state_of e) ≡ None → ⊥
     by IsFree held busy none = true≢false (sym (no_step_is_idle s.layout.procs s.limit s.index s.lock h.scanned none) ∙ busy)
-    by (Does purpose job) held busy none = doing purpose (left job) held.1 none
+    by (Does purpose job) held busy none = doing purpose (script_left job) held.1 none
 
 -- a start that is not refused
 fits_only : (b : Bool) (x : ProcessState) → b ≡ true → only_process_state b x ≡ Some x
@@ -152,7 +152,7 @@ module _ (l : Layout) (limit p : ℕ) (lawful : IsLayout l) (barred : Bool) wher
   abbrev Starts : MachineState → Call → Type 0
   Starts s call = (begun_from l p s.lock s.mended (script_state_of s.script_state) call ≡ Some (process_state_of (started s call))) × IsOrdered (started s call)
 
-  idle : {s : MachineState} → Held s.script_state s.lock → FitsChore s.layout s.script_state → IsScanned s.layout.procs s.index s.lock → IsOrdered s
+  idle : {s : MachineState} → HoldsJob s.script_state s.lock → FitsChore s.layout s.script_state → IsScanned s.layout.procs s.index s.lock → IsOrdered s
   idle held fits scanned = record { held = held; fits = fits; scanned = scanned }
 
   starts : (lock : Place) (mended : Bool) (call : Call) → start_refusal l (process_state_of (at lock mended)) call ≡ None → Starts (at lock mended) call
@@ -191,10 +191,10 @@ pub begins :
     → (next_process_state s.layout s.limit (process_state_of s) (Begins s.index call) ≡ Some (process_state_of (started s call))) × IsOrdered (started s call)
 begins s call lawful h may = by s.script_state refl h.held may
   where
-    by : (e : Chore) → s.script_state ≡ e → Held e s.lock → start_refusal s.layout (record { lock = s.lock; mended = s.mended; barred = s.barred; script_state = script_state_of e }) call ≡ None
+    by : (e : Chore) → s.script_state ≡ e → HoldsJob e s.lock → start_refusal s.layout (record { lock = s.lock; mended = s.mended; barred = s.barred; script_state = script_state_of e }) call ≡ None
         → (next_process_state s.layout s.limit (process_state_of s) (Begins s.index call) ≡ Some (process_state_of (started s call))) × IsOrdered (started s call)
     by IsFree is held may =
         let free : record s { script_state = IsFree } ≡ s = λ i. record s { script_state = sym is i } in
         subst (λ (t : MachineState). (next_process_state t.layout t.limit (process_state_of t) (Begins t.index call) ≡ Some (process_state_of (started t call))) × IsOrdered (started t call)) free
         (starts s.layout s.limit s.index lawful s.barred s.lock s.mended call may)
-    by (Does purpose job) is held may = absurd (busy s.layout s.lock s.mended s.barred purpose (left job) call held.0 may)
+    by (Does purpose job) is held may = absurd (busy s.layout s.lock s.mended s.barred purpose (script_left job) call held.0 may)

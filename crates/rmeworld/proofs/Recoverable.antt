@@ -1,10 +1,10 @@
 -- Only the script of an unlock before `consistent` puts word 0, so without such an unlock a lock that is not ruined stays so.
 use Rattle.std.proofs.Common.{◌≡◌, ◌≢◌, ℕ, zero, suc, ◌+◌, ◌<◌, Bool, true, false, ◌&&◌, ◌==◌, nat_lt, length, List, [], ◌∷◌, ◌++◌, All, Option, Some, None, IsSome, unwrap_or, refl, sym, ◌∙◌, subst, inl, inr, arith, eqb-true}
 use Rattle.rmeworld.proofs.Common.{cases_Bool, cases_eq, and_parts, cond_both, All-nil, All-cons, put_same, put_other, not_data, Kind, Gets, Puts, Outer, Word, Data as DataAt, put, Place, next, is_store, Layout, Words, Record, Reply, Mended, Ruined}
-use Rattle.rmeworld.proofs.Common.{size, held, last_at, place_at, deeds_of_put, Script, Get as Asks, Put as Writes, Done, puts, gets, in_row, script, consistent, apply_steps, store_steps, record_of, decided, redo, repair, close}
-use Rattle.rmeworld.proofs.Common.{Call, Lock, Unlock, Consistent, Recover, Append, Close, Withdraw, Purpose, Ruining, Mending, Checking, Working, is_entry, ScriptState, Free, Doing, ProcessState, dead, WorldEvent, Begins, Falls, Moves, Glances}
-use Rattle.rmeworld.proofs.Common.{who, HasStep, settled, script_state_entered, at_lock, inside_only, begun_from, moved_by, next_process_state, GlobalState, Can, put_cell, cells_after, Execution, onward, last_global_state, mail_deeds, outer_deeds, put_deeds}
-use Rattle.rmecore.specs.Place.{started}
+use Rattle.rmeworld.proofs.Common.{size, saturate, last_at, place_at, deeds_of_put, Script, Get as Asks, Put as Writes, Done, puts, gets, in_row, script, consistent, apply_steps, store_steps, record_of, append_decision, redo, repair, close}
+use Rattle.rmeworld.proofs.Common.{Call, Lock, Unlock, Consistent, Recover, Append, Close, Withdraw, Purpose, Ruining, Mending, Checking, Working, is_entry, ScriptState, Free, Doing, ProcessState, dead_process, WorldEvent, Begins, Falls, Moves, Glances}
+use Rattle.rmeworld.proofs.Common.{who, HasStep, process_after_script, script_state_entered, at_lock, inside_only, begun_from, moved_by, next_process_state, GlobalState, Can, put_cell, cells_after, Execution, state_after_event, last_global_state, mail_deeds, outer_deeds, put_deeds}
+use Rattle.rmecore.specs.Place.{place_after_start}
 use Rattle.rmecore.specs.declared.core_call.CoreCall.TheVariants as core
 use Rattle.redomail.specs.Tasks.{early_reply, unless_replied}
 use Rattle.redomail.proofs.Repairs.{Outside, Outside-append, Outside-in_row}
@@ -33,7 +33,7 @@ module _ (l : Layout) (p : ℕ) where
   outside_apply : (r : Record) → Outside (apply_steps l p r) 0
   outside_apply r =
       let low = place_low l r.at in
-      Outside-append (in_row (place_at l r.at) (p ∷ r.seq ∷ r.value)) ((last_at l p, r.seq) ∷ (2, held (r.at + 1)) ∷ (3, 0) ∷ []) 0
+      Outside-append (in_row (place_at l r.at) (p ∷ r.seq ∷ r.value)) ((last_at l p, r.seq) ∷ (2, saturate (r.at + 1)) ∷ (3, 0) ∷ []) 0
       (Outside-in_row (place_at l r.at) (p ∷ r.seq ∷ r.value) 0 (omega arith) (omega arith))
       ((λ e. omega arith), ((λ e. omega arith), ((λ e. omega arith), tt)))
 
@@ -42,7 +42,7 @@ module _ (l : Layout) (p : ℕ) where
       Outside-append (in_row 4 (r.at ∷ r.seq ∷ r.value)) ((3, 1) ∷ apply_steps l p r) 0 (Outside-in_row 4 (r.at ∷ r.seq ∷ r.value) 0 (omega arith) (omega arith))
       ((λ e. omega arith), outside_apply r)
 
-  decided_keeps : (seq : ℕ) (value : List ℕ) (closed count last : ℕ) → KeepsRuined (decided l p seq value closed count last)
+  decided_keeps : (seq : ℕ) (value : List ℕ) (closed count last : ℕ) → KeepsRuined (append_decision l p seq value closed count last)
   decided_keeps seq value closed count last = by (early_reply l.cap seq closed count last)
     where
       by : (o : Option Reply) → KeepsRuined (unless_replied o (puts (store_steps l p (record_of count seq value)) (Done reply.Stored)))
@@ -101,7 +101,7 @@ after_put Ruining i v rest h = tt
 after_put Mending i v rest h = h.1
 after_put (Working t) i v rest h = h.1
 
-settled_orderly : (b c : Bool) (purpose : Purpose) (left : Script Reply) → Orderly (Doing purpose left) → Orderly (settled b c purpose left).script_state
+settled_orderly : (b c : Bool) (purpose : Purpose) (left : Script Reply) → Orderly (Doing purpose left) → Orderly (process_after_script b c purpose left).script_state
 settled_orderly b c purpose (Asks i rest) h = h
 settled_orderly b c purpose (Writes i v rest) h = h
 settled_orderly b c purpose (Done a) h = tt
@@ -112,15 +112,15 @@ same_purpose Checking left left' h i = i
 same_purpose Mending left left' h i = i
 same_purpose (Working t) left left' h i = i
 
-settled_ruins_not : (b c : Bool) (purpose : Purpose) (left left' : Script Reply) → (IsRuining (Doing purpose left) → ⊥) → IsRuining (settled b c purpose left').script_state → ⊥
+settled_ruins_not : (b c : Bool) (purpose : Purpose) (left left' : Script Reply) → (IsRuining (Doing purpose left) → ⊥) → IsRuining (process_after_script b c purpose left').script_state → ⊥
 settled_ruins_not b c purpose left (Asks i rest) h k = same_purpose purpose left (Asks i rest) h k
 settled_ruins_not b c purpose left (Writes i v rest) h k = same_purpose purpose left (Writes i v rest) h k
 settled_ruins_not b c purpose left (Done a) h k = k
 
-pub keeps_after_get : (b c : Bool) (purpose : Purpose) (i v : ℕ) (rest : ℕ → Script Reply) → Keeps (Doing purpose (Asks i rest)) → Keeps (settled b c purpose (rest v)).script_state
+pub keeps_after_get : (b c : Bool) (purpose : Purpose) (i v : ℕ) (rest : ℕ → Script Reply) → Keeps (Doing purpose (Asks i rest)) → Keeps (process_after_script b c purpose (rest v)).script_state
 keeps_after_get b c purpose i v rest h = (settled_orderly b c purpose (rest v) (after_get purpose i v rest h.0), settled_ruins_not b c purpose (Asks i rest) (rest v) h.1)
 
-pub keeps_after_put : (b c : Bool) (purpose : Purpose) (i v : ℕ) (rest : Script Reply) → Keeps (Doing purpose (Writes i v rest)) → Keeps (settled b c purpose rest).script_state
+pub keeps_after_put : (b c : Bool) (purpose : Purpose) (i v : ℕ) (rest : Script Reply) → Keeps (Doing purpose (Writes i v rest)) → Keeps (process_after_script b c purpose rest).script_state
 keeps_after_put b c purpose i v rest h = (settled_orderly b c purpose rest (after_put purpose i v rest h.0), settled_ruins_not b c purpose (Writes i v rest) rest h.1)
 
 pub entered_keeps : (l : Layout) (p : ℕ) (s t : Place) → Keeps (script_state_entered l p s t)
@@ -136,10 +136,10 @@ module _ (l : Layout) (limit p : ℕ) where
   by_script lock b fits purpose left s' e h = let r = inside_some lock b fits purpose left s' e in subst (λ (x : ProcessState). Orderly x.script_state) r.2 h
 
   begins : (lock : Place) (b : Bool) (script_state : ScriptState) (call : Call) (s' : ProcessState) → begun_from l p lock b script_state call ≡ Some s' → Orderly s'.script_state
-  begins lock b Free Lock s' e = by_lock lock b false (started lock core.Lock) s' e
-  begins lock b Free Recover s' e = by_lock lock b false (started lock core.Recover) s' e
-  begins lock b Free Withdraw s' e = by_lock lock b false (started lock core.Withdraw) s' e
-  begins lock true Free Unlock s' e = by_lock lock true false (started lock core.Unlock) s' e
+  begins lock b Free Lock s' e = by_lock lock b false (place_after_start lock core.Lock) s' e
+  begins lock b Free Recover s' e = by_lock lock b false (place_after_start lock core.Recover) s' e
+  begins lock b Free Withdraw s' e = by_lock lock b false (place_after_start lock core.Withdraw) s' e
+  begins lock true Free Unlock s' e = by_lock lock true false (place_after_start lock core.Unlock) s' e
   begins lock false Free Unlock s' e = by_script lock false true Ruining (script l p task.Ruin) s' e tt
   begins lock false Free Consistent s' e = by_script lock false true Mending (consistent l p) s' e (consistent_keeps l p)
   begins lock b Free (Append seq value) s' e =
@@ -159,7 +159,7 @@ module _ (l : Layout) (limit p : ℕ) where
 
   goes_on : (s : ProcessState) (e : WorldEvent) (s' : ProcessState) → who e ≡ p → next_process_state l limit s e ≡ Some s' → Orderly s.script_state → Orderly s'.script_state
   goes_on s (Begins q call) s' is e h = begins s.lock s.mended s.script_state call s' (subst (λ r. begun_from l r s.lock s.mended s.script_state call ≡ Some s') is e)
-  goes_on s (Falls q) s' is e h = let same : dead ≡ s' = cc in subst (λ (x : ProcessState). Orderly x.script_state) same tt
+  goes_on s (Falls q) s' is e h = let same : dead_process ≡ s' = cc in subst (λ (x : ProcessState). Orderly x.script_state) same tt
   goes_on s (Moves q kind word v) s' is e h = moves s.lock s.mended s.barred s.script_state kind word v s' (subst (λ r. moved_by l limit r s.lock s.mended s.barred s.script_state kind word v ≡ Some s') is e) h
   goes_on s (Glances q word v) s' is e h = let same : s ≡ s' = cc in subst (λ (x : ProcessState). Orderly x.script_state) same h
 
@@ -167,19 +167,19 @@ abbrev pub AllOrderly : GlobalState → Type 0
 AllOrderly w = (p : ℕ) → Orderly (w.process_states p).script_state
 
 module _ (l : Layout) (limit : ℕ) where
-  orderly_after : (w : GlobalState) (e : WorldEvent) → Can l limit w e → AllOrderly w → AllOrderly (onward l limit w e)
+  orderly_after : (w : GlobalState) (e : WorldEvent) → Can l limit w e → AllOrderly w → AllOrderly (state_after_event l limit w e)
   orderly_after w e can h p =
       let s = some_of l limit (next_process_state l limit (w.process_states (who e)) e) (w.process_states (who e)) can.1 in
       let there : Orderly s.0.script_state = goes_on l limit (who e) (w.process_states (who e)) e s.0 refl s.1 (h (who e)) in
       let here : Orderly (unwrap_or (next_process_state l limit (w.process_states (who e)) e) (w.process_states (who e))).script_state = subst (λ (x : ProcessState). Orderly x.script_state) (sym s.2) there in
       elim (cases_eq p (who e)) [
-        | inl is ↦ subst (λ q. Orderly ((onward l limit w e).process_states q).script_state) (sym is) (subst (λ (x : ProcessState). Orderly x.script_state) (sym (put_same w.process_states (who e) _)) here)
+        | inl is ↦ subst (λ q. Orderly ((state_after_event l limit w e).process_states q).script_state) (sym is) (subst (λ (x : ProcessState). Orderly x.script_state) (sym (put_same w.process_states (who e) _)) here)
         | inr ne ↦ subst (λ (x : ProcessState). Orderly x.script_state) (sym (put_other w.process_states (who e) _ p ne)) (h p)
       ]
 
   pub all_orderly : (w : GlobalState) (es : List WorldEvent) → AllOrderly w → Execution l limit w es → AllOrderly (last_global_state l limit w es)
   all_orderly w [] h execution = h
-  all_orderly w (e ∷ es) h execution = all_orderly (onward l limit w e) es (orderly_after w e execution.0 h) execution.1
+  all_orderly w (e ∷ es) h execution = all_orderly (state_after_event l limit w e) es (orderly_after w e execution.0 h) execution.1
 
 -- the lock is not ruined, and no script ruins it
 pub record IsKept (n : ℕ) (w : GlobalState) : Type 0 where

@@ -2,9 +2,9 @@
 use Rattle.std.proofs.Common.{◌≡◌, ℕ, zero, suc, ◌+◌, ◌-◌, ◌<◌, ◌≤◌, Bool, true, false, ◌&&◌, ◌==◌, List, [], ◌∷◌, ◌++◌, Some, All, Contains, refl, sym, ap, ◌∙◌, subst, inl, inr, arith, eqb-true, eq-eqb, append_assoc}
 use Rattle.rmeworld.proofs.Common.{and_parts, All-nil, Contains-append_right, All-push, All-contains, Contains-append_left, Contains-push, Kind, Gets, Puts, Word, Data as DataAt, Abstract, nobody}
 use Rattle.rmeworld.proofs.Common.{put, Place, all_done, is_store, Deed, Layout, Message, Reply, Stored, OutOfOrder, Full, Closed, Task, deeds_of_put, Words, IsLayout, place_at, MailLeads, Mailbox}
-use Rattle.rmeworld.proofs.Common.{message, IsAmong, Safe, Script, Get as Asks, Put as Writes, Done, tail, entry, entries, IsNumbered, count_of, all_after, empty, State, after, state_led, Mail}
-use Rattle.rmeworld.proofs.Common.{Working, answer_at, answer_by, by_script, mail_after, ReplyTells, RepliesTell, StoredIsShown, outer_by, ScriptState, Doing, ProcessState, WorldEvent, Moves, settled, moved_by}
-use Rattle.rmeworld.proofs.Common.{next_process_state, reading, event_deeds, GlobalState, at_first, Execution, onward, last_global_state, outer_deeds, mail_deeds, deeds}
+use Rattle.rmeworld.proofs.Common.{message, IsAmong, Safe, Script, Get as Asks, Put as Writes, Done, tail, entry, entries, IsNumbered, count_of, all_after, empty_state, State, after, state_led, Mail}
+use Rattle.rmeworld.proofs.Common.{Working, answer_at, answer_by, by_script, mail_after, ReplyTells, RepliesTell, StoredIsShown, outer_by, ScriptState, Doing, ProcessState, WorldEvent, Moves, process_after_script, moved_by}
+use Rattle.rmeworld.proofs.Common.{next_process_state, reading, event_deeds, GlobalState, at_first, Execution, state_after_event, last_global_state, outer_deeds, mail_deeds, deeds}
 use Rattle.redomail.proofs.Changes.{count_of-push}
 use Rattle.redomail.specs.declared.deed.Deed.TheVariants as deed
 use Rattle.redomail.specs.declared.task.Task.TheVariants as task
@@ -18,7 +18,7 @@ use Rattle.rmeworld.proofs.ExecutionGrows.{deeds_more}
 pub deeds-append : (l : Layout) (limit : ℕ) (w : GlobalState) (xs ys : List WorldEvent) → deeds l limit w (xs ++ ys) ≡ deeds l limit w xs ++ deeds l limit (last_global_state l limit w xs) ys
 deeds-append l limit w [] ys = refl
 deeds-append l limit w (x ∷ xs) ys =
-    ap (λ (ds : List Deed). event_deeds l w x ++ ds) (deeds-append l limit (onward l limit w x) xs ys) ∙ sym (append_assoc (event_deeds l w x) (deeds l limit (onward l limit w x) xs) (deeds l limit (last_global_state l limit (onward l limit w x) xs) ys))
+    ap (λ (ds : List Deed). event_deeds l w x ++ ds) (deeds-append l limit (state_after_event l limit w x) xs ys) ∙ sym (append_assoc (event_deeds l w x) (deeds l limit (state_after_event l limit w x) xs) (deeds l limit (last_global_state l limit (state_after_event l limit w x) xs) ys))
 
 -- numbered entries have no number of p beyond their count
 numbers_within : (l : Layout) (w : Words) (p most k : ℕ) → IsNumbered l w k → count_of p (entries l w k) ≤ most → All (λ (m : Message). m.sender ≡ p → m.seq ≤ most) (entries l w k)
@@ -70,23 +70,23 @@ mail_led cap s [] t h = h
 mail_led cap s (d ∷ ds) t h = mail_led cap (after s d) ds t h.1
 
 -- the end of an append with this reply: if every mailbox that is safe with it has T, the mailbox has T
-module _ (l : Layout) (limit p seq : ℕ) (value : List ℕ) (reply : Reply) (T : Mailbox → Type 0) (told : (m : Message) (old : Mailbox) (w : Words) (now : Mailbox) → message p seq value ≡ m → Safe l p m old (Done reply) w now → T now) where
+module _ (l : Layout) (limit p seq : ℕ) (value : List ℕ) (reply : Reply) (T : Mailbox → Type 0) (reports : (m : Message) (old : Mailbox) (w : Words) (now : Mailbox) → message p seq value ≡ m → Safe l p m old (Done reply) w now → T now) where
   last_step : (w : GlobalState) (a : Abstract) (m : Mailbox) (lock : Place) (b c : Bool) (left : Script Reply) (kind : Kind) (word : Word) (v : ℕ) (s' : ProcessState) → moved_by l limit p lock b c (Doing (Working (task.Append seq value)) left) kind word v ≡ Some s'
       → (is_store kind ≡ false → reading w word ≡ v) → Post l p (a.phase p) w.cells m b (Doing (Working (task.Append seq value)) left) lock → tail left v ≡ Done reply
       → T (all_after (judge_of l a m) (mail_deeds l w.cells (Moves p kind word v))).mail
   last_step w a m lock b c (Asks j rest) Gets (DataAt i) v s' e reads post done =
       let work = post.2 in
-      let r = only_some (i == j) (settled b c (Working (task.Append seq value)) (rest v)) s' e in
+      let r = only_some (i == j) (process_after_script b c (Working (task.Append seq value)) (rest v)) s' e in
       let read : w.cells j ≡ v = ap w.cells (sym (eqb-true i j r.0)) ∙ reads refl in
-      told work.m work.old w.cells m work.mine (subst (λ x. Safe l p work.m work.old x w.cells m) (ap rest read ∙ done) work.safe.1)
+      reports work.m work.old w.cells m work.mine (subst (λ x. Safe l p work.m work.old x w.cells m) (ap rest read ∙ done) work.safe.1)
   last_step w a m lock b c (Writes j x rest) Puts (DataAt i) v s' e reads post done =
       let work = post.2 in
-      let r = only_some ((i == j) && (v == x)) (settled b c (Working (task.Append seq value)) rest) s' e in
+      let r = only_some ((i == j) && (v == x)) (process_after_script b c (Working (task.Append seq value)) rest) s' e in
       let both = and_parts (i == j) (v == x) r.0 in
       let g = work.safe.2 in
       let safe : Safe l p work.m work.old (Done reply) (put w.cells j x) g.0 = subst (λ y. Safe l p work.m work.old y (put w.cells j x) g.0) done g.2 in
       let there : T (all_after (judge_of l a m) (deeds_of_put l p w.cells j x)).mail =
-      subst T (sym (mail_led l.cap (judge_of l a m) (deeds_of_put l p w.cells j x) g.0 g.1)) (told work.m work.old (put w.cells j x) g.0 work.mine safe) in
+      subst T (sym (mail_led l.cap (judge_of l a m) (deeds_of_put l p w.cells j x) g.0 g.1)) (reports work.m work.old (put w.cells j x) g.0 work.mine safe) in
       let P : ℕ → ℕ → Type 0 = λ i' v'. T (all_after (judge_of l a m) (deeds_of_put l p w.cells i' v')).mail in
       subst (λ i'. P i' v) (sym (eqb-true i j both.0)) (subst (P j) (sym (eqb-true v x both.1)) there)
   last_step w a m lock b c _ _ _ v s' e reads post done = absurd (cc)
@@ -105,7 +105,7 @@ module _ (l : Layout) (limit p seq : ℕ) (value : List ℕ) (reply : Reply) (T 
       → ((last_global_state l limit at_first front).process_states p).script_state ≡ Doing (Working (task.Append seq value)) left → answer_at ((last_global_state l limit at_first front).process_states p) kind v ≡ Some (Mail reply) → T (mail_after l limit (front ++ Moves p kind word v ∷ []))
   at_end front kind word v back left layout execution append answer =
       let e : WorldEvent = Moves p kind word v in
-      let s : State = empty l.procs l.cap in
+      let s : State = empty_state l.procs l.cap in
       let w : GlobalState = last_global_state l limit at_first front in
       let x : ProcessState = w.process_states p in
       let a : Abstract = all_done nobody (outers l limit at_first front) in
@@ -134,7 +134,7 @@ stays_shown s (deed.Ruin q ∷ ds) m h = stays_shown (after s (deed.Ruin q)) ds 
 
 shown_on : (l : Layout) (limit : ℕ) (front back : List WorldEvent) (m : Message) → Contains (mail_after l limit front).shown m → Contains (mail_after l limit (front ++ back)).shown m
 shown_on l limit front back m h =
-    let s : State = empty l.procs l.cap in
+    let s : State = empty_state l.procs l.cap in
     let rest : List Deed = deeds l limit (last_global_state l limit at_first front) back in
     let is : mail_after l limit (front ++ back) ≡ (all_after (all_after s (deeds l limit at_first front)) rest).mail =
     ap (λ (ds : List Deed). (all_after s ds).mail) (deeds-append l limit at_first front back) ∙ ap (λ (u : State). u.mail) (all_after-append s (deeds l limit at_first front) rest) in

@@ -4,7 +4,7 @@ use Rattle.rmeworld.proofs.Common.{cases_Bool, cases_lt, and_parts, eqb-false, C
 use Rattle.rmeworld.proofs.Common.{Look as Looks, Weigh as Weighs, Mark as Marks, Drop as Drops, Glance as Glances, Word, Data as DataAt, Choosing as ChoosingOf, Number as NumberOf, answer, reread_answer, is_glance}
 use Rattle.rmeworld.proofs.Common.{Place, Door, Wait, next, Rest, Reread, Shutting, Leaving, Withdrawing, Unmarking, Opening, Inside, Dead, has, without, others, is_before, restart, only, Layout, Reply, Ruined, Task}
 use Rattle.rmeworld.proofs.Common.{Script, Get as Asks, Put as Writes, Done, script, consistent, Answer, Call, Lock, Unlock, Consistent, Recover, Append, Close, Withdraw, Purpose, Ruining, Mending, Working, Checking}
-use Rattle.rmeworld.proofs.Common.{answer_at, answer_by, by_lock, by_script, next_or_same, last_process_state, ScriptState, Free, Doing, ProcessState, WorldEvent, Begins, Moves, settled, script_state_entered, at_lock}
+use Rattle.rmeworld.proofs.Common.{answer_at, answer_by, by_lock, by_script, next_or_same, last_process_state, ScriptState, Free, Doing, ProcessState, WorldEvent, Begins, Moves, process_after_script, script_state_entered, at_lock}
 use Rattle.rmeworld.proofs.Common.{begun_from, moved_by, next_process_state, mended_entered, working, lock_part}
 use Rattle.rmecore.specs.declared.core_call.CoreCall.TheVariants as core
 use Rattle.rmecore.specs.declared.word.Word.TheVariants.{Inside as InsideOf}
@@ -14,7 +14,7 @@ use Rattle.rmecore.specs.declared.core_done.CoreDone.TheVariants.{Out}
 use Rattle.rmeworld.specs.Answered.{by_core, by_reply}
 use Rattle.rmeworld.specs.declared.answer.Answer.TheVariants.{NumbersSpent, Withdrawn}
 use Rattle.rmeworld.specs.CallWalk.{answer_to}
-use Rattle.rmeworld.specs.ReplyEvents.{rereads, ruining, Enters, TakesNone, IsNoTake, HasPeeked, Plays, HasEvents, IsMove, Follow, AnswersHaveTheirEvents}
+use Rattle.rmeworld.specs.ReplyEvents.{rereads, ruining, Enters, TakesNone, IsNoTake, HasPeeked, PlaysScript, HasEvents, IsMove, Follow, AnswersHaveTheirEvents}
 use Rattle.rmeworld.specs.declared.call.Call.TheVariants.{Get, Put}
 use Rattle.rmeworld.proofs.CallParts.{goes_on}
 use Rattle.rmeworld.proofs.CallSteps.{IsOver, guard_process_state}
@@ -77,14 +77,14 @@ peeked p g v j es h =
     ]
 
 -- one more step of a script
-plays_get : (p : ℕ) (s : Script Reply) (es : List WorldEvent) (j : ℕ) (rest : ℕ → Script Reply) (v : ℕ) → Plays p s es (Asks j rest) → Plays p s (es ++ Moves p Gets (DataAt j) v ∷ []) (rest v)
-plays_get p s [] j rest v h = subst (λ x. Plays p x (Moves p Gets (DataAt j) v ∷ []) (rest v)) (sym h) (v, refl, refl)
+plays_get : (p : ℕ) (s : Script Reply) (es : List WorldEvent) (j : ℕ) (rest : ℕ → Script Reply) (v : ℕ) → PlaysScript p s es (Asks j rest) → PlaysScript p s (es ++ Moves p Gets (DataAt j) v ∷ []) (rest v)
+plays_get p s [] j rest v h = subst (λ x. PlaysScript p x (Moves p Gets (DataAt j) v ∷ []) (rest v)) (sym h) (v, refl, refl)
 plays_get p (Asks i next) (x ∷ es) j rest v h = (h.0, h.1, plays_get p (next h.0) es j rest v h.2)
 plays_get p (Writes i x next) (y ∷ es) j rest v h = (h.0, plays_get p next es j rest v h.1)
 plays_get p (Done a) (y ∷ es) j rest v h = absurd h
 
-plays_put : (p : ℕ) (s : Script Reply) (es : List WorldEvent) (j v : ℕ) (rest : Script Reply) → Plays p s es (Writes j v rest) → Plays p s (es ++ Moves p Puts (DataAt j) v ∷ []) rest
-plays_put p s [] j v rest h = subst (λ x. Plays p x (Moves p Puts (DataAt j) v ∷ []) rest) (sym h) (refl, refl)
+plays_put : (p : ℕ) (s : Script Reply) (es : List WorldEvent) (j v : ℕ) (rest : Script Reply) → PlaysScript p s es (Writes j v rest) → PlaysScript p s (es ++ Moves p Puts (DataAt j) v ∷ []) rest
+plays_put p s [] j v rest h = subst (λ x. PlaysScript p x (Moves p Puts (DataAt j) v ∷ []) rest) (sym h) (refl, refl)
 plays_put p (Asks i next) (x ∷ es) j v rest h = (h.0, h.1, plays_put p (next h.0) es j v rest h.2)
 plays_put p (Writes i x next) (y ∷ es) j v rest h = (h.0, plays_put p next es j v rest h.1)
 plays_put p (Done a) (y ∷ es) j v rest h = absurd h
@@ -98,11 +98,11 @@ module _ (l : Layout) (limit p : ℕ) (some_number : 1 ≤ limit) (m : Bool) whe
   CameBy Unlock s b c Free es = ExitAt p m s c es
   CameBy Unlock s b c (Doing Ruining left) es = (m ≡ false) × (c ≡ false) × (left ≡ script l p task.Ruin) × (es ≡ [])
   CameBy Withdraw s b c Free es = WithdrawAt s es
-  CameBy Consistent s b c (Doing Mending left) es = Plays p (consistent l p) es left
-  CameBy (Append seq value) s b c (Doing (Working t) left) es = Plays p (script l p (task.Append seq value)) es left
-  CameBy Close s b c (Doing (Working t) left) es = Plays p (script l p task.Close) es left
-  CameBy (Get i) s b c (Doing (Working t) left) es = Plays p (script l p (task.BoardGet i)) es left
-  CameBy (Put i v) s b c (Doing (Working t) left) es = Plays p (script l p (task.BoardPut i v)) es left
+  CameBy Consistent s b c (Doing Mending left) es = PlaysScript p (consistent l p) es left
+  CameBy (Append seq value) s b c (Doing (Working t) left) es = PlaysScript p (script l p (task.Append seq value)) es left
+  CameBy Close s b c (Doing (Working t) left) es = PlaysScript p (script l p task.Close) es left
+  CameBy (Get i) s b c (Doing (Working t) left) es = PlaysScript p (script l p (task.BoardGet i)) es left
+  CameBy (Put i v) s b c (Doing (Working t) left) es = PlaysScript p (script l p (task.BoardPut i v)) es left
   CameBy _ s b c _ es = Never
 
   abbrev Came : Call → ProcessState → List WorldEvent → Type 0
@@ -264,7 +264,7 @@ module _ (l : Layout) (limit p : ℕ) (some_number : 1 ≤ limit) (m : Bool) whe
   withdraw_steps _ b c d _ _ v es h some moves = absurd (cc)
 
   -- the ruin check
-  checked : (b ruined : Bool) (i v : ℕ) (es : List WorldEvent) → (v == 1) ≡ ruined → i ≡ 0 → Enters p b es → To Lock (by_reply Checking b (Ruined ruined)) (settled b false Checking (Done (Ruined ruined))) (es ++ Moves p Gets (DataAt i) v ∷ [])
+  checked : (b ruined : Bool) (i v : ℕ) (es : List WorldEvent) → (v == 1) ≡ ruined → i ≡ 0 → Enters p b es → To Lock (by_reply Checking b (Ruined ruined)) (process_after_script b false Checking (Done (Ruined ruined))) (es ++ Moves p Gets (DataAt i) v ∷ [])
   checked b true i v es is at h = let one = eqb-true v 1 is in (refl, (es, b, h, λ j. es ++ Moves p Gets (DataAt (at j)) (one j) ∷ []))
   checked true false i v es is at h = ((refl, refl), (es, v, h, eqb-false v 1 is, λ j. es ++ Moves p Gets (DataAt (at j)) v ∷ []))
   checked false false i v es is at h = ((refl, refl), (es, v, h, eqb-false v 1 is, λ j. es ++ Moves p Gets (DataAt (at j)) v ∷ []))
@@ -276,13 +276,13 @@ module _ (l : Layout) (limit p : ℕ) (some_number : 1 ≤ limit) (m : Bool) whe
 
   check_steps : (s : Place) (b : Bool) (d : ProcessState) (kind : Kind) (word : Word) (v : ℕ) (es : List WorldEvent) → Enters p b es → Acts Lock s b false (Doing Checking (script l p task.Check)) d kind word v es
   check_steps s b d Gets (DataAt i) v es h some =
-      guard_process_state (i == 0) (settled b false Checking (Done (Ruined (v == 1)))) d (λ x. To Lock (by_reply Checking b (Ruined (v == 1))) x (es ++ Moves p Gets (DataAt i) v ∷ [])) some
+      guard_process_state (i == 0) (process_after_script b false Checking (Done (Ruined (v == 1)))) d (λ x. To Lock (by_reply Checking b (Ruined (v == 1))) x (es ++ Moves p Gets (DataAt i) v ∷ [])) some
       (λ e. checked b (v == 1) i v es refl (eqb-true i 0 e) h)
   check_steps s b d _ _ v es h some = absurd (cc)
 
   ruin_steps : (s : Place) (b : Bool) (d : ProcessState) (kind : Kind) (word : Word) (v : ℕ) (es : List WorldEvent) → m ≡ false → es ≡ [] → Acts Unlock s b false (Doing Ruining (script l p task.Ruin)) d kind word v es
   ruin_steps s b d Puts (DataAt i) v es off is some =
-      guard_process_state ((i == 0) && (v == 1)) (settled b false Ruining (Done reply.Done)) d (λ x. To Unlock None x (es ++ Moves p Puts (DataAt i) v ∷ [])) some
+      guard_process_state ((i == 0) && (v == 1)) (process_after_script b false Ruining (Done reply.Done)) d (λ x. To Unlock None x (es ++ Moves p Puts (DataAt i) v ∷ [])) some
       (λ e.
       let both = and_parts (i == 0) (v == 1) e in
       let at = eqb-true i 0 both.0 in
@@ -292,31 +292,31 @@ module _ (l : Layout) (limit p : ℕ) (some_number : 1 ≤ limit) (m : Bool) whe
 
   -- a script of which the events are a beginning
   abbrev Going : Call → Script Reply → Purpose → Type 0
-  Going call whole purpose = (b c : Bool) (x : Script Reply) (es : List WorldEvent) → Plays p whole es x → CameBy call Inside b c (Doing purpose x) es
+  Going call whole purpose = (b c : Bool) (x : Script Reply) (es : List WorldEvent) → PlaysScript p whole es x → CameBy call Inside b c (Doing purpose x) es
 
   abbrev Ending : Call → Script Reply → Purpose → Type 0
-  Ending call whole purpose = (b c : Bool) (a : Reply) (es : List WorldEvent) → Plays p whole es (Done a) → To call (by_reply purpose b a) (settled b c purpose (Done a)) es
+  Ending call whole purpose = (b c : Bool) (a : Reply) (es : List WorldEvent) → PlaysScript p whole es (Done a) → To call (by_reply purpose b a) (process_after_script b c purpose (Done a)) es
 
-  settles : (call : Call) (whole : Script Reply) (purpose : Purpose) (b c : Bool) (x : Script Reply) (es : List WorldEvent) → Going call whole purpose → Ending call whole purpose → Plays p whole es x → To call (by_script purpose b x) (settled b c purpose x) es
+  settles : (call : Call) (whole : Script Reply) (purpose : Purpose) (b c : Bool) (x : Script Reply) (es : List WorldEvent) → Going call whole purpose → Ending call whole purpose → PlaysScript p whole es x → To call (by_script purpose b x) (process_after_script b c purpose x) es
   settles call whole purpose b c (Asks i rest) es goes ends h = goes b c (Asks i rest) es h
   settles call whole purpose b c (Writes i v rest) es goes ends h = goes b c (Writes i v rest) es h
   settles call whole purpose b c (Done a) es goes ends h = ends b c a es h
 
-  script_steps : (call : Call) (whole : Script Reply) (purpose : Purpose) (s : Place) (b c : Bool) (left : Script Reply) (d : ProcessState) (kind : Kind) (word : Word) (v : ℕ) (es : List WorldEvent) → Going call whole purpose → Ending call whole purpose → Plays p whole es left
+  script_steps : (call : Call) (whole : Script Reply) (purpose : Purpose) (s : Place) (b c : Bool) (left : Script Reply) (d : ProcessState) (kind : Kind) (word : Word) (v : ℕ) (es : List WorldEvent) → Going call whole purpose → Ending call whole purpose → PlaysScript p whole es left
       → Acts call s b c (Doing purpose left) d kind word v es
   script_steps call whole purpose s b c (Asks j rest) d Gets (DataAt i) v es goes ends h some =
-      guard_process_state (i == j) (settled b c purpose (rest v)) d (λ x. To call (by_script purpose b (rest v)) x (es ++ Moves p Gets (DataAt i) v ∷ [])) some
+      guard_process_state (i == j) (process_after_script b c purpose (rest v)) d (λ x. To call (by_script purpose b (rest v)) x (es ++ Moves p Gets (DataAt i) v ∷ [])) some
       (λ e.
-      subst (λ z. To call (by_script purpose b (rest v)) (settled b c purpose (rest v)) (es ++ Moves p Gets (DataAt z) v ∷ [])) (sym (eqb-true i j e))
+      subst (λ z. To call (by_script purpose b (rest v)) (process_after_script b c purpose (rest v)) (es ++ Moves p Gets (DataAt z) v ∷ [])) (sym (eqb-true i j e))
       (settles call whole purpose b c (rest v) (es ++ Moves p Gets (DataAt j) v ∷ []) goes ends (plays_get p whole es j rest v h)))
   script_steps call whole purpose s b c (Writes j x rest) d Puts (DataAt i) v es goes ends h some =
-      guard_process_state ((i == j) && (v == x)) (settled b c purpose rest) d (λ y. To call (by_script purpose b rest) y (es ++ Moves p Puts (DataAt i) v ∷ [])) some
+      guard_process_state ((i == j) && (v == x)) (process_after_script b c purpose rest) d (λ y. To call (by_script purpose b rest) y (es ++ Moves p Puts (DataAt i) v ∷ [])) some
       (λ e.
       let both = and_parts (i == j) (v == x) e in
       let at = eqb-true i j both.0 in
       let value = eqb-true v x both.1 in
       let same : es ++ Moves p Puts (DataAt j) x ∷ [] ≡ es ++ Moves p Puts (DataAt i) v ∷ [] = λ k. es ++ Moves p Puts (DataAt (sym at k)) (sym value k) ∷ [] in
-      subst (To call (by_script purpose b rest) (settled b c purpose rest)) same
+      subst (To call (by_script purpose b rest) (process_after_script b c purpose rest)) same
       (settles call whole purpose b c rest (es ++ Moves p Puts (DataAt j) x ∷ []) goes ends (plays_put p whole es j x rest h)))
   script_steps call whole purpose s b c _ d _ _ v es goes ends h some = absurd (cc)
 

@@ -2,7 +2,7 @@
 use Rattle.std.proofs.Common.{◌≡◌, ℕ, zero, suc, ◌+◌, ◌<◌, max, Bool, true, false, ◌||◌, ◌&&◌, ◌==◌, nat_lt, nat_le, if◌then◌else◌, List, [], ◌∷◌, Option, Some, None, IfSome, unwrap_or, refl, sym, ap, ◌∙◌, subst}
 use Rattle.rmeworld.proofs.Common.{cond_both, Access, Store, CoreCall, Take as Takes, Shut as Shuts, Choosing as ChoosingOf, Number as NumberOf, Standing, first, after_access}
 use Rattle.rmeworld.proofs.Common.{lock_access as next_access, access, IsLeastOfLock, Place, above, Door, Wait, Rest, Reread, Shutting, Leaving, Withdrawing, Unmarking, Opening, Inside, has, without}
-use Rattle.rmeworld.proofs.Common.{others, is_before, restart, shut, unmarked, only, is_idle}
+use Rattle.rmeworld.proofs.Common.{others, is_before, restart, shut, place_after_unmark, only, is_idle}
 use Rattle.rmecore.specs.declared.core_call.CoreCall.TheVariants.{Lock, Unlock}
 use Rattle.rmecore.proofs.Accesses.{Orderly, all_least}
 use Rattle.rmecore.proofs.Scans.{Lined, lined_above, above_first, without-first, has-first}
@@ -45,13 +45,13 @@ module _ (n limit p : ℕ) where
   shut_is Lock k = (0, refl)
   shut_is _ k = tt
 
-  unmarked_is : (call : CoreCall) → IsScanned n p (unmarked call)
+  unmarked_is : (call : CoreCall) → IsScanned n p (place_after_unmark call)
   unmarked_is Lock = tt
   unmarked_is _ = tt
 
   -- the processes after the first of a list
-  behind : (j i : ℕ) (js : List ℕ) → j ∷ js ≡ above n p i → j ∷ js ≡ j ∷ above n p (j + 1)
-  behind j i js is = is ∙ above_first n p i j (ap first (sym is))
+  after_it : (j i : ℕ) (js : List ℕ) → j ∷ js ≡ above n p i → j ∷ js ≡ j ∷ above n p (j + 1)
+  after_it j i js is = is ∙ above_first n p i j (ap first (sym is))
 
   without_is : (j : ℕ) (js : List ℕ) → js ≡ j ∷ above n p (j + 1) → without j js ≡ above n p (j + 1)
   without_is j js is = ap (without j) is ∙ without-first n p j
@@ -62,7 +62,7 @@ module _ (n limit p : ℕ) where
   scanned_after (Reread call (c ∷ k ∷ [])) v h = if_may (p == p) (restart n p call c k v) (Reread call (c ∷ k ∷ [])) (restart_is call c k v) tt
   scanned_after (Reread call (c ∷ k ∷ i ∷ seen)) v h = absurd h
   scanned_after Opening v h = if_may ((p == p) && (1 == 1)) (Door (others n p) 0) Opening (0, refl) tt
-  scanned_after (Door (j ∷ js) m) v h = if_may (has (j ∷ js) j) (Door (without j (j ∷ js)) (max m v)) (Door (j ∷ js) m) (j + 1, without_is j (j ∷ js) (behind j h.0 js h.1)) h
+  scanned_after (Door (j ∷ js) m) v h = if_may (has (j ∷ js) j) (Door (without j (j ∷ js)) (max m v)) (Door (j ∷ js) m) (j + 1, without_is j (j ∷ js) (after_it j h.0 js h.1)) h
   scanned_after (Door [] m) v h =
       cond_both (nat_lt m limit) (Some (Store Takes (NumberOf p) (m + 1))) (Some (Store Shuts (ChoosingOf p) 0)) (λ o. IsScanned n p (after_access (record { procs = n; limit = limit; index = p; place = Door [] m }) o v))
       (λ _. if_may ((p == p) && (nat_lt m limit && (m + 1 == m + 1))) (Shutting Lock (m + 1)) (Door [] m) tt h) (λ _. if_may ((p == p) && (nat_le limit m && (0 == 0))) Rest (Door [] m) tt h)
@@ -75,11 +75,11 @@ module _ (n limit p : ℕ) where
       let less : j < n = (lined_above n p h.0).below j (subst (λ list. has list j ≡ true) h.1 (has-first j js)) in
       let looked : Place = Wait k (j ∷ js) (Some j) in
       let held : Place = Wait k (j ∷ js) None in
-      if_may (has (j ∷ js) j) (if v == 0 then looked else held) held (cond_both (v == 0) looked held (IsScanned n p) (λ _. (less, behind j h.0 js h.1)) (λ _. h)) h
+      if_may (has (j ∷ js) j) (if v == 0 then looked else held) held (cond_both (v == 0) looked held (IsScanned n p) (λ _. (less, after_it j h.0 js h.1)) (λ _. h)) h
   scanned_after (Wait k [] None) v h = if_may ((p == p) && (1 == 1)) Inside (Wait k [] None) tt h
   scanned_after Leaving v h = if_may ((p == p) && (0 == 0)) (Unmarking Unlock) Leaving tt tt
   scanned_after Withdrawing v h = if_may ((p == p) && (0 == 0)) Rest Withdrawing tt tt
-  scanned_after (Unmarking call) v h = if_may ((p == p) && (0 == 0)) (unmarked call) (Unmarking call) (unmarked_is call) tt
+  scanned_after (Unmarking call) v h = if_may ((p == p) && (0 == 0)) (place_after_unmark call) (Unmarking call) (unmarked_is call) tt
   scanned_after _ v h = tt
 
   -- if there is no next step, no call is under way

@@ -1,7 +1,7 @@
 -- The mailbox deeds of a script's puts: each Commit has the append's own number and value, each Close is that of a close,
 -- each Ruin that of a ruin. It holds over any words, so steps of other processes don't affect it.
 use Rattle.std.proofs.Common.{◌≡◌, ℕ, zero, suc, ◌+◌, ◌<◌, ◌≤◌, true, ◌&&◌, ◌==◌, List, [], ◌∷◌, ◌++◌, length, All, Option, Some, None, refl, sym, ◌∙◌, subst, arith, eqb-true}
-use Rattle.rmeworld.proofs.Common.{and_parts, cond_both, All-nil, All-cons, put, Deed, Layout, Record, Reply, deeds_of_put, Words, IsLayout, row, last_at, held, board_at, place_at, Script, Get, Put}
+use Rattle.rmeworld.proofs.Common.{and_parts, cond_both, All-nil, All-cons, put, Deed, Layout, Record, Reply, deeds_of_put, Words, IsLayout, row, last_at, saturate, board_at, place_at, Script, Get, Put}
 use Rattle.rmeworld.proofs.Common.{Done, puts, gets, in_row, script, consistent, apply_steps, store_steps, record_of, redo, repair, held-small}
 use Rattle.redomail.specs.Tasks.{early_reply, unless_replied}
 use Rattle.redomail.proofs.Words.{put-other, put-same, place_low, deeds_of_put-none}
@@ -32,14 +32,14 @@ module _ (l : Layout) (p : ℕ) (D : Deed → Type 0) (shows : (at seq : ℕ) (v
   row_silent : (i : ℕ) (vs : List ℕ) (ys : List (ℕ × ℕ)) (e : Script Reply) (w : Words) → 3 < i → ((v : Words) → Sends l p D (puts ys e) v) → Sends l p D (puts (in_row i vs ++ ys) e) w
   row_silent i [] ys e w high go = go w
   row_silent i (x ∷ vs) ys e w high go =
-      silent (held i) x (puts (in_row (i + 1) vs ++ ys) e) w (omega arith) (row_silent (i + 1) vs ys e (put w (held i) x) (omega arith) go)
+      silent (saturate i) x (puts (in_row (i + 1) vs ++ ys) e) w (omega arith) (row_silent (i + 1) vs ys e (put w (saturate i) x) (omega arith) go)
 
   -- a row of puts, with the words after them
   row_known : (i : ℕ) (vs : List ℕ) (ys : List (ℕ × ℕ)) (e : Script Reply) (w : Words) → 3 < i → i + length vs ≤ 1000000
       → ((v : Words) → row v i (length vs) ≡ vs → ((j : ℕ) → j < i → v j ≡ w j) → Sends l p D (puts ys e) v) → Sends l p D (puts (in_row i vs ++ ys) e) w
   row_known i [] ys e w high small go = go w refl (λ j _. refl)
   row_known i (x ∷ vs) ys e w high small go =
-      let same : held i ≡ i = held-small i (omega arith) in
+      let same : saturate i ≡ i = held-small i (omega arith) in
       let rest = row_known (i + 1) vs ys e (put w i x) (omega arith) (omega arith)
       (λ v stands alike.
       let here : v i ≡ x = alike i (omega arith) ∙ put-same w i x i refl in
@@ -51,12 +51,12 @@ module _ (l : Layout) (p : ℕ) (D : Deed → Type 0) (shows : (at seq : ℕ) (v
   apply_sends : (r : Record) (a : Reply) (w : Words) → Sends l p D (puts (apply_steps l p r) (Done a)) w
   apply_sends r a w =
       let low = place_low l r.at in
-      row_silent (place_at l r.at) (p ∷ r.seq ∷ r.value) ((last_at l p, r.seq) ∷ (2, held (r.at + 1)) ∷ (3, 0) ∷ []) (Done a) w (omega arith)
+      row_silent (place_at l r.at) (p ∷ r.seq ∷ r.value) ((last_at l p, r.seq) ∷ (2, saturate (r.at + 1)) ∷ (3, 0) ∷ []) (Done a) w (omega arith)
       (λ v.
       let x : Words = put v (last_at l p) r.seq in
-      let y : Words = put x 2 (held (r.at + 1)) in
-      silent (last_at l p) r.seq (Put 2 (held (r.at + 1)) (Put 3 0 (Done a))) v (omega arith) (
-        put_has 2 (held (r.at + 1)) x (λ e. absurd (omega arith)) (λ e. absurd (omega arith)) (λ e. absurd (omega arith)),
+      let y : Words = put x 2 (saturate (r.at + 1)) in
+      silent (last_at l p) r.seq (Put 2 (saturate (r.at + 1)) (Put 3 0 (Done a))) v (omega arith) (
+        put_has 2 (saturate (r.at + 1)) x (λ e. absurd (omega arith)) (λ e. absurd (omega arith)) (λ e. absurd (omega arith)),
         (put_has 3 0 y (λ _ e. absurd (omega arith)) (λ e. absurd (omega arith)) (λ e. absurd (omega arith)), tt),
       ))
 

@@ -2,7 +2,7 @@
 -- ruined some process ruined it.
 use Rattle.std.proofs.Common.{◌≡◌, ℕ, true, List, [], ◌∷◌, All, sym, ap, ◌∙◌, subst, inl, inr, ◌⊎◌}
 use Rattle.rmeworld.proofs.Common.{cases_Bool, false≢true, All-nil, All-head, All-tail, All-push, Abstract, nobody, all_done, Deed, Layout, Message, Words, Mailbox, message, is_pending, Shape, bit}
-use Rattle.rmeworld.proofs.Common.{all_after, empty, State, after, state_led, IsAsked, mail_after, IsSent, EveryMessageWasSent, EveryCloseWasAsked, EveryRuinWasAsked, at_first, last_global_state, deeds}
+use Rattle.rmeworld.proofs.Common.{all_after, empty_state, State, after, state_led, IsAsked, mail_after, IsSent, EveryMessageWasSent, EveryCloseWasAsked, EveryRuinWasAsked, at_first, last_global_state, deeds}
 use Rattle.redomail.specs.declared.deed.Deed.TheVariants as deed
 use Rattle.judge.proofs.Mail.{message_parts}
 use Rattle.judge.proofs.Steps.{Allowed, Allowed-from_leads}
@@ -45,16 +45,16 @@ module _ (D : Deed → Type 0) where
   ruined_by s (deed.Ruin q ∷ ds) has e = inr (q, All-head D (deed.Ruin q) ds has)
 
 pub every_message_was_sent : EveryMessageWasSent
-every_message_was_sent l limit execution layout told =
-    let s : State = empty l.procs l.cap in
-    let there = (execution_comes l limit execution layout told).1 in
-    shown_have (IsAsked l limit execution) (IsSent execution) (λ p seq v h. h) s (deeds l limit at_first execution) (Allowed-from_leads s _ (deeds l limit at_first execution) there.1) (every_deed_was_asked l limit execution layout told)
+every_message_was_sent l limit execution layout reports =
+    let s : State = empty_state l.procs l.cap in
+    let there = (execution_comes l limit execution layout reports).1 in
+    shown_have (IsAsked l limit execution) (IsSent execution) (λ p seq v h. h) s (deeds l limit at_first execution) (Allowed-from_leads s _ (deeds l limit at_first execution) there.1) (every_deed_was_asked l limit execution layout reports)
     (λ p seq v e. absurd (false≢true e))
     (All-nil (IsSent execution))
 
 pub every_close_was_asked : EveryCloseWasAsked
-every_close_was_asked l limit execution layout told e =
-    elim (closed_by (IsAsked l limit execution) (empty l.procs l.cap) (deeds l limit at_first execution) (every_deed_was_asked l limit execution layout told) e) [ inl first ↦ absurd (false≢true first) | inr asked ↦ asked ]
+every_close_was_asked l limit execution layout reports e =
+    elim (closed_by (IsAsked l limit execution) (empty_state l.procs l.cap) (deeds l limit at_first execution) (every_deed_was_asked l limit execution layout reports) e) [ inl first ↦ absurd (false≢true first) | inr asked ↦ asked ]
 
 -- the words have the shape for some process
 shape_for : (l : Layout) (a : Abstract) (w : Words) (m : Mailbox) → Kept l a w m → (p : ℕ) × Shape l p w m
@@ -65,11 +65,11 @@ shape_for l a w m k = by (find_in l.procs a.phase)
     by (inr none) = (0, k.shape 0 (λ r lt i. absurd (none r lt i)))
 
 pub every_ruin_was_asked : EveryRuinWasAsked
-every_ruin_was_asked l limit execution layout told ne =
-    let s : State = empty l.procs l.cap in
-    let there = (execution_comes l limit execution layout told).1 in
+every_ruin_was_asked l limit execution layout reports ne =
+    let s : State = empty_state l.procs l.cap in
+    let there = (execution_comes l limit execution layout reports).1 in
     let a : Abstract = all_done nobody (outers l limit at_first execution) in
     let shape = (shape_for l a (last_global_state l limit at_first execution).cells there.0.mail there.0.kept).1 in
     let is : judge_of l a there.0.mail ≡ all_after s (deeds l limit at_first execution) = state_led s (judge_of l a there.0.mail) (deeds l limit at_first execution) there.1 in
     let ruined : (mail_after l limit execution).ruined ≡ true = sym (ap (λ (x : State). x.mail.ruined) is) ∙ elim (cases_Bool there.0.mail.ruined) [ inl t ↦ t | inr f ↦ absurd (ne (shape.ruined ∙ ap bit f)) ] in
-    elim (ruined_by (IsAsked l limit execution) s (deeds l limit at_first execution) (every_deed_was_asked l limit execution layout told) ruined) [ inl first ↦ absurd (false≢true first) | inr asked ↦ asked ]
+    elim (ruined_by (IsAsked l limit execution) s (deeds l limit at_first execution) (every_deed_was_asked l limit execution layout reports) ruined) [ inl first ↦ absurd (false≢true first) | inr asked ↦ asked ]

@@ -5,7 +5,7 @@ use Rattle.redomail.specs.declared.record.Record.{Record}
 use Rattle.redomail.specs.declared.reply.Reply.{Reply}
 use Rattle.std.proofs.lemmas.Bool.{lt-ltb}
 use Rattle.redomail.specs.declared.stage.JobStage.TheVariants.{Write}
-use Rattle.redomail.specs.Left.{Pending, left, fed}
+use Rattle.redomail.specs.Left.{Pending, script_left, job_after_word}
 use Rattle.redomail.specs.Jobs.{left_at}
 use Rattle.redomail.specs.Stages.{stage_after}
 use Rattle.redomail.specs.Script.{Script, Get as Asks, Put as Writes, Done, head, reply_in, puts}
@@ -33,5 +33,5 @@ write_on l p r k a word wide h =
     rw on (store_left l p r (k + 1) (Done a) (omega (arith, wide, h)))
 
 -- a job that stores
-pub stores_on : (job : Pending) (r : Record) (k : ℕ) (a : Reply) (word : ℕ) → job.stage ≡ Write r k a → length r.value ≡ job.layout.width → k + 1 < 8 + 2 * job.layout.width → HasStep (left (fed job word))
+pub stores_on : (job : Pending) (r : Record) (k : ℕ) (a : Reply) (word : ℕ) → job.stage ≡ Write r k a → length r.value ≡ job.layout.width → k + 1 < 8 + 2 * job.layout.width → HasStep (script_left (job_after_word job word))
 stores_on job r k a word is wide h = subst (λ x. HasStep (left_at job.layout job.sender (stage_after job.layout x word))) (sym is) (write_on job.layout job.sender r k a word wide h)

@@ -1,7 +1,7 @@
 -- A step that the code of a world takes is the definition's.
 use Rattle.std.proofs.Common.{◌≡◌, ℕ, ◌<◌, ◌++◌, slice_index_or, slice_set, Some, IfSome, sym, ap, ◌∙◌, subst}
-use Rattle.rmeworld.proofs.Common.{Access, Tally, kind_of, word_of, carried, counted, Stepped, Advances, script_state_of, IsWorld, world_event, words_by, cells_by, the_deed, stepped_if}
-use Rattle.rmeworld.proofs.Common.{advanced_if, advanced_by, prospect_of, MachineState, outcome, IsLeast, IsAllowed, process_state_of, stepped as machine_state_stepped, next_access, process_state_after, StoresOwn, reading}
+use Rattle.rmeworld.proofs.Common.{Access, Tally, kind_of, word_of, carried_value, tally_after_step, Stepped, Advances, script_state_of, IsWorld, world_event, words_by, cells_by, the_deed, stepped_if}
+use Rattle.rmeworld.proofs.Common.{advanced_if, advanced_by, prospect_of, MachineState, outcome, IsLeast, IsAllowed, process_state_of, machine_after_step as machine_state_stepped, next_access, process_state_after, StoresOwn, reading}
 use Rattle.rmeworld.proofs.Common.{event_deeds, WorldState, machine_state_at, global_state_of}
 use Rattle.rmeworld.specs.declared.outcome.Outcome.{Outcome}
 use Rattle.rmeworld.specs.Replayed.{stepped_by}
@@ -18,16 +18,16 @@ pub record IsNext (s : WorldState) (p : ℕ) (a : Access) (v : ℕ) : Type 0 whe
   pub found : v ≡ reading (global_state_of s) (word_of a)
 
 -- its report, from its effects for the process
-abbrev pub told_by : WorldState → ℕ → Access → ℕ → Outcome → Stepped
-told_by s p a v o =
+abbrev pub reports_by : WorldState → ℕ → Access → ℕ → Outcome → Stepped
+reports_by s p a v o =
     record {
-      happened = record { kind = kind_of a; word = word_of a; value = carried a v; outer = o.progress.outer; done = o.progress.done };
+      happened = record { kind = kind_of a; word = word_of a; value = carried_value a v; outer = o.progress.outer; done = o.progress.done };
       deed = the_deed (prospect_of s p a o);
       answer = o.answer;
     }
 
 -- The process was fed and its step counted, the word was stored, the deeds were noted, and this is the report.
-pub record Fed (s : WorldState) (p : ℕ) (a : Access) (v : ℕ) (o : Outcome) (told : Stepped) (new : WorldState) : Type 0 where
+pub record Fed (s : WorldState) (p : ℕ) (a : Access) (v : ℕ) (o : Outcome) (reports : Stepped) (new : WorldState) : Type 0 where
   pub before : MachineState
   pub after : MachineState
   pub tally : Tally
@@ -41,11 +41,11 @@ pub record Fed (s : WorldState) (p : ℕ) (a : Access) (v : ℕ) (o : Outcome) (
   pub words : new.words ≡ words_by s.words a
   pub cells : new.cells ≡ cells_by s.cells a
   pub processes : new.processes ≡ slice_set s.processes p after
-  pub tallies : new.tallies ≡ slice_set s.tallies p (counted tally o.progress.blocked)
+  pub tallies : new.tallies ≡ slice_set s.tallies p (tally_after_step tally o.progress.blocked)
   pub history : new.history ≡ s.history ++ prospect_of s p a o
-  pub tells : told ≡ told_by s p a v o
+  pub tells : reports ≡ reports_by s p a v o
 
-module _ {s : WorldState} {p : ℕ} {a : Access} {v : ℕ} {o : Outcome} {told : Stepped} {new : WorldState} (world : IsWorld s) (next : IsNext s p a v) (fed : Fed s p a v o told new) where
+module _ {s : WorldState} {p : ℕ} {a : Access} {v : ℕ} {o : Outcome} {reports : Stepped} {new : WorldState} (world : IsWorld s) (next : IsNext s p a v) (fed : Fed s p a v o reports new) where
   abbrev machine_state : MachineState
   machine_state = machine_state_at s.processes p
 
@@ -81,14 +81,14 @@ module _ {s : WorldState} {p : ℕ} {a : Access} {v : ℕ} {o : Outcome} {told :
 
   is : new ≡ advanced_by s p a
   is =
-      let tallies = fed.tallies ∙ (λ i. slice_set s.tallies p (counted (sym (tally_found s p fed.tally world next.below fed.there) i) (what i).progress.blocked)) in
+      let tallies = fed.tallies ∙ (λ i. slice_set s.tallies p (tally_after_step (sym (tally_found s p fed.tally world next.below fed.there) i) (what i).progress.blocked)) in
       let processes = fed.processes ∙ ap (slice_set s.processes p) after in
       let history = fed.history ∙ ap (λ ds. s.history ++ ds) noted in
       λ i. record { layout = fed.layout i; limit = fed.limit i; words = fed.words i; cells = fed.cells i; processes = processes i; tallies = tallies i; history = history i }
 
-  tells : told ≡ stepped_by s p a
+  tells : reports ≡ stepped_by s p a
   tells = fed.tells ∙ (λ i. record {
-    happened = record { kind = kind_of a; word = word_of a; value = carried a (next.found i); outer = (what i).progress.outer; done = (what i).progress.done };
+    happened = record { kind = kind_of a; word = word_of a; value = carried_value a (next.found i); outer = (what i).progress.outer; done = (what i).progress.done };
     deed = the_deed (noted i);
     answer = (what i).answer;
   })
@@ -96,14 +96,14 @@ module _ {s : WorldState} {p : ℕ} {a : Access} {v : ℕ} {o : Outcome} {told :
   pub stays : IsWorld new
   stays = subst IsWorld (sym is) (world_step s p a world step)
 
-  pub takes : Advances s p told new
+  pub takes : Advances s p reports new
   takes =
       let configuration = world.configured.configurations p next.below in
       subst (λ x. Advances s p x new) (sym tells) (subst (Advances s p (stepped_by s p a)) (sym is) (record {
         step = step_takes s p a step;
         kind = no_glance machine_state.limit machine_state.index machine_state.lock (script_state_of machine_state.script_state) a next.access;
         least = λ word x some. next.least word x (rw (configuration.0, configuration.1, configuration.2) some);
-        told = ap (stepped_if s p) (sym next.access);
+        reports = ap (stepped_if s p) (sym next.access);
         ok = ap (advanced_if s p) (sym next.access);
         taken = answered_step s p a step world.tallied;
       }))

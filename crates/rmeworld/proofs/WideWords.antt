@@ -1,7 +1,7 @@
 -- The words of a wider image have the indexes of its layout.
 use Rattle.std.proofs.Common.{◌≡◌, ℕ, zero, suc, ◌+◌, ◌-◌, ◌<◌, ◌≤◌, List, [], ◌++◌, length, drop, refl, sym, ap, inl, inr, ◌∙◌, arith, append_assoc, length-append, length-take, length-drop, append-nil}
 use Rattle.rmeworld.proofs.ImageCommon.{take-append_seam, drop-append_seam, cases_eq, Own, Layout, HeadsHold, Words, size, words_of, row, place_at, entry, place_low, entry-from_row, Image, layout_of}
-use Rattle.rmeworld.proofs.ImageCommon.{padded, widened, IsWider, words_from, wide_place, wide_words}
+use Rattle.rmeworld.proofs.ImageCommon.{padded_words, widened_message, IsWider, words_from, wide_place, wide_words}
 use Rattle.rmecore.specs.Body.{zeros}
 use Rattle.redomail.proofs.Readings.{row-slice, place_within}
 
@@ -9,7 +9,7 @@ length-zeros : (n : ℕ) → length (zeros n) ≡ n
 length-zeros zero = refl
 length-zeros (suc n) = ap suc (length-zeros n)
 
-length-padded : (n : ℕ) (xs : List ℕ) → length xs ≤ n → length (padded n xs) ≡ n
+length-padded : (n : ℕ) (xs : List ℕ) → length xs ≤ n → length (padded_words n xs) ≡ n
 length-padded n xs h = omega (arith, length-append xs (zeros (n - length xs)), length-zeros (n - length xs))
 
 length-words_from : (i n : ℕ) (xs : List ℕ) → i + n ≤ length xs → length (words_from i n xs) ≡ n
@@ -38,7 +38,7 @@ module _ (l : Layout) (wide : ℕ) (xs : List ℕ) (h : HeadsHold l xs) (more : 
   heads = words_from 0 6 xs
 
   abbrev value : List ℕ
-  value = padded wide (words_from 6 l.width xs)
+  value = padded_words wide (words_from 6 l.width xs)
 
   abbrev others : List ℕ
   others = words_from (6 + l.width) (4 + l.procs) xs
@@ -61,7 +61,7 @@ module _ (l : Layout) (wide : ℕ) (xs : List ℕ) (h : HeadsHold l xs) (more : 
       let two = length-words_from (place_at l a) 2 xs (omega (arith, within)) in
       let old = length-words_from (place_at l a + 2) l.width xs (omega (arith, within)) in
       let new = length-padded wide (words_from (place_at l a + 2) l.width xs) (omega (arith, old)) in
-      omega (arith, two, new, length-append (words_from (place_at l a) 2 xs) (padded wide (words_from (place_at l a + 2) l.width xs)))
+      omega (arith, two, new, length-append (words_from (place_at l a) 2 xs) (padded_words wide (words_from (place_at l a + 2) l.width xs)))
 
   length-wide : (k : ℕ) → k ≤ l.cap → length (wide_words l wide xs k) ≡ place_at m k
   length-wide zero low = omega (arith, length-append (heads ++ value) others, length-append heads value, length-heads, length-value, length-others, place_start m)
@@ -69,21 +69,21 @@ module _ (l : Layout) (wide : ℕ) (xs : List ℕ) (h : HeadsHold l xs) (more : 
       omega (arith, length-append (wide_words l wide xs k) (wide_place l wide xs k), length-wide k (omega arith), length-place k (omega arith), place_next m k)
 
   -- the words after the first ones
-  behind_front : (k : ℕ) → (ts : List ℕ) × (wide_words l wide xs k ≡ wide_words l wide xs 0 ++ ts)
-  behind_front zero = ([], sym (append-nil (wide_words l wide xs 0)))
-  behind_front (suc k) =
-      let before = behind_front k in
+  after_front : (k : ℕ) → (ts : List ℕ) × (wide_words l wide xs k ≡ wide_words l wide xs 0 ++ ts)
+  after_front zero = ([], sym (append-nil (wide_words l wide xs 0)))
+  after_front (suc k) =
+      let before = after_front k in
       (before.0 ++ wide_place l wide xs k, ap (λ ys. ys ++ wide_place l wide xs k) before.1 ∙ append_assoc (wide_words l wide xs 0) before.0 (wide_place l wide xs k))
 
   -- the words after a place
-  behind_place : (k a : ℕ) → a < k → (ts : List ℕ) × (wide_words l wide xs k ≡ wide_words l wide xs a ++ (wide_place l wide xs a ++ ts))
-  behind_place zero a low = absurd (omega arith)
-  behind_place (suc k) a low =
+  after_place : (k a : ℕ) → a < k → (ts : List ℕ) × (wide_words l wide xs k ≡ wide_words l wide xs a ++ (wide_place l wide xs a ++ ts))
+  after_place zero a low = absurd (omega arith)
+  after_place (suc k) a low =
       elim (cases_eq a k) [
         | inl same ↦
             ([], (rw same (ap (λ ys. wide_words l wide xs k ++ ys) (sym (append-nil (wide_place l wide xs k))))))
         | inr other ↦
-            (let before = behind_place k a (omega arith) in (
+            (let before = after_place k a (omega arith) in (
               before.0 ++ wide_place l wide xs k,
               ap (λ ys. ys ++ wide_place l wide xs k) before.1
                   ∙ append_assoc (wide_words l wide xs a) (wide_place l wide xs a ++ before.0) (wide_place l wide xs k)
@@ -96,36 +96,36 @@ module _ (l : Layout) (wide : ℕ) (xs : List ℕ) (h : HeadsHold l xs) (more : 
     filled = ap length e ∙ length-wide l.cap (omega arith)
 
     abbrev rest : List ℕ
-    rest = (behind_front l.cap).0
+    rest = (after_front l.cap).0
 
     all : ys ≡ heads ++ value ++ (others ++ rest)
-    all = e ∙ (behind_front l.cap).1 ∙ append_assoc (heads ++ value) others rest
+    all = e ∙ (after_front l.cap).1 ∙ append_assoc (heads ++ value) others rest
 
     pub heads_stand : row (words_of ys) 0 6 ≡ row (words_of xs) 0 6
     heads_stand =
         row_between [] heads (value ++ (others ++ rest)) ys 0 6 (all ∙ append_assoc heads value (others ++ rest)) refl length-heads
         ∙ sym (row-slice xs 0 6 (omega (arith, long)))
 
-    pub value_stands : row (words_of ys) 6 wide ≡ padded wide (row (words_of xs) 6 l.width)
+    pub value_stands : row (words_of ys) 6 wide ≡ padded_words wide (row (words_of xs) 6 l.width)
     value_stands =
         row_between heads value (others ++ rest) ys 6 wide (all ∙ append_assoc heads value (others ++ rest)) length-heads length-value
-        ∙ ap (padded wide) (sym (row-slice xs 6 l.width (omega (arith, long))))
+        ∙ ap (padded_words wide) (sym (row-slice xs 6 l.width (omega (arith, long))))
 
     pub others_stand : row (words_of ys) (6 + wide) (4 + l.procs) ≡ row (words_of xs) (6 + l.width) (4 + l.procs)
     others_stand =
         row_between (heads ++ value) others rest ys (6 + wide) (4 + l.procs) all (omega (arith, length-append heads value, length-heads, length-value)) length-others
         ∙ sym (row-slice xs (6 + l.width) (4 + l.procs) (omega (arith, long)))
 
-    pub places_stand : (a : ℕ) → a < l.cap → entry m (words_of ys) a ≡ widened wide (entry l (words_of xs) a)
+    pub places_stand : (a : ℕ) → a < l.cap → entry m (words_of ys) a ≡ widened_message wide (entry l (words_of xs) a)
     places_stand a room =
         let w : Words = words_of xs in
         let within = (place_within l xs a h room).1 in
-        let behind = behind_place l.cap a room in
-        let stands = row_between (wide_words l wide xs a) (wide_place l wide xs a) behind.0 ys (place_at m a) (2 + wide) (e ∙ behind.1) (length-wide a (omega arith)) (length-place a room) in
+        let after_it = after_place l.cap a room in
+        let stands = row_between (wide_words l wide xs a) (wide_place l wide xs a) after_it.0 ys (place_at m a) (2 + wide) (e ∙ after_it.1) (length-wide a (omega arith)) (length-place a room) in
         let two : row w (place_at l a) 2 ≡ words_from (place_at l a) 2 xs = row-slice xs (place_at l a) 2 (omega (arith, within)) in
         let old : row w (place_at l a + 2) l.width ≡ words_from (place_at l a + 2) l.width xs = row-slice xs (place_at l a + 2) l.width (omega (arith, within)) in
         let n : 2 + wide ≡ suc (suc wide) = omega arith in
-        entry-from_row m (words_of ys) a (w (place_at l a)) (w (place_at l a + 1)) (padded wide (row w (place_at l a + 2) l.width))
+        entry-from_row m (words_of ys) a (w (place_at l a)) (w (place_at l a + 1)) (padded_words wide (row w (place_at l a + 2) l.width))
         ((rw n at stands) ∙ rw (← two, ← old) refl)
 
 -- The wider image with these words.

@@ -1,18 +1,18 @@
 -- One event: its deeds are allowed, and the invariant holds after it.
 use Rattle.std.proofs.Common.{◌≡◌, ◌≢◌, ℕ, ◌<◌, Bool, true, false, ◌&&◌, ◌==◌, nat_lt, length, List, [], ◌∷◌, ◌++◌, Option, Some, None, Ok, refl, sym, ap, ◌∙◌, subst, inl, inr, ◌⊎◌, true≢false, ltb-true, lt-ltb}
-use Rattle.rmeworld.proofs.Common.{cases_Bool, CoreCall, Kind, Outer, Begin, Ready, Enter, Crash, Reenter, Leave, Quit, Phase, Word, Abstract, is_inside, doer, needs, done, put, AllHold, Place, Wait}
-use Rattle.rmeworld.proofs.Common.{next, Rest, Reread, Leaving, Withdrawing, Inside, Dead, IsIn, Sole, IsLeave, step_deed, Allows, allows_from, put_same, after_deed as done_by, neither, phase_other}
+use Rattle.rmeworld.proofs.Common.{cases_Bool, CoreCall, Kind, Outer, Begin, Ready, Enter, Crash, Reenter, Leave, Quit, Phase, Word, Abstract, is_inside, doer, needs, abstract_after, put, AllHold, Place, Wait}
+use Rattle.rmeworld.proofs.Common.{next, Rest, Reread, Leaving, Withdrawing, Inside, Dead, IsInSection, Sole, IsLeave, step_deed, Allows, allows_from, put_same, after_deed as done_by, neither, phase_other}
 use Rattle.rmeworld.proofs.Common.{sole_done, in_after, turn, Deed, Layout, Reply, deeds_of_put, Words, IsLayout, MailLeads, AreOwn, Mailbox, Script, Get as Asks, Put as Writes, Shape, bit, script}
 use Rattle.rmeworld.proofs.Common.{consistent, puts_are_own, shape_passes_on, may_leave, Leads, judged_all, State, AllHold-append, judged-allowed, Call, Lock, Unlock, Consistent, Recover, Append}
-use Rattle.rmeworld.proofs.Common.{Close, Withdraw, Purpose, Ruining, Mending, Working, Checking, ScriptStateTells, ScriptState, Free, Doing, ProcessState, dead, settled, script_state_entered, at_lock, begun_from}
+use Rattle.rmeworld.proofs.Common.{Close, Withdraw, Purpose, Ruining, Mending, Working, Checking, ScriptStateTells, ScriptState, Free, Doing, ProcessState, dead_process, process_after_script, script_state_entered, at_lock, begun_from}
 use Rattle.rmeworld.proofs.Common.{mended_entered, outer_deeds}
-use Rattle.rmecore.specs.Place.{started}
+use Rattle.rmecore.specs.Place.{place_after_start}
 use Rattle.rmecore.specs.Turn.{Elsewhere, Plain, Turn, Enters, Reenters, Exits, Same, Else}
 use Rattle.rmecore.specs.declared.core_call.CoreCall.TheVariants as core
 use Rattle.rmecore.specs.declared.phase.Phase.TheVariants as phase
 use Rattle.redomail.specs.declared.deed.Deed.TheVariants as deed
 use Rattle.redomail.specs.declared.task.Task.TheVariants as task
-use Rattle.redomail.specs.Mailbox.{row as mail_row, done as mail_done}
+use Rattle.redomail.specs.Mailbox.{row as mail_row, mailbox_after as mail_done}
 use Rattle.redomail.proofs.Safe.{seen}
 use Rattle.judge.specs.Legal.{and_then}
 use Rattle.rmeworld.specs.declared.call.Call.TheVariants.{Get, Put}
@@ -31,10 +31,10 @@ judge_of l a m = record { procs = l.procs; cap = l.cap; lock = a; mail = m }
 -- have the shape for it. If no process is in, they are clean or ruined.
 pub record Kept (l : Layout) (a : Abstract) (w : Words) (m : Mailbox) : Type 0 where
   pub sole : Sole l.procs a
-  pub shape : (q : ℕ) → ((r : ℕ) → r < l.procs → IsIn (a.phase r) → r ≡ q) → Shape l q w m
-  pub rest : ((r : ℕ) → r < l.procs → IsIn (a.phase r) → ⊥) → w 0 ≡ 0 → w 3 ≡ 0
+  pub shape : (q : ℕ) → ((r : ℕ) → r < l.procs → IsInSection (a.phase r) → r ≡ q) → Shape l q w m
+  pub rest : ((r : ℕ) → r < l.procs → IsInSection (a.phase r) → ⊥) → w 0 ≡ 0 → w 3 ≡ 0
 
-shape_in : (l : Layout) (a : Abstract) (w : Words) (m : Mailbox) (p : ℕ) → Kept l a w m → p < l.procs → IsIn (a.phase p) → Shape l p w m
+shape_in : (l : Layout) (a : Abstract) (w : Words) (m : Mailbox) (p : ℕ) → Kept l a w m → p < l.procs → IsInSection (a.phase p) → Shape l p w m
 shape_in l a w m p k below i = k.shape p (λ r lt j. k.sole r p lt below j i)
 
 -- clean or ruined, by the mailbox's state
@@ -63,17 +63,17 @@ module _ (l : Layout) (a : Abstract) (w : Words) (m : Mailbox) (p : ℕ) (layout
   -- the mailbox's needs of a deed of the lock
   mail_allows : (d : Outer) (inside : Bool) → Allows l.procs a d → LeavesClean d → AllHold (mail_row l.cap inside m (deed.Outer d))
   mail_allows (Leave q) inside h c =
-      let here = shape_in l a w m q k h.0 (subst IsIn (sym h.1) tt) in
+      let here = shape_in l a w m q k h.0 (subst IsInSection (sym h.1) tt) in
       may_leave l q q l.cap w m (clean_by l q w m here c) here
   mail_allows _ inside h c = tt
 
-  leads_to : (d : Outer) → AllHold (needs l.procs a d) → LeavesClean d → Leads (judge_of l a m) (deed.Outer d ∷ []) (judge_of l (done a d) m)
+  leads_to : (d : Outer) → AllHold (needs l.procs a d) → LeavesClean d → Leads (judge_of l a m) (deed.Outer d ∷ []) (judge_of l (abstract_after a d) m)
   leads_to d may c =
       ap (λ r. and_then r (λ t. Ok t))
       (judged-allowed (judge_of l a m) (deed.Outer d) (may.0, AllHold-append _ _ may.1 (mail_allows d (is_inside (a.phase (doer d))) (allows_from l.procs a d may) c)))
 
   -- any deed but Leave: a process that is in stays in
-  stays : (d : Outer) → AllHold (needs l.procs a d) → (IsLeave d → ⊥) → Kept l (done a d) w m
+  stays : (d : Outer) → AllHold (needs l.procs a d) → (IsLeave d → ⊥) → Kept l (abstract_after a d) w m
   stays d may ne =
       let h = allows_from l.procs a d may in
       record {
@@ -82,22 +82,22 @@ module _ (l : Layout) (a : Abstract) (w : Words) (m : Mailbox) (p : ℕ) (layout
         rest = λ none. k.rest (λ r lt i. none r lt (in_after l.procs a d r h ne i));
       }
 
-  leaves : (q : ℕ) → AllHold (needs l.procs a (Leave q)) → (w 0 ≡ 0 → w 3 ≡ 0) → Kept l (done a (Leave q)) w m
+  leaves : (q : ℕ) → AllHold (needs l.procs a (Leave q)) → (w 0 ≡ 0 → w 3 ≡ 0) → Kept l (abstract_after a (Leave q)) w m
   leaves q may clean =
       let h = allows_from l.procs a (Leave q) may in
-      let here = shape_in l a w m q k h.0 (subst IsIn (sym h.1) tt) in
+      let here = shape_in l a w m q k h.0 (subst IsInSection (sym h.1) tt) in
       record {
         sole = sole_done l.procs a (Leave q) may k.sole;
         shape = λ r only. shape_passes_on l q r w m (clean_by l q w m here clean) here;
         rest = λ none. clean;
       }
 
-  after_outer : (d : Outer) → AllHold (needs l.procs a d) → LeavesClean d → Kept l (done a d) w m
+  after_outer : (d : Outer) → AllHold (needs l.procs a d) → LeavesClean d → Kept l (abstract_after a d) w m
   after_outer (Leave q) h c = leaves q h c
   after_outer d h c = stays d h (λ z. z)
 
   -- a deed of the lock
-  by_deed : (d : Outer) (process_state : ProcessState) → doer d ≡ p → AllHold (needs l.procs a d) → LeavesClean d → (Kept l (done a d) w m → PostAt l p ((done a d).phase p) w m process_state) → Goes (Some d) process_state
+  by_deed : (d : Outer) (process_state : ProcessState) → doer d ≡ p → AllHold (needs l.procs a d) → LeavesClean d → (Kept l (abstract_after a d) w m → PostAt l p ((abstract_after a d).phase p) w m process_state) → Goes (Some d) process_state
   by_deed d process_state own may clean here =
       let kept = after_outer d may clean in
       record {
@@ -107,12 +107,12 @@ module _ (l : Layout) (a : Abstract) (w : Words) (m : Mailbox) (p : ℕ) (layout
         here = here kept;
         others =
             λ q lt ne x h.
-            let same : (done a d).phase q ≡ a.phase q = phase_other a d q (λ e. ne (e ∙ own)) in
+            let same : (abstract_after a d).phase q ≡ a.phase q = phase_other a d q (λ e. ne (e ∙ own)) in
             subst (λ ph. PostAt l q ph w m x) (sym same) h;
       }
 
   shape_of : a.phase p ≡ phase.Inside → Shape l p w m
-  shape_of h = shape_in l a w m p k below (subst IsIn (sym h) tt)
+  shape_of h = shape_in l a w m p k below (subst IsInSection (sym h) tt)
 
   inside_row : (m : Mailbox) (d : Deed) (q : ℕ) → q ≡ p → a.phase p ≡ phase.Inside → AllHold (mail_row l.cap true m d) → AllHold (mail_row l.cap (is_inside (a.phase q)) m d)
   inside_row m d q own h row =
@@ -136,7 +136,7 @@ module _ (l : Layout) (a : Abstract) (w : Words) (m : Mailbox) (p : ℕ) (layout
   by_put : (i v : ℕ) (process_state : ProcessState) (t : Mailbox) → a.phase p ≡ phase.Inside → MailLeads l.cap m (deeds_of_put l p w i v) t → Shape l p (put w i v) t → PostAt l p (a.phase p) (put w i v) t process_state
       → Outcome l a w m p None (deeds_of_put l p w i v) (put w i v) process_state
   by_put i v process_state t h leads shape here =
-      let me : IsIn (a.phase p) = subst IsIn (sym h) tt in
+      let me : IsInSection (a.phase p) = subst IsInSection (sym h) tt in
       record {
         mail = t;
         leads = mail_leads m t (deeds_of_put l p w i v) h (puts_are_own l p w i v) leads;
@@ -148,7 +148,7 @@ module _ (l : Layout) (a : Abstract) (w : Words) (m : Mailbox) (p : ℕ) (layout
         here = here;
         others =
             λ q lt ne x y.
-            Post-out l q (a.phase q) w (put w i v) m t x.mended x.script_state x.lock (λ e. ne (k.sole q p lt below (subst IsIn (sym e) tt) me)) y;
+            Post-out l q (a.phase q) w (put w i v) m t x.mended x.script_state x.lock (λ e. ne (k.sole q p lt below (subst IsInSection (sym e) tt) me)) y;
       }
 
   -- the lock's part
@@ -165,20 +165,20 @@ module _ (l : Layout) (a : Abstract) (w : Words) (m : Mailbox) (p : ℕ) (layout
   stay b c _ h = h
 
   -- at an entry: the ruin check begins on words of this shape
-  check : (b : Bool) (d : Outer) → Kept l (done a d) w m → (done a d).phase p ≡ phase.Inside → (b ≡ true → w 0 ≡ 0 → w 3 ≡ 0) → Work l p w m b Checking (script l p task.Check)
-  check b d kept is clean = checking l p w m layout below (shape_in l (done a d) w m p kept below (subst IsIn (sym is) tt)) b clean
+  check : (b : Bool) (d : Outer) → Kept l (abstract_after a d) w m → (abstract_after a d).phase p ≡ phase.Inside → (b ≡ true → w 0 ≡ 0 → w 3 ≡ 0) → Work l p w m b Checking (script l p task.Check)
+  check b d kept is clean = checking l p w m layout below (shape_in l (abstract_after a d) w m p kept below (subst IsInSection (sym is) tt)) b clean
 
   enters : (b c : Bool) (y : ℕ) (unpassed : List ℕ) (looked : Option ℕ) → AllHold (needs l.procs a (Enter p)) → Goes (Some (Enter p)) (entry b c (Wait y unpassed looked) Inside)
   enters b c y unpassed looked may =
       let h = allows_from l.procs a (Enter p) may in
       by_deed (Enter p) (entry b c (Wait y unpassed looked) Inside) refl may tt
       (λ kept.
-      let is : (done a (Enter p)).phase p ≡ phase.Inside = put_same a.phase p phase.Inside in
+      let is : (abstract_after a (Enter p)).phase p ≡ phase.Inside = put_same a.phase p phase.Inside in
       (refl, is, check true (Enter p) kept is (λ _. k.rest (λ r lt i. neither (a.phase r) (h.2 r lt) (h.3 r lt) i))))
 
-  back_in : (b c : Bool) (call : CoreCall) (seen : List ℕ) → Kept l (done a (Reenter p)) w m → PostAt l p ((done a (Reenter p)).phase p) w m (entry b c (Reread call seen) Inside)
+  back_in : (b c : Bool) (call : CoreCall) (seen : List ℕ) → Kept l (abstract_after a (Reenter p)) w m → PostAt l p ((abstract_after a (Reenter p)).phase p) w m (entry b c (Reread call seen) Inside)
   back_in b c core.Lock seen kept =
-      let is : (done a (Reenter p)).phase p ≡ phase.Inside = put_same a.phase p phase.Inside in
+      let is : (abstract_after a (Reenter p)).phase p ≡ phase.Inside = put_same a.phase p phase.Inside in
       (refl, is, check false (Reenter p) kept is (λ h. absurd (true≢false (sym h))))
   back_in b c _ seen kept = (put_same a.phase p phase.Inside, λ h. absurd (true≢false (sym h)))
 
@@ -205,11 +205,11 @@ module _ (l : Layout) (a : Abstract) (w : Words) (m : Mailbox) (p : ℕ) (layout
       subst (λ x. Goes x (entry b c from to)) (sym f) (nothing (entry b c from to) (subst (λ x. PostAt l p (a.phase p) w m (entry b c from x)) e (stay b c from h)))
   turned b c from to d (Else g e f) may h = plain b c from to d e f may
 
-  pub falls : AllHold (needs l.procs a (Crash p)) → Goes (Some (Crash p)) dead
-  falls may = by_deed (Crash p) dead refl may tt (λ kept. tt)
+  pub falls : AllHold (needs l.procs a (Crash p)) → Goes (Some (Crash p)) dead_process
+  falls may = by_deed (Crash p) dead_process refl may tt (λ kept. tt)
 
   -- starts
-  starts : (b : Bool) (lock : Place) (call : CoreCall) (to : Place) → started lock call ≡ Some to → (call ≡ core.Unlock → b ≡ true) → Post l p (a.phase p) w m b Free lock → PostAt l p (a.phase p) w m (entry b false lock to)
+  starts : (b : Bool) (lock : Place) (call : CoreCall) (to : Place) → place_after_start lock call ≡ Some to → (call ≡ core.Unlock → b ≡ true) → Post l p (a.phase p) w m b Free lock → PostAt l p (a.phase p) w m (entry b false lock to)
   starts b Rest core.Lock to e whole h = let is : Reread core.Lock [] ≡ to = cc in away (a.phase p) w m b false Rest to (subst Elsewhere is tt)
   starts b Rest core.Recover to e whole h = let is : Reread core.Recover [] ≡ to = cc in away (a.phase p) w m b false Rest to (subst Elsewhere is tt)
   starts b Dead core.Lock to e whole h = let is : Reread core.Lock [] ≡ to = cc in away (a.phase p) w m b false Dead to (subst Elsewhere is tt)
@@ -220,9 +220,9 @@ module _ (l : Layout) (a : Abstract) (w : Words) (m : Mailbox) (p : ℕ) (layout
   starts b (Wait y unpassed looked) core.Withdraw to e whole h = let is : Withdrawing ≡ to = cc in away (a.phase p) w m b false (Wait y unpassed looked) to (subst Elsewhere is tt)
   starts b _ _ to e whole h = absurd (cc)
 
-  by_start : (b : Bool) (lock : Place) (call : CoreCall) (s' : ProcessState) → at_lock l p lock b false (started lock call) ≡ Some s' → (call ≡ core.Unlock → b ≡ true) → Post l p (a.phase p) w m b Free lock → Goes None s'
+  by_start : (b : Bool) (lock : Place) (call : CoreCall) (s' : ProcessState) → at_lock l p lock b false (place_after_start lock call) ≡ Some s' → (call ≡ core.Unlock → b ≡ true) → Post l p (a.phase p) w m b Free lock → Goes None s'
   by_start b lock call s' e whole h =
-      let r = at_lock_some l p lock b false (started lock call) s' e in
+      let r = at_lock_some l p lock b false (place_after_start lock call) s' e in
       subst (Goes None) r.process_state (nothing (entry b false lock r.place) (starts b lock call r.place r.some whole h))
 
   by_script : (b : Bool) (lock : Place) (fits : Bool) (purpose : Purpose) (e : Script Reply) (s' : ProcessState) → (lock ≡ Inside) × (fits ≡ true) × (begun b purpose e ≡ s') → Post l p (a.phase p) w m b Free lock
@@ -251,26 +251,26 @@ module _ (l : Layout) (a : Abstract) (w : Words) (m : Mailbox) (p : ℕ) (layout
   begins lock b _ _ s' e h = absurd (cc)
 
   -- a step of a script, with the meaning of its answer
-  abbrev pub Told : Option Outer → List Deed → Words → ProcessState → ScriptState → ℕ → Type 0
-  Told d ds u process_state script_state v = (o : Outcome l a w m p d ds u process_state) × ScriptStateTells p script_state v o.mail.shown
+  abbrev pub Report : Option Outer → List Deed → Words → ProcessState → ScriptState → ℕ → Type 0
+  Report d ds u process_state script_state v = (o : Outcome l a w m p d ds u process_state) × ScriptStateTells p script_state v o.mail.shown
 
-  pub gets : (b c : Bool) (purpose : Purpose) (j : ℕ) (rest : ℕ → Script Reply) (v : ℕ) (s' : ProcessState) → settled b c purpose (rest v) ≡ s' → w j ≡ v → a.phase p ≡ phase.Inside → Work l p w m b purpose (Asks j rest) → Told None [] w s' (Doing purpose (Asks j rest)) v
+  pub gets : (b c : Bool) (purpose : Purpose) (j : ℕ) (rest : ℕ → Script Reply) (v : ℕ) (s' : ProcessState) → process_after_script b c purpose (rest v) ≡ s' → w j ≡ v → a.phase p ≡ phase.Inside → Work l p w m b purpose (Asks j rest) → Report None [] w s' (Doing purpose (Asks j rest)) v
   unfolding nothing
   gets b c purpose j rest v s' e read h work =
       let on : Work l p w m b purpose (rest (w j)) = record { m = work.m; old = work.old; safe = work.safe.1; ends = work.ends; mine = work.mine } in
       let now : Work l p w m b purpose (rest v) = subst (λ x. Work l p w m b purpose (rest x)) read on in
-      subst (λ x. Told None [] w x (Doing purpose (Asks j rest)) v) e
-      (nothing (settled b c purpose (rest v)) (settled_post l p (a.phase p) w m b c purpose (rest v) h now), work_tells l p w m b purpose (rest v) now)
+      subst (λ x. Report None [] w x (Doing purpose (Asks j rest)) v) e
+      (nothing (process_after_script b c purpose (rest v)) (settled_post l p (a.phase p) w m b c purpose (rest v) h now), work_tells l p w m b purpose (rest v) now)
 
-  pub puts : (b c : Bool) (purpose : Purpose) (j x : ℕ) (rest : Script Reply) (s' : ProcessState) → settled b c purpose rest ≡ s' → a.phase p ≡ phase.Inside → Work l p w m b purpose (Writes j x rest)
-      → Told None (deeds_of_put l p w j x) (put w j x) s' (Doing purpose (Writes j x rest)) x
+  pub puts : (b c : Bool) (purpose : Purpose) (j x : ℕ) (rest : Script Reply) (s' : ProcessState) → process_after_script b c purpose rest ≡ s' → a.phase p ≡ phase.Inside → Work l p w m b purpose (Writes j x rest)
+      → Report None (deeds_of_put l p w j x) (put w j x) s' (Doing purpose (Writes j x rest)) x
   unfolding by_put
   puts b c purpose j x rest s' e h work =
       let g = work.safe.2 in
       let t : Mailbox = g.0 in
       let now : Work l p (put w j x) t b purpose rest = record { m = work.m; old = work.old; safe = g.2; ends = work.ends; mine = work.mine } in
-      subst (λ z. Told None (deeds_of_put l p w j x) (put w j x) z (Doing purpose (Writes j x rest)) x) e (
-        by_put j x (settled b c purpose rest) t h g.1 (seen l p work.m work.old rest (put w j x) t g.2).0 (settled_post l p (a.phase p) (put w j x) t b c purpose rest h now),
+      subst (λ z. Report None (deeds_of_put l p w j x) (put w j x) z (Doing purpose (Writes j x rest)) x) e (
+        by_put j x (process_after_script b c purpose rest) t h g.1 (seen l p work.m work.old rest (put w j x) t g.2).0 (settled_post l p (a.phase p) (put w j x) t b c purpose rest h now),
         work_tells l p (put w j x) t b purpose rest now,
       )
 

@@ -1,11 +1,11 @@
 -- A step in memory is an event of the definition.
 use Rattle.std.proofs.Common.{◌≡◌, ℕ, ◌<◌, ◌≤◌, Bool, true, false, nat_lt, if◌then◌else◌, List, ◌++◌, length, slice_index_or, slice_set, Some, IsSome, unwrap_or, refl, sym, ap, ◌∙◌, subst, inl, inr, arith, append-nil, lt-ltb, ltb-true, get_or-set_same, get_or-set_other, length-set}
-use Rattle.rmeworld.proofs.Common.{cases_Bool, cases_eq, cases_lt, set_past, Access, Load, Store, Own, Tally, Word, Data as DataAt, kind_of, word_of, carried, put, own_at, zeros, write, put_same}
-use Rattle.rmeworld.proofs.Common.{put_other, Deed, Layout, Reply, size, words_of, left, fed, Script, Get as Asks, Put as Writes, Done, Call, Unlock, Chore, IsFree, Does, value_of}
-use Rattle.rmeworld.proofs.Common.{words_by, cells_by, advanced_by, words_set, WorldEvent, Begins, Falls, Moves, who, next_process_state, MachineState, IsAllowed, process_state_of, job_left, stepped as machine_state_stepped}
-use Rattle.rmeworld.proofs.Common.{stepped_by, next_access, process_state_after, StoresOwn, machine_state_started, crashed as machine_state_crashed, InWords, IsOwnWord, reading, event_deeds, Reads, cells_after, words_after}
-use Rattle.rmeworld.proofs.Common.{WorldState, machine_state_at, process_state_at, global_state_of, Takes, absent, HasConfiguration, IsConfigured}
-use Rattle.rmeworld.specs.Replayed.{crashed}
+use Rattle.rmeworld.proofs.Common.{cases_Bool, cases_eq, cases_lt, set_past, Access, Load, Store, Own, Tally, Word, Data as DataAt, kind_of, word_of, carried_value, put, own_at, zeros, write, put_same}
+use Rattle.rmeworld.proofs.Common.{put_other, Deed, Layout, Reply, size, words_of, script_left, job_after_word, Script, Get as Asks, Put as Writes, Done, Call, Unlock, Chore, IsFree, Does, value_of}
+use Rattle.rmeworld.proofs.Common.{words_by, cells_by, advanced_by, words_set, WorldEvent, Begins, Falls, Moves, who, next_process_state, MachineState, IsAllowed, process_state_of, job_left, machine_after_step as machine_state_stepped}
+use Rattle.rmeworld.proofs.Common.{stepped_by, next_access, process_state_after, StoresOwn, machine_state_started, machine_after_crash as machine_state_crashed, InWords, IsOwnWord, reading, event_deeds, ReadsWord, cells_after, words_after}
+use Rattle.rmeworld.proofs.Common.{WorldState, machine_state_at, process_state_at, global_state_of, Takes, absent_machine, HasConfiguration, IsConfigured}
+use Rattle.rmeworld.specs.Replayed.{world_after_crash}
 
 -- a list with one item changed, read as a function
 pub at-set : {A : Type 0} (xs : List A) (d : A) (p : ℕ) (x : A) → p < length xs → (q : ℕ) → slice_index_or (slice_set xs p x) q d ≡ put (λ i. slice_index_or xs i d) p x q
@@ -21,8 +21,8 @@ process_state_at-set processes p s below = λ i. λ q. each q i
     each : (q : ℕ) → process_state_at (slice_set processes p s) q ≡ put (process_state_at processes) p (process_state_of s) q
     each q =
         elim (cases_eq q p) [
-          | inl e ↦ subst (λ r. process_state_at (slice_set processes p s) r ≡ put (process_state_at processes) p (process_state_of s) r) (sym e) (ap process_state_of (get_or-set_same processes p s absent below) ∙ sym (put_same (process_state_at processes) p (process_state_of s)))
-          | inr ne ↦ ap process_state_of (get_or-set_other processes p q s absent ne) ∙ sym (put_other (process_state_at processes) p (process_state_of s) q ne)
+          | inl e ↦ subst (λ r. process_state_at (slice_set processes p s) r ≡ put (process_state_at processes) p (process_state_of s) r) (sym e) (ap process_state_of (get_or-set_same processes p s absent_machine below) ∙ sym (put_same (process_state_at processes) p (process_state_of s)))
+          | inr ne ↦ ap process_state_of (get_or-set_other processes p q s absent_machine ne) ∙ sym (put_other (process_state_at processes) p (process_state_of s) q ne)
         ]
 
 own_at-set : (words : List Own) (p : ℕ) (x : Own) → p < length words → own_at (slice_set words p x) ≡ put (own_at words) p x
@@ -51,11 +51,11 @@ own_within : (n q : ℕ) (word : Word) → q < n → IsOwnWord q word → InWord
 own_within n q (DataAt i) below own = tt
 own_within n q _ below own = subst (λ i. i < n) (sym own) below
 
-pub words_by_is : (words : List Own) (p q : ℕ) (a : Access) (v : ℕ) → q < length words → StoresOwn q a → own_at (words_by words a) ≡ words_after (own_at words) (Moves p (kind_of a) (word_of a) (carried a v))
+pub words_by_is : (words : List Own) (p q : ℕ) (a : Access) (v : ℕ) → q < length words → StoresOwn q a → own_at (words_by words a) ≡ words_after (own_at words) (Moves p (kind_of a) (word_of a) (carried_value a v))
 words_by_is words p q (Load kind word) v below own = rw own refl
 words_by_is words p q (Store kind word x) v below own = rw (own.0) (words_set_is words word x (own_within (length words) q word below own.1))
 
-pub cells_by_is : (l : Layout) (cells : List ℕ) (p q : ℕ) (a : Access) (v : ℕ) → length cells ≡ size l → StoresOwn q a → words_of (cells_by cells a) ≡ cells_after l (words_of cells) (Moves p (kind_of a) (word_of a) (carried a v))
+pub cells_by_is : (l : Layout) (cells : List ℕ) (p q : ℕ) (a : Access) (v : ℕ) → length cells ≡ size l → StoresOwn q a → words_of (cells_by cells a) ≡ cells_after l (words_of cells) (Moves p (kind_of a) (word_of a) (carried_value a v))
 cells_by_is l cells p q (Load kind word) v filled own = rw own refl
 cells_by_is l cells p q (Store kind (DataAt i) x) v filled own = rw (own.0) (cell_set_is l cells i x filled)
 cells_by_is l cells p q (Store kind _ x) v filled own = rw (own.0) refl
@@ -72,7 +72,7 @@ module _ (s : WorldState) (p : ℕ) (a : Access) where
     pub own : StoresOwn (machine_state_at s.processes p).index a
     pub goes : process_state_of (machine_state_stepped (machine_state_at s.processes p) (reading (global_state_of s) (word_of a))) ≡ process_state_after (machine_state_at s.processes p) (next_access (machine_state_at s.processes p)) (reading (global_state_of s) (word_of a))
 
-reads_so : (s : WorldState) (p q : ℕ) (a : Access) → StoresOwn q a → Reads (global_state_of s) (Moves p (kind_of a) (word_of a) (carried a (reading (global_state_of s) (word_of a))))
+reads_so : (s : WorldState) (p q : ℕ) (a : Access) → StoresOwn q a → ReadsWord (global_state_of s) (Moves p (kind_of a) (word_of a) (carried_value a (reading (global_state_of s) (word_of a))))
 reads_so s p q (Load kind word) own load = refl
 reads_so s p q (Store kind word x) own load = cc
 
@@ -80,7 +80,7 @@ pub step_takes : (s : WorldState) (p : ℕ) (a : Access) → IsStep s p a → Ta
 step_takes s p a h =
     let st : MachineState = machine_state_at s.processes p in
     let v : ℕ = reading (global_state_of s) (word_of a) in
-    let x : ℕ = carried a v in
+    let x : ℕ = carried_value a v in
     let configuration = h.configured.configurations p h.below in
     let has_words : st.index < length s.words = subst (λ n. n < length s.words) (sym configuration.2) (subst (λ n. p < n) (sym h.configured.words_each) h.below) in
     let same : next_process_state st.layout st.limit (process_state_of st) (Moves st.index (kind_of a) (word_of a) x) ≡ next_process_state s.layout s.limit (process_state_of st) (Moves p (kind_of a) (word_of a) x) = λ i. next_process_state (configuration.0 i) (configuration.1 i) (process_state_of st) (Moves (configuration.2 i) (kind_of a) (word_of a) x) in
@@ -99,16 +99,16 @@ step_takes s p a h =
 
 -- an event that touches no word, and leaves process p as t
 alone : (s : WorldState) (p : ℕ) (t : MachineState) (tallies : List Tally) (history : List Deed) (e : WorldEvent) → IsConfigured s.layout s.limit s.words s.processes s.tallies → p < s.layout.procs → who e ≡ p
-    → Reads (global_state_of s) e → words_after (own_at s.words) e ≡ own_at s.words → cells_after s.layout (words_of s.cells) e ≡ words_of s.cells → next_process_state s.layout s.limit (process_state_at s.processes p) e ≡ Some (process_state_of t)
+    → ReadsWord (global_state_of s) e → words_after (own_at s.words) e ≡ own_at s.words → cells_after s.layout (words_of s.cells) e ≡ words_of s.cells → next_process_state s.layout s.limit (process_state_at s.processes p) e ≡ Some (process_state_of t)
     → history ≡ s.history ++ event_deeds s.layout (global_state_of s) e → Takes s e (record s { processes = slice_set s.processes p t; tallies = tallies; history = history })
-alone s p t tallies history e configured below mine reads words cells to told =
+alone s p t tallies history e configured below mine reads words cells to reports =
     record {
       can = (rw mine below, rw (mine, to) refl, reads);
       global_state =
           let there : process_state_at (slice_set s.processes p t) ≡ put (process_state_at s.processes) (who e) (unwrap_or (next_process_state s.layout s.limit (process_state_at s.processes (who e)) e) (process_state_at s.processes (who e))) =
           rw (mine, to) (process_state_at-set s.processes p t (subst (λ n. p < n) (sym configured.processes_each) below)) in
           λ i. record { words = sym words i; cells = sym cells i; process_states = there i };
-      history = told;
+      history = reports;
       layout = refl;
       limit = refl;
     }
@@ -122,15 +122,15 @@ start_takes s p call t tallies configured below to =
     λ i. next_process_state (sym configuration.0 i) (sym configuration.1 i) (process_state_at s.processes p) (Begins (sym configuration.2 i) call) in
     alone s p t tallies s.history (Begins p call) configured below refl tt refl refl (same ∙ to) (sym (append-nil s.history))
 
-pub crash_takes : (s : WorldState) (p : ℕ) → IsConfigured s.layout s.limit s.words s.processes s.tallies → p < s.layout.procs → Takes s (Falls p) (crashed s p)
-crash_takes s p configured below = alone s p (machine_state_crashed (machine_state_at s.processes p)) s.tallies (crashed s p).history (Falls p) configured below refl tt refl refl refl refl
+pub crash_takes : (s : WorldState) (p : ℕ) → IsConfigured s.layout s.limit s.words s.processes s.tallies → p < s.layout.procs → Takes s (Falls p) (world_after_crash s p)
+crash_takes s p configured below = alone s p (machine_state_crashed (machine_state_at s.processes p)) s.tallies (world_after_crash s p).history (Falls p) configured below refl tt refl refl refl refl
 
 -- a process keeps its index and sizes
 pub keeps_stepped : (s : MachineState) (e : Chore) (v : ℕ) → HasConfiguration s.layout s.limit s.index (stepped_by s e v)
 keeps_stepped s IsFree v = (refl, refl, refl)
-keeps_stepped s (Does purpose job) v = by (left (fed job v))
+keeps_stepped s (Does purpose job) v = by (script_left (job_after_word job v))
   where
-    by : (x : Script Reply) → HasConfiguration s.layout s.limit s.index (job_left s purpose (fed job v) x)
+    by : (x : Script Reply) → HasConfiguration s.layout s.limit s.index (job_left s purpose (job_after_word job v) x)
     by (Done reply) = (refl, refl, refl)
     by (Asks i rest) = (refl, refl, refl)
     by (Writes i x rest) = (refl, refl, refl)
@@ -150,8 +150,8 @@ configured_set {l = l} {limit = limit} {p = p} {processes = processes} configure
       processes_each = length-set processes p t ∙ configured.processes_each;
       tallies_each = tallies_each ∙ configured.tallies_each;
       configurations = λ q h. elim (cases_eq q p) [
-        | inl e ↦ subst (λ r. HasConfiguration l limit r (machine_state_at (slice_set processes p t) r)) (sym e) (subst (HasConfiguration l limit p) (sym (get_or-set_same processes p t absent (subst (λ n. p < n) (sym configured.processes_each) below))) configuration)
-        | inr ne ↦ subst (HasConfiguration l limit q) (sym (get_or-set_other processes p q t absent ne)) (configured.configurations q h)
+        | inl e ↦ subst (λ r. HasConfiguration l limit r (machine_state_at (slice_set processes p t) r)) (sym e) (subst (HasConfiguration l limit p) (sym (get_or-set_same processes p t absent_machine (subst (λ n. p < n) (sym configured.processes_each) below))) configuration)
+        | inr ne ↦ subst (HasConfiguration l limit q) (sym (get_or-set_other processes p q t absent_machine ne)) (configured.configurations q h)
       ];
     }
 

@@ -1,13 +1,13 @@
 -- Every event of a world keeps the invariant of its counts.
 use Rattle.std.proofs.Common.{◌≡◌, ◌≢◌, ℕ, zero, suc, ◌+◌, ◌<◌, Bool, true, false, ◌&&◌, ◌==◌, if◌then◌else◌, List, [], ◌∷◌, length, map, Option, Some, None, IsSome, IfSome, unwrap_or, refl, sym, ap, ◌∙◌, subst, inl, inr, arith, get_or-set_same, get_or-set_other}
 use Rattle.rmeworld.proofs.Common.{cases_eq, Access, Load, Store, Kind, Gets, Puts, Own, Tally, Word, Data as DataAt, kind_of, word_of, is_glance, ReadsBegun, Place, next, Steps, tally_at, own_at}
-use Rattle.rmeworld.proofs.Common.{fresh, counted, IsExact, IsRereading, is_store, write, put_same, put_other, not_data, Layout, Reply, Ruined, Words, Script, Get as Asks, Put as Writes, Done, Answer}
-use Rattle.rmeworld.proofs.Common.{Call, Purpose, Checking, answer_at, blocked_by, script_state_of, most_steps, PaysAt, value_of, started, advanced_by, ScriptState, Free, Doing, ProcessState, dead, Begins, Falls, Moves}
-use Rattle.rmeworld.proofs.Common.{settled, at_lock, moved_by, next_process_state, end_place, MachineState, outcome, access_by, StoresOwn, HasTaken, IsTallied, AllTallied, call_at, reading, GlobalState, onward, Can}
+use Rattle.rmeworld.proofs.Common.{new_tally, tally_after_step, IsExact, IsRereading, is_store, write, put_same, put_other, not_data, Layout, Reply, Ruined, Words, Script, Get as Asks, Put as Writes, Done, Answer}
+use Rattle.rmeworld.proofs.Common.{Call, Purpose, Checking, answer_at, blocked_by, script_state_of, most_steps, PaysAt, value_of, world_after_start, advanced_by, ScriptState, Free, Doing, ProcessState, dead_process, Begins, Falls, Moves}
+use Rattle.rmeworld.proofs.Common.{process_after_script, at_lock, moved_by, next_process_state, end_place, MachineState, outcome, access_by, StoresOwn, HasTaken, IsTallied, AllTallied, call_at, reading, GlobalState, state_after_event, Can}
 use Rattle.rmeworld.proofs.Common.{words_after, reading_of, WorldState, machine_state_at, process_state_at, global_state_of, Takes, IsConfigured}
 use Rattle.rmecore.specs.World.{Reads as CoreReads}
 use Rattle.rmecore.proofs.Tallies.{never_glances, exact_before, sums, Was, rereads_on, reads_begun}
-use Rattle.rmeworld.specs.Replayed.{crashed}
+use Rattle.rmeworld.specs.Replayed.{world_after_crash}
 use Rattle.rmeworld.proofs.CallBounds.{fewer_at}
 use Rattle.rmeworld.proofs.CallSteps.{more, guard_process_state, To, step_by, start_to}
 use Rattle.rmeworld.proofs.WorldSteps.{IsStep, step_takes}
@@ -27,7 +27,7 @@ ended_not : (purpose : Purpose) (a : Reply) → IsRereading (end_place purpose a
 ended_not Checking (Ruined true) h = h
 ended_not _ _ h = h
 
-pub settled_not : (m c : Bool) (purpose : Purpose) (left : Script Reply) → IsRereading (settled m c purpose left).lock → ⊥
+pub settled_not : (m c : Bool) (purpose : Purpose) (left : Script Reply) → IsRereading (process_after_script m c purpose left).lock → ⊥
 settled_not m c purpose (Asks i rest) h = h
 settled_not m c purpose (Writes i v rest) h = h
 settled_not m c purpose (Done a) h = ended_not purpose a h
@@ -43,8 +43,8 @@ module _ (l : Layout) (limit p : ℕ) where
 
   rereads_so : (s : Place) (m c : Bool) (e : ScriptState) (d : ProcessState) (kind : Kind) (word : Word) (v : ℕ) → IsSome (moved_by l limit p s m c e kind word v) → is_glance kind ≡ false → Was s kind (unwrap_or (moved_by l limit p s m c e kind word v) d).lock
   rereads_so s m c Free d kind word v some moves = at_lock_was (next l.procs limit p s kind word v) s m c kind d some (λ may. rereads_on l.procs limit p s kind word v may moves)
-  rereads_so s m c (Doing purpose (Asks j rest)) d Gets (DataAt i) v some moves = guard_process_state (i == j) (settled m c purpose (rest v)) d (λ process_state. Was s Gets process_state.lock) some (λ e. λ h. absurd (settled_not m c purpose (rest v) h))
-  rereads_so s m c (Doing purpose (Writes j x rest)) d Puts (DataAt i) v some moves = guard_process_state ((i == j) && (v == x)) (settled m c purpose rest) d (λ process_state. Was s Puts process_state.lock) some (λ e. λ h. absurd (settled_not m c purpose rest h))
+  rereads_so s m c (Doing purpose (Asks j rest)) d Gets (DataAt i) v some moves = guard_process_state (i == j) (process_after_script m c purpose (rest v)) d (λ process_state. Was s Gets process_state.lock) some (λ e. λ h. absurd (settled_not m c purpose (rest v) h))
+  rereads_so s m c (Doing purpose (Writes j x rest)) d Puts (DataAt i) v some moves = guard_process_state ((i == j) && (v == x)) (process_after_script m c purpose rest) d (λ process_state. Was s Puts process_state.lock) some (λ e. λ h. absurd (settled_not m c purpose rest h))
   rereads_so s m c (Doing purpose _) d _ _ v some moves = absurd (cc)
 
   -- a lock word is read with its current value
@@ -68,16 +68,16 @@ module _ (l : Layout) (limit : ℕ) (w : GlobalState) (p : ℕ) (kind : Kind) (w
       let some : IsSome (next l.procs limit p process_state.lock kind word v) = at_lock_some l p process_state.lock process_state.mended process_state.barred (next l.procs limit p process_state.lock kind word v) (subst (λ e. IsSome (moved_by l limit p process_state.lock process_state.mended process_state.barred e kind word v)) free can.1) in
       reads_begun l.procs limit (record { words = w.words; places = λ q. process_state.lock }) p t.began process_state.lock kind word v some moves (core_reads l limit p w.words w.cells process_state.lock kind word v some can.2) tallied.began
 
-  counts : IsExact (counted t b) → (x : ℕ) × To l t.began process_state.mended (call_at process_state) (answer_at process_state kind v) to x × ((counted t b).steps ≡ x + (counted t b).blocked)
+  counts : IsExact (tally_after_step t b) → (x : ℕ) × To l t.began process_state.mended (call_at process_state) (answer_at process_state kind v) to x × ((tally_after_step t b).steps ≡ x + (tally_after_step t b).blocked)
   counts exact =
       let old = tallied.taking (exact_before t b exact) in
       (more b old.0, step_by l p t.began limit can.0 process_state kind word v old.0 can.1 moves reads old.1, sums t b old.0 exact old.2)
 
   -- with the answer, the steps are exactly those of the table
-  pub answered : IfSome (answer_at process_state kind v) (λ a. IsExact (counted t b) → HasTaken l process_state (counted t b) a)
+  pub answered : IfSome (answer_at process_state kind v) (λ a. IsExact (tally_after_step t b) → HasTaken l process_state (tally_after_step t b) a)
   answered = of (answer_at process_state kind v) counts
     where
-      of : (o : Option Answer) → (IsExact (counted t b) → (x : ℕ) × To l t.began process_state.mended (call_at process_state) o to x × ((counted t b).steps ≡ x + (counted t b).blocked)) → IfSome o (λ a. IsExact (counted t b) → HasTaken l process_state (counted t b) a)
+      of : (o : Option Answer) → (IsExact (tally_after_step t b) → (x : ℕ) × To l t.began process_state.mended (call_at process_state) o to x × ((tally_after_step t b).steps ≡ x + (tally_after_step t b).blocked)) → IfSome o (λ a. IsExact (tally_after_step t b) → HasTaken l process_state (tally_after_step t b) a)
       of None f = tt
       of (Some a) f = λ exact. let c = f exact in let own = c.1.2 in (own.0, own.1, (c.0, own.2, c.2))
 
@@ -85,7 +85,7 @@ module _ (l : Layout) (limit : ℕ) (w : GlobalState) (p : ℕ) (kind : Kind) (w
   pays_on None x h = h.0
   pays_on (Some a) x h = h.0
 
-  pub tallied_on : IsTallied l (words_after w.words (Moves p kind word v) p) to (counted t b)
+  pub tallied_on : IsTallied l (words_after w.words (Moves p kind word v) p) to (tally_after_step t b)
   tallied_on =
       record {
         began = λ h.
@@ -144,10 +144,10 @@ module _ (s : WorldState) (p : ℕ) (a : Access) (step : IsStep s p a) (all : Al
 
   -- the counts after the step
   abbrev count : Tally
-  count = counted tally (outcome (machine_state_at s.processes p) (Some a) (reading (global_state_of s) (word_of a))).progress.blocked
+  count = tally_after_step tally (outcome (machine_state_at s.processes p) (Some a) (reading (global_state_of s) (word_of a))).progress.blocked
 
-  now : tally_at tallies' p ≡ counted tally blocked
-  now = get_or-set_same s.tallies p count _ room ∙ ap (λ q. counted tally (blocked_by q from_process_state.lock from_process_state.script_state (kind_of a) v)) configuration_index
+  now : tally_at tallies' p ≡ tally_after_step tally blocked
+  now = get_or-set_same s.tallies p count _ room ∙ ap (λ q. tally_after_step tally (blocked_by q from_process_state.lock from_process_state.script_state (kind_of a) v)) configuration_index
 
   pub tallied_step : AllTallied s.layout (global_state_of (advanced_by s p a)) tallies'
   tallied_step =
@@ -155,7 +155,7 @@ module _ (s : WorldState) (p : ℕ) (a : Access) (step : IsStep s p a) (all : Al
       let to : ProcessState = unwrap_or (next_process_state s.layout s.limit from_process_state (Moves p (kind_of a) (word_of a) v)) from_process_state in
       let on = tallied_on s.layout s.limit (global_state_of s) p (kind_of a) (word_of a) v tally takes.can moves (all p step.below) in
       subst (λ w. AllTallied s.layout w tallies') (sym takes.global_state)
-      (all_but s.layout (global_state_of s) (onward s.layout s.limit (global_state_of s) (Moves p (kind_of a) (word_of a) v)) p s.tallies tallies'
+      (all_but s.layout (global_state_of s) (state_after_event s.layout s.limit (global_state_of s) (Moves p (kind_of a) (word_of a) v)) p s.tallies tallies'
       (λ q ne. others_words (own_at s.words) p _ a v q step.own configuration_index ne)
       (λ q ne. put_other (process_state_at s.processes) p to q ne)
       (λ q ne. get_or-set_other s.tallies p q count _ ne)
@@ -169,38 +169,38 @@ module _ (s : WorldState) (p : ℕ) (a : Access) (step : IsStep s p a) (all : Al
       subst (λ t. IfSome (answer_at from_process_state (kind_of a) v) (λ x. IsExact t → HasTaken s.layout from_process_state t x)) (sym now)
       (answered s.layout s.limit (global_state_of s) p (kind_of a) (word_of a) v tally takes.can moves (all p step.below))
 
-pub tallied_start : (s : WorldState) (p : ℕ) (call : Call) → IsConfigured s.layout s.limit s.words s.processes s.tallies → p < s.layout.procs → Takes s (Begins p call) (started s p call) → AllTallied s.layout (global_state_of s) s.tallies → AllTallied s.layout (global_state_of (started s p call)) (started s p call).tallies
+pub tallied_start : (s : WorldState) (p : ℕ) (call : Call) → IsConfigured s.layout s.limit s.words s.processes s.tallies → p < s.layout.procs → Takes s (Begins p call) (world_after_start s p call) → AllTallied s.layout (global_state_of s) s.tallies → AllTallied s.layout (global_state_of (world_after_start s p call)) (world_after_start s p call).tallies
 tallied_start s p call configured below takes all =
     let own : Own = own_at s.words p in
     let to = unwrap_or (next_process_state s.layout s.limit (process_state_at s.processes p) (Begins p call)) (process_state_at s.processes p) in
-    let new = (started s p call).tallies in
-    let begun : IsTallied s.layout own to (fresh own) = record { began = λ h. refl; taking = λ exact. (0, (start_to s.layout p own s.limit (process_state_at s.processes p) call takes.can.1).0, refl) } in
+    let new = (world_after_start s p call).tallies in
+    let begun : IsTallied s.layout own to (new_tally own) = record { began = λ h. refl; taking = λ exact. (0, (start_to s.layout p own s.limit (process_state_at s.processes p) call takes.can.1).0, refl) } in
     subst (λ w. AllTallied s.layout w new) (sym takes.global_state)
-    (all_but s.layout (global_state_of s) (onward s.layout s.limit (global_state_of s) (Begins p call)) p s.tallies new (λ q ne. refl)
+    (all_but s.layout (global_state_of s) (state_after_event s.layout s.limit (global_state_of s) (Begins p call)) p s.tallies new (λ q ne. refl)
     (λ q ne. put_other (process_state_at s.processes) p to q ne)
     (λ q ne. get_or-set_other s.tallies p q _ _ ne)
     (subst (λ x. IsTallied s.layout own x (tally_at new p)) (sym (put_same (process_state_at s.processes) p to))
-    (subst (IsTallied s.layout own to) (sym (get_or-set_same s.tallies p (fresh own) _ (subst (λ n. p < n) (sym configured.tallies_each) below))) begun))
+    (subst (IsTallied s.layout own to) (sym (get_or-set_same s.tallies p (new_tally own) _ (subst (λ n. p < n) (sym configured.tallies_each) below))) begun))
     all)
 
-pub tallied_crash : (s : WorldState) (p : ℕ) → p < s.layout.procs → Takes s (Falls p) (crashed s p) → AllTallied s.layout (global_state_of s) s.tallies → AllTallied s.layout (global_state_of (crashed s p)) s.tallies
+pub tallied_crash : (s : WorldState) (p : ℕ) → p < s.layout.procs → Takes s (Falls p) (world_after_crash s p) → AllTallied s.layout (global_state_of s) s.tallies → AllTallied s.layout (global_state_of (world_after_crash s p)) s.tallies
 tallied_crash s p below takes all =
     let before = all p below in
-    let fallen : IsTallied s.layout (own_at s.words p) dead (tally_at s.tallies p) = record { began = λ h. absurd h; taking = λ exact. let x = before.taking exact in (x.0, tt, x.2) } in
+    let fallen : IsTallied s.layout (own_at s.words p) dead_process (tally_at s.tallies p) = record { began = λ h. absurd h; taking = λ exact. let x = before.taking exact in (x.0, tt, x.2) } in
     subst (λ w. AllTallied s.layout w s.tallies) (sym takes.global_state)
-    (all_but s.layout (global_state_of s) (onward s.layout s.limit (global_state_of s) (Falls p)) p s.tallies s.tallies (λ q ne. refl)
-    (λ q ne. put_other (process_state_at s.processes) p dead q ne) (λ q ne. refl)
-    (subst (λ x. IsTallied s.layout (own_at s.words p) x (tally_at s.tallies p)) (sym (put_same (process_state_at s.processes) p dead)) fallen)
+    (all_but s.layout (global_state_of s) (state_after_event s.layout s.limit (global_state_of s) (Falls p)) p s.tallies s.tallies (λ q ne. refl)
+    (λ q ne. put_other (process_state_at s.processes) p dead_process q ne) (λ q ne. refl)
+    (subst (λ x. IsTallied s.layout (own_at s.words p) x (tally_at s.tallies p)) (sym (put_same (process_state_at s.processes) p dead_process)) fallen)
     all)
 
 -- before the first call of a process at rest, or crashed
-uncounted : (words : List Own) (p : ℕ) → (tally_at (map fresh words) p).steps ≡ 0 + (tally_at (map fresh words) p).blocked
+uncounted : (words : List Own) (p : ℕ) → (tally_at (map new_tally words) p).steps ≡ 0 + (tally_at (map new_tally words) p).blocked
 uncounted [] p = refl
 uncounted (x ∷ xs) zero = refl
 uncounted (x ∷ xs) (suc p) = uncounted xs p
 
-pub unstarted : (l : Layout) (own : Own) (process_state : ProcessState) (words : List Own) (p : ℕ) → process_state ≡ dead → IsTallied l own process_state (tally_at (map fresh words) p)
-unstarted l own process_state words p is = subst (λ x. IsTallied l own x (tally_at (map fresh words) p)) (sym is) (record { began = λ h. absurd h; taking = λ exact. (0, tt, uncounted words p) })
+pub unstarted : (l : Layout) (own : Own) (process_state : ProcessState) (words : List Own) (p : ℕ) → process_state ≡ dead_process → IsTallied l own process_state (tally_at (map new_tally words) p)
+unstarted l own process_state words p is = subst (λ x. IsTallied l own x (tally_at (map new_tally words) p)) (sym is) (record { began = λ h. absurd h; taking = λ exact. (0, tt, uncounted words p) })
 
 -- a call under way has taken fewer steps than its bound
 pub takes_fewer : (l : Layout) (w : GlobalState) (tallies : List Tally) → AllTallied l w tallies → (p : ℕ) → IsExact (tally_at tallies p) → p < l.procs → IfSome (call_at (w.process_states p)) (λ call. (tally_at tallies p).steps < most_steps l call + (tally_at tallies p).blocked)

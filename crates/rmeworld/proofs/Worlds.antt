@@ -1,12 +1,12 @@
 -- The invariant of a world in memory, at every call.
 use Rattle.std.proofs.Common.{◌≡◌, ℕ, zero, suc, ◌+◌, ◌<◌, ◌≤◌, ◌^◌, ◌++◌, [], ◌∷◌, List, Option, Some, None, IfSome, nat_lt, length, replicate, slice_index_or, refl, sym, ap, ◌∙◌, subst, inl, inr, arith, length-set}
-use Rattle.rmeworld.proofs.Common.{cases_Bool, cases_lt, get_or_past, get_or_default, get_or-replicate, length-replicate, Access, Load, Store, Outer, Own, Tally, kind_of, word_of, carried, access}
-use Rattle.rmeworld.proofs.Common.{Place, Door, Wait, Reread, tally_at, own_at, zeros, fresh, step_deed, Deed, OuterDeed, Layout, Words, IsLayout, size, words_of, held, empty, Call}
-use Rattle.rmeworld.proofs.Common.{script_state_of, IsWorld, IsReached, world_event, or_else, mail_by, the_deed, started, list_of, advanced_by, prospect_of, outer_by, ScriptState, Free, Doing}
+use Rattle.rmeworld.proofs.Common.{cases_Bool, cases_lt, get_or_past, get_or_default, get_or-replicate, length-replicate, Access, Load, Store, Outer, Own, Tally, kind_of, word_of, carried_value, access}
+use Rattle.rmeworld.proofs.Common.{Place, Door, Wait, Reread, tally_at, own_at, zeros, new_tally, step_deed, Deed, OuterDeed, Layout, Words, IsLayout, size, words_of, saturate, empty_state, Call}
+use Rattle.rmeworld.proofs.Common.{script_state_of, IsWorld, IsReached, world_event, or_else, mail_by, the_deed, world_after_start, list_of, advanced_by, prospect_of, outer_by, ScriptState, Free, Doing}
 use Rattle.rmeworld.proofs.Common.{WorldEvent, Begins, Falls, Moves, next_process_state, at_rest, MachineState, outcome, IsSize, resting, process_state_of, access_by, next_access, StoresOwn}
-use Rattle.rmeworld.proofs.Common.{machine_state_started, IsTallied, reading, event_deeds, at_first, onward, outer_deeds, mail_deeds, WorldState, machine_state_at, process_state_at, global_state_of, Takes, new_world, absent}
+use Rattle.rmeworld.proofs.Common.{machine_state_started, IsTallied, reading, event_deeds, at_first, state_after_event, outer_deeds, mail_deeds, WorldState, machine_state_at, process_state_at, global_state_of, Takes, new_world, absent_machine}
 use Rattle.rmeworld.proofs.Common.{HasConfiguration, IsConfigured, at_rest_from}
-use Rattle.rmeworld.specs.Replayed.{crashed}
+use Rattle.rmeworld.specs.Replayed.{world_after_crash}
 use Rattle.rmeworld.proofs.ExecutionGrows.{reached_more}
 use Rattle.rmeworld.proofs.WorldTallies.{tallied_step, tallied_start, tallied_crash}
 use Rattle.rmeworld.proofs.WorldSteps.{IsStep, step_takes, configured_set, words_by_length, cells_by_length, keeps_stepped, keeps_started, start_takes, crash_takes}
@@ -15,7 +15,7 @@ use Rattle.redomail.proofs.Safe.{size_small}
 pub reached_by : (s : WorldState) (e : WorldEvent) (new : WorldState) → Takes s e new → IsReached s.layout s.limit (global_state_of s) s.history → IsReached s.layout s.limit (global_state_of new) new.history
 reached_by s e new takes reached =
     subst (λ w. IsReached s.layout s.limit w new.history) (sym takes.global_state)
-    (subst (IsReached s.layout s.limit (onward s.layout s.limit (global_state_of s) e)) (sym takes.history) (reached_more s.layout s.limit (global_state_of s) s.history e reached takes.can))
+    (subst (IsReached s.layout s.limit (state_after_event s.layout s.limit (global_state_of s) e)) (sym takes.history) (reached_more s.layout s.limit (global_state_of s) s.history e reached takes.can))
 
 length-rest : (l : Layout) (limit p n : ℕ) → length (at_rest_from l limit p n) ≡ n
 length-rest l limit p zero = refl
@@ -56,7 +56,7 @@ rest_process_states l limit = λ i. λ p. each p i
     each p =
         elim (cases_lt p l.procs) [
           | inl h ↦ ap process_state_of (rest-at l limit 0 l.procs p h)
-          | inr h ↦ ap process_state_of (get_or_past (at_rest_from l limit 0 l.procs) p absent (rw length-rest h))
+          | inr h ↦ ap process_state_of (get_or_past (at_rest_from l limit 0 l.procs) p absent_machine (rw length-rest h))
         ]
 
 pub new_global_state : (l : Layout) (limit : ℕ) → global_state_of (new_world l limit) ≡ at_first
@@ -75,22 +75,22 @@ world_new l limit sized limited =
       configured = record {
         words_each = length-replicate l.procs zeros;
         processes_each = length-rest l limit 0 l.procs;
-        tallies_each = length-replicate l.procs (fresh zeros);
+        tallies_each = length-replicate l.procs (new_tally zeros);
         configurations = λ p below. subst (HasConfiguration l limit p) (sym (rest-at l limit 0 l.procs p below)) (let e : 0 + p ≡ p = omega arith in (refl, refl, e));
       };
       reached = record {
         first = at_first;
-        state = empty l.procs l.cap;
+        state = empty_state l.procs l.cap;
         origin = inl (refl, refl);
         execution = [];
-        told = tt;
+        reports = tt;
         last = sym (new_global_state l limit);
         done = refl;
       };
       tallied = λ p below.
           let process_state : process_state_at (at_rest_from l limit 0 l.procs) p ≡ at_rest = ap process_state_of (rest-at l limit 0 l.procs p below) in
-          let tally : tally_at (replicate l.procs (fresh zeros)) p ≡ fresh zeros = get_or-replicate l.procs p (fresh zeros) _ below in
-          subst (λ x. IsTallied l (own_at (replicate l.procs zeros) p) x (tally_at (replicate l.procs (fresh zeros)) p)) (sym process_state)
+          let tally : tally_at (replicate l.procs (new_tally zeros)) p ≡ new_tally zeros = get_or-replicate l.procs p (new_tally zeros) _ below in
+          subst (λ x. IsTallied l (own_at (replicate l.procs zeros) p) x (tally_at (replicate l.procs (new_tally zeros)) p)) (sym process_state)
           (subst (IsTallied l (own_at (replicate l.procs zeros) p) at_rest) (sym tally) (record { began = λ h. absurd h; taking = λ exact. (0, tt, refl) }));
     }
 
@@ -110,7 +110,7 @@ world_step s p a world step =
 
 -- the process at an index, and its counts
 pub found : (s : WorldState) (p : ℕ) (t : MachineState) → IsWorld s → p < s.layout.procs → t ≡ slice_index_or s.processes p t → machine_state_at s.processes p ≡ t
-found s p t world below is = get_or_default s.processes p absent t (subst (λ n. p < n) (sym world.configured.processes_each) below) ∙ sym is
+found s p t world below is = get_or_default s.processes p absent_machine t (subst (λ n. p < n) (sym world.configured.processes_each) below) ∙ sym is
 
 pub own_found : (s : WorldState) (p : ℕ) (x : Own) → IsWorld s → p < s.layout.procs → x ≡ slice_index_or s.words p x → own_at s.words p ≡ x
 own_found s p x world below is = get_or_default s.words p zeros x (subst (λ n. p < n) (sym world.configured.words_each) below) ∙ sym is
@@ -118,7 +118,7 @@ own_found s p x world below is = get_or_default s.words p zeros x (subst (λ n. 
 pub tally_found : (s : WorldState) (p : ℕ) (t : Tally) → IsWorld s → p < s.layout.procs → t ≡ slice_index_or s.tallies p t → tally_at s.tallies p ≡ t
 tally_found s p t world below is = get_or_default s.tallies p _ t (subst (λ n. p < n) (sym world.configured.tallies_each) below) ∙ sym is
 
-mails : (l : Layout) (p q : ℕ) (cells : Words) (a : Access) (x : ℕ) → StoresOwn q a → mail_by l p cells a ≡ mail_deeds l cells (Moves p (kind_of a) (word_of a) (carried a x))
+mails : (l : Layout) (p q : ℕ) (cells : Words) (a : Access) (x : ℕ) → StoresOwn q a → mail_by l p cells a ≡ mail_deeds l cells (Moves p (kind_of a) (word_of a) (carried_value a x))
 mails l p q cells (Load kind word) x own = rw own refl
 mails l p q cells (Store kind word v) x own = rw (own.0) refl
 
@@ -148,7 +148,7 @@ pub deeds_are : (s : WorldState) (p : ℕ) (a : Access) (q : ℕ) → IsConfigur
 deeds_are s p a q configured below own next =
     let st : MachineState = machine_state_at s.processes p in
     let configuration = configured.configurations p below in
-    let x : ℕ = carried a (reading (global_state_of s) (word_of a)) in
+    let x : ℕ = carried_value a (reading (global_state_of s) (word_of a)) in
     let mail = mails s.layout p q (words_of s.cells) a (reading (global_state_of s) (word_of a)) own in
     (λ i. or_else (outer_by (configuration.2 i) st.lock (script_state_of st.script_state) (kind_of a) x) (mail_by s.layout p (words_of s.cells) a))
     ∙ one_deed s.layout st.limit st.index p st.lock (script_state_of st.script_state) a (words_of s.cells) x next
@@ -160,7 +160,7 @@ the_one (Some d) = refl
 
 pub world_start : (s : WorldState) (p : ℕ) (call : Call) → IsWorld s → p < s.layout.procs
     → next_process_state (machine_state_at s.processes p).layout (machine_state_at s.processes p).limit (process_state_at s.processes p) (Begins (machine_state_at s.processes p).index call) ≡ Some (process_state_of (machine_state_started (machine_state_at s.processes p) call))
-    → IsWorld (started s p call)
+    → IsWorld (world_after_start s p call)
 world_start s p call world below to =
     let st : MachineState = machine_state_at s.processes p in
     let configuration = world.configured.configurations p below in
@@ -170,20 +170,20 @@ world_start s p call world below to =
       limited = world.limited;
       filled = world.filled;
       configured = configured_set world.configured below _ _ _ refl (length-set s.tallies p _) (keeps.0 ∙ configuration.0, keeps.1 ∙ configuration.1, keeps.2 ∙ configuration.2);
-      reached = reached_by s (Begins p call) (started s p call) (start_takes s p call (machine_state_started st call) (started s p call).tallies world.configured below to) world.reached;
-      tallied = tallied_start s p call world.configured below (start_takes s p call (machine_state_started st call) (started s p call).tallies world.configured below to) world.tallied;
+      reached = reached_by s (Begins p call) (world_after_start s p call) (start_takes s p call (machine_state_started st call) (world_after_start s p call).tallies world.configured below to) world.reached;
+      tallied = tallied_start s p call world.configured below (start_takes s p call (machine_state_started st call) (world_after_start s p call).tallies world.configured below to) world.tallied;
     }
 
-pub world_crash : (s : WorldState) (p : ℕ) → IsWorld s → p < s.layout.procs → IsWorld (crashed s p)
+pub world_crash : (s : WorldState) (p : ℕ) → IsWorld s → p < s.layout.procs → IsWorld (world_after_crash s p)
 world_crash s p world below =
     record {
       sized = world.sized;
       limited = world.limited;
       filled = world.filled;
       configured = configured_set world.configured below _ _ _ refl refl (world.configured.configurations p below);
-      reached = reached_by s (Falls p) (crashed s p) (crash_takes s p world.configured below) world.reached;
+      reached = reached_by s (Falls p) (world_after_crash s p) (crash_takes s p world.configured below) world.reached;
       tallied = tallied_crash s p below (crash_takes s p world.configured below) world.tallied;
     }
 
-pub size_held : (l : Layout) → IsLayout l → held (size l) ≡ size l
+pub size_held : (l : Layout) → IsLayout l → saturate (size l) ≡ size l
 size_held l h = let small = size_small l h in omega (arith, small)

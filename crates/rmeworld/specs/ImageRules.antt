@@ -28,8 +28,8 @@ pub record IsSized (i : Image) : Type 0 where
   pub most : i.width ≤ 8
 
 -- p is in the section, alive or crashed
-abbrev pub IsIn : Image → ℕ → Type 0
-IsIn i p = (p < length i.lock) × (0 < (own_at i.lock p).number) × (0 < (own_at i.lock p).inside)
+abbrev pub IsInsideByImage : Image → ℕ → Type 0
+IsInsideByImage i p = (p < length i.lock) × (0 < (own_at i.lock p).number) × (0 < (own_at i.lock p).inside)
 
 -- rule 8: if no record is armed, the list rule holds
 abbrev pub IsListed : Image → Type 0
@@ -37,11 +37,11 @@ IsListed i = slice_index i.cells 3 ≡ 0 → ListRule (layout_of i) (words_of i.
 
 -- Rule 9: if a record is armed, the record rule holds for the process inside, or in a ruined lock for some process.
 pub record IsRecorded (i : Image) : Type 0 where
-  pub clean : slice_index i.cells 3 ≡ 1 → slice_index i.cells 0 ≡ 0 → (p : ℕ) × IsIn i p × RecordRule (layout_of i) p (words_of i.cells)
+  pub clean : slice_index i.cells 3 ≡ 1 → slice_index i.cells 0 ≡ 0 → (p : ℕ) × IsInsideByImage i p × RecordRule (layout_of i) p (words_of i.cells)
   pub ruined : slice_index i.cells 3 ≡ 1 → slice_index i.cells 0 ≡ 1 → (p : ℕ) × (p < length i.lock) × RecordRule (layout_of i) p (words_of i.cells)
 
 -- The rules up to this number. Rule 1 is about texts: the text is an image's.
-pub record Keeps (rule : ℕ) (i : Image) : Type 0 where
+pub record KeepsRules (rule : ℕ) (i : Image) : Type 0 where
   pub versioned : 2 ≤ rule → IsVersioned i
   pub sized : 3 ≤ rule → IsSized i
   pub filled : 4 ≤ rule → length i.cells ≡ size (layout_of i)
@@ -53,8 +53,8 @@ pub record Keeps (rule : ℕ) (i : Image) : Type 0 where
 
 -- "Lawful image": words that are possible after a crash of every process
 abbrev pub IsLawfulImage : Image → Type 0
-IsLawfulImage i = Keeps 9 i
+IsLawfulImage i = KeepsRules 9 i
 
 -- the first rule that an image breaks
 abbrev pub IsFirstBroken : ℕ → Image → Type 0
-IsFirstBroken rule i = (2 ≤ rule) × Keeps (rule - 1) i × (Keeps rule i → ⊥)
+IsFirstBroken rule i = (2 ≤ rule) × KeepsRules (rule - 1) i × (KeepsRules rule i → ⊥)

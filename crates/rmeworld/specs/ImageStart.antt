@@ -9,11 +9,11 @@ use Rattle.redomail.specs.Shape.{mailbox_of}
 use Rattle.judge.specs.Starts.{is_ahead, state_of}
 use Rattle.judge.specs.declared.start.Start.{Start}
 use Rattle.rmeworld.specs.declared.image.Image.{Image}
-use Rattle.rmeworld.specs.ImageRules.{layout_of, IsIn, IsLawfulImage, IsFirstBroken}
+use Rattle.rmeworld.specs.ImageRules.{layout_of, IsInsideByImage, IsLawfulImage, IsFirstBroken}
 
 -- no process other than p is in the section
 abbrev pub IsInAlone : Image → ℕ → Type 0
-IsInAlone i p = (q : ℕ) → IsIn i q → q ≡ p
+IsInAlone i p = (q : ℕ) → IsInsideByImage i q → q ≡ p
 
 -- phases and ahead sets are those of the lock words, the mailbox is that of the data words with the process inside
 pub record IsStartOf (i : Image) (s : Start) : Type 0 where

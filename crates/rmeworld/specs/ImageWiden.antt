@@ -10,12 +10,12 @@ use Rattle.rmeworld.specs.declared.image.Image.{Image}
 use Rattle.rmeworld.specs.ImageRules.{layout_of, IsLawfulImage, IsFirstBroken}
 
 -- the list with words 0 at its end, n words in all
-abbrev pub padded : ℕ → List ℕ → List ℕ
-padded n xs = xs ++ zeros (n - length xs)
+abbrev pub padded_words : ℕ → List ℕ → List ℕ
+padded_words n xs = xs ++ zeros (n - length xs)
 
 -- a message with a wider value
-abbrev pub widened : ℕ → Message → Message
-widened n m = record m { value = padded n m.value }
+abbrev pub widened_message : ℕ → Message → Message
+widened_message n m = record m { value = padded_words n m.value }
 
 -- j is i with values of this many words
 pub record IsWider (wide : ℕ) (i j : Image) : Type 0 where
@@ -28,10 +28,10 @@ pub record IsWider (wide : ℕ) (i j : Image) : Type 0 where
   -- ruined, closed, count, armed, and the record's place and number
   pub heads : row (words_of j.cells) 0 6 ≡ row (words_of i.cells) 0 6
   -- the record's value
-  pub recorded : row (words_of j.cells) 6 wide ≡ padded wide (row (words_of i.cells) 6 i.width)
+  pub recorded : row (words_of j.cells) 6 wide ≡ padded_words wide (row (words_of i.cells) 6 i.width)
   -- the board and the last numbers
   pub others : row (words_of j.cells) (6 + wide) (4 + length i.lock) ≡ row (words_of i.cells) (6 + i.width) (4 + length i.lock)
-  pub places : (a : ℕ) → a < i.cap → entry (layout_of j) (words_of j.cells) a ≡ widened wide (entry (layout_of i) (words_of i.cells) a)
+  pub places : (a : ℕ) → a < i.cap → entry (layout_of j) (words_of j.cells) a ≡ widened_message wide (entry (layout_of i) (words_of i.cells) a)
 
 -- why an image is not widened: its first broken rule, a width below its own or above 8, or out of memory
 abbrev pub IsUnwidened : ℕ → Image → Refusal → Type 0
@@ -47,4 +47,4 @@ shown_in i = entries (layout_of i) (words_of i.cells) (slice_index i.cells 2)
 abbrev pub WideningKeeps : Type 0
 WideningKeeps =
     (wide : ℕ) (i j : Image) → IsLawfulImage i → i.width ≤ wide → wide ≤ 8 → IsWider wide i j
-    → IsLawfulImage j × (shown_in j ≡ map (widened wide) (shown_in i))
+    → IsLawfulImage j × (shown_in j ≡ map (widened_message wide) (shown_in i))

@@ -16,7 +16,7 @@ pub mod WorldState
 pub mod Replayed
 pub mod Acts
 pub mod WorldRuns
-pub mod Advancing
+pub mod WorldSteps
 pub mod Reached
 pub mod UnderWay
 pub mod HomeState

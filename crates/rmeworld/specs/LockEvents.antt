@@ -7,7 +7,7 @@ use Rattle.rmecore.specs.declared.kind.Kind.{Kind}
 use Rattle.rmecore.specs.declared.word.Word.{Word}
 use Rattle.redomail.specs.declared.layout.Layout.{Layout}
 use Rattle.rmeworld.specs.ProcessState.{ProcessState, ScriptState, Free, Doing, WorldEvent, Begins, Falls, Moves, Glances, who, next_process_state}
-use Rattle.rmeworld.specs.World.{GlobalState, onward}
+use Rattle.rmeworld.specs.World.{GlobalState, state_after_event}
 use Rattle.rmeworld.specs.declared.call.Call.{Call}
 use Rattle.rmeworld.specs.declared.call.Call.TheVariants.{Lock, Unlock, Recover, Withdraw}
 
@@ -43,4 +43,4 @@ event_then (Some e) es = e ∷ es
 -- the events of the lock in an execution
 abbrev pub lock_events : Layout → ℕ → GlobalState → List WorldEvent → List Event
 lock_events l limit w [] = []
-lock_events l limit w (e ∷ es) = event_then (lock_event l limit (w.process_states (who e)) e) (lock_events l limit (onward l limit w e) es)
+lock_events l limit w (e ∷ es) = event_then (lock_event l limit (w.process_states (who e)) e) (lock_events l limit (state_after_event l limit w e) es)

@@ -2,7 +2,7 @@
 use Rattle.std.specs.Prelude.{◌≡◌, ℕ, ◌<◌, ◌≤◌, Bool, true, false, if◌then◌else◌, [], Option, Some, None, IsSome, unwrap_or}
 use Rattle.rmecore.specs.Place.{Place, Rest, Dead, Reread, Leaving, Withdrawing}
 use Rattle.rmecore.specs.World.{is_store}
-use Rattle.rmecore.specs.Machine.{Standing, next_access as lock_access, after_access, access, kind_of, word_of, carried, owner, InLock}
+use Rattle.rmecore.specs.Machine.{Standing, next_access as lock_access, after_access, access, kind_of, word_of, carried_value, owner, InLock}
 use Rattle.rmecore.specs.declared.access.Access.{Access}
 use Rattle.rmecore.specs.declared.access.Access.TheVariants.{Load, Store}
 use Rattle.rmecore.specs.declared.core_call.CoreCall.TheVariants as core
@@ -13,7 +13,7 @@ use Rattle.rmecore.specs.declared.word.Word.TheVariants.{Data as DataAt}
 use Rattle.redomail.specs.declared.layout.Layout.{Layout}
 use Rattle.redomail.specs.declared.reply.Reply.{Reply}
 use Rattle.redomail.specs.Layout.{IsLayout}
-use Rattle.redomail.specs.Left.{Pending, left, begun, mending, fed}
+use Rattle.redomail.specs.Left.{Pending, script_left, pending_task, mending, job_after_word}
 use Rattle.redomail.specs.declared.task.Task.TheVariants as task
 use Rattle.redomail.specs.Script.{Script, Get as Asks, Put as Writes, Done}
 use Rattle.rmeworld.specs.declared.outcome.Outcome.{Outcome}
@@ -48,8 +48,8 @@ abbrev pub resting : Layout → ℕ → ℕ → MachineState
 resting l limit p = record { layout = l; limit = limit; index = p; lock = Rest; mended = true; barred = false; script_state = IsFree }
 
 -- after a crash
-abbrev pub crashed : MachineState → MachineState
-crashed s = record s { lock = Dead; mended = true; barred = false; script_state = IsFree }
+abbrev pub machine_after_crash : MachineState → MachineState
+machine_after_crash s = record s { lock = Dead; mended = true; barred = false; script_state = IsFree }
 
 -- "Limits": the sizes of a world
 pub record IsSize (l : Layout) : Type 0 where
@@ -74,12 +74,12 @@ next_access s = access_by s.limit s.index s.lock (script_state_of s.script_state
 
 -- the world event of an access, with the value that was read
 abbrev pub world_event : MachineState → Access → ℕ → WorldEvent
-world_event s a v = Moves s.index (kind_of a) (word_of a) (carried a v)
+world_event s a v = Moves s.index (kind_of a) (word_of a) (carried_value a v)
 
 -- the process state after the step, by the definition
 abbrev pub after_at : Layout → ℕ → ℕ → ProcessState → Option Access → ℕ → ProcessState
 after_at l limit p process_state None v = process_state
-after_at l limit p process_state (Some a) v = unwrap_or (next_process_state l limit process_state (Moves p (kind_of a) (word_of a) (carried a v))) process_state
+after_at l limit p process_state (Some a) v = unwrap_or (next_process_state l limit process_state (Moves p (kind_of a) (word_of a) (carried_value a v))) process_state
 
 -- the same for a machine
 abbrev pub process_state_after : MachineState → Option Access → ℕ → ProcessState
@@ -88,15 +88,15 @@ process_state_after s o v = after_at s.layout s.limit s.index (process_state_of 
 abbrev pub progress_by : ℕ → ProcessState → Access → ℕ → Progress
 progress_by p process_state a v =
     record {
-      outer = outer_by p process_state.lock process_state.script_state (kind_of a) (carried a v);
-      done = done_by process_state.lock process_state.script_state (kind_of a) (carried a v);
-      blocked = blocked_by p process_state.lock process_state.script_state (kind_of a) (carried a v);
+      outer = outer_by p process_state.lock process_state.script_state (kind_of a) (carried_value a v);
+      done = done_by process_state.lock process_state.script_state (kind_of a) (carried_value a v);
+      blocked = blocked_by p process_state.lock process_state.script_state (kind_of a) (carried_value a v);
     }
 
 -- the effects of the step
 abbrev pub outcome : MachineState → Option Access → ℕ → Outcome
 outcome s None v = record { progress = record { outer = None; done = None; blocked = false }; answer = None }
-outcome s (Some a) v = record { progress = progress_by s.index (process_state_of s) a v; answer = answer_at (process_state_of s) (kind_of a) (carried a v) }
+outcome s (Some a) v = record { progress = progress_by s.index (process_state_of s) a v; answer = answer_at (process_state_of s) (kind_of a) (carried_value a v) }
 
 -- the definition allows the access, whatever a load reads
 abbrev pub IsAllowed : MachineState → Access → Type 0
@@ -130,7 +130,7 @@ lock_moved s t =
     record s {
       lock = t;
       mended = mended_entered s.mended s.lock t;
-      script_state = if is_entry s.lock t then Does Checking (begun s.layout s.index task.Check) else IsFree;
+      script_state = if is_entry s.lock t then Does Checking (pending_task s.layout s.index task.Check) else IsFree;
     }
 
 -- after a script that ends with this reply
@@ -144,32 +144,32 @@ job_left s purpose job _ = record s { script_state = Does purpose job }
 
 abbrev pub stepped_by : MachineState → Chore → ℕ → MachineState
 stepped_by s IsFree v = lock_moved s (after_access (standing s) (lock_access (standing s)) v)
-stepped_by s (Does purpose job) v = job_left s purpose (fed job v) (left (fed job v))
+stepped_by s (Does purpose job) v = job_left s purpose (job_after_word job v) (script_left (job_after_word job v))
 
 -- after the next step, with the value that was read
-abbrev pub stepped : MachineState → ℕ → MachineState
-stepped s v = stepped_by s s.script_state v
+abbrev pub machine_after_step : MachineState → ℕ → MachineState
+machine_after_step s v = stepped_by s s.script_state v
 
 -- with the script of this purpose begun
 abbrev pub works : MachineState → Purpose → MachineState
-works s purpose = record s { script_state = Does purpose (begun s.layout s.index (task_of purpose)) }
+works s purpose = record s { script_state = Does purpose (pending_task s.layout s.index (task_of purpose)) }
 
 -- at the start of a new call
-abbrev pub calm : MachineState → MachineState
-calm s = record s { barred = false }
+abbrev pub unbarred_machine : MachineState → MachineState
+unbarred_machine s = record s { barred = false }
 
 -- with the lock's part at this place
-abbrev pub placed : MachineState → Place → MachineState
-placed s t = record (calm s) { lock = t }
+abbrev pub machine_at_place : MachineState → Place → MachineState
+machine_at_place s t = record (unbarred_machine s) { lock = t }
 
 -- after a start that is not refused
-abbrev pub started : MachineState → Call → MachineState
-started s call.Lock = placed s (Reread core.Lock [])
-started s call.Recover = placed s (Reread core.Recover [])
-started s call.Withdraw = placed s Withdrawing
-started s call.Unlock = if s.mended then placed s Leaving else works (calm s) Ruining
-started s call.Consistent = record (calm s) { script_state = Does Mending (mending s.layout s.index) }
-started s (call.Append seq value) = works (calm s) (Working (task.Append seq value))
-started s call.Close = works (calm s) (Working task.Close)
-started s (call.Get i) = works (calm s) (Working (task.BoardGet i))
-started s (call.Put i v) = works (calm s) (Working (task.BoardPut i v))
+abbrev pub machine_after_start : MachineState → Call → MachineState
+machine_after_start s call.Lock = machine_at_place s (Reread core.Lock [])
+machine_after_start s call.Recover = machine_at_place s (Reread core.Recover [])
+machine_after_start s call.Withdraw = machine_at_place s Withdrawing
+machine_after_start s call.Unlock = if s.mended then machine_at_place s Leaving else works (unbarred_machine s) Ruining
+machine_after_start s call.Consistent = record (unbarred_machine s) { script_state = Does Mending (mending s.layout s.index) }
+machine_after_start s (call.Append seq value) = works (unbarred_machine s) (Working (task.Append seq value))
+machine_after_start s call.Close = works (unbarred_machine s) (Working task.Close)
+machine_after_start s (call.Get i) = works (unbarred_machine s) (Working (task.BoardGet i))
+machine_after_start s (call.Put i v) = works (unbarred_machine s) (Working (task.BoardPut i v))

@@ -1,7 +1,7 @@
 -- "Place" in a whole world: the state of a process. It is a place of the lock and the rest of a script on the data words. It
 -- follows from the process's own events alone ("Calls as rows of steps").
 use Rattle.std.specs.Prelude.{ℕ, Bool, true, false, ◌&&◌, ◌==◌, nat_lt, length, if◌then◌else◌, Option, Some, None}
-use Rattle.rmecore.specs.Place.{Place, Rest, Dead, Reread, Wait, Inside, Leaving, next, started}
+use Rattle.rmecore.specs.Place.{Place, Rest, Dead, Reread, Wait, Inside, Leaving, next, place_after_start}
 use Rattle.rmecore.specs.World.{step_deed}
 use Rattle.rmecore.specs.declared.outer.Outer.{Outer}
 use Rattle.rmecore.specs.declared.outer.Outer.TheVariants.{Crash}
@@ -42,8 +42,8 @@ abbrev pub at_rest : ProcessState
 at_rest = record { lock = Rest; mended = true; barred = false; script_state = Free }
 
 -- a crash loses all private memory
-abbrev pub dead : ProcessState
-dead = record { lock = Dead; mended = true; barred = false; script_state = Free }
+abbrev pub dead_process : ProcessState
+dead_process = record { lock = Dead; mended = true; barred = false; script_state = Free }
 
 -- a world event: the start of a call, a crash, one load or store of one word with its value, or a glance at any word
 pub data WorldEvent : Type 0 where
@@ -76,10 +76,10 @@ end_barred Checking c (Ruined true) = true
 end_barred _ c _ = c
 
 -- the process state with this rest of a script
-abbrev pub settled : Bool → Bool → Purpose → Script Reply → ProcessState
-settled b c purpose (Done a) = record { lock = end_place purpose a; mended = end_mended purpose b a; barred = end_barred purpose c a; script_state = Free }
-settled b c purpose (Asks i rest) = record { lock = Inside; mended = b; barred = c; script_state = Doing purpose (Asks i rest) }
-settled b c purpose (Writes i v rest) = record { lock = Inside; mended = b; barred = c; script_state = Doing purpose (Writes i v rest) }
+abbrev pub process_after_script : Bool → Bool → Purpose → Script Reply → ProcessState
+process_after_script b c purpose (Done a) = record { lock = end_place purpose a; mended = end_mended purpose b a; barred = end_barred purpose c a; script_state = Free }
+process_after_script b c purpose (Asks i rest) = record { lock = Inside; mended = b; barred = c; script_state = Doing purpose (Asks i rest) }
+process_after_script b c purpose (Writes i v rest) = record { lock = Inside; mended = b; barred = c; script_state = Doing purpose (Writes i v rest) }
 
 -- the ruin check comes after an entry by a lock, from the place before and the place after
 abbrev pub script_state_entered : Layout → ℕ → Place → Place → ScriptState
@@ -106,8 +106,8 @@ only_process_state b process_state = if b then Some process_state else None
 -- the process state after a step: of the lock's part, or of the script, which allows its next access alone
 abbrev pub moved_by : Layout → ℕ → ℕ → Place → Bool → Bool → ScriptState → Kind → Word → ℕ → Option ProcessState
 moved_by l limit p s b c Free kind word v = at_lock l p s b c (next l.procs limit p s kind word v)
-moved_by l limit p s b c (Doing purpose (Asks j rest)) Gets (DataAt i) v = only_process_state (i == j) (settled b c purpose (rest v))
-moved_by l limit p s b c (Doing purpose (Writes j x rest)) Puts (DataAt i) v = only_process_state ((i == j) && (v == x)) (settled b c purpose rest)
+moved_by l limit p s b c (Doing purpose (Asks j rest)) Gets (DataAt i) v = only_process_state (i == j) (process_after_script b c purpose (rest v))
+moved_by l limit p s b c (Doing purpose (Writes j x rest)) Puts (DataAt i) v = only_process_state ((i == j) && (v == x)) (process_after_script b c purpose rest)
 moved_by _ _ _ _ _ _ _ _ _ _ = None
 
 -- a script begins inside alone
@@ -121,10 +121,10 @@ working l p s b fits t = inside_only s b fits (Working t) (script l p t)
 
 -- a start needs an idle process, except a withdraw. An unmended holder puts ruined before it leaves
 abbrev pub begun_from : Layout → ℕ → Place → Bool → ScriptState → Call → Option ProcessState
-begun_from l p s b Free Lock = at_lock l p s b false (started s core.Lock)
-begun_from l p s b Free Recover = at_lock l p s b false (started s core.Recover)
-begun_from l p s b Free Withdraw = at_lock l p s b false (started s core.Withdraw)
-begun_from l p s true Free Unlock = at_lock l p s true false (started s core.Unlock)
+begun_from l p s b Free Lock = at_lock l p s b false (place_after_start s core.Lock)
+begun_from l p s b Free Recover = at_lock l p s b false (place_after_start s core.Recover)
+begun_from l p s b Free Withdraw = at_lock l p s b false (place_after_start s core.Withdraw)
+begun_from l p s true Free Unlock = at_lock l p s true false (place_after_start s core.Unlock)
 begun_from l p s false Free Unlock = inside_only s false true Ruining (script l p task.Ruin)
 begun_from l p s false Free Consistent = inside_only s false true Mending (consistent l p)
 begun_from l p s b Free (Append seq value) = working l p s b (b && (length value == l.width)) (task.Append seq value)
@@ -136,7 +136,7 @@ begun_from _ _ _ _ _ _ = None
 -- the process state after an event of the process, if the event is allowed
 abbrev pub next_process_state : Layout → ℕ → ProcessState → WorldEvent → Option ProcessState
 next_process_state l limit process_state (Begins p call) = begun_from l p process_state.lock process_state.mended process_state.script_state call
-next_process_state l limit process_state (Falls p) = Some dead
+next_process_state l limit process_state (Falls p) = Some dead_process
 next_process_state l limit process_state (Moves p kind word v) = moved_by l limit p process_state.lock process_state.mended process_state.barred process_state.script_state kind word v
 next_process_state l limit process_state (Glances p word v) = Some process_state
 
@@ -146,8 +146,8 @@ outer_by p s Free kind v = step_deed p s kind v
 outer_by p s _ kind v = None
 
 -- the deed of the lock of an event
-abbrev pub outer : ProcessState → WorldEvent → Option Outer
-outer process_state (Begins p call) = None
-outer process_state (Falls p) = Some (Crash p)
-outer process_state (Moves p kind word v) = outer_by p process_state.lock process_state.script_state kind v
-outer process_state (Glances p word v) = None
+abbrev pub lock_deed : ProcessState → WorldEvent → Option Outer
+lock_deed process_state (Begins p call) = None
+lock_deed process_state (Falls p) = Some (Crash p)
+lock_deed process_state (Moves p kind word v) = outer_by p process_state.lock process_state.script_state kind v
+lock_deed process_state (Glances p word v) = None

@@ -6,14 +6,14 @@ use Rattle.redomail.specs.declared.deed.Deed.{Deed}
 use Rattle.redomail.specs.declared.layout.Layout.{Layout}
 use Rattle.redomail.specs.Layout.{Words, words_of, size}
 use Rattle.judge.specs.Legal.{Leads}
-use Rattle.judge.specs.Table.{State, empty}
+use Rattle.judge.specs.Table.{State, empty_state}
 use Rattle.judge.specs.Starts.{state_of}
 use Rattle.judge.specs.declared.start.Start.{Start}
 use Rattle.rmecore.specs.Lawful.{IsLawful}
 use Rattle.rmeworld.specs.ImageRules.{layout_of, IsLawfulImage}
 use Rattle.rmeworld.specs.ImageStart.{IsStartOf}
 use Rattle.rmeworld.specs.Law.{IsLater, Sound}
-use Rattle.rmeworld.specs.ProcessState.{WorldEvent, at_rest, dead}
+use Rattle.rmeworld.specs.ProcessState.{WorldEvent, at_rest, dead_process}
 use Rattle.rmeworld.specs.MachineState.{IsSize}
 use Rattle.rmeworld.specs.Tallied.{AllTallied}
 use Rattle.rmeworld.specs.World.{GlobalState, at_first, Execution, last_global_state, deeds}
@@ -22,13 +22,13 @@ use Rattle.rmeworld.specs.declared.image.Image.{Image}
 
 -- these words, with each of the n processes crashed
 abbrev pub crashed_global_state : ℕ → (ℕ → Own) → Words → GlobalState
-crashed_global_state n words cells = record { words = words; cells = cells; process_states = λ p. if nat_lt p n then dead else at_rest }
+crashed_global_state n words cells = record { words = words; cells = cells; process_states = λ p. if nat_lt p n then dead_process else at_rest }
 
 -- a global state at the beginning of an execution, with the judge's state there: that of a new world, or one whose processes
 -- have all crashed, with words that are possible after that
 abbrev pub IsOrigin : Layout → ℕ → GlobalState → State → Type 0
 IsOrigin l limit w s =
-    ((w ≡ at_first) × (s ≡ empty l.procs l.cap)) ⊎ ((w ≡ crashed_global_state l.procs w.words w.cells) × IsLater l limit w.words w.cells s)
+    ((w ≡ at_first) × (s ≡ empty_state l.procs l.cap)) ⊎ ((w ≡ crashed_global_state l.procs w.words w.cells) × IsLater l limit w.words w.cells s)
 
 -- Every execution of a lawful image's world is sound, with a judge that begins at the image's start. Its lock words stay
 -- lawful, and all its deeds are legal.
@@ -61,7 +61,7 @@ pub record IsReached (l : Layout) (limit : ℕ) (w : GlobalState) (history : Lis
   pub state : State
   pub origin : IsOrigin l limit first state
   pub execution : List WorldEvent
-  pub told : Execution l limit first execution
+  pub reports : Execution l limit first execution
   pub last : last_global_state l limit first execution ≡ w
   pub done : deeds l limit first execution ≡ history
 

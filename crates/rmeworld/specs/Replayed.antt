@@ -1,7 +1,7 @@
 -- A world as a machine ("Replay clause"): which calls are refused, their results, and the state after each.
 use Rattle.std.specs.Prelude.{ℕ, nat_lt, if◌then◌else◌, List, [], ◌∷◌, ◌++◌, slice_set, Option, Some, None}
-use Rattle.rmecore.specs.Machine.{kind_of, word_of, carried}
-use Rattle.rmecore.specs.Simulated.{own_at, tally_at, counted, fresh}
+use Rattle.rmecore.specs.Machine.{kind_of, word_of, carried_value}
+use Rattle.rmecore.specs.Simulated.{own_at, tally_at, tally_after_step, new_tally}
 use Rattle.rmecore.specs.declared.access.Access.{Access}
 use Rattle.rmecore.specs.declared.access.Access.TheVariants.{Load, Store}
 use Rattle.rmecore.specs.declared.kind.Kind.TheVariants.{Glance}
@@ -23,7 +23,7 @@ use Rattle.rmeworld.specs.declared.outcome.Outcome.{Outcome}
 use Rattle.rmeworld.specs.declared.stepped.Stepped.{Stepped}
 use Rattle.rmeworld.specs.Refused.{is_idle, start_refusal as process_state_refusal}
 use Rattle.rmeworld.specs.ProcessState.{WorldEvent, Moves}
-use Rattle.rmeworld.specs.MachineState.{MachineState, next_access, outcome, stepped as machine_state_stepped, started as machine_state_started, crashed as machine_state_crashed}
+use Rattle.rmeworld.specs.MachineState.{MachineState, next_access, outcome, machine_after_step as machine_state_stepped, machine_after_start as machine_state_started, machine_after_crash as machine_state_crashed}
 use Rattle.rmeworld.specs.World.{reading, put_deeds, event_deeds}
 use Rattle.rmeworld.specs.WorldState.{WorldState, machine_state_at, process_state_at, global_state_of}
 
@@ -32,11 +32,11 @@ abbrev pub start_refusal : WorldState → ℕ → Call → Option Refusal
 start_refusal s p call = if nat_lt p s.layout.procs then process_state_refusal s.layout (process_state_at s.processes p) call else Some NoSuchProcess
 
 -- the call is under way, with counts of 0
-abbrev pub started : WorldState → ℕ → Call → WorldState
-started s p call =
+abbrev pub world_after_start : WorldState → ℕ → Call → WorldState
+world_after_start s p call =
     record s {
       processes = slice_set s.processes p (machine_state_started (machine_state_at s.processes p) call);
-      tallies = slice_set s.tallies p (fresh (own_at s.words p));
+      tallies = slice_set s.tallies p (new_tally (own_at s.words p));
     }
 
 -- the refusal of a step
@@ -45,7 +45,7 @@ advance_refusal s p = if nat_lt p s.layout.procs then (if is_idle (process_state
 
 -- the value that an access reads or writes
 abbrev pub value_of : WorldState → Access → ℕ
-value_of s a = carried a (reading (global_state_of s) (word_of a))
+value_of s a = carried_value a (reading (global_state_of s) (word_of a))
 
 -- the world event of an access
 abbrev pub world_event : WorldState → ℕ → Access → WorldEvent
@@ -117,7 +117,7 @@ advanced_by s p a =
       words = words_by s.words a;
       cells = cells_by s.cells a;
       processes = slice_set s.processes p (machine_state_stepped (machine_state_at s.processes p) v);
-      tallies = slice_set s.tallies p (counted (tally_at s.tallies p) (outcome (machine_state_at s.processes p) (Some a) v).progress.blocked);
+      tallies = slice_set s.tallies p (tally_after_step (tally_at s.tallies p) (outcome (machine_state_at s.processes p) (Some a) v).progress.blocked);
       history = s.history ++ event_deeds s.layout (global_state_of s) (world_event s p a);
     }
 
@@ -138,11 +138,11 @@ advanced_if s p None = s
 advanced_if s p (Some a) = advanced_by s p a
 
 -- the report of p's next step, and the world after it
-abbrev pub stepped : WorldState → ℕ → Stepped
-stepped s p = stepped_if s p (next_access (machine_state_at s.processes p))
+abbrev pub world_step_report : WorldState → ℕ → Stepped
+world_step_report s p = stepped_if s p (next_access (machine_state_at s.processes p))
 
-abbrev pub advanced : WorldState → ℕ → WorldState
-advanced s p = advanced_if s p (next_access (machine_state_at s.processes p))
+abbrev pub world_after_step : WorldState → ℕ → WorldState
+world_after_step s p = advanced_if s p (next_access (machine_state_at s.processes p))
 
 -- the refusal of a crash
 abbrev pub crash_refusal : WorldState → ℕ → Option Refusal
@@ -153,8 +153,8 @@ abbrev pub crash_deed : ℕ → Deed
 crash_deed p = OuterDeed (Crash p)
 
 -- the world after a crash
-abbrev pub crashed : WorldState → ℕ → WorldState
-crashed s p =
+abbrev pub world_after_crash : WorldState → ℕ → WorldState
+world_after_crash s p =
     record s { processes = slice_set s.processes p (machine_state_crashed (machine_state_at s.processes p)); history = s.history ++ crash_deed p ∷ [] }
 
 -- the current words, with the sizes
@@ -166,12 +166,12 @@ abbrev pub world_behaviour : Behaviour WorldState
 world_behaviour =
     record {
       start_refusal = start_refusal;
-      started = started;
+      started = world_after_start;
       advance_refusal = advance_refusal;
-      stepped = stepped;
-      advanced = advanced;
+      stepped = world_step_report;
+      advanced = world_after_step;
       crash_refusal = crash_refusal;
       crash_deed = λ s p. crash_deed p;
-      crashed = crashed;
+      crashed = world_after_crash;
       image_of = image_of;
     }

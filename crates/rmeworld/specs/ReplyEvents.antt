@@ -69,11 +69,11 @@ mending p zero zero (suc i) = Moves p Marks (InsideOf p) 0 ∷ []
 mending p _ _ _ = []
 
 -- the events are those of this script, in its order, up to this rest
-abbrev pub Plays : ℕ → Script Reply → List WorldEvent → Script Reply → Type 0
-Plays p s [] left = s ≡ left
-Plays p (Asks i rest) (e ∷ es) left = (v : ℕ) × (e ≡ Moves p Gets (DataAt i) v) × Plays p (rest v) es left
-Plays p (Writes i v rest) (e ∷ es) left = (e ≡ Moves p Puts (DataAt i) v) × Plays p rest es left
-Plays p (Done a) (e ∷ es) left = ⊥
+abbrev pub PlaysScript : ℕ → Script Reply → List WorldEvent → Script Reply → Type 0
+PlaysScript p s [] left = s ≡ left
+PlaysScript p (Asks i rest) (e ∷ es) left = (v : ℕ) × (e ≡ Moves p Gets (DataAt i) v) × PlaysScript p (rest v) es left
+PlaysScript p (Writes i v rest) (e ∷ es) left = (e ≡ Moves p Puts (DataAt i) v) × PlaysScript p rest es left
+PlaysScript p (Done a) (e ∷ es) left = ⊥
 
 -- The table. An unlock depends on whether the holder is mended.
 abbrev pub HasEvents : Layout → ℕ → ℕ → Bool → Call → Answer → List WorldEvent → Type 0
@@ -85,12 +85,12 @@ HasEvents l limit p mended Lock NumbersSpent es =
 HasEvents l limit p mended Recover (Found found) es = (c : ℕ) × (k : ℕ) × (i : ℕ) × (found_by c k i ≡ found) × (es ≡ rereads p c k i ++ mending p c k i)
 HasEvents l limit p mended Unlock Unlocked es = es ≡ ruining p mended ++ exit p
 HasEvents l limit p mended Withdraw Withdrawn es = es ≡ Moves p Drops (NumberOf p) 0 ∷ []
-HasEvents l limit p mended Consistent NotRecoverable es = (ruined : Bool) × Plays p (consistent l p) es (Done (Ruined ruined))
-HasEvents l limit p mended Consistent (Mail reply) es = Plays p (consistent l p) es (Done reply)
-HasEvents l limit p mended (Append seq value) (Mail reply) es = Plays p (script l p (task.Append seq value)) es (Done reply)
-HasEvents l limit p mended Close (Mail reply) es = Plays p (script l p task.Close) es (Done reply)
-HasEvents l limit p mended (Get i) (Mail reply) es = Plays p (script l p (task.BoardGet i)) es (Done reply)
-HasEvents l limit p mended (Put i v) (Mail reply) es = Plays p (script l p (task.BoardPut i v)) es (Done reply)
+HasEvents l limit p mended Consistent NotRecoverable es = (ruined : Bool) × PlaysScript p (consistent l p) es (Done (Ruined ruined))
+HasEvents l limit p mended Consistent (Mail reply) es = PlaysScript p (consistent l p) es (Done reply)
+HasEvents l limit p mended (Append seq value) (Mail reply) es = PlaysScript p (script l p (task.Append seq value)) es (Done reply)
+HasEvents l limit p mended Close (Mail reply) es = PlaysScript p (script l p task.Close) es (Done reply)
+HasEvents l limit p mended (Get i) (Mail reply) es = PlaysScript p (script l p (task.BoardGet i)) es (Done reply)
+HasEvents l limit p mended (Put i v) (Mail reply) es = PlaysScript p (script l p (task.BoardPut i v)) es (Done reply)
 HasEvents _ _ _ _ _ _ _ = ⊥
 
 -- steps of p that are no glances, each allowed by the process state before it. Loads may read anything

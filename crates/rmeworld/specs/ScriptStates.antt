@@ -3,14 +3,14 @@ use Rattle.std.specs.Prelude.{◌≡◌}
 use Rattle.rmecore.specs.Place.{Place, Inside}
 use Rattle.redomail.specs.declared.reply.Reply.{Reply}
 use Rattle.redomail.specs.Script.{Script, Get as Asks, Put as Writes, Done}
-use Rattle.redomail.specs.Left.{left}
+use Rattle.redomail.specs.Left.{script_left}
 use Rattle.rmeworld.specs.declared.script_state.ScriptState.{ScriptState as Task}
 use Rattle.rmeworld.specs.declared.script_state.ScriptState.TheVariants.{Free as IsFree, Doing as Does}
 use Rattle.rmeworld.specs.ProcessState.{ScriptState, Free, Doing}
 
 abbrev pub script_state_of : Task → ScriptState
 script_state_of IsFree = Free
-script_state_of (Does purpose job) = Doing purpose (left job)
+script_state_of (Does purpose job) = Doing purpose (script_left job)
 
 -- a script with a step left
 abbrev pub HasStep : Script Reply → Type 0
@@ -19,6 +19,6 @@ HasStep (Writes i v rest) = Unit {0}
 HasStep (Done reply) = ⊥
 
 -- a process with a job is inside, and the job has a step left
-abbrev pub Held : Task → Place → Type 0
-Held IsFree s = Unit {0}
-Held (Does purpose job) s = (s ≡ Inside) × HasStep (left job)
+abbrev pub HoldsJob : Task → Place → Type 0
+HoldsJob IsFree s = Unit {0}
+HoldsJob (Does purpose job) s = (s ≡ Inside) × HasStep (script_left job)

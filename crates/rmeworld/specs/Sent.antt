@@ -15,7 +15,7 @@ use Rattle.redomail.specs.declared.reply.Reply.{Reply}
 use Rattle.redomail.specs.declared.reply.Reply.TheVariants.{Stored, OutOfOrder, Full, Closed}
 use Rattle.redomail.specs.declared.task.Task.TheVariants as task
 use Rattle.judge.specs.Halves.{all_after}
-use Rattle.judge.specs.Table.{empty}
+use Rattle.judge.specs.Table.{empty_state}
 use Rattle.rmeworld.specs.Answered.{answer_at}
 use Rattle.rmeworld.specs.ProcessState.{ProcessState, Doing, WorldEvent, Begins, Moves}
 use Rattle.rmeworld.specs.World.{at_first, Execution, last_global_state, deeds}
@@ -25,7 +25,7 @@ use Rattle.rmeworld.specs.declared.purpose.Purpose.TheVariants.{Working}
 
 -- the judge's mailbox after the deeds of an execution
 abbrev pub mail_after : Layout → ℕ → List WorldEvent → Mailbox
-mail_after l limit execution = (all_after (empty l.procs l.cap) (deeds l limit at_first execution)).mail
+mail_after l limit execution = (all_after (empty_state l.procs l.cap) (deeds l limit at_first execution)).mail
 
 -- its sender began to append this message, with this number and value
 abbrev pub IsSent : List WorldEvent → Message → Type 0

@@ -12,7 +12,7 @@ use Rattle.redomail.specs.declared.deed.Deed.TheVariants.{Outer as OuterDeed}
 use Rattle.redomail.specs.declared.layout.Layout.{Layout}
 use Rattle.redomail.specs.Layout.{Words, size}
 use Rattle.redomail.specs.Deeds.{deeds_of_put}
-use Rattle.rmeworld.specs.ProcessState.{ProcessState, at_rest, WorldEvent, Moves, Glances, who, next_process_state, outer}
+use Rattle.rmeworld.specs.ProcessState.{ProcessState, at_rest, WorldEvent, Moves, Glances, who, next_process_state, lock_deed}
 
 -- a global state: the lock words, the data words and the states of all processes
 pub record GlobalState : Type 0 where
@@ -33,10 +33,10 @@ abbrev pub reading : GlobalState → Word → ℕ
 reading w word = reading_of w.words w.cells word
 
 -- a load reads the word's current value
-abbrev pub Reads : GlobalState → WorldEvent → Type 0
-Reads w (Moves p kind word v) = is_store kind ≡ false → reading w word ≡ v
-Reads w (Glances p word v) = reading w word ≡ v
-Reads w _ = Unit {0}
+abbrev pub ReadsWord : GlobalState → WorldEvent → Type 0
+ReadsWord w (Moves p kind word v) = is_store kind ≡ false → reading w word ≡ v
+ReadsWord w (Glances p word v) = reading w word ≡ v
+ReadsWord w _ = Unit {0}
 
 -- a store changes its own word alone. No other event changes a word
 abbrev pub words_after : (ℕ → Own) → WorldEvent → ℕ → Own
@@ -55,11 +55,11 @@ cells_after l cells _ = cells
 
 -- an event is allowed if its process's state allows it and a load reads the current value
 abbrev pub Can : Layout → ℕ → GlobalState → WorldEvent → Type 0
-Can l limit w e = (who e < l.procs) × IsSome (next_process_state l limit (w.process_states (who e)) e) × Reads w e
+Can l limit w e = (who e < l.procs) × IsSome (next_process_state l limit (w.process_states (who e)) e) × ReadsWord w e
 
 -- the global state after an event
-abbrev pub onward : Layout → ℕ → GlobalState → WorldEvent → GlobalState
-onward l limit w e =
+abbrev pub state_after_event : Layout → ℕ → GlobalState → WorldEvent → GlobalState
+state_after_event l limit w e =
     record {
       words = words_after w.words e;
       cells = cells_after l w.cells e;
@@ -69,12 +69,12 @@ onward l limit w e =
 -- "Run": each event is allowed after those before it
 abbrev pub Execution : Layout → ℕ → GlobalState → List WorldEvent → Type 0
 Execution l limit w [] = Unit {0}
-Execution l limit w (e ∷ es) = Can l limit w e × Execution l limit (onward l limit w e) es
+Execution l limit w (e ∷ es) = Can l limit w e × Execution l limit (state_after_event l limit w e) es
 
 -- the global state after an execution
 abbrev pub last_global_state : Layout → ℕ → GlobalState → List WorldEvent → GlobalState
 last_global_state l limit w [] = w
-last_global_state l limit w (e ∷ es) = last_global_state l limit (onward l limit w e) es
+last_global_state l limit w (e ∷ es) = last_global_state l limit (state_after_event l limit w e) es
 
 abbrev pub outer_deeds : Option Outer → List Deed
 outer_deeds None = []
@@ -92,12 +92,12 @@ mail_deeds l cells _ = []
 
 -- "Deeds of a run": an event has at most one, the lock's or that of a put
 abbrev pub event_deeds : Layout → GlobalState → WorldEvent → List Deed
-event_deeds l w e = outer_deeds (outer (w.process_states (who e)) e) ++ mail_deeds l w.cells e
+event_deeds l w e = outer_deeds (lock_deed (w.process_states (who e)) e) ++ mail_deeds l w.cells e
 
 -- the deeds of an execution
 abbrev pub deeds : Layout → ℕ → GlobalState → List WorldEvent → List Deed
 deeds l limit w [] = []
-deeds l limit w (e ∷ es) = event_deeds l w e ++ deeds l limit (onward l limit w e) es
+deeds l limit w (e ∷ es) = event_deeds l w e ++ deeds l limit (state_after_event l limit w e) es
 
 -- the events of one process
 abbrev pub own_world_events : ℕ → List WorldEvent → List WorldEvent

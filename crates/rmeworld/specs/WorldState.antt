@@ -1,7 +1,7 @@
 -- The state of a world as contracts see it, and its global state.
 use Rattle.std.specs.Prelude.{◌≡◌, ℕ, ◌<◌, ◌≤◌, ◌^◌, ◌&&◌, nat_lt, nat_le, List, [], ◌∷◌, ◌++◌, length, map, replicate, slice_index_or, zero, suc, ◌+◌, if◌then◌else◌, Option, Some, None, IsSome}
 use Rattle.rmecore.specs.Machine.{owner}
-use Rattle.rmecore.specs.Simulated.{zeros as zero_words, own_at, fresh}
+use Rattle.rmecore.specs.Simulated.{zeros as zero_words, own_at, new_tally}
 use Rattle.rmecore.specs.declared.happened.Happened.{Happened}
 use Rattle.rmecore.specs.declared.own.Own.{Own}
 use Rattle.rmecore.specs.declared.refusal.Refusal.{Refusal}
@@ -12,10 +12,10 @@ use Rattle.redomail.specs.declared.deed.Deed.{Deed}
 use Rattle.redomail.specs.declared.layout.Layout.{Layout}
 use Rattle.redomail.specs.Layout.{words_of, size}
 use Rattle.rmeworld.specs.ProcessState.{ProcessState, WorldEvent, Moves, next_process_state}
-use Rattle.rmeworld.specs.MachineState.{MachineState, process_state_of, resting, crashed}
+use Rattle.rmeworld.specs.MachineState.{MachineState, process_state_of, resting, machine_after_crash}
 use Rattle.rmeworld.specs.declared.image.Image.{Image}
 use Rattle.rmeworld.specs.ImageRules.{layout_of}
-use Rattle.rmeworld.specs.World.{GlobalState, Can, onward, event_deeds}
+use Rattle.rmeworld.specs.World.{GlobalState, Can, state_after_event, event_deeds}
 
 -- a world: its sizes, its words, the machines and counts of its processes, and its history
 pub record WorldState : Type 0 where
@@ -28,12 +28,12 @@ pub record WorldState : Type 0 where
   pub history : List Deed
 
 -- the default for an index that is no process
-abbrev pub absent : MachineState
-absent = resting (record { procs = 0; cap = 0; width = 0 }) 0 0
+abbrev pub absent_machine : MachineState
+absent_machine = resting (record { procs = 0; cap = 0; width = 0 }) 0 0
 
 -- the process at an index, and its state
 abbrev pub machine_state_at : List MachineState → ℕ → MachineState
-machine_state_at processes p = slice_index_or processes p absent
+machine_state_at processes p = slice_index_or processes p absent_machine
 
 abbrev pub process_state_at : List MachineState → ℕ → ProcessState
 process_state_at processes p = process_state_of (machine_state_at processes p)
@@ -57,7 +57,7 @@ pub record IsConfigured (l : Layout) (limit : ℕ) (words : List Own) (processes
 -- alone.
 pub record Takes (old : WorldState) (e : WorldEvent) (new : WorldState) : Type 0 where
   pub can : Can old.layout old.limit (global_state_of old) e
-  pub global_state : global_state_of new ≡ onward old.layout old.limit (global_state_of old) e
+  pub global_state : global_state_of new ≡ state_after_event old.layout old.limit (global_state_of old) e
   pub history : new.history ≡ old.history ++ event_deeds old.layout (global_state_of old) e
   pub layout : new.layout ≡ old.layout
   pub limit : new.limit ≡ old.limit
@@ -85,7 +85,7 @@ new_world l limit =
       words = replicate l.procs zero_words;
       cells = replicate (size l) 0;
       processes = at_rest_from l limit 0 l.procs;
-      tallies = replicate l.procs (fresh zero_words);
+      tallies = replicate l.procs (new_tally zero_words);
       history = [];
     }
 
@@ -103,7 +103,7 @@ new_refusal l limit =
 -- n crashed processes, from p on
 abbrev pub crashed_from : Layout → ℕ → ℕ → ℕ → List MachineState
 crashed_from l limit p zero = []
-crashed_from l limit p (suc n) = crashed (resting l limit p) ∷ crashed_from l limit (p + 1) n
+crashed_from l limit p (suc n) = machine_after_crash (resting l limit p) ∷ crashed_from l limit (p + 1) n
 
 -- the world of an image: its words, with every process crashed
 abbrev pub image_world : Image → WorldState
@@ -114,6 +114,6 @@ image_world i =
       words = i.lock;
       cells = i.cells;
       processes = crashed_from (layout_of i) i.limit 0 (length i.lock);
-      tallies = map fresh i.lock;
+      tallies = map new_tally i.lock;
       history = [];
     }

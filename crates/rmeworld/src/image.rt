@@ -1,12 +1,12 @@
 //! Images: all that survives a crash of every process.
 
-pub mod beginning;
 mod form;
+pub mod image_reader;
+pub mod image_start;
+pub mod image_widener;
+pub mod image_writer;
 pub mod laws;
-pub mod reading;
 pub mod rules;
-pub mod widening;
-pub mod writing;
 
 use crate::cells::DataWords;
 use crate::owns::Owns;

@@ -20,12 +20,12 @@ ghost use Rattle.rmeworld.specs.Holders.{OnlyHoldersPut};
 ghost use Rattle.rmeworld.specs.HomeState.{CanComeHome, CanComeHomeMended, CanStillEnter};
 ghost use Rattle.rmeworld.specs.Law.{IsLater, EveryExecutionIsSound, EveryExecutionIsLegal, EveryExecutionEndsLawful};
 ghost use Rattle.rmeworld.specs.Reached.{crashed_global_state, EveryLaterExecutionIsSound, EveryExecutionLeavesAnImage};
-ghost use Rattle.rmeworld.specs.Replayed.{start_refusal, started, advance_refusal, stepped, advanced, crash_refusal, crash_deed, crashed, list_of};
+ghost use Rattle.rmeworld.specs.Replayed.{start_refusal, world_after_start, advance_refusal, world_step_report, world_after_step, crash_refusal, crash_deed, world_after_crash, list_of};
 ghost use Rattle.rmeworld.specs.ReplyEvents.{AnswersHaveTheirEvents};
 ghost use Rattle.rmeworld.specs.Sent.{EveryDeedWasAsked, EveryMessageWasSent, EveryCloseWasAsked, EveryRuinWasAsked, RepliesTell, StoredIsShown};
-ghost use Rattle.rmeworld.specs.ProcessState.{WorldEvent, Begins, Falls, outer};
-ghost use Rattle.rmeworld.specs.World.{GlobalState, at_first, Can, onward, Execution, last_global_state, event_deeds, deeds, own_world_events, process_state_after};
-ghost use Rattle.rmeworld.specs.WorldRuns.{run_of, IsRun};
+ghost use Rattle.rmeworld.specs.ProcessState.{WorldEvent, Begins, Falls, lock_deed};
+ghost use Rattle.rmeworld.specs.World.{GlobalState, at_first, Can, state_after_event, Execution, last_global_state, event_deeds, deeds, own_world_events, process_state_after};
+ghost use Rattle.rmeworld.specs.WorldRuns.{run_of, IsEndOfRun};
 ghost use Rattle.rmeworld.specs.WorldState.{WorldState, process_state_at, global_state_of, Takes, world_event_of, ChoosesLeast, new_world, new_refusal, image_world};
 
 use crate::image::Image;
@@ -66,7 +66,7 @@ pub fn executions_grow()
         → deeds l limit w (execution ++ e ∷ []) ≡ deeds l limit w execution
         ++ event_deeds l (last_global_state l limit w execution) e }
     ensures global_state { (l : Layout) (limit : ℕ) (w : GlobalState) (execution : List WorldEvent) (e : WorldEvent)
-        → last_global_state l limit w (execution ++ e ∷ []) ≡ onward l limit (last_global_state l limit w execution) e }
+        → last_global_state l limit w (execution ++ e ∷ []) ≡ state_after_event l limit (last_global_state l limit w execution) e }
 {}
 
 /// The global state of a new world is the first one. The global state of an image's world has every process crashed. A judge
@@ -84,25 +84,29 @@ pub fn worlds_begin()
 /// definition leaves a choice, the step is that of the least process. The report of a step is the definition's: the event
 /// with the lock's deed and the core's answer, the one deed of the history, and the call's answer.
 pub fn worlds_keep_to_the_definition()
-    ensures starts { (s : WorldState) (p : ℕ) (call : CallOf) → IsRun s → start_refusal s p call ≡ None
-        → Takes s (Begins p call) (started s p call) }
-    ensures steps { (s : WorldState) (p : ℕ) → IsRun s → advance_refusal s p ≡ None
-        → Takes s (world_event_of p (stepped s p).happened) (advanced s p) }
-    ensures kind { (s : WorldState) (p : ℕ) → IsRun s → advance_refusal s p ≡ None
-        → is_glance (stepped s p).happened.kind ≡ false }
-    ensures least { (s : WorldState) (p : ℕ) → IsRun s → advance_refusal s p ≡ None → ChoosesLeast s p (stepped s p).happened }
-    ensures outer { (s : WorldState) (p : ℕ) → IsRun s → advance_refusal s p ≡ None
-        → (stepped s p).happened.outer ≡ outer (process_state_at s.processes p) (world_event_of p (stepped s p).happened) }
-    ensures done { (s : WorldState) (p : ℕ) → IsRun s → advance_refusal s p ≡ None
-        → (stepped s p).happened.done ≡ done_by (process_state_at s.processes p).lock
-        (process_state_at s.processes p).script_state (stepped s p).happened.kind (stepped s p).happened.value }
-    ensures deed { (s : WorldState) (p : ℕ) → IsRun s → advance_refusal s p ≡ None
-        → list_of (stepped s p).deed ≡ event_deeds s.layout (global_state_of s) (world_event_of p (stepped s p).happened) }
-    ensures answers { (s : WorldState) (p : ℕ) → IsRun s → advance_refusal s p ≡ None
-        → (stepped s p).answer ≡ answer_at (process_state_at s.processes p) (stepped s p).happened.kind
-        (stepped s p).happened.value }
-    ensures crashes { (s : WorldState) (p : ℕ) → IsRun s → crash_refusal s p ≡ None → Takes s (Falls p) (crashed s p) }
-    ensures told { (s : WorldState) (p : ℕ) → crash_deed p ∷ [] ≡ event_deeds s.layout (global_state_of s) (Falls p) }
+    ensures starts { (s : WorldState) (p : ℕ) (call : CallOf) → IsEndOfRun s → start_refusal s p call ≡ None
+        → Takes s (Begins p call) (world_after_start s p call) }
+    ensures steps { (s : WorldState) (p : ℕ) → IsEndOfRun s → advance_refusal s p ≡ None
+        → Takes s (world_event_of p (world_step_report s p).happened) (world_after_step s p) }
+    ensures kind { (s : WorldState) (p : ℕ) → IsEndOfRun s → advance_refusal s p ≡ None
+        → is_glance (world_step_report s p).happened.kind ≡ false }
+    ensures least { (s : WorldState) (p : ℕ) → IsEndOfRun s → advance_refusal s p ≡ None
+        → ChoosesLeast s p (world_step_report s p).happened }
+    ensures outer { (s : WorldState) (p : ℕ) → IsEndOfRun s → advance_refusal s p ≡ None
+        → (world_step_report s p).happened.outer
+        ≡ lock_deed (process_state_at s.processes p) (world_event_of p (world_step_report s p).happened) }
+    ensures done { (s : WorldState) (p : ℕ) → IsEndOfRun s → advance_refusal s p ≡ None
+        → (world_step_report s p).happened.done ≡ done_by (process_state_at s.processes p).lock
+        (process_state_at s.processes p).script_state (world_step_report s p).happened.kind (world_step_report s p).happened.value }
+    ensures deed { (s : WorldState) (p : ℕ) → IsEndOfRun s → advance_refusal s p ≡ None
+        → list_of (world_step_report s p).deed
+        ≡ event_deeds s.layout (global_state_of s) (world_event_of p (world_step_report s p).happened) }
+    ensures answers { (s : WorldState) (p : ℕ) → IsEndOfRun s → advance_refusal s p ≡ None
+        → (world_step_report s p).answer ≡ answer_at (process_state_at s.processes p) (world_step_report s p).happened.kind
+        (world_step_report s p).happened.value }
+    ensures crashes { (s : WorldState) (p : ℕ) → IsEndOfRun s → crash_refusal s p ≡ None
+        → Takes s (Falls p) (world_after_crash s p) }
+    ensures reports { (s : WorldState) (p : ℕ) → crash_deed p ∷ [] ≡ event_deeds s.layout (global_state_of s) (Falls p) }
 {}
 
 /// A world's history is legal from the world's beginning: for a new world from no deed, for a lawful image from its start.
@@ -124,7 +128,7 @@ pub fn only_holders_put()
 /// is under way it has taken fewer steps than the bound for such a call. It has one answer, and with it exactly the steps in
 /// the table of own steps. Blocked steps are not counted. Neither other processes nor stored words are part of the law.
 pub fn calls_take_their_steps()
-    ensures told { CallsTakeTheirSteps }
+    ensures reports { CallsTakeTheirSteps }
     ensures most { NoCallTakesMore }
 {}
 

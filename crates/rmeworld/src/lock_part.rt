@@ -1,7 +1,7 @@
 //! Steps and starts of the lock's part of a process.
 
 ghost use Rattle.std.specs.Prelude.{◌≡◌, Bool, false, Some, None, IfSome, IsSome};
-ghost use Rattle.rmecore.specs.Place.{Inside, Leaving, started as lock_started};
+ghost use Rattle.rmecore.specs.Place.{Inside, Leaving, place_after_start as lock_started};
 ghost use Rattle.rmecore.specs.Refused.{start_refusal as lock_refusal};
 ghost use Rattle.rmecore.specs.Machine.{place_of, after_access, at_scan, progress, next_access as lock_access, IsAllowed as IsLockAllowed};
 ghost use Rattle.rmeworld.specs.ProcessState.{mended_entered};

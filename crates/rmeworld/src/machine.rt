@@ -30,7 +30,7 @@ pub trait Machine {
         ensures refused { IfErr result (λ e. (e ≡ OutOfMemory) ⊎ (behaviour.advance_refusal self.old p ≡ Some e)) }
         ensures memory { IsErrOf result OutOfMemory → (behaviour.advance_refusal self.old p ≡ None)
             × (is_some (behaviour.stepped self.old p).deed ≡ true) }
-        ensures told { IfOk result (λ s. s ≡ behaviour.stepped self.old p) }
+        ensures reports { IfOk result (λ s. s ≡ behaviour.stepped self.old p) }
         ensures ok { OnOk result (self.new ≡ behaviour.advanced self.old p) }
         ensures err { OnErr result (self.new ≡ self.old) };
 
@@ -53,7 +53,7 @@ pub trait Machine {
         ensures accepted { OnOk result (behaviour.crash_refusal self.old p ≡ None) }
         ensures refused { IfErr result (λ e. (e ≡ OutOfMemory) ⊎ (behaviour.crash_refusal self.old p ≡ Some e)) }
         ensures memory { IsErrOf result OutOfMemory → behaviour.crash_refusal self.old p ≡ None }
-        ensures told { IfOk result (λ d. d ≡ behaviour.crash_deed self.old p) }
+        ensures reports { IfOk result (λ d. d ≡ behaviour.crash_deed self.old p) }
         ensures ok { OnOk result (self.new ≡ behaviour.crashed self.old p) }
         ensures err { OnErr result (self.new ≡ self.old) };
 

@@ -1,8 +1,8 @@
 //! The effects of a process's step, with its call's answer.
 
 ghost use Rattle.std.specs.Prelude.{◌≡◌, Some, None};
-ghost use Rattle.rmecore.specs.Machine.{silent};
-ghost use Rattle.redomail.specs.Left.{left};
+ghost use Rattle.rmecore.specs.Machine.{no_progress};
+ghost use Rattle.redomail.specs.Left.{script_left};
 ghost use Rattle.rmeworld.specs.Answered.{by_lock, by_reply, by_script};
 
 use crate::answer::Answer;
@@ -28,7 +28,7 @@ impl Outcome {
 
 /// The effects of a job's step, from the answer of its call.
 pub(crate) fn job_step(answer: Option<Answer>) -> Outcome
-    ensures { result ≡ record { progress = silent; answer = answer } }
+    ensures { result ≡ record { progress = no_progress; answer = answer } }
 {
     Outcome {
         progress: SILENT,
@@ -64,7 +64,7 @@ pub fn core_answer(barred: bool, done: Option<CoreDone>) -> Option<Answer>
 
 /// The effects of a step of a script, after which this job is left.
 pub(crate) fn job_outcome(purpose: Purpose, mended: bool, job: &Job) -> Outcome
-    ensures { result ≡ record { progress = silent; answer = by_script purpose mended (left job.now) } }
+    ensures { result ≡ record { progress = no_progress; answer = by_script purpose mended (script_left job.now) } }
 {
     job_step(match job.next() {
         Next::Done(reply) => reply_answer(purpose, mended, reply),

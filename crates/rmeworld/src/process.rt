@@ -5,9 +5,9 @@
 ghost use Rattle.std.specs.Prelude.{◌≡◌, ◌==◌, true, false, not, if◌then◌else◌, [], ◌∷◌, Some, None, IfSome, OnOk, OnErr, IfErr, IsErrOf, IsTrue, ◌↔◌, is_none};
 ghost use Rattle.rmecore.specs.Place.{Inside};
 ghost use Rattle.rmecore.specs.Machine.{at_scan, progress, next_access as lock_access};
-ghost use Rattle.redomail.specs.Refusals.{refused};
+ghost use Rattle.redomail.specs.Refusals.{task_refusal};
 ghost use Rattle.rmeworld.specs.Purposes.{task_of};
-ghost use Rattle.rmeworld.specs.ScriptStates.{Held};
+ghost use Rattle.rmeworld.specs.ScriptStates.{HoldsJob};
 ghost use Rattle.rmeworld.specs.Refused.{is_inside, is_waiting};
 
 mod in_place;
@@ -45,13 +45,20 @@ impl fmt::Debug for Process {
 impl Model for Process {
     ghost use Rattle.std.specs.Prelude.{◌≡◌, ◌<◌};
     ghost use Rattle.rmeworld.specs.MachineState.{MachineState, IsSize};
-    ghost use Rattle.rmeworld.specs.ScriptStates.{Held};
+    ghost use Rattle.rmeworld.specs.ScriptStates.{HoldsJob};
 
     ghost Value = { MachineState };
 
     ghost view = { λ s. record { layout = s.layout; limit = s.lock.limit; index = s.index; lock = s.lock.place; mended = s.mended; barred = s.barred; script_state = s.script_state } };
 
-    ghost invariant = { λ s. record { size : IsSize s.layout; procs : s.lock.procs ≡ s.layout.procs; index : s.lock.index ≡ s.index; below : s.index < s.layout.procs; held : Held s.script_state s.lock.place } };
+    ghost invariant = { λ s. record {
+      size : IsSize s.layout;
+      procs : s.lock.procs ≡ s.layout.procs;
+      index : s.lock.index
+          ≡ s.index;
+      below : s.index < s.layout.procs;
+      held : HoldsJob s.script_state s.lock.place;
+    } };
 }
 
 impl Process {
@@ -61,7 +68,7 @@ impl Process {
     ghost use Rattle.rmeworld.specs.ProcessState.{next_process_state, Begins};
     ghost use Rattle.rmeworld.specs.Refused.{start_refusal, is_idle};
     ghost use Rattle.rmeworld.specs.Seams.{with_memory};
-    ghost use Rattle.rmeworld.specs.MachineState.{IsSize, MachineState, standing, process_state_of, resting, crashed, stepped, started, works, ended_by, next_access, process_state_after, outcome, IsAllowed, IsLeast, InWords, StoresOwn};
+    ghost use Rattle.rmeworld.specs.MachineState.{IsSize, MachineState, standing, process_state_of, resting, machine_after_crash, machine_after_step, machine_after_start, works, ended_by, next_access, process_state_after, outcome, IsAllowed, IsLeast, InWords, StoresOwn};
 
     /// A process at rest, of a world of these sizes. `limit` is the greatest number that it may take.
     pub fn new(layout: Layout, limit: u64, index: u64) -> Process
@@ -81,7 +88,7 @@ impl Process {
 
     /// Crashes: the private memory is lost, and with it the call under way.
     pub fn crash(&mut self)
-        ensures { self.new ≡ crashed self.old }
+        ensures { self.new ≡ machine_after_crash self.old }
     {
         self.lock.crash();
         self.mended = true;
@@ -132,7 +139,7 @@ impl Process {
     // Apart: keeps its callers small.
     #[inline(never)]
     pub fn feed(&mut self, value: u64) -> Outcome
-        ensures exact { self.new ≡ stepped self.old value }
+        ensures exact { self.new ≡ machine_after_step self.old value }
         ensures process_state { process_state_of self.new ≡ process_state_after self.old (next_access self.old) value }
         ensures allowed { IfSome (next_access self.old) (IsAllowed self.old) }
         ensures outcome { result ≡ outcome self.old (next_access self.old) value }
@@ -151,7 +158,7 @@ impl Process {
     #[inline(always)]
     fn move_on(&mut self, value: u64) -> Progress
         requires { self.old.script_state ≡ ScriptState.Free }
-        ensures exact { self.new ≡ stepped self.old value }
+        ensures exact { self.new ≡ machine_after_step self.old value }
         ensures process_state { process_state_of self.new ≡ process_state_after self.old (next_access self.old) value }
         ensures allowed { IfSome (next_access self.old) (IsAllowed self.old) }
         ensures progress { result ≡ progress (standing self.old) (lock_access (standing self.old)) value }
@@ -187,7 +194,7 @@ impl Process {
     pub fn scan_on(&mut self, scan: Scan, value: u64) -> Outcome
         requires free { self.old.script_state ≡ ScriptState.Free }
         requires at { at_scan (standing self.old) scan ≡ standing self.old }
-        ensures exact { self.new ≡ stepped self.old value }
+        ensures exact { self.new ≡ machine_after_step self.old value }
         ensures process_state { process_state_of self.new ≡ process_state_after self.old (next_access self.old) value }
         ensures allowed { IfSome (next_access self.old) (IsAllowed self.old) }
         ensures outcome { result ≡ outcome self.old (next_access self.old) value }
@@ -202,7 +209,7 @@ impl Process {
     fn move_by(&mut self, scan: Scan, value: u64) -> Progress
         requires free { self.old.script_state ≡ ScriptState.Free }
         requires at { at_scan (standing self.old) scan ≡ standing self.old }
-        ensures exact { self.new ≡ stepped self.old value }
+        ensures exact { self.new ≡ machine_after_step self.old value }
         ensures process_state { process_state_of self.new ≡ process_state_after self.old (next_access self.old) value }
         ensures allowed { IfSome (next_access self.old) (IsAllowed self.old) }
         ensures progress { result ≡ progress (standing self.old) (lock_access (standing self.old)) value }
@@ -264,7 +271,7 @@ impl Process {
     pub fn seam_set(&mut self, memory: &PrivateMemory) -> bool
         ensures set { IsTrue result → self.new ≡ with_memory self.old memory.now }
         ensures same { result ≡ false → self.new ≡ self.old }
-        ensures held { IsTrue result ↔ Held memory.now.script_state (place_of self.old.layout.procs self.old.index memory.now.stage) }
+        ensures held { IsTrue result ↔ HoldsJob memory.now.script_state (place_of self.old.layout.procs self.old.index memory.now.stage) }
     {
         if !memory.is_held() {
             return false;
@@ -280,7 +287,7 @@ impl Process {
     /// refusal then.
     pub fn start_lock(&mut self) -> bool
         ensures accepted { result ≡ true → start_refusal self.old.layout (process_state_of self.old) Call.Lock ≡ None }
-        ensures exact { result ≡ true → self.new ≡ started self.old Call.Lock }
+        ensures exact { result ≡ true → self.new ≡ machine_after_start self.old Call.Lock }
         ensures process_state { result ≡ true → next_process_state self.old.layout self.old.limit (process_state_of self.old)
             (Begins self.old.index Call.Lock) ≡ Some (process_state_of self.new) }
         ensures refused { result ≡ false → start_refusal self.old.layout (process_state_of self.old) Call.Lock ≡ None → ⊥ }
@@ -368,7 +375,7 @@ impl Process {
         ensures accepted { OnOk result (start_refusal self.old.layout (process_state_of self.old) call ≡ None) }
         ensures refused { IfErr result (λ e. start_refusal self.old.layout (process_state_of self.old) call ≡ Some e) }
         ensures memory { IsErrOf result Refusal.OutOfMemory → ⊥ }
-        ensures exact { OnOk result (self.new ≡ started self.old call) }
+        ensures exact { OnOk result (self.new ≡ machine_after_start self.old call) }
         ensures process_state { OnOk result (next_process_state self.old.layout self.old.limit (process_state_of self.old)
             (Begins self.old.index call) ≡ Some (process_state_of self.new)) }
         ensures not_allowed { OnErr result (next_process_state self.old.layout self.old.limit (process_state_of self.old)
@@ -415,7 +422,7 @@ impl Process {
     /// Begins a call that is not refused.
     fn begin(&mut self, call: Call)
         requires { start_refusal self.old.layout (process_state_of self.old) call ≡ None }
-        ensures { self.new ≡ started self.old call }
+        ensures { self.new ≡ machine_after_start self.old call }
     {
         self.barred = false;
         match call {
@@ -441,7 +448,7 @@ impl Process {
     /// Begins the script of a purpose.
     fn take_up(&mut self, purpose: Purpose)
         requires inside { self.old.lock ≡ Inside }
-        requires fits { refused self.old.layout self.old.index (task_of purpose) ≡ None }
+        requires fits { task_refusal self.old.layout self.old.index (task_of purpose) ≡ None }
         ensures { self.new ≡ works self.old purpose }
     {
         let task = purpose.task();

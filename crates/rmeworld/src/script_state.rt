@@ -1,8 +1,8 @@
 //! The script state of a process: its job on the data words, if it has one.
 
 ghost use Rattle.std.specs.Prelude.{◌≡◌, None, IsTrue, if◌then◌else◌};
-ghost use Rattle.redomail.specs.Left.{begun, fed, left};
-ghost use Rattle.redomail.specs.Refusals.{refused};
+ghost use Rattle.redomail.specs.Left.{pending_task, job_after_word, script_left};
+ghost use Rattle.redomail.specs.Refusals.{task_refusal};
 ghost use Rattle.rmeworld.specs.ScriptStates.{HasStep};
 
 use crate::purpose::Purpose;
@@ -18,8 +18,8 @@ pub enum ScriptState {
 
 /// The job of a task that is not refused for this process.
 pub(crate) fn job(layout: Layout, sender: u64, task: Task) -> Job
-    requires { refused layout sender task ≡ None }
-    ensures { result ≡ begun layout sender task }
+    requires { task_refusal layout sender task ≡ None }
+    ensures { result ≡ pending_task layout sender task }
 {
     match Job::new(layout, sender, task) {
         Ok(job) => job,
@@ -30,8 +30,9 @@ pub(crate) fn job(layout: Layout, sender: u64, task: Task) -> Job
 /// Begins the ruin check after an entry by a lock.
 pub(crate) fn check_next(script_state: &mut ScriptState, layout: Layout, index: u64, checks: bool)
     requires free { script_state.old ≡ ScriptState.Free }
-    requires fits { refused layout index Task.Check ≡ None }
-    ensures { script_state.new ≡ if checks then ScriptState.Doing Purpose.Checking (begun layout index Task.Check) else ScriptState.Free }
+    requires fits { task_refusal layout index Task.Check ≡ None }
+    ensures { script_state.new
+        ≡ if checks then ScriptState.Doing Purpose.Checking (pending_task layout index Task.Check) else ScriptState.Free }
 {
     if checks {
         *script_state = ScriptState::Doing(Purpose::Checking, job(layout, index, Task::Check));
@@ -58,7 +59,7 @@ pub(crate) fn may_go_on(job: &Job) -> bool {
 // Inline: one call a silent step.
 #[inline(always)]
 pub(crate) fn goes_on(job: &Job, word: u64) -> bool
-    ensures { IsTrue result → HasStep (left (fed job.now word)) }
+    ensures { IsTrue result → HasStep (script_left (job_after_word job.now word)) }
 {
     match job.seam_stage() {
         JobStage::AskClosed(..) | JobStage::AskCount(..) => true,

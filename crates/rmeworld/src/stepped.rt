@@ -24,15 +24,15 @@ pub(crate) struct Prospect {
 }
 
 impl Prospect {
-    ghost use Rattle.rmecore.specs.Machine.{kind_of, word_of, carried};
+    ghost use Rattle.rmecore.specs.Machine.{kind_of, word_of, carried_value};
 
     /// The report of the step after it is taken.
-    pub(crate) fn told(&self, outcome: Outcome, deed: Option<Deed>) -> Stepped
+    pub(crate) fn step_report(&self, outcome: Outcome, deed: Option<Deed>) -> Stepped
         ensures { result ≡ record {
           happened = record {
             kind = kind_of self.now.access;
             word = word_of self.now.access;
-            value = carried self.now.access self.now.found;
+            value = carried_value self.now.access self.now.found;
             outer = outcome.progress.outer;
             done = outcome.progress.done;
           };
@@ -55,7 +55,7 @@ impl Prospect {
 
     /// The value that is read or written.
     fn value(&self) -> u64
-        ensures { result ≡ carried self.now.access self.now.found }
+        ensures { result ≡ carried_value self.now.access self.now.found }
     {
         match self.access {
             Access::Load(..) => self.found,

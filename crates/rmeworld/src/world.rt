@@ -2,12 +2,12 @@
 
 ghost use Rattle.std.specs.Prelude.{◌≡◌, ◌<◌, ◌≤◌, ◌⊎◌, ◌++◌, ℕ, map, is_some, true, IfOk, IfErr, OnOk, OnErr, IsErrOf, Some, None, vec_len, slice_index_or, slice_get};
 ghost use Rattle.rmecore.specs.Machine.{word_of};
-ghost use Rattle.rmecore.specs.Simulated.{cause, fresh};
+ghost use Rattle.rmecore.specs.Simulated.{cause, new_tally};
 ghost use Rattle.redomail.specs.Layout.{words_of};
 ghost use Rattle.rmeworld.specs.ProcessState.{Begins, Falls};
-ghost use Rattle.rmeworld.specs.MachineState.{IsSize, IsLeast, InWords, next_access, outcome, resting, crashed};
+ghost use Rattle.rmeworld.specs.MachineState.{IsSize, IsLeast, InWords, next_access, outcome, resting, machine_after_crash};
 ghost use Rattle.rmeworld.specs.World.{reading};
-ghost use Rattle.rmeworld.specs.WorldState.{absent, machine_state_at, process_state_at, global_state_of, Takes, world_event_of, ChoosesLeast, new_world, new_refusal, image_world};
+ghost use Rattle.rmeworld.specs.WorldState.{absent_machine, machine_state_at, process_state_at, global_state_of, Takes, world_event_of, ChoosesLeast, new_world, new_refusal, image_world};
 
 mod silent;
 
@@ -61,7 +61,7 @@ impl Model for World {
 fn all_at_rest(alloc: Global, layout: Layout, limit: u64) -> Result<Vec<Process>, Refusal>
     requires { IsSize layout }
     ensures each { IfOk result (λ processes. (p : ℕ) → p < layout.procs
-        → slice_index_or processes.items p absent ≡ resting layout limit p) }
+        → slice_index_or processes.items p absent_machine ≡ resting layout limit p) }
     ensures length { IfOk result (λ processes. vec_len processes ≡ layout.procs) }
     ensures memory { IfErr result (λ e. e ≡ Refusal.OutOfMemory) }
 {
@@ -76,7 +76,7 @@ fn all_at_rest(alloc: Global, layout: Layout, limit: u64) -> Result<Vec<Process>
 fn all_crashed(alloc: Global, layout: Layout, limit: u64) -> Result<Vec<Process>, Refusal>
     requires { IsSize layout }
     ensures each { IfOk result (λ processes. (p : ℕ) → p < layout.procs
-        → slice_index_or processes.items p absent ≡ crashed (resting layout limit p)) }
+        → slice_index_or processes.items p absent_machine ≡ machine_after_crash (resting layout limit p)) }
     ensures length { IfOk result (λ processes. vec_len processes ≡ layout.procs) }
     ensures memory { IfErr result (λ e. e ≡ Refusal.OutOfMemory) }
 {
@@ -91,7 +91,7 @@ fn all_crashed(alloc: Global, layout: Layout, limit: u64) -> Result<Vec<Process>
 
 /// The counts of each process before its first call.
 fn all_unstarted(alloc: Global, words: &[Own]) -> Result<Vec<Tally>, Refusal>
-    ensures ok { IfOk result (λ tallies. tallies.items ≡ map fresh words.now) }
+    ensures ok { IfOk result (λ tallies. tallies.items ≡ map new_tally words.now) }
     ensures memory { IfErr result (λ e. e ≡ Refusal.OutOfMemory) }
 {
     let mut tallies = Vec::with_capacity(alloc, words.len())?;
@@ -116,8 +116,8 @@ impl World {
     ghost use Rattle.rmeworld.specs.Reached.{IsReached, IsLegalHistory};
     ghost use Rattle.rmeworld.specs.ImageRules.{IsLawfulImage};
     ghost use Rattle.rmeworld.specs.ImageStart.{IsUnstarted};
-    ghost use Rattle.rmeworld.specs.Replayed.{start_refusal, started, advance_refusal, stepped, silent_step, advanced, crash_refusal, crash_deed, crashed as world_crashed, image_of};
-    ghost use Rattle.rmeworld.specs.Advancing.{Advances, GoesOn};
+    ghost use Rattle.rmeworld.specs.Replayed.{start_refusal, world_after_start, advance_refusal, world_step_report, silent_step, world_after_step, crash_refusal, crash_deed, world_after_crash as world_crashed, image_of};
+    ghost use Rattle.rmeworld.specs.WorldSteps.{Advances, ScanGoesOn};
 
     /// A new world: all words 0, all processes at rest. `limit` is the greatest number that a process may take, `cap` the
     /// mailbox's capacity in messages, `width` the number of words in a message's value.
@@ -220,12 +220,12 @@ impl World {
         ensures accepted { OnOk result (advance_refusal self.old p ≡ None) }
         ensures refused { IfErr result (λ e. (e ≡ Refusal.OutOfMemory) ⊎ (advance_refusal self.old p ≡ Some e)) }
         ensures memory { IsErrOf result Refusal.OutOfMemory → (advance_refusal self.old p ≡ None)
-            × (is_some (stepped self.old p).deed ≡ true) }
+            × (is_some (world_step_report self.old p).deed ≡ true) }
         ensures step { IfOk result (λ s. Takes self.old (world_event_of p s.happened) self.new) }
         ensures kind { IfOk result (λ s. is_glance s.happened.kind ≡ false) }
         ensures least { IfOk result (λ s. ChoosesLeast self.old p s.happened) }
-        ensures told { IfOk result (λ s. s ≡ stepped self.old p) }
-        ensures ok { OnOk result (self.new ≡ advanced self.old p) }
+        ensures reports { IfOk result (λ s. s ≡ world_step_report self.old p) }
+        ensures ok { OnOk result (self.new ≡ world_after_step self.old p) }
         ensures taken { IfOk result (λ s. IfSome s.answer (λ a. IsExact (tally_at self.new.tallies p)
             → HasTaken self.old.layout (process_state_at self.old.processes p) (tally_at self.new.tallies p) a)) }
         ensures err { OnErr result (self.new ≡ self.old) }
@@ -246,7 +246,7 @@ impl World {
         store(&mut self.words, &mut self.cells, step.access);
         note(&mut self.history, &deed);
         self.tallies[p as usize].count(outcome.progress.blocked);
-        Ok(step.told(outcome, deed))
+        Ok(step.step_report(outcome, deed))
     }
 
     /// Takes the next step of process `p` if it is silent and cheap to see as such: each step of a scan, the other silent
@@ -256,8 +256,9 @@ impl World {
     #[inline(always)]
     pub fn step_silently(&mut self, p: u64) -> bool
         ensures accepted { IsTrue result → advance_refusal self.old p ≡ None }
-        ensures silent { IsTrue result → ((stepped self.old p).deed ≡ None) × ((stepped self.old p).answer ≡ None) }
-        ensures ok { IsTrue result → self.new ≡ advanced self.old p }
+        ensures silent { IsTrue result
+            → ((world_step_report self.old p).deed ≡ None) × ((world_step_report self.old p).answer ≡ None) }
+        ensures ok { IsTrue result → self.new ≡ world_after_step self.old p }
         ensures same { result ≡ false → self.new ≡ self.old }
     {
         match self.scan(p) {
@@ -272,7 +273,7 @@ impl World {
     /// The scan in progress of process `p`, if it has one, and its next load.
     fn scan(&self, p: u64) -> Option<(Scan, Access)>
         ensures below { IfSome result (λ r. p < self.now.layout.procs) }
-        ensures goes_on { IfSome result (λ r. GoesOn (machine_state_at self.now.processes p) r.0 r.1) }
+        ensures goes_on { IfSome result (λ r. ScanGoesOn (machine_state_at self.now.processes p) r.0 r.1) }
     {
         if p >= self.layout.procs {
             return None;
@@ -289,9 +290,9 @@ impl World {
     #[inline(always)]
     fn scan_on(&mut self, p: u64, scan: Scan, access: Access) -> u64
         requires below { p < self.old.layout.procs }
-        requires goes_on { GoesOn (machine_state_at self.old.processes p) scan access }
-        ensures advances { Advances self.old p (stepped self.old p) self.new }
-        ensures silent { stepped self.old p ≡ silent_step access result }
+        requires goes_on { ScanGoesOn (machine_state_at self.old.processes p) scan access }
+        ensures advances { Advances self.old p (world_step_report self.old p) self.new }
+        ensures silent { world_step_report self.old p ≡ silent_step access result }
     {
         let found = load(&self.words, &self.cells, access.word());
         let scanned = self.processes[p as usize].scan_on(scan, found);
@@ -306,7 +307,7 @@ impl World {
         ensures refused { IfErr result (λ e. (e ≡ Refusal.OutOfMemory) ⊎ (crash_refusal self.old p ≡ Some e)) }
         ensures memory { IsErrOf result Refusal.OutOfMemory → crash_refusal self.old p ≡ None }
         ensures crash { OnOk result (Takes self.old (Falls p) self.new) }
-        ensures told { IfOk result (λ d. d ≡ crash_deed p) }
+        ensures reports { IfOk result (λ d. d ≡ crash_deed p) }
         ensures ok { OnOk result (self.new ≡ world_crashed self.old p) }
         ensures err { OnErr result (self.new ≡ self.old) }
     {
@@ -324,7 +325,7 @@ impl World {
         ensures refused { IfErr result (λ e. start_refusal self.old p call ≡ Some e) }
         ensures memory { IsErrOf result Refusal.OutOfMemory → ⊥ }
         ensures start { OnOk result (Takes self.old (Begins p call) self.new) }
-        ensures ok { OnOk result (self.new ≡ started self.old p call) }
+        ensures ok { OnOk result (self.new ≡ world_after_start self.old p call) }
         ensures err { OnErr result (self.new ≡ self.old) }
     {
         if p >= self.layout.procs {

@@ -20,7 +20,7 @@ fn done_of(name: &str) -> Option<CoreDone> {
 }
 
 /// Whether the deed, if there is one, is the next of these deeds. Where they are `any`, it is.
-fn is_told(deeds: &mut &str, outer: Option<Outer>) -> bool {
+fn is_reported(deeds: &mut &str, outer: Option<Outer>) -> bool {
     match outer {
         Some(outer) => { *deeds == "any" || Phrase::read(cut(deeds, "; ")).outer() == Some(outer) }
         None => true,
@@ -39,7 +39,9 @@ fn step(
             return false;
         };
         let is_last = k.saturating_add(1) == count;
-        if happened.done != if is_last { wanted } else { None } || !is_told(deeds, happened.outer) {
+        if happened.done != if is_last { wanted } else { None }
+            || !is_reported(deeds, happened.outer)
+        {
             return false;
         }
     }
@@ -104,7 +106,7 @@ fn line(core: &mut Core, text: &str, deeds: &mut &str) -> bool {
             wanted.is_some() != phrase.rest.is_empty()
                 && step(core, deeds, (p, phrase.number(1)), wanted)
         }
-        Some(1) => is_told(deeds, core.crash(p).ok()),
+        Some(1) => is_reported(deeds, core.crash(p).ok()),
         Some(_) => is_refused(core, text.strip_prefix("refused ").unwrap_or("")),
         None => is_so(core, &phrase),
     }

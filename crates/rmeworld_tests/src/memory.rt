@@ -1,7 +1,7 @@
 //! Cells over words in plain memory. They count their calls, and stop at a given one.
 
 ghost use Rattle.std.specs.Prelude.{◌≡◌, ◌+◌, true, false, if◌then◌else◌};
-ghost use Rattle.redomail.specs.Layout.{held};
+ghost use Rattle.redomail.specs.Layout.{saturate};
 
 use super::phrase::{Phrase, reply_of};
 use redomail::{Cells, Job, Layout, Message, Reply, Stop, Task, content, run_task};
@@ -33,8 +33,8 @@ impl Memory {
     // Counts a call. True: it stops here.
     fn stops_now(&mut self) -> bool
         ensures words { self.new.words ≡ self.old.words }
-        ensures stops { self.new.stops ≡ (if result then held (self.old.stops + 1) else self.old.stops) }
-        ensures calls { self.new.calls ≡ held (self.old.calls + 1) }
+        ensures stops { self.new.stops ≡ (if result then saturate (self.old.stops + 1) else self.old.stops) }
+        ensures calls { self.new.calls ≡ saturate (self.old.calls + 1) }
     {
         self.calls = self.calls.saturating_add(1);
         if self.calls != self.stop_at {

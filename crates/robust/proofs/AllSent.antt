@@ -1,13 +1,13 @@
 -- The messages of the mailbox list at the end of a lab: exactly what its workers sent.
 use Rattle.std.proofs.Common.{◌≡◌, ℕ, ◌<◌, ◌≤◌, ◌==◌, Bool, true, false, List, [], ◌∷◌, ◌++◌, length, slice_index, Option, Some, None, All, refl, sym, ap, ◌∙◌, subst, inl, inr, arith, eq-eqb}
 use Rattle.robust.proofs.Common.{cases_eq, All-nil, All-cons, All-head, All-tail, All-append, All-weaker, All-contains, Layout, Message, IsContent, Words, IsLayout, words_of, IsAmong, entries}
-use Rattle.robust.proofs.Common.{count_of, IsNumbered, RecordRule, Call, Append, Image, layout_of, EveryMessageWasSent, IsSent, WorldEvent, Begins, Falls, TakenStep, Setup, Gathers, IsGlance, IsTold}
-use Rattle.robust.proofs.Common.{has_member, image_at, deeds_of, shown_by, cells_of, RunsShow, Seated, before, taken, world_events, spelled, own, IsRun, end_of, length-counted, cells_counted, by_kind}
+use Rattle.robust.proofs.Common.{count_of, IsNumbered, RecordRule, Call, Append, Image, layout_of, EveryMessageWasSent, IsSent, WorldEvent, Begins, Falls, TakenStep, Setup, Gathers, IsGlance, IsGatheredRun}
+use Rattle.robust.proofs.Common.{has_member, image_at, deeds_of, shown_by, cells_of, RunsShow, Seated, before, access_event, world_events, events_of_run, entries_of, IsRun, end_of, length-counted, cells_counted, by_kind}
 use Rattle.robust.proofs.Common.{shown_on, all_both, member_at, Keeps, Holds, all_hold, Spec, AreAllSent, words_sent, messages_sent, messages_by, AreShownByRun, OfStart, IsSending, AreSending}
 use Rattle.robust.proofs.Common.{HasSent, sizes_of}
-use Rattle.judge.specs.Table.{State, empty}
+use Rattle.judge.specs.Table.{State, empty_state}
 use Rattle.judge.proofs.Halves.{state_led}
-use Rattle.execution.specs.Rule.{Begins as Starts}
+use Rattle.table_runs.specs.Rule.{IsPrefixOf as Starts}
 use Rattle.robust.proofs.Appended.{own_taken, own_passed, among_more}
 use Rattle.robust.proofs.Numbered.{many, few, sent_by, senders, counted_all}
 
@@ -27,29 +27,29 @@ module _ (P : Call → Type 0) (p : ℕ) where
   begins_before false None q h = All-nil Q
   begins_before false (Some call) q h = All-cons Q (Begins q call) [] h (All-nil Q)
 
-  begins_taken : (e : TakenStep) → Q (taken e.by e.step.kind e.step.word e.value)
+  begins_taken : (e : TakenStep) → Q (access_event e.by e.step.kind e.step.word e.value)
   unfolding OfBegins
   begins_taken e = by_kind (λ k h. OfBegins P p h) e.by e.step.word e.value tt (λ k. tt) e.step.kind
 
   begins_entry : (e : TakenStep) → (e.by ≡ p → OfStart P e.step.start) → All Q (world_events e)
-  begins_entry e h = All-append Q (before e.step.crashed e.step.start e.by) (taken e.by e.step.kind e.step.word e.value ∷ []) (begins_before e.step.crashed e.step.start e.by h) (All-cons Q (taken e.by e.step.kind e.step.word e.value) [] (begins_taken e) (All-nil Q))
+  begins_entry e h = All-append Q (before e.step.crashed e.step.start e.by) (access_event e.by e.step.kind e.step.word e.value ∷ []) (begins_before e.step.crashed e.step.start e.by h) (All-cons Q (access_event e.by e.step.kind e.step.word e.value) [] (begins_taken e) (All-nil Q))
 
   abbrev F : TakenStep → Type 0
   F e = OfStart P e.step.start
 
-  own_first : (e : TakenStep) (es : List TakenStep) → All F (own p (e ∷ es)) → e.by ≡ p → F e
-  own_first e es h same = All-head F e (own p es) (subst (All F) (own_taken p e es (eq-eqb e.by p same)) h)
+  own_first : (e : TakenStep) (es : List TakenStep) → All F (entries_of p (e ∷ es)) → e.by ≡ p → F e
+  own_first e es h same = All-head F e (entries_of p es) (subst (All F) (own_taken p e es (eq-eqb e.by p same)) h)
 
-  own_rest : (e : TakenStep) (es : List TakenStep) → All F (own p (e ∷ es)) → All F (own p es)
+  own_rest : (e : TakenStep) (es : List TakenStep) → All F (entries_of p (e ∷ es)) → All F (entries_of p es)
   own_rest e es h = go (e.by == p) refl
     where
-      go : (b : Bool) → (e.by == p) ≡ b → All F (own p es)
-      go true is = All-tail F e (own p es) (subst (All F) (own_taken p e es is) h)
+      go : (b : Bool) → (e.by == p) ≡ b → All F (entries_of p es)
+      go true is = All-tail F e (entries_of p es) (subst (All F) (own_taken p e es is) h)
       go false is = subst (All F) (own_passed p e es is) h
 
-  pub begins_all : (es : List TakenStep) → All F (own p es) → All Q (spelled es)
+  pub begins_all : (es : List TakenStep) → All F (entries_of p es) → All Q (events_of_run es)
   begins_all [] h = All-nil Q
-  begins_all (e ∷ es) h = All-append Q (world_events e) (spelled es) (begins_entry e (own_first e es h)) (begins_all es (own_rest e es h))
+  begins_all (e ∷ es) h = All-append Q (world_events e) (events_of_run es) (begins_entry e (own_first e es h)) (begins_all es (own_rest e es h))
 
 pub begins_it : (P : Call → Type 0) (p : ℕ) (call : Call) → OfBegins P p (Begins p call) → P call
 unfolding OfBegins
@@ -69,11 +69,11 @@ content_numbered l xs c =
 pub shown_entries : (s : Setup) (run : List TakenStep) → IsLayout s.layout → IsRun s run → RunsShow → shown_by s run ≡ entries s.layout (cells_of s run) (cells_of s run 2)
 shown_entries s run layout legal shows =
     let h = (shows s run layout legal).0 in
-    ap (λ (t : State). t.mail.shown) (sym (state_led (empty s.layout.procs s.layout.cap) h.0 (deeds_of s run) h.1)) ∙ h.2
+    ap (λ (t : State). t.mail.shown) (sym (state_led (empty_state s.layout.procs s.layout.cap) h.0 (deeds_of s run) h.1)) ∙ h.2
 
 -- the messages shown are messages that were sent, if each process of the run has started only its own appends
 module _ (s : Spec) (run : List TakenStep) (w : Words) (n : ℕ) (layout : IsLayout (sizes_of s).layout) (legal : IsRun (sizes_of s) run) (numbered : IsNumbered (sizes_of s).layout w n) (sent : EveryMessageWasSent)
-    (shown : shown_by (sizes_of s) run ≡ entries (sizes_of s).layout w n) (sending : (p : ℕ) → p < s.procs → AreSending s.width s.messages p (own p run)) where
+    (shown : shown_by (sizes_of s) run ≡ entries (sizes_of s).layout w n) (sending : (p : ℕ) → p < s.procs → AreSending s.width s.messages p (entries_of p run)) where
   abbrev z : Setup
   z = sizes_of s
 
@@ -83,15 +83,15 @@ module _ (s : Spec) (run : List TakenStep) (w : Words) (n : ℕ) (layout : IsLay
   abbrev Fits : Message → Type 0
   Fits m = (m.seq ≤ s.messages) × (m.value ≡ words_sent m.sender m.seq s.width)
 
-  was_sent : (m : Message) → (m.sender < s.procs) × IsSent (spelled run) m → Fits m
+  was_sent : (m : Message) → (m.sender < s.procs) × IsSent (events_of_run run) m → Fits m
   was_sent m h =
       let P = IsSending s.width s.messages m.sender in
-      begins_it P m.sender (Append m.seq m.value) (All-contains (OfBegins P m.sender) (spelled run) (Begins m.sender (Append m.seq m.value)) (begins_all P m.sender run (sending m.sender h.0)) h.1)
+      begins_it P m.sender (Append m.seq m.value) (All-contains (OfBegins P m.sender) (events_of_run run) (Begins m.sender (Append m.seq m.value)) (begins_all P m.sender run (sending m.sender h.0)) h.1)
 
   all_fit : All Fits ms
   all_fit =
-      let were : All (IsSent (spelled run)) ms = subst (All (IsSent (spelled run))) shown (sent z.layout z.limit (spelled run) layout legal) in
-      All-weaker (λ (m : Message). (m.sender < s.procs) × IsSent (spelled run) m) Fits was_sent ms (all_both (λ (m : Message). m.sender < s.procs) (IsSent (spelled run)) ms (senders z.layout w n numbered) were)
+      let were : All (IsSent (events_of_run run)) ms = subst (All (IsSent (events_of_run run))) shown (sent z.layout z.limit (events_of_run run) layout legal) in
+      All-weaker (λ (m : Message). (m.sender < s.procs) × IsSent (events_of_run run) m) Fits was_sent ms (all_both (λ (m : Message). m.sender < s.procs) (IsSent (events_of_run run)) ms (senders z.layout w n numbered) were)
 
   pub at_most : (p : ℕ) → count_of p ms ≤ s.messages
   at_most p = few z.layout w p s.messages n numbered (All-weaker Fits (λ (m : Message). m.sender ≡ p → m.seq ≤ s.messages) (λ m h e. h.0) ms all_fit)
@@ -122,9 +122,9 @@ sending_more width k p es glances are h =
     All-append F es glances h (All-weaker IsGlance F (glance_starts (IsSending width k p)) glances are)
 
 -- in the one run, if each member has sent its own
-module _ (z : Setup) (width k : ℕ) (first : Seated) (others : List Seated) (run : List TakenStep) (told : IsTold first others (length others) run) where
+module _ (z : Setup) (width k : ℕ) (first : Seated) (others : List Seated) (run : List TakenStep) (reports : IsGatheredRun first others (length others) run) where
   abbrev Has : Seated → Type 0
-  Has x = AreSending width k x.seat_view.by (own x.seat_view.by run) × IsAmong x.seat_view.by k (shown_by z run)
+  Has x = AreSending width k x.seat_view.by (entries_of x.seat_view.by run) × IsAmong x.seat_view.by k (shown_by z run)
 
   abbrev SeatKnowledge : Seated → Type 0
   SeatKnowledge x = (x.seat_view.setup ≡ z) × HasSent width k x
@@ -138,20 +138,20 @@ module _ (z : Setup) (width k : ℕ) (first : Seated) (others : List Seated) (ru
   all_have : All SeatKnowledge (first ∷ others) → All Has (first ∷ others)
   all_have h =
       let Q = AreSending width k in
-      let held = all_hold Q (sending_more width k) first others (length others) run told (All-weaker SeatKnowledge (Keeps Q (sending_more width k) first others (length others) run told) (λ x known. known.1.0) (first ∷ others) h) in
-      let Here = Holds Q (sending_more width k) first others (length others) run told in
+      let held = all_hold Q (sending_more width k) first others (length others) run reports (All-weaker SeatKnowledge (Keeps Q (sending_more width k) first others (length others) run reports) (λ x known. known.1.0) (first ∷ others) h) in
+      let Here = Holds Q (sending_more width k) first others (length others) run reports in
       All-weaker (λ (x : Seated). Here x × SeatKnowledge x) Has (λ x both. (both.0.0, still_shown x both.1 both.0.1)) (first ∷ others) (all_both Here SeatKnowledge (first ∷ others) held h)
 
-  pub each_has : All SeatKnowledge (first ∷ others) → (p : ℕ) → has_member p (first ∷ others) ≡ true → AreSending width k p (own p run) × IsAmong p k (shown_by z run)
+  pub each_has : All SeatKnowledge (first ∷ others) → (p : ℕ) → has_member p (first ∷ others) ≡ true → AreSending width k p (entries_of p run) × IsAmong p k (shown_by z run)
   each_has h p there =
       let m = member_at Has p (first ∷ others) there (all_have h) in
-      subst (λ (q : ℕ). AreSending width k q (own q run) × IsAmong q k (shown_by z run)) m.1 m.2
+      subst (λ (q : ℕ). AreSending width k q (entries_of q run) × IsAmong q k (shown_by z run)) m.1 m.2
 
 -- the run that all members of a lab were gathered into, if each has sent its own
 record HasRun (s : Spec) (image : Image) : Type 0 where
   run : List TakenStep
   legal : IsRun (sizes_of s) run
-  each : (p : ℕ) → p < s.procs → AreSending s.width s.messages p (own p run) × IsAmong p s.messages (shown_by (sizes_of s) run)
+  each : (p : ℕ) → p < s.procs → AreSending s.width s.messages p (entries_of p run) × IsAmong p s.messages (shown_by (sizes_of s) run)
   shown : shown_by (sizes_of s) run ≡ entries (sizes_of s).layout (words_of image.cells) (slice_index image.cells 2)
 
 has_run : (s : Spec) (xs : List Seated) (image : Image) → IsLayout (sizes_of s).layout → All (λ (x : Seated). x.seat_view.setup ≡ sizes_of s) xs → All (HasSent s.width s.messages) xs → Gathers xs image → RunsShow → HasRun s image
@@ -167,7 +167,7 @@ has_run s xs image layout setups sent g shows =
     record {
       run = g.run;
       legal = legal;
-      each = λ (p : ℕ) (below : p < s.procs). each_has z s.width s.messages g.first g.others g.run g.told known p (subst (λ (l : List Seated). has_member p l ≡ true) g.are (g.all p (subst (λ (u : Setup). p < u.layout.procs) (sym same) below)));
+      each = λ (p : ℕ) (below : p < s.procs). each_has z s.width s.messages g.first g.others g.run g.reports known p (subst (λ (l : List Seated). has_member p l ≡ true) g.are (g.all p (subst (λ (u : Setup). p < u.layout.procs) (sym same) below)));
       shown = shown_entries z g.run layout legal shows ∙ (λ i. entries z.layout (sym words i) (sym count i));
     }
 

@@ -3,15 +3,15 @@
 use Rattle.std.proofs.Common.{◌≡◌, ℕ, ◌==◌, Bool, true, false, if◌then◌else◌, List, [], ◌∷◌, ◌++◌, Option, Some, None, Result, Ok, Err, IfOk, OnOk, All, refl, sym, ap, ◌∙◌, subst, inl, inr, append_assoc, eqb-true, ◌⊎◌}
 use Rattle.robust.proofs.Common.{All-nil, All-cons, All-head, All-tail, Place, Message, Reply, Stored, Already, Mended, Task, IsLayout, IsAmong, message, Answer, Mail, Unlocked, Call, Append, Lock}
 use Rattle.robust.proofs.Common.{Unlock, Consistent, answer_at, is_idle_by, mail_after, ReplyTells, RepliesTell, WorldEvent, ScriptState, Free, Doing, ProcessState, Moves, at_rest, GlobalState, at_first, last_global_state}
-use Rattle.robust.proofs.Common.{Execution, TakenStep, Entry as Entering, LockFault, Setup, process_state_before, AreMoves, ServedAll, refusal_now, ready, answer_of, shown_by, judged_by, process_state_at, EndsAppend}
-use Rattle.robust.proofs.Common.{EveryRunIsSound, IsSeatView, process_state_now, Seated, began, before, spelled, own, IsRun, gone, process_state_of, ToldIn, Appends, Askings, WholeEnds, calls_inside, answers_inside, gone-append}
+use Rattle.robust.proofs.Common.{Execution, TakenStep, Entry as Entering, LockFault, Setup, process_state_before, AreMoves, ServedAll, refusal_now, free_to_start, answer_of, shown_by, judged_by, process_state_at, StepEndsAppend}
+use Rattle.robust.proofs.Common.{EveryRunIsSound, IsSeatView, process_state_now, Seated, began, before, events_of_run, entries_of, IsRun, process_state_past, process_state_of, ReportedIn, Appends, Askings, WholeEnds, calls_inside, answers_inside, gone-append}
 use Rattle.robust.proofs.Common.{own-append, spelled-append, global_state-append, shown_on, OfStart}
-use Rattle.execution.proofs.Headline.{global_state_at, process_state_is, spelled_to}
-use Rattle.execution.proofs.Running.{process_state_begun, taken_moves}
+use Rattle.table_runs.proofs.Headline.{global_state_at, process_state_is, spelled_to}
+use Rattle.table_runs.proofs.Running.{process_state_begun, taken_moves}
 use Rattle.rmecore.specs.Paid.{is_glance}
 use Rattle.rmecore.specs.declared.refusal.Refusal.{Refusal}
 use Rattle.redomail.specs.declared.task.Task.TheVariants as task
-use Rattle.execution.specs.declared.entry_kind.Entry.TheVariants as entering
+use Rattle.table_runs.specs.declared.entry_kind.Entry.TheVariants as entering
 use Rattle.robust.proofs.Working.{kept_ready}
 use Rattle.robust.proofs.ScriptStates.{none_in, Only, Brings, each_start, only_begun, Answering, find, IsTasks, task_mails}
 
@@ -20,30 +20,30 @@ pub record Own (p : ℕ) (es front : List TakenStep) (e : TakenStep) : Type 0 wh
   pub earlier : List TakenStep
   pub later : List TakenStep
   pub is : es ≡ earlier ++ e ∷ later
-  pub own_are : own p earlier ≡ front
+  pub own_are : entries_of p earlier ≡ front
   pub by : e.by ≡ p
 
-pub own_taken : (p : ℕ) (x : TakenStep) (xs : List TakenStep) → (x.by == p) ≡ true → own p (x ∷ xs) ≡ x ∷ own p xs
+pub own_taken : (p : ℕ) (x : TakenStep) (xs : List TakenStep) → (x.by == p) ≡ true → entries_of p (x ∷ xs) ≡ x ∷ entries_of p xs
 own_taken p x xs is = rw is refl
 
-pub own_passed : (p : ℕ) (x : TakenStep) (xs : List TakenStep) → (x.by == p) ≡ false → own p (x ∷ xs) ≡ own p xs
+pub own_passed : (p : ℕ) (x : TakenStep) (xs : List TakenStep) → (x.by == p) ≡ false → entries_of p (x ∷ xs) ≡ entries_of p xs
 own_passed p x xs is = rw is refl
 
-pub own_split : (p : ℕ) (es front : List TakenStep) (e : TakenStep) (back : List TakenStep) → own p es ≡ front ++ e ∷ back → Own p es front e
+pub own_split : (p : ℕ) (es front : List TakenStep) (e : TakenStep) (back : List TakenStep) → entries_of p es ≡ front ++ e ∷ back → Own p es front e
 own_split p [] front e back h = absurd (none_in e front back h)
 own_split p (x ∷ xs) front e back h = go (x.by == p) refl front h (λ rest k. own_split p xs rest e back k)
   where
-    go : (b : Bool) → (x.by == p) ≡ b → (fs : List TakenStep) → own p (x ∷ xs) ≡ fs ++ e ∷ back → ((rest : List TakenStep) → own p xs ≡ rest ++ e ∷ back → Own p xs rest e) → Own p (x ∷ xs) fs e
+    go : (b : Bool) → (x.by == p) ≡ b → (fs : List TakenStep) → entries_of p (x ∷ xs) ≡ fs ++ e ∷ back → ((rest : List TakenStep) → entries_of p xs ≡ rest ++ e ∷ back → Own p xs rest e) → Own p (x ∷ xs) fs e
     go true is [] k later =
         let there = own_taken p x xs is in
-        let all : x ∷ own p xs ≡ e ∷ back = sym there ∙ k in
+        let all : x ∷ entries_of p xs ≡ e ∷ back = sym there ∙ k in
         let same : x ≡ e = cc in
         record { earlier = []; later = xs; is = ap (λ (y : TakenStep). y ∷ xs) same; own_are = refl; by = ap (λ (y : TakenStep). y.by) (sym same) ∙ eqb-true x.by p is }
     go true is (g ∷ gs) k later =
         let there = own_taken p x xs is in
-        let all : x ∷ own p xs ≡ g ∷ (gs ++ e ∷ back) = sym there ∙ k in
+        let all : x ∷ entries_of p xs ≡ g ∷ (gs ++ e ∷ back) = sym there ∙ k in
         let same : x ≡ g = cc in
-        let o = later gs (let rest : own p xs ≡ gs ++ e ∷ back = cc in rest) in
+        let o = later gs (let rest : entries_of p xs ≡ gs ++ e ∷ back = cc in rest) in
         let mine = own_taken p x o.earlier is in
         record { earlier = x ∷ o.earlier; later = o.later; is = ap (λ (l : List TakenStep). x ∷ l) o.is; own_are = mine ∙ (λ i. same i ∷ o.own_are i); by = o.by }
     go false is fs k later =
@@ -71,16 +71,16 @@ pub record Ended (z y : Seated) (seq : ℕ) (r : Reply) : Type 0 where
   pub later : List TakenStep
   pub seen : y.seat_view.seen ≡ ((z.seat_view.seen ++ earlier) ++ entry ∷ []) ++ later
   pub by : entry.by ≡ z.seat_view.by
-  pub ends : EndsAppend z.seat_view.setup (z.seat_view.seen ++ earlier) entry seq r
+  pub ends : StepEndsAppend z.seat_view.setup (z.seat_view.seen ++ earlier) entry seq r
   pub setup : y.seat_view.setup ≡ z.seat_view.setup
   pub run : IsRun z.seat_view.setup y.seat_view.seen
 
 -- calls in a row, of which only the append with this number does a task, and one of whose answers is its reply
-module _ (z y : Seated) (c d : Call) (order : List Call) (answers told rest : List Answer) (blocked seq : ℕ) (value : List ℕ) (r : Reply) where
+module _ (z y : Seated) (c d : Call) (order : List Call) (answers reports rest : List Answer) (blocked seq : ℕ) (value : List ℕ) (r : Reply) where
   abbrev t : Task
   t = task.Append seq value
 
-  pub append_ended : (mine : List TakenStep) → ServedAll z (c ∷ d ∷ order) answers blocked y mine → z.seat_view.start ≡ Some c → Only t (process_state_now z.seat_view).script_state → All (Brings t) (c ∷ d ∷ order) → answers ≡ told ++ Mail r ∷ rest → IsTasks r → Ended z y seq r
+  pub append_ended : (mine : List TakenStep) → ServedAll z (c ∷ d ∷ order) answers blocked y mine → z.seat_view.start ≡ Some c → Only t (process_state_now z.seat_view).script_state → All (Brings t) (c ∷ d ∷ order) → answers ≡ reports ++ Mail r ∷ rest → IsTasks r → Ended z y seq r
   append_ended [] served start only brings is its = absurd (let k : [] ≡ c ∷ d ∷ order = served.started in cc)
   append_ended (e ∷ es) served start only brings is its =
       let s = z.seat_view.setup in
@@ -89,16 +89,16 @@ module _ (z y : Seated) (c d : Call) (order : List Call) (answers told rest : Li
       let calls = served.calls in
       let started : e.step.start ≡ z.seat_view.start = served.first ∙ sym start in
       let by = (own_split p calls.since [] e es calls.mine_are).by in
-      let at : process_state_before s here e ≡ process_state_now z.seat_view = ap (λ (u : Bool × Option Call × ℕ). gone s here (before u.0 u.1 u.2)) (λ i. (served.crash.0 i, started i, by i)) in
+      let at : process_state_before s here e ≡ process_state_now z.seat_view = ap (λ (u : Bool × Option Call × ℕ). process_state_past s here (before u.0 u.1 u.2)) (λ i. (served.crash.0 i, started i, by i)) in
       let fine = each_start (Brings t) (e ∷ es) (subst (All (Brings t)) (sym served.started) brings) in
-      let found : Answering t s here (e ∷ es) (Mail r) = find t s here e es (Mail r) told rest (All-tail (λ (f : TakenStep). OfStart (Brings t) f.step.start) e es fine) (subst (λ (u : ProcessState). Only t u.script_state) (sym at) only) (served.answered ∙ is) in
+      let found : Answering t s here (e ∷ es) (Mail r) = find t s here e es (Mail r) reports rest (All-tail (λ (f : TakenStep). OfStart (Brings t) f.step.start) e es fine) (subst (λ (u : ProcessState). Only t u.script_state) (sym at) only) (served.answered ∙ is) in
       let f = found.entry in
       let o : Own p calls.since found.front f = own_split p calls.since found.front f found.back (calls.mine_are ∙ found.is) in
       let front : List TakenStep = z.seat_view.seen ++ o.earlier in
-      let mine : own p front ≡ own p z.seat_view.seen ++ found.front = own-append p z.seat_view.seen o.earlier ∙ ap (λ (l : List TakenStep). own p z.seat_view.seen ++ l) o.own_are in
-      let there : process_state_of s f.by front ≡ gone s here (spelled found.front) =
-      ap (λ (q : ℕ). process_state_of s q front) o.by ∙ ap (λ (l : List TakenStep). gone s at_rest (spelled l)) mine ∙ ap (gone s at_rest) (spelled-append (own p z.seat_view.seen) found.front) ∙ gone-append s at_rest (spelled (own p z.seat_view.seen)) (spelled found.front) in
-      let process_state : process_state_at s front f ≡ process_state_before s (gone s here (spelled found.front)) f = ap (λ (u : ProcessState). process_state_before s u f) there in
+      let mine : entries_of p front ≡ entries_of p z.seat_view.seen ++ found.front = own-append p z.seat_view.seen o.earlier ∙ ap (λ (l : List TakenStep). entries_of p z.seat_view.seen ++ l) o.own_are in
+      let there : process_state_of s f.by front ≡ process_state_past s here (events_of_run found.front) =
+      ap (λ (q : ℕ). process_state_of s q front) o.by ∙ ap (λ (l : List TakenStep). process_state_past s at_rest (events_of_run l)) mine ∙ ap (process_state_past s at_rest) (spelled-append (entries_of p z.seat_view.seen) found.front) ∙ gone-append s at_rest (events_of_run (entries_of p z.seat_view.seen)) (events_of_run found.front) in
+      let process_state : process_state_at s front f ≡ process_state_before s (process_state_past s here (events_of_run found.front)) f = ap (λ (u : ProcessState). process_state_before s u f) there in
       let work = task_mails t _ _ _ _ f.step.kind f.value r found.only its found.answer in
       let move = all_at (λ (g : TakenStep). is_glance g.step.kind ≡ false) found.front f found.back (subst AreMoves found.is served.moves) in
       let whole : y.seat_view.seen ≡ (front ++ f ∷ []) ++ o.later =
@@ -120,35 +120,35 @@ stored_shown z y seq r h layout every stored =
     let s = z.seat_view.setup in
     let front = z.seat_view.seen ++ h.earlier in
     let f = h.entry in
-    let told : IsAmong f.by seq (shown_by s (front ++ f ∷ [])) = (every s y.seat_view.seen layout h.run).answered front f h.later seq r h.seen h.ends stored in
+    let reports : IsAmong f.by seq (shown_by s (front ++ f ∷ [])) = (every s y.seat_view.seen layout h.run).answered front f h.later seq r h.seen h.ends stored in
     let grown = shown_on s (front ++ f ∷ []) h.later in
-    let among : IsAmong f.by seq (shown_by s ((front ++ f ∷ []) ++ h.later)) = subst (IsAmong f.by seq) (sym grown.1) (among_more f.by seq (shown_by s (front ++ f ∷ [])) grown.0 told) in
+    let among : IsAmong f.by seq (shown_by s ((front ++ f ∷ []) ++ h.later)) = subst (IsAmong f.by seq) (sym grown.1) (among_more f.by seq (shown_by s (front ++ f ∷ [])) grown.0 reports) in
     subst (λ (u : ℕ × Setup × List TakenStep). IsAmong u.0 seq (shown_by u.1 u.2)) (λ i. (h.by i, sym h.setup i, sym h.seen i)) among
 
 -- what a reply of an append says of the mailbox holds at its point of the run
-reply_told : (s : Setup) (es front : List TakenStep) (e : TakenStep) (back : List TakenStep) (seq : ℕ) (r : Reply) → IsLayout s.layout → IsRun s es → RepliesTell → es ≡ (front ++ e ∷ []) ++ back → EndsAppend s front e seq r → ReplyTells s.layout e.by seq r (judged_by s (front ++ e ∷ [])).mail
-reply_told s es front e back seq r layout run tell split ends =
+reply_reported : (s : Setup) (es front : List TakenStep) (e : TakenStep) (back : List TakenStep) (seq : ℕ) (r : Reply) → IsLayout s.layout → IsRun s es → RepliesTell → es ≡ (front ++ e ∷ []) ++ back → StepEndsAppend s front e seq r → ReplyTells s.layout e.by seq r (judged_by s (front ++ e ∷ [])).mail
+reply_reported s es front e back seq r layout run tell split ends =
     let l = s.layout in
-    let hs = spelled front ++ before e.step.crashed e.step.start e.by in
+    let hs = events_of_run front ++ before e.step.crashed e.step.start e.by in
     let h = Moves e.by e.step.kind e.step.word e.value in
-    let to : spelled (front ++ e ∷ []) ≡ hs ++ h ∷ [] = spelled_to s front e ∙ ap (λ (x : WorldEvent). hs ++ x ∷ []) (taken_moves e.by e.step.kind e.step.word e.value ends.step) in
-    let whole : spelled es ≡ hs ++ h ∷ spelled back = ap spelled split ∙ spelled-append (front ++ e ∷ []) back ∙ ap (λ (xs : List WorldEvent). xs ++ spelled back) to ∙ append_assoc hs (h ∷ []) (spelled back) in
-    let here : last_global_state l s.limit at_first hs ≡ global_state_at s front e = global_state-append l s.limit at_first (spelled front) (before e.step.crashed e.step.start e.by) in
+    let to : events_of_run (front ++ e ∷ []) ≡ hs ++ h ∷ [] = spelled_to s front e ∙ ap (λ (x : WorldEvent). hs ++ x ∷ []) (taken_moves e.by e.step.kind e.step.word e.value ends.step) in
+    let whole : events_of_run es ≡ hs ++ h ∷ events_of_run back = ap events_of_run split ∙ spelled-append (front ++ e ∷ []) back ∙ ap (λ (xs : List WorldEvent). xs ++ events_of_run back) to ∙ append_assoc hs (h ∷ []) (events_of_run back) in
+    let here : last_global_state l s.limit at_first hs ≡ global_state_at s front e = global_state-append l s.limit at_first (events_of_run front) (before e.step.crashed e.step.start e.by) in
     let process_state : (last_global_state l s.limit at_first hs).process_states e.by ≡ process_state_at s front e = ap (λ (w : GlobalState). w.process_states e.by) here ∙ process_state_is s front e in
-    let told = tell l s.limit hs e.by e.step.kind e.step.word e.value (spelled back) seq r layout (subst (Execution l s.limit at_first) whole run)
+    let reports = tell l s.limit hs e.by e.step.kind e.step.word e.value (events_of_run back) seq r layout (subst (Execution l s.limit at_first) whole run)
     (record { value = ends.value; left = ends.left; append = ap (λ (u : ProcessState). u.script_state) process_state ∙ ends.append; answer = ap (λ (u : ProcessState). answer_at u e.step.kind e.value) process_state ∙ ends.answer }) in
-    subst (λ (xs : List WorldEvent). ReplyTells l e.by seq r (mail_after l s.limit xs)) (sym to) told
+    subst (λ (xs : List WorldEvent). ReplyTells l e.by seq r (mail_after l s.limit xs)) (sym to) reports
 
-ended_told : (z y : Seated) (seq : ℕ) (r : Reply) → Ended z y seq r → IsLayout z.seat_view.setup.layout → RepliesTell → ToldIn z seq r y
-ended_told z y seq r h layout tell =
+ended_reported : (z y : Seated) (seq : ℕ) (r : Reply) → Ended z y seq r → IsLayout z.seat_view.setup.layout → RepliesTell → ReportedIn z seq r y
+ended_reported z y seq r h layout tell =
     let s = z.seat_view.setup in
     let all : (z.seat_view.seen ++ h.earlier) ++ h.entry ∷ [] ≡ z.seat_view.seen ++ (h.earlier ++ h.entry ∷ []) = append_assoc z.seat_view.seen h.earlier (h.entry ∷ []) in
-    let told : ReplyTells s.layout h.entry.by seq r (judged_by s ((z.seat_view.seen ++ h.earlier) ++ h.entry ∷ [])).mail = reply_told s y.seat_view.seen (z.seat_view.seen ++ h.earlier) h.entry h.later seq r layout h.run tell h.seen h.ends in
+    let reports : ReplyTells s.layout h.entry.by seq r (judged_by s ((z.seat_view.seen ++ h.earlier) ++ h.entry ∷ [])).mail = reply_reported s y.seat_view.seen (z.seat_view.seen ++ h.earlier) h.entry h.later seq r layout h.run tell h.seen h.ends in
     record {
       since = h.earlier ++ h.entry ∷ [];
       later = h.later;
       seen = h.seen ∙ ap (λ (es : List TakenStep). es ++ h.later) all;
-      tells = subst (λ (u : ℕ × List TakenStep). ReplyTells s.layout u.0 seq r (judged_by s u.1).mail) (λ i. (h.by i, all i)) told;
+      tells = subst (λ (u : ℕ × List TakenStep). ReplyTells s.layout u.0 seq r (judged_by s u.1).mail) (λ i. (h.by i, all i)) reports;
     }
 
 -- a call that starts from outside the section has no task under way
@@ -170,25 +170,25 @@ brings_all entering.OwnerDied seq value =
     let P = Brings (task.Append seq value) in
     All-cons P Lock (Consistent ∷ Append seq value ∷ Unlock ∷ []) tt (All-cons P Consistent (Append seq value ∷ Unlock ∷ []) tt (All-cons P (Append seq value) (Unlock ∷ []) refl (All-cons P Unlock [] tt (All-nil P))))
 
-module _ (x y : Seated) (turns seq : ℕ) (value : List ℕ) (r : Reply) (a b : Askings) (none : x.seat_view.start ≡ None) (may : refusal_now (ready x) Lock ≡ None) (its : IsTasks r) where
+module _ (x y : Seated) (turns seq : ℕ) (value : List ℕ) (r : Reply) (a b : Askings) (none : x.seat_view.start ≡ None) (may : refusal_now (free_to_start x) Lock ≡ None) (its : IsTasks r) where
   abbrev z : Seated
-  z = began (ready x) Lock
+  z = began (free_to_start x) Lock
 
   outset : Only (task.Append seq value) (process_state_now z.seat_view).script_state
-  outset = outset_only (task.Append seq value) (ready x) (kept_ready (λ (u : Seated). u.seat_view.start) x (sym none) ∙ none) may
+  outset = outset_only (task.Append seq value) (free_to_start x) (kept_ready (λ (u : Seated). u.seat_view.start) x (sym none) ∙ none) may
 
   inside_ended : (entry : Entering) (mended : Bool) (order : List Call) (answers : List Answer) (blocked : ℕ) (mine : List TakenStep) → order ≡ Lock ∷ calls_inside entry (Append seq value) → answers ≡ answer_of entry ∷ answers_inside entry mended r
       → ServedAll z order answers blocked y mine → Ended z y seq r
-  inside_ended entering.Clean mended order answers blocked mine is told h =
-      append_ended z y Lock (Append seq value) (Unlock ∷ []) answers (answer_of entering.Clean ∷ []) (Unlocked ∷ []) blocked seq value r mine (subst (λ (l : List Call). ServedAll z l answers blocked y mine) is h) refl outset (brings_all entering.Clean seq value) told its
-  inside_ended entering.OwnerDied mended order answers blocked mine is told h =
+  inside_ended entering.Clean mended order answers blocked mine is reports h =
+      append_ended z y Lock (Append seq value) (Unlock ∷ []) answers (answer_of entering.Clean ∷ []) (Unlocked ∷ []) blocked seq value r mine (subst (λ (l : List Call). ServedAll z l answers blocked y mine) is h) refl outset (brings_all entering.Clean seq value) reports its
+  inside_ended entering.OwnerDied mended order answers blocked mine is reports h =
       append_ended z y Lock Consistent (Append seq value ∷ Unlock ∷ []) answers (answer_of entering.OwnerDied ∷ Mail (Mended mended) ∷ []) (Unlocked ∷ []) blocked seq value r mine (subst (λ (l : List Call). ServedAll z l answers blocked y mine) is h) refl outset
-      (brings_all entering.OwnerDied seq value) told its
+      (brings_all entering.OwnerDied seq value) reports its
 
   pub ended_append : WholeEnds z turns (Append seq value) (Ok r) y a b → Ended z y seq r
   ended_append h = inside_ended h.3.1 h.3.2 h.0 h.1 h.2 h.4.0 h.3.3 h.3.4 h.4.1
 
-begun_layout : (x : Seated) → IsSeatView x.seat_view → IsLayout (began (ready x) Lock).seat_view.setup.layout
+begun_layout : (x : Seated) → IsSeatView x.seat_view → IsLayout (began (free_to_start x) Lock).seat_view.setup.layout
 begun_layout x seat_view = subst (λ (s : Setup). IsLayout s.layout) (sym (kept_ready (λ (u : Seated). u.seat_view.setup) x refl)) seat_view.size.layout
 
 stored_its : (r : Reply) → (r ≡ Stored) ⊎ (r ≡ Already) → IsTasks r
@@ -200,16 +200,16 @@ appends_its seq (Mended repaired) h = h
 appends_its seq _ h = tt
 
 -- an append, however often it was blocked
-pub append_shown : (x y : Seated) (seq : ℕ) (value : List ℕ) (result : Result Reply LockFault) (a b : Askings) → x.seat_view.start ≡ None → IsSeatView x.seat_view → EveryRunIsSound → OnOk result (refusal_now (ready x) Lock ≡ None)
-    → IfOk result (λ (r : Reply). (turns : ℕ) × WholeEnds (began (ready x) Lock) turns (Append seq value) (Ok r) y a b) → IfOk result (λ (r : Reply). (r ≡ Stored) ⊎ (r ≡ Already) → IsAmong x.seat_view.by seq (shown_by y.seat_view.setup y.seat_view.seen))
+pub append_shown : (x y : Seated) (seq : ℕ) (value : List ℕ) (result : Result Reply LockFault) (a b : Askings) → x.seat_view.start ≡ None → IsSeatView x.seat_view → EveryRunIsSound → OnOk result (refusal_now (free_to_start x) Lock ≡ None)
+    → IfOk result (λ (r : Reply). (turns : ℕ) × WholeEnds (began (free_to_start x) Lock) turns (Append seq value) (Ok r) y a b) → IfOk result (λ (r : Reply). (r ≡ Stored) ⊎ (r ≡ Already) → IsAmong x.seat_view.by seq (shown_by y.seat_view.setup y.seat_view.seen))
 append_shown x y seq value (Ok r) a b none seat_view every may h = λ stored.
     let ended = ended_append x y h.0 seq value r a b none may (stored_its r stored) h.1 in
-    let among = stored_shown (began (ready x) Lock) y seq r ended (begun_layout x seat_view) every stored in
+    let among = stored_shown (began (free_to_start x) Lock) y seq r ended (begun_layout x seat_view) every stored in
     subst (λ (p : ℕ). IsAmong p seq (shown_by y.seat_view.setup y.seat_view.seen)) (kept_ready (λ (u : Seated). u.seat_view.by) x refl) among
 append_shown x y seq value (Err e) a b none seat_view every may h = tt
 
-told_began : (x y : Seated) (seq : ℕ) (r : Reply) → ToldIn (began (ready x) Lock) seq r y → ToldIn x seq r y
-told_began x y seq r h =
+reported_began : (x y : Seated) (seq : ℕ) (r : Reply) → ReportedIn (began (free_to_start x) Lock) seq r y → ReportedIn x seq r y
+reported_began x y seq r h =
     let setup = kept_ready (λ (u : Seated). u.seat_view.setup) x refl in
     let by = kept_ready (λ (u : Seated). u.seat_view.by) x refl in
     let seen = kept_ready (λ (u : Seated). u.seat_view.seen) x refl in
@@ -220,8 +220,8 @@ told_began x y seq r h =
       tells = subst (λ (u : Setup × ℕ × List TakenStep). ReplyTells u.0.layout u.1 seq r (judged_by u.0 (u.2 ++ h.since)).mail) (λ i. (setup i, by i, seen i)) h.tells;
     }
 
-pub append_tells : (x y : Seated) (seq : ℕ) (value : List ℕ) (result : Result Reply LockFault) (a b : Askings) → x.seat_view.start ≡ None → IsSeatView x.seat_view → RepliesTell → OnOk result (refusal_now (ready x) Lock ≡ None) → IfOk result (Appends seq)
-    → IfOk result (λ (r : Reply). (turns : ℕ) × WholeEnds (began (ready x) Lock) turns (Append seq value) (Ok r) y a b) → IfOk result (λ (r : Reply). ToldIn x seq r y)
+pub append_tells : (x y : Seated) (seq : ℕ) (value : List ℕ) (result : Result Reply LockFault) (a b : Askings) → x.seat_view.start ≡ None → IsSeatView x.seat_view → RepliesTell → OnOk result (refusal_now (free_to_start x) Lock ≡ None) → IfOk result (Appends seq)
+    → IfOk result (λ (r : Reply). (turns : ℕ) × WholeEnds (began (free_to_start x) Lock) turns (Append seq value) (Ok r) y a b) → IfOk result (λ (r : Reply). ReportedIn x seq r y)
 append_tells x y seq value (Ok r) a b none seat_view tell may its h =
-    told_began x y seq r (ended_told (began (ready x) Lock) y seq r (ended_append x y h.0 seq value r a b none may (appends_its seq r its) h.1) (begun_layout x seat_view) tell)
+    reported_began x y seq r (ended_reported (began (free_to_start x) Lock) y seq r (ended_append x y h.0 seq value r a b none may (appends_its seq r its) h.1) (begun_layout x seat_view) tell)
 append_tells x y seq value (Err e) a b none seat_view tell may its h = tt

@@ -7,7 +7,7 @@ pub use Rattle.atomic_table.specs.Seated.{TableId}
 pub use Rattle.rmecore.specs.declared.kind.Kind.{Kind}
 pub use Rattle.rmecore.specs.declared.word.Word.{Word}
 pub use Rattle.rmecore.specs.declared.word.Word.TheVariants.{Data, Choosing}
-pub use Rattle.rmecore.specs.Place.{Place, Dead, Inside, next, started}
+pub use Rattle.rmecore.specs.Place.{Place, Dead, Inside, next, place_after_start}
 pub use Rattle.crash_plans.specs.Plans.{Askings}
 pub use Rattle.redomail.specs.declared.layout.Layout.{Layout}
 pub use Rattle.redomail.specs.declared.message.Message.{Message}
@@ -28,46 +28,46 @@ pub use Rattle.rmeworld.specs.ImageRules.{layout_of, IsLawfulImage}
 pub use Rattle.rmeworld.specs.OwnSteps.{most_steps}
 pub use Rattle.rmeworld.specs.Refused.{is_idle, is_idle_by}
 pub use Rattle.rmeworld.specs.Sent.{EveryMessageWasSent, IsSent, mail_after, ReplyTells, RepliesTell, EveryCloseWasAsked, EveryRuinWasAsked, IsLeftUnmended}
-pub use Rattle.rmeworld.specs.ProcessState.{WorldEvent, Begins, Falls, ScriptState, Free, Doing, ProcessState, Moves, at_rest, at_lock, settled, only_process_state, moved_by, inside_only, begun_from, next_process_state, who}
-pub use Rattle.rmeworld.specs.World.{GlobalState, at_first, last_global_state, Execution, onward, reading}
+pub use Rattle.rmeworld.specs.ProcessState.{WorldEvent, Begins, Falls, ScriptState, Free, Doing, ProcessState, Moves, at_rest, at_lock, process_after_script, only_process_state, moved_by, inside_only, begun_from, next_process_state, who}
+pub use Rattle.rmeworld.specs.World.{GlobalState, at_first, last_global_state, Execution, state_after_event, reading}
 pub use Rattle.rmeworld.proofs.ImageRules.{lawful_content}
-pub use Rattle.execution.specs.declared.entry.TakenStep.{TakenStep}
-pub use Rattle.execution.specs.declared.entry_kind.Entry.{Entry}
-pub use Rattle.execution.specs.declared.lock_fault.LockFault.{LockFault}
-pub use Rattle.execution.specs.declared.lock_fault.LockFault.TheVariants.{Crashed, NotYet, AlreadyIn}
-pub use Rattle.execution.specs.declared.setup.Setup.{Setup}
-pub use Rattle.execution.specs.Board.{last_put, value_or, LastIsOwn}
-pub use Rattle.execution.specs.Calls.{process_state_before, AreMoves, ServedAll, answers_from, and_call, starts, Served}
-pub use Rattle.execution.specs.Faults.{refusal_now, ready, answer_of, CutBy}
-pub use Rattle.execution.specs.Gathering.{Gathers, IsGlance, IsTold, has_member, image_at, OneArena, procs_of, IsMissing, Absorbs, Knows, Stays}
-pub use Rattle.execution.specs.Headline.{deeds_of, shown_by, judged_by, process_state_at, EndsAppend, EveryRunIsSound}
-pub use Rattle.execution.specs.SeatView.{IsSeatView, process_state_now, SeatView, Calls, own_of, rest_known, alone}
-pub use Rattle.execution.specs.Reading.{cells_of, RunsShow, LoadsTell}
-pub use Rattle.execution.specs.Ruins.{AreInOrder, NobodyRuins, HasReadRuin, last_call, last_of, settles, MayStart}
-pub use Rattle.execution.specs.Rule.{count_from, stepper}
-pub use Rattle.execution.specs.Running.{Seated, fell, began}
-pub use Rattle.execution.specs.Runs.{before, taken, world_events, spelled, own, IsRun, end_of, gone, process_state_of, crash_first, Goes, has, word_count}
-pub use Rattle.execution.specs.Telling.{ToldIn}
-pub use Rattle.execution.specs.Under.{Appends, Replies, Mends}
-pub use Rattle.execution.specs.Whole.{WholeEnds, calls_inside, answers_inside, AppendFails, Comes, IsFront, IsWithin, WholeFails}
-pub use Rattle.execution.proofs.Counted.{few_out, err_any, ok_any, called_counts}
-pub use Rattle.execution.proofs.Gathered.{all_left, all_right, knows_some, absorbs_on, knows_first, one_table, stays_on, looked_stays, found_first, knows_all, still_all, image_is, gathers, may_glance, all_some, looked, first_removed}
-pub use Rattle.execution.proofs.LawfulEnd.{length-counted, cells_counted, lawful_end}
-pub use Rattle.execution.proofs.Leads.{gone-append, has_one}
-pub use Rattle.execution.proofs.Opens.{size_small, mapped_more}
-pub use Rattle.execution.proofs.Runs.{by_kind, own-append, spelled-append, global_state-append, legal_front, process_state_in_run}
-pub use Rattle.execution.proofs.Shown.{shown_on}
-pub use Rattle.execution.proofs.Together.{all_both, member_at, Keeps, Holds, all_hold, each_holds}
-pub use Rattle.one_lock.specs.declared.lab.ending.WorkerEnd.TheVariants.{AllSent, Fault, Refused}
-pub use Rattle.one_lock.specs.declared.lab.lab_fault.LabFault.TheVariants.{Member}
-pub use Rattle.one_lock.specs.declared.lab.spec.Spec.{Spec}
-pub use Rattle.one_lock.specs.Endings.{fault_by}
-pub use Rattle.one_lock.specs.Lab.{AreAllSent, words_sent, messages_sent, messages_by, message_sent, IsBadSpec}
-pub use Rattle.one_lock.proofs.Seats.{moved_on}
+pub use Rattle.table_runs.specs.declared.entry.TakenStep.{TakenStep}
+pub use Rattle.table_runs.specs.declared.entry_kind.Entry.{Entry}
+pub use Rattle.table_runs.specs.declared.lock_fault.LockFault.{LockFault}
+pub use Rattle.table_runs.specs.declared.lock_fault.LockFault.TheVariants.{Crashed, NotYet, AlreadyIn}
+pub use Rattle.table_runs.specs.declared.setup.Setup.{Setup}
+pub use Rattle.table_runs.specs.Board.{last_put, value_or, LastIsOwn}
+pub use Rattle.table_runs.specs.Calls.{process_state_before, AreMoves, ServedAll, answers_from, and_call, starts, Served}
+pub use Rattle.table_runs.specs.Faults.{refusal_now, free_to_start, answer_of, CutBy}
+pub use Rattle.table_runs.specs.GatheredRuns.{Gathers, IsGlance, IsGatheredRun, has_member, image_at, OneArena, procs_of, IsMissing, Absorbs, Knows, Stays}
+pub use Rattle.table_runs.specs.Headline.{deeds_of, shown_by, judged_by, process_state_at, StepEndsAppend, EveryRunIsSound}
+pub use Rattle.table_runs.specs.SeatView.{IsSeatView, process_state_now, SeatView, Calls, own_of, rest_known, single_seat}
+pub use Rattle.table_runs.specs.ReadMessages.{cells_of, RunsShow, LoadsTell}
+pub use Rattle.table_runs.specs.Ruins.{AreInWorkerOrder, NobodyRuins, HasReadRuin, last_call, last_of, settles, MayStart}
+pub use Rattle.table_runs.specs.Rule.{count_from, stepper}
+pub use Rattle.table_runs.specs.WorkingMembers.{Seated, fell, began}
+pub use Rattle.table_runs.specs.Runs.{before, access_event, world_events, events_of_run, entries_of, IsRun, end_of, process_state_past, process_state_of, crash_first, AllowsEvents, has, word_count}
+pub use Rattle.table_runs.specs.AppendReplies.{ReportedIn}
+pub use Rattle.table_runs.specs.Under.{Appends, AllReplies, IsMendingReply}
+pub use Rattle.table_runs.specs.Whole.{WholeEnds, calls_inside, answers_inside, AppendFails, IsWholeOutcome, IsFront, AreCallsOf, WholeFails}
+pub use Rattle.table_runs.proofs.Counted.{few_out, err_any, ok_any, called_counts}
+pub use Rattle.table_runs.proofs.Gathered.{all_left, all_right, knows_some, absorbs_on, knows_first, one_table, stays_on, looked_stays, found_first, knows_all, still_all, image_is, gathers, may_glance, all_some, looked, first_removed}
+pub use Rattle.table_runs.proofs.LawfulEnd.{length-counted, cells_counted, lawful_end}
+pub use Rattle.table_runs.proofs.Leads.{gone-append, has_one}
+pub use Rattle.table_runs.proofs.Opens.{size_small, mapped_more}
+pub use Rattle.table_runs.proofs.Runs.{by_kind, own-append, spelled-append, global_state-append, legal_front, process_state_in_run}
+pub use Rattle.table_runs.proofs.Shown.{shown_on}
+pub use Rattle.table_runs.proofs.Together.{all_both, member_at, Keeps, Holds, all_hold, each_holds}
+pub use Rattle.table_runs.specs.declared.lab.worker_end.WorkerEnd.TheVariants.{AllSent, Fault, Refused}
+pub use Rattle.table_runs.specs.declared.lab.lab_fault.LabFault.TheVariants.{Member}
+pub use Rattle.table_runs.specs.declared.lab.spec.Spec.{Spec}
+pub use Rattle.table_runs.specs.Endings.{fault_by}
+pub use Rattle.table_runs.specs.Lab.{AreAllSent, words_sent, messages_sent, messages_by, message_sent, IsBadSpec}
+pub use Rattle.table_runs.proofs.PartLists.{moved_on}
 pub use Rattle.robust.specs.declared.lab.worker.Done.{Done}
-pub use Rattle.robust.specs.LabFaults.{RefusedAt, IsFirstFault, EndsSo, EndsLab, HaveSentBelow, WasSpent}
+pub use Rattle.robust.specs.LabFaults.{RefusedAt, IsFirstWorkerFault, EndsSo, EndsLab, HaveSentBelow, NumbersWereSpent}
 pub use Rattle.robust.specs.LabRuns.{AreShownByRun, IsLabRun}
-pub use Rattle.robust.specs.Making.{fresh_member, fresh_members}
-pub use Rattle.robust.specs.Sending.{OfStart, IsSending, AreSending, HasSent, HasShown, SendsOnly, IsNew}
+pub use Rattle.robust.specs.NewMembers.{fresh_member, fresh_members}
+pub use Rattle.robust.specs.WorkerSends.{OfStart, IsSending, AreSending, HasSent, HasShown, SendsOnly, IsNew}
 pub use Rattle.robust.specs.Worked.{sizes_of, HasWorked, seat_done, seat_promised}
-pub use Rattle.robust.specs.Working.{seat_of, seats_of}
+pub use Rattle.robust.specs.MemberLaws.{seat_of, seats_of}

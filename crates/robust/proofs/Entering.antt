@@ -1,6 +1,6 @@
 -- How far the fast path of a lock gets, from its parts.
 use Rattle.std.proofs.Common.{◌≡◌, ℕ, ◌+◌, Bool, true, false, if◌then◌else◌, refl, ap, ◌∙◌, subst}
-use Rattle.robust.proofs.AccessCommon.{place_of, Clean, is_waiting, Setup, process_state_now, SeatView, Begun, free_process_state, IsSame, Unanswered, EndsIn, Enters, checked_process_state}
+use Rattle.robust.proofs.AccessCommon.{place_of, Clean, is_waiting, Setup, process_state_now, SeatView, Begun, free_process_state, IsSame, Unanswered, EndsIn, FastPathReaches, checked_process_state}
 use Rattle.rmecore.specs.declared.stage.Stage.{Stage}
 use Rattle.rmeworld.specs.declared.call.Call.TheVariants.{Lock}
 use Rattle.robust.specs.declared.access.fast_path.Reached.{Reached}
@@ -8,7 +8,7 @@ use Rattle.robust.specs.declared.access.fast_path.Reached.TheVariants as Reaches
 use Rattle.robust.proofs.FreeSteps.{unanswered_then, ends_then, same_then}
 
 -- after the line, by the two steps of the entry
-pub enters_in : (x y z : SeatView) (k : ℕ) (r : Bool) (e : Reached) → e ≡ (if r then Reaches.Ruined else Reaches.Clean) → Unanswered x k 0 y → IsSame x y → process_state_now z ≡ checked_process_state r → (r ≡ false → EndsIn y 2 Clean z) → (r ≡ true → Unanswered y 2 0 z) → IsSame y z → (process_state_now x).barred ≡ false → Enters x e (k + 2) z
+pub enters_in : (x y z : SeatView) (k : ℕ) (r : Bool) (e : Reached) → e ≡ (if r then Reaches.Ruined else Reaches.Clean) → Unanswered x k 0 y → IsSame x y → process_state_now z ≡ checked_process_state r → (r ≡ false → EndsIn y 2 Clean z) → (r ≡ true → Unanswered y 2 0 z) → IsSame y z → (process_state_now x).barred ≡ false → FastPathReaches x e (k + 2) z
 enters_in x y z k true e is p s at clean ruined t free = record {
   blocked = λ b h. absurd (cc);
   stands = λ b h. absurd (cc);
@@ -27,7 +27,7 @@ enters_in x y z k false e is p s at clean ruined t free = record {
 }
 
 module _ (x y : SeatView) (k : ℕ) (t : Stage) (at : process_state_now y ≡ free_process_state (place_of x.setup.layout.procs x.by t) (process_state_now x).mended) (same : IsSame x y) (begun : Begun Lock x.setup.layout.procs (process_state_now y)) (free : (process_state_now x).barred ≡ false) where
-  pub enters_blocked : Unanswered x k 1 y → is_waiting (process_state_now y).lock ≡ true → Enters x (Reaches.Blocked t) k y
+  pub enters_blocked : Unanswered x k 1 y → is_waiting (process_state_now y).lock ≡ true → FastPathReaches x (Reaches.Blocked t) k y
   enters_blocked p waits = record {
     blocked = λ u h. (at ∙ ap (λ (q : Stage). free_process_state (place_of x.setup.layout.procs x.by q) (process_state_now x).mended) (let e : t ≡ u = cc in e), p, begun, waits);
     stands = λ u h. absurd (cc);
@@ -37,7 +37,7 @@ module _ (x y : SeatView) (k : ℕ) (t : Stage) (at : process_state_now y ≡ fr
     barred = free;
   }
 
-  pub enters_stands : Unanswered x k 0 y → Enters x (Reaches.Stands t) k y
+  pub enters_stands : Unanswered x k 0 y → FastPathReaches x (Reaches.Stands t) k y
   enters_stands p = record {
     blocked = λ u h. absurd (cc);
     stands = λ u h. (at ∙ ap (λ (q : Stage). free_process_state (place_of x.setup.layout.procs x.by q) (process_state_now x).mended) (let e : t ≡ u = cc in e), p, begun);
@@ -48,7 +48,7 @@ module _ (x y : SeatView) (k : ℕ) (t : Stage) (at : process_state_now y ≡ fr
   }
 
 -- some steps before it
-pub enters_then : (x y z : SeatView) (j k : ℕ) (r : Reached) → Unanswered x j 0 y → IsSame x y → (process_state_now y).mended ≡ (process_state_now x).mended → (process_state_now x).barred ≡ false → Enters y r k z → Enters x r (j + k) z
+pub enters_then : (x y z : SeatView) (j k : ℕ) (r : Reached) → Unanswered x j 0 y → IsSame x y → (process_state_now y).mended ≡ (process_state_now x).mended → (process_state_now x).barred ≡ false → FastPathReaches y r k z → FastPathReaches x r (j + k) z
 enters_then x y z j k r p s mended free e = record {
   blocked = λ t h. (let b = e.blocked t h in (there t b.0, unanswered_then x y z j k 1 p b.1, begun b.2, b.3));
   stands = λ t h. (let b = e.stands t h in (there t b.0, unanswered_then x y z j k 0 p b.1, begun b.2));

@@ -1,21 +1,21 @@
 -- Steps of a script on the data words in a row, in terms of views alone.
 use Rattle.std.proofs.Common.{◌≡◌, ℕ, zero, suc, ◌+◌, ◌*◌, ◌<◌, ◌≤◌, ◌==◌, ◌&&◌, true, false, List, [], ◌∷◌, ◌++◌, length, drop, slice_index, Option, Some, None, IsSome, ◌≢◌, nat_le, nat_lt, unwrap_or, refl, sym, ap, ◌∙◌, subst, arith, eq-eqb}
-use Rattle.robust.proofs.AccessCommon.{Access, Load, Store, Get as Gets, Put as Puts, Data as DataAt, kind_of, word_of, carried, Inside, Reply, Stored, IsLayout, held, last_at, place_at, size, Script}
-use Rattle.robust.proofs.AccessCommon.{puts, decided, record_of, held-small, length-store_steps, step-record, step-entry, step-disarm, place_low, place_up, place_small, Mail, Working, answer_at}
-use Rattle.robust.proofs.AccessCommon.{by_script, blocked_by, Doing, ProcessState, next_process_state, access_by, TakenStep, Setup, IsSeatView, process_state_now, SeatView, moved_process_state, next_entry, Adds, Advances, next_of, outcome_of}
-use Rattle.robust.proofs.AccessCommon.{taken, IsRun, process_state_moves, more, at_append, append_begun, HasLeft, steps_of, stored_so_far, free_process_state, Unanswered, EndsIn}
+use Rattle.robust.proofs.AccessCommon.{Access, Load, Store, Get as Gets, Put as Puts, Data as DataAt, kind_of, word_of, carried_value, Inside, Reply, Stored, IsLayout, saturate, last_at, place_at, size, Script}
+use Rattle.robust.proofs.AccessCommon.{puts, append_decision, record_of, held-small, length-store_steps, step-record, step-entry, step-disarm, place_low, place_up, place_small, Mail, Working, answer_at}
+use Rattle.robust.proofs.AccessCommon.{by_script, blocked_by, Doing, ProcessState, next_process_state, access_by, TakenStep, Setup, IsSeatView, process_state_now, SeatView, moved_process_state, next_entry, Adds, CarriesPending, next_of, outcome_of}
+use Rattle.robust.proofs.AccessCommon.{access_event, IsRun, process_state_moves, more, at_append, append_begun, HasLeft, steps_of, stored_so_far, free_process_state, Unanswered, EndsIn}
 use Rattle.std.proofs.lemmas.List.{drop_all}
 use Rattle.std.proofs.lemmas.Bool.{cond_both, eqb-false}
 use Rattle.redomail.specs.Tasks.{early_reply}
 use Rattle.redomail.specs.declared.layout.Layout.{Layout}
-use Rattle.execution.specs.Reading.{cells_of}
-use Rattle.execution.proofs.Runs.{last_reads, legal_front}
-use Rattle.execution.proofs.Shown.{runs_show}
+use Rattle.table_runs.specs.ReadMessages.{cells_of}
+use Rattle.table_runs.proofs.Runs.{last_reads, legal_front}
+use Rattle.table_runs.proofs.Shown.{runs_show}
 use Rattle.redomail.specs.declared.record.Record.{Record}
 use Rattle.robust.specs.declared.access.fast_append.NewEntry.{NewEntry}
 use Rattle.redomail.specs.declared.task.Task.TheVariants as task
 use Rattle.redomail.specs.Script.{Get as Asks, Put as Writes, Done}
-use Rattle.robust.specs.FastAppend.{IsOf}
+use Rattle.robust.specs.FastAppend.{IsSenderOf}
 use Rattle.robust.proofs.FreeSteps.{unanswered_none, unanswered_then, silent_by, ended_by}
 
 -- an access of an append under way, by the holder
@@ -26,21 +26,21 @@ doing seq value left = record { lock = Inside; mended = true; barred = false; sc
 module _ (x y z : SeatView) (k : ℕ) (p : Unanswered x k 0 y) (seq : ℕ) (value : List ℕ) (left after : Script Reply) (a : Access) (v : ℕ)
     (at : process_state_now y ≡ doing seq value left)
     (next : access_by y.setup.limit y.by Inside (Doing (Working (task.Append seq value)) left) ≡ Some a)
-    (may : IsSome (moved_process_state y (kind_of a) (word_of a) (carried a v)))
-    (adv : Advances y (kind_of a) (word_of a) (carried a v) z)
-    (says : answer_at (doing seq value left) (kind_of a) (carried a v) ≡ by_script (Working (task.Append seq value)) true after)
+    (may : IsSome (moved_process_state y (kind_of a) (word_of a) (carried_value a v)))
+    (adv : CarriesPending y (kind_of a) (word_of a) (carried_value a v) z)
+    (says : answer_at (doing seq value left) (kind_of a) (carried_value a v) ≡ by_script (Working (task.Append seq value)) true after)
   where
     is_next : next_of y ≡ Some a
     is_next = ap (λ (q : ProcessState). access_by y.setup.limit y.by q.lock q.script_state) at ∙ next
 
-    told_so : (outcome_of y a v).answer ≡ by_script (Working (task.Append seq value)) true after
-    told_so = ap (λ (q : ProcessState). answer_at q (kind_of a) (carried a v)) at ∙ says
+    reported_so : (outcome_of y a v).answer ≡ by_script (Working (task.Append seq value)) true after
+    reported_so = ap (λ (q : ProcessState). answer_at q (kind_of a) (carried_value a v)) at ∙ says
 
     silent : by_script (Working (task.Append seq value)) true after ≡ None → Unanswered x (k + 1) 0 z
-    silent none = silent_by x y z k p a v is_next may adv (told_so ∙ none) (ap (λ (q : ProcessState). blocked_by y.by q.lock q.script_state (kind_of a) (carried a v)) at)
+    silent none = silent_by x y z k p a v is_next may adv (reported_so ∙ none) (ap (λ (q : ProcessState). blocked_by y.by q.lock q.script_state (kind_of a) (carried_value a v)) at)
 
     left_by : (s : Script Reply) → s ≡ after → HasLeft x (k + 1) s z
-    left_by (Done reply) e = ended_by x y z k p a v is_next may adv (Mail reply) (told_so ∙ ap (by_script (Working (task.Append seq value)) true) (sym e))
+    left_by (Done reply) e = ended_by x y z k p a v is_next may adv (Mail reply) (reported_so ∙ ap (by_script (Working (task.Append seq value)) true) (sym e))
     left_by s e = silent (ap (by_script (Working (task.Append seq value)) true) (sym e))
 
     pub has_left : HasLeft x (k + 1) after z
@@ -52,11 +52,11 @@ module _ (y : SeatView) (seq : ℕ) (value : List ℕ) (i v : ℕ) (rest : ℕ �
   same_word = eq-eqb i i refl
 
   pub asked_may : IsSome (moved_process_state y Gets (DataAt i) v)
-  asked_may = subst (λ (q : ProcessState). IsSome (next_process_state y.setup.layout y.setup.limit q (taken y.by Gets (DataAt i) v))) (sym at) (rw same_word refl)
+  asked_may = subst (λ (q : ProcessState). IsSome (next_process_state y.setup.layout y.setup.limit q (access_event y.by Gets (DataAt i) v))) (sym at) (rw same_word refl)
 
-  module _ (z : SeatView) (adv : Advances y Gets (DataAt i) v z) where
+  module _ (z : SeatView) (adv : CarriesPending y Gets (DataAt i) v z) where
     pub asked_goes : process_state_now z ≡ at_append seq value (rest v)
-    asked_goes = process_state_moves y z Gets (DataAt i) v adv ∙ ap (λ (q : ProcessState). unwrap_or (next_process_state y.setup.layout y.setup.limit q (taken y.by Gets (DataAt i) v)) q) at ∙ rw same_word refl
+    asked_goes = process_state_moves y z Gets (DataAt i) v adv ∙ ap (λ (q : ProcessState). unwrap_or (next_process_state y.setup.layout y.setup.limit q (access_event y.by Gets (DataAt i) v)) q) at ∙ rw same_word refl
 
     pub asked_left : (x : SeatView) (k : ℕ) → Unanswered x k 0 y → HasLeft x (k + 1) (rest v) z
     asked_left x k p = has_left x y z k p seq value (Asks i rest) (rest v) (Load Gets (DataAt i)) v at refl asked_may adv refl
@@ -67,17 +67,17 @@ module _ (y : SeatView) (seq : ℕ) (value : List ℕ) (i v : ℕ) (rest : Scrip
   both_same = let a : (i == i) ≡ true = eq-eqb i i refl in let b : (v == v) ≡ true = eq-eqb v v refl in rw (a, b) refl
 
   pub written_may : IsSome (moved_process_state y Puts (DataAt i) v)
-  written_may = subst (λ (q : ProcessState). IsSome (next_process_state y.setup.layout y.setup.limit q (taken y.by Puts (DataAt i) v))) (sym at) (rw both_same refl)
+  written_may = subst (λ (q : ProcessState). IsSome (next_process_state y.setup.layout y.setup.limit q (access_event y.by Puts (DataAt i) v))) (sym at) (rw both_same refl)
 
-  module _ (z : SeatView) (adv : Advances y Puts (DataAt i) v z) where
+  module _ (z : SeatView) (adv : CarriesPending y Puts (DataAt i) v z) where
     pub written_goes : process_state_now z ≡ at_append seq value rest
-    written_goes = process_state_moves y z Puts (DataAt i) v adv ∙ ap (λ (q : ProcessState). unwrap_or (next_process_state y.setup.layout y.setup.limit q (taken y.by Puts (DataAt i) v)) q) at ∙ rw both_same refl
+    written_goes = process_state_moves y z Puts (DataAt i) v adv ∙ ap (λ (q : ProcessState). unwrap_or (next_process_state y.setup.layout y.setup.limit q (access_event y.by Puts (DataAt i) v)) q) at ∙ rw both_same refl
 
     pub written_left : (x : SeatView) (k : ℕ) → Unanswered x k 0 y → HasLeft x (k + 1) rest z
     written_left x k p = has_left x y z k p seq value (Writes i v rest) rest (Store Puts (DataAt i) v) 0 at refl written_may adv refl
 
 -- count is at most the mailbox's room
-pub count_fits : (x y z : SeatView) (v : ℕ) (first : TakenStep) → IsSeatView x → Adds x first y → Advances y Gets (DataAt 2) v z → v ≤ x.setup.layout.cap
+pub count_fits : (x y z : SeatView) (v : ℕ) (first : TakenStep) → IsSeatView x → Adds x first y → CarriesPending y Gets (DataAt 2) v z → v ≤ x.setup.layout.cap
 count_fits x y z v first seat_view was adv =
     let a = adv.adds in
     let s = x.setup in
@@ -88,7 +88,7 @@ count_fits x y z v first seat_view was adv =
     omega arith
 
 -- the sizes of an entry are those of its sender's arena
-pub lawful : (x : SeatView) (e : NewEntry) → IsOf x e → IsSeatView x → IsLayout e.setup.layout
+pub lawful : (x : SeatView) (e : NewEntry) → IsSenderOf x e → IsSeatView x → IsLayout e.setup.layout
 lawful x e of seat_view = subst (λ (s : Setup). IsLayout s.layout) of.0 seat_view.size.layout
 
 -- a put that others follow
@@ -104,7 +104,7 @@ module _ (y : SeatView) (e : NewEntry) (k i v : ℕ) (here : process_state_now y
   pub put_may : IsSome (moved_process_state y Puts (DataAt i) v)
   put_may = written_may y e.seq e.value i v (puts (drop (k + 1) (steps_of e)) (Done Stored)) there
 
-  module _ (z : SeatView) (adv : Advances y Puts (DataAt i) v z) where
+  module _ (z : SeatView) (adv : CarriesPending y Puts (DataAt i) v z) where
     pub put_goes : process_state_now z ≡ stored_so_far e (k + 1)
     put_goes = written_goes y e.seq e.value i v (puts (drop (k + 1) (steps_of e)) (Done Stored)) there z adv
 
@@ -120,27 +120,27 @@ module _ (x : SeatView) (seq : ℕ) (value : List ℕ) (at : process_state_now x
   pub closed_may : (v : ℕ) → IsSome (moved_process_state x Gets (DataAt 1) v)
   closed_may v = asked_may x seq value 1 v _ at
 
-  module _ (y : SeatView) (closed : ℕ) (adv : Advances x Gets (DataAt 1) closed y) where
-    asks_count : process_state_now y ≡ at_append seq value (Asks 2 (λ count. Asks (last_at x.setup.layout x.by) (λ last. decided x.setup.layout x.by seq value closed count last)))
+  module _ (y : SeatView) (closed : ℕ) (adv : CarriesPending x Gets (DataAt 1) closed y) where
+    asks_count : process_state_now y ≡ at_append seq value (Asks 2 (λ count. Asks (last_at x.setup.layout x.by) (λ last. append_decision x.setup.layout x.by seq value closed count last)))
     asks_count = asked_goes x seq value 1 closed _ at y adv
 
     pub count_may : (v : ℕ) → IsSome (moved_process_state y Gets (DataAt 2) v)
     count_may v = asked_may y seq value 2 v _ asks_count
 
-    module _ (z : SeatView) (count : ℕ) (adv2 : Advances y Gets (DataAt 2) count z) (i : ℕ) (is : i ≡ last_at x.setup.layout x.by) where
-      asks_last : process_state_now z ≡ at_append seq value (Asks i (λ last. decided x.setup.layout x.by seq value closed count last))
+    module _ (z : SeatView) (count : ℕ) (adv2 : CarriesPending y Gets (DataAt 2) count z) (i : ℕ) (is : i ≡ last_at x.setup.layout x.by) where
+      asks_last : process_state_now z ≡ at_append seq value (Asks i (λ last. append_decision x.setup.layout x.by seq value closed count last))
       asks_last =
           asked_goes y seq value 2 count _ asks_count z adv2
-          ∙ ap (λ (j : ℕ). at_append seq value (Asks j (λ last. decided x.setup.layout x.by seq value closed count last))) (sym is)
+          ∙ ap (λ (j : ℕ). at_append seq value (Asks j (λ last. append_decision x.setup.layout x.by seq value closed count last))) (sym is)
 
       pub last_may : (v : ℕ) → IsSome (moved_process_state z Gets (DataAt i) v)
       last_may v = asked_may z seq value i v _ asks_last
 
-      module _ (w : SeatView) (last : ℕ) (adv3 : Advances z Gets (DataAt i) last w) where
-        pub heads_go : process_state_now w ≡ at_append seq value (decided x.setup.layout x.by seq value closed count last)
+      module _ (w : SeatView) (last : ℕ) (adv3 : CarriesPending z Gets (DataAt i) last w) where
+        pub heads_go : process_state_now w ≡ at_append seq value (append_decision x.setup.layout x.by seq value closed count last)
         heads_go = asked_goes z seq value i last _ asks_last w adv3
 
-        pub heads_left : HasLeft x 3 (decided x.setup.layout x.by seq value closed count last) w
+        pub heads_left : HasLeft x 3 (append_decision x.setup.layout x.by seq value closed count last) w
         heads_left =
             let one : Unanswered x (0 + 1) 0 y = asked_left x seq value 1 closed _ at y adv x 0 (unanswered_none x) in
             let two : Unanswered x ((0 + 1) + 1) 0 z = asked_left y seq value 2 count _ asks_count z adv2 x (0 + 1) one in
@@ -163,7 +163,7 @@ module _ (e : NewEntry) where
       → drop (row + 1 + j) (steps_of e) ≡ (start + j, slice_index (e.own ∷ e.seq ∷ e.value) j) ∷ drop (row + 1 + j + 1) (steps_of e)
   entry_row row start is at small j h =
       let k : row + 1 + j ≡ 3 + length e.value + j = omega arith in
-      let here : held (place_at l e.at + j) ≡ start + j = held-small (place_at l e.at + j) (omega arith) ∙ ap (λ (n : ℕ). n + j) (sym at) in
+      let here : saturate (place_at l e.at + j) ≡ start + j = held-small (place_at l e.at + j) (omega arith) ∙ ap (λ (n : ℕ). n + j) (sym at) in
       subst (λ (n : ℕ). drop (row + 1 + j) (steps_of e) ≡ (n, slice_index (e.own ∷ e.seq ∷ e.value) j) ∷ drop (row + 1 + j + 1) (steps_of e)) here (step-entry l e.own r (row + 1 + j) j k h)
 
   last_put_next : (k : ℕ) → k ≡ 7 + 2 * length e.value → drop k (steps_of e) ≡ (3, 0) ∷ []
@@ -190,7 +190,7 @@ module _ (y : SeatView) (e : NewEntry) (k : ℕ) (is : k ≡ 7 + 2 * length e.va
   pub disarm_may : IsSome (moved_process_state y Puts (DataAt 3) 0)
   disarm_may = written_may y e.seq e.value 3 0 (Done Stored) one_left
 
-  module _ (z : SeatView) (adv : Advances y Puts (DataAt 3) 0 z) where
+  module _ (z : SeatView) (adv : CarriesPending y Puts (DataAt 3) 0 z) where
     pub all_stored : process_state_now z ≡ free_process_state Inside true
     all_stored = written_goes y e.seq e.value 3 0 (Done Stored) one_left z adv
 

@@ -1,14 +1,14 @@
 -- The fast path, for a member and its plan.
 use Rattle.std.proofs.Common.{◌≡◌, ℕ, ◌+◌, ◌-◌, ◌^◌, ◌≤◌, ◌==◌, min, Bool, true, false, List, [], ◌∷◌, length, None, Some, IsSome, if◌then◌else◌, unwrap_or, refl, sym, ap, ◌∙◌, subst, arith, eq-eqb}
-use Rattle.robust.proofs.CallCommon.{Place, Inside, Wait, Leaving, Rest, Layout, Answer, Unlocked, Call, Append, Unlock, Begins, Free, ProcessState, next_process_state, MachineState, stepped, TakenStep, Setup}
+use Rattle.robust.proofs.CallCommon.{Place, Inside, Wait, Leaving, Rest, Layout, Answer, Unlocked, Call, Append, Unlock, Begins, Free, ProcessState, next_process_state, MachineState, machine_after_step, TakenStep, Setup}
 use Rattle.robust.proofs.CallCommon.{Going, Ran, Askings, NeverCrashes, AnsweredIn, IsSeatView, process_state_now, SeatView, Seated, began, IsRunBy, many_more, served_of, append_begun, free_process_state, IsSame, Unanswered, EndsIn}
 use Rattle.rmecore.specs.declared.stage.Stage.{Stage}
 use Rattle.rmecore.specs.Machine.{place_of}
 use Rattle.redomail.specs.declared.task.Task.TheVariants.{Check}
-use Rattle.redomail.specs.Left.{begun}
+use Rattle.redomail.specs.Left.{pending_task}
 use Rattle.rmeworld.specs.declared.purpose.Purpose.TheVariants.{Checking}
 use Rattle.rmeworld.specs.ScriptStates.{script_state_of}
-use Rattle.execution.proofs.Running.{process_state_begun}
+use Rattle.table_runs.proofs.Running.{process_state_begun}
 use Rattle.std.proofs.lemmas.Bool.{eqb-true}
 use Rattle.rmecore.specs.declared.refusal.Refusal.TheVariants.{BadWidth}
 use Rattle.rmeworld.specs.Refused.{start_refusal}
@@ -56,15 +56,15 @@ module _ (l : Layout) (limit p : ℕ) (b : Bool) where
   last_wait = record { layout = l; limit = limit; index = p; lock = Wait 1 [] None; mended = b; barred = false; script_state = IsFree }
 
   abbrev pub asks_ruin : MachineState
-  asks_ruin = record { layout = l; limit = limit; index = p; lock = Inside; mended = true; barred = false; script_state = Does Checking (begun l p Check) }
+  asks_ruin = record { layout = l; limit = limit; index = p; lock = Inside; mended = true; barred = false; script_state = Does Checking (pending_task l p Check) }
 
   abbrev pub goes_out : MachineState
   goes_out = record { layout = l; limit = limit; index = p; lock = Leaving; mended = true; barred = true; script_state = IsFree }
 
-  pub comes_there : stepped (record { layout = l; limit = limit; index = p; lock = Wait 1 [] None; mended = b; barred = false; script_state = IsFree }) 1 ≡ record { layout = l; limit = limit; index = p; lock = Inside; mended = true; barred = false; script_state = Does Checking (begun l p Check) }
+  pub comes_there : machine_after_step (record { layout = l; limit = limit; index = p; lock = Wait 1 [] None; mended = b; barred = false; script_state = IsFree }) 1 ≡ record { layout = l; limit = limit; index = p; lock = Inside; mended = true; barred = false; script_state = Does Checking (pending_task l p Check) }
   comes_there = let own : (p == p) ≡ true = eq-eqb p p refl in rw own refl
 
-  pub goes_there : stepped (record { layout = l; limit = limit; index = p; lock = Inside; mended = true; barred = false; script_state = Does Checking (begun l p Check) }) 1 ≡ record { layout = l; limit = limit; index = p; lock = Leaving; mended = true; barred = true; script_state = IsFree }
+  pub goes_there : machine_after_step (record { layout = l; limit = limit; index = p; lock = Inside; mended = true; barred = false; script_state = Does Checking (pending_task l p Check) }) 1 ≡ record { layout = l; limit = limit; index = p; lock = Leaving; mended = true; barred = true; script_state = IsFree }
   goes_there = refl
 
 -- an unlock of a holder with nothing to mend
@@ -80,12 +80,12 @@ module _ (x : SeatView) (at : process_state_now x ≡ free_process_state Inside 
   unlock_begun none = process_state_begun x Unlock none ∙ ap (λ (q : ProcessState). unwrap_or (next_process_state x.setup.layout x.setup.limit q (Begins x.by Unlock)) q) at
 
   pub run_by_left : (y z : SeatView) (s t : MachineState) → IsRunBy x s → y ≡ record x { start = Some Unlock } → IsSame y z → process_state_now z ≡ free_process_state Rest true → t ≡ record s { lock = Rest } → IsRunBy z t
-  run_by_left y z s t r begun same there is =
+  run_by_left y z s t r pending_task same there is =
       let was : standing_at s ≡ free_process_state Inside true = r.process_state ∙ at in
       record {
-        layout = ap (λ (u : MachineState). u.layout) is ∙ r.layout ∙ ap (λ (p : SeatView). p.setup.layout) (sym begun) ∙ ap (λ (u : Setup). u.layout) (sym same.0);
-        limit = ap (λ (u : MachineState). u.limit) is ∙ r.limit ∙ ap (λ (p : SeatView). p.setup.limit) (sym begun) ∙ ap (λ (u : Setup). u.limit) (sym same.0);
-        index = ap (λ (u : MachineState). u.index) is ∙ r.index ∙ ap (λ (p : SeatView). p.by) (sym begun) ∙ sym same.1;
+        layout = ap (λ (u : MachineState). u.layout) is ∙ r.layout ∙ ap (λ (p : SeatView). p.setup.layout) (sym pending_task) ∙ ap (λ (u : Setup). u.layout) (sym same.0);
+        limit = ap (λ (u : MachineState). u.limit) is ∙ r.limit ∙ ap (λ (p : SeatView). p.setup.limit) (sym pending_task) ∙ ap (λ (u : Setup). u.limit) (sym same.0);
+        index = ap (λ (u : MachineState). u.index) is ∙ r.index ∙ ap (λ (p : SeatView). p.by) (sym pending_task) ∙ sym same.1;
         process_state = ap standing_at is ∙ (λ i. record { lock = Rest; mended = (was i).mended; barred = (was i).barred; script_state = (was i).script_state }) ∙ sym there;
       }
 
@@ -119,9 +119,9 @@ module _ (x : SeatView) (seq : ℕ) (value : List ℕ) (at : process_state_now x
 
 -- the machine's state is the same as before
 pub run_by_back : (x y z : SeatView) (s : MachineState) (call : Call) → IsRunBy x s → y ≡ record x { start = Some call } → IsSame y z → process_state_now x ≡ free_process_state Inside true → process_state_now z ≡ free_process_state Inside true → IsRunBy z s
-run_by_back x y z s call r begun same was there = record {
-  layout = r.layout ∙ ap (λ (p : SeatView). p.setup.layout) (sym begun) ∙ ap (λ (u : Setup). u.layout) (sym same.0);
-  limit = r.limit ∙ ap (λ (p : SeatView). p.setup.limit) (sym begun) ∙ ap (λ (u : Setup). u.limit) (sym same.0);
-  index = r.index ∙ ap (λ (p : SeatView). p.by) (sym begun) ∙ sym same.1;
+run_by_back x y z s call r pending_task same was there = record {
+  layout = r.layout ∙ ap (λ (p : SeatView). p.setup.layout) (sym pending_task) ∙ ap (λ (u : Setup). u.layout) (sym same.0);
+  limit = r.limit ∙ ap (λ (p : SeatView). p.setup.limit) (sym pending_task) ∙ ap (λ (u : Setup). u.limit) (sym same.0);
+  index = r.index ∙ ap (λ (p : SeatView). p.by) (sym pending_task) ∙ sym same.1;
   process_state = r.process_state ∙ was ∙ sym there;
 }

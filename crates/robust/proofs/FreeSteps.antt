@@ -1,16 +1,16 @@
 -- Steps in a row, in terms of views alone.
 use Rattle.std.proofs.Common.{◌≡◌, ℕ, suc, ◌+◌, Bool, false, if◌then◌else◌, List, [], ◌∷◌, ◌++◌, length, Option, Some, None, IsSome, IfSome, refl, sym, ap, ◌∙◌, subst, arith, length-append}
-use Rattle.robust.proofs.AccessCommon.{Access, answer, kind_of, word_of, carried, access, is_blocked, after_access, next_access as lock_access, Place, Check, Checking, answer_at, by_lock, blocked_by}
-use Rattle.robust.proofs.AccessCommon.{ProcessState, mended_entered, MachineState, stepped, standing, IsAllowed, lock_moved, TakenStep, Setup, process_state_now, SeatView, moved_process_state, Advances, Seated, IsRunBy, TakesStep, next_of}
-use Rattle.robust.proofs.AccessCommon.{outcome_of, many_more, spelled, gone, process_state_of, next_same, may_advance, run_by_step, more, goes_on, ran_answered, length_snoc, takes_sizes, takes_process_state, free_process_state}
+use Rattle.robust.proofs.AccessCommon.{Access, answer, kind_of, word_of, carried_value, access, is_blocked, after_access, next_access as lock_access, Place, Check, Checking, answer_at, by_lock, blocked_by}
+use Rattle.robust.proofs.AccessCommon.{ProcessState, mended_entered, MachineState, machine_after_step, standing, IsAllowed, lock_moved, TakenStep, Setup, process_state_now, SeatView, moved_process_state, CarriesPending, Seated, IsRunBy, TakesStep, next_of}
+use Rattle.robust.proofs.AccessCommon.{outcome_of, many_more, events_of_run, process_state_past, process_state_of, next_same, may_advance, run_by_step, more, goes_on, ran_answered, length_snoc, takes_sizes, takes_process_state, free_process_state}
 use Rattle.robust.proofs.AccessCommon.{IsSame, Unanswered, EndsIn, Way}
 use Rattle.rmecore.specs.Simulated.{one_more}
 use Rattle.rmeworld.specs.declared.answer.Answer.{Answer}
-use Rattle.execution.specs.Calls.{answers_from, Going, Turning, Takes, answers_of, blocked_of}
-use Rattle.redomail.specs.Left.{begun}
+use Rattle.table_runs.specs.Calls.{answers_from, Going, Turning, TakesSteps, answers_of, blocked_of}
+use Rattle.redomail.specs.Left.{pending_task}
 use Rattle.rmeworld.specs.Entered.{is_entry}
 use Rattle.rmeworld.specs.ScriptStates.{script_state_of}
-use Rattle.execution.proofs.Turned.{answers-append, later_blocked}
+use Rattle.table_runs.proofs.Turned.{answers-append, later_blocked}
 use Rattle.rmecore.proofs.Accesses.{all_allowed}
 use Rattle.rmeworld.specs.declared.script_state.ScriptState.TheVariants.{Free as IsFree, Doing as Does}
 use Rattle.rmeworld.specs.MachineState.{process_state_of as standing_at, next_access}
@@ -26,7 +26,7 @@ machine_state_of x t b = record { layout = x.setup.layout; limit = x.setup.limit
 pub run_by_free : (x : SeatView) (t : Place) (b : Bool) → process_state_now x ≡ free_process_state t b → IsRunBy x (machine_state_of x t b)
 run_by_free x t b e = record { layout = refl; limit = refl; index = refl; process_state = sym e }
 
-pub may_free : (x : SeatView) (t : Place) (b : Bool) (a : Access) → process_state_now x ≡ free_process_state t b → access x.setup.limit x.by t ≡ Some a → (v : ℕ) → IsSome (moved_process_state x (kind_of a) (word_of a) (carried a v))
+pub may_free : (x : SeatView) (t : Place) (b : Bool) (a : Access) → process_state_now x ≡ free_process_state t b → access x.setup.limit x.by t ≡ Some a → (v : ℕ) → IsSome (moved_process_state x (kind_of a) (word_of a) (carried_value a v))
 may_free x t b a e n v =
     let s = machine_state_of x t b in
     let all : IfSome (next_access s) (IsAllowed s) = lock_allowed s (all_allowed (standing s)) in
@@ -36,9 +36,9 @@ pub unanswered_none : (x : SeatView) → Unanswered x 0 0 x
 unanswered_none x = record { mine = []; long = refl; takes = refl; answers = refl; blocked = refl }
 
 -- one more step, after some without an answer
-module _ (x y z : SeatView) (k : ℕ) (p : Unanswered x k 0 y) (a : Access) (v : ℕ) (next : next_of y ≡ Some a) (may : IsSome (moved_process_state y (kind_of a) (word_of a) (carried a v))) (adv : Advances y (kind_of a) (word_of a) (carried a v) z) where
+module _ (x y z : SeatView) (k : ℕ) (p : Unanswered x k 0 y) (a : Access) (v : ℕ) (next : next_of y ≡ Some a) (may : IsSome (moved_process_state y (kind_of a) (word_of a) (carried_value a v))) (adv : CarriesPending y (kind_of a) (word_of a) (carried_value a v) z) where
   step : TakesStep (seat y (many_more (length p.mine) 0)) (outcome_of y a v) (seat z (one_more (many_more (length p.mine) 0)))
-  step = record { access = a; value = v; next = next; may = may; advances = adv; told = refl; steps = refl }
+  step = record { access = a; value = v; next = next; may = may; advances = adv; reports = refl; steps = refl }
 
   going : Going (seat x 0) p.mine (seat y (many_more (length p.mine) 0))
   going = record { takes = p.takes; answers = p.answers; blocked = p.blocked; steps = refl }
@@ -57,36 +57,36 @@ module _ (x y z : SeatView) (k : ℕ) (p : Unanswered x k 0 y) (a : Access) (v :
       record { mine = more (seat x 0) (seat y (many_more (length p.mine) 0)) (seat z (one_more (many_more (length p.mine) 0))) p.mine (outcome_of y a v) going step; long = longer; takes = r.takes; answers = r.answers; blocked = r.blocked }
 
 -- one more step of the lock's part
-module _ (x y z : SeatView) (k : ℕ) (p : Unanswered x k 0 y) (t : Place) (b : Bool) (here : process_state_now y ≡ free_process_state t b) (a : Access) (v : ℕ) (next : access y.setup.limit y.by t ≡ Some a) (adv : Advances y (kind_of a) (word_of a) (carried a v) z) where
+module _ (x y z : SeatView) (k : ℕ) (p : Unanswered x k 0 y) (t : Place) (b : Bool) (here : process_state_now y ≡ free_process_state t b) (a : Access) (v : ℕ) (next : access y.setup.limit y.by t ≡ Some a) (adv : CarriesPending y (kind_of a) (word_of a) (carried_value a v) z) where
   r : IsRunBy y (machine_state_of y t b)
   r = run_by_free y t b here
 
   is_next : next_of y ≡ Some a
   is_next = sym (next_same y (machine_state_of y t b) r) ∙ next
 
-  says : (o : Option Answer) → by_lock false (answer t (kind_of a) (carried a v)) ≡ o → (outcome_of y a v).answer ≡ o
-  says o h = ap (λ (q : ProcessState). answer_at q (kind_of a) (carried a v)) here ∙ h
+  says : (o : Option Answer) → by_lock false (answer t (kind_of a) (carried_value a v)) ≡ o → (outcome_of y a v).answer ≡ o
+  says o h = ap (λ (q : ProcessState). answer_at q (kind_of a) (carried_value a v)) here ∙ h
 
-  pub silent : by_lock false (answer t (kind_of a) (carried a v)) ≡ None → is_blocked y.by t (kind_of a) (carried a v) ≡ false → Unanswered x (k + 1) 0 z
-  silent none free = silent_by x y z k p a v is_next (may_free y t b a here next v) adv (says None none) (ap (λ (q : ProcessState). blocked_by y.by q.lock q.script_state (kind_of a) (carried a v)) here ∙ free)
+  pub silent : by_lock false (answer t (kind_of a) (carried_value a v)) ≡ None → is_blocked y.by t (kind_of a) (carried_value a v) ≡ false → Unanswered x (k + 1) 0 z
+  silent none free = silent_by x y z k p a v is_next (may_free y t b a here next v) adv (says None none) (ap (λ (q : ProcessState). blocked_by y.by q.lock q.script_state (kind_of a) (carried_value a v)) here ∙ free)
 
-  pub ended : (said : Answer) → by_lock false (answer t (kind_of a) (carried a v)) ≡ Some said → EndsIn x (k + 1) said z
+  pub ended : (said : Answer) → by_lock false (answer t (kind_of a) (carried_value a v)) ≡ Some said → EndsIn x (k + 1) said z
   ended said is = ended_by x y z k p a v is_next (may_free y t b a here next v) adv said (says (Some said) is)
 
   -- the state after the step
   pub there_by : (u : Place) → after_access (standing (machine_state_of y t b)) (lock_access (standing (machine_state_of y t b))) v ≡ u → process_state_now z ≡ standing_at (lock_moved (machine_state_of y t b) u)
   there_by u to =
       let goes = lock_goes (machine_state_of y t b) v (all_allowed (standing (machine_state_of y t b))) in
-      let run = run_by_step y z (machine_state_of y t b) (stepped (machine_state_of y t b) v) a v r next adv refl refl refl goes in
+      let run = run_by_step y z (machine_state_of y t b) (machine_after_step (machine_state_of y t b) v) a v r next adv refl refl refl goes in
       sym run.process_state ∙ ap (λ (w : Place). standing_at (lock_moved (machine_state_of y t b) w)) to
 
   -- the state after the step, if that is no entry
   pub there : (u : Place) → after_access (standing (machine_state_of y t b)) (lock_access (standing (machine_state_of y t b))) v ≡ u → is_entry t u ≡ false → mended_entered b t u ≡ b → process_state_now z ≡ free_process_state u b
-  there u to none kept = there_by u to ∙ (λ i. record { lock = u; mended = kept i; barred = false; script_state = script_state_of (if none i then Does Checking (begun y.setup.layout y.by Check) else IsFree) })
+  there u to none kept = there_by u to ∙ (λ i. record { lock = u; mended = kept i; barred = false; script_state = script_state_of (if none i then Does Checking (pending_task y.setup.layout y.by Check) else IsFree) })
 
 -- one step of the lock's part alone
-pub moves : (y z : SeatView) (t u : Place) (a : Access) (v : ℕ) → process_state_now y ≡ free_process_state t (process_state_now y).mended → access y.setup.limit y.by t ≡ Some a → Advances y (kind_of a) (word_of a) (carried a v) z
-    → after_access (standing (machine_state_of y t (process_state_now y).mended)) (lock_access (standing (machine_state_of y t (process_state_now y).mended))) v ≡ u → by_lock false (answer t (kind_of a) (carried a v)) ≡ None → is_blocked y.by t (kind_of a) (carried a v) ≡ false → is_entry t u ≡ false
+pub moves : (y z : SeatView) (t u : Place) (a : Access) (v : ℕ) → process_state_now y ≡ free_process_state t (process_state_now y).mended → access y.setup.limit y.by t ≡ Some a → CarriesPending y (kind_of a) (word_of a) (carried_value a v) z
+    → after_access (standing (machine_state_of y t (process_state_now y).mended)) (lock_access (standing (machine_state_of y t (process_state_now y).mended))) v ≡ u → by_lock false (answer t (kind_of a) (carried_value a v)) ≡ None → is_blocked y.by t (kind_of a) (carried_value a v) ≡ false → is_entry t u ≡ false
     → mended_entered (process_state_now y).mended t u ≡ (process_state_now y).mended → Way y 1 z u
 moves y z t u a v at next adv to none free out kept = record {
   at = there y y z 0 (unanswered_none y) t (process_state_now y).mended at a v next adv u to out kept;
@@ -95,17 +95,17 @@ moves y z t u a v at next adv to none free out kept = record {
   same = (adv.adds.setup, adv.adds.by);
 }
 
-pub takes-append : (x y z : SeatView) (a b : List TakenStep) → Takes x a y → Takes y b z → Takes x (a ++ b) z
-takes-append x y z [] b h k = subst (λ (p : SeatView). Takes p b z) h k
+pub takes-append : (x y z : SeatView) (a b : List TakenStep) → TakesSteps x a y → TakesSteps y b z → TakesSteps x (a ++ b) z
+takes-append x y z [] b h k = subst (λ (p : SeatView). TakesSteps p b z) h k
 takes-append x y z (e ∷ es) b h k = (h.0, h.1, h.2, takes-append h.0 y z es b h.3 k, h.4)
 
 -- steps without an answer, then more steps
-module _ (x y z : SeatView) (j : ℕ) (p : Unanswered x j 0 y) (b : List TakenStep) (takes : Takes y b z) where
+module _ (x y z : SeatView) (j : ℕ) (p : Unanswered x j 0 y) (b : List TakenStep) (takes : TakesSteps y b z) where
   then_answers : answers_of x (p.mine ++ b) ≡ answers_of y b
   then_answers =
       let sizes = takes_sizes x y p.mine p.takes in
       answers-append x.setup (process_state_of x.setup x.by x.seen) p.mine b
-      ∙ ap (λ (l : List Answer). l ++ answers_from x.setup (gone x.setup (process_state_of x.setup x.by x.seen) (spelled p.mine)) b) p.answers
+      ∙ ap (λ (l : List Answer). l ++ answers_from x.setup (process_state_past x.setup (process_state_of x.setup x.by x.seen) (events_of_run p.mine)) b) p.answers
       ∙ ap (λ (u : Setup × ProcessState). answers_from u.0 u.1 b) (λ i. (sym sizes.0 i, sym (takes_process_state x y p.mine p.takes) i))
 
   then_blocked : blocked_of x (p.mine ++ b) ≡ blocked_of y b

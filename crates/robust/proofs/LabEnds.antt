@@ -2,18 +2,18 @@
 use Rattle.std.proofs.Common.{◌≡◌, ℕ, ◌*◌, ◌<◌, ◌≤◌, true, List, [], ◌∷◌, ◌++◌, length, slice_index, map, Some, None, All, refl, sym, ap, ◌∙◌, subst, inl, inr, arith, append_assoc, append-nil, length-append}
 use Rattle.robust.proofs.Common.{cases_lt, All-nil, All-cons, All-head, All-tail, All-contains, Layout, Message, Reply, Words, IsLayout, words_of, IsAmong, entries, count_of, IsNumbered, Close, Image}
 use Rattle.robust.proofs.Common.{layout_of, IsLawfulImage, EveryMessageWasSent, ReplyTells, EveryCloseWasAsked, WorldEvent, Begins, who, at_first, lawful_content, TakenStep, Setup, Gathers, IsGlance}
-use Rattle.robust.proofs.Common.{has_member, image_at, shown_by, judged_by, cells_of, RunsShow, LoadsTell, AreInOrder, NobodyRuins, Seated, spelled, own, IsRun, end_of, all_left, cells_counted}
-use Rattle.robust.proofs.Common.{own-append, legal_front, shown_on, Keeps, Holds, all_hold, each_holds, AllSent, Fault, Refused, Member, Spec, fault_by, Done, IsFirstFault, EndsSo, EndsLab, WasSpent}
-use Rattle.robust.proofs.Common.{IsLabRun, OfStart, IsSending, AreSending, HasShown, sizes_of, HasWorked, Answer, NumbersSpent as SpentAnswer, at_rest, answers_from, gone, own_of, count_from, all_both, member_at, messages_by, messages_sent}
+use Rattle.robust.proofs.Common.{has_member, image_at, shown_by, judged_by, cells_of, RunsShow, LoadsTell, AreInWorkerOrder, NobodyRuins, Seated, events_of_run, entries_of, IsRun, end_of, all_left, cells_counted}
+use Rattle.robust.proofs.Common.{own-append, legal_front, shown_on, Keeps, Holds, all_hold, each_holds, AllSent, Fault, Refused, Member, Spec, fault_by, Done, IsFirstWorkerFault, EndsSo, EndsLab, NumbersWereSpent}
+use Rattle.robust.proofs.Common.{IsLabRun, OfStart, IsSending, AreSending, HasShown, sizes_of, HasWorked, Answer, NumbersSpent as SpentAnswer, at_rest, answers_from, process_state_past, own_of, count_from, all_both, member_at, messages_by, messages_sent}
 use Rattle.redomail.proofs.Changes.{length-entries}
-use Rattle.execution.proofs.Ordered.{order_more}
-use Rattle.one_lock.specs.declared.lab.lab_fault.LabFault.{LabFault}
-use Rattle.one_lock.specs.declared.lab.lab_fault.LabFault.TheVariants.{Reply as Replied}
-use Rattle.one_lock.specs.declared.lab.ending.WorkerEnd.{WorkerEnd}
-use Rattle.execution.specs.Rule.{Begins as Starts}
+use Rattle.table_runs.proofs.Ordered.{order_more}
+use Rattle.table_runs.specs.declared.lab.lab_fault.LabFault.{LabFault}
+use Rattle.table_runs.specs.declared.lab.lab_fault.LabFault.TheVariants.{Reply as Replied}
+use Rattle.table_runs.specs.declared.lab.worker_end.WorkerEnd.{WorkerEnd}
+use Rattle.table_runs.specs.Rule.{IsPrefixOf as Starts}
 use Rattle.robust.proofs.AllSent.{OfBegins, begins_all, begins_it, content_numbered, shown_entries, at_most, its, gathered_layout, sending_more}
 use Rattle.robust.proofs.Below.{member_of, number_of, has_below}
-use Rattle.execution.proofs.Turned.{answers-append}
+use Rattle.table_runs.proofs.Turned.{answers-append}
 use Rattle.robust.proofs.Appended.{all_at, among_more}
 use Rattle.robust.proofs.Numbered.{senders, has_all, fewer_all}
 use Rattle.robust.proofs.Unruined.{execution_within, none_read}
@@ -36,7 +36,7 @@ none_long [] h = refl
 none_long (x ∷ xs) h = absurd (cc)
 
 -- at one point of the run its mailbox refused a message
-module _ (s : Spec) (run front rest : List TakenStep) (is : run ≡ front ++ rest) (layout : IsLayout (sizes_of s).layout) (legal : IsRun (sizes_of s) run) (sending : (p : ℕ) → p < s.procs → AreSending s.width s.messages p (own p run)) where
+module _ (s : Spec) (run front rest : List TakenStep) (is : run ≡ front ++ rest) (layout : IsLayout (sizes_of s).layout) (legal : IsRun (sizes_of s) run) (sending : (p : ℕ) → p < s.procs → AreSending s.width s.messages p (entries_of p run)) where
   abbrev z : Setup
   z = sizes_of s
 
@@ -46,13 +46,13 @@ module _ (s : Spec) (run front rest : List TakenStep) (is : run ≡ front ++ res
   -- no worker closes it
   never_closed : EveryCloseWasAsked → (judged_by z front).mail.closed ≡ true → ⊥
   never_closed every closed =
-      let asked = every z.layout z.limit (spelled front) layout front_run closed in
+      let asked = every z.layout z.limit (events_of_run front) layout front_run closed in
       let p = asked.0 in
       let P = IsSending s.width s.messages p in
       let F : TakenStep → Type 0 = λ e. OfStart P e.step.start in
-      let below : p < s.procs = All-contains (λ (h : WorldEvent). who h < s.procs) (spelled front) (Begins p Close) (execution_within z.layout z.limit at_first (spelled front) front_run) asked.1 in
-      let mine : All F (own p front) = all_left F (own p front) (own p rest) (subst (All F) (ap (own p) is ∙ own-append p front rest) (sending p below)) in
-      begins_it P p Close (All-contains (OfBegins P p) (spelled front) (Begins p Close) (begins_all P p front mine) asked.1)
+      let below : p < s.procs = All-contains (λ (h : WorldEvent). who h < s.procs) (events_of_run front) (Begins p Close) (execution_within z.layout z.limit at_first (events_of_run front) front_run) asked.1 in
+      let mine : All F (entries_of p front) = all_left F (entries_of p front) (entries_of p rest) (subst (All F) (ap (entries_of p) is ∙ own-append p front rest) (sending p below)) in
+      begins_it P p Close (All-contains (OfBegins P p) (events_of_run front) (Begins p Close) (begins_all P p front mine) asked.1)
 
   -- if it was full, there is less room than there are messages
   module _ (w : Words) (n : ℕ) (numbered : IsNumbered z.layout w n) (sent : EveryMessageWasSent) (shown : shown_by z run ≡ entries z.layout w n) (room : n ≤ s.cap) where
@@ -82,12 +82,12 @@ module _ (s : Spec) (run front rest : List TakenStep) (is : run ≡ front ++ res
         omega (arith, fewer, count)
 
 -- it was answered so at a point of a longer run too
-spent_more : (z : Setup) (es more : List TakenStep) → WasSpent z es → WasSpent z (es ++ more)
+spent_more : (z : Setup) (es more : List TakenStep) → NumbersWereSpent z es → NumbersWereSpent z (es ++ more)
 spent_more z es more h =
-    let later : List Answer = answers_from z (gone z at_rest (spelled es)) more in
+    let later : List Answer = answers_from z (process_state_past z at_rest (events_of_run es)) more in
     (h.0, h.1 ++ later, answers-append z at_rest es more ∙ ap (λ (l : List Answer). l ++ later) h.2 ∙ append_assoc h.0 (SpentAnswer ∷ h.1) later)
 
-pub lab_ends : (s : Spec) (ended : List Done) (image : Image) (cause : LabFault) → IsLayout (sizes_of s).layout → All (λ (x : Seated). x.seat_view.setup ≡ sizes_of s) (map member_of ended) → All (HasWorked s) ended → map number_of ended ≡ count_from 0 s.procs → IsFirstFault ended cause → Gathers (map member_of ended) image
+pub lab_ends : (s : Spec) (ended : List Done) (image : Image) (cause : LabFault) → IsLayout (sizes_of s).layout → All (λ (x : Seated). x.seat_view.setup ≡ sizes_of s) (map member_of ended) → All (HasWorked s) ended → map number_of ended ≡ count_from 0 s.procs → IsFirstWorkerFault ended cause → Gathers (map member_of ended) image
     → IsLawfulImage image → EveryMessageWasSent → EveryCloseWasAsked → RunsShow → LoadsTell → NobodyRuins → EndsLab s cause
 lab_ends s ended image cause layout setups worked order f g lawful was closes shows loads nobody = by f.done.ending has.1 f.cause_is
   where
@@ -118,22 +118,22 @@ lab_ends s ended image cause layout setups worked order f g lawful was closes sh
     legal : IsRun z g.run
     legal = subst (λ (u : Setup). IsRun u g.run) same g.legal
 
-    keeps : All (Keeps Q more g.first g.others (length g.others) g.run g.told) (g.first ∷ g.others)
-    keeps = subst (All (Keeps Q more g.first g.others (length g.others) g.run g.told)) g.are (to_mapped member_of (Keeps Q more g.first g.others (length g.others) g.run g.told) (HasWorked s) ended (λ d h. h.0) worked)
+    keeps : All (Keeps Q more g.first g.others (length g.others) g.run g.reports) (g.first ∷ g.others)
+    keeps = subst (All (Keeps Q more g.first g.others (length g.others) g.run g.reports)) g.are (to_mapped member_of (Keeps Q more g.first g.others (length g.others) g.run g.reports) (HasWorked s) ended (λ d h. h.0) worked)
 
     H : Seated → Type 0
-    H = Holds Q more g.first g.others (length g.others) g.run g.told
+    H = Holds Q more g.first g.others (length g.others) g.run g.reports
 
     held : All H (map member_of ended)
-    held = subst (All H) (sym g.are) (all_hold Q more g.first g.others (length g.others) g.run g.told keeps)
+    held = subst (All H) (sym g.are) (all_hold Q more g.first g.others (length g.others) g.run g.reports keeps)
 
     starts : Starts x.seat_view.seen g.run
     starts = (all_mapped member_of H f.front f.done f.back (subst (λ (ds : List Done). All H (map member_of ds)) f.are held)).1
 
-    sending : (p : ℕ) → p < s.procs → AreSending s.width s.messages p (own p g.run)
+    sending : (p : ℕ) → p < s.procs → AreSending s.width s.messages p (entries_of p g.run)
     sending p low =
         let there : has_member p (g.first ∷ g.others) ≡ true = subst (λ (l : List Seated). has_member p l ≡ true) g.are (g.all p (subst (λ (u : Setup). p < u.layout.procs) (sym same) low)) in
-        each_holds Q more g.first g.others (length g.others) g.run g.told keeps p there
+        each_holds Q more g.first g.others (length g.others) g.run g.reports keeps p there
 
     of_front : (front rest : List TakenStep) → g.run ≡ front ++ rest → IsLabRun s front
     of_front front rest split =
@@ -141,20 +141,20 @@ lab_ends s ended image cause layout setups worked order f g lawful was closes sh
           legal = legal_front z front rest (subst (IsRun z) split legal);
           sending = λ q low.
               (let F : TakenStep → Type 0 = λ e. OfStart (IsSending s.width s.messages q) e.step.start in
-              all_left F (own q front) (own q rest) (subst (All F) (ap (own q) split ∙ own-append q front rest) (sending q low)));
+              all_left F (entries_of q front) (entries_of q rest) (subst (All F) (ap (entries_of q) split ∙ own-append q front rest) (sending q low)));
         }
 
     O : ℕ → List TakenStep → Type 0
-    O p es = AreInOrder None es
+    O p es = AreInWorkerOrder None es
 
-    keep_order : All (Keeps O order_more g.first g.others (length g.others) g.run g.told) (g.first ∷ g.others)
+    keep_order : All (Keeps O order_more g.first g.others (length g.others) g.run g.reports) (g.first ∷ g.others)
     keep_order =
-        subst (All (Keeps O order_more g.first g.others (length g.others) g.run g.told)) g.are (to_mapped member_of (Keeps O order_more g.first g.others (length g.others) g.run g.told) (HasWorked s) ended (λ d h. h.2) worked)
+        subst (All (Keeps O order_more g.first g.others (length g.others) g.run g.reports)) g.are (to_mapped member_of (Keeps O order_more g.first g.others (length g.others) g.run g.reports) (HasWorked s) ended (λ d h. h.2) worked)
 
-    ordered : (p : ℕ) → p < s.procs → AreInOrder None (own p g.run)
+    ordered : (p : ℕ) → p < s.procs → AreInWorkerOrder None (entries_of p g.run)
     ordered p low =
         let there : has_member p (g.first ∷ g.others) ≡ true = subst (λ (l : List Seated). has_member p l ≡ true) g.are (g.all p (subst (λ (u : Setup). p < u.layout.procs) (sym same) low)) in
-        each_holds O order_more g.first g.others (length g.others) g.run g.told keep_order p there
+        each_holds O order_more g.first g.others (length g.others) g.run g.reports keep_order p there
 
     w : Words
     w = words_of image.cells
@@ -217,17 +217,17 @@ lab_ends s ended image cause layout setups worked order f g lawful was closes sh
     same_fault one other is = cc
 
     -- it was answered so in the whole run
-    whole : WasSpent x.seat_view.setup (own_of x.seat_view) → WasSpent z (own x.seat_view.by g.run)
+    whole : NumbersWereSpent x.seat_view.setup (own_of x.seat_view) → NumbersWereSpent z (entries_of x.seat_view.by g.run)
     whole h =
         let p = x.seat_view.by in
-        let here : WasSpent z (own p x.seat_view.seen) = subst (λ (u : Setup). WasSpent u (own p x.seat_view.seen)) setup h in
-        subst (WasSpent z) (sym (ap (own p) starts.1 ∙ own-append p x.seat_view.seen starts.0)) (spent_more z (own p x.seat_view.seen) (own p starts.0) here)
+        let here : NumbersWereSpent z (entries_of p x.seat_view.seen) = subst (λ (u : Setup). NumbersWereSpent u (entries_of p x.seat_view.seen)) setup h in
+        subst (NumbersWereSpent z) (sym (ap (entries_of p) starts.1 ∙ own-append p x.seat_view.seen starts.0)) (spent_more z (entries_of p x.seat_view.seen) (entries_of p starts.0) here)
 
     by : (e : WorkerEnd) → EndsSo s x e → fault_by x.seat_view.by e ≡ Some cause → EndsLab s cause
     by AllSent h is = absurd (cc)
     by (Fault purpose) (inl spent) is =
         subst (EndsLab s) (same_fault (Member x.seat_view.by purpose) cause is) (below, spent.0, (g.run, record { legal = legal; sending = sending }, below_in (shown_by z g.run) (sym shown), whole spent.1))
-    by (Fault purpose) (inr ruin) is = absurd (none_read z x.seat_view.seen starts.0 x.seat_view.by layout (subst (IsRun z) starts.1 legal) (λ p low. subst (λ (es : List TakenStep). AreInOrder None (own p es)) starts.1 (ordered p low)) loads nobody ruin.1)
+    by (Fault purpose) (inr ruin) is = absurd (none_read z x.seat_view.seen starts.0 x.seat_view.by layout (subst (IsRun z) starts.1 legal) (λ p low. subst (λ (es : List TakenStep). AreInWorkerOrder None (entries_of p es)) starts.1 (ordered p low)) loads nobody ruin.1)
     by (Refused reply) h is =
         let at = h.1.3 in
         let seq = h.1.0 in
@@ -236,9 +236,9 @@ lab_ends s ended image cause layout setups worked order f g lawful was closes sh
         let tells : ReplyTells z.layout x.seat_view.by seq reply (judged_by z at.front).mail = subst (λ (u : Setup). ReplyTells u.layout x.seat_view.by seq reply (judged_by u at.front).mail) setup at.tells in
         elim h.0 [
           | inl full ↦
-              (let told = subst (λ (r : Reply). ReplyTells z.layout x.seat_view.by seq r (judged_by z at.front).mail) full tells in
-              subst (EndsLab s) (same_fault (Replied x.seat_view.by reply) cause is) (below, full, little_room s g.run at.front rest split layout legal sending w n numbered was shown room x.seat_view.by seq below h.1.1 h.1.2 told.0 told.1, (at.front, of_front at.front rest split, below_in (shown_by z at.front) (sym (full_shows s g.run at.front rest split layout legal sending w n numbered was shown room told.0)), (seq, h.1.1, h.1.2, tells))))
+              (let reports = subst (λ (r : Reply). ReplyTells z.layout x.seat_view.by seq r (judged_by z at.front).mail) full tells in
+              subst (EndsLab s) (same_fault (Replied x.seat_view.by reply) cause is) (below, full, little_room s g.run at.front rest split layout legal sending w n numbered was shown room x.seat_view.by seq below h.1.1 h.1.2 reports.0 reports.1, (at.front, of_front at.front rest split, below_in (shown_by z at.front) (sym (full_shows s g.run at.front rest split layout legal sending w n numbered was shown room reports.0)), (seq, h.1.1, h.1.2, tells))))
           | inr closed ↦
-              (let told = subst (λ (r : Reply). ReplyTells z.layout x.seat_view.by seq r (judged_by z at.front).mail) closed tells in
-              absurd (never_closed s g.run at.front rest split layout legal sending closes told.0))
+              (let reports = subst (λ (r : Reply). ReplyTells z.layout x.seat_view.by seq r (judged_by z at.front).mail) closed tells in
+              absurd (never_closed s g.run at.front rest split layout legal sending closes reports.0))
         ]

@@ -1,6 +1,6 @@
 -- One more step of a scan.
 use Rattle.std.proofs.Common.{◌≡◌, ◌≢◌, ℕ, ◌+◌, ◌<◌, max, List, Some, refl, sym, ap, ◌∙◌, arith}
-use Rattle.robust.proofs.AccessCommon.{Load, Peek as Peeks, Number as NumberOf, access, Door, above, first_here, above_first, above_skip, ProcessState, standing, process_state_now, SeatView, Advances, free_process_state, Way}
+use Rattle.robust.proofs.AccessCommon.{Load, Peek as Peeks, Number as NumberOf, access, Door, above, first_here, above_first, above_skip, ProcessState, standing, process_state_now, SeatView, CarriesPending, free_process_state, Way}
 use Rattle.rmecore.proofs.MachineSteps.{door_goes}
 use Rattle.robust.proofs.FreeSteps.{machine_state_of, moves, way_then, way_to}
 
@@ -20,7 +20,7 @@ module _ (x y : SeatView) (j m k : ℕ) (w : Way x k y (Door (above x.setup.layo
     other : j ≢ y.by
     other = λ e. ne (e ∙ w.same.1)
 
-    pub peeked : (z : SeatView) (v : ℕ) → Advances y Peeks (NumberOf j) v z → Way x (k + 1) z (Door (above x.setup.layout.procs x.by (j + 1)) (max m v))
+    pub peeked : (z : SeatView) (v : ℕ) → CarriesPending y Peeks (NumberOf j) v z → Way x (k + 1) z (Door (above x.setup.layout.procs x.by (j + 1)) (max m v))
     peeked z v adv =
         let n = y.setup.layout.procs in
         let b = (process_state_now y).mended in

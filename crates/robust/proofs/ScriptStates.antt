@@ -1,15 +1,15 @@
 -- At which states of a whole mailbox call a reply can come: but for the mending's, it is the task's.
 use Rattle.std.proofs.Common.{◌≡◌, ℕ, ◌==◌, ◌&&◌, Bool, true, false, if◌then◌else◌, List, [], ◌∷◌, ◌++◌, length, Option, Some, None, All, unwrap_or, refl, sym, ap, ◌∙◌, subst}
-use Rattle.robust.proofs.Common.{All-nil, All-cons, All-head, All-tail, Kind, Word, Data as DataAt, Place, Dead, Inside, next, started, Layout, Reply, Task, Answer, Mail, Call, Append, Lock, Unlock}
-use Rattle.robust.proofs.Common.{Consistent, Recover, Close, Withdraw, answer_at, by_lock, by_reply, by_script, answer_by, ScriptState, Free, Doing, ProcessState, at_lock, settled, only_process_state, moved_by}
-use Rattle.robust.proofs.Common.{inside_only, begun_from, TakenStep, Setup, process_state_before, answers_from, and_call, starts, before, taken, world_events, spelled, gone, Replies, Mends, gone-append, by_kind}
+use Rattle.robust.proofs.Common.{All-nil, All-cons, All-head, All-tail, Kind, Word, Data as DataAt, Place, Dead, Inside, next, place_after_start, Layout, Reply, Task, Answer, Mail, Call, Append, Lock, Unlock}
+use Rattle.robust.proofs.Common.{Consistent, Recover, Close, Withdraw, answer_at, by_lock, by_reply, by_script, answer_by, ScriptState, Free, Doing, ProcessState, at_lock, process_after_script, only_process_state, moved_by}
+use Rattle.robust.proofs.Common.{inside_only, begun_from, TakenStep, Setup, process_state_before, answers_from, and_call, starts, before, access_event, world_events, events_of_run, process_state_past, AllReplies, IsMendingReply, gone-append, by_kind}
 use Rattle.robust.proofs.Common.{OfStart}
 use Rattle.rmecore.specs.declared.kind.Kind.TheVariants.{Get as Gets, Put as Puts}
 use Rattle.rmecore.specs.Machine.{answer}
 use Rattle.redomail.specs.Tasks.{script, consistent}
 use Rattle.rmeworld.specs.declared.purpose.Purpose.TheVariants.{Checking, Ruining, Mending, Working}
 use Rattle.rmeworld.specs.Entered.{is_entry}
-use Rattle.execution.proofs.Begun.{mends_consistent}
+use Rattle.table_runs.proofs.Begun.{mends_consistent}
 use Rattle.rmecore.specs.declared.core_call.CoreCall.TheVariants as core
 use Rattle.rmecore.specs.declared.core_done.CoreDone.{CoreDone}
 use Rattle.rmecore.specs.declared.core_done.CoreDone.TheVariants as ends
@@ -30,7 +30,7 @@ abbrev pub Only : Task → ScriptState → Type 0
 Only t Free = Unit {0}
 Only t (Doing Checking left) = Unit {0}
 Only t (Doing Ruining left) = Unit {0}
-Only t (Doing Mending left) = Replies Mends left
+Only t (Doing Mending left) = AllReplies IsMendingReply left
 Only t (Doing (Working u) left) = u ≡ t
 
 -- a call that starts no other task
@@ -58,7 +58,7 @@ module _ (t : Task) where
   abbrev At : Option ProcessState → ProcessState → Type 0
   At o d = Only t (unwrap_or o d).script_state
 
-  only_settled : (b c : Bool) (purpose : Purpose) (left : Script Reply) → Only t (Doing purpose left) → Only t (settled b c purpose left).script_state
+  only_settled : (b c : Bool) (purpose : Purpose) (left : Script Reply) → Only t (Doing purpose left) → Only t (process_after_script b c purpose left).script_state
   only_settled b c purpose (Done r) h = tt
   only_settled b c purpose _ h = h
 
@@ -84,8 +84,8 @@ module _ (t : Task) where
 
   only_moved : (l : Layout) (limit p : ℕ) (s : Place) (b c : Bool) (e : ScriptState) (kind : Kind) (word : Word) (v : ℕ) (d : ProcessState) → Only t e → Only t d.script_state → At (moved_by l limit p s b c e kind word v) d
   only_moved l limit p s b c Free kind word v d h k = only_placed l p s b c (next l.procs limit p s kind word v) d k
-  only_moved l limit p s b c (Doing purpose (Asks j rest)) Gets (DataAt i) v d h k = only_if (i == j) (settled b c purpose (rest v)) d (only_settled b c purpose (rest v) (only_asked purpose j v rest h)) k
-  only_moved l limit p s b c (Doing purpose (Writes j x rest)) Puts (DataAt i) v d h k = only_if ((i == j) && (v == x)) (settled b c purpose rest) d (only_settled b c purpose rest (only_written purpose j x rest h)) k
+  only_moved l limit p s b c (Doing purpose (Asks j rest)) Gets (DataAt i) v d h k = only_if (i == j) (process_after_script b c purpose (rest v)) d (only_settled b c purpose (rest v) (only_asked purpose j v rest h)) k
+  only_moved l limit p s b c (Doing purpose (Writes j x rest)) Puts (DataAt i) v d h k = only_if ((i == j) && (v == x)) (process_after_script b c purpose rest) d (only_settled b c purpose rest (only_written purpose j x rest h)) k
   only_moved l limit p s b c _ _ _ v d h k = k
 
   only_inside : (s : Place) (b fits : Bool) (purpose : Purpose) (left : Script Reply) (d : ProcessState) → Only t (Doing purpose left) → Only t d.script_state → At (inside_only s b fits purpose left) d
@@ -93,10 +93,10 @@ module _ (t : Task) where
   only_inside _ b fits purpose left d h k = k
 
   pub only_begun : (l : Layout) (p : ℕ) (s : Place) (b : Bool) (e : ScriptState) (call : Call) (d : ProcessState) → Brings t call → Only t d.script_state → At (begun_from l p s b e call) d
-  only_begun l p s b Free Lock d h k = only_placed l p s b false (started s core.Lock) d k
-  only_begun l p s b Free Recover d h k = only_placed l p s b false (started s core.Recover) d k
-  only_begun l p s b Free Withdraw d h k = only_placed l p s b false (started s core.Withdraw) d k
-  only_begun l p s true Free Unlock d h k = only_placed l p s true false (started s core.Unlock) d k
+  only_begun l p s b Free Lock d h k = only_placed l p s b false (place_after_start s core.Lock) d k
+  only_begun l p s b Free Recover d h k = only_placed l p s b false (place_after_start s core.Recover) d k
+  only_begun l p s b Free Withdraw d h k = only_placed l p s b false (place_after_start s core.Withdraw) d k
+  only_begun l p s true Free Unlock d h k = only_placed l p s true false (place_after_start s core.Unlock) d k
   only_begun l p s false Free Unlock d h k = only_inside s false true Ruining (script l p task.Ruin) d tt k
   only_begun l p s true Free Consistent d h k = k
   only_begun l p s false Free Consistent d h k = only_inside s false true Mending (consistent l p) d (mends_consistent l p) k
@@ -107,19 +107,19 @@ module _ (t : Task) where
   only_begun l p s b (Doing purpose left) call d h k = k
 
   module _ (s : Setup) where
-    only_before : (crashed : Bool) (o : Option Call) (p : ℕ) (process_state : ProcessState) → OfStart (Brings t) o → Only t process_state.script_state → Only t (gone s process_state (before crashed o p)).script_state
+    only_before : (crashed : Bool) (o : Option Call) (p : ℕ) (process_state : ProcessState) → OfStart (Brings t) o → Only t process_state.script_state → Only t (process_state_past s process_state (before crashed o p)).script_state
     only_before true None p process_state h k = tt
     only_before true (Some call) p process_state h k = only_begun s.layout p Dead true Free call (record { lock = Dead; mended = true; barred = false; script_state = Free }) h tt
     only_before false None p process_state h k = k
     only_before false (Some call) p process_state h k = only_begun s.layout p process_state.lock process_state.mended process_state.script_state call process_state h k
 
-    only_taken : (p : ℕ) (kind : Kind) (word : Word) (v : ℕ) (process_state : ProcessState) → Only t process_state.script_state → Only t (gone s process_state (taken p kind word v ∷ [])).script_state
+    only_taken : (p : ℕ) (kind : Kind) (word : Word) (v : ℕ) (process_state : ProcessState) → Only t process_state.script_state → Only t (process_state_past s process_state (access_event p kind word v ∷ [])).script_state
     only_taken p kind word v process_state h =
-        by_kind (λ k e. Only t (gone s process_state (e ∷ [])).script_state) p word v h (λ k. only_moved s.layout s.limit p process_state.lock process_state.mended process_state.barred process_state.script_state k word v process_state h h) kind
+        by_kind (λ k e. Only t (process_state_past s process_state (e ∷ [])).script_state) p word v h (λ k. only_moved s.layout s.limit p process_state.lock process_state.mended process_state.barred process_state.script_state k word v process_state h h) kind
 
-    only_after : (process_state : ProcessState) (e : TakenStep) → Only t (process_state_before s process_state e).script_state → Only t (gone s process_state (world_events e)).script_state
+    only_after : (process_state : ProcessState) (e : TakenStep) → Only t (process_state_before s process_state e).script_state → Only t (process_state_past s process_state (world_events e)).script_state
     only_after process_state e h =
-        subst (λ (u : ProcessState). Only t u.script_state) (sym (gone-append s process_state (before e.step.crashed e.step.start e.by) (taken e.by e.step.kind e.step.word e.value ∷ [])))
+        subst (λ (u : ProcessState). Only t u.script_state) (sym (gone-append s process_state (before e.step.crashed e.step.start e.by) (access_event e.by e.step.kind e.step.word e.value ∷ [])))
         (only_taken e.by e.step.kind e.step.word e.value (process_state_before s process_state e) h)
 
     -- one of these entries has this answer, where only this task may be under way
@@ -128,12 +128,12 @@ module _ (t : Task) where
       pub entry : TakenStep
       pub back : List TakenStep
       pub is : mine ≡ front ++ entry ∷ back
-      pub answer : answer_at (process_state_before s (gone s process_state (spelled front)) entry) entry.step.kind entry.value ≡ Some a
-      pub only : Only t (process_state_before s (gone s process_state (spelled front)) entry).script_state
+      pub answer : answer_at (process_state_before s (process_state_past s process_state (events_of_run front)) entry) entry.step.kind entry.value ≡ Some a
+      pub only : Only t (process_state_before s (process_state_past s process_state (events_of_run front)) entry).script_state
 
-    later_on : (process_state : ProcessState) (e : TakenStep) (es : List TakenStep) (a : Answer) → Answering (gone s process_state (world_events e)) es a → Answering process_state (e ∷ es) a
+    later_on : (process_state : ProcessState) (e : TakenStep) (es : List TakenStep) (a : Answer) → Answering (process_state_past s process_state (world_events e)) es a → Answering process_state (e ∷ es) a
     later_on process_state e es a h =
-        let same : gone s (gone s process_state (world_events e)) (spelled h.front) ≡ gone s process_state (spelled (e ∷ h.front)) = sym (gone-append s process_state (world_events e) (spelled h.front)) in
+        let same : process_state_past s (process_state_past s process_state (world_events e)) (events_of_run h.front) ≡ process_state_past s process_state (events_of_run (e ∷ h.front)) = sym (gone-append s process_state (world_events e) (events_of_run h.front)) in
         record {
           front = e ∷ h.front;
           entry = h.entry;
@@ -143,12 +143,12 @@ module _ (t : Task) where
           only = subst (λ (u : ProcessState). Only t (process_state_before s u h.entry).script_state) same h.only;
         }
 
-    here_or_later : (process_state : ProcessState) (e : TakenStep) (es : List TakenStep) (a : Answer) (told rest : List Answer) → Only t (process_state_before s process_state e).script_state → answers_from s process_state (e ∷ es) ≡ told ++ a ∷ rest
-        → ((more : List Answer) → answers_from s (gone s process_state (world_events e)) es ≡ more ++ a ∷ rest → Answering process_state (e ∷ es) a) → Answering process_state (e ∷ es) a
-    here_or_later process_state e es a told rest only is later = go (answer_at (process_state_before s process_state e) e.step.kind e.value) refl told is
+    here_or_later : (process_state : ProcessState) (e : TakenStep) (es : List TakenStep) (a : Answer) (reports rest : List Answer) → Only t (process_state_before s process_state e).script_state → answers_from s process_state (e ∷ es) ≡ reports ++ a ∷ rest
+        → ((more : List Answer) → answers_from s (process_state_past s process_state (world_events e)) es ≡ more ++ a ∷ rest → Answering process_state (e ∷ es) a) → Answering process_state (e ∷ es) a
+    here_or_later process_state e es a reports rest only is later = go (answer_at (process_state_before s process_state e) e.step.kind e.value) refl reports is
       where
         others : List Answer
-        others = answers_from s (gone s process_state (world_events e)) es
+        others = answers_from s (process_state_past s process_state (world_events e)) es
 
         go : (o : Option Answer) → answer_at (process_state_before s process_state e) e.step.kind e.value ≡ o → (before_it : List Answer) → answers_from s process_state (e ∷ es) ≡ before_it ++ a ∷ rest → Answering process_state (e ∷ es) a
         go None none before_it k = later before_it (subst (λ (o : Option Answer). and_answer o others ≡ before_it ++ a ∷ rest) none k)
@@ -160,14 +160,14 @@ module _ (t : Task) where
             let whole : b ∷ others ≡ c ∷ (cs ++ a ∷ rest) = subst (λ (o : Option Answer). and_answer o others ≡ c ∷ (cs ++ a ∷ rest)) some k in
             later cs (let same : others ≡ cs ++ a ∷ rest = cc in same)
 
-    pub find : (process_state : ProcessState) (e : TakenStep) (es : List TakenStep) (a : Answer) (told rest : List Answer) → All (λ (f : TakenStep). OfStart (Brings t) f.step.start) es → Only t (process_state_before s process_state e).script_state
-        → answers_from s process_state (e ∷ es) ≡ told ++ a ∷ rest → Answering process_state (e ∷ es) a
-    find process_state e [] a told rest fine only is = here_or_later process_state e [] a told rest only is (λ more k. absurd (none_in a more rest k))
-    find process_state e (f ∷ fs) a told rest fine only is =
-        here_or_later process_state e (f ∷ fs) a told rest only is (λ more k.
+    pub find : (process_state : ProcessState) (e : TakenStep) (es : List TakenStep) (a : Answer) (reports rest : List Answer) → All (λ (f : TakenStep). OfStart (Brings t) f.step.start) es → Only t (process_state_before s process_state e).script_state
+        → answers_from s process_state (e ∷ es) ≡ reports ++ a ∷ rest → Answering process_state (e ∷ es) a
+    find process_state e [] a reports rest fine only is = here_or_later process_state e [] a reports rest only is (λ more k. absurd (none_in a more rest k))
+    find process_state e (f ∷ fs) a reports rest fine only is =
+        here_or_later process_state e (f ∷ fs) a reports rest only is (λ more k.
         later_on process_state e (f ∷ fs) a
-        (find (gone s process_state (world_events e)) f fs a more rest (All-tail (λ (g : TakenStep). OfStart (Brings t) g.step.start) f fs fine)
-        (only_before f.step.crashed f.step.start f.by (gone s process_state (world_events e)) (All-head (λ (g : TakenStep). OfStart (Brings t) g.step.start) f fs fine) (only_after process_state e only)) k))
+        (find (process_state_past s process_state (world_events e)) f fs a more rest (All-tail (λ (g : TakenStep). OfStart (Brings t) g.step.start) f fs fine)
+        (only_before f.step.crashed f.step.start f.by (process_state_past s process_state (world_events e)) (All-head (λ (g : TakenStep). OfStart (Brings t) g.step.start) f fs fine) (only_after process_state e only)) k))
 
 -- the lock and the ruin check have no reply, and a mending has only a mending's
 abbrev pub IsTasks : Reply → Type 0
@@ -179,29 +179,29 @@ lock_mails true (Some ends.Out) r e = absurd (cc)
 lock_mails false (Some ends.Out) r e = absurd (cc)
 lock_mails _ _ r e = absurd (cc)
 
-check_mails : (told : Reply) (b : Bool) (r : Reply) → by_reply Checking b told ≡ Some (Mail r) → ⊥
+check_mails : (reports : Reply) (b : Bool) (r : Reply) → by_reply Checking b reports ≡ Some (Mail r) → ⊥
 check_mails (reply.Ruined true) b r e = absurd (cc)
 check_mails _ true r e = absurd (cc)
 check_mails _ false r e = absurd (cc)
 
-mend_mails : (told : Reply) (b : Bool) (r : Reply) → Mends told → IsTasks r → by_reply Mending b told ≡ Some (Mail r) → ⊥
+mend_mails : (reports : Reply) (b : Bool) (r : Reply) → IsMendingReply reports → IsTasks r → by_reply Mending b reports ≡ Some (Mail r) → ⊥
 mend_mails (reply.Mended x) b r h s e = subst IsTasks (let same : r ≡ reply.Mended x = cc in same) s
 mend_mails (reply.Ruined x) b r h s e = absurd (cc)
 mend_mails _ b r h s e = absurd h
 
 checked : (b : Bool) (left : Script Reply) (r : Reply) → by_script Checking b left ≡ Some (Mail r) → ⊥
-checked b (Done told) r e = check_mails told b r e
+checked b (Done reports) r e = check_mails reports b r e
 checked b _ r e = absurd (cc)
 
 ruined : (b : Bool) (left : Script Reply) (r : Reply) → by_script Ruining b left ≡ Some (Mail r) → ⊥
-ruined b (Done told) r e = absurd (cc)
+ruined b (Done reports) r e = absurd (cc)
 ruined b _ r e = absurd (cc)
 
-mended : (b : Bool) (left : Script Reply) (r : Reply) → Replies Mends left → IsTasks r → by_script Mending b left ≡ Some (Mail r) → ⊥
-mended b (Done told) r h s e = mend_mails told b r h s e
+mended : (b : Bool) (left : Script Reply) (r : Reply) → AllReplies IsMendingReply left → IsTasks r → by_script Mending b left ≡ Some (Mail r) → ⊥
+mended b (Done reports) r h s e = mend_mails reports b r h s e
 mended b _ r h s e = absurd (cc)
 
-mends_tail : (left : Script Reply) (v : ℕ) → Replies Mends left → Replies Mends (tail left v)
+mends_tail : (left : Script Reply) (v : ℕ) → AllReplies IsMendingReply left → AllReplies IsMendingReply (tail left v)
 mends_tail (Asks i rest) v h = h v
 mends_tail _ v h = h
 

@@ -1,8 +1,8 @@
 -- A worker's appends start only the calls that send its messages.
 use Rattle.std.proofs.Common.{◌≡◌, ◌⊎◌, ℕ, List, [], ◌∷◌, ◌++◌, Result, Ok, Err, IfOk, IfErr, All, refl, sym, ap, ◌∙◌, subst, inl, inr}
-use Rattle.robust.proofs.Common.{All-nil, All-cons, All-append, Reply, Answer, Call, Append, Lock, Unlock, Consistent, TakenStep, Entry as Entering, LockFault, starts, ready, CutBy, Calls, own_of}
-use Rattle.robust.proofs.Common.{Seated, began, own, Askings, WholeEnds, calls_inside, AppendFails, Comes, IsFront, IsWithin, all_left, own-append, OfStart, IsSending, AreSending, SendsOnly}
-use Rattle.execution.specs.declared.entry_kind.Entry.TheVariants as entering
+use Rattle.robust.proofs.Common.{All-nil, All-cons, All-append, Reply, Answer, Call, Append, Lock, Unlock, Consistent, TakenStep, Entry as Entering, LockFault, starts, free_to_start, CutBy, Calls, own_of}
+use Rattle.robust.proofs.Common.{Seated, began, entries_of, Askings, WholeEnds, calls_inside, AppendFails, IsWholeOutcome, IsFront, AreCallsOf, all_left, own-append, OfStart, IsSending, AreSending, SendsOnly}
+use Rattle.table_runs.specs.declared.entry_kind.Entry.TheVariants as entering
 use Rattle.robust.proofs.ScriptStates.{each_start}
 use Rattle.robust.proofs.Working.{kept_ready}
 
@@ -21,7 +21,7 @@ module _ (P : Call → Type 0) (task : Call) (lock : P Lock) (unlock : P Unlock)
   all_ruined : All P (Lock ∷ Consistent ∷ Unlock ∷ [])
   all_ruined = All-cons P Lock (Consistent ∷ Unlock ∷ []) lock (All-cons P Consistent (Unlock ∷ []) mends leaves)
 
-  all_come : (turns : ℕ) (r : Result Reply LockFault) (order : List Call) (answers : List Answer) (blocked : ℕ) → Comes turns task r order answers blocked → All P order
+  all_come : (turns : ℕ) (r : Result Reply LockFault) (order : List Call) (answers : List Answer) (blocked : ℕ) → IsWholeOutcome turns task r order answers blocked → All P order
   all_come turns (Ok reply) order answers blocked h = subst (All P) (sym h.3) (all_inside h.1)
   all_come turns (Err e) order answers blocked (inl h) = subst (All P) (sym h.1) locks
   all_come turns (Err e) order answers blocked (inr (few, inl h)) = subst (All P) (sym h.1) locks
@@ -31,12 +31,12 @@ module _ (P : Call → Type 0) (task : Call) (lock : P Lock) (unlock : P Unlock)
   all_front : (done order : List Call) → IsFront done order → All P order → All P done
   all_front done order h all = all_left P done h.0 (subst (All P) h.1 all)
 
-  all_within : (done : List Call) → IsWithin task done → All P done
+  all_within : (done : List Call) → AreCallsOf task done → All P done
   all_within done (inl h) = all_front done (Lock ∷ calls_inside h.0 task) h.1 (all_inside h.0)
   all_within done (inr h) = all_front done (Lock ∷ Consistent ∷ Unlock ∷ []) h all_ruined
 
   -- also where a crash came before the first
-  all_cut : (mine : List TakenStep) → (mine ≡ []) ⊎ IsWithin task (starts mine) → All P (starts mine)
+  all_cut : (mine : List TakenStep) → (mine ≡ []) ⊎ AreCallsOf task (starts mine) → All P (starts mine)
   all_cut mine (inl none) = subst (λ (es : List TakenStep). All P (starts es)) (sym none) (All-nil P)
   all_cut mine (inr h) = all_within (starts mine) h
 
@@ -44,12 +44,12 @@ module _ (width k : ℕ) where
   sends_calls : (x y : Seated) (mine : List TakenStep) → Calls x.seat_view mine y.seat_view → AreSending width k x.seat_view.by mine → SendsOnly width k x → SendsOnly width k y
   sends_calls x y mine c new old =
       let own_are : own_of y.seat_view ≡ own_of x.seat_view ++ mine =
-      ap (λ (p : ℕ). own p y.seat_view.seen) c.by ∙ ap (own x.seat_view.by) c.seen ∙ own-append x.seat_view.by x.seat_view.seen c.since ∙ ap (λ (l : List TakenStep). own_of x.seat_view ++ l) c.mine_are in
+      ap (λ (p : ℕ). entries_of p y.seat_view.seen) c.by ∙ ap (entries_of x.seat_view.by) c.seen ∙ own-append x.seat_view.by x.seat_view.seen c.since ∙ ap (λ (l : List TakenStep). own_of x.seat_view ++ l) c.mine_are in
       subst (λ (u : ℕ × List TakenStep). AreSending width k u.0 u.1) (λ i. (sym c.by i, sym own_are i)) (All-append (λ (e : TakenStep). OfStart (IsSending width k x.seat_view.by) e.step.start) (own_of x.seat_view) mine old new)
 
   module _ (x y : Seated) (seq : ℕ) (value : List ℕ) (a b : Askings) (fits : IsSending width k x.seat_view.by (Append seq value)) (old : SendsOnly width k x) where
     abbrev z : Seated
-    z = began (ready x) Lock
+    z = began (free_to_start x) Lock
 
     same : (own_of z.seat_view ≡ own_of x.seat_view) × (z.seat_view.by ≡ x.seat_view.by)
     same = (kept_ready (λ (u : Seated). own_of u.seat_view) x refl, kept_ready (λ (u : Seated). u.seat_view.by) x refl)
@@ -68,7 +68,7 @@ module _ (width k : ℕ) where
         let all = all_come P (Append seq value) tt tt tt sends turns r h.0 h.1 h.2 h.3 in
         sends_calls z y h.4.0 h.4.1.calls (each_start P h.4.0 (subst (All P) (sym h.4.1.started) all)) outset
 
-    sends_cut : CutBy z (IsWithin (Append seq value)) y a b → SendsOnly width k y
+    sends_cut : CutBy z (AreCallsOf (Append seq value)) y a b → SendsOnly width k y
     sends_cut h = sends_calls z y h.0 h.1.calls (each_start P h.0 (all_cut P (Append seq value) tt tt tt sends h.0 h.1.started)) outset
 
     still : y ≡ x → SendsOnly width k y

@@ -1,17 +1,17 @@
 -- In a run whose processes all start their calls as workers do, nobody ruins the lock.
 use Rattle.std.proofs.Common.{◌≡◌, ℕ, zero, suc, ◌<◌, ◌==◌, Bool, true, false, ◌⊎◌, List, [], ◌∷◌, ◌++◌, length, Option, Some, None, IsSome, All, refl, sym, ap, ◌∙◌, subst, inl, inr, arith, append_assoc, append-nil, length-append, eq-eqb}
 use Rattle.robust.proofs.Common.{cases_eq, All-nil, All-cons, Kind, Word, Layout, IsLayout, Call, Unlock, EveryRuinWasAsked, IsLeftUnmended, WorldEvent, Begins, Falls, ProcessState, at_rest, next_process_state, who}
-use Rattle.robust.proofs.Common.{GlobalState, at_first, last_global_state, Execution, onward, reading, TakenStep, Setup, cells_of, LoadsTell, AreInOrder, NobodyRuins, HasReadRuin, last_call, last_of, settles}
-use Rattle.robust.proofs.Common.{MayStart, before, taken, world_events, spelled, own, IsRun, end_of, process_state_of, crash_first, Goes, by_kind, own-append, spelled-append, legal_front, process_state_in_run}
-use Rattle.execution.proofs.OneStep.{run_goes, goes_back}
+use Rattle.robust.proofs.Common.{GlobalState, at_first, last_global_state, Execution, state_after_event, reading, TakenStep, Setup, cells_of, LoadsTell, AreInWorkerOrder, NobodyRuins, HasReadRuin, last_call, last_of, settles}
+use Rattle.robust.proofs.Common.{MayStart, before, access_event, world_events, events_of_run, entries_of, IsRun, end_of, process_state_of, crash_first, AllowsEvents, by_kind, own-append, spelled-append, legal_front, process_state_in_run}
+use Rattle.table_runs.proofs.OneStep.{run_goes, goes_back}
 use Rattle.robust.proofs.ScriptStates.{none_in}
 use Rattle.robust.proofs.Appended.{Own, own_split, own_taken, all_at}
-use Rattle.execution.proofs.Ruins.{walk, unlocks_mended}
+use Rattle.table_runs.proofs.Ruins.{walk, unlocks_mended}
 
 -- the events of an execution are those of its processes
 pub execution_within : (l : Layout) (limit : ℕ) (w : GlobalState) (hs : List WorldEvent) → Execution l limit w hs → All (λ (h : WorldEvent). who h < l.procs) hs
 execution_within l limit w [] execution = All-nil _
-execution_within l limit w (h ∷ hs) execution = All-cons (λ (x : WorldEvent). who x < l.procs) h hs execution.0.0 (execution_within l limit (onward l limit w h) hs execution.1)
+execution_within l limit w (h ∷ hs) execution = All-cons (λ (x : WorldEvent). who x < l.procs) h hs execution.0.0 (execution_within l limit (state_after_event l limit w h) hs execution.1)
 
 -- the place of one list's element in two lists
 cut_at : {A : Type 0} (xs ys front : List A) (h : A) (back : List A) → xs ++ ys ≡ front ++ h ∷ back → ((mid : List A) × (xs ≡ front ++ h ∷ mid)) ⊎ ((mid : List A) × (front ≡ xs ++ mid) × (ys ≡ mid ++ h ∷ back))
@@ -33,7 +33,7 @@ pub record Beginning (p : ℕ) (call : Call) (es : List TakenStep) (front : List
   pub is : es ≡ earlier ++ entry ∷ later
   pub by : entry.by ≡ p
   pub starts : entry.step.start ≡ Some call
-  pub front_is : front ≡ spelled earlier ++ crash_first entry.step.crashed entry.by
+  pub front_is : front ≡ events_of_run earlier ++ crash_first entry.step.crashed entry.by
 
 in_before : (c : Bool) (o : Option Call) (q p : ℕ) (call : Call) (front mid : List WorldEvent) → before c o q ≡ front ++ Begins p call ∷ mid → (q ≡ p) × (o ≡ Some call) × (front ≡ crash_first c q)
 in_before false None q p call front mid e = absurd (none_in (Begins p call) front mid e)
@@ -49,20 +49,20 @@ in_before true (Some c) q p call (f ∷ []) mid e =
     let first : f ≡ Falls q = cc in (a, ap Some b, ap (λ x. x ∷ []) first)
 in_before true (Some c) q p call (f ∷ g ∷ fs) mid e = absurd (none_in (Begins p call) fs mid (let k : Falls q ∷ Begins q c ∷ [] ≡ f ∷ g ∷ (fs ++ Begins p call ∷ mid) = e in cc))
 
-not_taken : (p q : ℕ) (call : Call) (kind : Kind) (word : Word) (v : ℕ) (mid back : List WorldEvent) → taken q kind word v ∷ [] ≡ mid ++ Begins p call ∷ back → ⊥
+not_taken : (p q : ℕ) (call : Call) (kind : Kind) (word : Word) (v : ℕ) (mid back : List WorldEvent) → access_event q kind word v ∷ [] ≡ mid ++ Begins p call ∷ back → ⊥
 not_taken p q call kind word v [] back e =
     by_kind (λ k h. h ∷ [] ≡ Begins p call ∷ back → ⊥) q word v (λ k. absurd (cc)) (λ kd k. absurd (cc)) kind e
-not_taken p q call kind word v (m ∷ ms) back e = absurd (none_in (Begins p call) ms back (let k : taken q kind word v ∷ [] ≡ m ∷ (ms ++ Begins p call ∷ back) = e in cc))
+not_taken p q call kind word v (m ∷ ms) back e = absurd (none_in (Begins p call) ms back (let k : access_event q kind word v ∷ [] ≡ m ∷ (ms ++ Begins p call ∷ back) = e in cc))
 
-begun_at : (p : ℕ) (call : Call) (es : List TakenStep) (front back : List WorldEvent) → spelled es ≡ front ++ Begins p call ∷ back → Beginning p call es front
+begun_at : (p : ℕ) (call : Call) (es : List TakenStep) (front back : List WorldEvent) → events_of_run es ≡ front ++ Begins p call ∷ back → Beginning p call es front
 begun_at p call [] front back e = absurd (none_in (Begins p call) front back e)
-begun_at p call (x ∷ es) front back e = by (cut_at (world_events x) (spelled es) front (Begins p call) back e) (λ mid rest. begun_at p call es mid back rest)
+begun_at p call (x ∷ es) front back e = by (cut_at (world_events x) (events_of_run es) front (Begins p call) back e) (λ mid rest. begun_at p call es mid back rest)
   where
     hs : List WorldEvent
     hs = before x.step.crashed x.step.start x.by
 
     t : WorldEvent
-    t = taken x.by x.step.kind x.step.word x.value
+    t = access_event x.by x.step.kind x.step.word x.value
 
     here : (mid : List WorldEvent) → world_events x ≡ front ++ Begins p call ∷ mid → Beginning p call (x ∷ es) front
     here mid k = elim (cut_at hs (t ∷ []) front (Begins p call) mid k) [
@@ -70,7 +70,7 @@ begun_at p call (x ∷ es) front back e = by (cut_at (world_events x) (spelled e
       | inr last ↦ absurd (not_taken p x.by call x.step.kind x.step.word x.value last.0 mid last.2)
     ]
 
-    by : ((mid : List WorldEvent) × (world_events x ≡ front ++ Begins p call ∷ mid)) ⊎ ((mid : List WorldEvent) × (front ≡ world_events x ++ mid) × (spelled es ≡ mid ++ Begins p call ∷ back)) → ((mid : List WorldEvent) → spelled es ≡ mid ++ Begins p call ∷ back → Beginning p call es mid)
+    by : ((mid : List WorldEvent) × (world_events x ≡ front ++ Begins p call ∷ mid)) ⊎ ((mid : List WorldEvent) × (front ≡ world_events x ++ mid) × (events_of_run es ≡ mid ++ Begins p call ∷ back)) → ((mid : List WorldEvent) → events_of_run es ≡ mid ++ Begins p call ∷ back → Beginning p call es mid)
         → Beginning p call (x ∷ es) front
     by (inl first) on = here first.0 first.1
     by (inr later) on =
@@ -82,78 +82,78 @@ begun_at p call (x ∷ es) front back e = by (cut_at (world_events x) (spelled e
           is = ap (λ (l : List TakenStep). x ∷ l) b.is;
           by = b.by;
           starts = b.starts;
-          front_is = later.1 ∙ ap (λ (l : List WorldEvent). world_events x ++ l) b.front_is ∙ sym (append_assoc (world_events x) (spelled b.earlier) (crash_first b.entry.step.crashed b.entry.by));
+          front_is = later.1 ∙ ap (λ (l : List WorldEvent). world_events x ++ l) b.front_is ∙ sym (append_assoc (world_events x) (events_of_run b.earlier) (crash_first b.entry.step.crashed b.entry.by));
         }
 
-order_front : (last : Option Call) (xs ys : List TakenStep) → AreInOrder last (xs ++ ys) → AreInOrder last xs
+order_front : (last : Option Call) (xs ys : List TakenStep) → AreInWorkerOrder last (xs ++ ys) → AreInWorkerOrder last xs
 order_front last [] ys h = tt
 order_front last (x ∷ xs) ys h = (h.0, order_front (last_call last x.step.crashed x.step.start) xs ys h.1)
 
-order_at : (last : Option Call) (xs : List TakenStep) (e : TakenStep) (ys : List TakenStep) → AreInOrder last (xs ++ e ∷ ys) → MayStart (last_of last xs) e.step.crashed e.step.start
+order_at : (last : Option Call) (xs : List TakenStep) (e : TakenStep) (ys : List TakenStep) → AreInWorkerOrder last (xs ++ e ∷ ys) → MayStart (last_of last xs) e.step.crashed e.step.start
 order_at last [] e ys h = h.0
 order_at last (x ∷ xs) e ys h = order_at (last_call last x.step.crashed x.step.start) xs e ys h.1
 
 module _ (s : Setup) (layout : IsLayout s.layout) (asked : EveryRuinWasAsked) (loads : LoadsTell) where
   abbrev Ordered : List TakenStep → Type 0
-  Ordered es = (p : ℕ) → p < s.layout.procs → AreInOrder None (own p es)
+  Ordered es = (p : ℕ) → p < s.layout.procs → AreInWorkerOrder None (entries_of p es)
 
   ordered_front : (xs ys : List TakenStep) → Ordered (xs ++ ys) → Ordered xs
-  ordered_front xs ys h p below = order_front None (own p xs) (own p ys) (subst (AreInOrder None) (own-append p xs ys) (h p below))
+  ordered_front xs ys h p below = order_front None (entries_of p xs) (entries_of p ys) (subst (AreInWorkerOrder None) (own-append p xs ys) (h p below))
 
   -- a process that starts to unlock there has read the ruin before, so the word held it
-  left : (es : List TakenStep) (p : ℕ) → IsRun s es → Ordered es → IsLeftUnmended s.layout s.limit (spelled es) p → ((xs ys : List TakenStep) → es ≡ xs ++ ys → length xs < length es → cells_of s xs 0 ≡ 0) → ⊥
+  left : (es : List TakenStep) (p : ℕ) → IsRun s es → Ordered es → IsLeftUnmended s.layout s.limit (events_of_run es) p → ((xs ys : List TakenStep) → es ≡ xs ++ ys → length xs < length es → cells_of s xs 0 ≡ 0) → ⊥
   left es p run ordered u before_it =
-      elim (walk s None at_rest (own p b.earlier) (refl, λ e. absurd (cc)) (order_front None (own p b.earlier) (b.entry ∷ own p b.later) mine) (run_goes s b.earlier p earlier_run)) [
+      elim (walk s None at_rest (entries_of p b.earlier) (refl, λ e. absurd (cc)) (order_front None (entries_of p b.earlier) (b.entry ∷ entries_of p b.later) mine) (run_goes s b.earlier p earlier_run)) [
         | inl ruin ↦ ruined ruin
-        | inr stands ↦ unlocks_mended s (last_of None (own p b.earlier)) (process_state_of s p b.earlier) p stands may.1 begins unmended
+        | inr stands ↦ unlocks_mended s (last_of None (entries_of p b.earlier)) (process_state_of s p b.earlier) p stands may.1 begins unmended
       ]
     where
       b : Beginning p Unlock es u.front
       b = begun_at p Unlock es u.front u.back u.split
 
       below : p < s.layout.procs
-      below = all_at (λ (h : WorldEvent). who h < s.layout.procs) u.front (Begins p Unlock) u.back (subst (All (λ (h : WorldEvent). who h < s.layout.procs)) u.split (execution_within s.layout s.limit at_first (spelled es) run))
+      below = all_at (λ (h : WorldEvent). who h < s.layout.procs) u.front (Begins p Unlock) u.back (subst (All (λ (h : WorldEvent). who h < s.layout.procs)) u.split (execution_within s.layout s.limit at_first (events_of_run es) run))
 
       same : (b.entry.by == p) ≡ true
       same = eq-eqb b.entry.by p b.by
 
-      owns : own p es ≡ own p b.earlier ++ b.entry ∷ own p b.later
-      owns = ap (own p) b.is ∙ own-append p b.earlier (b.entry ∷ b.later) ∙ ap (λ (l : List TakenStep). own p b.earlier ++ l) (own_taken p b.entry b.later same)
+      owns : entries_of p es ≡ entries_of p b.earlier ++ b.entry ∷ entries_of p b.later
+      owns = ap (entries_of p) b.is ∙ own-append p b.earlier (b.entry ∷ b.later) ∙ ap (λ (l : List TakenStep). entries_of p b.earlier ++ l) (own_taken p b.entry b.later same)
 
-      mine : AreInOrder None (own p b.earlier ++ b.entry ∷ own p b.later)
-      mine = subst (AreInOrder None) owns (ordered p below)
+      mine : AreInWorkerOrder None (entries_of p b.earlier ++ b.entry ∷ entries_of p b.later)
+      mine = subst (AreInWorkerOrder None) owns (ordered p below)
 
-      may : (b.entry.step.crashed ≡ false) × (settles (last_of None (own p b.earlier)) ≡ true)
-      may = subst (λ (o : Option Call). MayStart (last_of None (own p b.earlier)) b.entry.step.crashed o) b.starts (order_at None (own p b.earlier) b.entry (own p b.later) mine)
+      may : (b.entry.step.crashed ≡ false) × (settles (last_of None (entries_of p b.earlier)) ≡ true)
+      may = subst (λ (o : Option Call). MayStart (last_of None (entries_of p b.earlier)) b.entry.step.crashed o) b.starts (order_at None (entries_of p b.earlier) b.entry (entries_of p b.later) mine)
 
       earlier_run : IsRun s b.earlier
       earlier_run = legal_front s b.earlier (b.entry ∷ b.later) (subst (IsRun s) b.is run)
 
-      goes : Goes s (process_state_of s p b.earlier) (world_events b.entry ++ spelled (own p b.later))
+      goes : AllowsEvents s (process_state_of s p b.earlier) (world_events b.entry ++ events_of_run (entries_of p b.later))
       goes =
           let all = run_goes s es p run in
-          let parts : spelled (own p es) ≡ spelled (own p b.earlier) ++ (world_events b.entry ++ spelled (own p b.later)) = ap spelled owns ∙ spelled-append (own p b.earlier) (b.entry ∷ own p b.later) in
-          goes_back s at_rest (spelled (own p b.earlier)) (world_events b.entry ++ spelled (own p b.later)) (subst (Goes s at_rest) parts all)
+          let parts : events_of_run (entries_of p es) ≡ events_of_run (entries_of p b.earlier) ++ (world_events b.entry ++ events_of_run (entries_of p b.later)) = ap events_of_run owns ∙ spelled-append (entries_of p b.earlier) (b.entry ∷ entries_of p b.later) in
+          goes_back s at_rest (events_of_run (entries_of p b.earlier)) (world_events b.entry ++ events_of_run (entries_of p b.later)) (subst (AllowsEvents s at_rest) parts all)
 
       begins : IsSome (next_process_state s.layout s.limit (process_state_of s p b.earlier) (Begins p Unlock))
       begins =
           let x = b.entry in
-          let t = taken x.by x.step.kind x.step.word x.value in
-          let G : Bool × Option Call × ℕ → Type 0 = λ (w : Bool × Option Call × ℕ). Goes s (process_state_of s p b.earlier) ((before w.0 w.1 w.2 ++ t ∷ []) ++ spelled (own p b.later)) in
+          let t = access_event x.by x.step.kind x.step.word x.value in
+          let G : Bool × Option Call × ℕ → Type 0 = λ (w : Bool × Option Call × ℕ). AllowsEvents s (process_state_of s p b.earlier) ((before w.0 w.1 w.2 ++ t ∷ []) ++ events_of_run (entries_of p b.later)) in
           let at : G (false, Some Unlock, p) = subst G (λ i. (may.0 i, b.starts i, b.by i)) goes in at.0
 
       unmended : (process_state_of s p b.earlier).mended ≡ false
       unmended =
-          let front : u.front ≡ spelled b.earlier = b.front_is ∙ ap (λ (c : Bool). spelled b.earlier ++ crash_first c b.entry.by) may.0 ∙ append-nil (spelled b.earlier) in
+          let front : u.front ≡ events_of_run b.earlier = b.front_is ∙ ap (λ (c : Bool). events_of_run b.earlier ++ crash_first c b.entry.by) may.0 ∙ append-nil (events_of_run b.earlier) in
           sym (ap (λ (q : ProcessState). q.mended) (ap (λ (hs : List WorldEvent). (last_global_state s.layout s.limit at_first hs).process_states p) front ∙ process_state_in_run s b.earlier p)) ∙ u.unmended
 
-      ruined : HasReadRuin (own p b.earlier) → ⊥
+      ruined : HasReadRuin (entries_of p b.earlier) → ⊥
       ruined r =
           let o : Own p b.earlier r.front r.entry = own_split p b.earlier r.front r.entry r.back r.is in
           let parts : es ≡ (o.earlier ++ r.entry ∷ []) ++ (o.later ++ b.entry ∷ b.later) =
           b.is ∙ ap (λ (l : List TakenStep). l ++ b.entry ∷ b.later) (o.is ∙ sym (append_assoc o.earlier (r.entry ∷ []) o.later)) ∙ append_assoc (o.earlier ++ r.entry ∷ []) o.later (b.entry ∷ b.later) in
-          let told = loads s o.earlier r.entry (legal_front s (o.earlier ++ r.entry ∷ []) (o.later ++ b.entry ∷ b.later) (subst (IsRun s) parts run)) r.reads.0 in
-          let one : cells_of s o.earlier 0 ≡ 1 = ap (reading (end_of s o.earlier)) (sym r.reads.1) ∙ told ∙ r.reads.2 in
+          let reports = loads s o.earlier r.entry (legal_front s (o.earlier ++ r.entry ∷ []) (o.later ++ b.entry ∷ b.later) (subst (IsRun s) parts run)) r.reads.0 in
+          let one : cells_of s o.earlier 0 ≡ 1 = ap (reading (end_of s o.earlier)) (sym r.reads.1) ∙ reports ∙ r.reads.2 in
           let whole : es ≡ o.earlier ++ (r.entry ∷ (o.later ++ b.entry ∷ b.later)) = parts ∙ append_assoc o.earlier (r.entry ∷ []) (o.later ++ b.entry ∷ b.later) in
           let long = ap length whole in
           let lengths = length-append o.earlier (r.entry ∷ (o.later ++ b.entry ∷ b.later)) in
@@ -166,7 +166,7 @@ module _ (s : Setup) (layout : IsLayout s.layout) (asked : EveryRuinWasAsked) (l
       elim (cases_eq (cells_of s es 0) 0) [
         | inl none ↦ none
         | inr ruin ↦
-            (let u = asked s.layout s.limit (spelled es) layout run ruin in
+            (let u = asked s.layout s.limit (events_of_run es) layout run ruin in
             absurd (left es u.0 run ordered u.1 (λ xs ys is fewer. unruined n xs (omega (arith, few, fewer)) (legal_front s xs ys (subst (IsRun s) is run)) (ordered_front xs ys (subst Ordered is ordered)))))
       ]
 
@@ -174,14 +174,14 @@ pub nobody_ruins : EveryRuinWasAsked → LoadsTell → NobodyRuins
 nobody_ruins asked loads s es layout run ordered = unruined s layout asked loads (suc (length es)) es (omega arith) run ordered
 
 -- so no process reads a ruin
-pub none_read : (s : Setup) (es rest : List TakenStep) (p : ℕ) → IsLayout s.layout → IsRun s (es ++ rest) → ((q : ℕ) → q < s.layout.procs → AreInOrder None (own q (es ++ rest))) → LoadsTell → NobodyRuins → HasReadRuin (own p es) → ⊥
+pub none_read : (s : Setup) (es rest : List TakenStep) (p : ℕ) → IsLayout s.layout → IsRun s (es ++ rest) → ((q : ℕ) → q < s.layout.procs → AreInWorkerOrder None (entries_of q (es ++ rest))) → LoadsTell → NobodyRuins → HasReadRuin (entries_of p es) → ⊥
 none_read s es rest p layout run ordered loads nobody r =
     let o : Own p es r.front r.entry = own_split p es r.front r.entry r.back r.is in
     let parts : es ++ rest ≡ (o.earlier ++ r.entry ∷ []) ++ (o.later ++ rest) =
     ap (λ (l : List TakenStep). l ++ rest) (o.is ∙ sym (append_assoc o.earlier (r.entry ∷ []) o.later)) ∙ append_assoc (o.earlier ++ r.entry ∷ []) o.later rest in
     let whole : es ++ rest ≡ o.earlier ++ (r.entry ∷ (o.later ++ rest)) = parts ∙ append_assoc o.earlier (r.entry ∷ []) (o.later ++ rest) in
-    let told = loads s o.earlier r.entry (legal_front s (o.earlier ++ r.entry ∷ []) (o.later ++ rest) (subst (IsRun s) parts run)) r.reads.0 in
-    let one : cells_of s o.earlier 0 ≡ 1 = ap (reading (end_of s o.earlier)) (sym r.reads.1) ∙ told ∙ r.reads.2 in
-    let before_it = λ (q : ℕ) (low : q < s.layout.procs). order_front None (own q o.earlier) (own q (r.entry ∷ (o.later ++ rest))) (subst (AreInOrder None) (ap (own q) whole ∙ own-append q o.earlier (r.entry ∷ (o.later ++ rest))) (ordered q low)) in
+    let reports = loads s o.earlier r.entry (legal_front s (o.earlier ++ r.entry ∷ []) (o.later ++ rest) (subst (IsRun s) parts run)) r.reads.0 in
+    let one : cells_of s o.earlier 0 ≡ 1 = ap (reading (end_of s o.earlier)) (sym r.reads.1) ∙ reports ∙ r.reads.2 in
+    let before_it = λ (q : ℕ) (low : q < s.layout.procs). order_front None (entries_of q o.earlier) (entries_of q (r.entry ∷ (o.later ++ rest))) (subst (AreInWorkerOrder None) (ap (entries_of q) whole ∙ own-append q o.earlier (r.entry ∷ (o.later ++ rest))) (ordered q low)) in
     let none = nobody s o.earlier layout (legal_front s o.earlier (r.entry ∷ (o.later ++ rest)) (subst (IsRun s) whole run)) before_it in
     omega (arith, one, none)

@@ -1,7 +1,7 @@
 -- One more step of a wait.
 use Rattle.std.proofs.Common.{◌≡◌, ◌≢◌, ℕ, ◌+◌, ◌<◌, ◌≤◌, Bool, true, false, ◌==◌, ◌||◌, List, Option, Some, None, refl, sym, ap, ◌∙◌, subst, arith, eq-eqb}
 use Rattle.robust.proofs.AccessCommon.{Load, Look as Looks, Weigh as Weighs, Number as NumberOf, Choosing as ChoosingOf, place_of, access, after_access, next_access, first, Standing, at_wait, Place}
-use Rattle.robust.proofs.AccessCommon.{Wait, above, is_before, first_here, above_first, above_skip, has-first, standing, process_state_now, SeatView, Advances, free_process_state, IsSame, Unanswered, waits_at}
+use Rattle.robust.proofs.AccessCommon.{Wait, above, is_before, first_here, above_first, above_skip, has-first, standing, process_state_now, SeatView, CarriesPending, free_process_state, IsSame, Unanswered, waits_at}
 use Rattle.rmecore.proofs.MachineSteps.{wait_goes}
 use Rattle.rmecore.specs.declared.stage.Stage.TheVariants.{Wait as AtWait}
 use Rattle.robust.proofs.FreeSteps.{machine_state_of, unanswered_none, unanswered_then, there, same_then}
@@ -39,7 +39,7 @@ module _ (y : SeatView) (k j : ℕ) (lt : j < y.setup.layout.procs) (ne : j ≢ 
   next_weigh = weigh_next y.setup.limit y.setup.layout.procs y.by k j lt ne
 
   module _ (z : SeatView) (b : Bool) (v : ℕ) where
-    pub looked_at : (c : Bool) → (v == 0) ≡ c → process_state_now y ≡ free_process_state (place_of y.setup.layout.procs y.by (AtWait k j false)) b → Advances y Looks (ChoosingOf j) v z → process_state_now z ≡ free_process_state (place_of y.setup.layout.procs y.by (AtWait k j c)) b
+    pub looked_at : (c : Bool) → (v == 0) ≡ c → process_state_now y ≡ free_process_state (place_of y.setup.layout.procs y.by (AtWait k j false)) b → CarriesPending y Looks (ChoosingOf j) v z → process_state_now z ≡ free_process_state (place_of y.setup.layout.procs y.by (AtWait k j c)) b
     looked_at c e at adv = there y y z 0 (unanswered_none y) before b at (Load Looks (ChoosingOf j)) v next_look adv (place_of y.setup.layout.procs y.by (AtWait k j c)) (look_goes (standing (machine_state_of y before b)) k j v c first_is e) refl refl
 
     -- a weigh with an index that is the process's own
@@ -47,10 +47,10 @@ module _ (y : SeatView) (k j : ℕ) (lt : j < y.setup.layout.procs) (ne : j ≢ 
       by_own : (c : Bool) → ((v == 0) || is_before k own v j) ≡ c → ((v == 0) || is_before k y.by v j) ≡ c
       by_own c e = ap (λ (q : ℕ). (v == 0) || is_before k q v j) (sym is) ∙ e
 
-      pub weighed : ((v == 0) || is_before k own v j) ≡ true → process_state_now y ≡ free_process_state (place_of y.setup.layout.procs y.by (AtWait k j true)) b → Advances y Weighs (NumberOf j) v z → process_state_now z ≡ free_process_state (place_of y.setup.layout.procs y.by (AtWait k (j + 1) false)) b
+      pub weighed : ((v == 0) || is_before k own v j) ≡ true → process_state_now y ≡ free_process_state (place_of y.setup.layout.procs y.by (AtWait k j true)) b → CarriesPending y Weighs (NumberOf j) v z → process_state_now z ≡ free_process_state (place_of y.setup.layout.procs y.by (AtWait k (j + 1) false)) b
       weighed e at adv = there y y z 0 (unanswered_none y) seen b at (Load Weighs (NumberOf j)) v next_weigh adv (place_of y.setup.layout.procs y.by (AtWait k (j + 1) false)) (wait_goes (standing (machine_state_of y seen b)) k j j v true first_is refl (by_own true e)) refl refl
 
-      pub weigh_blocked : ((v == 0) || is_before k own v j) ≡ false → process_state_now y ≡ free_process_state (place_of y.setup.layout.procs y.by (AtWait k j true)) b → Advances y Weighs (NumberOf j) v z → process_state_now z ≡ free_process_state (place_of y.setup.layout.procs y.by (AtWait k j true)) b
+      pub weigh_blocked : ((v == 0) || is_before k own v j) ≡ false → process_state_now y ≡ free_process_state (place_of y.setup.layout.procs y.by (AtWait k j true)) b → CarriesPending y Weighs (NumberOf j) v z → process_state_now z ≡ free_process_state (place_of y.setup.layout.procs y.by (AtWait k j true)) b
       weigh_blocked e at adv = there y y z 0 (unanswered_none y) seen b at (Load Weighs (NumberOf j)) v next_weigh adv seen (weigh_stays (standing (machine_state_of y seen b)) k j v first_is (by_own false e)) refl refl
 
 -- the same place, by another view of the process

@@ -5,8 +5,8 @@ use Rattle.robust.proofs.Common.{AllSent, Spec, IsBadSpec, Done, EndsSo, fresh_m
 use Rattle.std.proofs.lemmas.List.{length-map}
 use Rattle.std.proofs.lemmas.List.Elements.{All-map, All-same}
 use Rattle.std.specs.Prelude.{slice_index_or}
-use Rattle.execution.proofs.Keeps.{count_has}
-use Rattle.execution.proofs.LawfulEnd.{length-counted}
+use Rattle.table_runs.proofs.Keeps.{count_has}
+use Rattle.table_runs.proofs.LawfulEnd.{length-counted}
 
 abbrev Seat : Type 0
 Seat = TableId × Setup × ℕ

@@ -7,15 +7,15 @@ use Rattle.redomail.specs.Script.{Script, Get as Asks, Put as Writes, Done, puts
 use Rattle.redomail.specs.Tasks.{append, record_of, store_steps}
 use Rattle.rmeworld.specs.declared.answer.Answer.TheVariants.{Mail}
 use Rattle.rmeworld.specs.declared.purpose.Purpose.TheVariants.{Working}
-use Rattle.rmeworld.specs.ProcessState.{ProcessState, settled}
-use Rattle.execution.specs.SeatView.{SeatView}
+use Rattle.rmeworld.specs.ProcessState.{ProcessState, process_after_script}
+use Rattle.table_runs.specs.SeatView.{SeatView}
 use Rattle.robust.specs.declared.access.fast_append.NewEntry.{NewEntry}
 use Rattle.robust.specs.FastPath.{Unanswered, EndsIn}
 
 -- a holder with nothing to mend, with this script of an append left; if the script is done, it is inside with no call under
 -- way
 abbrev pub at_append : ℕ → List ℕ → Script Reply → ProcessState
-at_append seq value left = settled true false (Working (task.Append seq value)) left
+at_append seq value left = process_after_script true false (Working (task.Append seq value)) left
 
 -- right after the start of the append
 abbrev pub append_begun : SeatView → ℕ → List ℕ → ProcessState
@@ -29,8 +29,8 @@ HasLeft x k (Asks i rest) y = Unanswered x k 0 y
 HasLeft x k (Writes i v rest) y = Unanswered x k 0 y
 
 -- the process is the sender of this entry, in its arena
-abbrev pub IsOf : SeatView → NewEntry → Type 0
-IsOf x e = (x.setup ≡ e.setup) × (x.by ≡ e.own)
+abbrev pub IsSenderOf : SeatView → NewEntry → Type 0
+IsSenderOf x e = (x.setup ≡ e.setup) × (x.by ≡ e.own)
 
 -- the puts that store it
 abbrev pub steps_of : NewEntry → List (ℕ × ℕ)

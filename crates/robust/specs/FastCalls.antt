@@ -14,7 +14,7 @@ HasFastWay Unlock = Unit {0}
 HasFastWay _ = ⊥
 
 -- what the fast path answers: none where the machine goes on, an inner none where it was blocked, or the answer
-abbrev pub told_by : Led → Option (Option Answer)
-told_by Leads.Blocked = Some None
-told_by Leads.Entered = Some (Some Clean)
-told_by Leads.Further = None
+abbrev pub reports_by : Led → Option (Option Answer)
+reports_by Leads.Blocked = Some None
+reports_by Leads.Entered = Some (Some Clean)
+reports_by Leads.Further = None

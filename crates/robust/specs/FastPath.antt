@@ -8,10 +8,10 @@ use Rattle.redomail.specs.declared.task.Task.TheVariants.{Check}
 use Rattle.rmeworld.specs.declared.answer.Answer.{Answer}
 use Rattle.rmeworld.specs.declared.purpose.Purpose.TheVariants.{Checking}
 use Rattle.rmeworld.specs.ProcessState.{ProcessState, Free, Doing}
-use Rattle.execution.specs.declared.entry.TakenStep.{TakenStep}
-use Rattle.execution.specs.SeatView.{SeatView, process_state_now}
-use Rattle.execution.specs.Calls.{Takes, answers_of, blocked_of}
-use Rattle.execution.specs.Under.{Begun}
+use Rattle.table_runs.specs.declared.entry.TakenStep.{TakenStep}
+use Rattle.table_runs.specs.SeatView.{SeatView, process_state_now}
+use Rattle.table_runs.specs.Calls.{TakesSteps, answers_of, blocked_of}
+use Rattle.table_runs.specs.Under.{Begun}
 use Rattle.rmecore.specs.declared.stage.Stage.{Stage}
 use Rattle.rmeworld.specs.Refused.{is_waiting}
 use Rattle.rmeworld.specs.declared.answer.Answer.TheVariants.{Clean}
@@ -35,7 +35,7 @@ IsSame x y = (y.setup ≡ x.setup) × (y.by ≡ x.by)
 pub record Unanswered (x : SeatView) (k m : ℕ) (y : SeatView) : Type 0 where
   pub mine : List TakenStep
   pub long : length mine ≡ k
-  pub takes : Takes x mine y
+  pub takes : TakesSteps x mine y
   pub answers : answers_of x mine ≡ []
   pub blocked : blocked_of x mine ≡ m
 
@@ -63,13 +63,13 @@ checked_process_state ruined = if ruined then record { lock = Leaving; mended = 
 pub record EndsIn (x : SeatView) (k : ℕ) (a : Answer) (y : SeatView) : Type 0 where
   pub mine : List TakenStep
   pub long : length mine ≡ k
-  pub takes : Takes x mine y
+  pub takes : TakesSteps x mine y
   pub answers : answers_of x mine ≡ a ∷ []
   pub blocked : blocked_of x mine ≡ 0
 
 -- How far the fast path of a lock has got in k steps: to a blocked step in the line; to a stage outside the section from
 -- where the machine goes on; into the section; or out of it again. It wasn't on its way out of a ruined lock before.
-pub record Enters (x : SeatView) (r : Reached) (k : ℕ) (y : SeatView) : Type 0 where
+pub record FastPathReaches (x : SeatView) (r : Reached) (k : ℕ) (y : SeatView) : Type 0 where
   pub blocked : (t : Stage) → r ≡ Reaches.Blocked t → (process_state_now y ≡ free_process_state (place_of x.setup.layout.procs x.by t) (process_state_now x).mended) × Unanswered x k 1 y × Begun Lock x.setup.layout.procs (process_state_now y) × (is_waiting (process_state_now y).lock ≡ true)
   pub stands : (t : Stage) → r ≡ Reaches.Stands t → (process_state_now y ≡ free_process_state (place_of x.setup.layout.procs x.by t) (process_state_now x).mended) × Unanswered x k 0 y × Begun Lock x.setup.layout.procs (process_state_now y)
   pub clean : r ≡ Reaches.Clean → (process_state_now y ≡ checked_process_state false) × EndsIn x k Clean y

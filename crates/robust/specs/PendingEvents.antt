@@ -3,7 +3,7 @@ use Rattle.std.specs.Prelude.{◌≡◌, Bool, true, false, List, [], ◌∷◌,
 use Rattle.rmecore.specs.declared.kind.Kind.{Kind}
 use Rattle.rmecore.specs.declared.word.Word.{Word}
 use Rattle.rmeworld.specs.declared.call.Call.{Call}
-use Rattle.execution.specs.declared.entry.Step.{Step}
+use Rattle.table_runs.specs.declared.entry.Step.{Step}
 use Rattle.robust.specs.declared.access.pending_events.PendingEvents.{PendingEvents}
 
 -- the list isn't empty
@@ -21,13 +21,13 @@ abbrev pub has_crashed : PendingEvents → Bool
 has_crashed o = is_there o.crashed.items
 
 -- the call that it has started since then
-abbrev pub started : PendingEvents → Option Call
-started o = head_of o.start.items
+abbrev pub started_call : PendingEvents → Option Call
+started_call o = head_of o.start.items
 
 -- a step of this kind at this word, which carries the pending events
 abbrev pub step_of : PendingEvents → Kind → Word → Step
-step_of o kind word = record { crashed = has_crashed o; start = started o; kind = kind; word = word }
+step_of o kind word = record { crashed = has_crashed o; start = started_call o; kind = kind; word = word }
 
 -- nothing is pending: neither a crash nor a start
 abbrev pub AwaitsNothing : PendingEvents → Type 0
-AwaitsNothing o = (has_crashed o ≡ false) × (started o ≡ None)
+AwaitsNothing o = (has_crashed o ≡ false) × (started_call o ≡ None)

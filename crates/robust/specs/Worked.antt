@@ -1,15 +1,15 @@
 -- What workers that have ended hand back.
 use Rattle.std.specs.Prelude.{ℕ, None}
 use Rattle.atomic_table.specs.Seated.{TableId}
-use Rattle.execution.specs.declared.setup.Setup.{Setup}
-use Rattle.one_lock.specs.declared.lab.spec.Spec.{Spec}
+use Rattle.table_runs.specs.declared.setup.Setup.{Setup}
+use Rattle.table_runs.specs.declared.lab.spec.Spec.{Spec}
 use Rattle.robust.specs.declared.lab.worker.Done.{Done}
 use Rattle.robust.specs.declared.lab.worker.HandsBack.{HandsBack}
 use Rattle.robust.specs.LabFaults.{EndsSo}
-use Rattle.execution.specs.SeatView.{own_of}
-use Rattle.execution.specs.Ruins.{AreInOrder}
-use Rattle.robust.specs.Sending.{SendsOnly}
-use Rattle.robust.specs.Working.{seat_of}
+use Rattle.table_runs.specs.SeatView.{own_of}
+use Rattle.table_runs.specs.Ruins.{AreInWorkerOrder}
+use Rattle.robust.specs.WorkerSends.{SendsOnly}
+use Rattle.robust.specs.MemberLaws.{seat_of}
 
 -- the seat of the member that a worker has handed back
 abbrev pub seat_done : Done → TableId × Setup × ℕ
@@ -26,4 +26,4 @@ sizes_of s = record { layout = record { procs = s.procs; cap = s.cap; width = s.
 -- A worker that has ended has appended only messages of its own, has ended in one of a worker's ways, and has started its
 -- calls in order.
 abbrev pub HasWorked : Spec → Done → Type 0
-HasWorked s done = SendsOnly s.width s.messages done.member × EndsSo s done.member done.ending × AreInOrder None (own_of done.member.seat_view)
+HasWorked s done = SendsOnly s.width s.messages done.member × EndsSo s done.member done.ending × AreInWorkerOrder None (own_of done.member.seat_view)

@@ -3,19 +3,19 @@ ghost use Rattle.std.specs.Prelude.{◌≡◌, ℕ, ◌<◌, ◌≤◌, ◌^◌,
 ghost use Rattle.redomail.specs.Layout.{size};
 ghost use Rattle.rmeworld.specs.MachineState.{IsSize};
 ghost use Rattle.atomic_table.specs.Seated.{TableId};
-ghost use Rattle.execution.specs.Runs.{word_count};
+ghost use Rattle.table_runs.specs.Runs.{word_count};
 ghost use Rattle.rmeworld.specs.WorldState.{new_refusal};
-ghost use Rattle.robust.specs.Making.{fresh_members};
+ghost use Rattle.robust.specs.NewMembers.{fresh_members};
 
 use crate::access::port::{Port, data_words};
-use crate::access::table::Board;
+use crate::access::table::LockTable;
 use crate::member::Member;
-use execution::Setup;
 use redomail::Layout;
 use rmecore::Refusal;
 use rmeworld::size::size_refusal;
 use std::alloc::{AllocError, Global};
 use std::sync::Arc;
+use table_runs::Setup;
 
 /// Makes the members of a running lock and its mailbox.
 pub struct Arena;
@@ -46,7 +46,7 @@ impl Arena {
         if let Some(refusal) = size_refusal(layout, limit) {
             return Err(refusal);
         }
-        match made(alloc, Setup { layout, limit }) {
+        match make(alloc, Setup { layout, limit }) {
             Ok(members) => Ok(members),
             Err(_) => Err(Refusal::OutOfMemory),
         }
@@ -54,14 +54,14 @@ impl Arena {
 }
 
 /// A new table of zeros with these sizes, and a member for each process. `AllocError`: out of memory.
-fn made(alloc: Global, setup: Setup) -> Result<Vec<Member>, AllocError>
+fn make(alloc: Global, setup: Setup) -> Result<Vec<Member>, AllocError>
     requires size { IsSize setup.layout }
     requires limited { (1 ≤ setup.limit) × (setup.limit ≤ 2 ^ 62) }
     ensures { IfOk result (λ v. (t : TableId) × (v.items ≡ fresh_members t setup)) }
 {
     let count = 3 * setup.layout.procs + data_words(&setup.layout);
     let words = Vec::from_elem(alloc, 0u64, count as usize)?;
-    let (board, mut seat) = Board::of_words(alloc, words.as_slice(), &setup)?;
+    let (board, mut seat) = LockTable::of_words(alloc, words.as_slice(), &setup)?;
     let board = Arc::new(alloc, board)?;
     let procs = setup.layout.procs;
     let mut members = Vec::with_capacity(alloc, procs as usize)?;

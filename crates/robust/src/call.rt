@@ -4,6 +4,6 @@
 pub mod call_driver;
 mod drive;
 mod led;
-mod locking;
-mod reading;
+mod lock_call;
+mod mailbox_reader;
 mod whole;

@@ -1,8 +1,8 @@
 //! The laboratory over the running lock. Its sizes, gates, faults and messages are those of the plain reference,
-//! `one_lock::lab`.
+//! `table_runs::lab`.
 
-mod running;
+mod lab_run;
 mod worker;
 
-pub use one_lock::lab::{Gate, LabFault, LabResult, Spec};
-pub use running::run_lab;
+pub use lab_run::run_lab;
+pub use table_runs::lab::{Gate, LabFault, LabResult, Spec};

@@ -1,10 +1,10 @@
 //! Laws over every run of the table, whoever takes its steps. Each is the contract of a function that does nothing.
 
-ghost use Rattle.execution.specs.Headline.{EveryRunIsSound};
-ghost use Rattle.execution.specs.Reading.{LoadsTell, RunsShow, EntriesStandInRuns};
-ghost use Rattle.execution.specs.Ruins.{NobodyRuins};
-ghost use Rattle.execution.specs.Tabled.{CallsKeepTheTable};
-ghost use Rattle.execution.specs.WholeSteps.{StoredAppendSteps};
+ghost use Rattle.table_runs.specs.Headline.{EveryRunIsSound};
+ghost use Rattle.table_runs.specs.ReadMessages.{LoadsTell, RunsShow, EntriesStandInRuns};
+ghost use Rattle.table_runs.specs.Ruins.{NobodyRuins};
+ghost use Rattle.table_runs.specs.Tabled.{CallsKeepTheTable};
+ghost use Rattle.table_runs.specs.WholeSteps.{StoredAppendSteps};
 
 /// For any number of processes, any limit and room, and any list of entries that is a run, with or without crashes, the deeds
 /// are legal: the judge allows each of them. No two processes are inside. Nobody enters before one that crashed inside has
@@ -19,19 +19,19 @@ pub fn every_run_is_sound()
 }
 
 /// A load finds its word's value in the global state right before it.
-#[tactic(auto, using(execution::proofs::Runs::last_reads))]
+#[tactic(auto, using(table_runs::proofs::Runs::last_reads))]
 pub fn loads_tell()
     ensures { LoadsTell }
 {}
 
 /// After every run the entries below count are the messages that the mailbox list shows, and there is room for them.
-#[tactic(auto, using(execution::proofs::Shown::runs_show))]
+#[tactic(auto, using(table_runs::proofs::Shown::runs_show))]
 pub fn runs_show()
     ensures { RunsShow }
 {}
 
 /// Entries below count never change later in a run, and count doesn't fall.
-#[tactic(auto, using(execution::proofs::Shown::entries_stand_in_runs))]
+#[tactic(auto, using(table_runs::proofs::Shown::entries_stand_in_runs))]
 pub fn entries_stand_in_runs()
     ensures { EntriesStandInRuns }
 {}
@@ -43,7 +43,7 @@ pub fn calls_keep_the_table()
 {}
 
 /// The own steps of an append that stores, from lock words that are all 0, are 3n + 18 + 2W and its blocked readings.
-#[tactic(auto, using(execution::proofs::WholeSteps::stored_append_steps))]
+#[tactic(auto, using(table_runs::proofs::WholeSteps::stored_append_steps))]
 pub fn steps_of_a_stored_append()
     ensures { StoredAppendSteps }
 {}

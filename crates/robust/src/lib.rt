@@ -6,16 +6,15 @@
 pub mod access;
 pub mod arena;
 pub mod call;
-pub mod gathering;
 pub mod lab;
 pub mod laws;
-pub mod mailing;
+pub mod mailbox_calls;
 pub mod member;
+pub mod member_gather;
 
 pub use arena::Arena;
-pub use execution::{Entry, LockFault, Setup};
-pub use gathering::gather;
 pub use lab::{Gate, LabFault, LabResult, Spec, run_lab};
 pub use member::Member;
+pub use member_gather::gather;
 pub use one_lock;
-pub use one_lock::GatherFault;
+pub use table_runs::{Entry, GatherFault, LockFault, Setup};

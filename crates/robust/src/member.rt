@@ -1,31 +1,31 @@
 //! A process of the running lock.
 ghost use Rattle.std.specs.Prelude.{◌≡◌, ◌≢◌, ℕ, ◌+◌, ◌*◌, ◌≤◌, ◌⊎◌, List, [], ◌∷◌, length, Some, None, Err, IfOk, IfErr, OnOk, OnErr};
 ghost use Rattle.redomail.specs.declared.reply.Reply.{Reply as ReplyOf};
-ghost use Rattle.execution.specs.declared.entry.TakenStep.{TakenStep};
+ghost use Rattle.table_runs.specs.declared.entry.TakenStep.{TakenStep};
 ghost use Rattle.rmeworld.specs.OwnSteps.{most_steps};
-ghost use Rattle.execution.specs.SeatView.{fresh, process_state_now, IsSeatView};
-ghost use Rattle.execution.specs.Running.{Seated, began};
+ghost use Rattle.table_runs.specs.SeatView.{new_seat_view, process_state_now, IsSeatView};
+ghost use Rattle.table_runs.specs.WorkingMembers.{Seated, began};
 ghost use Rattle.crash_plans.specs.Plans.{NeverCrashes};
-ghost use Rattle.execution.specs.Calls.{Served};
-ghost use Rattle.execution.specs.Under.{Fits};
-ghost use Rattle.execution.specs.Reading.{ReadsFrom, ReadsCount};
-ghost use Rattle.execution.specs.Headline.{IsSoundRun};
-ghost use Rattle.execution.specs.Tabled.{table_steps, LockCounts, LockCountsOut};
-ghost use Rattle.robust.specs.Working.{seat_of};
-ghost use Rattle.execution.specs.Board.{last_put, value_or, LastIsOwn};
-ghost use Rattle.execution.specs.Faults.{refusal_now, ready, Fails, FailsOut, AnsweredIn, LockEnds, LockFails, answer_of};
+ghost use Rattle.table_runs.specs.Calls.{Served};
+ghost use Rattle.table_runs.specs.Under.{IsAnswerOf};
+ghost use Rattle.table_runs.specs.ReadMessages.{ReadsFrom, ReadsCount};
+ghost use Rattle.table_runs.specs.Headline.{IsSoundRun};
+ghost use Rattle.table_runs.specs.Tabled.{table_steps, LockCounts, LockCountsOut};
+ghost use Rattle.robust.specs.MemberLaws.{seat_of};
+ghost use Rattle.table_runs.specs.Board.{last_put, value_or, LastIsOwn};
+ghost use Rattle.table_runs.specs.Faults.{refusal_now, free_to_start, FailsUnblocked, FailsOut, AnsweredIn, LockEnds, LockFails, answer_of};
 
 use crate::access::port::Port;
 use crate::call::call_driver::CallDriver;
 use crate::laws;
 use crash_plans::CrashPlan;
-use execution::{Entry, LockFault, Setup};
 use redomail::{Message, Reply};
 use rmecore::Found;
 use rmeworld::{Answer, Call};
 use std::alloc::{AllocError, Global};
 use std::marker::Model;
 use std::sync::Wait;
+use table_runs::{Entry, LockFault, Setup};
 
 /// A process of the running lock. It owns a seat at the table and may move to a thread. Contracts see it as its view, a
 /// prefix of the one run, with the own steps of its last call.
@@ -41,7 +41,7 @@ pub struct Member {
 
 impl Model for Member {
     ghost use Rattle.std.specs.Prelude.{◌≡◌, None};
-    ghost use Rattle.execution.specs.Running.{Seated};
+    ghost use Rattle.table_runs.specs.WorkingMembers.{Seated};
 
     ghost Value = { Seated };
 
@@ -53,7 +53,7 @@ impl Model for Member {
 impl Member {
     /// A member at rest, with this port.
     pub(crate) fn new(port: Port) -> Member
-        requires { port ≡ fresh port.table port.setup port.by }
+        requires { port ≡ new_seat_view port.table port.setup port.by }
         ensures { result ≡ record { seat_view = port; steps = 0 } }
     {
         Member {
@@ -119,7 +119,7 @@ impl Member {
         ensures served { OnOk result ((mine : List TakenStep)
             × Served (began self.old Call.Unlock) Call.Unlock (Answer.Unlocked ∷ []) 0 self.new mine
             × NeverCrashes (length mine + 1) (C.askings plan.old) (C.askings plan.new)) }
-        ensures fails { IfErr result (Fails self.old Call.Unlock self.new (C.askings plan.old) (C.askings plan.new)) }
+        ensures fails { IfErr result (FailsUnblocked self.old Call.Unlock self.new (C.askings plan.old) (C.askings plan.new)) }
         ensures seat { seat_of self.new ≡ seat_of self.old }
         ensures table { OnOk result (table_steps self.old.seat_view Call.Unlock Answer.Unlocked ≡ Some self.new.steps) }
         ensures few { refusal_now self.old Call.Unlock ≡ None
@@ -145,7 +145,7 @@ impl Member {
         ensures served { OnOk result ((mine : List TakenStep)
             × Served (began self.old Call.Withdraw) Call.Withdraw (Answer.Withdrawn ∷ []) 0 self.new mine
             × NeverCrashes (length mine + 1) (C.askings plan.old) (C.askings plan.new)) }
-        ensures fails { IfErr result (Fails self.old Call.Withdraw self.new (C.askings plan.old) (C.askings plan.new)) }
+        ensures fails { IfErr result (FailsUnblocked self.old Call.Withdraw self.new (C.askings plan.old) (C.askings plan.new)) }
         ensures seat { seat_of self.new ≡ seat_of self.old }
         ensures table { OnOk result (table_steps self.old.seat_view Call.Withdraw Answer.Withdrawn ≡ Some self.new.steps) }
         ensures few { refusal_now self.old Call.Withdraw ≡ None
@@ -170,7 +170,7 @@ impl Member {
             × NeverCrashes (length mine + 1) (C.askings plan.old) (C.askings plan.new)) }
         ensures last { IfOk result (λ v. v ≡ value_or (last_put self.old.seat_view.setup i self.new.seat_view.seen) 0) }
         ensures own { OnOk result (LastIsOwn self.old.seat_view.setup self.old.seat_view.by i self.new.seat_view.seen) }
-        ensures fails { IfErr result (Fails self.old (Call.Get i) self.new (C.askings plan.old) (C.askings plan.new)) }
+        ensures fails { IfErr result (FailsUnblocked self.old (Call.Get i) self.new (C.askings plan.old) (C.askings plan.new)) }
         ensures seat { seat_of self.new ≡ seat_of self.old }
         ensures table { IfOk result (λ v. table_steps self.old.seat_view (Call.Get i) (Answer.Mail (Reply.Word v))
             ≡ Some self.new.steps) }
@@ -197,7 +197,7 @@ impl Member {
             × NeverCrashes (length mine + 1) (C.askings plan.old) (C.askings plan.new)) }
         ensures last { OnOk result ((e : TakenStep) × (last_put self.old.seat_view.setup i self.new.seat_view.seen ≡ Some e)
             × (e.by ≡ self.old.seat_view.by) × (e.value ≡ value)) }
-        ensures fails { IfErr result (Fails self.old (Call.Put i value) self.new (C.askings plan.old) (C.askings plan.new)) }
+        ensures fails { IfErr result (FailsUnblocked self.old (Call.Put i value) self.new (C.askings plan.old) (C.askings plan.new)) }
         ensures seat { seat_of self.new ≡ seat_of self.old }
         ensures table { OnOk result ((reply : ReplyOf) × (table_steps self.old.seat_view (Call.Put i value)
             (Answer.Mail reply) ≡ Some self.new.steps)) }
@@ -222,7 +222,7 @@ impl Member {
         ensures served { IfOk result (λ mended. (mine : List TakenStep)
             × Served (began self.old Call.Consistent) Call.Consistent (Answer.Mail (Reply.Mended mended) ∷ []) 0 self.new mine
             × NeverCrashes (length mine + 1) (C.askings plan.old) (C.askings plan.new)) }
-        ensures fails { IfErr result (λ e. Fails self.old Call.Consistent self.new (C.askings plan.old) (C.askings plan.new) e
+        ensures fails { IfErr result (λ e. FailsUnblocked self.old Call.Consistent self.new (C.askings plan.old) (C.askings plan.new) e
             ⊎ (e ≡ LockFault.NotRecoverable)
             × ((mine : List TakenStep)
             × Served (began self.old Call.Consistent) Call.Consistent (Answer.NotRecoverable ∷ []) 0 self.new mine
@@ -248,12 +248,13 @@ impl Member {
     ///
     /// `AlreadyIn`: the process is in the section; there is nothing to find out. `Crashed`: recover or lock again.
     pub fn recover<C: CrashPlan>(&mut self, plan: &mut C) -> Result<Found, LockFault>
-        ensures accepted { OnOk result (refusal_now (ready self.old) Call.Recover ≡ None) }
-        ensures served { IfOk result (λ found. AnsweredIn (began (ready self.old) Call.Recover) Call.Recover (Answer.Found found ∷ []) 0
+        ensures accepted { OnOk result (refusal_now (free_to_start self.old) Call.Recover ≡ None) }
+        ensures served { IfOk result (λ found. AnsweredIn (began (free_to_start self.old) Call.Recover) Call.Recover
+            (Answer.Found found ∷ []) 0
             self.new (C.askings plan.old) (C.askings plan.new)) }
         ensures fails { IfErr result (FailsOut self.old Call.Recover self.new (C.askings plan.old) (C.askings plan.new)) }
         ensures seat { seat_of self.new ≡ seat_of self.old }
-        ensures table { IfOk result (λ found. table_steps (ready self.old).seat_view Call.Recover (Answer.Found found)
+        ensures table { IfOk result (λ found. table_steps (free_to_start self.old).seat_view Call.Recover (Answer.Found found)
             ≡ Some self.new.steps) }
         ensures few { IfErr result (λ e. e ≢ LockFault.AlreadyIn
             → self.new.steps ≤ most_steps self.old.seat_view.setup.layout Call.Recover) }
@@ -278,21 +279,21 @@ impl Member {
         plan: &mut C,
         turns: u64,
     ) -> Result<Entry, LockFault>
-        ensures accepted { OnOk result (refusal_now (ready self.old) Call.Lock ≡ None) }
-        ensures entered { IfOk result (λ entry. LockEnds (began (ready self.old) Call.Lock) turns (Some (answer_of entry)) self.new
+        ensures accepted { OnOk result (refusal_now (free_to_start self.old) Call.Lock ≡ None) }
+        ensures entered { IfOk result (λ entry. LockEnds (began (free_to_start self.old) Call.Lock) turns (Some (answer_of entry)) self.new
             (C.askings plan.old) (C.askings plan.new)) }
         ensures fails { IfErr result (LockFails self.old turns self.new (C.askings plan.old) (C.askings plan.new)) }
         ensures waits { result ≡ Err LockFault.NotYet → refusal_now self.new Call.Withdraw ≡ None }
         ensures seat { seat_of self.new ≡ seat_of self.old }
-        ensures counts { IfOk result (λ entry. LockCounts (began (ready self.old) Call.Lock) (Some (answer_of entry)) self.new) }
-        ensures counts_out { IfErr result (LockCountsOut (began (ready self.old) Call.Lock) self.new) }
+        ensures counts { IfOk result (λ entry. LockCounts (began (free_to_start self.old) Call.Lock) (Some (answer_of entry)) self.new) }
+        ensures counts_out { IfErr result (LockCountsOut (began (free_to_start self.old) Call.Lock) self.new) }
         ensures few { OnOk result (self.new.steps ≤ 3 * self.old.seat_view.setup.layout.procs + 8 + turns) }
         ensures few_out { IfErr result (λ e. e ≢ LockFault.AlreadyIn
             → self.new.steps ≤ 3 * self.old.seat_view.setup.layout.procs + 8 + turns) }
     {
         self.call_driver.set_out_lock()?;
         match self.call_driver.wait_turns(plan, turns)? {
-            Some(answer) => entered(answer),
+            Some(answer) => lock_result(answer),
             None => Err(LockFault::NotYet),
         }
     }
@@ -302,25 +303,25 @@ impl Member {
     ///
     /// `AlreadyIn`, `Crashed`, `NumbersSpent` and `NotRecoverable` as at `lock_within`; never `NotYet`.
     pub fn lock<R: Wait, C: CrashPlan>(&mut self, rt: &R, plan: &mut C) -> Result<Entry, LockFault>
-        ensures accepted { OnOk result (refusal_now (ready self.old) Call.Lock ≡ None) }
+        ensures accepted { OnOk result (refusal_now (free_to_start self.old) Call.Lock ≡ None) }
         ensures entered { IfOk result (λ entry. (turns : ℕ)
-            × LockEnds (began (ready self.old) Call.Lock) turns (Some (answer_of entry)) self.new (C.askings plan.old)
+            × LockEnds (began (free_to_start self.old) Call.Lock) turns (Some (answer_of entry)) self.new (C.askings plan.old)
             (C.askings plan.new)) }
         ensures fails { IfErr result (λ e. (turns : ℕ)
             × LockFails self.old turns self.new (C.askings plan.old) (C.askings plan.new) e) }
         ensures patient { IfErr result (λ e. e ≢ LockFault.NotYet) }
         ensures seat { seat_of self.new ≡ seat_of self.old }
-        ensures counts { IfOk result (λ entry. LockCounts (began (ready self.old) Call.Lock) (Some (answer_of entry)) self.new) }
-        ensures counts_out { IfErr result (LockCountsOut (began (ready self.old) Call.Lock) self.new) }
+        ensures counts { IfOk result (λ entry. LockCounts (began (free_to_start self.old) Call.Lock) (Some (answer_of entry)) self.new) }
+        ensures counts_out { IfErr result (LockCountsOut (began (free_to_start self.old) Call.Lock) self.new) }
     {
         self.call_driver.set_out_lock()?;
-        entered(self.call_driver.wait(rt, plan)?)
+        lock_result(self.call_driver.wait(rt, plan)?)
     }
 }
 
 /// The result of a lock, from its answer.
-fn entered(answer: Answer) -> Result<Entry, LockFault>
-    requires { Fits Call.Lock answer }
+fn lock_result(answer: Answer) -> Result<Entry, LockFault>
+    requires { IsAnswerOf Call.Lock answer }
     ensures inside { IfOk result (λ entry. answer ≡ answer_of entry) }
     ensures out { IfErr result (λ e. ((e ≡ LockFault.NumbersSpent) × (answer ≡ Answer.NumbersSpent))
         ⊎ ((e ≡ LockFault.NotRecoverable) × (answer ≡ Answer.NotRecoverable))) }

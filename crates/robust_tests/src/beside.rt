@@ -88,8 +88,8 @@ fn met_beside<P: CrashPlan + Drop, R: Abort + Wait>(
     let Some(call) = call_of(words) else {
         panic!(rt; "no call")
     };
-    let told = one.call(rt, call, &mut plan);
-    assert!(rt; is_named(told, answer), "not {answer}, after {rows:?}");
+    let reports = one.call(rt, call, &mut plan);
+    assert!(rt; is_named(reports, answer), "not {answer}, after {rows:?}");
     (plan.done, plan.askings)
 }
 

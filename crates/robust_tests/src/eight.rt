@@ -3,10 +3,10 @@
 ghost use Rattle.std.specs.Prelude.{◌≡◌, map, IfOk};
 ghost use Rattle.std.specs.Thread.{IsSync};
 ghost use Rattle.atomic_table.specs.Seated.{TableId};
-ghost use Rattle.execution.specs.declared.setup.Setup.{Setup};
-ghost use Rattle.execution.specs.Gathering.{OneArena};
-ghost use Rattle.robust.specs.Making.{fresh_members};
-ghost use Rattle.robust.specs.Working.{seat_of, seats_of};
+ghost use Rattle.table_runs.specs.declared.setup.Setup.{Setup};
+ghost use Rattle.table_runs.specs.GatheredRuns.{OneArena};
+ghost use Rattle.robust.specs.NewMembers.{fresh_members};
+ghost use Rattle.robust.specs.MemberLaws.{seat_of, seats_of};
 
 use crash_plans::{CrashPlan, Seeded};
 use redomail::Layout;
@@ -36,7 +36,7 @@ struct SameSeat(Snapshot<Member>);
 
 impl Promise<Raised> for SameSeat {
     ghost use Rattle.std.specs.Prelude.{◌≡◌};
-    ghost use Rattle.robust.specs.Working.{seat_of};
+    ghost use Rattle.robust.specs.MemberLaws.{seat_of};
 
     ghost kept_by = { λ promise raised. seat_of raised.member ≡ seat_of promise.0.value };
 }

@@ -5,14 +5,14 @@ use crate::support::gated::{Hold, Until, WorkerProgress, gates_of};
 use crate::support::messages::{are, are_all_sent};
 use crate::support::noting::{ALONE, Noting};
 use crash_plans::{Never, Seeded};
-use execution::LockFault;
-use one_lock::lab::{Gate, LabFault, LabResult, Spec};
 use redomail::Reply;
 use std::alloc::Global;
 use std::process::Abort;
 use std::sync::{Arc, Wait};
 use std::test::Fail;
 use std::thread::Threads;
+use table_runs::LockFault;
+use table_runs::lab::{Gate, LabFault, LabResult, Spec};
 
 /// Which lab.
 #[derive(Clone, Copy, Debug)]
@@ -60,12 +60,12 @@ fn meets<R: Threads + Wait + Sync>(
         (Err(fault), Err(wanted)) => fault == wanted,
         _ => false,
     };
-    Ok(is_right && have_told(workers.as_slice(), holds))
+    Ok(is_right && have_reported(workers.as_slice(), holds))
 }
 
-fn have_told(workers: &[Arc<WorkerProgress>], holds: &[Hold]) -> bool {
+fn have_reported(workers: &[Arc<WorkerProgress>], holds: &[Hold]) -> bool {
     for (worker, hold) in workers.iter().zip(holds) {
-        if worker.has_given_up() || !worker.has_told(hold.answer, hold.least, hold.most) {
+        if worker.has_given_up() || !worker.has_reported(hold.answer, hold.least, hold.most) {
             return false;
         }
     }
@@ -180,7 +180,7 @@ fn tells<R: Threads + Wait + Sync>(rt: &R, alloc: Global, lab: Lab) -> Result<bo
 }
 
 #[test]
-fn answers_told(rt: HostRuntime) -> Result<(), Fail> {
+fn answers_reported(rt: HostRuntime) -> Result<(), Fail> {
     for lab in BOTH {
         assert!(rt; tells(&rt, rt.alloc(), lab)?, "{lab:?}");
     }

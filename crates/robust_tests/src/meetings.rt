@@ -32,8 +32,8 @@ fn appends<M: Tested, P: CrashPlan + Drop, R: Wait>(
         word,
         turns: None,
     };
-    let told = member.call(rt, call, &mut plan);
-    (member, told == Ok(Answer::Mail(Reply::Stored)))
+    let reports = member.call(rt, call, &mut plan);
+    (member, reports == Ok(Answer::Mail(Reply::Stored)))
 }
 
 /// Whether a close, or a lock, is answered as it has to be.

@@ -1,7 +1,7 @@
 //! Each request for memory is refused in turn: all memory is taken but for a reserve, which is given back piece by piece
 //! until a call meets no refusal.
 
-ghost use Rattle.execution.specs.Gathering.{OneArena};
+ghost use Rattle.table_runs.specs.GatheredRuns.{OneArena};
 
 use crate::support::counted::never;
 use crate::support::messages::{are, body};

@@ -1,7 +1,7 @@
 -- The answer of a trace that was judged to its end.
 use Rattle.std.proofs.Common.{◌≡◌, ℕ, ◌+◌, ◌-◌, ◌<◌, ◌^◌, ◌⊎◌, min, inl, inr, List, [], ◌∷◌, ◌++◌, length, Option, Some, None, Result, Ok, Err, Bool, true, refl, sym, ap, subst, ◌∙◌}
-use Rattle.schedule.proofs.ReplaysCommon.{Refusal, Deed, Kept, empty, LineFault, RunningVerdict, ReplayFault, Text, Read, OutOfMemory, TraceStage, TraceHead, Verdict, deed_at, opened, parts_of, text_at, trace_head_at}
-use Rattle.schedule.proofs.ReplaysCommon.{Stands, trace_answer, answer_of, judged_of, judge_refusal, numbered, JudgesTrace}
+use Rattle.schedule.proofs.ReplaysCommon.{Refusal, Deed, Kept, empty_state, LineFault, RunningVerdict, ReplayFault, Text, Read, OutOfMemory, TraceStage, TraceHead, Verdict, deed_at, first_running_verdict, parts_of, text_at, trace_head_at}
+use Rattle.schedule.proofs.ReplaysCommon.{Stands, trace_answer, answer_of, judged_of, judge_refusal, refusal_number, JudgesTrace}
 use Rattle.schedule.specs.declared.replays.stage.TraceStage.TheVariants as stages
 use Rattle.schedule.specs.Numbers.{number_of}
 use Rattle.schedule.specs.Tapes.{Reading}
@@ -18,8 +18,8 @@ ended_first lines none = rw none (ap answer_of (none_empty trace_head_at item))
 pub ended_judging : (lines : List (List ℕ)) (head : TraceHead) (judge : Kept) (running_verdict : RunningVerdict) → Stands (stages.Judging head judge running_verdict) lines
     → trace_answer (lines ++ [] ∷ []) ≡ Ok running_verdict.verdict
 ended_judging lines head judge running_verdict h =
-    let ruled = ruled_on h.3.0 judge opened running_verdict h.0 (empty head.procs head.cap) refl h.3.2 h.3.1 in
-    ap answer_of h.1 ∙ ap (λ (o : Option Refusal). judged_of (numbered o) head.procs head.cap h.0) h.2 ∙ ap (λ v. Ok v) (sym ruled)
+    let ruled = ruled_on h.3.0 judge first_running_verdict running_verdict h.0 (empty_state head.procs head.cap) refl h.3.2 h.3.1 in
+    ap answer_of h.1 ∙ ap (λ (o : Option Refusal). judged_of (refusal_number o) head.procs head.cap h.0) h.2 ∙ ap (λ v. Ok v) (sym ruled)
 
 pub cut_faulty : (lines : List (List ℕ)) (rest : List ℕ) (k : ℕ) (f : LineFault) → 0 < length rest → Stands (stages.Faulty k f) lines
     → trace_answer (lines ++ rest ∷ []) ≡ Err (Text k (number_of f))
@@ -52,15 +52,15 @@ judged_is (Some number) procs size deeds = λ h. h
 
 answer_is : (q : Result (TraceHead × List Deed) (ℕ × LineFault)) → of_text (answer_of q)
 unfolding of_text IsOfDevice
-answer_is (Ok read) = judged_is (numbered (judge_refusal read.0.procs read.0.cap)) read.0.procs read.0.cap read.1
+answer_is (Ok read) = judged_is (refusal_number (judge_refusal read.0.procs read.0.cap)) read.0.procs read.0.cap read.1
 answer_is (Err fault) = λ h. h
 
 pub judges : (old new : Reading) (text : List ℕ) (answer : Result Verdict ReplayFault) → new.given ≡ old.given ++ text → new.ended ≡ true → new.failures ≡ old.failures
     → answer ≡ trace_answer (parts_of text) → of_text answer → JudgesTrace old new answer
 unfolding of_text IsOfDevice
-judges old new text (Err Read) given told fine e is = absurd (is tt)
-judges old new text (Err OutOfMemory) given told fine e is = absurd (is tt)
-judges old new text _ given told fine e is = ((text, given, told, e), fine)
+judges old new text (Err Read) given reports fine e is = absurd (is tt)
+judges old new text (Err OutOfMemory) given reports fine e is = absurd (is tt)
+judges old new text _ given reports fine e is = ((text, given, reports, e), fine)
 
 pub is_of_text : (parts : List (List ℕ)) (answer : Result Verdict ReplayFault) → answer ≡ trace_answer parts → of_text answer
 is_of_text parts answer e = subst of_text (sym e) (answer_is (text_at trace_head_at item parts))

@@ -20,9 +20,9 @@ use Rattle.redomail.specs.declared.reply.Reply.{Reply}
 use Rattle.redomail.specs.declared.reply.Reply.TheVariants.{Ruined}
 use Rattle.rmeworld.specs.Answered.{answer_by, by_lock, by_script}
 use Rattle.rmeworld.specs.ScriptStates.{script_state_of}
-use Rattle.rmeworld.specs.ProcessState.{ScriptState, Free, Doing, ProcessState, at_lock, moved_by, next_process_state, settled}
+use Rattle.rmeworld.specs.ProcessState.{ScriptState, Free, Doing, ProcessState, at_lock, moved_by, next_process_state, process_after_script}
 use Rattle.rmeworld.specs.Refused.{is_idle, is_idle_by}
-use Rattle.rmeworld.specs.Replayed.{advance_refusal, advanced, advanced_if, stepped, stepped_if, value_of, world_event}
+use Rattle.rmeworld.specs.Replayed.{advance_refusal, world_after_step, advanced_if, world_step_report, stepped_if, value_of, world_event}
 use Rattle.rmecore.specs.Named.{lock_part}
 use Rattle.rmeworld.specs.World.{GlobalState}
 use Rattle.rmeworld.specs.declared.purpose.Purpose.{Purpose}
@@ -33,7 +33,7 @@ use Rattle.rmeworld.proofs.Following.{Follows, step_is}
 use Rattle.rmeworld.proofs.WorldSteps.{step_takes}
 use Rattle.rmeworld.proofs.WorldTallies.{no_glance}
 
-settled_busy : (b c : Bool) (purpose : Purpose) (left : Script Reply) → by_script purpose b left ≡ None → is_idle (settled b c purpose left) ≡ false
+settled_busy : (b c : Bool) (purpose : Purpose) (left : Script Reply) → by_script purpose b left ≡ None → is_idle (process_after_script b c purpose left) ≡ false
 settled_busy b c purpose (Asks i rest) none = refl
 settled_busy b c purpose (Writes i v rest) none = refl
 settled_busy b c Checking (Done (Ruined true)) none = refl
@@ -69,9 +69,9 @@ module _ (l : Layout) (limit p : ℕ) where
       → is_idle (unwrap_or (moved_by l limit p s b c e kind word v) d) ≡ false
   moved_busy s b c Free d kind word v some moves none = lock_busy (next l.procs limit p s kind word v) s b c d _ some (λ may. goes_on l.procs p limit s kind word v may moves) none
   moved_busy s b c (Doing purpose (Asks j rest)) d Gets (DataAt i) v some moves none =
-      guard_process_state (i == j) (settled b c purpose (rest v)) d (λ q. is_idle q ≡ false) some (λ e. settled_busy b c purpose (rest v) none)
+      guard_process_state (i == j) (process_after_script b c purpose (rest v)) d (λ q. is_idle q ≡ false) some (λ e. settled_busy b c purpose (rest v) none)
   moved_busy s b c (Doing purpose (Writes j x rest)) d Puts (DataAt i) v some moves none =
-      guard_process_state ((i == j) && (v == x)) (settled b c purpose rest) d (λ q. is_idle q ≡ false) some (λ e. settled_busy b c purpose rest none)
+      guard_process_state ((i == j) && (v == x)) (process_after_script b c purpose rest) d (λ q. is_idle q ≡ false) some (λ e. settled_busy b c purpose rest none)
   moved_busy s b c (Doing purpose _) d _ _ v some moves none = absurd (cc)
 
 busy_now : (s new : WorldState) (p : ℕ) → advance_refusal s p ≡ None → new.layout ≡ s.layout → is_idle (process_state_at new.processes p) ≡ false → advance_refusal new p ≡ None
@@ -81,7 +81,7 @@ busy_now s new p may layout busy = elim (cases_Bool (nat_lt p s.layout.procs)) [
 ]
 
 -- the process can take its next step
-pub still_busy : {first : GlobalState} {history : List Deed} (s : WorldState) (p : ℕ) → Follows first s history → advance_refusal s p ≡ None → (stepped s p).answer ≡ None → advance_refusal (advanced s p) p ≡ None
+pub still_busy : {first : GlobalState} {history : List Deed} (s : WorldState) (p : ℕ) → Follows first s history → advance_refusal s p ≡ None → (world_step_report s p).answer ≡ None → advance_refusal (world_after_step s p) p ≡ None
 still_busy s p now may none =
     let is = step_is s p now may in
     let t = machine_state_at s.processes p in

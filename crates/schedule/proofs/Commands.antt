@@ -1,6 +1,6 @@
 -- The lines of a schedule: reading and spelling are inverse.
 use Rattle.std.proofs.Common.{◌≡◌, ℕ, Bool, true, false, cond, eqb, List, [], ◌∷◌, map, drop, Ok, refl, sym, ap, ◌∙◌, arith, inl, inr, lit<, codes, ne_eqb}
-use Rattle.schedule.proofs.LinesCommon.{cases_eq, decimal, word_of, words_of_line, IsLine, commands_by_name, places, line_with, line_at, Shape, Number, any, many, has_fixed, numbers_at, is_nil, item_after}
+use Rattle.schedule.proofs.LinesCommon.{cases_eq, decimal, word_of, words_of_line, IsLine, commands_by_name, places, line_with, line_at, WordShape, Number, any, repeated_shape, has_fixed, numbers_at, is_nil, item_after}
 use Rattle.schedule.specs.declared.lines.line.Line.TheVariants.{Start, Step, Crash}
 use Rattle.schedule.specs.declared.lines.line.Line.{Line}
 use Rattle.schedule.specs.declared.lines.command.Keyword.{Keyword}
@@ -10,10 +10,10 @@ use Rattle.schedule.proofs.Joins.{ArePlain, decimal_above, decimals_plain, IsCod
 use Rattle.schedule.proofs.Forms.{Says, item_takes, one, two, three, reads}
 use Rattle.schedule.proofs.Places.{Fits, AreNarrow, number_again, numbers_again, many_narrow, many_fixed, many_from, many_fit}
 
-abbrev LineSays : ℕ → Keyword → List Shape → List ℕ → Type 0
+abbrev LineSays : ℕ → Keyword → List WordShape → List ℕ → Type 0
 LineSays width c shapes ns = Says Line words_of_line (IsLine width) (word_of c) (line_with c ns) shapes ns
 
-append_says : (width : ℕ) (ns : List ℕ) → Fits (any ∷ any ∷ many width) ns → LineSays width commands.Append (any ∷ any ∷ many width) ns
+append_says : (width : ℕ) (ns : List ℕ) → Fits (any ∷ any ∷ repeated_shape width) ns → LineSays width commands.Append (any ∷ any ∷ repeated_shape width) ns
 append_says width [] h = absurd h
 append_says width (p ∷ []) h = absurd h.3
 append_says width (p ∷ seq ∷ v) h =
@@ -28,7 +28,7 @@ step_says width (p ∷ k ∷ []) h =
     record { said = rw more refl; fits = (omega arith, omega (arith, h.3.0), h.3.1) }
 step_says width (p ∷ k ∷ q ∷ ns) h = absurd h.3.3
 
-abbrev step_places : Bool → List Shape
+abbrev step_places : Bool → List WordShape
 step_places b = cond b (any ∷ []) (any ∷ Number 2 1000000 ∷ [])
 
 steps_say : (width : ℕ) (b : Bool) (ns : List ℕ) → Fits (step_places b) ns → LineSays width commands.Step (step_places b) ns
@@ -74,7 +74,7 @@ unfolding item_after
 line_again width (Start p (calls.Append seq v)) h =
     let fit = many_fit width v h.1.1 h.1.2 in
     let same = (many_from width v fit).0 in
-    let again : numbers_at (many width) (map decimal v) ≡ Ok v = ap (numbers_at (many width)) (sym same) ∙ numbers_again (many width) v fit in
+    let again : numbers_at (repeated_shape width) (map decimal v) ≡ Ok v = ap (numbers_at (repeated_shape width)) (sym same) ∙ numbers_again (repeated_shape width) v fit in
     rw (reads p h.0, reads seq h.1.0, again) refl
 line_again width (Start p (calls.Put i v)) h = rw (reads p h.0, reads i h.1.0, reads v h.1.1) refl
 line_again width (Start p (calls.Get i)) h = rw (reads p h.0, reads i h.1) refl

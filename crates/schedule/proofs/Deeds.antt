@@ -1,6 +1,6 @@
 -- The deed lines: reading and spelling are inverse.
 use Rattle.std.proofs.Common.{◌≡◌, ℕ, ◌^◌, ◌<◌, true, List, [], ◌∷◌, length, map, drop, Ok, refl, sym, ap, ◌∙◌, arith, lit<, codes}
-use Rattle.schedule.proofs.LinesCommon.{decimal, AllByRecursion, deed_at, words_of_deed, IsDeed, deeds_by_name, deed_with, Shape, any, many, has_fixed, numbers_at, item_after}
+use Rattle.schedule.proofs.LinesCommon.{decimal, AllByRecursion, deed_at, words_of_deed, IsDeed, deeds_by_name, deed_with, WordShape, any, repeated_shape, has_fixed, numbers_at, item_after}
 use Rattle.redomail.specs.declared.deed.Deed.{Deed}
 use Rattle.rmecore.specs.declared.outer.Outer.TheVariants as outers
 use Rattle.redomail.specs.declared.deed.Deed.TheVariants as deeds
@@ -11,17 +11,17 @@ use Rattle.schedule.proofs.Forms.{Says, item_takes, one, reads}
 use Rattle.schedule.proofs.Joins.{ArePlain, decimal_above, decimals_plain, IsCodec}
 use Rattle.schedule.proofs.Places.{Fits, AreNarrow, numbers_again, many_narrow, many_fixed, many_from, many_fit}
 
-abbrev DeedSays : ℕ → DeedWord → List Shape → List ℕ → Type 0
+abbrev DeedSays : ℕ → DeedWord → List WordShape → List ℕ → Type 0
 DeedSays width c shapes ns = Says Deed words_of_deed (IsDeed width) (word_of c) (deed_with c ns) shapes ns
 
-commit_says : (width : ℕ) (ns : List ℕ) → Fits (any ∷ any ∷ many width) ns → DeedSays width names.Commit (any ∷ any ∷ many width) ns
+commit_says : (width : ℕ) (ns : List ℕ) → Fits (any ∷ any ∷ repeated_shape width) ns → DeedSays width names.Commit (any ∷ any ∷ repeated_shape width) ns
 commit_says width [] h = absurd h
 commit_says width (p ∷ []) h = absurd h.3
 commit_says width (p ∷ seq ∷ v) h =
     let m = many_from width v h.3.3 in
     record { said = ap (λ (xs : List (List ℕ)). codes "commit" ∷ decimal p ∷ decimal seq ∷ xs) (sym m.0); fits = (omega arith, omega (arith, h.3.1), (m.1, m.2)) }
 
-show_says : (width : ℕ) (ns : List ℕ) → Fits (any ∷ any ∷ any ∷ many width) ns → DeedSays width names.Show (any ∷ any ∷ any ∷ many width) ns
+show_says : (width : ℕ) (ns : List ℕ) → Fits (any ∷ any ∷ any ∷ repeated_shape width) ns → DeedSays width names.Show (any ∷ any ∷ any ∷ repeated_shape width) ns
 show_says width [] h = absurd h
 show_says width (p ∷ []) h = absurd h.3
 show_says width (p ∷ at ∷ []) h = absurd h.3.3
@@ -49,10 +49,10 @@ deed_takes : (width : ℕ) (ws : List (List ℕ)) (d : Deed) → deed_at width w
 deed_takes width ws d e =
     item_takes deeds_by_name (places width) deed_with words_of_deed (IsDeed width) word_of ws d (refl, (refl, (refl, (refl, (refl, (refl, (refl, (refl, (refl, (refl, (refl, tt))))))))))) (narrow width) (fixed width) (says width) e
 
-value_again : (width : ℕ) (v : List ℕ) → (length v ≡ width) × AllByRecursion (λ n. n < 2 ^ 64) v → numbers_at (many width) (map decimal v) ≡ Ok v
+value_again : (width : ℕ) (v : List ℕ) → (length v ≡ width) × AllByRecursion (λ n. n < 2 ^ 64) v → numbers_at (repeated_shape width) (map decimal v) ≡ Ok v
 value_again width v h =
     let fit = many_fit width v h.0 h.1 in
-    ap (numbers_at (many width)) (sym (many_from width v fit).0) ∙ numbers_again (many width) v fit
+    ap (numbers_at (repeated_shape width)) (sym (many_from width v fit).0) ∙ numbers_again (repeated_shape width) v fit
 
 -- the spelling of a deed is read back
 deed_again : (width : ℕ) (d : Deed) → IsDeed width d → deed_at width (words_of_deed d) ≡ Ok d

@@ -1,7 +1,7 @@
 -- Lines at the front of a text, whose deeds are given to a judge.
 use Rattle.std.proofs.Common.{◌≡◌, ℕ, ◌+◌, ◌-◌, ◌^◌, min, List, [], ◌∷◌, ◌++◌, Ok, refl, sym, ap, subst, ◌∙◌, append_assoc, arith, length-append, append-nil}
-use Rattle.schedule.proofs.ReplaysCommon.{Deed, Kept, RunningVerdict, TraceStage, TraceHead, deed_at, opened, running_judge, Hears, parts_of, trace_head_at, Stands, Fed, words_of}
-use Rattle.schedule.specs.FirstLines.{Begins}
+use Rattle.schedule.proofs.ReplaysCommon.{Deed, Kept, RunningVerdict, TraceStage, TraceHead, deed_at, first_running_verdict, running_judge, Hears, parts_of, trace_head_at, Stands, Fed, words_of}
+use Rattle.schedule.specs.FirstLines.{BeginsWithItem}
 use Rattle.schedule.specs.declared.replays.stage.TraceStage.TheVariants as stages
 use Rattle.schedule.proofs.Heard.{hears_both}
 use Rattle.schedule.proofs.Staging.{more_reads}
@@ -21,11 +21,11 @@ stands_more head judge now running_verdict later lines line deed hears says know
   known.0 ++ deed ∷ [],
   more_reads trace_head_at (λ g. deed_at g.width) lines line head known.0 deed known.1 says,
   known.2,
-  (known.3.0, known.3.1, hears_both (running_judge known.3.0 opened) (running_judge judge running_verdict) (running_judge now later) known.0 (deed ∷ []) known.3.2 hears),
+  (known.3.0, known.3.1, hears_both (running_judge known.3.0 first_running_verdict) (running_judge judge running_verdict) (running_judge now later) known.0 (deed ∷ []) known.3.2 hears),
 )
 
 pub fed_more : (opening : TraceStage) (head : TraceHead) (judge now : Kept) (running_verdict later : RunningVerdict) (text rest after : List ℕ) (number count : ℕ) (deed : Deed)
-    → Begins (deed_at head.width) rest deed after → Hears (running_judge judge running_verdict) (deed ∷ []) (running_judge now later)
+    → BeginsWithItem (deed_at head.width) rest deed after → Hears (running_judge judge running_verdict) (deed ∷ []) (running_judge now later)
     → Fed opening (stages.Judging head judge running_verdict) text rest number count
     → Fed opening (stages.Judging head now later) text after number (min (count + 1) (2 ^ 64 - 1))
 fed_more opening head judge now running_verdict later text rest after number count deed begins hears so_far =

@@ -1,24 +1,24 @@
 -- Lines whose first word decides their places: a line that is read is the spelling of its result.
 use Rattle.std.proofs.Common.{◌≡◌, ℕ, ◌-◌, ◌^◌, ◌<◌, true, List, [], ◌∷◌, drop, Option, Some, None, Ok, refl, sym, ap, subst, ◌∙◌, arith, lit<}
-use Rattle.schedule.proofs.LinesCommon.{decimal, AllByRecursion, LineFault, Shape, any, has_fixed, numbers_at, first_of, named, item_named, item_at, item_after, number_in}
+use Rattle.schedule.proofs.LinesCommon.{decimal, AllByRecursion, LineFault, WordShape, any, has_fixed, numbers_at, first_of, value_of_name, item_named, item_at, item_after, number_in}
 use Rattle.schedule.proofs.Places.{bind_ok, ok_is, spelled, Fits, AreNarrow, number_again, numbers_take, named_is}
 
 -- what is made of numbers that fit its places
-pub record Says (A : Type 0) (words : A → List (List ℕ)) (Valid : A → Type 0) (name : List ℕ) (made : A) (shapes : List Shape) (ns : List ℕ) : Type 0 where
+pub record Says (A : Type 0) (words : A → List (List ℕ)) (Valid : A → Type 0) (name : List ℕ) (made : A) (shapes : List WordShape) (ns : List ℕ) : Type 0 where
   pub said : words made ≡ name ∷ spelled shapes ns
   pub fits : Valid made
 
-module _ {C A : Type 0} (entries : List (List ℕ × C)) (places : C → List (List ℕ) → List Shape) (make : C → List ℕ → A) where
-  pub item_at-named : (ws : List (List ℕ)) (word : List ℕ) (c : C) → first_of ws ≡ Some word → named entries word ≡ Some c
+module _ {C A : Type 0} (entries : List (List ℕ × C)) (places : C → List (List ℕ) → List WordShape) (make : C → List ℕ → A) where
+  pub item_at-named : (ws : List (List ℕ)) (word : List ℕ) (c : C) → first_of ws ≡ Some word → value_of_name entries word ≡ Some c
       → item_at entries places make ws ≡ item_after places make c (drop 1 ws)
   item_at-named [] word c first is = absurd cc
   item_at-named (w ∷ ws) word c first is =
       let same : w ≡ word = cc in
-      ap (λ (v : List ℕ). item_named places make (named entries v) ws) same ∙ ap (λ (o : Option C). item_named places make o ws) is
+      ap (λ (v : List ℕ). item_named places make (value_of_name entries v) ws) same ∙ ap (λ (o : Option C). item_named places make o ws) is
 
-module _ {C A : Type 0} (entries : List (List ℕ × C)) (places : C → List (List ℕ) → List Shape) (make : C → List ℕ → A)
+module _ {C A : Type 0} (entries : List (List ℕ × C)) (places : C → List (List ℕ) → List WordShape) (make : C → List ℕ → A)
     (words : A → List (List ℕ)) (Valid : A → Type 0) (name_of : C → List ℕ) where
-  named_takes : (word : List ℕ) (ws : List (List ℕ)) (x : A) (o : Option C) → named entries word ≡ o
+  named_takes : (word : List ℕ) (ws : List (List ℕ)) (x : A) (o : Option C) → value_of_name entries word ≡ o
       → AllByRecursion (λ e. name_of e.1 ≡ e.0) entries
       → ((c : C) → AreNarrow (places c ws)) → ((c : C) → has_fixed (places c ws) ws ≡ true)
       → ((c : C) (ns : List ℕ) → Fits (places c ws) ns → Says A words Valid (name_of c) (make c ns) (places c ws) ns)
@@ -39,7 +39,7 @@ module _ {C A : Type 0} (entries : List (List ℕ × C)) (places : C → List (L
       → item_at entries places make ws ≡ Ok x → (ws ≡ words x) × Valid x
   item_takes [] x names narrow fixed says e = absurd cc
   item_takes (word ∷ ws) x names narrow fixed says e =
-      named_takes word ws x (named entries word) refl names (λ c. narrow c ws) (λ c. fixed c ws) (λ c ns h. says c ws ns h) e
+      named_takes word ws x (value_of_name entries word) refl names (λ c. narrow c ws) (λ c. fixed c ws) (λ c ns h. says c ws ns h) e
 
 pub one : (P : List ℕ → Type 0) → ((p : ℕ) → p < 2 ^ 64 → P (p ∷ [])) → (ns : List ℕ) → Fits (any ∷ []) ns → P ns
 one P f [] h = absurd h

@@ -3,9 +3,9 @@ use Rattle.std.proofs.Common.{is_some, subst, ◌≡◌, ℕ, zero, suc, ◌+◌
 use Rattle.std.proofs.lemmas.Bool.{cases_Bool}
 use Rattle.std.proofs.lemmas.List.Concat.{flat_map-append, flat_map-cons}
 use Rattle.std.specs.List.{flat_map}
-use Rattle.schedule.specs.Transitions.{Event, Took, Fell, Transitions, StepsFrom, IsShown, IsLoud}
+use Rattle.schedule.specs.Transitions.{RunEvent, Took, Fell, Transitions, StepsFrom, IsShown, IsLoud}
 use Rattle.schedule.specs.Effects.{Effects, HearsAll, BreaksOffAt}
-use Rattle.schedule.specs.Fragments.{Fragment, unless, followed, late, first_or_late, itself, steps, refusal_in, later_steps, steps_line, crash_line, line_on, run_on}
+use Rattle.schedule.specs.Fragments.{Fragment, unless, fragment_after_line, late, first_or_late, itself, steps, refusal_in, later_steps, steps_line, crash_line, line_on, run_on}
 use Rattle.schedule.specs.Plays.{TakesUnheard, PlaysAll, StopsIn, RunsShort, Plays, PlaysOn, IsStopOf, IsLateEnd}
 use Rattle.schedule.specs.declared.lines.line.Line.{Line}
 use Rattle.schedule.specs.declared.lines.line.Line.TheVariants.{Start, Step, Crash}
@@ -14,7 +14,7 @@ use Rattle.schedule.specs.declared.player.play_stop.PlayStop.TheVariants.{Refuse
 
 -- a part that reports this first
 abbrev pub preceded : {X S R : Type 0} → List X → Fragment X S R → Fragment X S R
-preceded told part = record { told = told ++ part.told; left = part.left; refused = part.refused }
+preceded reports part = record { reports = reports ++ part.reports; left = part.left; refused = part.refused }
 
 pub not_late : {R : Type 0} (b : Bool) → late {R = R} b None ≡ None
 not_late true = refl
@@ -51,135 +51,135 @@ module _ {L E : Type 0} (hears : L → E → L → Type 0) where
 
 -- ---- a part after what was heard
 
-module _ {L S T C R Stop : Type 0} (m : Transitions S T C R) (h : Effects L (Event T C) Stop) where
+module _ {L S T C R Stop : Type 0} (m : Transitions S T C R) (h : Effects L (RunEvent T C) Stop) where
   -- all of a part was heard
-  pub played : (a b : L) (told : List (Event T C)) (total : Fragment (Event T C) S R) (left s : S) (refused : Option R) → HearsAll h.hears a told b
-      → total ≡ record { told = told; left = left; refused = refused } → s ≡ left → PlaysAll h a b total s refused
-  played a b told total left s refused all e stands = rw e record { hears = all; stands = stands; refused_is = refl }
+  pub played : (a b : L) (reports : List (RunEvent T C)) (total : Fragment (RunEvent T C) S R) (left s : S) (refused : Option R) → HearsAll h.hears a reports b
+      → total ≡ record { reports = reports; left = left; refused = refused } → s ≡ left → PlaysAll h a b total s refused
+  played a b reports total left s refused all e stands = rw e record { hears = all; stands = stands; refused_is = refl }
 
   -- the listener stops at the next event
-  pub stops_next : (a b c : L) (told after : List (Event T C)) (event : Event T C) (total : Fragment (Event T C) S R) (stop : Stop) → HearsAll h.hears a told b
-      → total.told ≡ told ++ event ∷ after → h.stops b event c stop → StopsIn h a c total stop
-  stops_next a b c told after event total stop all e stops = rw e (breaks_both h.hears (λ next x. h.stops next x c stop) a b told (event ∷ after) all (inl stops))
+  pub stops_next : (a b c : L) (reports after : List (RunEvent T C)) (event : RunEvent T C) (total : Fragment (RunEvent T C) S R) (stop : Stop) → HearsAll h.hears a reports b
+      → total.reports ≡ reports ++ event ∷ after → h.stops b event c stop → StopsIn h a c total stop
+  stops_next a b c reports after event total stop all e stops = rw e (breaks_both h.hears (λ next x. h.stops next x c stop) a b reports (event ∷ after) all (inl stops))
 
   -- the machine has no memory for the next event
-  pub ends_next : (a b : L) (told after : List (Event T C)) (event : Event T C) (total : Fragment (Event T C) S R) → HearsAll h.hears a told b
-      → total.told ≡ told ++ event ∷ after → IsLoud m event → RunsShort m h a b total
-  ends_next a b told after event total all e loud = rw e (breaks_both h.hears (λ next x. (b ≡ next) × IsLoud m x) a b told (event ∷ after) all (inl (refl, loud)))
+  pub ends_next : (a b : L) (reports after : List (RunEvent T C)) (event : RunEvent T C) (total : Fragment (RunEvent T C) S R) → HearsAll h.hears a reports b
+      → total.reports ≡ reports ++ event ∷ after → IsLoud m event → RunsShort m h a b total
+  ends_next a b reports after event total all e loud = rw e (breaks_both h.hears (λ next x. (b ≡ next) × IsLoud m x) a b reports (event ∷ after) all (inl (refl, loud)))
 
-  pub plays_after : {A : Type 0} (a b c : L) (told : List (Event T C)) (total rest : Fragment (Event T C) S R) (s : S) (r : Result A (PlayStop R Stop)) → HearsAll h.hears a told b
-      → total ≡ preceded told rest → Plays m h b c rest s r → Plays m h a c total s r
-  plays_after a b c told total rest s (Ok x) all e plays =
-      rw e record { hears = hears_both h.hears a b c told rest.told all plays.hears; stands = plays.stands; refused_is = plays.refused_is }
-  plays_after a b c told total rest s (Err (Refused refusal)) all e plays =
-      rw e (record { hears = hears_both h.hears a b c told rest.told all plays.0.hears; stands = plays.0.stands; refused_is = plays.0.refused_is }, plays.1)
-  plays_after a b c told total rest s (Err OutOfMemory) all e plays =
-      rw e (breaks_both h.hears (λ next x. (c ≡ next) × IsLoud m x) a b told rest.told all plays)
-  plays_after a b c told total rest s (Err (Stopped stop)) all e plays =
-      rw e (breaks_both h.hears (λ next x. h.stops next x c stop) a b told rest.told all plays)
+  pub plays_after : {A : Type 0} (a b c : L) (reports : List (RunEvent T C)) (total rest : Fragment (RunEvent T C) S R) (s : S) (r : Result A (PlayStop R Stop)) → HearsAll h.hears a reports b
+      → total ≡ preceded reports rest → Plays m h b c rest s r → Plays m h a c total s r
+  plays_after a b c reports total rest s (Ok x) all e plays =
+      rw e record { hears = hears_both h.hears a b c reports rest.reports all plays.hears; stands = plays.stands; refused_is = plays.refused_is }
+  plays_after a b c reports total rest s (Err (Refused refusal)) all e plays =
+      rw e (record { hears = hears_both h.hears a b c reports rest.reports all plays.0.hears; stands = plays.0.stands; refused_is = plays.0.refused_is }, plays.1)
+  plays_after a b c reports total rest s (Err OutOfMemory) all e plays =
+      rw e (breaks_both h.hears (λ next x. (c ≡ next) × IsLoud m x) a b reports rest.reports all plays)
+  plays_after a b c reports total rest s (Err (Stopped stop)) all e plays =
+      rw e (breaks_both h.hears (λ next x. h.stops next x c stop) a b reports rest.reports all plays)
 
 -- ---- the steps of one process
 
 module _ {S T C R : Type 0} (m : Transitions S T C R) (p : ℕ) where
   -- at most n steps of p, with the refusal of one of them
-  abbrev pub all_steps : ℕ → S → Fragment (Event T C) S R
-  all_steps n s = record { told = (steps m itself p n s).0; left = (steps m itself p n s).1; refused = refusal_in m p n s }
+  abbrev pub all_steps : ℕ → S → Fragment (RunEvent T C) S R
+  all_steps n s = record { reports = (steps m itself p n s).0; left = (steps m itself p n s).1; refused = refusal_in m p n s }
 
   -- where steps are still to be taken after these events
-  abbrev pub StillTo : Fragment (Event T C) S R → List (Event T C) → ℕ → S → Type 0
-  StillTo total told n s = total ≡ preceded told (all_steps n s)
+  abbrev pub StillTo : Fragment (RunEvent T C) S R → List (RunEvent T C) → ℕ → S → Type 0
+  StillTo total reports n s = total ≡ preceded reports (all_steps n s)
 
   one_more : (n : ℕ) (s t : S) (x : T) → StepsFrom m s p x t → m.ends x ≡ false → all_steps (suc n) s ≡ preceded (Took p x ∷ []) (all_steps n t)
   one_more n s t x taken going =
       let goes : m.ends (m.step s p) ≡ false = rw (← taken.1) going in
       rw (taken.1, taken.2, taken.0, goes) refl
 
-  one_last : (n : ℕ) (s t : S) (x : T) → StepsFrom m s p x t → m.ends x ≡ true → all_steps (suc n) s ≡ record { told = Took p x ∷ []; left = t; refused = None }
+  one_last : (n : ℕ) (s t : S) (x : T) → StepsFrom m s p x t → m.ends x ≡ true → all_steps (suc n) s ≡ record { reports = Took p x ∷ []; left = t; refused = None }
   one_last n s t x taken ended =
       let ends : m.ends (m.step s p) ≡ true = rw (← taken.1) ended in
       rw (taken.1, taken.2, taken.0, ends) refl
 
-  pub one_refused : (n : ℕ) (s : S) (e : R) → m.step_refusal s p ≡ Some e → all_steps (suc n) s ≡ record { told = []; left = s; refused = Some e }
+  pub one_refused : (n : ℕ) (s : S) (e : R) → m.step_refusal s p ≡ Some e → all_steps (suc n) s ≡ record { reports = []; left = s; refused = Some e }
   one_refused n s e refused = rw refused refl
 
-  pub still_more : (total : Fragment (Event T C) S R) (told : List (Event T C)) (n k : ℕ) (s t : S) (x : T) → StillTo total told n s → n ≡ suc k → StepsFrom m s p x t → m.ends x ≡ false
-      → StillTo total (told ++ Took p x ∷ []) k t
-  still_more total told n k s t x still count taken going =
+  pub still_more : (total : Fragment (RunEvent T C) S R) (reports : List (RunEvent T C)) (n k : ℕ) (s t : S) (x : T) → StillTo total reports n s → n ≡ suc k → StepsFrom m s p x t → m.ends x ≡ false
+      → StillTo total (reports ++ Took p x ∷ []) k t
+  still_more total reports n k s t x still count taken going =
       let rest = all_steps k t in
-      still ∙ ap (λ (j : ℕ). preceded told (all_steps j s)) count ∙ ap (preceded told) (one_more k s t x taken going)
-      ∙ ap (λ (xs : List (Event T C)). record { told = xs; left = rest.left; refused = rest.refused }) (sym (append_assoc told (Took p x ∷ []) rest.told))
+      still ∙ ap (λ (j : ℕ). preceded reports (all_steps j s)) count ∙ ap (preceded reports) (one_more k s t x taken going)
+      ∙ ap (λ (xs : List (RunEvent T C)). record { reports = xs; left = rest.left; refused = rest.refused }) (sym (append_assoc reports (Took p x ∷ []) rest.reports))
 
-  pub still_last : (total : Fragment (Event T C) S R) (told : List (Event T C)) (n k : ℕ) (s t : S) (x : T) → StillTo total told n s → n ≡ suc k → StepsFrom m s p x t → m.ends x ≡ true
-      → total ≡ record { told = told ++ Took p x ∷ []; left = t; refused = None }
-  still_last total told n k s t x still count taken ended =
-      still ∙ ap (λ (j : ℕ). preceded told (all_steps j s)) count ∙ ap (preceded told) (one_last k s t x taken ended)
+  pub still_last : (total : Fragment (RunEvent T C) S R) (reports : List (RunEvent T C)) (n k : ℕ) (s t : S) (x : T) → StillTo total reports n s → n ≡ suc k → StepsFrom m s p x t → m.ends x ≡ true
+      → total ≡ record { reports = reports ++ Took p x ∷ []; left = t; refused = None }
+  still_last total reports n k s t x still count taken ended =
+      still ∙ ap (λ (j : ℕ). preceded reports (all_steps j s)) count ∙ ap (preceded reports) (one_last k s t x taken ended)
 
-  pub still_refused : (total : Fragment (Event T C) S R) (told : List (Event T C)) (n k : ℕ) (s : S) (e : R) → StillTo total told n s → n ≡ suc k → m.step_refusal s p ≡ Some e
-      → total ≡ record { told = told; left = s; refused = Some e }
-  still_refused total told n k s e still count refused =
-      still ∙ ap (λ (j : ℕ). preceded told (all_steps j s)) count ∙ ap (preceded told) (one_refused k s e refused)
-      ∙ ap (λ (xs : List (Event T C)). record { told = xs; left = s; refused = Some e }) (append-nil told)
+  pub still_refused : (total : Fragment (RunEvent T C) S R) (reports : List (RunEvent T C)) (n k : ℕ) (s : S) (e : R) → StillTo total reports n s → n ≡ suc k → m.step_refusal s p ≡ Some e
+      → total ≡ record { reports = reports; left = s; refused = Some e }
+  still_refused total reports n k s e still count refused =
+      still ∙ ap (λ (j : ℕ). preceded reports (all_steps j s)) count ∙ ap (preceded reports) (one_refused k s e refused)
+      ∙ ap (λ (xs : List (RunEvent T C)). record { reports = xs; left = s; refused = Some e }) (append-nil reports)
 
-  pub still_none : (total : Fragment (Event T C) S R) (told : List (Event T C)) (n : ℕ) (s : S) → StillTo total told n s → n ≡ 0
-      → total ≡ record { told = told; left = s; refused = None }
-  still_none total told n s still none =
-      still ∙ ap (λ (j : ℕ). preceded told (all_steps j s)) none ∙ ap (λ (xs : List (Event T C)). record { told = xs; left = s; refused = None }) (append-nil told)
+  pub still_none : (total : Fragment (RunEvent T C) S R) (reports : List (RunEvent T C)) (n : ℕ) (s : S) → StillTo total reports n s → n ≡ 0
+      → total ≡ record { reports = reports; left = s; refused = None }
+  still_none total reports n s still none =
+      still ∙ ap (λ (j : ℕ). preceded reports (all_steps j s)) none ∙ ap (λ (xs : List (RunEvent T C)). record { reports = xs; left = s; refused = None }) (append-nil reports)
 
   -- the next step's event is among those of all
-  pub still_next : (total : Fragment (Event T C) S R) (told : List (Event T C)) (n k : ℕ) (s t : S) (x : T) → StillTo total told n s → n ≡ suc k → StepsFrom m s p x t
-      → (after : List (Event T C)) × (total.told ≡ told ++ Took p x ∷ after)
-  still_next total told n k s t x still count taken = by (m.ends x) refl
+  pub still_next : (total : Fragment (RunEvent T C) S R) (reports : List (RunEvent T C)) (n k : ℕ) (s t : S) (x : T) → StillTo total reports n s → n ≡ suc k → StepsFrom m s p x t
+      → (after : List (RunEvent T C)) × (total.reports ≡ reports ++ Took p x ∷ after)
+  still_next total reports n k s t x still count taken = by (m.ends x) refl
     where
-      by : (b : Bool) → m.ends x ≡ b → (after : List (Event T C)) × (total.told ≡ told ++ Took p x ∷ after)
-      by true ended = ([], ap (λ (part : Fragment (Event T C) S R). part.told) (still_last total told n k s t x still count taken ended))
+      by : (b : Bool) → m.ends x ≡ b → (after : List (RunEvent T C)) × (total.reports ≡ reports ++ Took p x ∷ after)
+      by true ended = ([], ap (λ (part : Fragment (RunEvent T C) S R). part.reports) (still_last total reports n k s t x still count taken ended))
       by false going =
           let rest = all_steps k t in
-          (rest.told, ap (λ (part : Fragment (Event T C) S R). part.told) (still_more total told n k s t x still count taken going) ∙ append_assoc told (Took p x ∷ []) rest.told)
+          (rest.reports, ap (λ (part : Fragment (RunEvent T C) S R). part.reports) (still_more total reports n k s t x still count taken going) ∙ append_assoc reports (Took p x ∷ []) rest.reports)
 
-module _ {L S T C R Stop : Type 0} (m : Transitions S T C R) (h : Effects L (Event T C) Stop) (p : ℕ) where
+module _ {L S T C R Stop : Type 0} (m : Transitions S T C R) (h : Effects L (RunEvent T C) Stop) (p : ℕ) where
   -- some events of steps were heard, and these steps are still to be taken
-  abbrev pub GoesOn : Fragment (Event T C) S R → L → L → ℕ → S → Type 0
-  GoesOn total before now n s = (told : List (Event T C)) × HearsAll h.hears before told now × StillTo m p total told n s
+  abbrev pub GoesOn : Fragment (RunEvent T C) S R → L → L → ℕ → S → Type 0
+  GoesOn total before now n s = (reports : List (RunEvent T C)) × HearsAll h.hears before reports now × StillTo m p total reports n s
 
   pub goes_first : (n : ℕ) (before : L) (s : S) → GoesOn (all_steps m p n s) before before n s
   goes_first n before s = ([], refl, refl)
 
-  pub goes_same : (total : Fragment (Event T C) S R) (before now : L) (n k : ℕ) (s t : S) → GoesOn total before now n s → n ≡ k → t ≡ s → GoesOn total before now k t
+  pub goes_same : (total : Fragment (RunEvent T C) S R) (before now : L) (n k : ℕ) (s t : S) → GoesOn total before now n s → n ≡ k → t ≡ s → GoesOn total before now k t
   goes_same total before now n k s t on count same = rw (← count, same) on
 
-  pub goes_unheard : (total : Fragment (Event T C) S R) (before now : L) (n k : ℕ) (s t : S) → GoesOn total before now n s → n ≡ suc k → TakesUnheard m h now s p t
+  pub goes_unheard : (total : Fragment (RunEvent T C) S R) (before now : L) (n k : ℕ) (s t : S) → GoesOn total before now n s → n ≡ suc k → TakesUnheard m h now s p t
       → GoesOn total before now k t
   goes_unheard total before now n k s t on count unheard =
       let x = m.step s p in
       (on.0 ++ Took p x ∷ [], hears_more h.hears before now now on.0 (Took p x) on.1 unheard.2, still_more m p total on.0 n k s t x on.2 count unheard.0 unheard.1)
 
-  pub goes_heard : (total : Fragment (Event T C) S R) (before now next : L) (n k : ℕ) (s t : S) (x : T) → GoesOn total before now n s → n ≡ suc k → StepsFrom m s p x t → m.ends x ≡ false
+  pub goes_heard : (total : Fragment (RunEvent T C) S R) (before now next : L) (n k : ℕ) (s t : S) (x : T) → GoesOn total before now n s → n ≡ suc k → StepsFrom m s p x t → m.ends x ≡ false
       → h.hears now (Took p x) next → GoesOn total before next k t
   goes_heard total before now next n k s t x on count taken going hears =
       (on.0 ++ Took p x ∷ [], hears_more h.hears before now next on.0 (Took p x) on.1 hears, still_more m p total on.0 n k s t x on.2 count taken going)
 
   -- the last one
-  pub ends_heard : (total : Fragment (Event T C) S R) (before now next : L) (n k : ℕ) (s t : S) (x : T) → GoesOn total before now n s → n ≡ suc k → StepsFrom m s p x t → m.ends x ≡ true
+  pub ends_heard : (total : Fragment (RunEvent T C) S R) (before now next : L) (n k : ℕ) (s t : S) (x : T) → GoesOn total before now n s → n ≡ suc k → StepsFrom m s p x t → m.ends x ≡ true
       → h.hears now (Took p x) next → PlaysAll h before next total t None
   ends_heard total before now next n k s t x on count taken ended hears =
       rw (still_last m p total on.0 n k s t x on.2 count taken ended) record { hears = hears_more h.hears before now next on.0 (Took p x) on.1 hears; stands = refl; refused_is = refl }
 
-  pub ends_none : (total : Fragment (Event T C) S R) (before now : L) (n : ℕ) (s : S) → GoesOn total before now n s → n ≡ 0 → PlaysAll h before now total s None
+  pub ends_none : (total : Fragment (RunEvent T C) S R) (before now : L) (n : ℕ) (s : S) → GoesOn total before now n s → n ≡ 0 → PlaysAll h before now total s None
   ends_none total before now n s on none =
       rw (still_none m p total on.0 n s on.2 none) record { hears = on.1; stands = refl; refused_is = refl }
 
-  pub ends_refused : (total : Fragment (Event T C) S R) (before now : L) (n k : ℕ) (s : S) (e : R) → GoesOn total before now n s → n ≡ suc k → m.step_refusal s p ≡ Some e
+  pub ends_refused : (total : Fragment (RunEvent T C) S R) (before now : L) (n k : ℕ) (s : S) (e : R) → GoesOn total before now n s → n ≡ suc k → m.step_refusal s p ≡ Some e
       → PlaysAll h before now total s (Some e)
   ends_refused total before now n k s e on count refused =
       rw (still_refused m p total on.0 n k s e on.2 count refused) record { hears = on.1; stands = refl; refused_is = refl }
 
-  pub ends_stopped : (total : Fragment (Event T C) S R) (before now next : L) (n k : ℕ) (s t : S) (x : T) (stop : Stop) → GoesOn total before now n s → n ≡ suc k → StepsFrom m s p x t
+  pub ends_stopped : (total : Fragment (RunEvent T C) S R) (before now next : L) (n k : ℕ) (s t : S) (x : T) (stop : Stop) → GoesOn total before now n s → n ≡ suc k → StepsFrom m s p x t
       → h.stops now (Took p x) next stop → StopsIn h before next total stop
   ends_stopped total before now next n k s t x stop on count taken stops =
       let more = still_next m p total on.0 n k s t x on.2 count taken in
       stops_next m h before now next on.0 more.0 (Took p x) total stop on.1 more.1 stops
 
-  pub ends_short : (total : Fragment (Event T C) S R) (before now : L) (n k : ℕ) (s : S) → GoesOn total before now n s → n ≡ suc k → IsShown m s p
+  pub ends_short : (total : Fragment (RunEvent T C) S R) (before now : L) (n k : ℕ) (s : S) → GoesOn total before now n s → n ≡ suc k → IsShown m s p
       → RunsShort m h before now total
   ends_short total before now n k s on count shown =
       let x = m.step s p in
@@ -205,53 +205,53 @@ module _ {L S T C R Stop : Type 0} (m : Transitions S T C R) (h : Effects L (Eve
 
 -- ---- one line after another
 
-module _ {L S T C R Stop : Type 0} (m : Transitions S T C R) (h : Effects L (Event T C) Stop) where
+module _ {L S T C R Stop : Type 0} (m : Transitions S T C R) (h : Effects L (RunEvent T C) Stop) where
   -- the events of some lines were heard, and these lines are still to be played
-  abbrev pub RunsOn : Fragment (Event T C) S (ℕ × R) → L → L → ℕ → S → List Line → Type 0
-  RunsOn run before now k s lines = (told : List (Event T C)) × HearsAll h.hears before told now × (run ≡ preceded told (run_on m itself k s lines))
+  abbrev pub RunsOn : Fragment (RunEvent T C) S (ℕ × R) → L → L → ℕ → S → List Line → Type 0
+  RunsOn run before now k s lines = (reports : List (RunEvent T C)) × HearsAll h.hears before reports now × (run ≡ preceded reports (run_on m itself k s lines))
 
   pub runs_first : (k : ℕ) (before : L) (s : S) (lines : List Line) → RunsOn (run_on m itself k s lines) before before k s lines
   runs_first k before s lines = ([], refl, refl)
 
-  pub runs_more : (run : Fragment (Event T C) S (ℕ × R)) (before now next : L) (k : ℕ) (s t : S) (line : Line) (lines rest : List Line) → RunsOn run before now k s lines → lines ≡ line ∷ rest
+  pub runs_more : (run : Fragment (RunEvent T C) S (ℕ × R)) (before now next : L) (k : ℕ) (s t : S) (line : Line) (lines rest : List Line) → RunsOn run before now k s lines → lines ≡ line ∷ rest
       → PlaysAll h now next (line_on m itself s line) t None → RunsOn run before next (k + 1) t rest
   runs_more run before now next k s t line lines rest on e played =
       let part = line_on m itself s line in
       let after = run_on m itself (k + 1) part.left rest in
       rw played.stands (
-        on.0 ++ part.told,
-        hears_both h.hears before now next on.0 part.told on.1 played.hears,
-        on.2 ∙ rw e (rw played.refused_is (ap (λ (xs : List (Event T C)). record { told = xs; left = after.left; refused = after.refused }) (sym (append_assoc on.0 part.told after.told)))),
+        on.0 ++ part.reports,
+        hears_both h.hears before now next on.0 part.reports on.1 played.hears,
+        on.2 ∙ rw e (rw played.refused_is (ap (λ (xs : List (RunEvent T C)). record { reports = xs; left = after.left; refused = after.refused }) (sym (append_assoc on.0 part.reports after.reports)))),
       )
 
-  pub runs_end : (run : Fragment (Event T C) S (ℕ × R)) (before now : L) (k : ℕ) (s : S) (lines : List Line) → RunsOn run before now k s lines → lines ≡ [] → PlaysAll h before now run s None
+  pub runs_end : (run : Fragment (RunEvent T C) S (ℕ × R)) (before now : L) (k : ℕ) (s : S) (lines : List Line) → RunsOn run before now k s lines → lines ≡ [] → PlaysAll h before now run s None
   runs_end run before now k s lines on none =
-      let is : run ≡ record { told = on.0; left = s; refused = None } =
-      on.2 ∙ ap (λ (xs : List Line). preceded on.0 (run_on m itself k s xs)) none ∙ ap (λ (xs : List (Event T C)). record { told = xs; left = s; refused = None }) (append-nil on.0) in
+      let is : run ≡ record { reports = on.0; left = s; refused = None } =
+      on.2 ∙ ap (λ (xs : List Line). preceded on.0 (run_on m itself k s xs)) none ∙ ap (λ (xs : List (RunEvent T C)). record { reports = xs; left = s; refused = None }) (append-nil on.0) in
       rw is record { hears = on.1; stands = refl; refused_is = refl }
 
   -- what a line reports is a part of what is reported from it on
-  followed_told : (k : ℕ) (part : Fragment (Event T C) S R) (o : Option R) (rest : Fragment (Event T C) S (ℕ × R)) → (after : List (Event T C)) × ((followed k part o rest).told ≡ part.told ++ after)
-  followed_told k part None rest = (rest.told, refl)
-  followed_told k part (Some e) rest = ([], sym (append-nil part.told))
+  followed_reported : (k : ℕ) (part : Fragment (RunEvent T C) S R) (o : Option R) (rest : Fragment (RunEvent T C) S (ℕ × R)) → (after : List (RunEvent T C)) × ((fragment_after_line k part o rest).reports ≡ part.reports ++ after)
+  followed_reported k part None rest = (rest.reports, refl)
+  followed_reported k part (Some e) rest = ([], sym (append-nil part.reports))
 
-  breaks_in_run : (at : L → Event T C → Type 0) (run : Fragment (Event T C) S (ℕ × R)) (before now : L) (k : ℕ) (s : S) (line : Line) (lines rest : List Line) → RunsOn run before now k s lines
-      → lines ≡ line ∷ rest → BreaksOffAt h.hears at now (line_on m itself s line).told → BreaksOffAt h.hears at before run.told
+  breaks_in_run : (at : L → RunEvent T C → Type 0) (run : Fragment (RunEvent T C) S (ℕ × R)) (before now : L) (k : ℕ) (s : S) (line : Line) (lines rest : List Line) → RunsOn run before now k s lines
+      → lines ≡ line ∷ rest → BreaksOffAt h.hears at now (line_on m itself s line).reports → BreaksOffAt h.hears at before run.reports
   breaks_in_run at run before now k s line lines rest on e breaks =
       let part = line_on m itself s line in
-      let after = followed_told k part part.refused (run_on m itself (k + 1) part.left rest) in
-      let whole : run.told ≡ on.0 ++ (part.told ++ after.0) = ap (λ (r : Fragment (Event T C) S (ℕ × R)). r.told) on.2 ∙ rw e (ap (λ (xs : List (Event T C)). on.0 ++ xs) after.1) in
-      rw whole (breaks_both h.hears at before now on.0 (part.told ++ after.0) on.1 (breaks_wider h.hears at now part.told after.0 breaks))
+      let after = followed_reported k part part.refused (run_on m itself (k + 1) part.left rest) in
+      let whole : run.reports ≡ on.0 ++ (part.reports ++ after.0) = ap (λ (r : Fragment (RunEvent T C) S (ℕ × R)). r.reports) on.2 ∙ rw e (ap (λ (xs : List (RunEvent T C)). on.0 ++ xs) after.1) in
+      rw whole (breaks_both h.hears at before now on.0 (part.reports ++ after.0) on.1 (breaks_wider h.hears at now part.reports after.0 breaks))
 
-  pub runs_halt : (run : Fragment (Event T C) S (ℕ × R)) (before now next : L) (k : ℕ) (s t : S) (line : Line) (lines rest : List Line) (stop : PlayStop R Stop) → RunsOn run before now k s lines
+  pub runs_halt : (run : Fragment (RunEvent T C) S (ℕ × R)) (before now next : L) (k : ℕ) (s t : S) (line : Line) (lines rest : List Line) (stop : PlayStop R Stop) → RunsOn run before now k s lines
       → lines ≡ line ∷ rest → Plays {A = Unit {0}} m h now next (line_on m itself s line) t (Err stop) → PlaysOn {A = Unit {0}} m h before next run t (Err (k, stop))
   runs_halt run before now next k s t line lines rest (Refused refusal) on e plays =
       let part = line_on m itself s line in
       let after = run_on m itself (k + 1) part.left rest in
       let played = plays.0 in
-      let is : run ≡ record { told = on.0 ++ part.told; left = part.left; refused = Some (k, refusal) } =
-      on.2 ∙ ap (λ (xs : List Line). preceded on.0 (run_on m itself k s xs)) e ∙ ap (λ (o : Option R). preceded on.0 (followed k part o after)) played.refused_is in
-      (rw is record { hears = hears_both h.hears before now next on.0 part.told on.1 played.hears; stands = played.stands; refused_is = refl }, plays.1)
+      let is : run ≡ record { reports = on.0 ++ part.reports; left = part.left; refused = Some (k, refusal) } =
+      on.2 ∙ ap (λ (xs : List Line). preceded on.0 (run_on m itself k s xs)) e ∙ ap (λ (o : Option R). preceded on.0 (fragment_after_line k part o after)) played.refused_is in
+      (rw is record { hears = hears_both h.hears before now next on.0 part.reports on.1 played.hears; stands = played.stands; refused_is = refl }, plays.1)
   runs_halt run before now next k s t line lines rest OutOfMemory on e plays =
       breaks_in_run (λ l x. (next ≡ l) × IsLoud m x) run before now k s line lines rest on e plays
   runs_halt run before now next k s t line lines rest (Stopped stop) on e plays =
@@ -261,12 +261,12 @@ module _ {L S T C R Stop : Type 0} (m : Transitions S T C R) (h : Effects L (Eve
 
 -- a part of events, with what they report in their place
 abbrev pub report_of : {E X S R : Type 0} → (E → List X) → Fragment E S R → Fragment X S R
-report_of report part = record { told = flat_map report part.told; left = part.left; refused = part.refused }
+report_of report part = record { reports = flat_map report part.reports; left = part.left; refused = part.refused }
 
-module _ {S T C R X : Type 0} (m : Transitions S T C R) (report : Event T C → List X) where
-  pub steps_told : (p n : ℕ) (s : S) → steps m report p n s ≡ (flat_map report (steps m itself p n s).0, (steps m itself p n s).1)
-  steps_told p zero s = refl
-  steps_told p (suc n) s =
+module _ {S T C R X : Type 0} (m : Transitions S T C R) (report : RunEvent T C → List X) where
+  pub steps_reported : (p n : ℕ) (s : S) → steps m report p n s ≡ (flat_map report (steps m itself p n s).0, (steps m itself p n s).1)
+  steps_reported p zero s = refl
+  steps_reported p (suc n) s =
       elim (cases_Bool (is_some (m.step_refusal s p))) [
         | inl refused ↦ rw refused refl
         | inr taken ↦
@@ -275,59 +275,59 @@ module _ {S T C R X : Type 0} (m : Transitions S T C R) (report : Event T C → 
               | inr goes ↦
                   let rest = steps m itself p n (m.stepped s p) in
                   rw (taken, goes) (
-                  ap (λ (more : List X × S). (report (Took p (m.step s p)) ++ more.0, more.1)) (steps_told p n (m.stepped s p))
+                  ap (λ (more : List X × S). (report (Took p (m.step s p)) ++ more.0, more.1)) (steps_reported p n (m.stepped s p))
                   ∙ ap (λ (xs : List X). (xs, rest.1)) (sym (flat_map-cons report (Took p (m.step s p)) rest.0))
                   )
             ]
       ]
 
-  pub line_told : (s : S) (line : Line) → line_on m report s line ≡ report_of report (line_on m itself s line)
-  line_told s (Start p call) = by (m.start_refusal s p call)
+  pub line_reported : (s : S) (line : Line) → line_on m report s line ≡ report_of report (line_on m itself s line)
+  line_reported s (Start p call) = by (m.start_refusal s p call)
     where
       by : (o : Option R) → unless o s [] (m.started s p call) ≡ report_of report (unless o s [] (m.started s p call))
       by None = refl
       by (Some e) = refl
-  line_told s (Step p n) =
-      ap (λ (part : List X × S). record { told = part.0; left = part.1; refused = first_or_late m.refuses_late (m.step_refusal s p) (refusal_in m p n s) }) (steps_told p n s)
-  line_told s (Crash p) = by (m.crash_refusal s p)
+  line_reported s (Step p n) =
+      ap (λ (part : List X × S). record { reports = part.0; left = part.1; refused = first_or_late m.refuses_late (m.step_refusal s p) (refusal_in m p n s) }) (steps_reported p n s)
+  line_reported s (Crash p) = by (m.crash_refusal s p)
     where
-      one : Event T C
+      one : RunEvent T C
       one = Fell p (m.crash s p)
 
       by : (o : Option R) → unless o s (report one) (m.crashed s p) ≡ report_of report (unless o s (itself one) (m.crashed s p))
-      by None = ap (λ (xs : List X). record { told = xs; left = m.crashed s p; refused = None }) (sym (flat_map-cons report one [] ∙ append-nil (report one)))
+      by None = ap (λ (xs : List X). record { reports = xs; left = m.crashed s p; refused = None }) (sym (flat_map-cons report one [] ∙ append-nil (report one)))
       by (Some e) = refl
 
-  followed_by : (k : ℕ) (part : Fragment (Event T C) S R) (o : Option R) (rest : Fragment (Event T C) S (ℕ × R))
-      → followed k (report_of report part) o (report_of report rest) ≡ report_of report (followed k part o rest)
-  followed_by k part None rest = ap (λ (xs : List X). record { told = xs; left = rest.left; refused = rest.refused }) (sym (flat_map-append report part.told rest.told))
+  followed_by : (k : ℕ) (part : Fragment (RunEvent T C) S R) (o : Option R) (rest : Fragment (RunEvent T C) S (ℕ × R))
+      → fragment_after_line k (report_of report part) o (report_of report rest) ≡ report_of report (fragment_after_line k part o rest)
+  followed_by k part None rest = ap (λ (xs : List X). record { reports = xs; left = rest.left; refused = rest.refused }) (sym (flat_map-append report part.reports rest.reports))
   followed_by k part (Some e) rest = refl
 
-  pub run_told : (k : ℕ) (s : S) (lines : List Line) → run_on m report k s lines ≡ report_of report (run_on m itself k s lines)
-  run_told k s [] = refl
-  run_told k s (line ∷ lines) =
+  pub run_reported : (k : ℕ) (s : S) (lines : List Line) → run_on m report k s lines ≡ report_of report (run_on m itself k s lines)
+  run_reported k s [] = refl
+  run_reported k s (line ∷ lines) =
       let part = line_on m itself s line in
-      ap (λ (x : Fragment X S R). followed k x x.refused (run_on m report (k + 1) x.left lines)) (line_told s line)
-      ∙ ap (followed k (report_of report part) part.refused) (run_told (k + 1) part.left lines)
+      ap (λ (x : Fragment X S R). fragment_after_line k x x.refused (run_on m report (k + 1) x.left lines)) (line_reported s line)
+      ∙ ap (fragment_after_line k (report_of report part) part.refused) (run_reported (k + 1) part.left lines)
       ∙ followed_by k part part.refused (run_on m itself (k + 1) part.left lines)
 
 -- ---- a line of steps
 
-module _ {L S T C R Stop : Type 0} (m : Transitions S T C R) (h : Effects L (Event T C) Stop) (p : ℕ) where
-  refused_at : (n k : ℕ) (s : S) (e : R) → n ≡ suc k → m.step_refusal s p ≡ Some e → steps_line m itself p n s ≡ record { told = []; left = s; refused = Some e }
+module _ {L S T C R Stop : Type 0} (m : Transitions S T C R) (h : Effects L (RunEvent T C) Stop) (p : ℕ) where
+  refused_at : (n k : ℕ) (s : S) (e : R) → n ≡ suc k → m.step_refusal s p ≡ Some e → steps_line m itself p n s ≡ record { reports = []; left = s; refused = Some e }
   refused_at n k s e count refused =
       ap (λ (j : ℕ). steps_line m itself p j s) count
-      ∙ ap (λ (part : Fragment (Event T C) S R). record { told = part.told; left = part.left; refused = first_or_late m.refuses_late (m.step_refusal s p) part.refused }) (one_refused m p k s e refused)
-      ∙ ap (λ (o : Option R). record { told = []; left = s; refused = first_or_late m.refuses_late o (Some e) }) refused
-      ∙ ap (λ (o : Option R). record { told = []; left = s; refused = o }) (first_refused m.refuses_late (Some e))
+      ∙ ap (λ (part : Fragment (RunEvent T C) S R). record { reports = part.reports; left = part.left; refused = first_or_late m.refuses_late (m.step_refusal s p) part.refused }) (one_refused m p k s e refused)
+      ∙ ap (λ (o : Option R). record { reports = []; left = s; refused = first_or_late m.refuses_late o (Some e) }) refused
+      ∙ ap (λ (o : Option R). record { reports = []; left = s; refused = o }) (first_refused m.refuses_late (Some e))
 
   -- its first step is taken
   taken_at : (n k : ℕ) (s t : S) (x : T) → n ≡ suc k → StepsFrom m s p x t
-      → steps_line m itself p n s ≡ record { told = (all_steps m p (suc k) s).told; left = (all_steps m p (suc k) s).left; refused = late m.refuses_late (all_steps m p (suc k) s).refused }
+      → steps_line m itself p n s ≡ record { reports = (all_steps m p (suc k) s).reports; left = (all_steps m p (suc k) s).left; refused = late m.refuses_late (all_steps m p (suc k) s).refused }
   taken_at n k s t x count taken =
       let all = all_steps m p (suc k) s in
       ap (λ (j : ℕ). steps_line m itself p j s) count
-      ∙ ap (λ (o : Option R). record { told = all.told; left = all.left; refused = o }) (first_taken m.refuses_late (m.step_refusal s p) all.refused taken.0)
+      ∙ ap (λ (o : Option R). record { reports = all.reports; left = all.left; refused = o }) (first_taken m.refuses_late (m.step_refusal s p) all.refused taken.0)
 
   -- its first step is not taken
   pub line_halts : (n k : ℕ) (before : L) (s t : S) (e : R) (stop : PlayStop R Stop) → n ≡ suc k → ((e ≡ m.out_of_memory → ⊥) → m.step_refusal s p ≡ Some e) → (e ≡ m.out_of_memory → IsShown m s p)
@@ -348,7 +348,7 @@ module _ {L S T C R Stop : Type 0} (m : Transitions S T C R) (h : Effects L (Eve
   pub line_ends : (n k : ℕ) (before next : L) (s t : S) (x : T) → n ≡ suc k → StepsFrom m s p x t → m.ends x ≡ true → h.hears before (Took p x) next
       → PlaysAll h before next (steps_line m itself p n s) t None
   line_ends n k before next s t x count taken ended hears =
-      rw (taken_at n k s t x count taken ∙ ap (λ (part : Fragment (Event T C) S R). record { told = part.told; left = part.left; refused = late m.refuses_late part.refused }) (one_last m p k s t x taken ended))
+      rw (taken_at n k s t x count taken ∙ ap (λ (part : Fragment (RunEvent T C) S R). record { reports = part.reports; left = part.left; refused = late m.refuses_late part.refused }) (one_last m p k s t x taken ended))
       record { hears = (next, hears, refl); stands = refl; refused_is = not_late m.refuses_late }
 
   -- one step was played, and then the rest
@@ -356,7 +356,7 @@ module _ {L S T C R Stop : Type 0} (m : Transitions S T C R) (h : Effects L (Eve
       → Plays m h next now (later_steps m itself p k t) u r → Plays m h before now (steps_line m itself p n s) u r
   line_then n k before next now s t u x r count taken going hears plays =
       plays_after m h before next now (Took p x ∷ []) (steps_line m itself p n s) (later_steps m itself p k t) u r (next, hears, refl)
-      (taken_at n k s t x count taken ∙ ap (λ (part : Fragment (Event T C) S R). record { told = part.told; left = part.left; refused = late m.refuses_late part.refused }) (one_more m p k s t x taken going)) plays
+      (taken_at n k s t x count taken ∙ ap (λ (part : Fragment (RunEvent T C) S R). record { reports = part.reports; left = part.left; refused = late m.refuses_late part.refused }) (one_more m p k s t x taken going)) plays
 
   -- a line of one step
   pub line_of_one : (n : ℕ) (before next : L) (s t : S) (x : T) → n ≡ 1 → StepsFrom m s p x t → h.hears before (Took p x) next

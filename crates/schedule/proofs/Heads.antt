@@ -1,6 +1,6 @@
 -- Headers: reading and spelling are inverse.
 use Rattle.std.proofs.Common.{◌≡◌, ℕ, suc, ◌^◌, ◌<◌, ◌≤◌, ◌==◌, Bool, true, false, cond, not, if◌then◌else◌, slice_index_or, eqb, codes, List, [], ◌∷◌, ◌++◌, length, Ok, refl, sym, ap, ◌∙◌, arith, inl, inr, lit<, lit≤, ne_eqb}
-use Rattle.schedule.proofs.TextsCommon.{AllByRecursion, LineFault, NoHeader, Form, named_sizes, words_of_width, words_of_header, IsHeader, is_wide, size_places, width_places, header_places, Shape}
+use Rattle.schedule.proofs.TextsCommon.{AllByRecursion, LineFault, NoHeader, HeaderForm, named_sizes, words_of_width, words_of_header, IsHeader, is_wide, size_places, width_places, header_places, WordShape}
 use Rattle.schedule.proofs.TextsCommon.{has_fixed, numbers_at, ◌>>=◌}
 use Rattle.schedule.specs.Headers.{header_at}
 use Rattle.std.proofs.lemmas.Bool.{cases_eq}
@@ -21,7 +21,7 @@ last_width width =
 
 -- ---- the sizes
 
-record Sized (names : List (List ℕ)) (after : List Shape) (ns : List ℕ) : Type 0 where
+record Sized (names : List (List ℕ)) (after : List WordShape) (ns : List ℕ) : Type 0 where
   sizes : List ℕ
   rest : List ℕ
   whole : ns ≡ sizes ++ rest
@@ -30,7 +30,7 @@ record Sized (names : List (List ℕ)) (after : List Shape) (ns : List ℕ) : Ty
   fits : Fits after rest
   said : spelled (size_places names ++ after) ns ≡ named_sizes names sizes ++ spelled after rest
 
-sized : (names : List (List ℕ)) (after : List Shape) (ns : List ℕ) → Fits (size_places names ++ after) ns → Sized names after ns
+sized : (names : List (List ℕ)) (after : List WordShape) (ns : List ℕ) → Fits (size_places names ++ after) ns → Sized names after ns
 sized [] after ns h = record { sizes = []; rest = ns; whole = refl; count = refl; small = tt; fits = h; said = refl }
 sized (name ∷ names) after [] h = absurd h
 sized (name ∷ names) after (n ∷ ns) h =
@@ -45,7 +45,7 @@ sized (name ∷ names) after (n ∷ ns) h =
       said = ap (λ (xs : List (List ℕ)). name ∷ decimal n ∷ xs) s.said;
     }
 
-sizes_fit : (names : List (List ℕ)) (after : List Shape) (sizes rest : List ℕ) → length sizes ≡ length names → AllByRecursion (λ size. size < 2 ^ 64) sizes → Fits after rest
+sizes_fit : (names : List (List ℕ)) (after : List WordShape) (sizes rest : List ℕ) → length sizes ≡ length names → AllByRecursion (λ size. size < 2 ^ 64) sizes → Fits after rest
     → Fits (size_places names ++ after) (sizes ++ rest) × (spelled (size_places names ++ after) (sizes ++ rest) ≡ named_sizes names sizes ++ spelled after rest)
 sizes_fit [] after [] rest count small fits = (fits, refl)
 sizes_fit [] after (n ∷ ns) rest count small fits = absurd (omega arith)
@@ -54,7 +54,7 @@ sizes_fit (name ∷ names) after (n ∷ ns) rest count small fits =
     let more = sizes_fit names after ns rest (omega arith) small.1 fits in
     ((omega arith, omega (arith, small.0), lit< tt, more.0), ap (λ (xs : List (List ℕ)). name ∷ decimal n ∷ xs) more.1)
 
-sizes_narrow : (names : List (List ℕ)) (after : List Shape) → AreNarrow after → AreNarrow (size_places names ++ after)
+sizes_narrow : (names : List (List ℕ)) (after : List WordShape) → AreNarrow after → AreNarrow (size_places names ++ after)
 sizes_narrow [] after h = h
 sizes_narrow (name ∷ names) after h = (lit< tt, sizes_narrow names after h)
 
@@ -128,7 +128,7 @@ sizes_plain (name ∷ names) (size ∷ sizes) ws names_plain small h =
 
 -- ---- whole lines
 
-module _ {H : Type 0} (form : Form) (make : List ℕ → H) (sizes : H → List ℕ) (width : H → ℕ)
+module _ {H : Type 0} (form : HeaderForm) (make : List ℕ → H) (sizes : H → List ℕ) (width : H → ℕ)
     (made : (ss : List ℕ) (w : ℕ) → IsHeader form ss w → (sizes (make (ss ++ of_width w)) ≡ ss) × (width (make (ss ++ of_width w)) ≡ w))
     (back : (h : H) → IsHeader form (sizes h) (width h) → make (sizes h ++ of_width (width h)) ≡ h) where
   abbrev words : H → List (List ℕ)
@@ -139,7 +139,7 @@ module _ {H : Type 0} (form : Form) (make : List ℕ → H) (sizes : H → List 
   unfolding header_at
   header_takes ws h e =
       let wide : Bool = is_wide ws in
-      let places : List Shape = header_places form wide in
+      let places : List WordShape = header_places form wide in
       let t = taken (has_fixed places ws) NoHeader (numbers_at places ws >>= λ ns. Ok (make ns)) h e in
       let b = bind_ok (numbers_at places ws) (λ ns. Ok (make ns)) h t.1 in
       let n = numbers_take places ws b.0 (sizes_narrow form.names (width_places wide) (width_narrow wide)) t.0 b.1 in

@@ -5,7 +5,7 @@ use Rattle.schedule.specs.declared.texts.fault.TextFault.{TextFault}
 use Rattle.schedule.specs.declared.texts.head.Head.{Head}
 use Rattle.schedule.specs.Texts.{Fails}
 use Rattle.schedule.specs.declared.lines.line.Line.{Line}
-use Rattle.schedule.specs.FirstLines.{Begins}
+use Rattle.schedule.specs.FirstLines.{BeginsWithItem}
 use Rattle.std.proofs.Math.Seq.{drop-append_seam}
 use Rattle.schedule.specs.declared.texts.fault.TextFault.TheVariants as faults
 use Rattle.schedule.proofs.Items.{items_at-cut, with_items, items_go_on, items_stop, items_end, empty_reads}
@@ -22,15 +22,15 @@ no_fault all f e = cc
 
 module _ {A : Type 0} (item : List (List ℕ) → Result A LineFault) where
   -- a text that begins with an item's line
-  pub items_at-begins : (k : ℕ) (text after : List ℕ) (x : A) → Begins item text x after
+  pub items_at-begins : (k : ℕ) (text after : List ℕ) (x : A) → BeginsWithItem item text x after
       → items_at item k (parts_of text) ≡ (items_at item (k + 1) (parts_of after) >>= λ xs. Ok (x ∷ xs))
   items_at-begins k text after x b = rw (items_at-cut item k text b.line after b.parts, b.says) refl
 
   -- it is as long as its first line, with LF, and the text after it
-  pub shorter : (text after : List ℕ) (x : A) → Begins item text x after → length after + 1 ≤ length text
+  pub shorter : (text after : List ℕ) (x : A) → BeginsWithItem item text x after → length after + 1 ≤ length text
   shorter text after x b = omega (arith, ap length b.whole ∙ length-append b.line (10 ∷ after))
 
-  pub cut_begins : (text line after : List ℕ) (x : A) → parts_of text ≡ line ∷ parts_of after → text ≡ line ++ 10 ∷ after → item (words_of line) ≡ Ok x → Begins item text x after
+  pub cut_begins : (text line after : List ℕ) (x : A) → parts_of text ≡ line ∷ parts_of after → text ≡ line ++ 10 ∷ after → item (words_of line) ≡ Ok x → BeginsWithItem item text x after
   cut_begins text line after x parts whole says = record { line = line; parts = parts; whole = whole; says = says }
 
   -- ---- what was read before, and is not kept
@@ -45,7 +45,7 @@ module _ {A : Type 0} (item : List (List ℕ) → Result A LineFault) where
   pub goes_first : (k : ℕ) (text : List ℕ) → GoesOn (items_at item k (parts_of text)) k text
   goes_first k text = ([], same (items_at item k (parts_of text)))
 
-  pub goes_on : (total : Result (List A) (ℕ × LineFault)) (k : ℕ) (text after : List ℕ) (x : A) → Begins item text x after → GoesOn total k text → GoesOn total (k + 1) after
+  pub goes_on : (total : Result (List A) (ℕ × LineFault)) (k : ℕ) (text after : List ℕ) (x : A) → BeginsWithItem item text x after → GoesOn total k text → GoesOn total (k + 1) after
   goes_on total k text after x b so_far = (so_far.0 ++ x ∷ [], items_go_on item so_far.0 k text b.line after x total b.parts b.says so_far.1)
 
   pub goes_wrong : (total : Result (List A) (ℕ × LineFault)) (k : ℕ) (text : List ℕ) (f : LineFault) → items_at item k (parts_of text) ≡ Err (k, f) → GoesOn total k text → total ≡ Err (k, f)
@@ -56,7 +56,7 @@ module _ {A : Type 0} (item : List (List ℕ) → Result A LineFault) where
 
   -- ---- a text that is known to be read
 
-  pub reads_on : (k : ℕ) (text after : List ℕ) (x : A) (all : List A) → Begins item text x after → items_at item k (parts_of text) ≡ Ok all
+  pub reads_on : (k : ℕ) (text after : List ℕ) (x : A) (all : List A) → BeginsWithItem item text x after → items_at item k (parts_of text) ≡ Ok all
       → (left : List A) × (all ≡ x ∷ left) × (items_at item (k + 1) (parts_of after) ≡ Ok left)
   reads_on k text after x all b e =
       let read = bind_ok (items_at item (k + 1) (parts_of after)) (λ xs. Ok (x ∷ xs)) all (sym (items_at-begins k text after x b) ∙ e) in

@@ -1,6 +1,6 @@
 -- When there is a judge of a trace.
 use Rattle.std.proofs.Common.{◌≡◌, ℕ, ◌<◌, ◌≤◌, ◌&&◌, Bool, true, false, nat_lt, nat_le, [], ◌⊎◌, inl, inr, Some, None, refl, sym, ap, subst, ◌∙◌, arith}
-use Rattle.schedule.proofs.ReplaysCommon.{Fault, Refusal, number_of, Kept, Keeps, StandsAfter, State, judge_refusal, numbered}
+use Rattle.schedule.proofs.ReplaysCommon.{Fault, Refusal, number_of, Kept, Keeps, StandsAfter, State, judge_refusal, refusal_number}
 use Rattle.rmecore.specs.declared.refusal.Refusal.TheVariants.{BadProcs, BadCap, OutOfMemory}
 use Rattle.schedule.proofs.Places.{ok_is}
 
@@ -37,7 +37,7 @@ none_refused procs size within other =
 -- there is none
 pub is_refused : (procs cap : ℕ) (refusal : Refusal) (number : ℕ)
     → (refusal ≡ BadProcs → (procs ≡ 0) ⊎ (64 < procs)) → (refusal ≡ BadCap → (0 < procs) × (procs ≤ 64) × ((cap ≡ 0) ⊎ (65536 < cap)))
-    → (refusal ≡ BadProcs) ⊎ (refusal ≡ BadCap) ⊎ (refusal ≡ OutOfMemory) → number_of refusal ≡ Some number → numbered (judge_refusal procs cap) ≡ Some number
+    → (refusal ≡ BadProcs) ⊎ (refusal ≡ BadCap) ⊎ (refusal ≡ OutOfMemory) → number_of refusal ≡ Some number → refusal_number (judge_refusal procs cap) ≡ Some number
 is_refused procs cap refusal number by_procs by_cap (inl is) n = rw (few_false procs (by_procs is)) (ap number_of (sym is) ∙ n)
 is_refused procs cap refusal number by_procs by_cap (inr (inl is)) n =
     let purpose = by_cap is in

@@ -1,6 +1,6 @@
 -- Reading the words of a line.
 use Rattle.std.proofs.Common.{◌≡◌, ℕ, suc, ◌+◌, ◌-◌, ◌^◌, ◌<◌, ◌==◌, false, List, [], ◌∷◌, ◌++◌, length, drop, Result, Ok, Err, refl, sym, ap, ◌∙◌, append_assoc, arith}
-use Rattle.schedule.proofs.LinesCommon.{length-slice_split, LineFault, TrailingText, many, numbers_at, is_nil, words_of, first_of, ◌>>=◌, number_in}
+use Rattle.schedule.proofs.LinesCommon.{length-slice_split, LineFault, TrailingText, repeated_shape, numbers_at, is_nil, words_of, first_of, ◌>>=◌, number_in}
 
 -- a line has a word, which may be empty
 some_word : (ws : List (List ℕ)) → 0 < length ws → (is_nil ws ≡ false) × (numbers_at [] ws ≡ Err TrailingText)
@@ -20,18 +20,18 @@ regroup front n (Err f) = refl
 
 pub goes_on : (front : List ℕ) (width j : ℕ) (ws : List (List ℕ)) (n : ℕ) (total : Result (List ℕ) LineFault) → j < width
     → number_in 0 (2 ^ 64 - 1) (first_of ws) ≡ Ok n
-    → with_front front (numbers_at (many (width - j)) ws) ≡ total
-    → with_front (front ++ n ∷ []) (numbers_at (many (width - (j + 1))) (drop 1 ws)) ≡ total
+    → with_front front (numbers_at (repeated_shape (width - j)) ws) ≡ total
+    → with_front (front ++ n ∷ []) (numbers_at (repeated_shape (width - (j + 1))) (drop 1 ws)) ≡ total
 goes_on front width j ws n total lt read so_far =
     let k : width - j ≡ suc (width - (j + 1)) = omega arith in
-    let one : with_front front (numbers_at (many (width - j)) ws) ≡ with_front (front ++ n ∷ []) (numbers_at (many (width - (j + 1))) (drop 1 ws))
-    = rw (k, read) (regroup front n (numbers_at (many (width - (j + 1))) (drop 1 ws))) in
+    let one : with_front front (numbers_at (repeated_shape (width - j)) ws) ≡ with_front (front ++ n ∷ []) (numbers_at (repeated_shape (width - (j + 1))) (drop 1 ws))
+    = rw (k, read) (regroup front n (numbers_at (repeated_shape (width - (j + 1))) (drop 1 ws))) in
     sym one ∙ so_far
 
 pub stops : (front : List ℕ) (width j : ℕ) (ws : List (List ℕ)) (f : LineFault) (total : Result (List ℕ) LineFault) → j < width
     → number_in 0 (2 ^ 64 - 1) (first_of ws) ≡ Err f
-    → with_front front (numbers_at (many (width - j)) ws) ≡ total → total ≡ Err f
+    → with_front front (numbers_at (repeated_shape (width - j)) ws) ≡ total → total ≡ Err f
 stops front width j ws f total lt read so_far =
     let k : width - j ≡ suc (width - (j + 1)) = omega arith in
-    let one : with_front front (numbers_at (many (width - j)) ws) ≡ Err f = rw (k, read) refl in
+    let one : with_front front (numbers_at (repeated_shape (width - j)) ws) ≡ Err f = rw (k, read) refl in
     sym so_far ∙ one

@@ -1,6 +1,6 @@
 -- The lines that a run plays, by their numbers.
 use Rattle.std.proofs.Common.{◌≡◌, ℕ, zero, suc, ◌+◌, ◌-◌, ◌≤◌, is_some, true, List, [], ◌∷◌, take, Option, Some, None, IfSome, refl, ap, arith}
-use Rattle.schedule.proofs.ReplaysCommon.{Refusal, Line, Start, Step, Crash, Part, Did, Behaviour, unless, followed, steps, line_on, run_on}
+use Rattle.schedule.proofs.ReplaysCommon.{Refusal, Line, Start, Step, Crash, Part, Did, Behaviour, unless, part_after_line, steps, line_on, run_on}
 use Rattle.schedule.specs.Executions.{lines_played}
 
 -- a line before the refused one is played
@@ -12,11 +12,11 @@ one_more_line k (Some refused) line lines later =
 
 module _ {S : Type 0} (b : Behaviour S) where
   -- a line that is refused reports nothing and leaves the state as it was
-  pub line_stops : (s : S) (line : Line) (refusal : Refusal) → (line_on b s line).refused ≡ Some refusal → ((line_on b s line).left ≡ s) × ((line_on b s line).told ≡ [])
+  pub line_stops : (s : S) (line : Line) (refusal : Refusal) → (line_on b s line).refused ≡ Some refusal → ((line_on b s line).left ≡ s) × ((line_on b s line).reports ≡ [])
   unfolding line_on steps
   line_stops s (Start p call) refusal stops = by (b.start_refusal s p call) stops
     where
-      by : (o : Option Refusal) → (unless o s [] (b.started s p call)).refused ≡ Some refusal → ((unless o s [] (b.started s p call)).left ≡ s) × ((unless o s [] (b.started s p call)).told ≡ [])
+      by : (o : Option Refusal) → (unless o s [] (b.started s p call)).refused ≡ Some refusal → ((unless o s [] (b.started s p call)).left ≡ s) × ((unless o s [] (b.started s p call)).reports ≡ [])
       by None stops = absurd (cc)
       by (Some refused) stops = (refl, refl)
   line_stops s (Step p zero) refusal stops = (refl, refl)
@@ -24,7 +24,7 @@ module _ {S : Type 0} (b : Behaviour S) where
   line_stops s (Crash p) refusal stops = by (b.crash_refusal s p) stops
     where
       by : (o : Option Refusal) → (unless o s (Did (b.crash_deed s p) ∷ []) (b.crashed s p)).refused ≡ Some refusal
-          → ((unless o s (Did (b.crash_deed s p) ∷ []) (b.crashed s p)).left ≡ s) × ((unless o s (Did (b.crash_deed s p) ∷ []) (b.crashed s p)).told ≡ [])
+          → ((unless o s (Did (b.crash_deed s p) ∷ []) (b.crashed s p)).left ≡ s) × ((unless o s (Did (b.crash_deed s p) ∷ []) (b.crashed s p)).reports ≡ [])
       by None stops = absurd (cc)
       by (Some refused) stops = (refl, refl)
 
@@ -38,6 +38,6 @@ module _ {S : Type 0} (b : Behaviour S) where
       later None is = tt
       later (Some refused) is = omega (arith, is)
 
-      by : (o : Option Refusal) (rest : Part S (ℕ × Refusal)) → IfSome rest.refused (λ refused. k + 1 ≤ refused.0) → IfSome (followed k (line_on b s line) o rest).refused (λ refused. k ≤ refused.0)
+      by : (o : Option Refusal) (rest : Part S (ℕ × Refusal)) → IfSome rest.refused (λ refused. k + 1 ≤ refused.0) → IfSome (part_after_line k (line_on b s line) o rest).refused (λ refused. k ≤ refused.0)
       by None rest rises = later rest.refused rises
       by (Some refusal) rest rises = omega arith

@@ -1,10 +1,10 @@
 -- The lines of a schedule at the front of a text, except those of steps.
 use Rattle.std.proofs.Common.{◌≡◌, ℕ, List, [], ◌∷◌, ◌++◌, sym, ap, ◌∙◌, append_assoc, codes}
-use Rattle.schedule.proofs.LexerCommon.{decimal, Start, words_of_line, line_of, spaced}
+use Rattle.schedule.proofs.LexerCommon.{decimal, Start, words_of_line, line_of, spaced_numbers}
 use Rattle.rmeworld.specs.declared.call.Call.TheVariants as calls
 use Rattle.schedule.proofs.DeedTokens.{before_end, message, message_is}
 
-pub append_line : (p seq : ℕ) (v rest text value end after : List ℕ) → rest ≡ 32 ∷ text → text ≡ decimal seq ++ value → value ≡ spaced v ++ end → end ≡ 10 ∷ after
+pub append_line : (p seq : ℕ) (v rest text value end after : List ℕ) → rest ≡ 32 ∷ text → text ≡ decimal seq ++ value → value ≡ spaced_numbers v ++ end → end ≡ 10 ∷ after
     → line_of (words_of_line (Start p (calls.Append seq v))) ++ after ≡ codes "append" ++ 32 ∷ (decimal p ++ rest)
 append_line p seq v rest text value end after a b c d =
     let tail : 32 ∷ (message seq v ++ (10 ∷ after)) ≡ rest = ap (λ (t : List ℕ). 32 ∷ t) (message_is seq v text value end after b c d) ∙ sym a in

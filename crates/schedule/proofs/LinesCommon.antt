@@ -12,5 +12,5 @@ pub use Rattle.schedule.specs.declared.lines.fault.LineFault.{LineFault}
 pub use Rattle.schedule.specs.declared.lines.fault.LineFault.TheVariants.{TrailingText, BadNumber, TooBig}
 pub use Rattle.schedule.specs.Commands.{word_of, words_of_line, IsLine, commands_by_name, places, line_with, line_at}
 pub use Rattle.schedule.specs.Deeds.{deed_at, words_of_deed, IsDeed, deeds_by_name, deed_with}
-pub use Rattle.schedule.specs.Words.{parts_of, line_of, Shape, Number, any, many, has_fixed, numbers_at, is_nil, spaced, words_of, first_of, named, item_named, item_at, ◌>>=◌, Fixed, is_numeral}
+pub use Rattle.schedule.specs.Words.{parts_of, line_of, WordShape, Number, any, repeated_shape, has_fixed, numbers_at, is_nil, spaced_numbers, words_of, first_of, value_of_name, item_named, item_at, ◌>>=◌, Fixed, is_numeral}
 unfoldable pub use Rattle.schedule.specs.Words.{item_after, number_in}

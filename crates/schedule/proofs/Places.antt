@@ -1,8 +1,8 @@
 -- Places of a line: reading and spelling their numbers are inverse.
 use Rattle.std.proofs.Common.{◌≡◌, ℕ, zero, suc, ◌^◌, ◌<◌, ◌≤◌, ◌==◌, Bool, true, false, cond, ltb, eqb, not, ◌||◌, List, [], ◌∷◌, length, get_or, map, drop, Option, Some, None, Result, Ok, Err, refl, sym, ap, subst, ◌∙◌, arith, inl, inr, ⊎_elim, lit<, eqb-true, ltb-false, ltb-true, le-ltb, lt-ltb, ne_eqb}
 use Rattle.schedule.proofs.LinesCommon.{cases_eq, cases_Bool, and_parts, and_from, or_cases, or_left, or_right, not-true, not-false, not_from_false, cond-true, cond-false, decimal_digit, digits_decimal}
-use Rattle.schedule.proofs.LinesCommon.{decimal-digits_value, decimal_nonempty, digits_value-decimal, first_decimal, decimal, AllByRecursion, digits_value, LineFault, BadNumber, TooBig, Shape, Number, many}
-use Rattle.schedule.proofs.LinesCommon.{has_fixed, numbers_at, first_of, named, ◌>>=◌, Fixed, is_numeral, number_in}
+use Rattle.schedule.proofs.LinesCommon.{decimal-digits_value, decimal_nonempty, digits_value-decimal, first_decimal, decimal, AllByRecursion, digits_value, LineFault, BadNumber, TooBig, WordShape, Number, repeated_shape}
+use Rattle.schedule.proofs.LinesCommon.{has_fixed, numbers_at, first_of, value_of_name, ◌>>=◌, Fixed, is_numeral, number_in}
 use Rattle.std.proofs.lemmas.Slice.Eq.{bytes_eq-Decides}
 use Rattle.std.specs.Str.{bytes_eq}
 use Rattle.schedule.proofs.Numbers.{own}
@@ -69,20 +69,20 @@ number_again least most n small low high =
 -- ---- the places of a line
 
 -- the words of these numbers
-abbrev pub spelled : List Shape → List ℕ → List (List ℕ)
+abbrev pub spelled : List WordShape → List ℕ → List (List ℕ)
 spelled [] ns = []
 spelled (Fixed word ∷ shapes) ns = word ∷ spelled shapes ns
 spelled (Number least most ∷ shapes) [] = []
 spelled (Number least most ∷ shapes) (n ∷ ns) = decimal n ∷ spelled shapes ns
 
-abbrev pub Fits : List Shape → List ℕ → Type 0
+abbrev pub Fits : List WordShape → List ℕ → Type 0
 Fits [] [] = Unit {0}
 Fits [] (n ∷ ns) = ⊥
 Fits (Fixed word ∷ shapes) ns = Fits shapes ns
 Fits (Number least most ∷ shapes) [] = ⊥
 Fits (Number least most ∷ shapes) (n ∷ ns) = (least ≤ n) × (n ≤ most) × (most < 2 ^ 64) × Fits shapes ns
 
-abbrev pub AreNarrow : List Shape → Type 0
+abbrev pub AreNarrow : List WordShape → Type 0
 AreNarrow [] = Unit {0}
 AreNarrow (Fixed word ∷ shapes) = AreNarrow shapes
 AreNarrow (Number least most ∷ shapes) = (most < 2 ^ 64) × AreNarrow shapes
@@ -91,7 +91,7 @@ first_is : (ws : List (List ℕ)) (w : List ℕ) → first_of ws ≡ Some w → 
 first_is [] w e = absurd cc
 first_is (v ∷ ws) w e = let is : v ≡ w = cc in ap (λ (x : List ℕ). x ∷ ws) is
 
-pub numbers_take : (shapes : List Shape) (ws : List (List ℕ)) (ns : List ℕ) → AreNarrow shapes → has_fixed shapes ws ≡ true → numbers_at shapes ws ≡ Ok ns
+pub numbers_take : (shapes : List WordShape) (ws : List (List ℕ)) (ns : List ℕ) → AreNarrow shapes → has_fixed shapes ws ≡ true → numbers_at shapes ws ≡ Ok ns
     → (ws ≡ spelled shapes ns) × Fits shapes ns
 numbers_take [] [] ns narrow fixed e = subst (λ (xs : List ℕ). ([] ≡ spelled [] xs) × Fits [] xs) (ok_is {E = LineFault} [] ns e) (refl, tt)
 numbers_take [] (w ∷ ws) ns narrow fixed e = absurd cc
@@ -109,14 +109,14 @@ numbers_take (Number least most ∷ shapes) ws ns narrow fixed e =
     subst (λ (xs : List ℕ). (ws ≡ spelled (Number least most ∷ shapes) xs) × Fits (Number least most ∷ shapes) xs) (ok_is {E = LineFault} (a.0 ∷ b.0) ns b.2)
     (first_is ws (decimal a.0) t.0 ∙ ap (λ (xs : List (List ℕ)). decimal a.0 ∷ xs) rest.0, (t.1, t.2, narrow.0, rest.1))
 
-pub numbers_again : (shapes : List Shape) (ns : List ℕ) → Fits shapes ns → numbers_at shapes (spelled shapes ns) ≡ Ok ns
+pub numbers_again : (shapes : List WordShape) (ns : List ℕ) → Fits shapes ns → numbers_at shapes (spelled shapes ns) ≡ Ok ns
 numbers_again [] [] h = refl
 numbers_again [] (n ∷ ns) h = absurd h
 numbers_again (Fixed word ∷ shapes) ns h = numbers_again shapes ns h
 numbers_again (Number least most ∷ shapes) [] h = absurd h
 numbers_again (Number least most ∷ shapes) (n ∷ ns) h = rw (number_again least most n h.2 h.0 h.1, numbers_again shapes ns h.3) refl
 
-pub fixed_again : (shapes : List Shape) (ns : List ℕ) → Fits shapes ns → has_fixed shapes (spelled shapes ns) ≡ true
+pub fixed_again : (shapes : List WordShape) (ns : List ℕ) → Fits shapes ns → has_fixed shapes (spelled shapes ns) ≡ true
 fixed_again [] ns h = refl
 fixed_again (Fixed word ∷ shapes) ns h = and_from (bytes_eq word word) (has_fixed shapes (spelled shapes ns)) ((bytes_eq-Decides word word).1 refl) (fixed_again shapes ns h)
 fixed_again (Number least most ∷ shapes) [] h = absurd h
@@ -124,21 +124,21 @@ fixed_again (Number least most ∷ shapes) (n ∷ ns) h = fixed_again shapes ns 
 
 -- ---- many numbers
 
-pub many_narrow : (width : ℕ) → AreNarrow (many width)
+pub many_narrow : (width : ℕ) → AreNarrow (repeated_shape width)
 many_narrow zero = tt
 many_narrow (suc n) = (lit< tt, many_narrow n)
 
-pub many_fixed : (width : ℕ) (ws : List (List ℕ)) → has_fixed (many width) ws ≡ true
+pub many_fixed : (width : ℕ) (ws : List (List ℕ)) → has_fixed (repeated_shape width) ws ≡ true
 many_fixed zero ws = refl
 many_fixed (suc n) ws = many_fixed n (drop 1 ws)
 
-pub many_from : (width : ℕ) (v : List ℕ) → Fits (many width) v → (spelled (many width) v ≡ map decimal v) × (length v ≡ width) × AllByRecursion (λ n. n < 2 ^ 64) v
+pub many_from : (width : ℕ) (v : List ℕ) → Fits (repeated_shape width) v → (spelled (repeated_shape width) v ≡ map decimal v) × (length v ≡ width) × AllByRecursion (λ n. n < 2 ^ 64) v
 many_from zero [] h = (refl, refl, tt)
 many_from zero (n ∷ ns) h = absurd h
 many_from (suc w) [] h = absurd h
 many_from (suc w) (n ∷ ns) h = let rest = many_from w ns h.3 in (ap (λ (xs : List (List ℕ)). decimal n ∷ xs) rest.0, ap suc rest.1, (omega arith, rest.2))
 
-pub many_fit : (width : ℕ) (v : List ℕ) → length v ≡ width → AllByRecursion (λ n. n < 2 ^ 64) v → Fits (many width) v
+pub many_fit : (width : ℕ) (v : List ℕ) → length v ≡ width → AllByRecursion (λ n. n < 2 ^ 64) v → Fits (repeated_shape width) v
 many_fit zero [] l h = tt
 many_fit zero (n ∷ ns) l h = absurd (omega arith)
 many_fit (suc w) [] l h = absurd (omega arith)
@@ -147,12 +147,12 @@ many_fit (suc w) (n ∷ ns) l h = (omega arith, omega (arith, h.0), lit< tt, man
 -- ---- words that name something
 
 pub named_is : {A : Type 0} (name : A → List ℕ) (entries : List (List ℕ × A)) (word : List ℕ) (a : A)
-    → AllByRecursion (λ e. name e.1 ≡ e.0) entries → named entries word ≡ Some a → word ≡ name a
+    → AllByRecursion (λ e. name e.1 ≡ e.0) entries → value_of_name entries word ≡ Some a → word ≡ name a
 named_is name [] word a all e = absurd cc
 named_is name (entry ∷ entries) word a all e =
     elim (cases_Bool (bytes_eq word entry.0)) [
-      | inl same ↦ let found : cond (bytes_eq word entry.0) (Some entry.1) (named entries word) ≡ Some entry.1 = cond-true _ _ _ same in
+      | inl same ↦ let found : cond (bytes_eq word entry.0) (Some entry.1) (value_of_name entries word) ≡ Some entry.1 = cond-true _ _ _ same in
           let is : entry.1 ≡ a = cc in
           (bytes_eq-Decides word entry.0).0 same ∙ sym all.0 ∙ ap name is
-      | inr other ↦ named_is name entries word a all.1 (sym (cond-false (bytes_eq word entry.0) (Some entry.1) (named entries word) other) ∙ e)
+      | inr other ↦ named_is name entries word a all.1 (sym (cond-false (bytes_eq word entry.0) (Some entry.1) (value_of_name entries word) other) ∙ e)
     ]

@@ -18,7 +18,7 @@ pub use Rattle.rmecore.specs.Simulated.{cause, one_more}
 pub use Rattle.redomail.specs.declared.deed.Deed.{Deed}
 pub use Rattle.judge.specs.Kept.{Kept}
 pub use Rattle.judge.specs.Stands.{Keeps, StandsAfter}
-pub use Rattle.judge.specs.Table.{empty, State, judged, after}
+pub use Rattle.judge.specs.Table.{empty_state, State, state_after_deed, after}
 pub use Rattle.rmeworld.specs.declared.answer.Answer.{Answer}
 pub use Rattle.rmeworld.specs.declared.call.Call.{Call}
 pub use Rattle.rmeworld.specs.declared.image.Image.{Image}
@@ -32,14 +32,14 @@ pub use Rattle.schedule.specs.declared.replays.stage.TraceStage.{TraceStage}
 pub use Rattle.schedule.specs.declared.texts.trace.TraceHead.{TraceHead}
 pub use Rattle.schedule.specs.declared.replays.verdict.Verdict.{Verdict}
 pub use Rattle.schedule.specs.declared.replays.verdict.Verdict.TheVariants.{Fine, Against}
-pub use Rattle.schedule.specs.RunningVerdicts.{opened, running_judge, with_more, heard_with, Hears, RunningJudge, if_allowed, heard}
+pub use Rattle.schedule.specs.RunningVerdicts.{first_running_verdict, running_judge, with_more, heard_with, Hears, RunningJudge, if_allowed, state_after_deeds}
 pub use Rattle.schedule.specs.Tapes.{Tape, Writes, BreaksOff}
 pub use Rattle.schedule.specs.ReplayStops.{Ends, IsRefused, ReplayStops, Tells, Stops, refused_at, fault_at, Runs, IsOver}
-pub use Rattle.schedule.specs.Reports.{told_text, owns_text, words_of_verdict, verdict_line, IsEnd, told_line, messages_text}
-pub use Rattle.schedule.specs.Runs.{Part, deeds_of, Told, Did, told_of, told_by, unless, followed, transitions_of, Answered, did, answered}
+pub use Rattle.schedule.specs.Reports.{reports_text, owns_text, words_of_verdict, verdict_line, IsEnd, line_of_report, messages_text}
+pub use Rattle.schedule.specs.Runs.{Part, deeds_of, LockReport, Did, reports_of, reports_by, unless, part_after_line, transitions_of, Answered, did, answer_reports}
 unfoldable pub use Rattle.schedule.specs.Runs.{steps, line_on, run_on}
 pub use Rattle.rmeworld.specs.Behaviours.{Behaviour}
-pub use Rattle.schedule.specs.TraceJudges.{Stands, trace_answer, answer_of, judged_of, judge_refusal, numbered, JudgesTrace, Fed, TraceJudgeState}
-pub use Rattle.schedule.specs.Verdicts.{verdict_on, ruled, verdict_from}
+pub use Rattle.schedule.specs.TraceJudges.{Stands, trace_answer, answer_of, judged_of, judge_refusal, refusal_number, JudgesTrace, Fed, TraceJudgeState}
+pub use Rattle.schedule.specs.Verdicts.{verdict_on, verdict_at, verdict_from}
 pub use Rattle.schedule.specs.Wholes.{Silent, header_fault, layout_of, OfSchedule, OfText}
 pub use Rattle.rmeworld.specs.Replayed.{world_behaviour}

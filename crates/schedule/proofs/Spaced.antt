@@ -1,9 +1,9 @@
 -- Numbers as words with a space before each.
 use Rattle.std.proofs.Common.{◌≡◌, ℕ, ◌+◌, ◌<◌, List, [], ◌∷◌, ◌++◌, map, sym, ap, ◌∙◌, append_assoc, append-nil}
-use Rattle.schedule.proofs.LinesCommon.{decimal_digit, decimal, join_with_byte, spaced}
+use Rattle.schedule.proofs.LinesCommon.{decimal_digit, decimal, join_with_byte, spaced_numbers}
 use Rattle.std.proofs.lemmas.List.Concat.{flat_map-cons}
 
-pub join_spaced : (w : List ℕ) (v : List ℕ) → join_with_byte 32 (w ∷ map decimal v) ≡ w ++ spaced v
+pub join_spaced : (w : List ℕ) (v : List ℕ) → join_with_byte 32 (w ∷ map decimal v) ≡ w ++ spaced_numbers v
 join_spaced w [] = sym (append-nil w)
 join_spaced w (n ∷ v) = ap (λ (t : List ℕ). w ++ 32 ∷ t) (join_spaced (decimal n) v) ∙ ap (λ (t : List ℕ). w ++ t) (sym (flat_map-cons (λ m. 32 ∷ decimal m) n v))
 

@@ -64,9 +64,9 @@ module _ {H A : Type 0} (head : List (List ℕ) → Result H LineFault) (item : 
   abbrev pair : H → Result (List A) (ℕ × LineFault) → Result (H × List A) (ℕ × LineFault)
   pair h read = read >>= λ xs. Ok (h, xs)
 
-  behind_items : (h : H) (front : Result (List A) (ℕ × LineFault)) (rest : H → Result (List A) (ℕ × LineFault)) → pair h (and_then (item h) front (rest h)) ≡ reads_on (pair h front) rest
-  behind_items h (Err e) rest = refl
-  behind_items h (Ok xs) rest = by (rest h)
+  after_items : (h : H) (front : Result (List A) (ℕ × LineFault)) (rest : H → Result (List A) (ℕ × LineFault)) → pair h (and_then (item h) front (rest h)) ≡ reads_on (pair h front) rest
+  after_items h (Err e) rest = refl
+  after_items h (Ok xs) rest = by (rest h)
     where
       by : (r : Result (List A) (ℕ × LineFault)) → pair h (r >>= λ ys. Ok (xs ++ ys)) ≡ reads_on (Ok (h, xs)) (λ g. r)
       by (Ok ys) = refl
@@ -85,7 +85,7 @@ module _ {H A : Type 0} (head : List (List ℕ) → Result H LineFault) (item : 
       by (Err f) = refl
       by (Ok h) =
           ap (pair h) (items_then (item h) 2 lines parts some)
-          ∙ behind_items h (items_at (item h) 2 (lines ++ [] ∷ [])) (λ g. items_at (item g) (2 + length lines) parts)
+          ∙ after_items h (items_at (item h) 2 (lines ++ [] ∷ [])) (λ g. items_at (item g) (2 + length lines) parts)
 
   -- one more line
   whole_then : (lines : List (List ℕ)) (line : List ℕ) → 0 < length lines → whole (lines ++ line ∷ []) ≡ reads_on (whole lines) (λ h. items_at (item h) (length lines + 1) (line ∷ [] ∷ []))

@@ -3,7 +3,7 @@ use Rattle.std.proofs.Common.{◌≡◌, ℕ, ◌+◌, ◌-◌, ◌*◌, ◌/◌
 use Rattle.schedule.proofs.LexerCommon.{decimal, join_with_byte, LineFault, Step, words_of_line, line_at, parts_of, line_of}
 use Rattle.std.proofs.lemmas.Fmt.{decimal_digit, decimal_step}
 use Rattle.std.specs.Char.{is_ascii_digit}
-use Rattle.schedule.specs.FirstLines.{Begins}
+use Rattle.schedule.specs.FirstLines.{BeginsWithItem}
 use Rattle.schedule.proofs.Joins.{words_of-join, parts_of-line, IsCodec}
 use Rattle.schedule.proofs.Commands.{line_codec}
 
@@ -26,7 +26,7 @@ next_digit text rest after value byte digit some small is front =
 -- ---- a line in its one spelling
 
 module _ {A : Type 0} {read : List (List ℕ) → Result A LineFault} {words : A → List (List ℕ)} {Valid : A → Type 0} (codec : IsCodec A read words Valid) where
-  pub begins : (x : A) → Valid x → (text after : List ℕ) → text ≡ line_of (words x) ++ after → Begins read text x after
+  pub begins : (x : A) → Valid x → (text after : List ℕ) → text ≡ line_of (words x) ++ after → BeginsWithItem read text x after
   begins x h text after e =
       let plain = codec.plain x h in
       record {
@@ -37,18 +37,18 @@ module _ {A : Type 0} {read : List (List ℕ) → Result A LineFault} {words : A
       }
 
   pub long_begins : (word : List ℕ) (p : ℕ) (x : A) (text tail rest after : List ℕ) → Valid x → line_of (words x) ++ after ≡ word ++ 32 ∷ (decimal p ++ rest)
-      → text ≡ word ++ 32 ∷ tail → tail ≡ decimal p ++ rest → Begins read text x after
+      → text ≡ word ++ 32 ∷ tail → tail ≡ decimal p ++ rest → BeginsWithItem read text x after
   long_begins word p x text tail rest after h line a b = begins x h text after (a ∙ ap (λ (t : List ℕ). word ++ 32 ∷ t) b ∙ sym line)
 
   pub short_begins : (word : List ℕ) (p : ℕ) (x : A) (text tail rest after : List ℕ) → Valid x → words x ≡ word ∷ decimal p ∷ []
-      → text ≡ word ++ 32 ∷ tail → tail ≡ decimal p ++ rest → rest ≡ 10 ∷ after → Begins read text x after
+      → text ≡ word ++ 32 ∷ tail → tail ≡ decimal p ++ rest → rest ≡ 10 ∷ after → BeginsWithItem read text x after
   short_begins word p x text tail rest after h said a b c =
       let line : line_of (words x) ++ after ≡ word ++ 32 ∷ (decimal p ++ rest) = ap (λ (ws : List (List ℕ)). line_of ws ++ after) said ∙ append_assoc (word ++ 32 ∷ decimal p) (10 ∷ []) after
       ∙ append_assoc word (32 ∷ decimal p) (10 ∷ after) ∙ ap (λ (t : List ℕ). word ++ 32 ∷ (decimal p ++ t)) (sym c) in
       long_begins word p x text tail rest after h line a b
 
 pub one_step : (width p : ℕ) (text word rest after : List ℕ) → p < 2 ^ 64 → text ≡ codes "step " ++ word → word ≡ decimal p ++ rest → rest ≡ 10 ∷ after
-    → Begins (line_at width) text (Step p 1) after
+    → BeginsWithItem (line_at width) text (Step p 1) after
 one_step width p text word rest after small a b c =
     begins (line_codec width) (Step p 1) (small, omega arith, omega arith) text after
     (a ∙ ap (λ (t : List ℕ). codes "step " ++ t) (b ∙ ap (λ (t : List ℕ). decimal p ++ t) c ∙ sym (append_assoc (decimal p) (10 ∷ []) after)))
@@ -62,14 +62,14 @@ spelled_steps p k after more =
 
 pub more_steps : (width p k : ℕ) (text word rest more end after : List ℕ) → p < 2 ^ 64 → 2 ≤ k → k ≤ 1000000
     → text ≡ codes "step " ++ word → word ≡ decimal p ++ rest → rest ≡ 32 ∷ more → more ≡ decimal k ++ end → end ≡ 10 ∷ after
-    → Begins (line_at width) text (Step p k) after
+    → BeginsWithItem (line_at width) text (Step p k) after
 more_steps width p k text word rest more end after small least most a b c d e =
     begins (line_codec width) (Step p k) (small, omega arith, most) text after
     (a ∙ ap (λ (t : List ℕ). codes "step " ++ t) (b ∙ ap (λ (t : List ℕ). decimal p ++ t) (c ∙ ap (λ (t : List ℕ). 32 ∷ t) (d ∙ ap (λ (t : List ℕ). decimal k ++ t) e)))
     ∙ spelled_steps p k after least)
 
 -- a digit names the process that takes one step
-pub digit_step : (width byte : ℕ) (text after : List ℕ) → is_ascii_digit byte ≡ true → text ≡ codes "step " ++ (byte ∷ (10 ∷ after)) → Begins (line_at width) text (Step (byte - 48) 1) after
+pub digit_step : (width byte : ℕ) (text after : List ℕ) → is_ascii_digit byte ≡ true → text ≡ codes "step " ++ (byte ∷ (10 ∷ after)) → BeginsWithItem (line_at width) text (Step (byte - 48) 1) after
 digit_step width byte text after digit e =
     let range : (48 ≤ byte) × (byte ≤ 57) = grind arith in
     one_step width (byte - 48) text (byte ∷ (10 ∷ after)) (10 ∷ after) after (omega arith) e (first_digit (byte ∷ (10 ∷ after)) (10 ∷ after) byte digit refl) refl

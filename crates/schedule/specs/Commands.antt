@@ -9,7 +9,7 @@ use Rattle.rmeworld.specs.declared.call.Call.{Call}
 use Rattle.rmeworld.specs.declared.call.Call.TheVariants as calls
 use Rattle.schedule.specs.declared.lines.line.Line.{Line}
 use Rattle.schedule.specs.declared.lines.line.Line.TheVariants.{Start, Step, Crash}
-use Rattle.schedule.specs.Words.{Shape, Number, any, many, is_nil, item_at}
+use Rattle.schedule.specs.Words.{WordShape, Number, any, repeated_shape, is_nil, item_at}
 
 -- ---- each line has one spelling
 
@@ -91,8 +91,8 @@ commands_by_name =
     ∷ []
 
 -- the places after a command; a step has a second one only where a second word follows
-abbrev pub places : ℕ → Keyword → List (List ℕ) → List Shape
-places width commands.Append ws = any ∷ any ∷ many width
+abbrev pub places : ℕ → Keyword → List (List ℕ) → List WordShape
+places width commands.Append ws = any ∷ any ∷ repeated_shape width
 places width commands.Put ws = any ∷ any ∷ any ∷ []
 places width commands.Get ws = any ∷ any ∷ []
 places width commands.Step ws = if is_nil (drop 1 ws) then any ∷ [] else any ∷ Number 2 1000000 ∷ []

@@ -10,7 +10,7 @@ use Rattle.redomail.specs.declared.deed.Deed.{Deed}
 use Rattle.redomail.specs.declared.deed.Deed.TheVariants as deeds
 use Rattle.schedule.specs.declared.lines.deed.DeedWord.{DeedWord}
 use Rattle.schedule.specs.declared.lines.deed.DeedWord.TheVariants as names
-use Rattle.schedule.specs.Words.{Shape, any, many, item_at}
+use Rattle.schedule.specs.Words.{WordShape, any, repeated_shape, item_at}
 
 -- ---- each deed has one spelling
 
@@ -87,9 +87,9 @@ deeds_by_name =
     ∷ []
 
 -- the places after a name
-abbrev pub places : ℕ → DeedWord → List (List ℕ) → List Shape
-places width names.Commit ws = any ∷ any ∷ many width
-places width names.Show ws = any ∷ any ∷ any ∷ many width
+abbrev pub places : ℕ → DeedWord → List (List ℕ) → List WordShape
+places width names.Commit ws = any ∷ any ∷ repeated_shape width
+places width names.Show ws = any ∷ any ∷ any ∷ repeated_shape width
 places width _ ws = any ∷ []
 
 -- the deed that a name makes of these numbers

@@ -9,13 +9,13 @@ use Rattle.redomail.specs.Layout.{words_of}
 use Rattle.rmeworld.specs.Reached.{crashed_global_state, IsImageOf}
 use Rattle.rmeworld.specs.Replayed.{image_of}
 use Rattle.rmeworld.specs.ProcessState.{WorldEvent, Begins, Falls, Moves, who}
-use Rattle.rmeworld.specs.World.{GlobalState, at_first, onward, Execution, last_global_state, event_deeds, deeds}
+use Rattle.rmeworld.specs.World.{GlobalState, at_first, state_after_event, Execution, last_global_state, event_deeds, deeds}
 use Rattle.rmeworld.specs.WorldState.{WorldState}
 use Rattle.rmeworld.specs.declared.answer.Answer.{Answer}
 use Rattle.rmeworld.specs.declared.image.Image.{Image}
 use Rattle.schedule.specs.declared.lines.line.Line.{Line}
 use Rattle.schedule.specs.declared.lines.line.Line.TheVariants.{Start, Step, Crash}
-use Rattle.schedule.specs.Runs.{Told, Did, Answered, answered, Part, deeds_of}
+use Rattle.schedule.specs.Runs.{LockReport, Did, Answered, answer_reports, Part, deeds_of}
 
 -- where a world begins: new, with all words 0, or made of an image, with its words and every process crashed
 abbrev pub first_global_state : Option Image → GlobalState
@@ -23,28 +23,28 @@ first_global_state None = at_first
 first_global_state (Some i) = crashed_global_state (length i.lock) (own_at i.lock) (words_of i.cells)
 
 -- an event reports its deed, and the answer where it ends its call
-abbrev pub told_at : Layout → GlobalState → WorldEvent → List Told
-told_at l w e = map Did (event_deeds l w e) ++ answered (who e) (answer_to (w.process_states (who e)) e)
+abbrev pub reported_at : Layout → GlobalState → WorldEvent → List LockReport
+reported_at l w e = map Did (event_deeds l w e) ++ answer_reports (who e) (answer_to (w.process_states (who e)) e)
 
 -- what the events report, from this global state on
-abbrev pub told_in : Layout → ℕ → GlobalState → List WorldEvent → List Told
-told_in l limit w [] = []
-told_in l limit w (e ∷ es) = told_at l w e ++ told_in l limit (onward l limit w e) es
+abbrev pub reports_in : Layout → ℕ → GlobalState → List WorldEvent → List LockReport
+reports_in l limit w [] = []
+reports_in l limit w (e ∷ es) = reported_at l w e ++ reports_in l limit (state_after_event l limit w e) es
 
 -- a load or a store of p
-abbrev pub IsStepOf : ℕ → WorldEvent → Type 0
-IsStepOf p (Moves q kind word v) = q ≡ p
-IsStepOf p e = ⊥
+abbrev pub IsAccessOf : ℕ → WorldEvent → Type 0
+IsAccessOf p (Moves q kind word v) = q ≡ p
+IsAccessOf p e = ⊥
 
 -- what these events report ends with the answer of p's call
-abbrev pub Answers : Layout → ℕ → ℕ → GlobalState → List WorldEvent → Type 0
-Answers l limit p w es = (answer : Answer) × ((before : List Told) × (told_in l limit w es ≡ before ++ Answered p answer ∷ []))
+abbrev pub EndsWithAnswer : Layout → ℕ → ℕ → GlobalState → List WorldEvent → Type 0
+EndsWithAnswer l limit p w es = (answer : Answer) × ((before : List LockReport) × (reports_in l limit w es ≡ before ++ Answered p answer ∷ []))
 
 -- the events of one line: one start of the call, one crash, or as many steps of the process as the line says. They are fewer
 -- only where the last one answers the call
 abbrev pub IsLinePlayed : Layout → ℕ → GlobalState → Line → List WorldEvent → Type 0
 IsLinePlayed l limit w (Start p call) es = es ≡ Begins p call ∷ []
-IsLinePlayed l limit w (Step p n) es = All (IsStepOf p) es × ((length es ≡ n) ⊎ ((length es < n) × Answers l limit p w es))
+IsLinePlayed l limit w (Step p n) es = All (IsAccessOf p) es × ((length es ≡ n) ⊎ ((length es < n) × EndsWithAnswer l limit p w es))
 IsLinePlayed l limit w (Crash p) es = es ≡ Falls p ∷ []
 
 -- the events are those of the lines, line by line
@@ -66,6 +66,6 @@ pub record IsExecution (l : Layout) (limit : ℕ) (origin : Option Image) (lines
   pub execution : List WorldEvent
   pub may : Execution l limit (first_global_state origin) execution
   pub events : ArePlayed l limit (first_global_state origin) (lines_played 2 run.refused lines) execution
-  pub told : told_in l limit (first_global_state origin) execution ≡ run.told
-  pub deeds : deeds l limit (first_global_state origin) execution ≡ deeds_of run.told
+  pub reports : reports_in l limit (first_global_state origin) execution ≡ run.reports
+  pub deeds : deeds l limit (first_global_state origin) execution ≡ deeds_of run.reports
   pub words : IsImageOf l limit (last_global_state l limit (first_global_state origin) execution) (image_of run.left)

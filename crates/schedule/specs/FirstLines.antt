@@ -6,7 +6,7 @@ use Rattle.schedule.specs.Words.{words_of, parts_of}
 use Rattle.schedule.specs.Texts.{items_at, Fails}
 
 -- the first line of a text says item x, and `after` is the text after that line
-pub record Begins {A : Type 0} (item : List (List ℕ) → Result A LineFault) (text : List ℕ) (x : A) (after : List ℕ) : Type 0 where
+pub record BeginsWithItem {A : Type 0} (item : List (List ℕ) → Result A LineFault) (text : List ℕ) (x : A) (after : List ℕ) : Type 0 where
   pub line : List ℕ
   pub parts : parts_of text ≡ line ∷ parts_of after
   pub whole : text ≡ line ++ 10 ∷ after

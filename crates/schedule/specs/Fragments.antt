@@ -1,25 +1,25 @@
 -- The run of a schedule on a machine: what its events report, the state that it leaves, and the line that is refused
 -- (the ordered run of the specification's Report).
 use Rattle.std.specs.Prelude.{ℕ, zero, suc, ◌+◌, Bool, true, false, List, [], ◌∷◌, ◌++◌, Option, Some, None, is_some, if◌then◌else◌}
-use Rattle.schedule.specs.Transitions.{Event, Took, Fell, Transitions}
+use Rattle.schedule.specs.Transitions.{RunEvent, Took, Fell, Transitions}
 use Rattle.schedule.specs.declared.lines.line.Line.{Line}
 use Rattle.schedule.specs.declared.lines.line.Line.TheVariants.{Start, Step, Crash}
 
 -- a part of a run: what it reports, the state that it leaves, and its refusal
 pub record Fragment (X S R : Type 0) : Type 0 where
-  pub told : List X
+  pub reports : List X
   pub left : S
   pub refused : Option R
 
 -- a part that reports and leaves this, or a refusal that leaves the state as it was
 abbrev pub unless : {X S R : Type 0} → Option R → S → List X → S → Fragment X S R
-unless None s told left = record { told = told; left = left; refused = None }
-unless (Some refusal) s told left = record { told = []; left = s; refused = Some refusal }
+unless None s reports left = record { reports = reports; left = left; refused = None }
+unless (Some refusal) s reports left = record { reports = []; left = s; refused = Some refusal }
 
 -- line k, and then the rest of the run, unless the line is refused
-abbrev pub followed : {X S R : Type 0} → ℕ → Fragment X S R → Option R → Fragment X S (ℕ × R) → Fragment X S (ℕ × R)
-followed k part None rest = record { told = part.told ++ rest.told; left = rest.left; refused = rest.refused }
-followed k part (Some refusal) rest = record { told = part.told; left = part.left; refused = Some (k, refusal) }
+abbrev pub fragment_after_line : {X S R : Type 0} → ℕ → Fragment X S R → Option R → Fragment X S (ℕ × R) → Fragment X S (ℕ × R)
+fragment_after_line k part None rest = record { reports = part.reports ++ rest.reports; left = rest.left; refused = rest.refused }
+fragment_after_line k part (Some refusal) rest = record { reports = part.reports; left = part.left; refused = Some (k, refusal) }
 
 -- the refusal of steps after the first one of a line, by that of one of them
 abbrev pub late : {R : Type 0} → Bool → Option R → Option R
@@ -35,7 +35,7 @@ first_or_late false first refusal = first
 abbrev pub itself : {X : Type 0} → X → List X
 itself event = event ∷ []
 
-module _ {S T C R X : Type 0} (m : Transitions S T C R) (report : Event T C → List X) where
+module _ {S T C R X : Type 0} (m : Transitions S T C R) (report : RunEvent T C → List X) where
   -- at most n steps of p, until its call is answered or one is refused
   abbrev pub steps : ℕ → ℕ → S → List X × S
   steps p zero s = ([], s)
@@ -51,14 +51,14 @@ module _ {S T C R : Type 0} (m : Transitions S T C R) where
   refusal_in p zero s = None
   refusal_in p (suc n) s = if is_some (m.step_refusal s p) then m.step_refusal s p else (if m.ends (m.step s p) then None else refusal_in p n (m.stepped s p))
 
-module _ {S T C R X : Type 0} (m : Transitions S T C R) (report : Event T C → List X) where
+module _ {S T C R X : Type 0} (m : Transitions S T C R) (report : RunEvent T C → List X) where
   -- steps after the first one of a line
   abbrev pub later_steps : ℕ → ℕ → S → Fragment X S R
-  later_steps p n s = record { told = (steps m report p n s).0; left = (steps m report p n s).1; refused = late m.refuses_late (refusal_in m p n s) }
+  later_steps p n s = record { reports = (steps m report p n s).0; left = (steps m report p n s).1; refused = late m.refuses_late (refusal_in m p n s) }
 
   -- a line of steps, by what these steps report and leave
   abbrev pub steps_line_by : ℕ → ℕ → S → List X × S → Fragment X S R
-  steps_line_by p n s all = record { told = all.0; left = all.1; refused = first_or_late m.refuses_late (m.step_refusal s p) (refusal_in m p n s) }
+  steps_line_by p n s all = record { reports = all.0; left = all.1; refused = first_or_late m.refuses_late (m.step_refusal s p) (refusal_in m p n s) }
 
   abbrev pub steps_line : ℕ → ℕ → S → Fragment X S R
   steps_line p n s = steps_line_by p n s (steps m report p n s)
@@ -79,11 +79,11 @@ module _ {S T C R X : Type 0} (m : Transitions S T C R) (report : Event T C → 
 module _ {S R X : Type 0} (one : S → Line → Fragment X S R) where
   -- the lines from number k on, by what one line reports and leaves
   abbrev pub run_by : ℕ → S → List Line → Fragment X S (ℕ × R)
-  run_by k s [] = record { told = []; left = s; refused = None }
+  run_by k s [] = record { reports = []; left = s; refused = None }
   run_by k s (line ∷ lines) =
       let part : Fragment X S R = one s line in
-      followed k part part.refused (run_by (k + 1) part.left lines)
+      fragment_after_line k part part.refused (run_by (k + 1) part.left lines)
 
-module _ {S T C R X : Type 0} (m : Transitions S T C R) (report : Event T C → List X) where
+module _ {S T C R X : Type 0} (m : Transitions S T C R) (report : RunEvent T C → List X) where
   abbrev pub run_on : ℕ → S → List Line → Fragment X S (ℕ × R)
   run_on k s lines = run_by (line_on m report) k s lines

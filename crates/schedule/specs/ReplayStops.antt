@@ -9,8 +9,8 @@ use Rattle.schedule.specs.declared.replays.replay_stop.ReplayStop.TheVariants.{W
 use Rattle.schedule.specs.declared.player.play_stop.PlayStop.{PlayStop}
 use Rattle.schedule.specs.declared.player.play_stop.PlayStop.TheVariants as play_stops
 use Rattle.schedule.specs.Tapes.{Tape, Writes, Begins, BreaksOff}
-use Rattle.schedule.specs.Runs.{Told, Part, deeds_of}
-use Rattle.schedule.specs.Reports.{told_text}
+use Rattle.schedule.specs.Runs.{LockReport, Part, deeds_of}
+use Rattle.schedule.specs.Reports.{reports_text}
 use Rattle.schedule.specs.RunningVerdicts.{RunningJudge, Hears}
 
 -- why a replay stops within a text. Out of memory leaves some of it unwritten
@@ -19,13 +19,13 @@ ReplayStops before now text Write = Begins before.taken now.taken text × (now.f
 ReplayStops before now text OutOfMemory = BreaksOff before.taken now.taken text × (now.failures ≡ before.failures)
 
 -- what is reported is written, and its deeds are given to the judge
-abbrev pub Tells : {A : Type 0} → Tape → Tape → RunningJudge → RunningJudge → List Told → Result A ReplayStop → Type 0
-Tells before now running_judge heard told (Ok x) = Writes before now (told_text told) × Hears running_judge (deeds_of told) heard
-Tells before now running_judge heard told (Err replay_stop) = ReplayStops before now (told_text told) replay_stop
+abbrev pub Tells : {A : Type 0} → Tape → Tape → RunningJudge → RunningJudge → List LockReport → Result A ReplayStop → Type 0
+Tells before now running_judge heard reports (Ok x) = Writes before now (reports_text reports) × Hears running_judge (deeds_of reports) heard
+Tells before now running_judge heard reports (Err replay_stop) = ReplayStops before now (reports_text reports) replay_stop
 
 -- the deeds that were reported are judged, and the machine is in the state that is left
-pub record Stops {S : Type 0} (running_judge heard : RunningJudge) (told : List Told) (left s : S) : Type 0 where
-  pub hears : Hears running_judge (deeds_of told) heard
+pub record Stops {S : Type 0} (running_judge heard : RunningJudge) (reports : List LockReport) (left s : S) : Type 0 where
+  pub hears : Hears running_judge (deeds_of reports) heard
   pub stands : s ≡ left
 
 -- the fault of a refused line. The refusal OutOfMemory has no number
@@ -43,9 +43,9 @@ fault_at line (play_stops.Stopped OutOfMemory) = faults.OutOfMemory
 -- why a run is not played to its end
 abbrev pub Ends : {S : Type 0} → Tape → Tape → Part S (ℕ × Refusal) → ReplayFault → Type 0
 Ends before now run (faults.Refused line number) =
-    Writes before now (told_text run.told) × ((refusal : Refusal) × (run.refused ≡ Some (line, refusal)) × (number_of refusal ≡ Some number))
-Ends before now run faults.Write = Begins before.taken now.taken (told_text run.told) × (now.failures ≡ min (before.failures + 1) (2 ^ 64 - 1))
-Ends before now run faults.OutOfMemory = BreaksOff before.taken now.taken (told_text run.told) × (now.failures ≡ before.failures)
+    Writes before now (reports_text run.reports) × ((refusal : Refusal) × (run.refused ≡ Some (line, refusal)) × (number_of refusal ≡ Some number))
+Ends before now run faults.Write = Begins before.taken now.taken (reports_text run.reports) × (now.failures ≡ min (before.failures + 1) (2 ^ 64 - 1))
+Ends before now run faults.OutOfMemory = BreaksOff before.taken now.taken (reports_text run.reports) × (now.failures ≡ before.failures)
 Ends before now run fault = ⊥
 
 -- the fault is a refused line
@@ -56,8 +56,8 @@ IsRefused fault = ⊥
 -- the lines of a run are played
 abbrev pub Runs : {S A : Type 0} → Tape → Tape → RunningJudge → RunningJudge → Part S (ℕ × Refusal) → S → Result A ReplayFault → Type 0
 Runs before now running_judge heard run s (Ok x) =
-    Writes before now (told_text run.told) × Hears running_judge (deeds_of run.told) heard × (run.refused ≡ None) × (s ≡ run.left)
-Runs before now running_judge heard run s (Err fault) = Ends before now run fault × (IsRefused fault → Stops running_judge heard run.told run.left s)
+    Writes before now (reports_text run.reports) × Hears running_judge (deeds_of run.reports) heard × (run.refused ≡ None) × (s ≡ run.left)
+Runs before now running_judge heard run s (Err fault) = Ends before now run fault × (IsRefused fault → Stops running_judge heard run.reports run.left s)
 
 -- the run is over: with a verdict, or at the line that is refused
 abbrev pub IsOver : {A : Type 0} → Result A ReplayFault → Type 0

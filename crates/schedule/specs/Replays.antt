@@ -9,20 +9,20 @@ use Rattle.schedule.specs.declared.replays.replay_fault.ReplayFault.{ReplayFault
 use Rattle.schedule.specs.declared.replays.replay_fault.ReplayFault.TheVariants.{Refused, Write, OutOfMemory}
 use Rattle.schedule.specs.Runs.{Part, deeds_of}
 use Rattle.schedule.specs.Verdicts.{verdict_on}
-use Rattle.schedule.specs.Reports.{told_text, IsReport, IsEnd}
+use Rattle.schedule.specs.Reports.{reports_text, IsReport, IsEnd}
 use Rattle.schedule.specs.Tapes.{Tape, Writes, Begins, BreaksOff}
 
 -- all that is written of a run: its report, or what it reports before the line that is refused
-abbrev pub IsAll : {S : Type 0} → State → (S → Image) → Part S (ℕ × Refusal) → Option (ℕ × Refusal) → List ℕ → Type 0
-IsAll start image_of run None text = IsReport start (image_of run.left) run.told text
-IsAll start image_of run (Some refusal) text = text ≡ told_text run.told
+abbrev pub IsWholeReport : {S : Type 0} → State → (S → Image) → Part S (ℕ × Refusal) → Option (ℕ × Refusal) → List ℕ → Type 0
+IsWholeReport start image_of run None text = IsReport start (image_of run.left) run.reports text
+IsWholeReport start image_of run (Some refusal) text = text ≡ reports_text run.reports
 
 -- the report was written, and its verdict is that of the run
 pub record Reported {S : Type 0} (before now : Tape) (start : State) (image_of : S → Image) (run : Part S (ℕ × Refusal)) (verdict : Verdict) : Type 0 where
   pub accepted : run.refused ≡ None
-  pub verdict_is : verdict ≡ verdict_on start (deeds_of run.told)
+  pub verdict_is : verdict ≡ verdict_on start (deeds_of run.reports)
   pub text : List ℕ
-  pub report : IsReport start (image_of run.left) run.told text
+  pub report : IsReport start (image_of run.left) run.reports text
   pub writes : Writes before now text
 
 -- why there is no verdict. After a refusal just what the steps before it report was written. A sink that fails has failed
@@ -30,11 +30,11 @@ pub record Reported {S : Type 0} (before now : Tape) (start : State) (image_of :
 -- a refused line report was written, the answer is the refusal
 abbrev pub CutShort : {S : Type 0} → Tape → Tape → State → (S → Image) → Part S (ℕ × Refusal) → ReplayFault → Type 0
 CutShort before now start image_of run (Refused line number) =
-    Writes before now (told_text run.told) × ((refusal : Refusal) × (run.refused ≡ Some (line, refusal)) × (number_of refusal ≡ Some number))
+    Writes before now (reports_text run.reports) × ((refusal : Refusal) × (run.refused ≡ Some (line, refusal)) × (number_of refusal ≡ Some number))
 CutShort before now start image_of run Write =
-    ((text : List ℕ) → IsAll start image_of run run.refused text → Begins before.taken now.taken text) × (now.failures ≡ min (before.failures + 1) (2 ^ 64 - 1))
+    ((text : List ℕ) → IsWholeReport start image_of run run.refused text → Begins before.taken now.taken text) × (now.failures ≡ min (before.failures + 1) (2 ^ 64 - 1))
 CutShort before now start image_of run OutOfMemory =
-    ((text : List ℕ) → IsAll start image_of run run.refused text → BreaksOff before.taken now.taken text) × (now.failures ≡ before.failures)
+    ((text : List ℕ) → IsWholeReport start image_of run run.refused text → BreaksOff before.taken now.taken text) × (now.failures ≡ before.failures)
 CutShort before now start image_of run fault = ⊥
 
 -- what a replay writes and answers

@@ -6,11 +6,11 @@ use Rattle.schedule.specs.declared.replays.replay_stop.ReplayStop.{ReplayStop}
 use Rattle.schedule.specs.declared.replays.report_writer.ReportWriter.{ReportWriter}
 use Rattle.schedule.specs.Effects.{Effects}
 use Rattle.schedule.specs.ReplayStops.{ReplayStops}
-use Rattle.schedule.specs.Reports.{told_text}
+use Rattle.schedule.specs.Reports.{reports_text}
 use Rattle.schedule.specs.RunningVerdicts.{RunningJudge, running_judge, Hears}
-use Rattle.schedule.specs.Runs.{deeds_of, told_by}
+use Rattle.schedule.specs.Runs.{deeds_of, reports_by}
 use Rattle.schedule.specs.Tapes.{Tape, Writes}
-use Rattle.schedule.specs.Transitions.{Event}
+use Rattle.schedule.specs.Transitions.{RunEvent}
 
 -- its judge, with the running verdict
 abbrev pub judge_of : {W : Type 0} → ReportWriter W → RunningJudge
@@ -23,15 +23,15 @@ pub record SharesPlaces {W : Type 0} (before now : ReportWriter W) : Type 0 wher
   pub w : now.w.ghost_name ≡ before.w.ghost_name
 
 -- what an event reports is written, and its deed is given to the judge
-pub record ReportsEvent {W : Type 0} (tape : W → Tape) (before : ReportWriter W) (event : Event Stepped Deed) (now : ReportWriter W) : Type 0 where
+pub record ReportsEvent {W : Type 0} (tape : W → Tape) (before : ReportWriter W) (event : RunEvent Stepped Deed) (now : ReportWriter W) : Type 0 where
   pub same : SharesPlaces before now
-  pub writes : Writes (tape before.w.now) (tape now.w.now) (told_text (told_by event))
-  pub hears : Hears (judge_of before) (deeds_of (told_by event)) (judge_of now)
+  pub writes : Writes (tape before.w.now) (tape now.w.now) (reports_text (reports_by event))
+  pub hears : Hears (judge_of before) (deeds_of (reports_by event)) (judge_of now)
 
 -- not all that an event reports is written
-pub record StopsAt {W : Type 0} (tape : W → Tape) (before : ReportWriter W) (event : Event Stepped Deed) (now : ReportWriter W) (stop : ReplayStop) : Type 0 where
+pub record StopsAt {W : Type 0} (tape : W → Tape) (before : ReportWriter W) (event : RunEvent Stepped Deed) (now : ReportWriter W) (stop : ReplayStop) : Type 0 where
   pub same : SharesPlaces before now
-  pub stops : ReplayStops (tape before.w.now) (tape now.w.now) (told_text (told_by event)) stop
+  pub stops : ReplayStops (tape before.w.now) (tape now.w.now) (reports_text (reports_by event)) stop
 
-abbrev pub report_effects : {W : Type 0} → (W → Tape) → Effects (ReportWriter W) (Event Stepped Deed) ReplayStop
+abbrev pub report_effects : {W : Type 0} → (W → Tape) → Effects (ReportWriter W) (RunEvent Stepped Deed) ReplayStop
 report_effects tape = record { hears = ReportsEvent tape; stops = StopsAt tape }

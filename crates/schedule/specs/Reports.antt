@@ -19,18 +19,18 @@ use Rattle.schedule.specs.Words.{line_of}
 use Rattle.schedule.specs.Deeds.{words_of_deed}
 use Rattle.schedule.specs.Answers.{words_of_answer}
 use Rattle.schedule.specs.Verdicts.{number_of_fault, verdict_on}
-use Rattle.schedule.specs.Runs.{Told, Did, Answered, deeds_of}
+use Rattle.schedule.specs.Runs.{LockReport, Did, Answered, deeds_of}
 
 -- ---- what a run reports
 
 -- the line of a deed or of an answer
-abbrev pub told_line : Told → List ℕ
-told_line (Did deed) = line_of (words_of_deed deed)
-told_line (Answered p answer) = line_of (codes "answer" ∷ decimal p ∷ words_of_answer answer)
+abbrev pub line_of_report : LockReport → List ℕ
+line_of_report (Did deed) = line_of (words_of_deed deed)
+line_of_report (Answered p answer) = line_of (codes "answer" ∷ decimal p ∷ words_of_answer answer)
 
 -- the lines of what a run reports
-abbrev pub told_text : List Told → List ℕ
-told_text told = flat_map told_line told
+abbrev pub reports_text : List LockReport → List ℕ
+reports_text reports = flat_map line_of_report reports
 
 -- ---- the last words
 
@@ -99,6 +99,6 @@ IsEnd image verdict text =
     (mail : List ℕ) × IsMailText (layout_of image) image.cells mail × (text ≡ owns_text 0 image.lock ++ mail ++ verdict_line verdict)
 
 -- the report of a run without a refusal: judged from this state of the judge table, with the last words of this image
-abbrev pub IsReport : State → Image → List Told → List ℕ → Type 0
-IsReport start image told text =
-    (end : List ℕ) × IsEnd image (verdict_on start (deeds_of told)) end × (text ≡ told_text told ++ end)
+abbrev pub IsReport : State → Image → List LockReport → List ℕ → Type 0
+IsReport start image reports text =
+    (end : List ℕ) × IsEnd image (verdict_on start (deeds_of reports)) end × (text ≡ reports_text reports ++ end)

@@ -8,50 +8,50 @@ use Rattle.rmeworld.specs.Behaviours.{Behaviour}
 use Rattle.rmeworld.specs.declared.answer.Answer.{Answer}
 use Rattle.rmeworld.specs.declared.stepped.Stepped.{Stepped}
 use Rattle.schedule.specs.declared.lines.line.Line.{Line}
-use Rattle.schedule.specs.Transitions.{Event, Took, Fell, Transitions}
-use Rattle.schedule.specs.Fragments.{Fragment, unless as unless_by, followed as followed_by, steps as steps_by, line_by, run_by}
+use Rattle.schedule.specs.Transitions.{RunEvent, Took, Fell, Transitions}
+use Rattle.schedule.specs.Fragments.{Fragment, unless as unless_by, fragment_after_line as followed_by, steps as steps_by, line_by, run_by}
 
 -- what a run reports, in order: deeds, and the answers of calls
-pub data Told : Type 0 where
-  Did : Deed → Told
-  Answered : ℕ → Answer → Told
+pub data LockReport : Type 0 where
+  Did : Deed → LockReport
+  Answered : ℕ → Answer → LockReport
 
 -- the report of a deed, if there is one
-abbrev pub did : Option Deed → List Told
+abbrev pub did : Option Deed → List LockReport
 did None = []
 did (Some deed) = Did deed ∷ []
 
 -- the report of an answer of p, if there is one
-abbrev pub answered : ℕ → Option Answer → List Told
-answered p None = []
-answered p (Some answer) = Answered p answer ∷ []
+abbrev pub answer_reports : ℕ → Option Answer → List LockReport
+answer_reports p None = []
+answer_reports p (Some answer) = Answered p answer ∷ []
 
 -- a step of p reports its deed, then its answer
-abbrev pub told_of : ℕ → Option Deed → Option Answer → List Told
-told_of p deed answer = did deed ++ answered p answer
+abbrev pub reports_of : ℕ → Option Deed → Option Answer → List LockReport
+reports_of p deed answer = did deed ++ answer_reports p answer
 
 -- the deeds in what is reported
-abbrev pub deeds_of : List Told → List Deed
+abbrev pub deeds_of : List LockReport → List Deed
 deeds_of [] = []
-deeds_of (Did deed ∷ told) = deed ∷ deeds_of told
-deeds_of (Answered p answer ∷ told) = deeds_of told
+deeds_of (Did deed ∷ reports) = deed ∷ deeds_of reports
+deeds_of (Answered p answer ∷ reports) = deeds_of reports
 
 -- what an event reports
-abbrev pub told_by : Event Stepped Deed → List Told
-told_by (Took p step) = told_of p step.deed step.answer
-told_by (Fell p deed) = Did deed ∷ []
+abbrev pub reports_by : RunEvent Stepped Deed → List LockReport
+reports_by (Took p step) = reports_of p step.deed step.answer
+reports_by (Fell p deed) = Did deed ∷ []
 
 -- a part of a run: what it reports, the state that it leaves, and its refusal
 abbrev pub Part : Type 0 → Type 0 → Type 0
-Part S R = Fragment Told S R
+Part S R = Fragment LockReport S R
 
 -- a part that reports and leaves this, or a refusal that leaves the state as it was
-abbrev pub unless : {S : Type 0} → Option Refusal → S → List Told → S → Part S Refusal
-unless o s told left = unless_by o s told left
+abbrev pub unless : {S : Type 0} → Option Refusal → S → List LockReport → S → Part S Refusal
+unless o s reports left = unless_by o s reports left
 
 -- line k, and then the rest of the run, unless the line is refused
-abbrev pub followed : {S : Type 0} → ℕ → Part S Refusal → Option Refusal → Part S (ℕ × Refusal) → Part S (ℕ × Refusal)
-followed k part o rest = followed_by k part o rest
+abbrev pub part_after_line : {S : Type 0} → ℕ → Part S Refusal → Option Refusal → Part S (ℕ × Refusal) → Part S (ℕ × Refusal)
+part_after_line k part o rest = followed_by k part o rest
 
 module _ {S : Type 0} (b : Behaviour S) where
   -- a machine with this behaviour as one on which a schedule is played. A step is silent if it reports nothing
@@ -73,12 +73,12 @@ module _ {S : Type 0} (b : Behaviour S) where
       }
 
   -- at most n steps of p, until its call is answered
-  unfoldable pub steps : ℕ → ℕ → S → List Told × S
-  steps p n s = steps_by transitions_of told_by p n s
+  unfoldable pub steps : ℕ → ℕ → S → List LockReport × S
+  steps p n s = steps_by transitions_of reports_by p n s
 
   -- one line. Steps are refused only where the first one is
   unfoldable pub line_on : S → Line → Part S Refusal
-  line_on s line = line_by transitions_of told_by steps s line
+  line_on s line = line_by transitions_of reports_by steps s line
 
   -- the lines from number k on
   unfoldable pub run_on : ℕ → S → List Line → Part S (ℕ × Refusal)

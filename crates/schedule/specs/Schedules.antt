@@ -5,7 +5,7 @@ use Rattle.schedule.specs.declared.lines.fault.LineFault.{LineFault}
 use Rattle.schedule.specs.declared.lines.line.Line.{Line}
 use Rattle.schedule.specs.declared.texts.head.Head.{Head}
 use Rattle.schedule.specs.Words.{◌>>=◌, line_of, parts_of}
-use Rattle.schedule.specs.Headers.{Form, IsHeader, words_of_header, header_at}
+use Rattle.schedule.specs.Headers.{HeaderForm, IsHeader, words_of_header, header_at}
 use Rattle.schedule.specs.Commands.{words_of_line, IsLine, line_at}
 use Rattle.schedule.specs.Texts.{text_at}
 
@@ -18,7 +18,7 @@ pub record Scheduled : Type 0 where
   pub lines : List Line
 
 -- the form of a schedule's header
-abbrev pub schedule_form : Form
+abbrev pub schedule_form : HeaderForm
 schedule_form = record { word = codes "rme"; names = codes "procs" ∷ codes "limit" ∷ codes "cap" ∷ [] }
 
 -- the sizes of a header, in their order

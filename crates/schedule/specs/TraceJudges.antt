@@ -4,7 +4,7 @@ use Rattle.rmecore.specs.declared.refusal.Refusal.{Refusal}
 use Rattle.rmecore.specs.declared.refusal.Refusal.TheVariants.{BadProcs, BadCap}
 use Rattle.rmecore.specs.Refused.{number_of}
 use Rattle.redomail.specs.declared.deed.Deed.{Deed}
-use Rattle.judge.specs.Table.{empty}
+use Rattle.judge.specs.Table.{empty_state}
 use Rattle.judge.specs.Kept.{Kept}
 use Rattle.judge.specs.Stands.{Keeps}
 use Rattle.schedule.specs.declared.lines.fault.LineFault.{LineFault}
@@ -21,7 +21,7 @@ use Rattle.schedule.specs.Deeds.{deed_at}
 use Rattle.schedule.specs.Traces.{trace_head_at}
 use Rattle.schedule.specs.Tapes.{Reading}
 use Rattle.schedule.specs.Verdicts.{verdict_on}
-use Rattle.schedule.specs.RunningVerdicts.{opened, running_judge, Hears}
+use Rattle.schedule.specs.RunningVerdicts.{first_running_verdict, running_judge, Hears}
 
 -- why no judge has these sizes
 abbrev pub judge_refusal : ℕ → ℕ → Option Refusal
@@ -29,18 +29,18 @@ judge_refusal procs cap =
     if nat_lt 0 procs && nat_le procs 64 then (if nat_lt 0 cap && nat_le cap 65536 then None else Some BadCap) else Some BadProcs
 
 -- the number of a refusal, if there is one
-abbrev pub numbered : Option Refusal → Option ℕ
-numbered None = None
-numbered (Some refusal) = number_of refusal
+abbrev pub refusal_number : Option Refusal → Option ℕ
+refusal_number None = None
+refusal_number (Some refusal) = number_of refusal
 
 -- the verdict on deeds, unless the header was refused
 abbrev pub judged_of : Option ℕ → ℕ → ℕ → List Deed → Result Verdict ReplayFault
-judged_of None procs cap deeds = Ok (verdict_on (empty procs cap) deeds)
+judged_of None procs cap deeds = Ok (verdict_on (empty_state procs cap) deeds)
 judged_of (Some number) procs cap deeds = Err (Refused 1 number)
 
 -- the answer for what reading a trace gives
 abbrev pub answer_of : Result (TraceHead × List Deed) (ℕ × LineFault) → Result Verdict ReplayFault
-answer_of (Ok read) = judged_of (numbered (judge_refusal read.0.procs read.0.cap)) read.0.procs read.0.cap read.1
+answer_of (Ok read) = judged_of (refusal_number (judge_refusal read.0.procs read.0.cap)) read.0.procs read.0.cap read.1
 answer_of (Err fault) = Err (Text fault.0 (number_of_line fault.1))
 
 -- the answer for a trace's text, by its parts: its first fault, or the refusal of its header, or the verdict on its deeds
@@ -68,10 +68,10 @@ IsStage (stages.Faulty line fault) = Unit {0}
 abbrev pub Stands : TraceStage → List (List ℕ) → Type 0
 Stands stages.First lines = lines ≡ []
 Stands (stages.Refused head number) lines =
-    (deeds : List Deed) × (reading_of lines ≡ Ok (head, deeds)) × (numbered (judge_refusal head.procs head.cap) ≡ Some number)
+    (deeds : List Deed) × (reading_of lines ≡ Ok (head, deeds)) × (refusal_number (judge_refusal head.procs head.cap) ≡ Some number)
 Stands (stages.Judging head judge running_verdict) lines =
     (deeds : List Deed) × (reading_of lines ≡ Ok (head, deeds)) × (judge_refusal head.procs head.cap ≡ None)
-    × ((first : Kept) × Keeps first (empty head.procs head.cap) × Hears (running_judge first opened) deeds (running_judge judge running_verdict))
+    × ((first : Kept) × Keeps first (empty_state head.procs head.cap) × Hears (running_judge first first_running_verdict) deeds (running_judge judge running_verdict))
 Stands (stages.Faulty line fault) lines = (reading_of lines ≡ Err (line, fault)) × (0 < length lines)
 
 -- a stage has taken `more` lines from the front of a text, the first of which has this number; `rest` is the text after them

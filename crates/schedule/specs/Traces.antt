@@ -5,7 +5,7 @@ use Rattle.schedule.specs.declared.lines.fault.LineFault.{LineFault}
 use Rattle.redomail.specs.declared.deed.Deed.{Deed}
 use Rattle.schedule.specs.declared.texts.trace.TraceHead.{TraceHead}
 use Rattle.schedule.specs.Words.{◌>>=◌, line_of, parts_of}
-use Rattle.schedule.specs.Headers.{Form, IsHeader, words_of_header, header_at}
+use Rattle.schedule.specs.Headers.{HeaderForm, IsHeader, words_of_header, header_at}
 use Rattle.schedule.specs.Deeds.{words_of_deed, IsDeed, deed_at}
 use Rattle.schedule.specs.Texts.{text_at}
 
@@ -17,7 +17,7 @@ pub record Traced : Type 0 where
   pub deeds : List Deed
 
 -- the form of a trace's header
-abbrev pub trace_form : Form
+abbrev pub trace_form : HeaderForm
 trace_form = record { word = codes "trace"; names = codes "procs" ∷ codes "cap" ∷ [] }
 
 -- the sizes of a header, in their order

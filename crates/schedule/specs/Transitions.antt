@@ -3,9 +3,9 @@ use Rattle.std.specs.Prelude.{◌≡◌, ℕ, Bool, true, false, Option, None}
 use Rattle.rmeworld.specs.declared.call.Call.{Call}
 
 -- a step of a process, or its crash, with what it says
-pub data Event (T C : Type 0) : Type 0 where
-  Took : ℕ → T → Event T C
-  Fell : ℕ → C → Event T C
+pub data RunEvent (T C : Type 0) : Type 0 where
+  Took : ℕ → T → RunEvent T C
+  Fell : ℕ → C → RunEvent T C
 
 -- which starts, steps and crashes are refused, what they say, and the state after each; which steps end their call, and which
 -- show nothing; whether a line of steps is refused also where a step after its first one is; and the refusal that says out of memory
@@ -36,6 +36,6 @@ abbrev pub TakesSilently : {S T C R : Type 0} → Transitions S T C R → S → 
 TakesSilently m before p now = StepsFrom m before p (m.step before p) now × (m.is_silent (m.step before p) ≡ true) × (m.ends (m.step before p) ≡ false)
 
 -- an event shows something
-abbrev pub IsLoud : {S T C R : Type 0} → Transitions S T C R → Event T C → Type 0
+abbrev pub IsLoud : {S T C R : Type 0} → Transitions S T C R → RunEvent T C → Type 0
 IsLoud m (Took p step) = m.is_silent step ≡ false
 IsLoud m (Fell p crash) = Unit {0}

@@ -3,7 +3,7 @@ use Rattle.std.specs.Prelude.{ℕ, List, [], ◌∷◌, Result, Ok, Err}
 use Rattle.rmecore.specs.declared.fault.Fault.{Fault}
 use Rattle.rmecore.specs.declared.fault.Fault.TheVariants.{OutOfPlace, TwoInside, NotReentered, Overtaken, NotInside, MailOrder, AfterClose}
 use Rattle.redomail.specs.declared.deed.Deed.{Deed}
-use Rattle.judge.specs.Table.{State, judged}
+use Rattle.judge.specs.Table.{State, state_after_deed}
 use Rattle.rmecore.specs.Simulated.{one_more}
 use Rattle.schedule.specs.declared.replays.verdict.Verdict.{Verdict}
 use Rattle.schedule.specs.declared.replays.verdict.Verdict.TheVariants.{Fine, Against}
@@ -19,14 +19,14 @@ number_of_fault MailOrder = 6
 number_of_fault AfterClose = 7
 
 -- the verdict where deed k is refused, or the rest after it
-abbrev pub ruled : ℕ → Result State Fault → (State → Verdict) → Verdict
-ruled k (Ok s) rest = rest s
-ruled k (Err fault) rest = Against k fault
+abbrev pub verdict_at : ℕ → Result State Fault → (State → Verdict) → Verdict
+verdict_at k (Ok s) rest = rest s
+verdict_at k (Err fault) rest = Against k fault
 
 -- the verdict on deeds, from a state of the judge table on. The first has number k; numbers stop at the greatest u64
 abbrev pub verdict_from : ℕ → State → List Deed → Verdict
 verdict_from k s [] = Fine
-verdict_from k s (d ∷ ds) = ruled k (judged s d) (λ t. verdict_from (one_more k) t ds)
+verdict_from k s (d ∷ ds) = verdict_at k (state_after_deed s d) (λ t. verdict_from (one_more k) t ds)
 
 -- the verdict on all deeds of a run
 abbrev pub verdict_on : State → List Deed → Verdict

@@ -4,7 +4,7 @@ use Rattle.std.specs.Prelude.{◌≡◌, ℕ, ◌+◌, ◌-◌, ◌^◌, ◌⊎�
 use Rattle.rmecore.specs.declared.refusal.Refusal.{Refusal}
 use Rattle.rmecore.specs.Refused.{number_of}
 use Rattle.redomail.specs.declared.layout.Layout.{Layout}
-use Rattle.judge.specs.Table.{empty}
+use Rattle.judge.specs.Table.{empty_state}
 use Rattle.rmeworld.specs.WorldState.{WorldState, new_world, new_refusal}
 use Rattle.rmeworld.specs.Replayed.{image_of, world_behaviour}
 use Rattle.schedule.specs.declared.lines.fault.LineFault.{LineFault}
@@ -40,7 +40,7 @@ header_fault (Some number) = Refused 1 number
 abbrev pub OfSchedule : Tape → Tape → Scheduled → Option Refusal → Result Verdict ReplayFault → Type 0
 OfSchedule before now schedule (Some refusal) answer = Silent before now × (answer ≡ Err (header_fault (number_of refusal)))
 OfSchedule before now schedule None answer =
-    Replays before now (empty schedule.procs schedule.cap) image_of (world_run schedule) answer ⊎ (Silent before now × (answer ≡ Err OutOfMemory))
+    Replays before now (empty_state schedule.procs schedule.cap) image_of (world_run schedule) answer ⊎ (Silent before now × (answer ≡ Err OutOfMemory))
 
 -- a text that is no schedule has a fault, and nothing is written
 abbrev pub OfText : Tape → Tape → Result Scheduled (ℕ × LineFault) → Result Verdict ReplayFault → Type 0

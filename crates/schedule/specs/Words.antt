@@ -26,18 +26,18 @@ first_of [] = None
 first_of (w ∷ ws) = Some w
 
 -- a place of a line: a fixed word, or a number from the first to the second
-pub data Shape : Type 0 where
-  Fixed : List ℕ → Shape
-  Number : ℕ → ℕ → Shape
+pub data WordShape : Type 0 where
+  Fixed : List ℕ → WordShape
+  Number : ℕ → ℕ → WordShape
 
 -- a place for any number of 64 bits
-abbrev pub any : Shape
+abbrev pub any : WordShape
 any = Number 0 (2 ^ 64 - 1)
 
 -- this many such places
-abbrev pub many : ℕ → List Shape
-many zero = []
-many (suc n) = any ∷ many n
+abbrev pub repeated_shape : ℕ → List WordShape
+repeated_shape zero = []
+repeated_shape (suc n) = any ∷ repeated_shape n
 
 infixl 10 ◌>>=◌
 -- a result, and what follows where it is no fault
@@ -59,7 +59,7 @@ number_in least most (Some word) =
     else Ok (digits_value 10 word)
 
 -- the numbers at their places, and no word after them
-abbrev pub numbers_at : List Shape → List (List ℕ) → Result (List ℕ) LineFault
+abbrev pub numbers_at : List WordShape → List (List ℕ) → Result (List ℕ) LineFault
 numbers_at [] [] = Ok []
 numbers_at [] (w ∷ ws) = Err TrailingText
 numbers_at (Fixed word ∷ shapes) ws = numbers_at shapes (drop 1 ws)
@@ -74,31 +74,31 @@ begins_with word [] = false
 begins_with word (w ∷ ws) = bytes_eq w word
 
 -- the fixed words are at their places
-abbrev pub has_fixed : List Shape → List (List ℕ) → Bool
+abbrev pub has_fixed : List WordShape → List (List ℕ) → Bool
 has_fixed [] ws = true
 has_fixed (Fixed word ∷ shapes) ws = begins_with word ws && has_fixed shapes (drop 1 ws)
 has_fixed (Number least most ∷ shapes) ws = has_fixed shapes (drop 1 ws)
 
 -- what a word names in this list
-abbrev pub named : {A : Type 0} → List (List ℕ × A) → List ℕ → Option A
-named [] word = None
-named (entry ∷ entries) word = if bytes_eq word entry.0 then Some entry.1 else named entries word
+abbrev pub value_of_name : {A : Type 0} → List (List ℕ × A) → List ℕ → Option A
+value_of_name [] word = None
+value_of_name (entry ∷ entries) word = if bytes_eq word entry.0 then Some entry.1 else value_of_name entries word
 
 -- the item that a first word makes of the numbers after it
-unfoldable pub item_after : {C A : Type 0} → (C → List (List ℕ) → List Shape) → (C → List ℕ → A) → C → List (List ℕ) → Result A LineFault
+unfoldable pub item_after : {C A : Type 0} → (C → List (List ℕ) → List WordShape) → (C → List ℕ → A) → C → List (List ℕ) → Result A LineFault
 item_after places make command ws = do
   ns ← numbers_at (places command ws) ws
   Ok (make command ns)
 
 -- the item after a first word, which has to name something
-abbrev pub item_named : {C A : Type 0} → (C → List (List ℕ) → List Shape) → (C → List ℕ → A) → Option C → List (List ℕ) → Result A LineFault
+abbrev pub item_named : {C A : Type 0} → (C → List (List ℕ) → List WordShape) → (C → List ℕ → A) → Option C → List (List ℕ) → Result A LineFault
 item_named places make None ws = Err BadWord
 item_named places make (Some command) ws = item_after places make command ws
 
 -- a line after the header: its first word decides the places, and what is made of their numbers
-abbrev pub item_at : {C A : Type 0} → List (List ℕ × C) → (C → List (List ℕ) → List Shape) → (C → List ℕ → A) → List (List ℕ) → Result A LineFault
+abbrev pub item_at : {C A : Type 0} → List (List ℕ × C) → (C → List (List ℕ) → List WordShape) → (C → List ℕ → A) → List (List ℕ) → Result A LineFault
 item_at entries places make [] = Err BadWord
-item_at entries places make (word ∷ ws) = item_named places make (named entries word) ws
+item_at entries places make (word ∷ ws) = item_named places make (value_of_name entries word) ws
 
 -- no word is left
 abbrev pub is_nil : List (List ℕ) → Bool
@@ -106,8 +106,8 @@ is_nil [] = true
 is_nil (w ∷ ws) = false
 
 -- each number as a word with a space before it
-abbrev pub spaced : List ℕ → List ℕ
-spaced ns = flat_map (λ n. 32 ∷ decimal n) ns
+abbrev pub spaced_numbers : List ℕ → List ℕ
+spaced_numbers ns = flat_map (λ n. 32 ∷ decimal n) ns
 
 -- the words that are left of a line
 abbrev pub words_left : Option (List ℕ) → List (List ℕ)
@@ -115,6 +115,6 @@ words_left None = []
 words_left (Some line) = words_of line
 
 -- what a function returns, seen by view, is what the definition gives
-abbrev pub Reads : {X Y : Type 0} → (X → Y) → Result X LineFault → Result Y LineFault → Type 0
-Reads view (Ok x) read = read ≡ Ok (view x)
-Reads view (Err e) read = read ≡ Err e
+abbrev pub ReadsItem : {X Y : Type 0} → (X → Y) → Result X LineFault → Result Y LineFault → Type 0
+ReadsItem view (Ok x) read = read ≡ Ok (view x)
+ReadsItem view (Err e) read = read ≡ Err e

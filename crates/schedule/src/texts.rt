@@ -5,7 +5,7 @@ pub mod fault;
 pub mod head;
 pub mod laws;
 pub mod schedule;
+pub mod text_writer;
 pub mod trace;
 pub mod whole;
 pub mod wrapped;
-pub mod writing;

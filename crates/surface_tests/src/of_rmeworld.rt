@@ -93,7 +93,7 @@ pub fn fields_of_stepped(stepped: Stepped) -> (Happened, Option<Deed>, Option<An
     (happened, deed, answer)
 }
 
-pub fn told_by(answer: Answer) -> (Option<Found>, Option<Reply>) {
+pub fn reports_by(answer: Answer) -> (Option<Found>, Option<Reply>) {
     match answer {
         Answer::Found(found) => (Some(found), None),
         Answer::Mail(reply) => (None, Some(reply)),

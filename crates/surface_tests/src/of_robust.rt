@@ -1,6 +1,6 @@
 //! The items of `robust`: the running lock.
 
-ghost use Rattle.execution.specs.Gathering.{OneArena};
+ghost use Rattle.table_runs.specs.GatheredRuns.{OneArena};
 
 use crashlab::CrashPlan;
 use redomail::{Layout, Message, Reply};
@@ -152,11 +152,11 @@ pub fn messages_of(lab: LabResult) -> Vec<Message> {
     lab.messages
 }
 
-/// The entries and faults of `robust` are those of `execution`.
+/// The entries and faults of `robust` are those of `table_runs`.
 pub fn of_execution(
-    entry: execution::Entry,
-    fault: execution::LockFault,
-    setup: execution::Setup,
+    entry: table_runs::Entry,
+    fault: table_runs::LockFault,
+    setup: table_runs::Setup,
 ) -> (Entry, LockFault, Setup) {
     (entry, fault, setup)
 }

@@ -4,7 +4,7 @@
 use judge::{Deed, Fault, Judge};
 use rmecore::Refusal;
 use rmeworld::{Image, Machine};
-use schedule::replays::replaying::close;
+use schedule::replays::replay_loop::close;
 use schedule::{
     Count, FromReader, Line, OutOfMemory, Page, ReplayFault, Schedule, Sink, Source, Text,
     TextFault, ToWriter, Trace, Verdict, judge_trace, put_verdict, read_schedule, read_trace,

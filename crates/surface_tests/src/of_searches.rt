@@ -2,7 +2,7 @@
 
 use crashlab::Variant;
 use diagram::{
-    Drawing, LifelinePhase, Reply, Session, Style, draw, follow, follow_as_lines,
+    Drawing, LifelinePhase, Session, SessionReply, Style, draw, follow, follow_as_lines,
     put_verdict_object, write_drawing, write_page,
 };
 use explorer::{MoveVerdict, SearchFault, SearchOutcome, Space, Unwatched, Watch, laws, search};
@@ -136,7 +136,7 @@ pub fn ends_at(alloc: Global, schedule: Schedule, line: &[u8]) -> Result<bool, A
     let mut session = Session::new(alloc, schedule)?;
     let mut page = Vec::new(alloc);
     session.put_state(&mut page)?;
-    Ok(session.answer(alloc, line, &mut page)? == Reply::Quits)
+    Ok(session.answer(alloc, line, &mut page)? == SessionReply::Quits)
 }
 
 pub fn cite_the_laws<S: Space>() {

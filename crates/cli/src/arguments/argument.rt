@@ -2,14 +2,14 @@
 
 ghost use Rattle.std.specs.Prelude.{◌≡◌, false, codes, Some};
 ghost use Rattle.clap.specs.Words.{rule_of};
-ghost use Rattle.cli.specs.CommandLine.{action_of_form, algorithm, flag, option, number, starving, word, variant, required, rule_of_argument, rule_of_form};
+ghost use Rattle.cli.specs.CommandLine.{action_of_form, algorithm, flag, option, number, starving, word, variant, required_rule, rule_of_argument, rule_of_form};
 
 use clap::{Arg, ArgAction, value_parser};
 use std::alloc::Global;
 
 /// How an argument is written.
 #[derive(Clone, Copy)]
-pub enum Form<'a> {
+pub enum ArgumentForm<'a> {
     /// `--name`.
     Flag,
     /// `--name VALUE`, the value a text.
@@ -24,15 +24,18 @@ pub enum Form<'a> {
     Words,
 }
 
-impl Form<'_> {
+impl ArgumentForm<'_> {
     /// What is done with a value.
     fn action(self) -> ArgAction
         ensures { result ≡ action_of_form self.entry }
     {
         match self {
-            Form::Flag => ArgAction::SetTrue,
-            Form::Text | Form::Number | Form::Optional(_) | Form::Word => ArgAction::Set,
-            Form::Words => ArgAction::Append,
+            ArgumentForm::Flag => ArgAction::SetTrue,
+            ArgumentForm::Text
+            | ArgumentForm::Number
+            | ArgumentForm::Optional(_)
+            | ArgumentForm::Word => ArgAction::Set,
+            ArgumentForm::Words => ArgAction::Append,
         }
     }
 }
@@ -40,7 +43,7 @@ impl Form<'_> {
 /// An argument of a command.
 #[derive(Clone, Copy)]
 pub struct Argument<'a> {
-    form: Form<'a>,
+    form: ArgumentForm<'a>,
     name: &'a str,
     /// The name of its value in the help.
     value: &'a str,
@@ -50,7 +53,7 @@ pub struct Argument<'a> {
 
 impl<'a> Argument<'a> {
     /// An argument that can be left out.
-    pub fn new(form: Form<'a>, name: &'a str, value: &'a str, help: &'a str) -> Argument<'a>
+    pub fn new(form: ArgumentForm<'a>, name: &'a str, value: &'a str, help: &'a str) -> Argument<'a>
         ensures { rule_of_argument result ≡ record (rule_of_form form.entry name.entry.now) { required = false } }
     {
         Argument {
@@ -63,8 +66,8 @@ impl<'a> Argument<'a> {
     }
 
     /// The same argument, but it can't be left out.
-    pub fn required(self) -> Argument<'a>
-        ensures { rule_of_argument result ≡ required (rule_of_argument self.entry) }
+    pub fn as_required(self) -> Argument<'a>
+        ensures { rule_of_argument result ≡ required_rule (rule_of_argument self.entry) }
     {
         Argument {
             required: true,
@@ -76,28 +79,28 @@ impl<'a> Argument<'a> {
     pub fn flag(name: &'a str, help: &'a str) -> Argument<'a>
         ensures { rule_of_argument result ≡ flag name.entry.now }
     {
-        Argument::new(Form::Flag, name, "", help)
+        Argument::new(ArgumentForm::Flag, name, "", help)
     }
 
     /// `--name VALUE`, the value a text.
     pub fn text(name: &'a str, value: &'a str, help: &'a str) -> Argument<'a>
         ensures { rule_of_argument result ≡ option name.entry.now }
     {
-        Argument::new(Form::Text, name, value, help)
+        Argument::new(ArgumentForm::Text, name, value, help)
     }
 
     /// `--name VALUE`, the value a number.
     pub fn number(name: &'a str, value: &'a str, help: &'a str) -> Argument<'a>
         ensures { rule_of_argument result ≡ number name.entry.now }
     {
-        Argument::new(Form::Number, name, value, help)
+        Argument::new(ArgumentForm::Number, name, value, help)
     }
 
     /// The file that is read.
     pub fn file(help: &'a str) -> Argument<'a>
         ensures { rule_of_argument result ≡ word (codes "FILE") }
     {
-        Argument::new(Form::Word, "FILE", "", help)
+        Argument::new(ArgumentForm::Word, "FILE", "", help)
     }
 
     /// `--variant V`.
@@ -122,7 +125,7 @@ impl<'a> Argument<'a> {
     {
         let help =
             "Look for a process that starves; WHO may give up: nobody, as without it, or any; not with --moves";
-        Argument::new(Form::Optional("nobody"), "starving", "WHO", help)
+        Argument::new(ArgumentForm::Optional("nobody"), "starving", "WHO", help)
     }
 
     /// `--image FILE`.
@@ -150,14 +153,14 @@ impl<'a> Argument<'a> {
             .help(self.help)
             .action(self.form.action());
         match self.form {
-            Form::Flag => arg.long(self.name),
-            Form::Text => self.option(arg),
-            Form::Number => self.option(arg).value_parser(value_parser!(u64)),
-            Form::Optional(without) => self
+            ArgumentForm::Flag => arg.long(self.name),
+            ArgumentForm::Text => self.option(arg),
+            ArgumentForm::Number => self.option(arg).value_parser(value_parser!(u64)),
+            ArgumentForm::Optional(without) => self
                 .option(arg)
                 .num_args(0..=1)
                 .default_missing_value(without),
-            Form::Word | Form::Words => arg,
+            ArgumentForm::Word | ArgumentForm::Words => arg,
         }
     }
 

@@ -4,7 +4,7 @@ ghost use Rattle.std.specs.Prelude.{◌≡◌, ◌↔◌, ◌≢◌, true, map, 
 ghost use Rattle.std.specs.List.{list_all};
 ghost use Rattle.clap.specs.Words.{first_of};
 ghost use Rattle.cli.specs.Given.{given_in, is_set, has_call, is_call, alphabet_of, is_algorithm_call, algorithm_calls_of, algorithm_calls_in as algorithm_calls_asked, are_algorithm_calls, calls_of, calls_without, names_in, word_of_cycles, AsksForCycles};
-ghost use Rattle.cli.specs.ReadWords.{IsAlgorithmSearch, IsBadStarving, IsFaultOfAlgorithmCalls, IsFaultOfCalls, IsStuckWithin, Reads};
+ghost use Rattle.cli.specs.ReadWords.{IsAlgorithmSearch, IsBadStarving, IsFaultOfAlgorithmCalls, IsFaultOfCalls, IsStuckWithin, ReadsCommand};
 ghost use Rattle.cli.specs.declared.arguments.args.Cycles.{Cycles as AnyCycles};
 
 use crate::arguments::args::{
@@ -214,7 +214,7 @@ fn algorithm_words(
     algorithm: &str,
 ) -> Result<Command, WordsFault>
     requires { Some algorithm.now ≡ first_of (codes "algorithm") (given_in matches.now) }
-    ensures { Reads (codes "explore") (given_in matches.now) result }
+    ensures { ReadsCommand (codes "explore") (given_in matches.now) result }
 {
     if is_given(matches, "variant") {
         return Err(WordsFault::BadVariant);
@@ -240,7 +240,7 @@ fn algorithm_words(
 /// A search of a variant of the lock.
 fn variant_words(alloc: Global, matches: &ArgMatches<'_>) -> Result<Command, WordsFault>
     requires { IsNone (first_of (codes "algorithm") (given_in matches.now)) }
-    ensures { Reads (codes "explore") (given_in matches.now) result }
+    ensures { ReadsCommand (codes "explore") (given_in matches.now) result }
 {
     if !is_given(matches, "variant") {
         return Err(WordsFault::Refused {
@@ -266,7 +266,7 @@ fn variant_words(alloc: Global, matches: &ArgMatches<'_>) -> Result<Command, Wor
 
 /// A search of a variant of the lock, or of an algorithm.
 pub(crate) fn explore_words(alloc: Global, matches: &ArgMatches<'_>) -> Result<Command, WordsFault>
-    ensures { Reads (codes "explore") (given_in matches.now) result }
+    ensures { ReadsCommand (codes "explore") (given_in matches.now) result }
 {
     match str_of(matches, "algorithm") {
         Some(algorithm) => algorithm_words(alloc, matches, algorithm),

@@ -3,8 +3,8 @@
 ghost use Rattle.std.specs.Prelude.{◌≡◌, Some, IfOk, IsNone, OnErr, IsErrOf, codes};
 ghost use Rattle.clap.specs.Words.{first_of};
 ghost use Rattle.cli.specs.Given.{given_in};
-ghost use Rattle.cli.specs.ReadWords.{Reads, rounds_of, steps_of};
-ghost use Rattle.cli.specs.Sizes.{IsSized, IsHuntSize};
+ghost use Rattle.cli.specs.ReadWords.{ReadsCommand, rounds_of, steps_of};
+ghost use Rattle.cli.specs.Sizes.{IsInRanges, IsHuntSize};
 
 use crate::arguments::args::{AlgorithmHuntArgs, Command, HuntArgs};
 use crate::arguments::words::{
@@ -45,8 +45,8 @@ fn algorithm_words(
     algorithm: &str,
 ) -> Result<Command, WordsFault>
     requires { Some algorithm.now ≡ first_of (codes "algorithm") (given_in matches.now) }
-    ensures sized { IfOk result IsSized }
-    ensures reads { Reads (codes "hunt") (given_in matches.now) result }
+    ensures sized { IfOk result IsInRanges }
+    ensures reads { ReadsCommand (codes "hunt") (given_in matches.now) result }
 {
     if is_given(matches, "variant") {
         return Err(WordsFault::BadVariant);
@@ -70,8 +70,8 @@ fn algorithm_words(
 /// A hunt on a variant of the lock.
 fn variant_words(alloc: Global, matches: &ArgMatches<'_>) -> Result<Command, WordsFault>
     requires { IsNone (first_of (codes "algorithm") (given_in matches.now)) }
-    ensures sized { IfOk result IsSized }
-    ensures reads { Reads (codes "hunt") (given_in matches.now) result }
+    ensures sized { IfOk result IsInRanges }
+    ensures reads { ReadsCommand (codes "hunt") (given_in matches.now) result }
 {
     if !is_given(matches, "variant") {
         return Err(WordsFault::Refused {
@@ -95,8 +95,8 @@ fn variant_words(alloc: Global, matches: &ArgMatches<'_>) -> Result<Command, Wor
 
 /// A hunt on a variant of the lock, or on an algorithm.
 pub(crate) fn hunt_words(alloc: Global, matches: &ArgMatches<'_>) -> Result<Command, WordsFault>
-    ensures sized { IfOk result IsSized }
-    ensures reads { Reads (codes "hunt") (given_in matches.now) result }
+    ensures sized { IfOk result IsInRanges }
+    ensures reads { ReadsCommand (codes "hunt") (given_in matches.now) result }
 {
     match str_of(matches, "algorithm") {
         Some(algorithm) => algorithm_words(alloc, matches, algorithm),

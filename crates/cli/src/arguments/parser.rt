@@ -1,9 +1,9 @@
 //! The command line for `clap`: its commands, their options and their help.
 
 ghost use Rattle.std.specs.Prelude.{map, IfOk};
-ghost use Rattle.cli.specs.CommandLine.{IsParser, alone, part, shape_of_part, with_subcommands, rule_of_argument, head, replay, run, hunt, explore, judge, draw, shrink, step, explain, rmelab};
+ghost use Rattle.cli.specs.CommandLine.{IsParser, app_of_shape, part, shape_of_part, with_subcommands, rule_of_argument, head, replay, run, hunt, explore, judge, draw, shrink, step, explain, rmelab};
 
-use crate::arguments::argument::{Argument, Form};
+use crate::arguments::argument::{Argument, ArgumentForm};
 use clap::Command as Parser;
 use std::alloc::{AllocError, Global};
 
@@ -97,7 +97,7 @@ fn command<'a>(
     help: &'a str,
     arguments: &[Argument<'a>],
 ) -> Result<Parser<'a>, AllocError>
-    ensures { IfOk result (IsParser (alone (part name.entry.now (map rule_of_argument arguments.now)))) }
+    ensures { IfOk result (IsParser (app_of_shape (part name.entry.now (map rule_of_argument arguments.now)))) }
 {
     let mut command = Parser::new(alloc, name).about(about).after_help(help);
     for argument in arguments {
@@ -108,7 +108,7 @@ fn command<'a>(
 
 /// The parser of `replay`, with its help.
 fn replay<'a>(alloc: Global) -> Result<Parser<'a>, AllocError>
-    ensures { IfOk result (IsParser (alone replay)) }
+    ensures { IfOk result (IsParser (app_of_shape replay)) }
 {
     let about = "Runs a schedule of steps and crashes, and prints its report";
     let arguments = [
@@ -131,14 +131,14 @@ fn replay<'a>(alloc: Global) -> Result<Parser<'a>, AllocError>
 
 /// The parser of `run`, with its help.
 fn run<'a>(alloc: Global) -> Result<Parser<'a>, AllocError>
-    ensures { IfOk result (IsParser (alone run)) }
+    ensures { IfOk result (IsParser (app_of_shape run)) }
 {
     let about = "Runs senders on threads, with drawn crashes, and counts their messages";
     let arguments = [
-        Argument::number("procs", "N", "1 to 16 senders").required(),
-        Argument::number("messages", "M", "1 to 4096 messages of each").required(),
-        Argument::number("crash", "C", "0 to 50 crashes in 1000 askings").required(),
-        Argument::number("seed", "S", "The seed of the crashes").required(),
+        Argument::number("procs", "N", "1 to 16 senders").as_required(),
+        Argument::number("messages", "M", "1 to 4096 messages of each").as_required(),
+        Argument::number("crash", "C", "0 to 50 crashes in 1000 askings").as_required(),
+        Argument::number("seed", "S", "The seed of the crashes").as_required(),
         Argument::number("width", "W", "1 to 8 words a message; 1 without it"),
     ];
     command(alloc, "run", about, RUN_HELP, &arguments)
@@ -146,7 +146,7 @@ fn run<'a>(alloc: Global) -> Result<Parser<'a>, AllocError>
 
 /// The parser of `hunt`, with its help.
 fn hunt<'a>(alloc: Global) -> Result<Parser<'a>, AllocError>
-    ensures { IfOk result (IsParser (alone hunt)) }
+    ensures { IfOk result (IsParser (app_of_shape hunt)) }
 {
     let about = "Draws schedules until a variant of the lock, or an algorithm, goes wrong";
     let arguments = [
@@ -162,9 +162,9 @@ fn hunt<'a>(alloc: Global) -> Result<Parser<'a>, AllocError>
             "L",
             "Numbers up to L; 1000000 without it; with --algorithm alone",
         ),
-        Argument::number("seed", "S", "The seed of the moves").required(),
-        Argument::number("rounds", "R", "1 to 10000 rounds").required(),
-        Argument::number("steps", "K", "1 to 10000 moves a round").required(),
+        Argument::number("seed", "S", "The seed of the moves").as_required(),
+        Argument::number("rounds", "R", "1 to 10000 rounds").as_required(),
+        Argument::number("steps", "K", "1 to 10000 moves a round").as_required(),
         Argument::flag(
             "shrink",
             "Minimize the schedule found, as `shrink` does; not with --algorithm",
@@ -180,7 +180,7 @@ fn hunt<'a>(alloc: Global) -> Result<Parser<'a>, AllocError>
 
 /// The parser of `explore`, with its help.
 fn explore<'a>(alloc: Global) -> Result<Parser<'a>, AllocError>
-    ensures { IfOk result (IsParser (alone explore)) }
+    ensures { IfOk result (IsParser (app_of_shape explore)) }
 {
     let about = "Tries all schedules up to a bound, for the shortest that goes wrong";
     let calls =
@@ -188,7 +188,7 @@ fn explore<'a>(alloc: Global) -> Result<Parser<'a>, AllocError>
     let arguments = [
         Argument::variant(),
         Argument::algorithm(),
-        Argument::number("procs", "N", "1 to 64 processes").required(),
+        Argument::number("procs", "N", "1 to 64 processes").as_required(),
         Argument::text("calls", "LIST", calls),
         Argument::number("crashes", "C", "At most C crashes; 0 without it"),
         Argument::number("moves", "K", "At most K moves; no bound without it"),
@@ -224,7 +224,7 @@ fn explore<'a>(alloc: Global) -> Result<Parser<'a>, AllocError>
 
 /// The parser of `judge`, with its help.
 fn judge<'a>(alloc: Global) -> Result<Parser<'a>, AllocError>
-    ensures { IfOk result (IsParser (alone judge)) }
+    ensures { IfOk result (IsParser (app_of_shape judge)) }
 {
     let about = "Judges a trace of deeds, and prints the verdict";
     let arguments = [
@@ -236,7 +236,7 @@ fn judge<'a>(alloc: Global) -> Result<Parser<'a>, AllocError>
 
 /// The parser of `draw`, with its help.
 fn draw<'a>(alloc: Global) -> Result<Parser<'a>, AllocError>
-    ensures { IfOk result (IsParser (alone draw)) }
+    ensures { IfOk result (IsParser (app_of_shape draw)) }
 {
     let about = "Draws the run of a schedule as a space-time diagram";
     let arguments = [
@@ -255,7 +255,7 @@ fn draw<'a>(alloc: Global) -> Result<Parser<'a>, AllocError>
 
 /// The parser of `shrink`, with its help.
 fn shrink<'a>(alloc: Global) -> Result<Parser<'a>, AllocError>
-    ensures { IfOk result (IsParser (alone shrink)) }
+    ensures { IfOk result (IsParser (app_of_shape shrink)) }
 {
     let about = "Minimizes a schedule that goes wrong on a variant of the lock, or on an algorithm";
     let arguments = [
@@ -268,7 +268,7 @@ fn shrink<'a>(alloc: Global) -> Result<Parser<'a>, AllocError>
 
 /// The parser of `step`, with its help.
 fn step<'a>(alloc: Global) -> Result<Parser<'a>, AllocError>
-    ensures { IfOk result (IsParser (alone step)) }
+    ensures { IfOk result (IsParser (app_of_shape step)) }
 {
     let about = "Holds a session: takes the lines of a schedule one by one, and goes back";
     let arguments = [
@@ -280,18 +280,18 @@ fn step<'a>(alloc: Global) -> Result<Parser<'a>, AllocError>
 
 /// The parser of `explain`, with its help.
 fn explain<'a>(alloc: Global) -> Result<Parser<'a>, AllocError>
-    ensures { IfOk result (IsParser (alone explain)) }
+    ensures { IfOk result (IsParser (app_of_shape explain)) }
 {
     let about = "Says what a number or a word of reports and faults means";
     let names =
         "The name, as `fault 5`, `refused 12`, `rule 7`, `against 4`, `answer clean` or `step look`";
-    let arguments = [Argument::new(Form::Words, "WORDS", "", names)];
+    let arguments = [Argument::new(ArgumentForm::Words, "WORDS", "", names)];
     command(alloc, "explain", about, EXPLAIN_HELP, &arguments)
 }
 
 /// The parser of the program without its commands: what it is, its version and its exit statuses.
 fn head<'a>(alloc: Global) -> Parser<'a>
-    ensures { IsParser (alone head) result }
+    ensures { IsParser (app_of_shape head) result }
 {
     Parser::new(alloc, "rmelab")
         .about("A laboratory of recoverable first-come first-served locks")
@@ -302,7 +302,7 @@ fn head<'a>(alloc: Global) -> Parser<'a>
 
 /// A command of the command line.
 #[derive(Clone, Copy)]
-enum Part {
+enum ParserPart {
     Replay,
     Run,
     Hunt,
@@ -315,40 +315,40 @@ enum Part {
 }
 
 /// The commands, as the help lists them.
-const PARTS: [Part; 9] = [
-    Part::Replay,
-    Part::Run,
-    Part::Hunt,
-    Part::Explore,
-    Part::Judge,
-    Part::Draw,
-    Part::Shrink,
-    Part::Step,
-    Part::Explain,
+const PARTS: [ParserPart; 9] = [
+    ParserPart::Replay,
+    ParserPart::Run,
+    ParserPart::Hunt,
+    ParserPart::Explore,
+    ParserPart::Judge,
+    ParserPart::Draw,
+    ParserPart::Shrink,
+    ParserPart::Step,
+    ParserPart::Explain,
 ];
 
-impl Part {
+impl ParserPart {
     /// The parser of this command.
     fn parser<'a>(self, alloc: Global) -> Result<Parser<'a>, AllocError>
-        ensures { IfOk result (IsParser (alone (shape_of_part self))) }
+        ensures { IfOk result (IsParser (app_of_shape (shape_of_part self))) }
     {
         match self {
-            Part::Replay => replay(alloc),
-            Part::Run => run(alloc),
-            Part::Hunt => hunt(alloc),
-            Part::Explore => explore(alloc),
-            Part::Judge => judge(alloc),
-            Part::Draw => draw(alloc),
-            Part::Shrink => shrink(alloc),
-            Part::Step => step(alloc),
-            Part::Explain => explain(alloc),
+            ParserPart::Replay => replay(alloc),
+            ParserPart::Run => run(alloc),
+            ParserPart::Hunt => hunt(alloc),
+            ParserPart::Explore => explore(alloc),
+            ParserPart::Judge => judge(alloc),
+            ParserPart::Draw => draw(alloc),
+            ParserPart::Shrink => shrink(alloc),
+            ParserPart::Step => step(alloc),
+            ParserPart::Explain => explain(alloc),
         }
     }
 }
 
 /// A command line of these commands.
-fn parser_of<'a>(alloc: Global, parts: &[Part]) -> Result<Parser<'a>, AllocError>
-    ensures { IfOk result (IsParser (with_subcommands (alone head) (map shape_of_part parts.now))) }
+fn parser_of<'a>(alloc: Global, parts: &[ParserPart]) -> Result<Parser<'a>, AllocError>
+    ensures { IfOk result (IsParser (with_subcommands (app_of_shape head) (map shape_of_part parts.now))) }
 {
     let mut whole = head(alloc);
     for part in parts {

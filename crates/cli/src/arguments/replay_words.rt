@@ -3,7 +3,7 @@
 ghost use Rattle.std.specs.Prelude.{◌≡◌, Some, IsNone, codes};
 ghost use Rattle.clap.specs.Words.{first_of};
 ghost use Rattle.cli.specs.Given.{given_in};
-ghost use Rattle.cli.specs.ReadWords.{Reads};
+ghost use Rattle.cli.specs.ReadWords.{ReadsCommand};
 
 use crate::arguments::args::{AlgorithmReplayArgs, Command, ReplayArgs};
 use crate::arguments::words::{
@@ -27,7 +27,7 @@ fn algorithm_words(
     algorithm: &str,
 ) -> Result<Command, WordsFault>
     requires { Some algorithm.now ≡ first_of (codes "algorithm") (given_in matches.now) }
-    ensures { Reads (codes "replay") (given_in matches.now) result }
+    ensures { ReadsCommand (codes "replay") (given_in matches.now) result }
 {
     if !is_alone(matches) {
         return Err(WordsFault::BadVariant);
@@ -46,7 +46,7 @@ fn algorithm_words(
 /// A replay on a variant of the lock.
 fn variant_words(alloc: Global, matches: &ArgMatches<'_>) -> Result<Command, WordsFault>
     requires { IsNone (first_of (codes "algorithm") (given_in matches.now)) }
-    ensures { Reads (codes "replay") (given_in matches.now) result }
+    ensures { ReadsCommand (codes "replay") (given_in matches.now) result }
 {
     Ok(Command::Replay(ReplayArgs {
         json: is_set(matches, "json"),
@@ -60,7 +60,7 @@ fn variant_words(alloc: Global, matches: &ArgMatches<'_>) -> Result<Command, Wor
 
 /// A replay on a variant of the lock, or on an algorithm.
 pub(crate) fn replay_words(alloc: Global, matches: &ArgMatches<'_>) -> Result<Command, WordsFault>
-    ensures { Reads (codes "replay") (given_in matches.now) result }
+    ensures { ReadsCommand (codes "replay") (given_in matches.now) result }
 {
     match str_of(matches, "algorithm") {
         Some(algorithm) => algorithm_words(alloc, matches, algorithm),

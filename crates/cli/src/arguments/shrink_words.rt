@@ -3,7 +3,7 @@
 ghost use Rattle.std.specs.Prelude.{◌≡◌, Some, IsNone, codes};
 ghost use Rattle.clap.specs.Words.{first_of};
 ghost use Rattle.cli.specs.Given.{given_in};
-ghost use Rattle.cli.specs.ReadWords.{Reads};
+ghost use Rattle.cli.specs.ReadWords.{ReadsCommand};
 
 use crate::arguments::args::{AlgorithmShrinkArgs, Command, ShrinkArgs};
 use crate::arguments::words::{WordsFault, is_given, str_of, text_of, variant_of, without_lock};
@@ -17,7 +17,7 @@ fn algorithm_words(
     algorithm: &str,
 ) -> Result<Command, WordsFault>
     requires { Some algorithm.now ≡ first_of (codes "algorithm") (given_in matches.now) }
-    ensures { Reads (codes "shrink") (given_in matches.now) result }
+    ensures { ReadsCommand (codes "shrink") (given_in matches.now) result }
 {
     if is_given(matches, "variant") {
         return Err(WordsFault::BadVariant);
@@ -31,7 +31,7 @@ fn algorithm_words(
 /// A schedule that goes wrong on a variant of the lock.
 fn variant_words(alloc: Global, matches: &ArgMatches<'_>) -> Result<Command, WordsFault>
     requires { IsNone (first_of (codes "algorithm") (given_in matches.now)) }
-    ensures { Reads (codes "shrink") (given_in matches.now) result }
+    ensures { ReadsCommand (codes "shrink") (given_in matches.now) result }
 {
     if !is_given(matches, "variant") {
         return Err(WordsFault::Refused {
@@ -46,7 +46,7 @@ fn variant_words(alloc: Global, matches: &ArgMatches<'_>) -> Result<Command, Wor
 
 /// A schedule that goes wrong on a variant of the lock, or on an algorithm.
 pub(crate) fn shrink_words(alloc: Global, matches: &ArgMatches<'_>) -> Result<Command, WordsFault>
-    ensures { Reads (codes "shrink") (given_in matches.now) result }
+    ensures { ReadsCommand (codes "shrink") (given_in matches.now) result }
 {
     match str_of(matches, "algorithm") {
         Some(algorithm) => algorithm_words(alloc, matches, algorithm),

@@ -3,7 +3,7 @@
 ghost use Rattle.std.specs.Prelude.{◌≡◌, Some, codes};
 ghost use Rattle.clap.specs.Words.{first_of};
 ghost use Rattle.cli.specs.Given.{given_in};
-ghost use Rattle.cli.specs.ReadWords.{Reads};
+ghost use Rattle.cli.specs.ReadWords.{ReadsCommand};
 
 use crate::arguments::args::Command;
 use crate::arguments::words::{WordsFault, is_given, str_of, text_of};
@@ -25,7 +25,7 @@ fn algorithm_words(
     algorithm: &str,
 ) -> Result<Command, WordsFault>
     requires { Some algorithm.now ≡ first_of (codes "algorithm") (given_in matches.now) }
-    ensures { Reads (codes "step") (given_in matches.now) result }
+    ensures { ReadsCommand (codes "step") (given_in matches.now) result }
 {
     if is_given(matches, "FILE") {
         return Err(WordsFault::Refused {
@@ -37,7 +37,7 @@ fn algorithm_words(
 
 /// A session on the lock, or on an algorithm.
 pub(crate) fn step_words(alloc: Global, matches: &ArgMatches<'_>) -> Result<Command, WordsFault>
-    ensures { Reads (codes "step") (given_in matches.now) result }
+    ensures { ReadsCommand (codes "step") (given_in matches.now) result }
 {
     match str_of(matches, "algorithm") {
         Some(algorithm) => algorithm_words(alloc, matches, algorithm),

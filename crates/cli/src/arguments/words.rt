@@ -7,8 +7,8 @@ ghost use Rattle.cli.specs.declared.explain.dictionary_entry.DictionaryEntry.{Di
 ghost use Rattle.cli.specs.Given.{given_in, is_set, number_or, word_of_variant, AsksFor, AsksForNone, entry_named};
 ghost use Rattle.cli.specs.Names.{name_of};
 ghost use Rattle.cli.specs.ReadWords.{GoesWithImage, IsAlone, IsBadBesideImage, IsUnnamed, IsAnsweredBy};
-ghost use Rattle.cli.specs.ReadWords.{HasBadVariant, HasBadSize, IsCommand, Reads, IsName, Takes, IsRefusal, Refuses, texts_of};
-ghost use Rattle.cli.specs.Sizes.{IsSized, RunFits};
+ghost use Rattle.cli.specs.ReadWords.{HasBadVariant, HasBadSize, IsCommand, ReadsCommand, IsName, TakesWords, IsWordsRefusal, RefusesWords, texts_of};
+ghost use Rattle.cli.specs.Sizes.{IsInRanges, RunFits};
 
 use crate::arguments::args::{Command, JudgeArgs, RunArgs};
 use crate::arguments::draw_words::draw_words;
@@ -196,8 +196,8 @@ fn run_of(args: RunArgs) -> Result<RunArgs, WordsFault>
 
 /// The arguments of `run`. `BadSize`: a number is out of its range.
 fn run_words(matches: &ArgMatches<'_>) -> Result<Command, WordsFault>
-    ensures sized { IfOk result IsSized }
-    ensures reads { Reads (codes "run") (given_in matches.now) result }
+    ensures sized { IfOk result IsInRanges }
+    ensures reads { ReadsCommand (codes "run") (given_in matches.now) result }
 {
     let args = run_of(RunArgs {
         procs: number_of(matches, "procs"),
@@ -211,7 +211,7 @@ fn run_words(matches: &ArgMatches<'_>) -> Result<Command, WordsFault>
 
 /// The arguments of `judge`.
 fn judge_words(alloc: Global, matches: &ArgMatches<'_>) -> Result<Command, WordsFault>
-    ensures { Reads (codes "judge") (given_in matches.now) result }
+    ensures { ReadsCommand (codes "judge") (given_in matches.now) result }
 {
     Ok(Command::Judge(JudgeArgs {
         json: is_set(matches, "json"),
@@ -220,7 +220,7 @@ fn judge_words(alloc: Global, matches: &ArgMatches<'_>) -> Result<Command, Words
 }
 
 /// The error text for words that name no entry.
-fn unnamed(alloc: Global, name: &str) -> Result<String, AllocError> {
+fn no_entry_text(alloc: Global, name: &str) -> Result<String, AllocError> {
     format!(in alloc;
         "error: '{name}' names nothing that is explained\n\nFor more information, try 'rmelab explain'.\n"
     )
@@ -235,7 +235,7 @@ fn dictionary_entry_of(alloc: Global, name: &str) -> Result<DictionaryEntry, Wor
     match dictionary_entry_named(name) {
         Some(dictionary_entry) => Ok(dictionary_entry),
         None => Err(WordsFault::Refused {
-            text: unnamed(alloc, name)?,
+            text: no_entry_text(alloc, name)?,
         }),
     }
 }
@@ -252,7 +252,7 @@ fn entry_name(alloc: Global, matches: &ArgMatches<'_>) -> Result<Option<String>,
 
 /// The entry that the words name; none without words.
 fn explain_words(alloc: Global, matches: &ArgMatches<'_>) -> Result<Command, WordsFault>
-    ensures { Reads (codes "explain") (given_in matches.now) result }
+    ensures { ReadsCommand (codes "explain") (given_in matches.now) result }
 {
     match entry_name(alloc, matches)? {
         Some(name) => Ok(Command::Explain(Some(dictionary_entry_of(alloc, &name)?))),
@@ -263,8 +263,8 @@ fn explain_words(alloc: Global, matches: &ArgMatches<'_>) -> Result<Command, Wor
 /// The command with this name and what is given to it.
 fn command_of(alloc: Global, name: &str, matches: &ArgMatches<'_>) -> Result<Command, WordsFault>
     requires { IsName name.now }
-    ensures sized { IfOk result IsSized }
-    ensures reads { Reads name.now (given_in matches.now) result }
+    ensures sized { IfOk result IsInRanges }
+    ensures reads { ReadsCommand name.now (given_in matches.now) result }
 {
     match name {
         "replay" => replay_words(alloc, matches),
@@ -283,8 +283,8 @@ fn command_of(alloc: Global, name: &str, matches: &ArgMatches<'_>) -> Result<Com
 /// The command that `clap` found in the words.
 fn command_in(alloc: Global, matches: &ArgMatches<'_>) -> Result<Command, WordsFault>
     requires { IsSomeAnd (subcommand_rows_of matches.now) (λ command. IsName command.0) }
-    ensures sized { IfOk result IsSized }
-    ensures reads { IsSomeAnd (subcommand_rows_of matches.now) (λ command. Reads command.0 command.1 result) }
+    ensures sized { IfOk result IsInRanges }
+    ensures reads { IsSomeAnd (subcommand_rows_of matches.now) (λ command. ReadsCommand command.0 command.1 result) }
 {
     match matches.subcommand() {
         Some((name, given)) => command_of(alloc, name, given),
@@ -293,7 +293,7 @@ fn command_in(alloc: Global, matches: &ArgMatches<'_>) -> Result<Command, WordsF
 }
 
 /// What an error of `clap` comes to: a help text that was asked for, or why the words are no command.
-fn refused(alloc: Global, error: &Error) -> Result<WordsFault, AllocError>
+fn fault_of_error(alloc: Global, error: &Error) -> Result<WordsFault, AllocError>
     ensures { IfOk result (IsAnsweredBy (kind_of error.now)) }
 {
     match error.kind() {
@@ -311,16 +311,16 @@ fn refused(alloc: Global, error: &Error) -> Result<WordsFault, AllocError>
 /// variant, then a bad size. Words of `explain` that name no entry are refused in the same way as by `clap`; so are options beside
 /// `--algorithm` that the command does not have there, before a bad size, and `explore`, `hunt` or `shrink` with nothing to run.
 pub fn read_words(alloc: Global, words: &[String]) -> Result<Command, WordsFault>
-    ensures sized { IfOk result IsSized }
-    ensures command { IfOk result (λ command. Takes (texts_of words.now) (λ name given. IsCommand name given command)) }
-    ensures refused { IfErr result (IsRefusal (texts_of words.now)) }
+    ensures sized { IfOk result IsInRanges }
+    ensures command { IfOk result (λ command. TakesWords (texts_of words.now) (λ name given. IsCommand name given command)) }
+    ensures refused { IfErr result (IsWordsRefusal (texts_of words.now)) }
 
     // Of words with a bad variant or a bad size nothing else is answered, but that there is no memory.
-    ensures variant { Takes (texts_of words.now) HasBadVariant → Refuses result WordsFault.BadVariant }
-    ensures size { Takes (texts_of words.now) HasBadSize → Refuses result WordsFault.BadSize }
+    ensures variant { TakesWords (texts_of words.now) HasBadVariant → RefusesWords result WordsFault.BadVariant }
+    ensures size { TakesWords (texts_of words.now) HasBadSize → RefusesWords result WordsFault.BadSize }
 {
     match parser(alloc)?.try_get_matches_from(words) {
         Ok(matches) => command_in(alloc, &matches),
-        Err(error) => Err(refused(alloc, &error)?),
+        Err(error) => Err(fault_of_error(alloc, &error)?),
     }
 }

@@ -7,7 +7,7 @@ ghost use Rattle.cli.specs.Names.{name_of};
 use crate::explain::algorithm_refused::AlgorithmRefused;
 use crate::explain::meaning::Meaning;
 use crate::explain::refusals::of_refusal;
-use algorithms::LineFault;
+use algorithms::ReadFault;
 use rmecore::Refusal;
 
 const NO_HEADER: &str =
@@ -112,29 +112,29 @@ fn of_run(name: &'static str, text: &'static str) -> Meaning
 
 /// The meaning of a fault of an algorithm's text.
 #[tactic(auto, unfolding(crate::proofs::ExplainCommon::digits))]
-pub fn of_algorithm_fault(fault: LineFault) -> Meaning
+pub fn of_algorithm_fault(fault: ReadFault) -> Meaning
     ensures { result.name.now ≡ name_of (OfAlgorithm fault) }
 {
     match fault {
-        LineFault::NoHeader => of_text("algorithm fault 1", NO_HEADER),
-        LineFault::BadCharacter => of_text("algorithm fault 2", BAD_CHARACTER),
-        LineFault::NoNewline => of_text("algorithm fault 3", NO_NEWLINE),
-        LineFault::BadForm => of_text("algorithm fault 4", BAD_FORM),
-        LineFault::NameTaken => of_text("algorithm fault 5", NAME_TAKEN),
-        LineFault::UnknownName => of_text("algorithm fault 6", UNKNOWN_NAME),
-        LineFault::TwoAccesses => of_text("algorithm fault 7", TWO_ACCESSES),
-        LineFault::NotAssignable => of_text("algorithm fault 8", NOT_ASSIGNABLE),
-        LineFault::BadBlock => of_text("algorithm fault 9", BAD_BLOCK),
-        LineFault::BadLabel => of_text("algorithm fault 10", BAD_LABEL),
-        LineFault::Unset => of_text("algorithm fault 11", UNSET),
-        LineFault::Endless => of_text("algorithm fault 12", ENDLESS),
-        LineFault::NoStep => of_text("algorithm fault 13", NO_STEP),
-        LineFault::FallsOff => of_text("algorithm fault 14", FALLS_OFF),
-        LineFault::BadDeed => of_text("algorithm fault 15", BAD_DEED),
-        LineFault::TooBig => of_text("algorithm fault 16", TOO_BIG),
-        LineFault::BadCall => of_text("algorithm fault 17", BAD_CALL),
-        LineFault::NeverReached => of_text("algorithm fault 18", NEVER_REACHED),
-        LineFault::OutOfMemory => of_refusal(Refusal::OutOfMemory),
+        ReadFault::NoHeader => of_text("algorithm fault 1", NO_HEADER),
+        ReadFault::BadCharacter => of_text("algorithm fault 2", BAD_CHARACTER),
+        ReadFault::NoNewline => of_text("algorithm fault 3", NO_NEWLINE),
+        ReadFault::BadForm => of_text("algorithm fault 4", BAD_FORM),
+        ReadFault::NameTaken => of_text("algorithm fault 5", NAME_TAKEN),
+        ReadFault::UnknownName => of_text("algorithm fault 6", UNKNOWN_NAME),
+        ReadFault::TwoAccesses => of_text("algorithm fault 7", TWO_ACCESSES),
+        ReadFault::NotAssignable => of_text("algorithm fault 8", NOT_ASSIGNABLE),
+        ReadFault::BadBlock => of_text("algorithm fault 9", BAD_BLOCK),
+        ReadFault::BadLabel => of_text("algorithm fault 10", BAD_LABEL),
+        ReadFault::Unset => of_text("algorithm fault 11", UNSET),
+        ReadFault::Endless => of_text("algorithm fault 12", ENDLESS),
+        ReadFault::NoStep => of_text("algorithm fault 13", NO_STEP),
+        ReadFault::FallsOff => of_text("algorithm fault 14", FALLS_OFF),
+        ReadFault::BadDeed => of_text("algorithm fault 15", BAD_DEED),
+        ReadFault::TooBig => of_text("algorithm fault 16", TOO_BIG),
+        ReadFault::BadCall => of_text("algorithm fault 17", BAD_CALL),
+        ReadFault::NeverReached => of_text("algorithm fault 18", NEVER_REACHED),
+        ReadFault::OutOfMemory => of_refusal(Refusal::OutOfMemory),
     }
 }
 

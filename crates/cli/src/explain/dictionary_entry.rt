@@ -6,7 +6,7 @@ ghost use Rattle.cli.specs.Names.{name_of};
 use crate::explain::algorithm_refused::AlgorithmRefused;
 use crate::explain::meaning::meaning_of;
 use crate::explain::rule::Rule;
-use algorithms::LineFault as AlgorithmLineFault;
+use algorithms::ReadFault as AlgorithmLineFault;
 use redomail::Reply;
 use rmecore::{Fault, Found, Kind, Refusal};
 use rmeworld::Answer;

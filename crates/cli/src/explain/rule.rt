@@ -21,7 +21,7 @@ impl Rule {
 
     /// The rule's number, from 1 to 9.
     pub fn number(self) -> u64
-        ensures told { result ≡ number_of_rule self }
+        ensures reports { result ≡ number_of_rule self }
         ensures few { result ≤ 9 }
     {
         match self {

@@ -22,7 +22,7 @@ pub struct Meter<'a, S> {
     began: Option<u64>,
     /// The clock's milliseconds when the last line was shown, or when the work began.
     last: u64,
-    told: u64,
+    reports: u64,
     is_written: bool,
 }
 
@@ -35,7 +35,7 @@ impl<'a, S: Screen> Meter<'a, S> {
             work,
             began,
             last: began.unwrap_or(0),
-            told: 0,
+            reports: 0,
             is_written: false,
         }
     }
@@ -68,8 +68,8 @@ impl<'a, S: Screen> Watch for Meter<'a, S> {
         let Some(began) = self.began else {
             return;
         };
-        self.told = self.told.wrapping_add(1);
-        if self.told % SELDOM == 0 {
+        self.reports = self.reports.wrapping_add(1);
+        if self.reports % SELDOM == 0 {
             self.show(began, far, done);
         }
     }

@@ -2,7 +2,7 @@
 
 ghost use Rattle.std.specs.Prelude.{◌≡◌, IfErr, IfOk, option_copied, false};
 ghost use Rattle.algorithms.specs.Ranked.{LocalLinesEnd, AccessesLeadOn};
-ghost use Rattle.algorithm_texts.specs.Programs.{Spells};
+ghost use Rattle.algorithm_texts.specs.Programs.{SpellsAlgorithm};
 ghost use Rattle.commands.specs.AlgorithmReplays.{AlgorithmReplayEnds, fault_of_run, TellsAlgorithm};
 ghost use Rattle.commands.specs.AlgorithmTexts.{IsAlgorithmFault, TellsFault, text_of as text_in};
 ghost use Rattle.commands.specs.Endings.{IsEnded};
@@ -10,7 +10,7 @@ ghost use Rattle.commands.specs.Endings.{IsEnded};
 use crate::algorithm_fault::fault_numbered;
 use crate::schedules::ending::{Ending, status_after_verdict};
 use crate::schedules::fault::CommandFault;
-use crate::schedules::setting::schedule_read;
+use crate::schedules::play_start::schedule_read;
 use algorithm_lab::{AlgorithmReplayFault, replay_algorithm};
 use algorithm_texts::read_algorithm;
 use algorithms::{Algorithm, AlgorithmFault};
@@ -19,7 +19,7 @@ use std::alloc::Global;
 
 /// The command's fault for a fault of an algorithm's text.
 #[tactic(auto, using(crate::proofs::AlgorithmTexts::tells_fault))]
-fn unread(fault: AlgorithmFault) -> CommandFault
+fn text_fault(fault: AlgorithmFault) -> CommandFault
     ensures { TellsFault fault result }
 {
     match fault {
@@ -32,7 +32,7 @@ fn unread(fault: AlgorithmFault) -> CommandFault
 }
 
 /// The command's fault for a fault of a replay on an algorithm.
-pub(crate) fn unplayed(fault: AlgorithmReplayFault) -> CommandFault
+pub(crate) fn replay_fault(fault: AlgorithmReplayFault) -> CommandFault
     ensures { result ≡ fault_of_run fault }
 {
     match fault {
@@ -58,12 +58,12 @@ fn text_of(text: Option<&[u8]>) -> &[u8]
 /// The algorithm that the text of a file spells. A text that spells none is a fault, of its first faulty line.
 #[tactic(auto, using(crate::proofs::AlgorithmTexts::is_algorithm_fault))]
 pub(crate) fn algorithm_read(alloc: Global, text: Option<&[u8]>) -> Result<Algorithm, CommandFault>
-    ensures spells { IfOk result (Spells (text_in (option_copied text.entry))) }
+    ensures spells { IfOk result (SpellsAlgorithm (text_in (option_copied text.entry))) }
     ensures ends { IfOk result LocalLinesEnd }
     ensures leads { IfOk result AccessesLeadOn }
     ensures unread { IfErr result IsAlgorithmFault }
 {
-    read_algorithm(alloc, text_of(text)).map_err(unread)
+    read_algorithm(alloc, text_of(text)).map_err(text_fault)
 }
 
 /// Plays the schedule on the algorithm, and writes its report.
@@ -73,7 +73,7 @@ fn replay_on_algorithm<W: Sink>(
     schedule: &Schedule,
     w: &mut W,
 ) -> Result<Ending, CommandFault>
-    ensures told { TellsAlgorithm algorithm schedule.now (W.tape w.old) (W.tape w.new) result }
+    ensures reports { TellsAlgorithm algorithm schedule.now (W.tape w.old) (W.tape w.new) result }
     ensures ended { IfOk result (IsEnded false (W.tape w.old).failures (W.tape w.new).failures) }
 {
     match replay_algorithm(alloc, algorithm, schedule, w) {
@@ -81,7 +81,7 @@ fn replay_on_algorithm<W: Sink>(
             status: status_after_verdict(verdict),
             save: None,
         }),
-        Err(fault) => Err(unplayed(fault)),
+        Err(fault) => Err(replay_fault(fault)),
     }
 }
 

@@ -4,11 +4,11 @@ ghost use Rattle.std.specs.Prelude.{IfOk, option_copied, false};
 ghost use Rattle.commands.specs.AlgorithmDraws.{AlgorithmDrawEnds, DrawsAlgorithm};
 ghost use Rattle.commands.specs.Endings.{IsEnded};
 
-use crate::schedules::algorithm::{algorithm_read, unplayed};
+use crate::schedules::algorithm::{algorithm_read, replay_fault};
 use crate::schedules::drawn::style_of;
 use crate::schedules::ending::{Ending, status_after_verdict};
 use crate::schedules::fault::CommandFault;
-use crate::schedules::setting::schedule_read;
+use crate::schedules::play_start::schedule_read;
 use algorithms::Algorithm;
 use cli::arguments::args::AlgorithmDrawArgs;
 use diagram::draw_algorithm;
@@ -23,7 +23,7 @@ fn draw_on_algorithm<W: Sink>(
     svg: bool,
     w: &mut W,
 ) -> Result<Ending, CommandFault>
-    ensures told { DrawsAlgorithm svg algorithm schedule.now (W.tape w.old) (W.tape w.new) result }
+    ensures reports { DrawsAlgorithm svg algorithm schedule.now (W.tape w.old) (W.tape w.new) result }
     ensures ended { IfOk result (IsEnded false (W.tape w.old).failures (W.tape w.new).failures) }
 {
     match draw_algorithm(alloc, algorithm, schedule, style_of(svg), w) {
@@ -31,7 +31,7 @@ fn draw_on_algorithm<W: Sink>(
             status: status_after_verdict(verdict),
             save: None,
         }),
-        Err(fault) => Err(unplayed(fault)),
+        Err(fault) => Err(replay_fault(fault)),
     }
 }
 

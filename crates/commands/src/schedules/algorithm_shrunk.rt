@@ -4,11 +4,11 @@ ghost use Rattle.std.specs.Prelude.{IfOk, option_copied, false};
 ghost use Rattle.commands.specs.AlgorithmShrinks.{AlgorithmShrinkEnds, ShrinksAlgorithm};
 ghost use Rattle.commands.specs.Endings.{IsEnded};
 
-use crate::schedules::algorithm::{algorithm_read, unplayed};
+use crate::schedules::algorithm::{algorithm_read, replay_fault};
 use crate::schedules::ending::Ending;
 use crate::schedules::fault::CommandFault;
-use crate::schedules::setting::schedule_read;
-use crate::schedules::telling::{tell_fine, tell_schedule};
+use crate::schedules::findings::{tell_fine, tell_schedule};
+use crate::schedules::play_start::schedule_read;
 use algorithm_explorer::shrink_algorithm_schedule;
 use algorithms::Algorithm;
 use schedule::{Schedule, Sink, Source};
@@ -21,13 +21,13 @@ fn shrink_on_algorithm<W: Sink>(
     schedule: &Schedule,
     w: &mut W,
 ) -> Result<Ending, CommandFault>
-    ensures told { ShrinksAlgorithm algorithm schedule.now (W.tape w.old) (W.tape w.new) result }
+    ensures reports { ShrinksAlgorithm algorithm schedule.now (W.tape w.old) (W.tape w.new) result }
     ensures ended { IfOk result (IsEnded false (W.tape w.old).failures (W.tape w.new).failures) }
 {
     match shrink_algorithm_schedule(alloc, algorithm, schedule) {
         Ok(Some(least)) => tell_schedule(alloc, &least, w),
         Ok(None) => tell_fine(alloc, w),
-        Err(fault) => Err(unplayed(fault)),
+        Err(fault) => Err(replay_fault(fault)),
     }
 }
 

@@ -1,7 +1,7 @@
 //! The command `draw`.
 
 ghost use Rattle.std.specs.Prelude.{◌≡◌, IfErr, IfOk, IfSome, option_copied, false};
-ghost use Rattle.diagram.specs.Drawings.{diagram_layout_of, spelled};
+ghost use Rattle.diagram.specs.Drawings.{diagram_layout_of, drawing_text};
 ghost use Rattle.diagram.specs.Pages.{page_text};
 ghost use Rattle.judge.specs.Stands.{Keeps};
 ghost use Rattle.judge.specs.Starts.{IsStart, state_of};
@@ -11,15 +11,15 @@ ghost use Rattle.rmeworld.specs.ImageStart.{IsStartOf};
 ghost use Rattle.rmeworld.specs.Replayed.{image_of, world_behaviour};
 ghost use Rattle.rmeworld.specs.WorldState.{image_world as world_of_image};
 ghost use Rattle.commands.specs.Endings.{IsEnded, TellsReads};
-ghost use Rattle.commands.specs.Draws.{DrawEnds, drawn, style_of};
+ghost use Rattle.commands.specs.Draws.{DrawEnds, draw_manner, style_of};
 ghost use Rattle.commands.specs.Statuses.{status_after};
-ghost use Rattle.commands.specs.Tellings.{ending_of as ending_for, IsDrawingWritten, Paged, Tells, TellsImage, TellsNew, TellsSchedule, TellsVariant};
+ghost use Rattle.commands.specs.Tellings.{ending_of as ending_for, IsDrawingWritten, Paged, WritesRun, TellsImage, TellsNew, TellsSchedule, TellsVariant};
 ghost use Rattle.schedule.specs.Runs.{deeds_of, run_on};
 ghost use Rattle.schedule.specs.Verdicts.{verdict_on};
 
 use crate::schedules::ending::{Ending, status_after_verdict};
 use crate::schedules::fault::CommandFault;
-use crate::schedules::setting::{
+use crate::schedules::play_start::{
     fitting, image_read, image_world, new_judge, new_world, schedule_read, start_at, started_judge,
     variant_world,
 };
@@ -60,7 +60,7 @@ fn write_drawn<W: Sink>(
     w: &mut W,
 ) -> Result<Ending, CommandFault>
     ensures written { IsDrawingWritten (W.tape w.old) (W.tape w.new)
-        (spelled (diagram_layout_of style drawing.now.head drawing.now.rows.items drawing.now.end)
+        (drawing_text (diagram_layout_of style drawing.now.head drawing.now.rows.items drawing.now.end)
         drawing.now.first drawing.now.rows.items drawing.now.end) drawing.now.end result }
     ensures ended { IfOk result (IsEnded false (W.tape w.old).failures (W.tape w.new).failures) }
 {
@@ -105,10 +105,10 @@ fn page_machine<M: Machine, W: Sink>(
     w: &mut W,
 ) -> Result<Ending, CommandFault>
     ensures draws { (start : State) → Keeps judge.old start
-        → Tells Paged M.behaviour M.behaviour.image_of start machine.old first schedule.now (W.tape w.old) (W.tape w.new) result }
+        → WritesRun Paged M.behaviour M.behaviour.image_of start machine.old first schedule.now (W.tape w.old) (W.tape w.new) result }
     ensures status { (start : State) → Keeps judge.old start
         → IfOk result (λ ending. ending.status ≡ status_after
-        (verdict_on start (deeds_of (run_on M.behaviour 2 machine.old schedule.now.lines).told))) }
+        (verdict_on start (deeds_of (run_on M.behaviour 2 machine.old schedule.now.lines).reports))) }
     ensures ended { IfOk result (IsEnded false (W.tape w.old).failures (W.tape w.new).failures) }
 {
     let before = image_now(machine)?;
@@ -128,11 +128,11 @@ fn draw_machine<M: Machine, W: Sink>(
     w: &mut W,
 ) -> Result<Ending, CommandFault>
     ensures draws { (start : State) → Keeps judge.old start
-        → Tells (drawn args.now) M.behaviour M.behaviour.image_of start machine.old first schedule.now (W.tape w.old)
+        → WritesRun (draw_manner args.now) M.behaviour M.behaviour.image_of start machine.old first schedule.now (W.tape w.old)
         (W.tape w.new) result }
     ensures status { (start : State) → Keeps judge.old start
         → IfOk result (λ ending. ending.status ≡ status_after
-        (verdict_on start (deeds_of (run_on M.behaviour 2 machine.old schedule.now.lines).told))) }
+        (verdict_on start (deeds_of (run_on M.behaviour 2 machine.old schedule.now.lines).reports))) }
     ensures ended { IfOk result (IsEnded false (W.tape w.old).failures (W.tape w.new).failures) }
 {
     if args.html {
@@ -149,7 +149,7 @@ fn draw_new<W: Sink>(
     args: &DrawArgs,
     w: &mut W,
 ) -> Result<Ending, CommandFault>
-    ensures draws { TellsNew (drawn args.now) schedule.now (W.tape w.old) (W.tape w.new) result }
+    ensures draws { TellsNew (draw_manner args.now) schedule.now (W.tape w.old) (W.tape w.new) result }
     ensures fine { IfOk result (λ ending. ending.status ≡ 0) }
     ensures ended { IfOk result (IsEnded false (W.tape w.old).failures (W.tape w.new).failures) }
 {
@@ -175,7 +175,7 @@ fn draw_variant<W: Sink>(
     args: &DrawArgs,
     w: &mut W,
 ) -> Result<Ending, CommandFault>
-    ensures draws { TellsVariant variant (drawn args.now) schedule.now (W.tape w.old) (W.tape w.new) result }
+    ensures draws { TellsVariant variant (draw_manner args.now) schedule.now (W.tape w.old) (W.tape w.new) result }
     ensures ended { IfOk result (IsEnded false (W.tape w.old).failures (W.tape w.new).failures) }
 {
     let mut world = variant_world(alloc, variant, schedule)?;
@@ -203,7 +203,7 @@ fn draw_started<W: Sink>(
     requires lawful { IsLawfulImage image.now }
     requires begins { IsStartOf image.now start.now }
     requires judged { IsStart start.now }
-    ensures draws { Tells (drawn args.now) world_behaviour image_of (state_of start.now) (world_of_image image.now)
+    ensures draws { WritesRun (draw_manner args.now) world_behaviour image_of (state_of start.now) (world_of_image image.now)
         LifelinePhase.Dead schedule.now (W.tape w.old) (W.tape w.new) result }
     ensures fine { IfOk result (λ ending. ending.status ≡ 0) }
     ensures ended { IfOk result (IsEnded false (W.tape w.old).failures (W.tape w.new).failures) }
@@ -231,7 +231,7 @@ fn draw_image<W: Sink>(
     w: &mut W,
 ) -> Result<Ending, CommandFault>
     requires { IsLawfulImage image }
-    ensures draws { TellsImage image (drawn args.now) schedule.now (W.tape w.old) (W.tape w.new) result }
+    ensures draws { TellsImage image (draw_manner args.now) schedule.now (W.tape w.old) (W.tape w.new) result }
     ensures fine { IfOk result (λ ending. ending.status ≡ 0) }
     ensures ended { IfOk result (IsEnded false (W.tape w.old).failures (W.tape w.new).failures) }
 {
@@ -249,7 +249,7 @@ fn draw_schedule<W: Sink>(
     w: &mut W,
 ) -> Result<Ending, CommandFault>
     requires { IfSome image IsLawfulImage }
-    ensures draws { TellsSchedule args.now.variant image (drawn args.now) schedule.now (W.tape w.old) (W.tape w.new) result }
+    ensures draws { TellsSchedule args.now.variant image (draw_manner args.now) schedule.now (W.tape w.old) (W.tape w.new) result }
     ensures fine { args.now.variant ≡ Variant.Right → IfOk result (λ ending. ending.status ≡ 0) }
     ensures ended { IfOk result (IsEnded false (W.tape w.old).failures (W.tape w.new).failures) }
 {

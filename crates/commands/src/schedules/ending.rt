@@ -14,7 +14,7 @@ pub struct Ending {
 
 /// The exit status after a verdict: 0 if it is fine, 1 if it is against.
 pub fn status_after_verdict(verdict: Verdict) -> u8
-    ensures told { result ≡ status_after verdict }
+    ensures reports { result ≡ status_after verdict }
     ensures few { result ≤ 1 }
 {
     match verdict {

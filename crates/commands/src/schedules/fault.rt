@@ -4,7 +4,7 @@ ghost use Rattle.std.specs.Prelude.{◌≡◌, ◌≤◌};
 ghost use Rattle.commands.specs.declared.schedules.fault.CommandFault.TheVariants.{OutOfMemory};
 ghost use Rattle.commands.specs.Statuses.{fault_of_replay, fault_of_text};
 
-use algorithms::LineFault;
+use algorithms::ReadFault;
 use schedule::{OutOfMemory as NoMemory, ReplayFault, TextFault};
 use std::alloc::{AllocError, AllocFailed};
 use thiserror::Error;
@@ -23,7 +23,7 @@ pub enum CommandFault {
     Image { rule: u64 },
     /// This line of the algorithm's text is at fault; lines count from 1.
     #[error("algorithm line {line}: {fault}")]
-    Algorithm { line: u64, fault: LineFault },
+    Algorithm { line: u64, fault: ReadFault },
     /// There is no such variant, it isn't `right` beside an image, or it, an image or a file for the last image is beside an
     /// algorithm.
     #[error("bad variant")]
@@ -54,7 +54,7 @@ impl CommandFault {
     /// The exit status: 2 for a fault of the input; 3 for a fault of a device, of memory or of a member, and for too many
     /// states in a search.
     pub fn status(self) -> u8
-        ensures told { result ≡ status_of self }
+        ensures reports { result ≡ status_of self }
         ensures least { 2 ≤ result }
     {
         match self {

@@ -4,14 +4,14 @@ ghost use Rattle.std.specs.Prelude.{◌≡◌, ◌+◌, ◌≤◌, ◌++◌, ◌
 ghost use Rattle.std.specs.Fmt.{decimal};
 ghost use Rattle.commands.specs.AlgorithmExplores.{all_line_but};
 ghost use Rattle.commands.specs.AlgorithmFaults.{number_of_text_fault, sentence_of};
-ghost use Rattle.commands.specs.Lines.{fault_line, IsTold};
-ghost use Rattle.commands.specs.Starving.{starves_line as starves_line_by};
+ghost use Rattle.commands.specs.Lines.{fault_line, IsLineWritten};
+ghost use Rattle.commands.specs.Starvation.{starves_line as starves_line_by};
 ghost use Rattle.commands.specs.Statuses.{status_of};
 
 use crate::algorithm_fault::{number_of_text_fault, sentence_of};
 use crate::schedules::fault::CommandFault;
 use algorithm_explorer::LeftOut;
-use algorithms::LineFault;
+use algorithms::ReadFault;
 use arrayvec::ArrayString;
 use itoa::Buffer;
 use schedule::Sink;
@@ -40,7 +40,7 @@ fn line_of_place(at: u64, cause: &str, number: u64) -> ArrayString<128>
 }
 
 /// The line for a fault of a line of an algorithm's text.
-fn line_of_algorithm(at: u64, fault: LineFault) -> ArrayString<128>
+fn line_of_algorithm(at: u64, fault: ReadFault) -> ArrayString<128>
     ensures { result.bytes ≡ codes "rmelab: algorithm line " ++ decimal at ++ codes ": fault " ++ decimal (number_of_text_fault fault)
         ++ codes ": " ++ sentence_of fault ++ 10 ∷ [] }
 {
@@ -119,10 +119,10 @@ pub fn line_of(fault: CommandFault) -> ArrayString<128>
 
 /// Writes the one line of a fault to `e`, and answers its exit status. It needs no memory. A failed write is ignored: the
 /// exit status still says that there was a fault.
-pub fn told<E: Sink>(fault: CommandFault, e: &mut E) -> u8
+pub fn write_fault<E: Sink>(fault: CommandFault, e: &mut E) -> u8
     ensures status { result ≡ status_of fault }
     ensures least { 2 ≤ result }
-    ensures line { IsTold (E.tape e.old) (E.tape e.new) (fault_line fault) }
+    ensures line { IsLineWritten (E.tape e.old) (E.tape e.new) (fault_line fault) }
 {
     let line = line_of(fault);
     let _ = write_all(e, line.as_bytes());

@@ -6,8 +6,8 @@ ghost use Rattle.commands.specs.Shrinks.{ShrinkEnds, ShrinksSchedule};
 
 use crate::schedules::ending::Ending;
 use crate::schedules::fault::CommandFault;
-use crate::schedules::setting::schedule_read;
-use crate::schedules::telling::{tell_fine, tell_schedule};
+use crate::schedules::findings::{tell_fine, tell_schedule};
+use crate::schedules::play_start::schedule_read;
 use cli::arguments::args::ShrinkArgs;
 use crashlab::{Variant, shrink};
 use schedule::{Schedule, Sink, Source};

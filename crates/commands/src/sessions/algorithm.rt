@@ -5,15 +5,15 @@ ghost use Rattle.algorithms.specs.Worlds.{new_refusal};
 ghost use Rattle.algorithm_lab.specs.Monitors.{first_monitor};
 ghost use Rattle.commands.specs.AlgorithmSessions.{HasNoHeader, HasNoWorld, RefusesText, SessionOn};
 ghost use Rattle.commands.specs.AlgorithmTexts.{HoldsOfAlgorithm};
-ghost use Rattle.commands.specs.Conversations.{Opens};
+ghost use Rattle.commands.specs.Conversations.{OpensSession};
 ghost use Rattle.commands.specs.Endings.{FailsToRead, IsEnded};
 
 use crate::folder::Folder;
-use crate::schedules::algorithm::{algorithm_read, unplayed};
+use crate::schedules::algorithm::{algorithm_read, replay_fault};
 use crate::schedules::ending::Ending;
 use crate::schedules::fault::CommandFault;
 use crate::sessions::conversation::converse;
-use crate::sessions::holding::{header_text, schedule_of, write_state};
+use crate::sessions::session_loop::{header_text, schedule_of, write_state};
 use algorithm_lab::{AlgorithmReplayFault, Monitor, RunRefusal};
 use algorithms::Algorithm;
 use diagram::Session;
@@ -27,7 +27,7 @@ fn header_read<R: Source>(
     buffer: &mut Vec<u8>,
 ) -> Result<Schedule, CommandFault>
     requires { buffer.old.items ≡ [] }
-    ensures opens { IfOk result (Opens None (R.reading r.old) (R.reading r.new) buffer.new.items) }
+    ensures opens { IfOk result (OpensSession None (R.reading r.old) (R.reading r.new) buffer.new.items) }
     ensures unread { IfErr result (λ fault. FailsToRead (R.reading r.old) (R.reading r.new) fault
         ⊎ HasNoHeader (R.reading r.old) (R.reading r.new) fault) }
 {
@@ -48,7 +48,7 @@ fn monitor_of(
     let head = schedule.head();
     match Monitor::new(alloc, algorithm, head.procs, head.limit) {
         Ok(monitor) => Ok(monitor),
-        Err(refusal) => Err(unplayed(AlgorithmReplayFault::Refused {
+        Err(refusal) => Err(replay_fault(AlgorithmReplayFault::Refused {
             line: 1,
             refusal: RunRefusal::Refused(refusal),
         })),

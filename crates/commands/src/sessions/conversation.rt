@@ -3,15 +3,15 @@
 ghost use Rattle.std.specs.Prelude.{◌≡◌, ◌⊎◌, ◌↔◌, ◌++◌, ◌∷◌, ℕ, Bool, ◌+◌, ◌-◌, ◌^◌, List, IfErr, IfOk, IfSome, IfNone, OnErr, OnOk, [], codes, min, true};
 ghost use Rattle.schedule.specs.Schedules.{spelling};
 ghost use Rattle.schedule.specs.Words.{parts_of};
-ghost use Rattle.diagram.specs.declared.session.opened.Reply.TheVariants.{Quits as ReplyQuits};
-ghost use Rattle.commands.specs.Conversations.{after_line, file_in, HoldsSession, IsAnswer, IsBegun, IsKept, last_text, saved_text, WritesFile, WritesOr};
+ghost use Rattle.diagram.specs.declared.session.opened.SessionReply.TheVariants.{Quits as ReplyQuits};
+ghost use Rattle.commands.specs.Conversations.{after_line, file_in, HoldsSession, IsAnswer, IsBegun, IsSaved, last_text, saved_text, WritesFile, WritesOr};
 ghost use Rattle.diagram.specs.Sessions.{fault_text, next_number, reply_to, request_in};
 
 use crate::folder::Folder;
-use diagram::session::saying::put_fault;
-use diagram::{Reply, Session, Simulation};
+use diagram::session::session_lines::put_fault;
+use diagram::{Session, SessionReply, Simulation};
 use schedule::lines::cut::cut_once;
-use schedule::lines::words::Words;
+use schedule::lines::words::LineWords;
 use schedule::texts::device::write_all;
 use schedule::{Failed, LineFault, ReplayFault, Sink, Source, write_schedule};
 use std::alloc::{AllocError, Global};
@@ -67,7 +67,7 @@ pub fn next_line<S: Source>(
 fn file_of(line: &[u8]) -> &[u8]
     ensures { result.now ≡ file_in line.now }
 {
-    let mut words = Words::of(line);
+    let mut words = LineWords::of(line);
     let _ = words.next();
     words.next().unwrap_or(b"")
 }
@@ -79,7 +79,7 @@ fn keep<F: Folder>(
     file: &[u8],
     text: &Vec<u8>,
 ) -> Result<bool, AllocError>
-    ensures kept { IfOk result (IsKept (F.used folder.old) (F.used folder.new) file.now text.now.items) }
+    ensures kept { IfOk result (IsSaved (F.used folder.old) (F.used folder.new) file.now text.now.items) }
     ensures unkept { OnErr result (F.used folder.new ≡ F.used folder.old) }
     ensures opened { (F.used folder.new).opened ≡ (F.used folder.old).opened }
 {
@@ -98,7 +98,7 @@ fn save<V: Simulation, F: Folder>(
     folder: &mut F,
     page: &mut Vec<u8>,
 ) -> Result<(), AllocError>
-    ensures kept { OnOk result ((done : Bool) × IsKept (F.used folder.old) (F.used folder.new) (file_in line.now)
+    ensures kept { OnOk result ((done : Bool) × IsSaved (F.used folder.old) (F.used folder.new) (file_in line.now)
         (spelling session.now.schedule) done × (page.new.items ≡ page.old.items ++ saved_text done)) }
     ensures broken { OnErr result ((F.used folder.new ≡ F.used folder.old)
         ⊎ WritesFile (F.used folder.old) (F.used folder.new) (file_in line.now) (spelling session.now.schedule)) }
@@ -129,12 +129,12 @@ fn reply<V: Simulation, F: Folder>(
     ensures ends { IfOk result (λ ends. ends ≡ true ↔ (reply_to (request_in session.old line.now) ≡ ReplyQuits)) }
 {
     match session.answer(alloc, line, page)? {
-        Reply::Goes => Ok(false),
-        Reply::Saves => {
+        SessionReply::Goes => Ok(false),
+        SessionReply::Saves => {
             save(alloc, session, line, folder, page)?;
             Ok(false)
         }
-        Reply::Quits => Ok(true),
+        SessionReply::Quits => Ok(true),
     }
 }
 

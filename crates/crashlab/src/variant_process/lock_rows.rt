@@ -4,7 +4,7 @@ ghost use Rattle.std.specs.Prelude.{◌≡◌, ◌<◌, ◌+◌, ℕ, false, Som
 ghost use Rattle.rmecore.specs.Machine.{place_of};
 ghost use Rattle.crashlab.specs.Variants.{lock_or_recover as lock_or_recover_of};
 ghost use Rattle.rmeworld.specs.declared.script_state.ScriptState.TheVariants.{Free};
-ghost use Rattle.rmeworld.specs.MachineState.{next_access, stepped};
+ghost use Rattle.rmeworld.specs.MachineState.{next_access, machine_after_step};
 ghost use Rattle.crashlab.specs.VariantStands.{changed_row as row_of, weighing_row as weighing_row_of, tied_row as tied_row_of, taken_row as taken_row_of, inside_row as inside_row_of, outside_at};
 
 use crate::deviation::Deviation;
@@ -43,7 +43,7 @@ fn machine_state_outside(process: &mut Process, to: Stage)
 
 /// Takes the lock's step, and leaves the process outside the section.
 fn feed_outside(process: &mut Process, value: u64)
-    ensures { process.new ≡ outside_at (stepped process.old value) (stepped process.old value).lock }
+    ensures { process.new ≡ outside_at (machine_after_step process.old value) (machine_after_step process.old value).lock }
 {
     process.feed(value);
     let stage = stage_of(process);
@@ -156,7 +156,7 @@ fn lock_or_recover(call: CoreCall) -> CoreCall
 }
 
 impl VariantProcess {
-    ghost use Rattle.crashlab.specs.VariantStands.{unless_changed, plain_outcome, led, by_row, over_way, part_beside, part_outcome, silent_outcome};
+    ghost use Rattle.crashlab.specs.VariantStands.{unless_changed, plain_outcome, process_led_to, by_row, over_way, part_beside, part_outcome, silent_outcome};
 
     /// Takes a step of a variant that changes rows of the lock.
     pub(super) fn feed_by_rows(&mut self, value: u64) -> Outcome
@@ -214,7 +214,8 @@ impl VariantProcess {
     /// Goes where such a row leads.
     fn go(&mut self, to: Stage, deviation: Deviation)
         requires { self.old.machine_state.script_state ≡ Free }
-        ensures { self.new ≡ led self.old (place_of self.old.machine_state.layout.procs self.old.machine_state.index to) deviation }
+        ensures { self.new
+            ≡ process_led_to self.old (place_of self.old.machine_state.layout.procs self.old.machine_state.index to) deviation }
     {
         match deviation {
             Deviation::Straight => self.process.seam_machine_state(to),

@@ -239,7 +239,7 @@ fn is_too_many(alloc: Global, variables: Variables, moves: u64, states: u64) -> 
 }
 
 #[test]
-fn more_states_than_may_be_kept_are_told(rt: HostRuntime) {
+fn more_states_than_may_be_kept_are_reported(rt: HostRuntime) {
     assert!(rt; is_too_many(rt.alloc(), Variables::All, 1_000, 7_728));
     assert!(rt; is_too_many(rt.alloc(), Variables::Live, 1_000, 6_030));
 }

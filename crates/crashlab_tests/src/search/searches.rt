@@ -141,14 +141,14 @@ fn any_number_of_threads_answers_the_same_at_the_bounds(rt: HostRuntime) {
 
 /// What a search showed its watcher: how many states, the sum of the moves to them, and the first and the last call.
 #[derive(Drop)]
-struct Told {
+struct Report {
     times: u64,
     moves: u64,
     first: (u64, u64),
     last: (u64, u64),
 }
 
-impl Watch for Told {
+impl Watch for Report {
     fn see(&mut self, moves: u64, states: u64) {
         if self.times == 0 {
             self.first = (moves, states);
@@ -161,16 +161,16 @@ impl Watch for Told {
 
 /// The levels have 1, 2, 3, 2, 2, 2, 2 and 2 states.
 #[test]
-fn each_state_is_told_once(rt: HostRuntime) {
-    let mut told = Told {
+fn each_state_is_reported_once(rt: HostRuntime) {
+    let mut reports = Report {
         times: 0,
         moves: 0,
         first: (0, 0),
         last: (0, 0),
     };
-    let is_nowhere = search(rt.alloc(), empty(7), 100, 16, &mut told)
+    let is_nowhere = search(rt.alloc(), empty(7), 100, 16, &mut reports)
         == Ok(SearchOutcome::Nowhere(16));
     assert!(rt; is_nowhere);
-    assert!(rt; told.times == 16 && told.moves == 58);
-    assert!(rt; told.first == (0, 1) && told.last == (7, 16));
+    assert!(rt; reports.times == 16 && reports.moves == 58);
+    assert!(rt; reports.first == (0, 1) && reports.last == (7, 16));
 }

@@ -48,17 +48,17 @@ fn front(text: &[u8], lines: u64) -> &[u8] {
     text.get(..taken).unwrap_or(text)
 }
 
-/// The first `told` lines of the report, and then this end.
-fn report_of(alloc: Global, told: u64, stands: &[u8]) -> Result<Vec<u8>, AllocError> {
-    let mut report = Vec::from_slice(alloc, front(REPORT, told))?;
+/// The first `reports` lines of the report, and then this end.
+fn report_of(alloc: Global, reports: u64, stands: &[u8]) -> Result<Vec<u8>, AllocError> {
+    let mut report = Vec::from_slice(alloc, front(REPORT, reports))?;
     report.extend_from_slice(stands)?;
     Ok(report)
 }
 
 /// Whether the first `lines` lines give that report, also where a write fails.
-fn is_cut_off(alloc: Global, lines: u64, told: u64, stands: &[u8]) -> bool {
+fn is_cut_off(alloc: Global, lines: u64, reports: u64, stands: &[u8]) -> bool {
     let schedule = front(TORN, lines);
-    match report_of(alloc, told, stands) {
+    match report_of(alloc, reports, stands) {
         Ok(report) => replays(alloc, schedule, &report) && writes_fail(alloc, schedule, &report),
         Err(_) => false,
     }
@@ -67,11 +67,11 @@ fn is_cut_off(alloc: Global, lines: u64, told: u64, stands: &[u8]) -> bool {
 #[test]
 fn reports_of_beginnings(rt: HostRuntime) {
     let mut lines = 0u64;
-    for told in TOLD.split(' ') {
+    for reports in TOLD.split(' ') {
         lines = lines.saturating_add(1);
-        let told = told.parse::<u64>().unwrap_or(u64::MAX);
+        let reports = reports.parse::<u64>().unwrap_or(u64::MAX);
         assert!(rt;
-            is_cut_off(rt.alloc(), lines, told, end_of_report(lines)),
+            is_cut_off(rt.alloc(), lines, reports, end_of_report(lines)),
             "{lines} lines"
         );
     }

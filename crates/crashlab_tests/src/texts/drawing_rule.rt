@@ -1,7 +1,7 @@
 //! Hunts draw the schedules that a plain program draws by the same rule, and each case of the rule is met in them.
 
 use crate::texts::drawn::DRAWN;
-use crashlab::hunting::hunt;
+use crashlab::hunts::hunt;
 use crashlab::{Variant, VariantWorld};
 use redomail::Reply;
 use rmecore::{Body, Refusal};

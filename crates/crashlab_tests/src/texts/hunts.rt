@@ -1,6 +1,6 @@
 //! What the hunt finds, and what it refuses.
 
-use crashlab::hunting::hunt;
+use crashlab::hunts::hunt;
 use crashlab::{HuntFault, Variant};
 use std::alloc::Global;
 

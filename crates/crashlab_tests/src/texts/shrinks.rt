@@ -1,6 +1,6 @@
 //! Minimized schedules.
 
-use crashlab::hunting::hunt;
+use crashlab::hunts::hunt;
 use crashlab::{Variant, shrink, shrink_found};
 use schedule::{ReplayFault, Schedule, read_schedule, write_schedule};
 use std::alloc::Global;

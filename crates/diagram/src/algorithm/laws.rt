@@ -10,5 +10,5 @@ ghost use Rattle.diagram.specs.AlgorithmRows.{reported_in, with_events};
 /// The rows of a drawing report just what the run of its lines reports, in order.
 pub fn rows_report_their_run()
     ensures { (k : ℕ) (m : MonitorState) (lines : List Line)
-        → reported_in (with_events [] (events_on m lines)) ≡ (run_on k m lines).told }
+        → reported_in (with_events [] (events_on m lines)) ≡ (run_on k m lines).reports }
 {}

@@ -2,15 +2,15 @@
 
 ghost use Rattle.std.specs.Prelude.{◌≡◌, ◌++◌, OnOk};
 ghost use Rattle.diagram.specs.AlgorithmEvents.{act_of as act_in, lifeline_phase as phase_in};
-ghost use Rattle.diagram.specs.AlgorithmRows.{access_sign, answer_told, blocked_sign, deed_told as deed_in, load_sign, mark_of as mark_in, shown_in, sign_of, wide_of as wide_in, word_sign};
+ghost use Rattle.diagram.specs.AlgorithmRows.{access_sign, answer_reported, blocked_sign, deed_report as deed_in, load_sign, mark_of as mark_in, shown_in, sign_of, wide_of as wide_in, word_sign};
 
 use crate::mark::Mark;
-use crate::paging::{put_indexed, put_piece, put_text};
+use crate::page_parts::{put_indexed, put_piece, put_text};
 use crate::phase::LifelinePhase;
 use crate::shown_row::{Row, ShownRow, sign_width};
-use algorithm_lab::Told;
-use algorithm_lab::report::put_told;
-use algorithms::{Access, Address, Advanced, Algorithm};
+use algorithm_lab::TextReport;
+use algorithm_lab::report::put_reports;
+use algorithms::{Address, Advanced, Algorithm, WordAccess};
 use redomail::Deed;
 use rmecore::Phase;
 use std::alloc::AllocError;
@@ -19,7 +19,7 @@ use std::alloc::AllocError;
 #[derive(Clone, Copy, Debug, PartialEq, Eq)]
 pub enum AlgorithmAct {
     /// A step, with the value that it loads or stores.
-    Took(Access, u64),
+    Took(WordAccess, u64),
     /// A blocked reading of a word, with its value. It counts how often it was taken with no other step between.
     Blocked(Address, u64, u64),
     /// Nothing more: a further line of what the row before it reports.
@@ -34,7 +34,7 @@ pub struct AlgorithmRow {
     pub act: AlgorithmAct,
     /// The phase that it leads to. None where the process stays in its phase.
     pub phase: Option<LifelinePhase>,
-    pub told: Option<Told>,
+    pub reports: Option<TextReport>,
 }
 
 /// A step, as it is drawn.
@@ -92,7 +92,7 @@ fn put_load(
 fn put_access(
     out: &mut Vec<u8>,
     algorithm: &Algorithm,
-    access: Access,
+    access: WordAccess,
     value: u64,
 ) -> Result<(), AllocError>
     ensures { OnOk result (out.new.items ≡ out.old.items ++ access_sign algorithm.now access value) }
@@ -163,26 +163,30 @@ fn mark_of(act: AlgorithmAct) -> Mark
 }
 
 /// The deed in what a row reports.
-fn deed_told(told: Option<Told>) -> Option<Deed>
-    ensures { result ≡ deed_in told }
+fn deed_report(reports: Option<TextReport>) -> Option<Deed>
+    ensures { result ≡ deed_in reports }
 {
-    match told {
-        Some(Told::Did(outer)) => Some(Deed::Outer(outer)),
-        Some(Told::Answered(..)) | None => None,
+    match reports {
+        Some(TextReport::Did(outer)) => Some(Deed::Outer(outer)),
+        Some(TextReport::Answered(..)) | None => None,
     }
 }
 
 /// Writes the line of the answer in what a row reports.
-fn put_answer_told(
+fn put_answer_report(
     out: &mut Vec<u8>,
     algorithm: &Algorithm,
-    told: Option<Told>,
+    reports: Option<TextReport>,
 ) -> Result<(), AllocError>
-    ensures { OnOk result (out.new.items ≡ out.old.items ++ answer_told algorithm.now told) }
+    ensures { OnOk result (out.new.items ≡ out.old.items ++ answer_reported algorithm.now reports) }
 {
-    match told {
-        Some(Told::Answered(p, answer)) => put_told(out, algorithm, Told::Answered(p, answer)),
-        Some(Told::Did(_)) | None => Ok(()),
+    match reports {
+        Some(TextReport::Answered(p, answer)) => put_reports(
+            out,
+            algorithm,
+            TextReport::Answered(p, answer),
+        ),
+        Some(TextReport::Did(_)) | None => Ok(()),
     }
 }
 
@@ -195,12 +199,12 @@ impl Row for AlgorithmRow {
         shown.sign.clear();
         put_sign(&mut shown.sign, names, self.act)?;
         shown.answer.clear();
-        put_answer_told(&mut shown.answer, names, self.told)?;
+        put_answer_report(&mut shown.answer, names, self.reports)?;
         shown.p = self.p;
         shown.wide = wide_of(self.act);
         shown.mark = mark_of(self.act);
         shown.phase = self.phase;
-        shown.deed = deed_told(self.told);
+        shown.deed = deed_report(self.reports);
         Ok(())
     }
 }

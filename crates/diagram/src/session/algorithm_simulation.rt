@@ -3,8 +3,8 @@
 ghost use Rattle.algorithm_lab.proofs.Restarts.{restarted_twice};
 ghost use Rattle.diagram.specs.AlgorithmSimulations.{algorithm_semantics, begins_after_line};
 
-use crate::session::algorithm_standing::put_algorithm_state;
-use crate::session::algorithm_stepping::{count_steps, number_of_refusal, put_line};
+use crate::session::algorithm_line_play::{count_steps, number_of_refusal, put_line};
+use crate::session::algorithm_positions::put_algorithm_state;
 use crate::session::simulation::Simulation;
 use algorithm_lab::Monitor;
 use schedule::texts::head::Head;

@@ -3,7 +3,7 @@
 ghost use Rattle.std.specs.Prelude.{◌≡◌, IfOk};
 ghost use Rattle.diagram.specs.LastSteps.{access_in, no_last_steps, last_steps_with};
 
-use crate::act::{Act, DiagramRow};
+use crate::act::{DiagramRow, RowAct};
 use crate::phase::{LifelinePhase, phase_shown};
 use rmecore::Happened;
 use std::alloc::{AllocError, Global};
@@ -25,13 +25,13 @@ impl Model for LastSteps {
 }
 
 /// The access of a row; a crash has none.
-fn access_of(act: &Act) -> Option<Happened>
+fn access_of(act: &RowAct) -> Option<Happened>
     ensures { result ≡ access_in act.now }
 {
     match act {
-        Act::Silent(happened, _) => Some(*happened),
-        Act::Telling(stepped) => Some(stepped.happened),
-        Act::Fell(_) => None,
+        RowAct::Silent(happened, _) => Some(*happened),
+        RowAct::Telling(stepped) => Some(stepped.happened),
+        RowAct::Fell(_) => None,
     }
 }
 

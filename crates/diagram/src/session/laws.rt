@@ -12,7 +12,7 @@ ghost use Rattle.diagram.specs.AlgorithmEvents.{events_on as events_of_algorithm
 ghost use Rattle.diagram.specs.AlgorithmSimulations.{algorithm_semantics, events_text};
 ghost use Rattle.diagram.specs.DiagramLayouts.{layout_of};
 ghost use Rattle.diagram.specs.Events.{events_on};
-ghost use Rattle.diagram.specs.Followed.{followed};
+ghost use Rattle.diagram.specs.Followed.{run_text};
 ghost use Rattle.diagram.specs.LockSimulations.{LockSimulationState, lock_semantics};
 ghost use Rattle.diagram.specs.Semantics.{lines_on};
 ghost use Rattle.diagram.specs.Sessions.{IsOfSchedule, SessionState, after_redo, after_undo, at_schedule, lines_text};
@@ -42,7 +42,7 @@ pub fn undo_leads_back<S: Simulation>()
 pub fn steps_are_those_of_the_run()
     ensures steps { (head : Head) (lock : LockSimulationState) (lines : List Line)
         → (run_on world_behaviour 2 lock.world lines).refused ≡ None → lines_text lock_semantics head lock lines
-        ≡ followed (layout_of head) lock.last_steps.phases (events_on world_behaviour lock.world lines) }
+        ≡ run_text (layout_of head) lock.last_steps.phases (events_on world_behaviour lock.world lines) }
     ensures world { (lock : LockSimulationState) (lines : List Line)
         → (run_on world_behaviour 2 lock.world lines).refused ≡ None
         → (lines_on lock_semantics.after lock lines).world ≡ (run_on world_behaviour 2 lock.world lines).left }

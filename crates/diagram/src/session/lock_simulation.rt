@@ -7,9 +7,9 @@ ghost use Rattle.diagram.specs.Semantics.{lines_on};
 
 use crate::diagram_layout::layout_of;
 use crate::session::last_steps::LastSteps;
+use crate::session::line_play::play_line;
+use crate::session::positions::put_state;
 use crate::session::simulation::Simulation;
-use crate::session::standing::put_state;
-use crate::session::stepping::play_line;
 use crate::session::way::steps_to_answer;
 use redomail::Layout;
 use rmeworld::World;

@@ -5,13 +5,13 @@ ghost use Rattle.diagram.specs.LockSimulations.{lock_session};
 ghost use Rattle.diagram.specs.Semantics.{lines_on};
 ghost use Rattle.diagram.specs.Sessions.{after_redo, after_request, after_undo, answer_text_by};
 ghost use Rattle.diagram.specs.Sessions.{answered_by, at_schedule, last_line as last_line_in, play_text, played};
-ghost use Rattle.diagram.specs.Sessions.{redo_text, refusal_in, reply_to, request_in, shortened as shortened_in};
+ghost use Rattle.diagram.specs.Sessions.{redo_text, refusal_in, reply_to, request_in, without_last_line as shortened_in};
 ghost use Rattle.diagram.specs.Sessions.{standing_text, state_of, text_of_request, undo_text, way_of};
 
-use crate::paging::{put_around, put_text};
+use crate::page_parts::{put_around, put_text};
 use crate::session::lock_simulation::LockSimulation;
 use crate::session::request::{Request, read_request};
-use crate::session::saying::{put_fault, put_help};
+use crate::session::session_lines::{put_fault, put_help};
 use crate::session::simulation::Simulation;
 use schedule::texts::head::Head;
 use schedule::{Line, Schedule};
@@ -20,7 +20,7 @@ use std::marker::Model;
 
 /// What is to be done after a line of a session was answered.
 #[derive(Clone, Copy, Debug, PartialEq, Eq)]
-pub enum Reply {
+pub enum SessionReply {
     /// The next line is awaited.
     Goes,
     /// The schedule so far is to be saved to the file that the line names.
@@ -67,7 +67,7 @@ fn last_line(lines: &[Line]) -> Option<Line>
 }
 
 /// The schedule without its last line.
-fn shortened(alloc: Global, schedule: &Schedule) -> Result<Schedule, AllocError>
+fn without_last_line(alloc: Global, schedule: &Schedule) -> Result<Schedule, AllocError>
     ensures { IfOk result (λ shorter. shorter ≡ shortened_in schedule.now) }
 {
     let head = schedule.head();
@@ -184,7 +184,7 @@ impl<S: Simulation> Session<S> {
         let Some(line) = last_line(self.schedule.lines()) else {
             return put_text(out, b"nothing to undo\n");
         };
-        self.schedule = shortened(alloc, &self.schedule)?;
+        self.schedule = without_last_line(alloc, &self.schedule)?;
         go_to(alloc, &mut self.simulation, &self.schedule)?;
         self.undone.push(line)?;
         self.put_state(out)
@@ -223,7 +223,7 @@ impl<S: Simulation> Session<S> {
         alloc: Global,
         request: &Request,
         out: &mut Vec<u8>,
-    ) -> Result<Reply, AllocError>
+    ) -> Result<SessionReply, AllocError>
         ensures text { OnOk result (out.new.items ≡ out.old.items ++ text_of_request S.semantics self.old (Ok request.now)) }
         ensures session { OnOk result (self.new ≡ after_request S.semantics self.old (Ok request.now)) }
         ensures reply { IfOk result (λ reply. reply ≡ reply_to (Ok request.now)) }
@@ -234,10 +234,10 @@ impl<S: Simulation> Session<S> {
             Request::Redo => self.redo(alloc, out)?,
             Request::ToAnswer(p) => self.play_to_answer(alloc, *p, out)?,
             Request::Help => put_help(out)?,
-            Request::Save => return Ok(Reply::Saves),
-            Request::Quit => return Ok(Reply::Quits),
+            Request::Save => return Ok(SessionReply::Saves),
+            Request::Quit => return Ok(SessionReply::Quits),
         }
-        Ok(Reply::Goes)
+        Ok(SessionReply::Goes)
     }
 
     /// Answers a line of the input, without its LF. Where the line can't be read or is refused, its fault is written and
@@ -247,7 +247,7 @@ impl<S: Simulation> Session<S> {
         alloc: Global,
         line: &[u8],
         out: &mut Vec<u8>,
-    ) -> Result<Reply, AllocError>
+    ) -> Result<SessionReply, AllocError>
         // Just the text of the definitions is written.
         ensures text { OnOk result (out.new.items
             ≡ out.old.items ++ text_of_request S.semantics self.old (request_in self.old line.now)) }
@@ -261,7 +261,7 @@ impl<S: Simulation> Session<S> {
             Err(fault) => {
                 let next = self.schedule.lines().len() as u64 + 2;
                 put_fault(out, next, b"fault ", fault.number())?;
-                Ok(Reply::Goes)
+                Ok(SessionReply::Goes)
             }
         }
     }

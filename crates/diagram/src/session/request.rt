@@ -1,12 +1,12 @@
 //! Reads the lines of a session.
 
 ghost use Rattle.std.specs.Prelude.{◌≡◌, ◌≤◌};
-ghost use Rattle.schedule.specs.Words.{first_of, named, Reads, words_of};
-ghost use Rattle.diagram.specs.Requests.{alone as alone_in, asked_by, request_at, save_to, to_answer};
+ghost use Rattle.schedule.specs.Words.{first_of, value_of_name, ReadsItem, words_of};
+ghost use Rattle.diagram.specs.Requests.{sole_request as alone_in, asked_by, request_at, save_to, to_answer};
 ghost use Rattle.diagram.specs.Requests.{verb_of as verb_in, verbs_by_name};
 
-use schedule::lines::reading::read_line;
-use schedule::lines::words::Words;
+use schedule::lines::line_reader::read_line;
+use schedule::lines::words::LineWords;
 use schedule::{Line, LineFault};
 
 /// The first word of a line that is a session's own.
@@ -41,7 +41,7 @@ pub enum Request {
 
 /// The word of the session's own that this is.
 fn verb_at(word: &[u8]) -> Option<Verb>
-    ensures { result ≡ named verbs_by_name word.now }
+    ensures { result ≡ value_of_name verbs_by_name word.now }
 {
     if word == b"undo".as_slice() {
         Some(Verb::Undo)
@@ -64,20 +64,20 @@ fn verb_at(word: &[u8]) -> Option<Verb>
 fn verb_of(line: &[u8]) -> Option<Verb>
     ensures { result ≡ verb_in (first_of (words_of line.now)) }
 {
-    verb_at(Words::of(line).next()?)
+    verb_at(LineWords::of(line).next()?)
 }
 
 /// The request, if no word is left.
-fn alone(request: Request, words: &Words) -> Result<Request, LineFault>
-    ensures { Reads (λ request. request) result (alone_in request words.now) }
+fn sole_request(request: Request, words: &LineWords) -> Result<Request, LineFault>
+    ensures { ReadsItem (λ request. request) result (alone_in request words.now) }
 {
     words.end()?;
     Ok(request)
 }
 
 /// The request `to answer P`, after its first word.
-fn answer_of(words: &mut Words) -> Result<Request, LineFault>
-    ensures { Reads (λ request. request) result (to_answer words.old) }
+fn answer_of(words: &mut LineWords) -> Result<Request, LineFault>
+    ensures { ReadsItem (λ request. request) result (to_answer words.old) }
 {
     if !words.begins_with(b"answer") {
         return Err(LineFault::BadWord);
@@ -89,38 +89,38 @@ fn answer_of(words: &mut Words) -> Result<Request, LineFault>
 }
 
 /// The request `save FILE`, after its first word.
-fn save_of(words: &mut Words) -> Result<Request, LineFault>
-    ensures { Reads (λ request. request) result (save_to words.old) }
+fn save_of(words: &mut LineWords) -> Result<Request, LineFault>
+    ensures { ReadsItem (λ request. request) result (save_to words.old) }
 {
     if words.next().is_none() {
         return Err(LineFault::BadWord);
     }
-    alone(Request::Save, words)
+    sole_request(Request::Save, words)
 }
 
 /// What a word of the session's own asks for, with the words after it.
-fn request_of(verb: Verb, words: &mut Words) -> Result<Request, LineFault>
-    ensures { Reads (λ request. request) result (asked_by verb words.old) }
+fn request_of(verb: Verb, words: &mut LineWords) -> Result<Request, LineFault>
+    ensures { ReadsItem (λ request. request) result (asked_by verb words.old) }
 {
     match verb {
-        Verb::Undo => alone(Request::Undo, words),
-        Verb::Redo => alone(Request::Redo, words),
+        Verb::Undo => sole_request(Request::Undo, words),
+        Verb::Redo => sole_request(Request::Redo, words),
         Verb::To => answer_of(words),
         Verb::Save => save_of(words),
-        Verb::Help => alone(Request::Help, words),
-        Verb::Quit => alone(Request::Quit, words),
+        Verb::Help => sole_request(Request::Help, words),
+        Verb::Quit => sole_request(Request::Quit, words),
     }
 }
 
 /// What a line asks for, without its LF, in a session over a schedule of this width.
 pub fn read_request(width: u64, line: &[u8]) -> Result<Request, LineFault>
     requires { (1 ≤ width) × (width ≤ 8) }
-    ensures { Reads (λ request. request) result (request_at width (words_of line.now)) }
+    ensures { ReadsItem (λ request. request) result (request_at width (words_of line.now)) }
 {
     let Some(verb) = verb_of(line) else {
         return Ok(Request::Play(read_line(width, line)?));
     };
-    let mut words = Words::of(line);
+    let mut words = LineWords::of(line);
     let _ = words.next();
     request_of(verb, &mut words)
 }

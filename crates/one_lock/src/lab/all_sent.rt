@@ -1,11 +1,11 @@
 //! Whether the messages that a lab shows are those that its workers have sent.
 
 ghost use Rattle.std.specs.Prelude.{◌≡◌, ◌<◌, ◌≤◌, true};
-ghost use Rattle.one_lock.specs.Lab.{AreAllSent, messages_by, messages_sent};
+ghost use Rattle.table_runs.specs.Lab.{AreAllSent, messages_by, messages_sent};
 
-use crate::lab::Spec;
-use crate::lab::sending::value_sent;
 use redomail::Message;
+use table_runs::lab::Spec;
+use table_runs::lab::sent_messages::value_sent;
 
 /// Are worker p's messages among these all that it sends, once and in order?
 #[tactic(auto, using(crate::proofs::AllSent::passes, crate::proofs::AllSent::adds, crate::proofs::AllSent::ends))]

@@ -3,17 +3,15 @@
 ghost use Rattle.std.specs.Prelude.{◌≡◌, ◌≢◌, ◌≤◌, ◌⊎◌, ◌↔◌, Some, All, IsNone, IsTrue, IfOk, IfErr, OnOk, IfSome, false, length, map, vec_len};
 ghost use Rattle.std.specs.Thread.{IsSend, IsSync};
 ghost use Rattle.rmeworld.specs.declared.call.Call.TheVariants.{Append};
-ghost use Rattle.one_lock.specs.declared.lab.spec.Spec.{Spec as SpecOf};
+ghost use Rattle.table_runs.specs.declared.lab.spec.Spec.{Spec as SpecOf};
 ghost use Rattle.one_lock.specs.Answers.{IsReply};
 ghost use Rattle.one_lock.specs.LabEndings.{HaveAllSent, WantedMemory, IsOfLeast, MayEnd};
 ghost use Rattle.one_lock.specs.Member.{is_in};
 ghost use Rattle.one_lock.specs.Shown.{CanSend, place_of};
 
-use crate::lab::sending::{is_crash, is_sent, value_sent};
 use crate::lab::{Gate, LabFault, Spec, WorkerEnd};
 use crate::member::Member;
 use crate::sizes::Sizes;
-use execution::LockFault;
 use redomail::Reply;
 use rmecore::Body;
 use std::alloc::{AllocError, Global};
@@ -22,6 +20,8 @@ use std::sync::Wait;
 use std::sync::ledger::Ledger;
 use std::thread;
 use std::thread::{Promise, PromisedHandle, Scope, Threads};
+use table_runs::LockFault;
+use table_runs::lab::sent_messages::{is_crash, is_sent, value_sent};
 
 /// A worker that has ended, with the member that it was given.
 #[derive(Drop)]
@@ -39,7 +39,8 @@ impl<L: Ledger, S: Sizes> Promise<Done<L, S>> for HandsBack<L, S> {
     ghost use Rattle.one_lock.specs.LabEndings.{MayEnd};
     ghost use Rattle.one_lock.specs.Shown.{place_of};
 
-    ghost kept_by = { λ promise done. (place_of done.member ≡ place_of promise.0.value) × MayEnd S.named promise.1 done.member.process done.ending };
+    ghost kept_by = { λ promise done. (place_of done.member ≡ place_of promise.0.value)
+        × MayEnd S.named promise.1 done.member.process done.ending };
 }
 
 /// Sends the messages of a worker, numbered from 1, each again until it is answered. Each answer is reported to the gate.
@@ -88,7 +89,7 @@ fn send<L: Ledger, S: Sizes, G: Gate, R: Wait>(
     requires { CanSend (length value) member.old }
     ensures place { place_of member.new ≡ place_of member.old }
     ensures ready { is_in member.new.standing ≡ false }
-    ensures told { OnOk result ((asking : G) × G.heard asking seq gate.new) }
+    ensures fact { OnOk result ((asking : G) × G.heard asking seq gate.new) }
     ensures answered { IfOk result (λ reply. IsReply S.named member.old.process (Append seq value) reply) }
     ensures ends { IfErr result (λ purpose. (s : SpecOf) → MayEnd S.named s member.new.process (WorkerEnd.Fault purpose)) }
 {

@@ -3,7 +3,7 @@
 use crate::support::invocation::{all_come_to, comes_to};
 use crate::support::row::ProgramRow;
 use cli::arguments::words::words_given;
-use commands::program::closed;
+use commands::program::close;
 use commands::schedules::fault::CommandFault;
 use schedule::Page;
 use std::env::FillError;
@@ -58,7 +58,7 @@ const MEMBER_3_FAILED: &str = "rmelab: member 3 failed\n";
 #[test]
 fn a_member_that_fails(rt: HostRuntime) {
     let mut page = Page::new(rt.alloc());
-    let status = closed(Err(CommandFault::Member { p: 3 }), &mut page);
+    let status = close(Err(CommandFault::Member { p: 3 }), &mut page);
     assert!(rt; status == 3 && page.as_slice() == MEMBER_3_FAILED.as_bytes());
 }
 
@@ -96,7 +96,7 @@ const NO_TEXT: &str =
 fn words_that_are_no_text(rt: HostRuntime) -> Result<(), Fail> {
     let words = words_given(&(BadWords, rt.alloc()));
     let row = ProgramRow {
-        told: NO_TEXT,
+        reports: NO_TEXT,
         status: 2,
         ..ProgramRow::new("words that are no text")
     };

@@ -2,7 +2,7 @@
 
 use crate::support::invocation::all_come_to;
 use cli::arguments::args::RunArgs;
-use commands::running::{gates_of, lines_of, status_of_tallies};
+use commands::run_command::{gates_of, lines_of, status_of_tallies};
 use commands::tally::tallies_of;
 use crashlab::{CrashPlan, Seeded};
 use redomail::Message;

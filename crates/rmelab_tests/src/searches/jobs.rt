@@ -1,6 +1,6 @@
 //! A hunt or a search by any number of threads answers what that of one thread answers.
 
-use crate::support::watching::Told;
+use crate::support::watching::Report;
 use crashlab::{HuntFault, Variant, hunt, hunt_in_parallel, hunt_in_parallel_watched};
 use explorer::Unwatched;
 use lock_explorer::{Bounds, Variables, shortest_schedule, shortest_schedule_in_parallel};
@@ -100,18 +100,22 @@ fn a_hunt_by_jobs_is_refused_by_its_size(rt: HostRuntime) {
 }
 
 /// Whether each of five rounds of a hunt by this number of jobs is reported once.
-fn is_told_once(rt: &(impl Threads + Sync), alloc: Global, jobs: u64) -> Result<bool, HuntFault> {
-    let mut told = Told::new(alloc);
+fn is_reported_once(
+    rt: &(impl Threads + Sync),
+    alloc: Global,
+    jobs: u64,
+) -> Result<bool, HuntFault> {
+    let mut reports = Report::new(alloc);
     let variant = Variant::Right;
-    let found = hunt_in_parallel_watched(rt, alloc, jobs, variant, 1, 5, 10, &mut told)?;
+    let found = hunt_in_parallel_watched(rt, alloc, jobs, variant, 1, 5, 10, &mut reports)?;
     let rounds = [(0, 0), (1, 10), (2, 20), (3, 30), (4, 40)];
-    Ok(found.is_none() && told.all.as_slice() == rounds.as_slice())
+    Ok(found.is_none() && reports.all.as_slice() == rounds.as_slice())
 }
 
 #[test]
-fn each_round_of_a_batch_is_told_once(rt: HostRuntime) -> Result<(), Fail> {
+fn each_round_of_a_batch_is_reported_once(rt: HostRuntime) -> Result<(), Fail> {
     for jobs in JOBS {
-        assert!(rt; is_told_once(&rt, rt.alloc(), jobs)?, "{jobs}");
+        assert!(rt; is_reported_once(&rt, rt.alloc(), jobs)?, "{jobs}");
     }
     Ok(())
 }

@@ -2,17 +2,17 @@
 
 use crate::searches::explores;
 use crate::support::invocation::all_come_to;
-use crate::support::watching::Told;
+use crate::support::watching::Report;
 use crashlab::Variant;
-use crashlab::hunting::hunt_watched;
+use crashlab::hunts::hunt_watched;
 use std::test::Fail;
 
 #[test]
-fn each_round_is_told_once(rt: HostRuntime) -> Result<(), Fail> {
-    let mut told = Told::new(rt.alloc());
-    let found = hunt_watched(rt.alloc(), Variant::Right, 1, 4, 10, &mut told)?;
+fn each_round_is_reported_once(rt: HostRuntime) -> Result<(), Fail> {
+    let mut reports = Report::new(rt.alloc());
+    let found = hunt_watched(rt.alloc(), Variant::Right, 1, 4, 10, &mut reports)?;
     let rounds = [(0, 0), (1, 10), (2, 20), (3, 30)];
-    assert!(rt; found.is_none() && told.all.as_slice() == rounds.as_slice());
+    assert!(rt; found.is_none() && reports.all.as_slice() == rounds.as_slice());
     Ok(())
 }
 

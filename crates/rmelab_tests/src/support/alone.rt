@@ -27,9 +27,9 @@ fn file_named<'a>(row: &ProgramRow<'a>, name: &String) -> Option<&'a str> {
 fn refuses(row: &ProgramRow<'_>, fault: &WordsFault) -> Result<(), Fail> {
     let (found, wanted) = match fault {
         WordsFault::Help { text } => (text.as_bytes(), row.printed),
-        WordsFault::Refused { text } => (text.as_bytes(), row.told),
-        WordsFault::BadVariant => (b"rmelab: bad variant\n".as_slice(), row.told),
-        WordsFault::BadSize => (b"rmelab: bad size\n".as_slice(), row.told),
+        WordsFault::Refused { text } => (text.as_bytes(), row.reports),
+        WordsFault::BadVariant => (b"rmelab: bad variant\n".as_slice(), row.reports),
+        WordsFault::BadSize => (b"rmelab: bad size\n".as_slice(), row.reports),
         WordsFault::Unreadable | WordsFault::OutOfMemory => (b"no words".as_slice(), ""),
     };
     all_written(row.line, &[("words", found, wanted)])
@@ -44,7 +44,7 @@ fn ends(row: &ProgramRow<'_>, ending: &Ending, out: &[u8], err: &[u8]) -> Result
     }
     let places = [
         ("output of the command", out, row.printed),
-        ("fault of the command", err, row.told),
+        ("fault of the command", err, row.reports),
         ("save of the command", save.unwrap_or(b""), wanted),
     ];
     all_written(row.line, &places)

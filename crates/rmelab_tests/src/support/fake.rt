@@ -15,7 +15,7 @@ pub enum Failing {
     Write,
     Flush,
     /// Standard error.
-    Told,
+    Report,
     /// Standard error, when progress is shown.
     Shown,
     /// A file that is opened or saved.

@@ -61,7 +61,7 @@ pub fn printed_by(
         fails: row.failing == Failing::Write,
         flush_fails: row.failing == Failing::Flush,
     };
-    let errors = paper(&mut err, row.failing == Failing::Told);
+    let errors = paper(&mut err, row.failing == Failing::Report);
     let clock = Ticking::new();
     let mut shown = Vec::new(alloc);
     let lines = paper(&mut shown, row.failing == Failing::Shown);
@@ -104,7 +104,7 @@ fn is_as_expected(found: &Printed, row: &ProgramRow<'_>) -> Result<(), Fail> {
     let (name, save) = row.saved;
     let places = [
         ("standard output", found.out.as_slice(), row.printed),
-        ("standard error", found.err.as_slice(), row.told),
+        ("standard error", found.err.as_slice(), row.reports),
         ("the terminal", found.shown.as_slice(), row.shown),
         ("the saved file's name", found.name.as_bytes(), name),
         ("the saved file", found.save.as_slice(), save),

@@ -64,8 +64,8 @@ fn meets_a_refusal(
         err.starts_with(b"rmelab: out of memory\n\0")
     } else {
         out.starts_with(row.printed.as_bytes())
-            && err.starts_with(row.told.as_bytes())
-            && err.get(row.told.len()) == Some(&0)
+            && err.starts_with(row.reports.as_bytes())
+            && err.get(row.reports.len()) == Some(&0)
             && code == ExitCode::from(row.status)
     };
     if is_so {

@@ -19,7 +19,7 @@ pub struct ProgramRow<'a> {
     pub is_terminal: bool,
     pub shown: &'a str,
     pub printed: &'a str,
-    pub told: &'a str,
+    pub reports: &'a str,
     pub saved: (&'a str, &'a str),
     pub status: u8,
 }
@@ -41,7 +41,7 @@ const DEVICES: [(&str, Failing); 8] = [
     ("read", Failing::Read),
     ("write", Failing::Write),
     ("flush", Failing::Flush),
-    ("err", Failing::Told),
+    ("err", Failing::Report),
     ("shown", Failing::Shown),
     ("file", Failing::File),
     ("file-memory", Failing::FileMemory),
@@ -79,7 +79,7 @@ impl<'a> ProgramRow<'a> {
             is_terminal: false,
             shown: "",
             printed: "",
-            told: "",
+            reports: "",
             saved: ("", ""),
             status: 0,
         }
@@ -129,7 +129,7 @@ impl<'a> ProgramRow<'a> {
         } else if word == "out" {
             self.printed = text;
         } else if word == "err" {
-            self.told = text;
+            self.reports = text;
         } else if word == "shown" {
             self.is_terminal = true;
             self.shown = text;

@@ -5,20 +5,20 @@ use std::alloc::Global;
 
 /// Keeps the progress that is reported to it. What it has no memory for is dropped.
 #[derive(Drop)]
-pub struct Told {
+pub struct Report {
     pub all: Vec<(u64, u64)>,
 }
 
-impl Told {
+impl Report {
     /// No progress yet.
-    pub fn new(alloc: Global) -> Told {
-        Told {
+    pub fn new(alloc: Global) -> Report {
+        Report {
             all: Vec::new(alloc),
         }
     }
 }
 
-impl Watch for Told {
+impl Watch for Report {
     fn see(&mut self, far: u64, done: u64) {
         let _ = self.all.push((far, done));
     }

@@ -31,7 +31,7 @@ fn take(members: &mut Map<String, Value>, name: &str) -> Result<Value, Refusal>
 }
 
 /// The value as a whole number.
-fn whole(value: &Value) -> Result<u64, Refusal>
+fn whole_number(value: &Value) -> Result<u64, Refusal>
     ensures ok { IfOk result (λ n. view value.now ≡ whole_data n) }
     ensures err { IfErr result (λ e. (e ≡ BadImage 1) × ((n : ℕ) → view value.now ≡ whole_data n → ⊥)) }
 {
@@ -52,13 +52,13 @@ fn numbers(alloc: Global, value: &Value) -> Result<Vec<u64>, Refusal>
     };
     let mut numbers = Vec::with_capacity(alloc, items.len())?;
     for item in items {
-        numbers.push_reserved(whole(item)?);
+        numbers.push_reserved(whole_number(item)?);
     }
     Ok(numbers)
 }
 
 /// The value as the lock words of a process, a list of three numbers.
-fn own(value: &Value) -> Result<Own, Refusal>
+fn own_words(value: &Value) -> Result<Own, Refusal>
     ensures ok { IfOk result (λ x. view value.now ≡ own_data x) }
     ensures err { IfErr result (λ e. (e ≡ BadImage 1) × ((x : OwnOf) → view value.now ≡ own_data x → ⊥)) }
 {
@@ -69,9 +69,9 @@ fn own(value: &Value) -> Result<Own, Refusal>
         return Err(MISSHAPEN);
     };
     Ok(Own {
-        choosing: whole(choosing)?,
-        number: whole(number)?,
-        inside: whole(inside)?,
+        choosing: whole_number(choosing)?,
+        number: whole_number(number)?,
+        inside: whole_number(inside)?,
     })
 }
 
@@ -86,7 +86,7 @@ fn owns(alloc: Global, value: &Value) -> Result<Vec<Own>, Refusal>
     };
     let mut owns = Vec::with_capacity(alloc, items.len())?;
     for item in items {
-        owns.push_reserved(own(item)?);
+        owns.push_reserved(own_words(item)?);
     }
     Ok(owns)
 }
@@ -99,7 +99,7 @@ fn take_whole(members: &mut Map<String, Value>, name: &str) -> Result<u64, Refus
         → members_view members.old.entries ≡ member name.now (whole_data n) ms → ⊥)) }
 {
     let value = take(members, name)?;
-    whole(&value)
+    whole_number(&value)
 }
 
 /// Takes the first member, a list of whole numbers.

@@ -11,8 +11,8 @@ ghost use Rattle.rmeworld.specs.ImageWiden.{WideningKeeps};
 ghost use Rattle.rmeworld.specs.declared.image.Image.{Image as ImageOf};
 
 use crate::image::Image;
-use crate::image::reading::read_image;
-use crate::image::writing::write_image;
+use crate::image::image_reader::read_image;
+use crate::image::image_writer::write_image;
 use rmecore::Refusal;
 use std::alloc::Global;
 

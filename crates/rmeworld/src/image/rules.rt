@@ -7,7 +7,7 @@ ghost use Rattle.rmecore.specs.Simulated.{own_at};
 ghost use Rattle.redomail.specs.Layout.{words_of, size};
 ghost use Rattle.redomail.specs.Shape.{IsNumbered, RecordRule};
 ghost use Rattle.redomail.specs.Content.{AreCounts};
-ghost use Rattle.rmeworld.specs.ImageRules.{layout_of, IsVersioned, IsSized, IsIn, IsListed, IsRecorded, Keeps, IsLawfulImage, IsFirstBroken};
+ghost use Rattle.rmeworld.specs.ImageRules.{layout_of, IsVersioned, IsSized, IsInsideByImage, IsListed, IsRecorded, KeepsRules, IsLawfulImage, IsFirstBroken};
 
 use crate::image::Image;
 use redomail::Layout;
@@ -39,8 +39,8 @@ pub fn first_rule(image: &Image) -> Option<u64>
 fn keeps(image: &Image, rule: u64) -> bool
     requires least { 2 ≤ rule }
     requires most { rule ≤ 9 }
-    requires before { Keeps (rule - 1) image.now }
-    ensures { IsTrue result ↔ Keeps rule image.now }
+    requires before { KeepsRules (rule - 1) image.now }
+    ensures { IsTrue result ↔ KeepsRules rule image.now }
 {
     match rule {
         2 => is_versioned(image),
@@ -158,7 +158,7 @@ pub fn word(words: &[u64], i: u64) -> u64
 
 /// Whether the list rule holds, if no record is armed.
 fn is_listed(image: &Image) -> bool
-    requires { Keeps 7 image.now }
+    requires { KeepsRules 7 image.now }
     ensures { IsTrue result ↔ IsListed image.now }
 {
     let layout = layout(image);
@@ -176,7 +176,7 @@ fn is_listed(image: &Image) -> bool
 
 /// Whether the record rule holds, if a record is armed: for the process inside, or in a ruined lock for some process.
 fn is_recorded(image: &Image) -> bool
-    requires { Keeps 7 image.now }
+    requires { KeepsRules 7 image.now }
     ensures { IsTrue result ↔ IsRecorded image.now }
 {
     let layout = layout(image);

@@ -1,8 +1,8 @@
 //! Steps of a process by its script state: a job's steps, which change the job in place, and the lock's steps.
 
 ghost use Rattle.std.specs.Prelude.{◌≡◌, Some, None, IfSome};
-ghost use Rattle.rmecore.specs.Machine.{silent};
-ghost use Rattle.redomail.specs.Left.{left};
+ghost use Rattle.rmecore.specs.Machine.{no_progress};
+ghost use Rattle.redomail.specs.Left.{script_left};
 ghost use Rattle.redomail.specs.Script.{Done};
 ghost use Rattle.rmeworld.specs.ScriptStates.{HasStep};
 ghost use Rattle.rmeworld.specs.declared.script_state.ScriptState.TheVariants.{Free};
@@ -17,15 +17,15 @@ use rmecore::{Access, Kind, Word};
 
 /// The reply of a job, if it is done.
 fn reply_of(job: &Job) -> Option<Reply>
-    ensures done { IfSome result (λ reply. left job.now ≡ Done reply) }
-    ensures goes_on { result ≡ None → HasStep (left job.now) }
+    ensures done { IfSome result (λ reply. script_left job.now ≡ Done reply) }
+    ensures goes_on { result ≡ None → HasStep (script_left job.now) }
 {
     job.reply()
 }
 
 impl Process {
     ghost use Rattle.rmecore.specs.Machine.{word_of};
-    ghost use Rattle.rmeworld.specs.MachineState.{InWords, IsAllowed, StoresOwn, process_state_of, stepped, next_access, process_state_after, outcome};
+    ghost use Rattle.rmeworld.specs.MachineState.{InWords, IsAllowed, StoresOwn, process_state_of, machine_after_step, next_access, process_state_after, outcome};
 
     /// The next access, if it is a job's. It is what `next` answers then.
     // Inline: one call a job's step.
@@ -54,10 +54,10 @@ impl Process {
     #[inline(always)]
     pub fn job_on(&mut self, value: u64) -> Option<Answer>
         requires { IsWorking self.old.script_state }
-        ensures exact { self.new ≡ stepped self.old value }
+        ensures exact { self.new ≡ machine_after_step self.old value }
         ensures process_state { process_state_of self.new ≡ process_state_after self.old (next_access self.old) value }
         ensures allowed { IfSome (next_access self.old) (IsAllowed self.old) }
-        ensures outcome { outcome self.old (next_access self.old) value ≡ record { progress = silent; answer = result } }
+        ensures outcome { outcome self.old (next_access self.old) value ≡ record { progress = no_progress; answer = result } }
     {
         match &mut self.script_state {
             ScriptState::Doing(purpose, job) => {
@@ -80,7 +80,7 @@ impl Process {
     #[inline(always)]
     pub fn lock_on(&mut self, value: u64) -> Outcome
         requires { self.old.script_state ≡ Free }
-        ensures exact { self.new ≡ stepped self.old value }
+        ensures exact { self.new ≡ machine_after_step self.old value }
         ensures process_state { process_state_of self.new ≡ process_state_after self.old (next_access self.old) value }
         ensures allowed { IfSome (next_access self.old) (IsAllowed self.old) }
         ensures outcome { result ≡ outcome self.old (next_access self.old) value }

@@ -8,9 +8,9 @@ use crate::script_state::{ScriptState, goes_on, may_go_on};
 use rmecore::{Access, Stage};
 
 impl Process {
-    ghost use Rattle.rmeworld.specs.Advancing.{unobserved};
+    ghost use Rattle.rmeworld.specs.WorldSteps.{silent_outcome};
     ghost use Rattle.rmecore.specs.Machine.{word_of};
-    ghost use Rattle.rmeworld.specs.MachineState.{InWords, IsAllowed, StoresOwn, process_state_of, stepped, next_access, process_state_after, outcome};
+    ghost use Rattle.rmeworld.specs.MachineState.{InWords, IsAllowed, StoresOwn, process_state_of, machine_after_step, next_access, process_state_after, outcome};
 
     /// Whether the next step is likely to be silent. A wrong guess costs time only.
     // Inline: one call a silent step.
@@ -48,9 +48,9 @@ impl Process {
     // Inline: one call a silent step.
     #[inline(always)]
     pub fn feed_silently(&mut self, value: u64) -> Option<bool>
-        ensures exact { IsSome result → self.new ≡ stepped self.old value }
+        ensures exact { IsSome result → self.new ≡ machine_after_step self.old value }
         ensures process_state { IsSome result → process_state_of self.new ≡ process_state_after self.old (next_access self.old) value }
-        ensures outcome { IfSome result (λ blocked. outcome self.old (next_access self.old) value ≡ unobserved blocked) }
+        ensures outcome { IfSome result (λ blocked. outcome self.old (next_access self.old) value ≡ silent_outcome blocked) }
         ensures same { result ≡ None → self.new ≡ self.old }
     {
         match &mut self.script_state {

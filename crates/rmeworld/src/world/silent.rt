@@ -6,7 +6,7 @@ use crate::memory::{puts_silently, store};
 use crate::world::World;
 
 impl World {
-    ghost use Rattle.rmeworld.specs.Replayed.{advance_refusal, stepped, advanced};
+    ghost use Rattle.rmeworld.specs.Replayed.{advance_refusal, world_step_report, world_after_step};
 
     /// Takes the next step of process `p` if it can see cheaply that the step is silent. True: the step was taken. False:
     /// nothing changed.
@@ -14,8 +14,9 @@ impl World {
     #[inline(never)]
     pub(crate) fn step_unobserved(&mut self, p: u64) -> bool
         ensures accepted { IsTrue result → advance_refusal self.old p ≡ None }
-        ensures silent { IsTrue result → ((stepped self.old p).deed ≡ None) × ((stepped self.old p).answer ≡ None) }
-        ensures ok { IsTrue result → self.new ≡ advanced self.old p }
+        ensures silent { IsTrue result
+            → ((world_step_report self.old p).deed ≡ None) × ((world_step_report self.old p).answer ≡ None) }
+        ensures ok { IsTrue result → self.new ≡ world_after_step self.old p }
         ensures same { result ≡ false → self.new ≡ self.old }
     {
         if p >= self.layout.procs || !self.processes[p as usize].is_promising() {

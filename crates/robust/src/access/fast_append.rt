@@ -3,21 +3,21 @@
 ghost use Rattle.std.specs.Prelude.{◌≡◌, ℕ, ◌+◌, ◌*◌, ◌<◌, ◌≤◌, ◌∷◌, true, length, drop, slice_index};
 ghost use Rattle.rmecore.specs.Place.{Inside};
 ghost use Rattle.redomail.specs.Layout.{size};
-ghost use Rattle.redomail.specs.Tasks.{decided};
+ghost use Rattle.redomail.specs.Tasks.{append_decision};
 ghost use Rattle.redomail.specs.declared.reply.Reply.TheVariants.{Stored};
 ghost use Rattle.rmeworld.specs.declared.answer.Answer.TheVariants.{Mail};
-ghost use Rattle.execution.specs.SeatView.{process_state_now};
-ghost use Rattle.execution.specs.Under.{Appends};
+ghost use Rattle.table_runs.specs.SeatView.{process_state_now};
+ghost use Rattle.table_runs.specs.Under.{Appends};
 ghost use Rattle.robust.specs.FastPath.{free_process_state, IsClear, IsSame, Unanswered, EndsIn};
-ghost use Rattle.robust.specs.FastAppend.{at_append, append_begun, HasLeft, IsOf, steps_of, stored_so_far};
+ghost use Rattle.robust.specs.FastAppend.{at_append, append_begun, HasLeft, IsSenderOf, steps_of, stored_so_far};
 
 use crate::access::port::Port;
-use execution::Setup;
 use redomail::Reply;
 use redomail::append::early_reply;
 use redomail::layout::{ARMED, CLOSED, COUNT, RECORD};
 use redomail::record::row_word;
 use rmecore::{Body, Kind, Word};
+use table_runs::Setup;
 
 /// The words that an append reads first: whether the mailbox is closed, count, and the sender's last number.
 #[derive(Clone, Copy)]
@@ -41,9 +41,9 @@ struct NewEntry {
 fn read_heads(port: &mut Port, seq: u64, value: &Body) -> Heads
     requires at { process_state_now port.old ≡ append_begun port.old seq value.now }
     ensures at { process_state_now port.new ≡ at_append seq value.now
-        (decided port.old.setup.layout port.old.by seq value.now result.closed result.count result.last) }
+        (append_decision port.old.setup.layout port.old.by seq value.now result.closed result.count result.last) }
     ensures left { HasLeft port.old 3
-        (decided port.old.setup.layout port.old.by seq value.now result.closed result.count result.last) port.new }
+        (append_decision port.old.setup.layout port.old.by seq value.now result.closed result.count result.last) port.new }
     ensures room { result.count ≤ port.old.setup.layout.cap }
     ensures clear { IsClear port.new }
     ensures same { IsSame port.old port.new }
@@ -66,7 +66,7 @@ fn read_heads(port: &mut Port, seq: u64, value: &Body) -> Heads
 /// One put of a storing append, but not the last.
 fn put(port: &mut Port, entry: &NewEntry, step: u64, i: u64, v: u64)
     requires clear { IsClear port.old }
-    requires of { IsOf port.old entry.now }
+    requires of { IsSenderOf port.old entry.now }
     requires table { i < size entry.now.setup.layout }
     requires more { step + 1 < 8 + 2 * length entry.now.value }
     requires next { drop step (steps_of entry.now) ≡ (i, v) ∷ drop (step + 1) (steps_of entry.now) }
@@ -74,7 +74,7 @@ fn put(port: &mut Port, entry: &NewEntry, step: u64, i: u64, v: u64)
     ensures at { process_state_now port.new ≡ stored_so_far entry.now (step + 1) }
     ensures unanswered { Unanswered port.old 1 0 port.new }
     ensures clear { IsClear port.new }
-    ensures of { IsOf port.new entry.now }
+    ensures of { IsSenderOf port.new entry.now }
 {
     // For the proof alone: its value is read.
     let _ = step;
@@ -85,7 +85,7 @@ fn put(port: &mut Port, entry: &NewEntry, step: u64, i: u64, v: u64)
 /// The puts of a row: a first word, the sequence number, and the words of the value.
 fn put_row(port: &mut Port, entry: &NewEntry, step: u64, start: u64, first: u64)
     requires clear { IsClear port.old }
-    requires of { IsOf port.old entry.now }
+    requires of { IsSenderOf port.old entry.now }
     requires wide { length entry.now.value ≤ 8 }
     requires table { start + (2 + length entry.now.value) ≤ size entry.now.setup.layout }
     requires small { size entry.now.setup.layout ≤ 900000 }
@@ -97,7 +97,7 @@ fn put_row(port: &mut Port, entry: &NewEntry, step: u64, start: u64, first: u64)
     ensures at { process_state_now port.new ≡ stored_so_far entry.now (step + (2 + length entry.now.value)) }
     ensures unanswered { Unanswered port.old (2 + length entry.now.value) 0 port.new }
     ensures clear { IsClear port.new }
-    ensures of { IsOf port.new entry.now }
+    ensures of { IsSenderOf port.new entry.now }
 {
     let width = entry.value.width();
     for j in 0..2 + width {
@@ -110,13 +110,13 @@ fn put_row(port: &mut Port, entry: &NewEntry, step: u64, start: u64, first: u64)
 /// count, and armed := 0.
 fn store(port: &mut Port, entry: &NewEntry)
     requires clear { IsClear port.old }
-    requires of { IsOf port.old entry.now }
+    requires of { IsSenderOf port.old entry.now }
     requires wide { length entry.now.value ≡ entry.now.setup.layout.width }
     requires room { entry.now.at < entry.now.setup.layout.cap }
     requires at { process_state_now port.old ≡ stored_so_far entry.now 0 }
     ensures at { process_state_now port.new ≡ free_process_state Inside true }
     ensures ends { EndsIn port.old (8 + 2 * length entry.now.value) (Mail Stored) port.new }
-    ensures of { IsOf port.new entry.now }
+    ensures of { IsSenderOf port.new entry.now }
 {
     // For the proof alone: its value is read.
     let _seat_view = port.by();

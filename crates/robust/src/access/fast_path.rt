@@ -1,7 +1,7 @@
 //! The fast paths of a lock and of an unlock, for plans that never fall: loops over the words alone, proved to be the run of
 //! their steps. The machine's state is set once, afterwards. The wait in the line is in `in_line.rt`.
 ghost use Rattle.std.specs.Prelude.{◌≡◌, ◌≢◌, ℕ, ◌+◌, ◌<◌, ◌≤◌, max, [], ◌∷◌, true, false, ◌==◌, ◌||◌, None, IfSome, if◌then◌else◌};
-ghost use Rattle.rmecore.specs.Place.{Rest, Reread, Opening, Door, Shutting, Wait, Leaving, Unmarking, others, relocked};
+ghost use Rattle.rmecore.specs.Place.{Rest, Reread, Opening, Door, Shutting, Wait, Leaving, Unmarking, others, lock_restart};
 ghost use Rattle.rmecore.specs.declared.core_call.CoreCall.TheVariants.{Lock, Unlock};
 ghost use Rattle.rmecore.specs.Machine.{place_of};
 ghost use Rattle.robust.specs.declared.access.fast_path.Reached.TheVariants as Reaches;
@@ -9,10 +9,10 @@ ghost use Rattle.rmeworld.specs.declared.call.Call.TheVariants as CallOf;
 ghost use Rattle.rmeworld.specs.declared.answer.Answer.TheVariants as AnswerOf;
 ghost use Rattle.rmecore.specs.declared.kind.Kind.TheVariants.{Get as Gets, Mark as Marks};
 ghost use Rattle.rmecore.specs.declared.word.Word.TheVariants.{Data as DataAt, Inside as InsideOf};
-ghost use Rattle.execution.specs.SeatView.{Advances, IsSeatView, process_state_now};
-ghost use Rattle.execution.specs.Under.{Begun, IsUnder};
+ghost use Rattle.table_runs.specs.SeatView.{CarriesPending, IsSeatView, process_state_now};
+ghost use Rattle.table_runs.specs.Under.{Begun, IsUnder};
 ghost use Rattle.rmeworld.specs.ProcessState.{Free};
-ghost use Rattle.robust.specs.FastPath.{free_process_state, IsClear, IsSame, Unanswered, Way, waits_at, EndsIn, Enters, checking_process_state, checked_process_state};
+ghost use Rattle.robust.specs.FastPath.{free_process_state, IsClear, IsSame, Unanswered, Way, waits_at, EndsIn, FastPathReaches, checking_process_state, checked_process_state};
 
 use crate::access::in_line::wait_on;
 use crate::access::port::Port;
@@ -43,7 +43,7 @@ fn read_number(port: &mut Port, choosing: u64) -> u64
 fn read_inside(port: &mut Port) -> u64
     requires clear { IsClear port.old }
     requires at { process_state_now port.old ≡ free_process_state (Reread Lock (0 ∷ 0 ∷ [])) (process_state_now port.old).mended }
-    ensures way { Way port.old 1 port.new (relocked port.old.setup.layout.procs port.old.by 0 0 result) }
+    ensures way { Way port.old 1 port.new (lock_restart port.old.setup.layout.procs port.old.by 0 0 result) }
 {
     let own = port.by();
     port.load(Kind::Reread, Word::Inside(own))
@@ -83,7 +83,7 @@ fn shut(port: &mut Port, number: u64)
 }
 
 /// The greater of two numbers.
-fn greater(a: u64, b: u64) -> u64
+fn max_of(a: u64, b: u64) -> u64
     ensures { result ≡ max a b }
 {
     if a < b { b } else { a }
@@ -106,7 +106,7 @@ fn peek_others(port: &mut Port) -> (u64, u64)
     for j in 0..procs {
         if j != own {
             let number = port.load(Kind::Peek, Word::Number(j));
-            greatest = greater(greatest, number);
+            greatest = max_of(greatest, number);
             taken += 1;
         }
     }
@@ -202,7 +202,7 @@ fn mark(port: &mut Port, number: u64)
 fn check(port: &mut Port) -> u64
     requires clear { IsClear port.old }
     requires at { process_state_now port.old ≡ checking_process_state port.old }
-    ensures advances { Advances port.old Gets (DataAt 0) result port.new }
+    ensures advances { CarriesPending port.old Gets (DataAt 0) result port.new }
     ensures at { process_state_now port.new ≡ checked_process_state (result == 1) }
 {
     // For the proof alone: its value is read.
@@ -236,7 +236,7 @@ pub enum Reached {
 }
 
 /// How far an entry has got, by whether the lock is ruined.
-fn entered(is_ruined: bool) -> Reached
+fn reached_by_entry(is_ruined: bool) -> Reached
     ensures { result ≡ (if is_ruined then Reached.Ruined else Reached.Clean) }
 {
     if is_ruined {
@@ -253,7 +253,7 @@ fn enter_from_line(port: &mut Port, number: u64, next: u64, looked: bool) -> (Re
     requires next { next ≤ 64 }
     requires other { looked ≡ true → (next < port.old.setup.layout.procs) × (next ≢ port.old.by) }
     requires at { process_state_now port.old ≡ waits_at port.old number next looked }
-    ensures enters { Enters port.old result.0 result.1 port.new }
+    ensures enters { FastPathReaches port.old result.0 result.1 port.new }
     ensures few { result.1 ≤ 133 }
 {
     // For the proof alone: its value is read.
@@ -268,7 +268,7 @@ fn enter_from_line(port: &mut Port, number: u64, next: u64, looked: bool) -> (Re
         return (Reached::Blocked(there), passed.taken);
     }
     let is_ruined = come_in(port, number);
-    (entered(is_ruined), passed.taken + 2)
+    (reached_by_entry(is_ruined), passed.taken + 2)
 }
 
 /// From right after the start of a lock into the section, unless a step is blocked. Also answers the number of steps.
@@ -276,7 +276,7 @@ fn enter_from_line(port: &mut Port, number: u64, next: u64, looked: bool) -> (Re
 #[inline(always)]
 fn enter(port: &mut Port) -> (Reached, u64)
     requires at { process_state_now port.old ≡ free_process_state (Reread Lock []) (process_state_now port.old).mended }
-    ensures { Enters port.old result.0 result.1 port.new }
+    ensures { FastPathReaches port.old result.0 result.1 port.new }
 {
     let (stage, taken) = through_doorway(port);
     match stage {
@@ -285,8 +285,8 @@ fn enter(port: &mut Port) -> (Reached, u64)
             next,
             looked: false,
         } if next <= 64 => {
-            let (reached, behind) = enter_from_line(port, number, next, false);
-            (reached, taken + behind)
+            let (reached, after_it) = enter_from_line(port, number, next, false);
+            (reached, taken + after_it)
         }
         _ => (Reached::Stands(stage), taken),
     }
@@ -300,7 +300,7 @@ pub fn go_in(port: &mut Port, stage: Stage) -> Option<(Reached, u64)>
     requires under { IsUnder CallOf.Lock (process_state_now port.old) }
     requires free { (process_state_now port.old).script_state ≡ Free }
     requires at { (process_state_now port.old).lock ≡ place_of port.old.setup.layout.procs port.old.by stage }
-    ensures some { IfSome result (λ r. Enters port.old r.0 r.1 port.new) }
+    ensures some { IfSome result (λ r. FastPathReaches port.old r.0 r.1 port.new) }
     ensures none { result ≡ None → port.new ≡ port.old }
 {
     let own = port.by();
@@ -331,7 +331,7 @@ fn drop_number(port: &mut Port)
 fn unmark(port: &mut Port)
     requires clear { IsClear port.old }
     requires at { process_state_now port.old ≡ free_process_state (Unmarking Unlock) (process_state_now port.old).mended }
-    ensures advances { Advances port.old Marks (InsideOf port.old.by) 0 port.new }
+    ensures advances { CarriesPending port.old Marks (InsideOf port.old.by) 0 port.new }
     ensures at { process_state_now port.new ≡ free_process_state Rest (process_state_now port.old).mended }
 {
     let own = port.by();

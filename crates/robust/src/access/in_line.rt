@@ -2,7 +2,7 @@
 //! be the run of their steps.
 ghost use Rattle.std.specs.Prelude.{◌≡◌, ◌≢◌, ◌+◌, ◌<◌, ◌≤◌, [], true, false, None, if◌then◌else◌};
 ghost use Rattle.rmecore.specs.Place.{Wait};
-ghost use Rattle.execution.specs.SeatView.{process_state_now};
+ghost use Rattle.table_runs.specs.SeatView.{process_state_now};
 ghost use Rattle.robust.specs.FastPath.{free_process_state, IsSame, Unanswered, waits_at};
 
 use crate::access::port::Port;
@@ -120,11 +120,11 @@ pub fn wait_on(port: &mut Port, number: u64, next: u64, looked: bool) -> Passed
             is_blocked: true,
         };
     }
-    let behind = pass_others(port, number, next + 1);
+    let after_it = pass_others(port, number, next + 1);
     Passed {
-        next: behind.next,
-        looked: behind.looked,
-        taken: behind.taken + 1,
-        is_blocked: behind.is_blocked,
+        next: after_it.next,
+        looked: after_it.looked,
+        taken: after_it.taken + 1,
+        is_blocked: after_it.is_blocked,
     }
 }

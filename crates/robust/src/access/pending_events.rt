@@ -1,6 +1,6 @@
 //! The pending events of a process: what its next step carries. Only proofs read them; they take no bytes at run time.
 ghost use Rattle.std.specs.Prelude.{◌≡◌, true, Some, None};
-ghost use Rattle.robust.specs.PendingEvents.{has_crashed, AwaitsNothing, started};
+ghost use Rattle.robust.specs.PendingEvents.{has_crashed, AwaitsNothing, started_call};
 
 use histories::Log;
 use rmeworld::Call;
@@ -25,7 +25,7 @@ impl PendingEvents {
 
     /// The pending events right after a crash.
     pub fn crash() -> PendingEvents
-        ensures { (has_crashed result ≡ true) × (started result ≡ None) }
+        ensures { (has_crashed result ≡ true) × (started_call result ≡ None) }
     {
         PendingEvents {
             crashed: Log::new().and(&true),
@@ -35,7 +35,7 @@ impl PendingEvents {
 
     /// The process starts a call.
     pub fn begin(&mut self, call: &Call)
-        ensures { (has_crashed self.new ≡ has_crashed self.old) × (started self.new ≡ Some call.now) }
+        ensures { (has_crashed self.new ≡ has_crashed self.old) × (started_call self.new ≡ Some call.now) }
     {
         self.start = Log::new().and(call);
     }

@@ -5,24 +5,24 @@ ghost use Rattle.rmecore.specs.World.{is_store};
 ghost use Rattle.redomail.specs.Layout.{size};
 ghost use Rattle.rmeworld.specs.ProcessState.{next_process_state, Begins};
 ghost use Rattle.rmeworld.specs.MachineState.{IsSize};
-ghost use Rattle.execution.specs.Runs.{InTable, IsBeyond, index as index_of, word_count, IsRun};
-ghost use Rattle.execution.specs.SeatView.{SeatView, Advances, Looks, IsSeatView, alone, rest_known, fresh, process_state_now, moved_process_state};
+ghost use Rattle.table_runs.specs.Runs.{InTable, IsBeyond, index as index_of, word_count, IsRun};
+ghost use Rattle.table_runs.specs.SeatView.{SeatView, CarriesPending, Looks, IsSeatView, single_seat, rest_known, new_seat_view, process_state_now, moved_process_state};
 
 use crate::access::pending_events::PendingEvents;
 use crate::access::table;
-use crate::access::table::{Board, RunSeat};
-use execution::Setup;
+use crate::access::table::{LockTable, RunSeat};
 use redomail::Layout;
 use rmecore::{Kind, Word};
 use rmeworld::Call;
 use std::alloc::{AllocError, Global};
 use std::marker::Model;
 use std::sync::Arc;
+use table_runs::Setup;
 
 /// A process's access to the table, through its seat. Contracts see it as its view.
 #[derive(Drop)]
 pub struct Port {
-    board: Arc<Board, Global>,
+    board: Arc<LockTable, Global>,
     seat: RunSeat,
     setup: Setup,
     by: u64,
@@ -32,18 +32,24 @@ pub struct Port {
 impl Model for Port {
     ghost use Rattle.std.specs.Prelude.{◌≡◌, []};
     ghost use Rattle.std.specs.Arc.{arc_value};
-    ghost use Rattle.robust.specs.PendingEvents.{has_crashed, started};
-    ghost use Rattle.execution.specs.SeatView.{SeatView, IsSeatView, alone};
+    ghost use Rattle.robust.specs.PendingEvents.{has_crashed, started_call};
+    ghost use Rattle.table_runs.specs.SeatView.{SeatView, IsSeatView, single_seat};
 
     ghost Value = { SeatView };
 
-    ghost view = { λ w. record { table = w.seat.table_id; setup = w.setup; by = w.by; fallen = has_crashed w.pending_events; start = started w.pending_events; seen = w.seat.me.0.view.seen } };
+    ghost view = { λ w. record { table = w.seat.table_id; setup = w.setup; by = w.by; fallen = has_crashed w.pending_events; start = started_call w.pending_events; seen = w.seat.me.0.view.seen } };
 
-    ghost invariant = { λ w. record { table : w.seat.table_id ≡ (arc_value w.board).shared.table_id; seat : w.seat.me ≡ (alone w.setup w.by w.seat.me.0.view.seen, []); seat_view : IsSeatView (record { table = w.seat.table_id; setup = w.setup; by = w.by; fallen = has_crashed w.pending_events; start = started w.pending_events; seen = w.seat.me.0.view.seen }) } };
+    ghost invariant = { λ w. record {
+      table : w.seat.table_id ≡ (arc_value w.board).shared.table_id;
+      seat : w.seat.me
+          ≡ (single_seat w.setup w.by w.seat.me.0.view.seen, []);
+      seat_view : IsSeatView
+          (record { table = w.seat.table_id; setup = w.setup; by = w.by; fallen = has_crashed w.pending_events; start = started_call w.pending_events; seen = w.seat.me.0.view.seen });
+    } };
 }
 
 /// How many data words a mailbox of these sizes has.
-#[tactic(auto, using(execution::proofs::Running::size_is))]
+#[tactic(auto, using(table_runs::proofs::Running::size_is))]
 pub fn data_words(layout: &Layout) -> u64
     requires { IsSize layout.now }
     ensures { result ≡ size layout.now }
@@ -69,7 +75,7 @@ pub fn index(setup: &Setup, word: Word) -> u64
 impl Port {
     /// Cuts the seat of process `by` off the seat of all later ones. `AllocError`: out of memory.
     pub fn first(
-        board: &Arc<Board, Global>,
+        board: &Arc<LockTable, Global>,
         seat: &mut RunSeat,
         setup: Setup,
         by: u64,
@@ -79,7 +85,7 @@ impl Port {
         requires within { (by < setup.layout.procs) × IsSize setup.layout }
         requires limited { (1 ≤ setup.limit) × (setup.limit ≤ 2 ^ 62) }
         ensures rest { OnOk result ((seat.new.table_id ≡ seat.old.table_id) × (seat.new.me ≡ (rest_known setup (by + 1), []))) }
-        ensures port { IfOk result (λ w. w ≡ fresh seat.old.table_id setup by) }
+        ensures port { IfOk result (λ w. w ≡ new_seat_view seat.old.table_id setup by) }
     {
         let board = Arc::try_clone(board)?;
         let own = table::cut_off(&board, seat);
@@ -129,7 +135,7 @@ impl Port {
         requires table { InTable self.old.setup word }
         requires kind { is_store kind ≡ false }
         requires may { (found : ℕ) → found < 2 ^ 64 → IsSome (moved_process_state self.old kind word found) }
-        ensures { Advances self.old kind word result self.new }
+        ensures { CarriesPending self.old kind word result self.new }
     {
         let at = index(&self.setup, word);
         let events = &self.pending_events;
@@ -143,7 +149,7 @@ impl Port {
         requires table { InTable self.old.setup word }
         requires kind { is_store kind ≡ true }
         requires may { IsSome (moved_process_state self.old kind word new) }
-        ensures { Advances self.old kind word new self.new }
+        ensures { CarriesPending self.old kind word new self.new }
     {
         let at = index(&self.setup, word);
         table::store(
@@ -163,7 +169,7 @@ impl Port {
         requires beyond { IsBeyond self.old.setup word }
         requires zero { is_store kind ≡ false → value ≡ 0 }
         requires may { IsSome (moved_process_state self.old kind word value) }
-        ensures { Advances self.old kind word value self.new }
+        ensures { CarriesPending self.old kind word value self.new }
     {
         table::step_past_end(
             &self.board,
@@ -203,9 +209,9 @@ impl Port {
     }
 
     /// The table and the seat.
-    pub fn into_parts(self) -> (Arc<Board, Global>, RunSeat)
+    pub fn into_parts(self) -> (Arc<LockTable, Global>, RunSeat)
         ensures table { (result.1.table_id ≡ self.table) × ((arc_value result.0).shared.table_id ≡ self.table) }
-        ensures seat { result.1.me ≡ (alone self.setup self.by self.seen, []) }
+        ensures seat { result.1.me ≡ (single_seat self.setup self.by self.seen, []) }
         ensures seat_view { IsSeatView self }
     {
         let Port {

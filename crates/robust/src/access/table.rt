@@ -1,32 +1,32 @@
 //! The shared table, which no other file names: its rule, what the caller learns from a step, and each load and store.
 ghost use Rattle.std.specs.Prelude.{◌≡◌, ℕ, ◌<◌, []};
 ghost use Rattle.atomic_table.specs.Table.{Splits, Joins};
-ghost use Rattle.execution.specs.SeatView.{glanced};
-ghost use Rattle.execution.specs.Rule.{Kept, Did, MayLoad, MayStore, MayStepPastEnd, without_first, first_alone, joined, spent_known};
+ghost use Rattle.table_runs.specs.SeatView.{glance_step};
+ghost use Rattle.table_runs.specs.Rule.{TableRuleHolds, Did, MayLoad, MayStore, MayStepPastEnd, without_first, first_alone, joined_knowledge, spent_known};
 ghost use Rattle.robust.specs.PendingEvents.{step_of};
 
 use crate::access::pending_events::PendingEvents;
 use atomic_table::{Join, Play, Seat, Split, Table, TableRule};
-use execution::Setup;
-use execution::entry::SeatKnowledge;
 use rmecore::{Kind, Word};
 use std::alloc::Global;
 use std::marker::{Brand, PhantomData};
+use table_runs::Setup;
+use table_runs::entry::SeatKnowledge;
 
 /// The rule of the table: there is one run, its words are the table's, and each seat's view is a prefix of it. The key is
 /// the sizes.
 pub struct OneRun;
 
 impl TableRule<(), SeatKnowledge, Setup> for OneRun {
-    ghost use Rattle.execution.specs.Rule.{Kept, opening_known};
+    ghost use Rattle.table_runs.specs.Rule.{TableRuleHolds, opening_known};
 
-    ghost holds = { Kept };
+    ghost holds = { TableRuleHolds };
 
     ghost first = { opening_known };
 }
 
 /// The table: three lock words for each process, then the data words.
-pub type Board = Table<(), SeatKnowledge, Setup, OneRun, Global>;
+pub type LockTable = Table<(), SeatKnowledge, Setup, OneRun, Global>;
 
 /// A seat at the table. What it knows is in `SeatKnowledge`.
 pub type RunSeat = Seat<(), SeatKnowledge>;
@@ -34,7 +34,7 @@ pub type RunSeat = Seat<(), SeatKnowledge>;
 /// Gives a name to the step that a load or a store is. Only contracts use it.
 trait StepName {
     ghost use Rattle.std.specs.Prelude.{ℕ};
-    ghost use Rattle.execution.specs.declared.entry.Step.{Step};
+    ghost use Rattle.table_runs.specs.declared.entry.Step.{Step};
 
     ghost step: { Step };
 
@@ -43,7 +43,7 @@ trait StepName {
 }
 
 impl StepName for Brand {
-    ghost use Rattle.execution.specs.Rule.{no_step};
+    ghost use Rattle.table_runs.specs.Rule.{no_step};
 
     ghost step = { no_step };
 
@@ -57,7 +57,7 @@ struct Does<D> {
 
 impl<D: StepName> Play<(), SeatKnowledge> for Does<D> {
     ghost use Rattle.std.specs.Prelude.{◌≡◌};
-    ghost use Rattle.execution.specs.Rule.{Did};
+    ghost use Rattle.table_runs.specs.Rule.{Did};
 
     ghost then = { λ step before found after. Did D.step before.0 found after.0 × (after.1 ≡ before.1) };
 }
@@ -69,7 +69,7 @@ struct Passes<D> {
 
 impl<D: StepName> Play<(), SeatKnowledge> for Passes<D> {
     ghost use Rattle.std.specs.Prelude.{◌≡◌};
-    ghost use Rattle.execution.specs.Rule.{Did};
+    ghost use Rattle.table_runs.specs.Rule.{Did};
 
     ghost then = { λ step before found after. Did D.step before.0 D.value after.0 × (after.1 ≡ before.1) };
 }
@@ -78,7 +78,7 @@ impl<D: StepName> Play<(), SeatKnowledge> for Passes<D> {
 struct Cut;
 
 impl Split<SeatKnowledge> for Cut {
-    ghost use Rattle.execution.specs.Rule.{without_first, first_alone};
+    ghost use Rattle.table_runs.specs.Rule.{without_first, first_alone};
 
     ghost left = { without_first };
 
@@ -89,16 +89,16 @@ impl Split<SeatKnowledge> for Cut {
 struct Glue;
 
 impl Join<SeatKnowledge> for Glue {
-    ghost use Rattle.execution.specs.Rule.{joined, spent_known};
+    ghost use Rattle.table_runs.specs.Rule.{joined_knowledge, spent_known};
 
-    ghost both = { joined };
+    ghost both = { joined_knowledge };
 
     ghost spent = { spent_known };
 }
 
 /// Makes one load through the seat, as the step that `D` names. Answers the value that was read.
 fn load_named<D: StepName>(
-    table: &Board,
+    table: &LockTable,
     seat: &mut RunSeat,
     pending_events: &PendingEvents,
     kind: Kind,
@@ -120,7 +120,7 @@ fn load_named<D: StepName>(
 
 /// Makes one store through the seat, as the step that `D` names.
 fn store_named<D: StepName>(
-    table: &Board,
+    table: &LockTable,
     seat: &mut RunSeat,
     pending_events: &PendingEvents,
     kind: Kind,
@@ -144,7 +144,7 @@ fn store_named<D: StepName>(
 /// Takes the step that `D` names, of a data word past the end of the mailbox: it loads word 0 of the table, and no word
 /// changes.
 fn step_past_end_named<D: StepName>(
-    table: &Board,
+    table: &LockTable,
     seat: &mut RunSeat,
     pending_events: &PendingEvents,
     kind: Kind,
@@ -167,7 +167,7 @@ fn step_past_end_named<D: StepName>(
 
 /// A step at a data word past the table's end. The view grows by this step, and no word changes.
 pub fn step_past_end(
-    table: &Board,
+    table: &LockTable,
     seat: &mut RunSeat,
     pending_events: &PendingEvents,
     kind: Kind,
@@ -185,7 +185,7 @@ pub fn step_past_end(
 
 /// One load of word `at`. The view grows by this step.
 pub fn load(
-    table: &Board,
+    table: &LockTable,
     seat: &mut RunSeat,
     pending_events: &PendingEvents,
     kind: Kind,
@@ -202,12 +202,12 @@ pub fn load(
 }
 
 /// One load of word `at` that belongs to no call. Pending events stay pending.
-pub fn glance(table: &Board, seat: &mut RunSeat, word: Word, at: u64) -> u64
+pub fn glance(table: &LockTable, seat: &mut RunSeat, word: Word, at: u64) -> u64
     requires table { seat.old.table_id ≡ table.now.shared.table_id }
     requires word { at < table.now.shared.table_id.words }
-    requires may { MayLoad (glanced word) at seat.old.me.0.view }
+    requires may { MayLoad (glance_step word) at seat.old.me.0.view }
     ensures same { (seat.new.table_id ≡ seat.old.table_id) × (seat.new.id ≡ seat.old.id) × (seat.new.me.1 ≡ seat.old.me.1) }
-    ensures did { Did (glanced word) seat.old.me.0 result seat.new.me.0 }
+    ensures did { Did (glance_step word) seat.old.me.0 result seat.new.me.0 }
 {
     let pending_events = PendingEvents::nothing();
     load_named::<Brand>(table, seat, &pending_events, Kind::Glance, word, at)
@@ -215,7 +215,7 @@ pub fn glance(table: &Board, seat: &mut RunSeat, word: Word, at: u64) -> u64
 
 /// One store into word `at`. The view grows by this step.
 pub fn store(
-    table: &Board,
+    table: &LockTable,
     seat: &mut RunSeat,
     pending_events: &PendingEvents,
     kind: Kind,
@@ -233,9 +233,9 @@ pub fn store(
 }
 
 /// Gives the first process of a seat a seat of its own, which is answered.
-pub fn cut_off(table: &Board, seat: &mut RunSeat) -> RunSeat
+pub fn cut_off(table: &LockTable, seat: &mut RunSeat) -> RunSeat
     requires { (seat.old.table_id ≡ table.now.shared.table_id) × (0 < table.now.shared.table_id.words)
-        × Splits (Kept table.now.shared.key) seat.old.id seat.old.me.0 (without_first seat.old.me.0)
+        × Splits (TableRuleHolds table.now.shared.key) seat.old.id seat.old.me.0 (without_first seat.old.me.0)
         (first_alone seat.old.me.0) }
     ensures { (seat.new.table_id ≡ seat.old.table_id) × (seat.new.me ≡ (without_first seat.old.me.0, seat.old.me.1))
         × (result.table_id ≡ seat.old.table_id) × (result.me ≡ (first_alone seat.old.me.0, [])) }
@@ -244,12 +244,13 @@ pub fn cut_off(table: &Board, seat: &mut RunSeat) -> RunSeat
 }
 
 /// Joins the other seat into this one, which then answers for the processes of both.
-pub fn take_in(table: &Board, seat: &mut RunSeat, other: RunSeat)
+pub fn take_in(table: &LockTable, seat: &mut RunSeat, other: RunSeat)
     requires { (seat.old.table_id ≡ table.now.shared.table_id) × (other.table_id ≡ table.now.shared.table_id)
         × (other.me.1 ≡ []) × (0 < table.now.shared.table_id.words)
-        × Joins (Kept table.now.shared.key) seat.old.id seat.old.me.0 other.id other.me.0 (joined seat.old.me.0 other.me.0)
+        × Joins (TableRuleHolds table.now.shared.key) seat.old.id seat.old.me.0 other.id other.me.0
+        (joined_knowledge seat.old.me.0 other.me.0)
         spent_known }
-    ensures { (seat.new.table_id ≡ seat.old.table_id) × (seat.new.me ≡ (joined seat.old.me.0 other.me.0, seat.old.me.1)) }
+    ensures { (seat.new.table_id ≡ seat.old.table_id) × (seat.new.me ≡ (joined_knowledge seat.old.me.0 other.me.0, seat.old.me.1)) }
 {
     table.shared.join_seat::<Glue>(seat, other);
 }

@@ -1,34 +1,34 @@
 //! The driver of a process's calls: its port and its machine, one step at a time.
 ghost use Rattle.std.specs.Prelude.{◌≡◌, ℕ, List, [], ◌∷◌, length, IfSome, ◌<◌, ◌≤◌, ◌^◌, true, false, Some, None, IsSome, is_none, IfErr, OnOk, OnErr, IsTrue};
-ghost use Rattle.rmecore.specs.Machine.{kind_of, word_of, carried};
+ghost use Rattle.rmecore.specs.Machine.{kind_of, word_of, carried_value};
 ghost use Rattle.rmecore.specs.World.{is_store};
 ghost use Rattle.rmeworld.specs.Refused.{start_refusal, is_idle};
 ghost use Rattle.rmeworld.specs.MachineState.{IsSize, InWords, StoresOwn};
-ghost use Rattle.execution.specs.Runs.{InTable, IsBeyond};
+ghost use Rattle.table_runs.specs.Runs.{InTable, IsBeyond};
 ghost use Rattle.rmecore.specs.Place.{Inside, Rest};
 ghost use Rattle.rmeworld.specs.OwnSteps.{most_steps};
 ghost use Rattle.rmeworld.specs.declared.answer.Answer.TheVariants.{Unlocked};
 ghost use Rattle.rmeworld.specs.declared.call.Call.TheVariants.{Append, Lock, Unlock};
-ghost use Rattle.execution.specs.declared.entry.TakenStep.{TakenStep};
-ghost use Rattle.execution.specs.Calls.{Ran, Going, Still};
-ghost use Rattle.execution.specs.Faults.{refusal_now, AnsweredIn};
-ghost use Rattle.execution.specs.Tabled.{table_steps};
-ghost use Rattle.execution.specs.Under.{Begun, Fits, Leaves};
+ghost use Rattle.table_runs.specs.declared.entry.TakenStep.{TakenStep};
+ghost use Rattle.table_runs.specs.Calls.{Ran, Going, Still};
+ghost use Rattle.table_runs.specs.Faults.{refusal_now, AnsweredIn};
+ghost use Rattle.table_runs.specs.Tabled.{table_steps};
+ghost use Rattle.table_runs.specs.Under.{Begun, IsAnswerOf, Leaves};
 ghost use Rattle.crash_plans.specs.Plans.{NeverCrashes, Fell};
 ghost use Rattle.robust.specs.FastPath.{free_process_state, EndsIn};
-ghost use Rattle.robust.specs.FastCalls.{told_by, HasFastWay};
-ghost use Rattle.robust.specs.Working.{seat_of};
-ghost use Rattle.execution.specs.SeatView.{Advances, Looks, IsSeatView, fresh, process_state_now, moved_process_state};
+ghost use Rattle.robust.specs.FastCalls.{reports_by, HasFastWay};
+ghost use Rattle.robust.specs.MemberLaws.{seat_of};
+ghost use Rattle.table_runs.specs.SeatView.{CarriesPending, Looks, IsSeatView, new_seat_view, process_state_now, moved_process_state};
 
 use crate::access::fast_append::append;
 use crate::access::fast_path::{Reached, go_in, leave};
 use crate::access::port::{Port, data_words};
-use crate::call::led::{Led, bar, told};
+use crate::call::led::{Led, bar, led_answer};
 use crash_plans::CrashPlan;
-use execution::{LockFault, Setup};
 use rmecore::{Access, Body, Kind, Refusal, Stage, Word};
 use rmeworld::{Answer, Call, Outcome, Process};
 use std::marker::Model;
+use table_runs::{LockFault, Setup};
 
 /// A process with its port, its machine, and the own steps of its last call, at most the greatest u64.
 #[derive(Drop)]
@@ -39,7 +39,7 @@ pub struct CallDriver {
 }
 
 impl Model for CallDriver {
-    ghost use Rattle.execution.specs.Running.{Seated, IsRunBy};
+    ghost use Rattle.table_runs.specs.WorkingMembers.{Seated, IsRunBy};
 
     ghost Value = { Seated };
 
@@ -66,7 +66,7 @@ fn read(port: &mut Port, kind: Kind, word: Word) -> u64
     requires within { InWords port.old.setup.layout.procs word }
     requires kind { is_store kind ≡ false }
     requires allowed { (v : ℕ) → IsSome (moved_process_state port.old kind word v) }
-    ensures { Advances port.old kind word result port.new }
+    ensures { CarriesPending port.old kind word result port.new }
 {
     let setup = port.setup();
     if in_table(&setup, word) {
@@ -80,8 +80,8 @@ fn read(port: &mut Port, kind: Kind, word: Word) -> u64
 fn perform(port: &mut Port, access: Access) -> u64
     requires within { InWords port.old.setup.layout.procs (word_of access) }
     requires own { StoresOwn port.old.by access }
-    requires allowed { (v : ℕ) → IsSome (moved_process_state port.old (kind_of access) (word_of access) (carried access v)) }
-    ensures { Advances port.old (kind_of access) (word_of access) (carried access result) port.new }
+    requires allowed { (v : ℕ) → IsSome (moved_process_state port.old (kind_of access) (word_of access) (carried_value access v)) }
+    ensures { CarriesPending port.old (kind_of access) (word_of access) (carried_value access result) port.new }
 {
     let setup = port.setup();
     match access {
@@ -106,11 +106,11 @@ fn count_without_crash<C: CrashPlan>(plan: &mut C, askings: u64)
 }
 
 impl CallDriver {
-    ghost use Rattle.execution.specs.Running.{Seated, TakesStep, fell, began, behind};
+    ghost use Rattle.table_runs.specs.WorkingMembers.{Seated, TakesStep, fell, began, after_further_start};
 
     /// A process at rest, with this port.
     pub fn new(port: Port) -> CallDriver
-        requires { port ≡ fresh port.table port.setup port.by }
+        requires { port ≡ new_seat_view port.table port.setup port.by }
         ensures { result ≡ record { seat_view = port; steps = 0 } }
     {
         let setup = port.setup();
@@ -192,12 +192,12 @@ impl CallDriver {
     #[inline(always)]
     fn fast_lock<C: CrashPlan>(&mut self, plan: &mut C) -> Led
         requires begun { Begun Lock self.old.seat_view.setup.layout.procs (process_state_now self.old.seat_view) }
-        ensures ran { IfSome (told_by result) (λ o. (mine : List TakenStep) × Ran self.old o self.new mine
+        ensures ran { IfSome (reports_by result) (λ o. (mine : List TakenStep) × Ran self.old o self.new mine
             × NeverCrashes (length mine) (C.askings plan.old) (C.askings plan.new)) }
-        ensures still { IfSome (told_by result) (Still Lock self.new) }
-        ensures on { told_by result ≡ None → (mine : List TakenStep) × Going self.old mine self.new
+        ensures still { IfSome (reports_by result) (Still Lock self.new) }
+        ensures on { reports_by result ≡ None → (mine : List TakenStep) × Going self.old mine self.new
             × NeverCrashes (length mine) (C.askings plan.old) (C.askings plan.new) }
-        ensures begun { told_by result ≡ None
+        ensures begun { reports_by result ≡ None
             → Begun Lock self.new.seat_view.setup.layout.procs (process_state_now self.new.seat_view) }
     {
         if !plan.never_crashes() {
@@ -242,8 +242,8 @@ impl CallDriver {
         ensures begun { result ≡ None → Begun call.now self.new.seat_view.setup.layout.procs (process_state_now self.new.seat_view) }
     {
         match call {
-            Call::Lock if self.is_at_start() => told(self.fast_lock(plan)),
-            Call::Lock => told(self.fast_lock_later(plan)),
+            Call::Lock if self.is_at_start() => led_answer(self.fast_lock(plan)),
+            Call::Lock => led_answer(self.fast_lock_later(plan)),
             _ => None,
         }
     }
@@ -259,12 +259,12 @@ impl CallDriver {
     #[inline(never)]
     fn fast_lock_later<C: CrashPlan>(&mut self, plan: &mut C) -> Led
         requires begun { Begun Lock self.old.seat_view.setup.layout.procs (process_state_now self.old.seat_view) }
-        ensures ran { IfSome (told_by result) (λ o. (mine : List TakenStep) × Ran self.old o self.new mine
+        ensures ran { IfSome (reports_by result) (λ o. (mine : List TakenStep) × Ran self.old o self.new mine
             × NeverCrashes (length mine) (C.askings plan.old) (C.askings plan.new)) }
-        ensures still { IfSome (told_by result) (Still Lock self.new) }
-        ensures on { told_by result ≡ None → (mine : List TakenStep) × Going self.old mine self.new
+        ensures still { IfSome (reports_by result) (Still Lock self.new) }
+        ensures on { reports_by result ≡ None → (mine : List TakenStep) × Going self.old mine self.new
             × NeverCrashes (length mine) (C.askings plan.old) (C.askings plan.new) }
-        ensures begun { told_by result ≡ None
+        ensures begun { reports_by result ≡ None
             → Begun Lock self.new.seat_view.setup.layout.procs (process_state_now self.new.seat_view) }
     {
         self.fast_lock(plan)
@@ -300,8 +300,8 @@ impl CallDriver {
     fn go_out(&mut self)
         requires idle { self.old.seat_view.start ≡ None }
         requires clean { process_state_now self.old.seat_view ≡ free_process_state Inside true }
-        ensures seat_view { IsSeatView (behind self.old Unlock).seat_view }
-        ensures ends { EndsIn (behind self.old Unlock).seat_view 2 Unlocked self.new.seat_view }
+        ensures seat_view { IsSeatView (after_further_start self.old Unlock).seat_view }
+        ensures ends { EndsIn (after_further_start self.old Unlock).seat_view 2 Unlocked self.new.seat_view }
         ensures out { (process_state_now self.new.seat_view).lock ≡ Rest }
         ensures steps { self.new.steps ≡ self.old.steps }
     {
@@ -331,10 +331,11 @@ impl CallDriver {
         requires accepted { refusal_now self.old (Append seq value.now) ≡ None }
         requires clean { process_state_now self.old.seat_view ≡ free_process_state Inside true }
         requires never_crashes { C.never_crashes plan.old ≡ true }
-        ensures ran { (mine : List TakenStep) × Ran (behind self.old (Append seq value.now)) (Some result) self.new mine
+        ensures ran { (mine : List TakenStep) × Ran (after_further_start self.old (Append seq value.now)) (Some result) self.new mine
             × NeverCrashes (length mine) (C.askings plan.old) (C.askings plan.new) }
-        ensures seat_view { IsSeatView (behind self.old (Append seq value.now)).seat_view }
-        ensures leaves { Fits (Append seq value.now) result × Leaves (Append seq value.now) result (process_state_now self.new.seat_view) }
+        ensures seat_view { IsSeatView (after_further_start self.old (Append seq value.now)).seat_view }
+        ensures leaves { IsAnswerOf (Append seq value.now) result
+            × Leaves (Append seq value.now) result (process_state_now self.new.seat_view) }
     {
         self.port.begin(Call::Append { seq, value: *value });
         // For the proof alone: its value is read.
@@ -350,10 +351,10 @@ impl CallDriver {
         requires idle { self.old.seat_view.start ≡ None }
         requires clean { process_state_now self.old.seat_view ≡ free_process_state Inside true }
         requires never_crashes { C.never_crashes plan.old ≡ true }
-        ensures ran { (mine : List TakenStep) × Ran (behind self.old Unlock) (Some result) self.new mine
+        ensures ran { (mine : List TakenStep) × Ran (after_further_start self.old Unlock) (Some result) self.new mine
             × NeverCrashes (length mine) (C.askings plan.old) (C.askings plan.new) }
-        ensures seat_view { IsSeatView (behind self.old Unlock).seat_view }
-        ensures leaves { Fits Unlock result × Leaves Unlock result (process_state_now self.new.seat_view) }
+        ensures seat_view { IsSeatView (after_further_start self.old Unlock).seat_view }
+        ensures leaves { IsAnswerOf Unlock result × Leaves Unlock result (process_state_now self.new.seat_view) }
     {
         self.go_out();
         self.steps = self.steps.saturating_add(2);
@@ -368,10 +369,10 @@ impl CallDriver {
         requires clean { process_state_now self.old.seat_view ≡ free_process_state Inside true }
         requires never_crashes { C.never_crashes plan.old ≡ true }
         requires call { HasFastWay call.now }
-        ensures ran { (mine : List TakenStep) × Ran (behind self.old call.now) (Some result) self.new mine
+        ensures ran { (mine : List TakenStep) × Ran (after_further_start self.old call.now) (Some result) self.new mine
             × NeverCrashes (length mine) (C.askings plan.old) (C.askings plan.new) }
-        ensures seat_view { IsSeatView (behind self.old call.now).seat_view }
-        ensures leaves { Fits call.now result × Leaves call.now result (process_state_now self.new.seat_view) }
+        ensures seat_view { IsSeatView (after_further_start self.old call.now).seat_view }
+        ensures leaves { IsAnswerOf call.now result × Leaves call.now result (process_state_now self.new.seat_view) }
     {
         match call {
             Call::Append { seq, value } => self.fast_append(plan, *seq, value),
@@ -399,10 +400,10 @@ impl CallDriver {
     }
 
     /// Starts a call after another one, unless it is refused. The steps of both are counted together.
-    pub fn begin_behind(&mut self, call: &Call) -> Result<(), Refusal>
+    pub fn begin_further(&mut self, call: &Call) -> Result<(), Refusal>
         requires { self.old.seat_view.start ≡ None }
         ensures accepted { OnOk result ((start_refusal self.old.seat_view.setup.layout (process_state_now self.old.seat_view)
-            call.now ≡ None) × (self.new ≡ behind self.old call.now)) }
+            call.now ≡ None) × (self.new ≡ after_further_start self.old call.now)) }
         ensures begun { OnOk result (Begun call.now self.old.seat_view.setup.layout.procs (process_state_now self.new.seat_view)) }
         ensures seat_view { OnOk result (IsSeatView self.new.seat_view) }
         ensures refused { IfErr result (λ e. start_refusal self.old.seat_view.setup.layout
@@ -427,7 +428,7 @@ impl CallDriver {
             (process_state_now self.old.seat_view) call.now ≡ Some e) }
         ensures err { OnErr result (self.new ≡ self.old) }
     {
-        self.begin_behind(call)?;
+        self.begin_further(call)?;
         self.steps = 0;
         Ok(())
     }

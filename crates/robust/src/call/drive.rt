@@ -3,22 +3,22 @@ ghost use Rattle.std.specs.Prelude.{◌≡◌, ◌≢◌, ℕ, ◌+◌, ◌≤�
 ghost use Rattle.rmeworld.specs.declared.call.Call.TheVariants.{Lock};
 ghost use Rattle.rmeworld.specs.OwnSteps.{most_steps};
 ghost use Rattle.rmeworld.specs.Refused.{is_idle};
-ghost use Rattle.execution.specs.declared.entry.TakenStep.{TakenStep};
-ghost use Rattle.execution.specs.SeatView.{IsSeatView, process_state_now};
-ghost use Rattle.execution.specs.Calls.{blocked_of, Ran, CutOff, Still, Served, Crashes};
+ghost use Rattle.table_runs.specs.declared.entry.TakenStep.{TakenStep};
+ghost use Rattle.table_runs.specs.SeatView.{IsSeatView, process_state_now};
+ghost use Rattle.table_runs.specs.Calls.{blocked_of, Ran, CutOff, Still, Served, Crashes};
 ghost use Rattle.crash_plans.specs.Plans.{NeverCrashes, Fell};
-ghost use Rattle.execution.specs.Lasting.{Lasts};
-ghost use Rattle.execution.specs.Running.{began};
-ghost use Rattle.execution.specs.Tabled.{table_steps, CountsAtMost};
-ghost use Rattle.robust.specs.Working.{seat_of};
-ghost use Rattle.execution.specs.Faults.{fault_for as fault_of, refusal_now, Fails};
-ghost use Rattle.execution.specs.Under.{IsUnder, Begun, Fits};
+ghost use Rattle.table_runs.specs.StepBounds.{Lasts};
+ghost use Rattle.table_runs.specs.WorkingMembers.{began};
+ghost use Rattle.table_runs.specs.Tabled.{table_steps, CountsAtMost};
+ghost use Rattle.robust.specs.MemberLaws.{seat_of};
+ghost use Rattle.table_runs.specs.Faults.{fault_for as fault_of, refusal_now, FailsUnblocked};
+ghost use Rattle.table_runs.specs.Under.{IsUnder, Begun, IsAnswerOf};
 
 use crate::call::call_driver::CallDriver;
 use crash_plans::CrashPlan;
-use execution::LockFault;
 use rmecore::Refusal;
 use rmeworld::{Answer, Call};
+use table_runs::LockFault;
 
 /// More steps than any call takes, blocked ones not counted.
 const MOST_STEPS: u64 = 256;
@@ -64,7 +64,7 @@ impl CallDriver {
         requires brief { call.now ≢ Lock }
         ensures answered { IfOk result (λ a. (mine : List TakenStep) × Served self.old call.now (a ∷ []) 0 self.new mine
             × NeverCrashes (length mine + 1) (C.askings plan.old) (C.askings plan.new)) }
-        ensures fits { IfOk result (λ a. Fits call.now a) }
+        ensures fits { IfOk result (λ a. IsAnswerOf call.now a) }
         ensures crashed { IfErr result (λ e. e ≡ LockFault.Crashed) }
         ensures cut { OnErr result ((mine : List TakenStep) × Crashes self.old call.now self.new mine
             × Fell (length mine + 1) (C.askings plan.old) (C.askings plan.new)) }
@@ -89,8 +89,8 @@ impl CallDriver {
             × Served (began self.old call.now) call.now (a ∷ []) 0 self.new mine
             × NeverCrashes (length mine + 1) (C.askings plan.old) (C.askings plan.new)) }
         ensures accepted { OnOk result (refusal_now self.old call.now ≡ None) }
-        ensures fits { IfOk result (λ a. Fits call.now a) }
-        ensures fails { IfErr result (Fails self.old call.now self.new (C.askings plan.old) (C.askings plan.new)) }
+        ensures fits { IfOk result (λ a. IsAnswerOf call.now a) }
+        ensures fails { IfErr result (FailsUnblocked self.old call.now self.new (C.askings plan.old) (C.askings plan.new)) }
         ensures idle { self.new.seat_view.start ≡ None }
         ensures seat { seat_of self.new ≡ seat_of self.old }
         ensures table { IfOk result (λ a. table_steps self.old.seat_view call.now a ≡ Some self.new.steps) }

@@ -3,7 +3,7 @@ ghost use Rattle.std.specs.Prelude.{◌≡◌, true, false};
 ghost use Rattle.rmeworld.specs.MachineState.{process_state_of as standing_at};
 ghost use Rattle.rmeworld.specs.declared.script_state.ScriptState.TheVariants as ScriptState;
 ghost use Rattle.robust.specs.FastPath.{checked_process_state};
-ghost use Rattle.robust.specs.FastCalls.{told_by};
+ghost use Rattle.robust.specs.FastCalls.{reports_by};
 
 use rmecore::Stage;
 use rmeworld::{Answer, Process};
@@ -19,8 +19,8 @@ pub enum Led {
 
 /// What the fast path answers: none, where the machine goes on; an inner none, where it was blocked; or the answer of the
 /// lock.
-pub fn told(led: Led) -> Option<Option<Answer>>
-    ensures { result ≡ told_by led }
+pub fn led_answer(led: Led) -> Option<Option<Answer>>
+    ensures { result ≡ reports_by led }
 {
     match led {
         Led::Blocked => Some(None),

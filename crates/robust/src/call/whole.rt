@@ -6,21 +6,21 @@ ghost use Rattle.rmeworld.specs.declared.call.Call.TheVariants.{Lock, Unlock, Wi
 ghost use Rattle.rmeworld.specs.declared.answer.Answer.{Answer as AnswerOf};
 ghost use Rattle.rmeworld.specs.declared.answer.Answer.TheVariants.{Mail, Unlocked};
 ghost use Rattle.rmeworld.specs.OwnSteps.{most_steps};
-ghost use Rattle.execution.specs.SeatView.{process_state_now};
+ghost use Rattle.table_runs.specs.SeatView.{process_state_now};
 ghost use Rattle.crash_plans.specs.Plans.{Askings};
-ghost use Rattle.execution.specs.Running.{Seated, began};
-ghost use Rattle.execution.specs.Tabled.{CountsAtMost};
-ghost use Rattle.execution.specs.Under.{Fits, Leaves, IsHolder};
-ghost use Rattle.execution.specs.Faults.{refusal_now, ready, CutIn, CutBy, AnsweredBy, LockBy, answer_of};
-ghost use Rattle.execution.specs.WholeSteps.{InsideCounts, most_inside, most_whole};
-ghost use Rattle.execution.specs.Whole.{IsTask, IsFront, IsInner, IsWithin, Inner, WholeBy, WholeGoes, WholeEnds, WholeFails};
+ghost use Rattle.table_runs.specs.WorkingMembers.{Seated, began};
+ghost use Rattle.table_runs.specs.Tabled.{CountsAtMost};
+ghost use Rattle.table_runs.specs.Under.{IsAnswerOf, Leaves, IsHolder};
+ghost use Rattle.table_runs.specs.Faults.{refusal_now, free_to_start, CutIn, CutBy, AnsweredBy, LockBy, answer_of};
+ghost use Rattle.table_runs.specs.WholeSteps.{InsideCounts, most_inside, most_whole};
+ghost use Rattle.table_runs.specs.Whole.{IsTask, IsFront, IsInner, AreCallsOf, Inner, WholeBy, WholeGoes, WholeEnds, WholeFails};
 
 use crate::call::call_driver::CallDriver;
 use crash_plans::CrashPlan;
-use execution::{Entry, LockFault};
 use redomail::Reply;
 use rmeworld::{Answer, Call};
 use std::sync::Wait;
+use table_runs::{Entry, LockFault};
 
 impl CallDriver {
     /// Starts a call after another one, one that is never blocked, and takes its steps up to its answer. The plan is not yet
@@ -31,7 +31,7 @@ impl CallDriver {
         requires brief { call.now ≢ Lock }
         ensures answered { IfOk result (λ a. AnsweredBy 0 self.old (call.now ∷ []) (a ∷ []) 0 self.new (C.askings plan.old)
             (C.askings plan.new)) }
-        ensures leaves { IfOk result (λ a. Fits call.now a × Leaves call.now a (process_state_now self.new.seat_view)) }
+        ensures leaves { IfOk result (λ a. IsAnswerOf call.now a × Leaves call.now a (process_state_now self.new.seat_view)) }
         ensures crashed { IfErr result (λ e. e ≡ LockFault.Crashed) }
         ensures cut { OnErr result (CutIn self.old call.now self.new (C.askings plan.old) (C.askings plan.new)) }
         ensures few { CountsAtMost (most_steps self.old.seat_view.setup.layout call.now) self.old self.new }
@@ -39,7 +39,7 @@ impl CallDriver {
         if self.has_fast_way(plan, call) {
             return Ok(self.fast_call(plan, call));
         }
-        match self.begin_behind(call) {
+        match self.begin_further(call) {
             Ok(()) => match self.run(plan, call)? {
                 Some(answer) => Ok(answer),
                 None => unreachable!(),
@@ -53,8 +53,8 @@ impl CallDriver {
         requires idle { self.old.seat_view.start ≡ None }
         requires holder { IsHolder (process_state_now self.old.seat_view) × ((process_state_now self.old.seat_view).mended ≡ true) }
         requires task { IsTask self.old.seat_view.setup.layout task.now }
-        ensures fits { IfOk result (λ reply. Fits task.now (Mail reply)) }
-        ensures out { OnOk result (refusal_now (ready self.new) Lock ≡ None) }
+        ensures fits { IfOk result (λ reply. IsAnswerOf task.now (Mail reply)) }
+        ensures out { OnOk result (refusal_now (free_to_start self.new) Lock ≡ None) }
         ensures done { IfOk result (λ reply. AnsweredBy 0 self.old (task.now ∷ Unlock ∷ []) (Mail reply ∷ Unlocked ∷ []) 0
             self.new (C.askings plan.old) (C.askings plan.new)) }
         ensures crashed { IfErr result (λ e. e ≡ LockFault.Crashed) }
@@ -87,8 +87,8 @@ impl CallDriver {
             × Inner Entry.OwnerDied task.now r order answers
             × AnsweredBy 0 self.old order answers 0 self.new (C.askings plan.old) (C.askings plan.new)
             × InsideCounts self.old false order answers self.new) }
-        ensures fits { IfOk result (λ r. IfOk r (λ reply. Fits task.now (Mail reply))) }
-        ensures out { OnOk result (refusal_now (ready self.new) Lock ≡ None) }
+        ensures fits { IfOk result (λ r. IfOk r (λ reply. IsAnswerOf task.now (Mail reply))) }
+        ensures out { OnOk result (refusal_now (free_to_start self.new) Lock ≡ None) }
         ensures crashed { IfErr result (λ e. e ≡ LockFault.Crashed) }
         ensures cut { OnErr result (CutBy self.old (IsInner Entry.OwnerDied task.now) self.new (C.askings plan.old) (C.askings plan.new)) }
         ensures few { CountsAtMost (most_inside self.old.seat_view.setup.layout task.now) self.old self.new }
@@ -115,17 +115,18 @@ impl CallDriver {
         task: &Call,
     ) -> Result<Result<Reply, LockFault>, LockFault>
         requires idle { self.old.seat_view.start ≡ None }
-        requires leaves { IfSome answer (λ a. Fits Lock a × Leaves Lock a (process_state_now self.old.seat_view)) }
+        requires leaves { IfSome answer (λ a. IsAnswerOf Lock a × Leaves Lock a (process_state_now self.old.seat_view)) }
         requires task { IsTask self.old.seat_view.setup.layout task.now }
-        ensures fits { IfOk result (λ r. IfOk r (λ reply. Fits task.now (Mail reply))) }
-        ensures out { (answer ≡ None → refusal_now (ready self.old) Lock ≡ None) → refusal_now (ready self.new) Lock ≡ None }
+        ensures fits { IfOk result (λ r. IfOk r (λ reply. IsAnswerOf task.now (Mail reply))) }
+        ensures out { (answer ≡ None → refusal_now (free_to_start self.old) Lock ≡ None)
+            → refusal_now (free_to_start self.new) Lock ≡ None }
         ensures comes { IfOk result (λ r. (x : Seated) (turns : ℕ) (a : Askings)
             → LockBy 0 x turns answer self.old a (C.askings plan.old) → WholeBy 0 x turns task.now r self.new a (C.askings plan.new)) }
         ensures patient { IfOk result (λ r. r ≡ Err LockFault.NotYet → answer ≡ None) }
         ensures stays { OnOk result (answer ≡ None → self.new ≡ self.old) }
         ensures crashed { IfErr result (λ e. e ≡ LockFault.Crashed) }
         ensures cut { OnErr result ((x : Seated) (turns : ℕ) (a : Askings) → LockBy 0 x turns answer self.old a (C.askings plan.old)
-            → CutBy x (IsWithin task.now) self.new a (C.askings plan.new)) }
+            → CutBy x (AreCallsOf task.now) self.new a (C.askings plan.new)) }
         ensures few { CountsAtMost (most_inside self.old.seat_view.setup.layout task.now) self.old self.new }
     {
         match answer {
@@ -153,10 +154,11 @@ impl CallDriver {
         task: &Call,
     ) -> Result<Reply, LockFault>
         requires idle { self.old.seat_view.start ≡ None }
-        requires leaves { IfSome answer (λ a. Fits Lock a × Leaves Lock a (process_state_now self.old.seat_view)) }
+        requires leaves { IfSome answer (λ a. IsAnswerOf Lock a × Leaves Lock a (process_state_now self.old.seat_view)) }
         requires task { IsTask self.old.seat_view.setup.layout task.now }
-        ensures fits { IfOk result (λ reply. Fits task.now (Mail reply)) }
-        ensures out { (answer ≡ None → refusal_now (ready self.old) Lock ≡ None) → refusal_now (ready self.new) Lock ≡ None }
+        ensures fits { IfOk result (λ reply. IsAnswerOf task.now (Mail reply)) }
+        ensures out { (answer ≡ None → refusal_now (free_to_start self.old) Lock ≡ None)
+            → refusal_now (free_to_start self.new) Lock ≡ None }
         ensures goes { (x : Seated) (turns : ℕ) (a : Askings) → LockBy 0 x turns answer self.old a (C.askings plan.old)
             → WholeGoes x turns task.now result self.new a (C.askings plan.new) }
         ensures patient { result ≡ Err LockFault.NotYet → answer ≡ None }
@@ -171,7 +173,7 @@ impl CallDriver {
     }
 
     /// A whole mailbox call, which gives up once it has been blocked more than `turns` times (`NotYet`).
-    #[tactic(auto, using(execution::proofs::WholeCalls::whole_replied, execution::proofs::WholeCalls::whole_fails, execution::proofs::WholeCalls::cut_fails, execution::proofs::WholeCalls::goes_idle, execution::proofs::WholeCalls::task_fits, execution::proofs::Chained::lock_idle))]
+    #[tactic(auto, using(table_runs::proofs::WholeCalls::whole_replied, table_runs::proofs::WholeCalls::whole_fails, table_runs::proofs::WholeCalls::cut_fails, table_runs::proofs::WholeCalls::goes_idle, table_runs::proofs::WholeCalls::task_fits, table_runs::proofs::Chained::lock_idle))]
     pub fn mail_within<C: CrashPlan>(
         &mut self,
         plan: &mut C,
@@ -180,11 +182,11 @@ impl CallDriver {
     ) -> Result<Reply, LockFault>
         requires idle { self.old.seat_view.start ≡ None }
         requires task { IsTask self.old.seat_view.setup.layout task.now }
-        ensures accepted { OnOk result (refusal_now (ready self.old) Lock ≡ None) }
-        ensures fits { IfOk result (λ reply. Fits task.now (Mail reply)) }
-        ensures out { result ≢ Err LockFault.AlreadyIn → refusal_now (ready self.new) Lock ≡ None }
+        ensures accepted { OnOk result (refusal_now (free_to_start self.old) Lock ≡ None) }
+        ensures fits { IfOk result (λ reply. IsAnswerOf task.now (Mail reply)) }
+        ensures out { result ≢ Err LockFault.AlreadyIn → refusal_now (free_to_start self.new) Lock ≡ None }
         ensures waits { result ≡ Err LockFault.NotYet → refusal_now self.new Withdraw ≡ None }
-        ensures replied { IfOk result (λ reply. WholeEnds (began (ready self.old) Lock) turns task.now (Ok reply) self.new
+        ensures replied { IfOk result (λ reply. WholeEnds (began (free_to_start self.old) Lock) turns task.now (Ok reply) self.new
             (C.askings plan.old) (C.askings plan.new)) }
         ensures fails { IfErr result (WholeFails self.old turns task.now self.new (C.askings plan.old) (C.askings plan.new)) }
         ensures idle { self.new.seat_view.start ≡ None }
@@ -208,11 +210,12 @@ impl CallDriver {
     ) -> Result<Reply, LockFault>
         requires idle { self.old.seat_view.start ≡ None }
         requires task { IsTask self.old.seat_view.setup.layout task.now }
-        ensures accepted { OnOk result (refusal_now (ready self.old) Lock ≡ None) }
-        ensures fits { IfOk result (λ reply. Fits task.now (Mail reply)) }
-        ensures out { result ≢ Err LockFault.AlreadyIn → refusal_now (ready self.new) Lock ≡ None }
+        ensures accepted { OnOk result (refusal_now (free_to_start self.old) Lock ≡ None) }
+        ensures fits { IfOk result (λ reply. IsAnswerOf task.now (Mail reply)) }
+        ensures out { result ≢ Err LockFault.AlreadyIn → refusal_now (free_to_start self.new) Lock ≡ None }
         ensures replied { IfOk result (λ reply. (turns : ℕ)
-            × WholeEnds (began (ready self.old) Lock) turns task.now (Ok reply) self.new (C.askings plan.old) (C.askings plan.new)) }
+            × WholeEnds (began (free_to_start self.old) Lock) turns task.now (Ok reply) self.new (C.askings plan.old)
+            (C.askings plan.new)) }
         ensures fails { IfErr result (λ e. (turns : ℕ)
             × WholeFails self.old turns task.now self.new (C.askings plan.old) (C.askings plan.new) e) }
         ensures patient { IfErr result (λ e. e ≢ LockFault.NotYet) }

@@ -2,25 +2,25 @@
 
 ghost use Rattle.std.specs.Prelude.{◌≡◌, ◌≤◌, ◌⊎◌, ℕ, None, IfOk, IfErr, OnOk, length};
 ghost use Rattle.rmeworld.specs.declared.call.Call.TheVariants.{Lock, Append};
-ghost use Rattle.execution.specs.Faults.{refusal_now, ready};
-ghost use Rattle.execution.specs.SeatView.{own_of};
-ghost use Rattle.execution.specs.Ruins.{AreInOrder, HasReadRuin};
-ghost use Rattle.execution.specs.Telling.{ToldIn};
-ghost use Rattle.execution.specs.Under.{Appends};
-ghost use Rattle.robust.specs.LabFaults.{WasSpent};
+ghost use Rattle.table_runs.specs.Faults.{refusal_now, free_to_start};
+ghost use Rattle.table_runs.specs.SeatView.{own_of};
+ghost use Rattle.table_runs.specs.Ruins.{AreInWorkerOrder, HasReadRuin};
+ghost use Rattle.table_runs.specs.AppendReplies.{ReportedIn};
+ghost use Rattle.table_runs.specs.Under.{Appends};
+ghost use Rattle.robust.specs.LabFaults.{NumbersWereSpent};
 ghost use Rattle.robust.specs.Worked.{HasWorked, sizes_of};
-ghost use Rattle.robust.specs.Sending.{IsNew, IsSending, SendsOnly, HasShown};
-ghost use Rattle.robust.specs.Working.{seat_of};
+ghost use Rattle.robust.specs.WorkerSends.{IsNew, IsSending, SendsOnly, HasShown};
+ghost use Rattle.robust.specs.MemberLaws.{seat_of};
 
 use crate::member::Member;
-use execution::LockFault;
-use one_lock::lab::sending::{is_crash, is_sent, value_sent};
-use one_lock::lab::{Gate, Spec, WorkerEnd};
 use redomail::Reply;
 use rmecore::Body;
 use std::snapshot::Snapshot;
 use std::sync::Wait;
 use std::thread::Promise;
+use table_runs::LockFault;
+use table_runs::lab::sent_messages::{is_crash, is_sent, value_sent};
+use table_runs::lab::{Gate, Spec, WorkerEnd};
 
 /// A worker that has ended, with the member that it was given.
 #[derive(Drop)]
@@ -36,7 +36,7 @@ pub struct HandsBack(pub Snapshot<Member>, pub Spec);
 impl Promise<Done> for HandsBack {
     ghost use Rattle.std.specs.Prelude.{◌≡◌};
     ghost use Rattle.robust.specs.Worked.{HasWorked};
-    ghost use Rattle.robust.specs.Working.{seat_of};
+    ghost use Rattle.robust.specs.MemberLaws.{seat_of};
 
     ghost kept_by = { λ promise done. (seat_of done.member ≡ seat_of promise.0.value) × HasWorked promise.1 done };
 }
@@ -80,21 +80,21 @@ fn send<G: Gate, R: Wait>(
     value: Body,
 ) -> Result<Reply, LockFault>
     requires width { length value ≡ member.old.seat_view.setup.layout.width }
-    requires out { refusal_now (ready member.old) Lock ≡ None }
-    ensures out { refusal_now (ready member.new) Lock ≡ None }
+    requires out { refusal_now (free_to_start member.old) Lock ≡ None }
+    ensures out { refusal_now (free_to_start member.new) Lock ≡ None }
     ensures kind { IfOk result (Appends seq) }
-    ensures tells { IfOk result (λ reply. ToldIn member.old seq reply member.new) }
+    ensures tells { IfOk result (λ reply. ReportedIn member.old seq reply member.new) }
     ensures faults { IfErr result (λ purpose. (purpose ≡ LockFault.NumbersSpent) ⊎ (purpose ≡ LockFault.NotRecoverable)) }
-    ensures ordered { AreInOrder None (own_of member.old.seat_view) → AreInOrder None (own_of member.new.seat_view) }
-    ensures ruin { IfErr result (λ purpose. AreInOrder None (own_of member.old.seat_view)
+    ensures ordered { AreInWorkerOrder None (own_of member.old.seat_view) → AreInWorkerOrder None (own_of member.new.seat_view) }
+    ensures ruin { IfErr result (λ purpose. AreInWorkerOrder None (own_of member.old.seat_view)
         → purpose ≡ LockFault.NotRecoverable → HasReadRuin (own_of member.new.seat_view)) }
     ensures spent { IfErr result (λ purpose. purpose ≡ LockFault.NumbersSpent
-        → WasSpent member.new.seat_view.setup (own_of member.new.seat_view)) }
+        → NumbersWereSpent member.new.seat_view.setup (own_of member.new.seat_view)) }
     ensures seat { seat_of member.new ≡ seat_of member.old }
     ensures only { (width k : ℕ) → IsSending width k member.old.seat_view.by (Append seq value)
         → SendsOnly width k member.old → SendsOnly width k member.new }
     ensures shown { IfOk result (λ reply. (reply ≡ Reply.Stored) ⊎ (reply ≡ Reply.Already) → HasShown seq member.new) }
-    ensures told { OnOk result ((asking : G) × G.heard asking seq gate.new) }
+    ensures reports { OnOk result ((asking : G) × G.heard asking seq gate.new) }
 {
     for _ in rt.forever() {
         match member.append(rt, seq, value, gate) {

@@ -2,11 +2,11 @@
 
 use crash_plans::{CrashPlan, Never};
 use crossbeam_utils::Backoff;
-use one_lock::lab::Gate;
 use std::alloc::{AllocError, Global};
 use std::sync::Arc;
 use std::sync::atomic::{AtomicU64, Ordering};
 use std::test::Fail;
+use table_runs::lab::Gate;
 
 /// How often a gate checks before it gives up.
 const MOST_LOOKS: u64 = 10_000_000;
@@ -40,7 +40,7 @@ impl WorkerProgress {
 
     /// The worker has asked at least and at most this often, and its last answer, reported after its last asking, is this
     /// one; 0 is none.
-    pub fn has_told(&self, answer: u64, least: u64, most: u64) -> bool {
+    pub fn has_reported(&self, answer: u64, least: u64, most: u64) -> bool {
         let askings = self.askings.load(Ordering::SeqCst);
         let last = if answer == 0 { 0 } else { askings };
         least <= askings

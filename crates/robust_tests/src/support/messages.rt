@@ -3,11 +3,11 @@
 ghost use Rattle.std.specs.Prelude.{◌≡◌, length};
 
 use super::text::number;
-use one_lock::lab::Spec;
 use redomail::{Layout, Message, content};
 use rmecore::Body;
 use rmeworld::Image;
 use std::alloc::Global;
+use table_runs::lab::Spec;
 use test_support::text::cut;
 
 /// A value of one word.

@@ -1,10 +1,10 @@
 //! A gate that notes which answers its worker reports, and after which asking.
 
 use crash_plans::{Both, CrashPlan};
-use one_lock::lab::{Gate, Spec};
 use std::alloc::{AllocError, Global};
 use std::sync::Arc;
 use std::sync::atomic::{AtomicU64, Ordering};
+use table_runs::lab::{Gate, Spec};
 
 /// One worker with three messages. No other process takes a number, so the limit 1 is enough.
 pub const ALONE: Spec = Spec {

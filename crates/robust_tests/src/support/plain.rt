@@ -7,7 +7,6 @@ ghost use Rattle.one_lock.specs.Shown.{place_of};
 use crate::support::messages::body;
 use crate::support::tested::{MemberCall, Tested};
 use crash_plans::CrashPlan;
-use execution::{Entry, LockFault};
 use one_lock::{Arena, Member, gather};
 use redomail::Reply;
 use rmeworld::{Answer, Image};
@@ -15,6 +14,7 @@ use std::alloc::Global;
 use std::process::Abort;
 use std::sync::Wait;
 use std::sync::ledger::{Blank, Ledger};
+use table_runs::{Entry, LockFault};
 
 /// The answer of a lock that entered.
 pub fn entered(entry: Entry) -> Answer {

@@ -12,13 +12,13 @@ use super::messages::shows;
 use super::tested::{MemberCall, Tested};
 use super::text::{number, part, place};
 use crash_plans::CrashPlan;
-use execution::LockFault;
 use redomail::Reply;
 use rmecore::Found;
 use rmeworld::{Answer, Image, start_of};
 use std::alloc::Global;
 use std::process::Abort;
 use std::sync::Wait;
+use table_runs::LockFault;
 use test_support::text::cut;
 
 /// The call of these words.
@@ -76,12 +76,13 @@ fn answer_name(answer: Answer) -> &'static str {
 }
 
 /// Whether the answer has this name. The answer of a `get` is a number.
-pub fn is_named(told: Result<Answer, LockFault>, name: &str) -> bool {
-    match told {
+pub fn is_named(reports: Result<Answer, LockFault>, name: &str) -> bool {
+    match reports {
         Ok(Answer::Mail(Reply::Word(word))) => name.parse::<u64>() == Ok(word),
         Ok(answer) => {
-            let told = answer_name(answer);
-            told == name || name == "stored-or-already" && (told == "stored" || told == "already")
+            let reports = answer_name(answer);
+            reports == name
+                || name == "stored-or-already" && (reports == "stored" || reports == "already")
         }
         Err(fault) => fault_name(fault) == name,
     }
@@ -109,8 +110,8 @@ fn counted<M: Tested, C: CrashPlan, R: Wait>(
 ) -> (Result<Answer, LockFault>, u64)
     ensures { M.place member.new ≡ M.place member.old }
 {
-    let told = member.call(rt, call, plan);
-    (told, plan.taken())
+    let reports = member.call(rt, call, plan);
+    (reports, plan.taken())
 }
 
 /// Whether the member's call comes to what the row says.
@@ -127,14 +128,14 @@ fn is_right<M: Tested, C: CrashPlan, R: Wait>(
     let Some(call) = call_of(cut(&mut falls, " @")) else {
         return false;
     };
-    let (told, askings) = if falls.is_empty() {
+    let (reports, askings) = if falls.is_empty() {
         counted(rt, member, call, plan)
     } else if falls == "never" {
         counted(rt, member, call, &mut never())
     } else {
         counted(rt, member, call, &mut at(number(&mut falls)))
     };
-    is_named(told, cut(&mut wanted, " ")) && are_counted(wanted, member.own_steps(), askings)
+    is_named(reports, cut(&mut wanted, " ")) && are_counted(wanted, member.own_steps(), askings)
 }
 
 /// Plays rows of one member alone, which name no member. It answers the first row that comes to something else.

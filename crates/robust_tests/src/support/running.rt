@@ -2,20 +2,20 @@
 
 ghost use Rattle.std.specs.Prelude.{◌≡◌, ℕ};
 ghost use Rattle.atomic_table.specs.Seated.{TableId};
-ghost use Rattle.execution.specs.declared.setup.Setup.{Setup};
-ghost use Rattle.robust.specs.Working.{seat_of};
+ghost use Rattle.table_runs.specs.declared.setup.Setup.{Setup};
+ghost use Rattle.robust.specs.MemberLaws.{seat_of};
 
 use crate::support::messages::body;
 use crate::support::plain::entered;
 use crate::support::tested::{MemberCall, Tested};
 use crash_plans::CrashPlan;
-use execution::LockFault;
 use redomail::Reply;
 use rmeworld::{Answer, Image};
 use robust::{Arena, Member, gather};
 use std::alloc::Global;
 use std::process::Abort;
 use std::sync::Wait;
+use table_runs::LockFault;
 
 impl Tested for Member {
     ghost Place = { TableId × Setup × ℕ };

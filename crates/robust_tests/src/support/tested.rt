@@ -3,11 +3,11 @@
 ghost use Rattle.std.specs.Prelude.{◌≡◌};
 
 use crash_plans::CrashPlan;
-use execution::LockFault;
 use redomail::Reply;
 use rmeworld::{Answer, Image};
 use std::alloc::Global;
 use std::sync::Wait;
+use table_runs::LockFault;
 
 /// A call of a member. A lock, or the lock of an append, that has no turns waits as long as it has to. The value of an append
 /// has one word.

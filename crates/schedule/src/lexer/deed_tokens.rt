@@ -5,7 +5,7 @@ ghost use Rattle.std.specs.Fmt.{decimal};
 ghost use Rattle.schedule.specs.declared.lines.deed.DeedWord.TheVariants as names;
 ghost use Rattle.schedule.specs.Words.{line_of};
 ghost use Rattle.schedule.specs.Deeds.{word_of, words_of_deed, deed_at, IsDeed};
-ghost use Rattle.schedule.specs.FirstLines.{Begins};
+ghost use Rattle.schedule.specs.FirstLines.{BeginsWithItem};
 
 use crate::lexer::tokens::{after_line_end, after_space, number, numbers, value};
 use crate::lines::deed::DeedWord;
@@ -136,7 +136,7 @@ fn show(width: u64, p: u64, text: &[u8]) -> Option<(Deed, &[u8])>
 #[inline(always)]
 pub fn first_deed(width: u64, text: &[u8]) -> Option<(Deed, &[u8])>
     requires { (1 ≤ width) × (width ≤ 8) }
-    ensures { IfSome result (λ read. Begins (deed_at width) text.now read.0 read.1.now) }
+    ensures { IfSome result (λ read. BeginsWithItem (deed_at width) text.now read.0 read.1.now) }
 {
     let (word, tail) = word(text)?;
     let (p, rest) = number(tail)?;

@@ -5,7 +5,7 @@ ghost use Rattle.std.specs.Prelude.{◌≡◌, ℕ, ◌+◌, ◌^◌, ◌<◌, �
 ghost use Rattle.schedule.specs.declared.lines.line.Line.{Line as LineOf};
 ghost use Rattle.schedule.specs.Commands.{line_at};
 ghost use Rattle.schedule.specs.Texts.{items_at, Fails};
-ghost use Rattle.schedule.specs.FirstLines.{Tries, Begins};
+ghost use Rattle.schedule.specs.FirstLines.{Tries, BeginsWithItem};
 ghost use Rattle.schedule.specs.Words.{parts_of};
 ghost use Rattle.schedule.specs.Schedules.{schedule_at, scheduled_with};
 
@@ -14,7 +14,7 @@ use crate::lexer::tokens::steps;
 use crate::lines::cut::cut_once;
 use crate::lines::fault::LineFault;
 use crate::lines::line::Line;
-use crate::lines::reading::read_line;
+use crate::lines::line_reader::read_line;
 use crate::texts::fault::TextFault;
 use crate::texts::head::Head;
 use crate::texts::whole::Heading;
@@ -25,7 +25,7 @@ use crate::texts::whole::Heading;
 fn line_by_words(width: u64, text: &[u8]) -> Result<(Line, &[u8]), LineFault>
     requires width { (1 ≤ width) × (width ≤ 8) }
     requires some { 0 < length text.now }
-    ensures read { IfOk result (λ read. Begins (line_at width) text.now read.0 read.1.now) }
+    ensures read { IfOk result (λ read. BeginsWithItem (line_at width) text.now read.0 read.1.now) }
     ensures fault { IfErr result (λ fault. (k : ℕ) → items_at (line_at width) k (parts_of text.now) ≡ Err (k, fault)) }
 {
     let Some((line, after)) = cut_once(text, b'\n') else {
@@ -43,7 +43,7 @@ fn line_by_words(width: u64, text: &[u8]) -> Result<(Line, &[u8]), LineFault>
 pub fn next_line(width: u64, text: &[u8]) -> Result<(Line, &[u8]), LineFault>
     requires width { (1 ≤ width) × (width ≤ 8) }
     requires some { 0 < length text.now }
-    ensures read { IfOk result (λ read. Begins (line_at width) text.now read.0 read.1.now) }
+    ensures read { IfOk result (λ read. BeginsWithItem (line_at width) text.now read.0 read.1.now) }
     ensures fault { IfErr result (λ fault. (k : ℕ) → items_at (line_at width) k (parts_of text.now) ≡ Err (k, fault)) }
 {
     match first_line(width, text) {
@@ -58,7 +58,7 @@ pub fn next_line(width: u64, text: &[u8]) -> Result<(Line, &[u8]), LineFault>
 fn after_other_line(width: u64, text: &[u8]) -> Result<&[u8], LineFault>
     requires width { (1 ≤ width) × (width ≤ 8) }
     requires some { 0 < length text.now }
-    ensures read { IfOk result (λ after. (line : LineOf) × Begins (line_at width) text.now line after.now) }
+    ensures read { IfOk result (λ after. (line : LineOf) × BeginsWithItem (line_at width) text.now line after.now) }
     ensures fault { IfErr result (λ fault. (k : ℕ) → items_at (line_at width) k (parts_of text.now) ≡ Err (k, fault)) }
 {
     match next_line(width, text) {
@@ -73,7 +73,7 @@ fn after_other_line(width: u64, text: &[u8]) -> Result<&[u8], LineFault>
 fn after_line(width: u64, text: &[u8]) -> Result<&[u8], LineFault>
     requires width { (1 ≤ width) × (width ≤ 8) }
     requires some { 0 < length text.now }
-    ensures read { IfOk result (λ after. (line : LineOf) × Begins (line_at width) text.now line after.now) }
+    ensures read { IfOk result (λ after. (line : LineOf) × BeginsWithItem (line_at width) text.now line after.now) }
     ensures fault { IfErr result (λ fault. (k : ℕ) → items_at (line_at width) k (parts_of text.now) ≡ Err (k, fault)) }
 {
     match steps(text) {

@@ -5,7 +5,7 @@ ghost use Rattle.std.specs.Fmt.{decimal};
 ghost use Rattle.schedule.specs.declared.lines.command.Keyword.TheVariants as commands;
 ghost use Rattle.schedule.specs.Words.{line_of};
 ghost use Rattle.schedule.specs.Commands.{word_of, words_of_line, line_at, IsLine};
-ghost use Rattle.schedule.specs.FirstLines.{Begins};
+ghost use Rattle.schedule.specs.FirstLines.{BeginsWithItem};
 
 use crate::lexer::tokens::{after_line_end, after_space, number, numbers, value};
 use crate::lines::command::Keyword;
@@ -167,7 +167,7 @@ fn put(p: u64, text: &[u8]) -> Option<(Line, &[u8])>
 #[inline(always)]
 pub fn first_line(width: u64, text: &[u8]) -> Option<(Line, &[u8])>
     requires { (1 ≤ width) × (width ≤ 8) }
-    ensures { IfSome result (λ read. Begins (line_at width) text.now read.0 read.1.now) }
+    ensures { IfSome result (λ read. BeginsWithItem (line_at width) text.now read.0 read.1.now) }
 {
     let (command, tail) = word(text)?;
     let (p, rest) = number(tail)?;

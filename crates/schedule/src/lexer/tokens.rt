@@ -2,11 +2,11 @@
 
 ghost use Rattle.std.specs.Prelude.{◌≡◌, ℕ, ◌<◌, ◌≤◌, ◌^◌, ◌++◌, ◌∷◌, [], IfSome, codes, take};
 ghost use Rattle.std.specs.Fmt.{decimal};
-ghost use Rattle.schedule.specs.Words.{spaced};
+ghost use Rattle.schedule.specs.Words.{spaced_numbers};
 ghost use Rattle.schedule.specs.Deeds.{IsValue};
 ghost use Rattle.schedule.specs.declared.lines.line.Line.TheVariants.{Step};
 ghost use Rattle.schedule.specs.Commands.{line_at};
-ghost use Rattle.schedule.specs.FirstLines.{Begins};
+ghost use Rattle.schedule.specs.FirstLines.{BeginsWithItem};
 
 use crate::lines::range::fit_words;
 use rmecore::Body;
@@ -70,7 +70,7 @@ pub(crate) fn after_space(text: &[u8]) -> Option<&[u8]>
 #[inline(always)]
 pub(crate) fn numbers<'a>(width: u64, words: &mut [u64; 8], text: &'a [u8]) -> Option<&'a [u8]>
     requires { (1 ≤ width) × (width ≤ 8) }
-    ensures { IfSome result (λ rest. text.now ≡ spaced (take width words.new) ++ rest.now) }
+    ensures { IfSome result (λ rest. text.now ≡ spaced_numbers (take width words.new) ++ rest.now) }
 {
     let mut rest = text;
     for j in 0..width as usize {
@@ -129,7 +129,7 @@ fn short_step(text: &[u8]) -> Option<(u8, &[u8])>
 #[inline(always)]
 #[tactic(auto, using(crate::proofs::Tokens::digit_step))]
 fn one_step(text: &[u8]) -> Option<(u64, &[u8])>
-    ensures { IfSome result (λ read. (width : ℕ) → Begins (line_at width) text.now (Step read.0 1) read.1.now) }
+    ensures { IfSome result (λ read. (width : ℕ) → BeginsWithItem (line_at width) text.now (Step read.0 1) read.1.now) }
 {
     let (name, rest) = short_step(text)?;
     if !name.is_ascii_digit() {
@@ -143,7 +143,7 @@ fn one_step(text: &[u8]) -> Option<(u64, &[u8])>
 // Inline: one call a line.
 #[inline(always)]
 pub fn steps(text: &[u8]) -> Option<(u64, u64, &[u8])>
-    ensures read { (width : ℕ) → IfSome result (λ read. Begins (line_at width) text.now (Step read.0 read.1) read.2.now) }
+    ensures read { (width : ℕ) → IfSome result (λ read. BeginsWithItem (line_at width) text.now (Step read.0 read.1) read.2.now) }
     ensures least { IfSome result (λ read. 1 ≤ read.1) }
 {
     if let Some((p, rest)) = one_step(text) {

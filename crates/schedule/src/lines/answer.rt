@@ -7,7 +7,7 @@ ghost use Rattle.schedule.specs.Words.{line_of};
 ghost use Rattle.schedule.specs.Deeds.{words_of_deed};
 ghost use Rattle.schedule.specs.Answers.{words_of_answer, words_of_reply};
 
-use crate::lines::writing::{put_message, put_number, put_placed, put_start};
+use crate::lines::line_writer::{put_message, put_number, put_placed, put_start};
 use redomail::{Deed, Reply};
 use rmecore::{Found, Outer};
 use rmeworld::Answer;

@@ -1,7 +1,7 @@
 //! The first words of a schedule's lines.
 
 ghost use Rattle.std.specs.Prelude.{◌≡◌};
-ghost use Rattle.schedule.specs.Words.{named};
+ghost use Rattle.schedule.specs.Words.{value_of_name};
 ghost use Rattle.schedule.specs.Commands.{commands_by_name};
 
 /// The first word of a line: a call that a process starts, or `step`, or `crash`.
@@ -22,7 +22,7 @@ pub enum Keyword {
 
 /// The command that a word names.
 pub fn command_at(word: &[u8]) -> Option<Keyword>
-    ensures { result ≡ named commands_by_name word.now }
+    ensures { result ≡ value_of_name commands_by_name word.now }
 {
     if word == b"lock".as_slice() {
         Some(Keyword::Lock)

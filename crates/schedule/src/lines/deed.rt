@@ -1,14 +1,14 @@
 //! Reads the deed lines of a trace.
 
 ghost use Rattle.std.specs.Prelude.{◌≡◌, ◌≤◌, ◌<◌, ◌^◌, ◌==◌, true, length, IsTrue};
-ghost use Rattle.schedule.specs.Words.{Reads, words_of, named, item_after};
+ghost use Rattle.schedule.specs.Words.{ReadsItem, words_of, value_of_name, item_after};
 ghost use Rattle.schedule.specs.Deeds.{deeds_by_name, places, deed_with, deed_at, fits, IsDeed, IsValue};
 ghost use Rattle.rmecore.specs.AbstractLock.{doer};
 
 use crate::lines::fault::LineFault;
 use crate::lines::item::Item;
 use crate::lines::range::{fit_words, fits_word};
-use crate::lines::words::Words;
+use crate::lines::words::LineWords;
 use redomail::Deed;
 use rmecore::{Body, Outer};
 
@@ -30,7 +30,7 @@ pub enum DeedWord {
 
 /// The deed that a line begins with, by its first word.
 fn deed_word_at(word: &[u8]) -> Option<DeedWord>
-    ensures { result ≡ named deeds_by_name word.now }
+    ensures { result ≡ value_of_name deeds_by_name word.now }
 {
     if word == b"begin".as_slice() {
         Some(DeedWord::Begin)
@@ -61,9 +61,9 @@ fn deed_word_at(word: &[u8]) -> Option<DeedWord>
 
 /// Reads the rest of a deed after its first word.
 #[tactic(auto, unfolding(crate::specs::Words::item_after))]
-fn deed_after(width: u64, word: DeedWord, words: &mut Words) -> Result<Deed, LineFault>
+fn deed_after(width: u64, word: DeedWord, words: &mut LineWords) -> Result<Deed, LineFault>
     requires { (1 ≤ width) × (width ≤ 8) }
-    ensures { Reads (λ deed. deed) result (item_after (places width) deed_with word words.old) }
+    ensures { ReadsItem (λ deed. deed) result (item_after (places width) deed_with word words.old) }
 {
     let p = words.number()?;
     let deed = match word {
@@ -95,9 +95,9 @@ fn deed_after(width: u64, word: DeedWord, words: &mut Words) -> Result<Deed, Lin
 /// Reads a line of a trace of this width, without its LF.
 pub fn read_deed(width: u64, line: &[u8]) -> Result<Deed, LineFault>
     requires { (1 ≤ width) × (width ≤ 8) }
-    ensures { Reads (λ deed. deed) result (deed_at width (words_of line.now)) }
+    ensures { ReadsItem (λ deed. deed) result (deed_at width (words_of line.now)) }
 {
-    let mut words = Words::of(line);
+    let mut words = LineWords::of(line);
     let word = words.next().ok_or(LineFault::BadWord)?;
     let deed_word = deed_word_at(word).ok_or(LineFault::BadWord)?;
     deed_after(width, deed_word, &mut words)

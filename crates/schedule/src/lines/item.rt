@@ -2,7 +2,7 @@
 
 ghost use Rattle.std.specs.Prelude.{◌≡◌, ℕ, ◌≤◌, Bool, List, Result, IsTrue};
 ghost use Rattle.schedule.specs.declared.lines.fault.LineFault.{LineFault};
-ghost use Rattle.schedule.specs.Words.{Reads, words_of};
+ghost use Rattle.schedule.specs.Words.{ReadsItem, words_of};
 
 use crate::lines::fault::LineFault;
 
@@ -20,7 +20,7 @@ pub trait Item: Drop {
     /// Reads it from a line without its LF, in a text of this width.
     fn read(width: u64, line: &[u8]) -> Result<Self, LineFault>
         requires { (1 ≤ width) × (width ≤ 8) }
-        ensures { Reads (λ item. item) result (item_at width (words_of line.now)) };
+        ensures { ReadsItem (λ item. item) result (item_at width (words_of line.now)) };
 
     /// Whether each value that it holds has this width.
     fn fits(&self, width: u64) -> bool

@@ -5,7 +5,7 @@ ghost use Rattle.std.specs.List.{list_all};
 ghost use Rattle.std.specs.Char.{is_ascii_digit};
 ghost use Rattle.std.specs.Option.{option_copied};
 ghost use Rattle.std.specs.Str.Parse.{digits_value, AllDigits};
-ghost use Rattle.schedule.specs.Words.{number_in, Reads};
+ghost use Rattle.schedule.specs.Words.{number_in, ReadsItem};
 
 use crate::lines::fault::LineFault;
 
@@ -68,7 +68,7 @@ fn long_value(word: &[u8]) -> Result<u64, LineFault>
 /// The number of a word that is digits without a leading zero.
 #[tactic(auto, unfolding(crate::specs::Words::number_in))]
 fn numeral(word: &[u8]) -> Result<u64, LineFault>
-    ensures { Reads (λ n. n) result (number_in 0 (2 ^ 64 - 1) (Some word.now)) }
+    ensures { ReadsItem (λ n. n) result (number_in 0 (2 ^ 64 - 1) (Some word.now)) }
 {
     if word.is_empty() || (word.len() > 1 && word[0] == b'0') {
         return Err(LineFault::BadNumber);
@@ -82,7 +82,7 @@ fn numeral(word: &[u8]) -> Result<u64, LineFault>
 #[tactic(auto, unfolding(crate::specs::Words::number_in))]
 /// The number that the word says. `BadNumber` where the word is missing, no number, or below `least`; `TooBig` above `most`.
 pub fn number_from(least: u64, most: u64, word: Option<&[u8]>) -> Result<u64, LineFault>
-    ensures number { Reads (λ n. n) result (number_in least most (option_copied word.entry)) }
+    ensures number { ReadsItem (λ n. n) result (number_in least most (option_copied word.entry)) }
     ensures range { IfOk result (λ n. (least ≤ n) × (n ≤ most)) }
 {
     let word = word.ok_or(LineFault::BadNumber)?;
@@ -96,7 +96,7 @@ pub fn number_from(least: u64, most: u64, word: Option<&[u8]>) -> Result<u64, Li
 
 /// The number of 64 bits that the word says.
 pub fn number(word: Option<&[u8]>) -> Result<u64, LineFault>
-    ensures { Reads (λ n. n) result (number_in 0 (2 ^ 64 - 1) (option_copied word.entry)) }
+    ensures { ReadsItem (λ n. n) result (number_in 0 (2 ^ 64 - 1) (option_copied word.entry)) }
 {
     number_from(0, u64::MAX, word)
 }

@@ -4,7 +4,7 @@ ghost use Rattle.std.specs.Prelude.{if◌then◌else◌, ◌≡◌, ℕ, ◌^◌
 ghost use Rattle.std.specs.Option.{option_copied};
 ghost use Rattle.std.specs.Str.Parse.{digits_value, AllDigits};
 ghost use Rattle.schedule.specs.declared.lines.fault.LineFault.TheVariants.{NoHeader};
-ghost use Rattle.schedule.specs.Words.{words_left, words_of, first_of, is_numeral, number_in, Reads, numbers_at, many, any, Number, Shape, begins_with, is_nil};
+ghost use Rattle.schedule.specs.Words.{words_left, words_of, first_of, is_numeral, number_in, ReadsItem, numbers_at, repeated_shape, any, Number, WordShape, begins_with, is_nil};
 
 use crate::lines::count::Count;
 use crate::lines::cut::cut_once;
@@ -15,11 +15,11 @@ use std::marker::Model;
 
 /// The rest of a line, as words that are cut at every space.
 #[derive(Drop)]
-pub struct Words<'a> {
+pub struct LineWords<'a> {
     rest: Option<&'a [u8]>,
 }
 
-impl<'a> Model for Words<'a> {
+impl<'a> Model for LineWords<'a> {
     ghost use Rattle.std.specs.Prelude.{ℕ, List};
     ghost use Rattle.schedule.specs.Words.{words_left};
     ghost use Rattle.std.specs.Option.{option_copied};
@@ -29,12 +29,12 @@ impl<'a> Model for Words<'a> {
     ghost view = { λ w. words_left (option_copied w.rest) };
 }
 
-impl<'a> Words<'a> {
+impl<'a> LineWords<'a> {
     /// All words of a line.
-    pub fn of(line: &'a [u8]) -> Words<'a>
+    pub fn of(line: &'a [u8]) -> LineWords<'a>
         ensures { result ≡ words_of line.now }
     {
-        Words { rest: Some(line) }
+        LineWords { rest: Some(line) }
     }
 
     /// The next word, if there is one.
@@ -67,7 +67,7 @@ impl<'a> Words<'a> {
 
     /// The number from `least` to `most` that the next word says. Faults as of `number::number_from`.
     pub fn number_from(&mut self, least: u64, most: u64) -> Result<u64, LineFault>
-        ensures number { Reads (λ n. n) result (number_in least most (first_of self.old)) }
+        ensures number { ReadsItem (λ n. n) result (number_in least most (first_of self.old)) }
         ensures range { IfOk result (λ n. (least ≤ n) × (n ≤ most)) }
         ensures rest { self.new ≡ drop 1 self.old }
     {
@@ -76,7 +76,7 @@ impl<'a> Words<'a> {
 
     /// The number of 64 bits that the next word says.
     pub fn number(&mut self) -> Result<u64, LineFault>
-        ensures number { Reads (λ n. n) result (number_in 0 (2 ^ 64 - 1) (first_of self.old)) }
+        ensures number { ReadsItem (λ n. n) result (number_in 0 (2 ^ 64 - 1) (first_of self.old)) }
         ensures rest { self.new ≡ drop 1 self.old }
     {
         self.number_from(0, u64::MAX)
@@ -84,7 +84,7 @@ impl<'a> Words<'a> {
 
     /// `TrailingText` where a word is left.
     pub fn end(&self) -> Result<(), LineFault>
-        ensures { Reads (λ _. []) result (numbers_at [] self.now) }
+        ensures { ReadsItem (λ _. []) result (numbers_at [] self.now) }
     {
         match self.rest {
             Some(_) => Err(LineFault::TrailingText),
@@ -94,7 +94,7 @@ impl<'a> Words<'a> {
 
     /// The number of steps that the last word says, from 2 to 1,000,000. One where no word is left.
     pub fn count(&mut self) -> Result<Count, LineFault>
-        ensures number { Reads (λ k. k) result (if is_nil self.old then Ok 1 else number_in 2 1000000 (first_of self.old)) }
+        ensures number { ReadsItem (λ k. k) result (if is_nil self.old then Ok 1 else number_in 2 1000000 (first_of self.old)) }
         ensures rest { self.new ≡ drop 1 self.old }
     {
         if self.is_empty() {
@@ -107,7 +107,7 @@ impl<'a> Words<'a> {
     /// The value of the words that are left: `width` numbers, and no more.
     pub fn body(&mut self, width: u64) -> Result<Body, LineFault>
         requires { (1 ≤ width) × (width ≤ 8) }
-        ensures numbers { Reads (λ body. body) result (numbers_at (many width) self.old) }
+        ensures numbers { ReadsItem (λ body. body) result (numbers_at (repeated_shape width) self.old) }
         ensures rest { OnOk result (self.new ≡ []) }
     {
         let mut words = [0; 8];
@@ -119,8 +119,8 @@ impl<'a> Words<'a> {
     }
 
     /// Takes the next word of a header. `NoHeader` unless it is this one.
-    pub fn fixed(&mut self, word: &[u8]) -> Result<(), LineFault>
-        ensures word { Reads (λ _. true) result (if begins_with word.now self.old then Ok true else Err NoHeader) }
+    pub fn take_fixed(&mut self, word: &[u8]) -> Result<(), LineFault>
+        ensures word { ReadsItem (λ _. true) result (if begins_with word.now self.old then Ok true else Err NoHeader) }
         ensures rest { self.new ≡ drop 1 self.old }
     {
         match self.next() {
@@ -133,7 +133,7 @@ impl<'a> Words<'a> {
     pub fn begins_with(&self, word: &[u8]) -> bool
         ensures { result ≡ begins_with word.now self.now }
     {
-        let mut words = Words { rest: self.rest };
+        let mut words = LineWords { rest: self.rest };
         match words.next() {
             Some(next) => next == word,
             None => false,
@@ -142,7 +142,7 @@ impl<'a> Words<'a> {
 
     /// The width at the end of a header: from 2 to 8 where it is wide, else 1, without a word.
     pub fn width(&mut self, wide: bool) -> Result<u64, LineFault>
-        ensures width { Reads (λ width. (if wide then width ∷ [] else [])) result
+        ensures width { ReadsItem (λ width. (if wide then width ∷ [] else [])) result
             (numbers_at (if wide then Number 2 8 ∷ [] else []) self.old) }
         ensures range { IfOk result (λ width. (1 ≤ width) × (width ≤ 8)) }
         ensures narrow { IfOk result (λ width. wide ≡ false → width ≡ 1) }

@@ -2,7 +2,7 @@
 
 ghost use Rattle.std.specs.Prelude.{◌≡◌, ℕ, true, OnOk, IfErr, IsTrue};
 ghost use Rattle.schedule.specs.Effects.{Effects};
-ghost use Rattle.schedule.specs.Transitions.{Event, Took, Fell};
+ghost use Rattle.schedule.specs.Transitions.{RunEvent, Took, Fell};
 
 use crate::player::automaton::Automaton;
 
@@ -11,7 +11,7 @@ pub trait Listener<M: Automaton> {
     /// Why it stops.
     type Stop: Copy;
 
-    ghost effects: { Effects Self (Event M.Step M.Crash) Self.Stop };
+    ghost effects: { Effects Self (RunEvent M.Step M.Crash) Self.Stop };
 
     /// Hears a step of process `p`.
     fn hear_step(&mut self, p: u64, step: &M::Step) -> Result<(), Self::Stop>

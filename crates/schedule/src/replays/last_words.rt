@@ -6,7 +6,7 @@ ghost use Rattle.schedule.specs.Reports.{own_line, owns_text, message_line, mess
 ghost use Rattle.rmeworld.specs.ImageRules.{layout_of};
 ghost use Rattle.schedule.specs.Words.{line_of};
 
-use crate::lines::writing::{put_named, put_number, put_placed, put_start};
+use crate::lines::line_writer::{put_named, put_number, put_placed, put_start};
 use crate::replays::verdict::{Verdict, fault_number};
 use redomail::{Layout, Message, content};
 use rmecore::{Fault, Own, Refusal};

@@ -3,7 +3,7 @@
 ghost use Rattle.std.specs.Prelude.{◌≡◌, ℕ, List, Result, Some, None, IfOk};
 ghost use Rattle.redomail.specs.declared.layout.Layout.{Layout as LayoutOf};
 ghost use Rattle.judge.specs.Starts.{state_of};
-ghost use Rattle.judge.specs.Table.{empty};
+ghost use Rattle.judge.specs.Table.{empty_state};
 ghost use Rattle.judge.specs.declared.start.Start.{Start as StartOf};
 ghost use Rattle.rmeworld.specs.declared.image.Image.{Image as ImageOf};
 ghost use Rattle.rmeworld.specs.ImageRules.{layout_of, IsLawfulImage};
@@ -36,12 +36,12 @@ pub fn runs_are_executions()
 /// `replayed` and `replayed_later` say it of what `replay_on` answers there.
 pub fn worlds_are_never_found_out()
     ensures new { (l : LayoutOf) (limit : ℕ) (lines : List LineOf) → new_refusal l limit ≡ None
-        → verdict_on (empty l.procs l.cap) (deeds_of (run_on world_behaviour 2 (new_world l limit) lines).told) ≡ Fine }
+        → verdict_on (empty_state l.procs l.cap) (deeds_of (run_on world_behaviour 2 (new_world l limit) lines).reports) ≡ Fine }
     ensures later { (i : ImageOf) (s : StartOf) (lines : List LineOf) → IsLawfulImage i → IsStartOf i s
-        → verdict_on (state_of s) (deeds_of (run_on world_behaviour 2 (image_world i) lines).told) ≡ Fine }
+        → verdict_on (state_of s) (deeds_of (run_on world_behaviour 2 (image_world i) lines).reports) ≡ Fine }
     ensures replayed { (l : LayoutOf) (limit : ℕ) (lines : List LineOf) (before now : Tape)
         (answer : Result VerdictOf ReplayFaultOf) → new_refusal l limit ≡ None
-        → Replays before now (empty l.procs l.cap) image_of (run_on world_behaviour 2 (new_world l limit) lines) answer
+        → Replays before now (empty_state l.procs l.cap) image_of (run_on world_behaviour 2 (new_world l limit) lines) answer
         → IfOk answer (λ verdict. verdict ≡ Fine) }
     ensures replayed_later { (i : ImageOf) (s : StartOf) (lines : List LineOf) (before now : Tape)
         (answer : Result VerdictOf ReplayFaultOf) → IsLawfulImage i → IsStartOf i s

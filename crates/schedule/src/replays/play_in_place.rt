@@ -4,7 +4,7 @@ ghost use Rattle.std.specs.Prelude.{◌≡◌, ℕ, ◌+◌, ◌^◌, ◌<◌, �
 ghost use Rattle.schedule.specs.declared.lines.line.Line.{Line as LineOf};
 ghost use Rattle.schedule.specs.Commands.{line_at};
 ghost use Rattle.schedule.specs.Texts.{items_at};
-ghost use Rattle.schedule.specs.FirstLines.{IsRead, Begins};
+ghost use Rattle.schedule.specs.FirstLines.{IsRead, BeginsWithItem};
 ghost use Rattle.schedule.specs.Words.{parts_of};
 ghost use Rattle.schedule.specs.Fragments.{itself, line_on, run_on};
 ghost use Rattle.schedule.specs.Plays.{Plays, PlaysOn};
@@ -28,10 +28,10 @@ fn play_next<'a, M: Automaton, L: Listener<M>>(
     requires width { (1 ≤ width) × (width ≤ 8) }
     requires some { 0 < length text.now }
     requires read { IsRead (line_at width) text.now }
-    ensures ok { IfOk result (λ rest. (line : LineOf) × Begins (line_at width) text.now line rest.now
+    ensures ok { IfOk result (λ rest. (line : LineOf) × BeginsWithItem (line_at width) text.now line rest.now
         × Plays M.transitions L.effects listener.old listener.new (line_on M.transitions itself machine.old line)
         machine.new result) }
-    ensures err { IfErr result (λ _. (line : LineOf) × (after : List ℕ) × Begins (line_at width) text.now line after
+    ensures err { IfErr result (λ _. (line : LineOf) × (after : List ℕ) × BeginsWithItem (line_at width) text.now line after
         × Plays M.transitions L.effects listener.old listener.new (line_on M.transitions itself machine.old line)
         machine.new result) }
 {
@@ -54,10 +54,10 @@ fn play_first<'a, M: Automaton, L: Listener<M>>(
     requires width { (1 ≤ width) × (width ≤ 8) }
     requires some { 0 < length text.now }
     requires read { IsRead (line_at width) text.now }
-    ensures ok { IfOk result (λ rest. (line : LineOf) × Begins (line_at width) text.now line rest.now
+    ensures ok { IfOk result (λ rest. (line : LineOf) × BeginsWithItem (line_at width) text.now line rest.now
         × Plays M.transitions L.effects listener.old listener.new (line_on M.transitions itself machine.old line)
         machine.new result) }
-    ensures err { IfErr result (λ _. (line : LineOf) × (after : List ℕ) × Begins (line_at width) text.now line after
+    ensures err { IfErr result (λ _. (line : LineOf) × (after : List ℕ) × BeginsWithItem (line_at width) text.now line after
         × Plays M.transitions L.effects listener.old listener.new (line_on M.transitions itself machine.old line)
         machine.new result) }
 {

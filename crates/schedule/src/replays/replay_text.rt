@@ -21,7 +21,7 @@ use crate::lexer::in_place::read_whole;
 use crate::replays::laws::worlds_are_never_found_out;
 use crate::replays::pieces::read_all;
 use crate::replays::replay_fault::ReplayFault;
-use crate::replays::replaying::{close, settle};
+use crate::replays::replay_loop::{close, settle};
 use crate::replays::report_writer::report_text;
 use crate::replays::reporter::Reporter;
 use crate::replays::verdict::Verdict;

@@ -1,11 +1,11 @@
 //! The reporter of a replay: it gives each deed to the judge, and writes the lines of deeds and answers.
 
 ghost use Rattle.std.specs.Prelude.{◌≡◌, ◌++◌, ◌∷◌, [], None, IfErr, OnOk, OnErr};
-ghost use Rattle.schedule.specs.RunningVerdicts.{opened, running_judge, Hears};
+ghost use Rattle.schedule.specs.RunningVerdicts.{first_running_verdict, running_judge, Hears};
 ghost use Rattle.schedule.specs.Tapes.{Writes};
 ghost use Rattle.schedule.specs.ReplayStops.{Tells, ReplayStops};
-ghost use Rattle.schedule.specs.Reports.{told_text};
-ghost use Rattle.schedule.specs.Runs.{deeds_of, did, told_of};
+ghost use Rattle.schedule.specs.Reports.{reports_text};
+ghost use Rattle.schedule.specs.Runs.{deeds_of, did, reports_of};
 
 use crate::lines::answer::{put_answer, put_deed};
 use crate::replays::replay_stop::ReplayStop;
@@ -36,7 +36,7 @@ impl Model for Reporter {
 impl Reporter {
     /// A reporter that has judged and written nothing.
     pub fn new(alloc: Global) -> Reporter
-        ensures { result ≡ opened }
+        ensures { result ≡ first_running_verdict }
     {
         Reporter {
             running_verdict: RunningVerdict::OPENED,
@@ -69,13 +69,13 @@ impl Reporter {
         deed: &Option<Deed>,
         answer: &Option<Answer>,
     ) -> Result<(), ReplayStop>
-        ensures written { OnOk result (Writes (W.tape w.old) (W.tape w.new) (told_text (told_of p deed.now answer.now))) }
+        ensures written { OnOk result (Writes (W.tape w.old) (W.tape w.new) (reports_text (reports_of p deed.now answer.now))) }
         ensures halted { IfErr result (λ replay_stop. ReplayStops (W.tape w.old) (W.tape w.new)
-            (told_text (told_of p deed.now answer.now)) replay_stop) }
+            (reports_text (reports_of p deed.now answer.now)) replay_stop) }
         ensures same { self.new ≡ self.old }
     {
         self.page.clear();
-        put_told(&mut self.page, p, deed, answer)?;
+        put_reports(&mut self.page, p, deed, answer)?;
         write_all(w, &self.page)?;
         Ok(())
     }
@@ -92,7 +92,7 @@ impl Reporter {
         answer: &Option<Answer>,
     ) -> Result<(), ReplayStop>
         ensures { Tells (W.tape w.old) (W.tape w.new) (running_judge judge.old self.old) (running_judge judge.new self.new)
-            (told_of p deed.now answer.now) result }
+            (reports_of p deed.now answer.now) result }
     {
         self.hear(judge, deed);
         self.write(w, p, deed, answer)
@@ -108,7 +108,7 @@ impl Reporter {
         answer: &Option<Answer>,
     ) -> Result<(), ReplayStop>
         ensures { Tells (W.tape w.old) (W.tape w.new) (running_judge judge.old self.old) (running_judge judge.new self.new)
-            (told_of p deed.now answer.now) result }
+            (reports_of p deed.now answer.now) result }
     {
         if deed.is_none() && answer.is_none() {
             return Ok(());
@@ -118,14 +118,14 @@ impl Reporter {
 }
 
 /// Writes the lines of a step: of its deed and of its answer, as far as it has them.
-fn put_told(
+fn put_reports(
     page: &mut Vec<u8>,
     p: u64,
     deed: &Option<Deed>,
     answer: &Option<Answer>,
 ) -> Result<(), AllocError>
-    ensures written { OnOk result (page.new.items ≡ page.old.items ++ told_text (told_of p deed.now answer.now)) }
-    ensures wanted { OnErr result (told_text (told_of p deed.now answer.now) ≡ [] → ⊥) }
+    ensures written { OnOk result (page.new.items ≡ page.old.items ++ reports_text (reports_of p deed.now answer.now)) }
+    ensures wanted { OnErr result (reports_text (reports_of p deed.now answer.now) ≡ [] → ⊥) }
 {
     if let Some(deed) = deed {
         put_deed(page, deed)?;

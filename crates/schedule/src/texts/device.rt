@@ -74,7 +74,7 @@ pub struct Text<'a> {
     ended: bool,
     ghost within: { at ≤ length all.now },
     // It answers its end only where nothing is left.
-    ghost told: { ended ≡ true → at ≡ length all.now },
+    ghost reports: { ended ≡ true → at ≡ length all.now },
 }
 
 impl<'a> Text<'a> {

@@ -1,13 +1,13 @@
 //! The first line of a schedule.
 
 ghost use Rattle.std.specs.Prelude.{◌≡◌, ◌≤◌, IfOk};
-ghost use Rattle.schedule.specs.Words.{Reads, words_of};
+ghost use Rattle.schedule.specs.Words.{ReadsItem, words_of};
 ghost use Rattle.schedule.specs.Schedules.{head_at};
 
 use crate::lines::fault::LineFault;
 use crate::lines::line::Line;
 use crate::lines::number::{number, number_from};
-use crate::lines::words::Words;
+use crate::lines::words::LineWords;
 use crate::texts::whole::Heading;
 
 /// The header of a schedule: the sizes of its world.
@@ -28,18 +28,18 @@ impl Heading for Head {
 
     #[tactic(auto, unfolding(crate::specs::Headers::header_at))]
     fn read(line: &[u8]) -> Result<Head, LineFault> {
-        let mut words = Words::of(line);
-        words.fixed(b"rme")?;
+        let mut words = LineWords::of(line);
+        words.take_fixed(b"rme")?;
         let wide = words.begins_with(b"2");
-        words.fixed(if wide { b"2" } else { b"1" })?;
-        words.fixed(b"procs")?;
+        words.take_fixed(if wide { b"2" } else { b"1" })?;
+        words.take_fixed(b"procs")?;
         let procs = words.next();
-        words.fixed(b"limit")?;
+        words.take_fixed(b"limit")?;
         let limit = words.next();
-        words.fixed(b"cap")?;
+        words.take_fixed(b"cap")?;
         let cap = words.next();
         if wide {
-            words.fixed(b"width")?;
+            words.take_fixed(b"width")?;
         }
         Ok(Head {
             procs: number(procs)?,

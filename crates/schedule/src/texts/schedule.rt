@@ -8,7 +8,7 @@ ghost use Rattle.schedule.specs.Schedules.{Scheduled, IsScheduled, spelling, sch
 use crate::lines::line::Line;
 use crate::texts::fault::TextFault;
 use crate::texts::head::Head;
-use crate::texts::whole::{add, whole};
+use crate::texts::whole::{add, read_all};
 use rmecore::Refusal;
 use std::alloc::Global;
 use std::marker::Model;
@@ -108,7 +108,7 @@ impl Schedule {
 fn schedule_of(alloc: Global, text: &[u8]) -> Result<Schedule, TextFault>
     ensures { Gives (λ schedule. schedule) result (schedule_at text.now) }
 {
-    let (head, lines) = whole::<Head>(alloc, text)?;
+    let (head, lines) = read_all::<Head>(alloc, text)?;
     Ok(Schedule {
         procs: head.procs,
         limit: head.limit,

@@ -7,9 +7,9 @@ ghost use Rattle.schedule.specs.Traces.{Traced, IsTraced, trace_spelling, trace_
 
 use crate::lines::fault::LineFault;
 use crate::lines::number::number;
-use crate::lines::words::Words;
+use crate::lines::words::LineWords;
 use crate::texts::fault::TextFault;
-use crate::texts::whole::{Heading, add, whole};
+use crate::texts::whole::{Heading, add, read_all};
 use redomail::Deed;
 use rmecore::Refusal;
 use std::alloc::Global;
@@ -32,16 +32,16 @@ impl Heading for TraceHead {
 
     #[tactic(auto, unfolding(crate::specs::Headers::header_at))]
     fn read(line: &[u8]) -> Result<TraceHead, LineFault> {
-        let mut words = Words::of(line);
-        words.fixed(b"trace")?;
+        let mut words = LineWords::of(line);
+        words.take_fixed(b"trace")?;
         let wide = words.begins_with(b"2");
-        words.fixed(if wide { b"2" } else { b"1" })?;
-        words.fixed(b"procs")?;
+        words.take_fixed(if wide { b"2" } else { b"1" })?;
+        words.take_fixed(b"procs")?;
         let procs = words.next();
-        words.fixed(b"cap")?;
+        words.take_fixed(b"cap")?;
         let cap = words.next();
         if wide {
-            words.fixed(b"width")?;
+            words.take_fixed(b"width")?;
         }
         Ok(TraceHead {
             procs: number(procs)?,
@@ -126,7 +126,7 @@ impl Trace {
 fn trace_of(alloc: Global, text: &[u8]) -> Result<Trace, TextFault>
     ensures { Gives (λ trace. trace) result (trace_at text.now) }
 {
-    let (head, deeds) = whole::<TraceHead>(alloc, text)?;
+    let (head, deeds) = read_all::<TraceHead>(alloc, text)?;
     Ok(Trace {
         procs: head.procs,
         cap: head.cap,

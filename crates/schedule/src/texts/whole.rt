@@ -2,7 +2,7 @@
 
 ghost use Rattle.std.specs.Prelude.{◌≡◌, ℕ, ◌+◌, ◌^◌, ◌<◌, ◌≤◌, ◌⊎◌, ◌++◌, ◌∷◌, [], Bool, List, Result, length, IfOk, OnOk, OnErr, IfErr, IsErrOf, IsTrue, IsFalse};
 ghost use Rattle.schedule.specs.declared.lines.fault.LineFault.{LineFault};
-ghost use Rattle.schedule.specs.Words.{Reads, words_of, parts_of};
+ghost use Rattle.schedule.specs.Words.{ReadsItem, words_of, parts_of};
 ghost use Rattle.schedule.specs.Texts.{Gives, items_at, text_at};
 
 use crate::lines::cut::cut_once;
@@ -69,7 +69,7 @@ pub trait Heading: Drop {
 
     /// Reads it from the first line, without its LF.
     fn read(line: &[u8]) -> Result<Self, LineFault>
-        ensures head { Reads (λ head. head) result (head_at (words_of line.now)) }
+        ensures head { ReadsItem (λ head. head) result (head_at (words_of line.now)) }
         ensures width { IfOk result (λ head. (1 ≤ width_of head) × (width_of head ≤ 8)) };
 
     /// How many words a value of the other lines has.
@@ -78,7 +78,7 @@ pub trait Heading: Drop {
 }
 
 /// Reads a whole text.
-pub fn whole<H: Heading>(alloc: Global, text: &[u8]) -> Result<(H, Vec<H::Item>), TextFault>
+pub fn read_all<H: Heading>(alloc: Global, text: &[u8]) -> Result<(H, Vec<H::Item>), TextFault>
     ensures { Gives (λ read. (read.0, read.1.items)) result
         (text_at H.head_at (λ head. H.Item.item_at (H.width_of head)) (parts_of text.now)) }
 {

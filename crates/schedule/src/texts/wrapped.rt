@@ -9,7 +9,7 @@ use std::snapshot::Snapshot;
 use std::{io, mem};
 
 /// The log with the bytes added. A log is for proofs alone and takes no memory.
-fn logged(log: Log<u8>, bytes: &[u8]) -> Log<u8>
+fn log_with(log: Log<u8>, bytes: &[u8]) -> Log<u8>
     ensures { result.items ≡ log.items ++ bytes.now }
 {
     let mut all = log;
@@ -69,7 +69,7 @@ impl<R: io::Read> FromReader<R> {
         ensures failures { self.new.failures ≡ self.old.failures }
         ensures ended { self.new.ended ≡ self.old.ended }
     {
-        self.given = logged(mem::replace(&mut self.given, Log::new()), bytes);
+        self.given = log_with(mem::replace(&mut self.given, Log::new()), bytes);
         self.count += bytes.len() as u64;
     }
 }
@@ -151,7 +151,7 @@ impl<W: io::Write> Sink for ToWriter<W> {
     fn write(&mut self, bytes: &[u8]) -> Result<usize, Failed> {
         match self.inner.write(bytes) {
             Ok(n) if n > 0 || bytes.is_empty() => {
-                self.taken = logged(mem::replace(&mut self.taken, Log::new()), &bytes[..n]);
+                self.taken = log_with(mem::replace(&mut self.taken, Log::new()), &bytes[..n]);
                 Ok(n)
             }
             _ => Err(self.fail()),

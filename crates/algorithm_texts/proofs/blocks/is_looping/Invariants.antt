@@ -1,5 +1,5 @@
 use Rattle.std.proofs.Common.{◌≡◌, reverse, take}
-use Rattle.algorithm_texts.specs.LineReading.{is_looping}
+use Rattle.algorithm_texts.specs.LineDrafts.{is_looping}
 use Rattle.algorithm_texts.proofs.blocks.is_looping.Given as goal
 
 -- a loop of the name is among the blocks so far

@@ -1,5 +1,5 @@
 use Rattle.std.proofs.Common.{◌≡◌, ◌≤◌, reverse, take}
-use Rattle.algorithm_texts.specs.LineReading.{loops}
+use Rattle.algorithm_texts.specs.LineDrafts.{loops}
 use Rattle.algorithm_texts.proofs.blocks.loops.Given as goal
 
 -- the loops that are counted so far

@@ -1,5 +1,5 @@
 use Rattle.std.proofs.Common.{◌≡◌, reverse, take}
-use Rattle.algorithm_texts.specs.TextReading.{has_call}
+use Rattle.algorithm_texts.specs.TextDrafts.{has_call}
 use Rattle.algorithm_texts.proofs.calls.has_call.Given as goal
 
 -- the call is among those so far

@@ -1,6 +1,6 @@
 use Rattle.std.proofs.Common.{◌≡◌, map, drop}
 use Rattle.algorithm_texts.specs.Drafts.{line_of}
-use Rattle.algorithm_texts.specs.Finishing.{jumps_led}
+use Rattle.algorithm_texts.specs.FinishedDrafts.{jumps_led}
 use Rattle.algorithm_texts.proofs.checks.resolve.Given as goal
 
 -- the gotos that are left lead where all do

@@ -1,6 +1,6 @@
 use Rattle.std.proofs.Common.{map, subst}
 use Rattle.algorithm_texts.specs.Drafts.{line_of}
-use Rattle.algorithm_texts.specs.Finishing.{EndsAt}
+use Rattle.algorithm_texts.specs.FinishedDrafts.{EndsAt}
 use Rattle.algorithm_texts.proofs.Endings.{none_end, end_set}
 use Rattle.algorithm_texts.proofs.marks.end_at.Goals as goal
 

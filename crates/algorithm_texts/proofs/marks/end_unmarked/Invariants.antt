@@ -1,6 +1,6 @@
 use Rattle.std.proofs.Common.{map}
 use Rattle.algorithm_texts.specs.Drafts.{line_of}
-use Rattle.algorithm_texts.specs.Finishing.{EndSome}
+use Rattle.algorithm_texts.specs.FinishedDrafts.{EndSome}
 use Rattle.algorithm_texts.proofs.marks.end_unmarked.Given as goal
 
 abbrev pub invariant-loop-place : goal.invariant-loop-place

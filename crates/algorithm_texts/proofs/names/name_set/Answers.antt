@@ -1,17 +1,17 @@
 use Rattle.std.proofs.Common.{◌≡◌, ℕ, Bool, false, cond, List, Option, Some, None, Result, sym, ap, ◌∙◌, subst, bytes_eq, position}
 use Rattle.std.specs.Option.{option_copied}
-use Rattle.algorithms.specs.declared.fault.LineFault.{LineFault}
+use Rattle.algorithms.specs.declared.fault.ReadFault.{ReadFault}
 use Rattle.algorithm_texts.specs.declared.tokens.Token.{Token}
-use Rattle.algorithm_texts.specs.Parts.{Part, ◌>>=◌}
-use Rattle.algorithm_texts.specs.Grammar.{Scope, is_among, placed}
+use Rattle.algorithm_texts.specs.Parts.{OperandPart, ◌>>=◌}
+use Rattle.algorithm_texts.specs.Grammar.{Scope, is_among, private_name_part}
 use Rattle.algorithm_texts.specs.Operands.{MakesName, names_of, declared_of, scope_of}
-use Rattle.algorithm_texts.specs.LineReading.{new_name, name_set}
+use Rattle.algorithm_texts.specs.LineDrafts.{new_name, name_set}
 use Rattle.algorithm_texts.proofs.names.name_set.Goals as goal
 
-abbrev place_in : Scope → List (List ℕ) → List ℕ → Option (Part × List (List ℕ))
-place_in scope names word = placed scope.most names word (position (λ name. bytes_eq name word) names)
+abbrev place_in : Scope → List (List ℕ) → List ℕ → Option (OperandPart × List (List ℕ))
+place_in scope names word = private_name_part scope.most names word (position (λ name. bytes_eq name word) names)
 
-set_to : (after : List (List ℕ)) (r : Result ℕ LineFault) (scope : Scope) (names : List (List ℕ)) (token : Option Token) (word : List ℕ) → new_name token ≡ Some word
+set_to : (after : List (List ℕ)) (r : Result ℕ ReadFault) (scope : Scope) (names : List (List ℕ)) (token : Option Token) (word : List ℕ) → new_name token ≡ Some word
     → is_among scope.declared word ≡ false → MakesName after r (place_in scope names word) → MakesName after r (name_set scope names token)
 set_to after r scope names token word e f h =
     subst (λ o. MakesName after r (o >>= (λ w. cond (is_among scope.declared w) None (place_in scope names w)))) (sym e)

@@ -3,7 +3,7 @@ use Rattle.std.proofs.lemmas.Grind.{common_steps}
 use Rattle.std.proofs.lemmas.List.{length-map, map-append}
 use Rattle.std.proofs.lemmas.Str.{IsUtf8-from_ascii}
 use Rattle.std.specs.declared.alloc.Global.{Global}
-use Rattle.algorithm_texts.specs.LineReading.{answer_place}
+use Rattle.algorithm_texts.specs.LineDrafts.{answer_place}
 use Rattle.algorithm_texts.proofs.simple.add_answer.Goals as goal
 
 abbrev Text : Type 0

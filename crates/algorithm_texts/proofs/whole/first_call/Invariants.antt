@@ -1,5 +1,5 @@
 use Rattle.std.proofs.Common.{◌≡◌, reverse, take}
-use Rattle.algorithm_texts.specs.Finishing.{call_in}
+use Rattle.algorithm_texts.specs.FinishedDrafts.{call_in}
 use Rattle.algorithm_texts.proofs.whole.first_call.Given as goal
 
 -- the first call of the kind so far

@@ -1,5 +1,5 @@
 use Rattle.std.proofs.Common.{Option, subst, sym}
-use Rattle.cli.specs.Told.{list_of}
+use Rattle.cli.specs.Report.{list_of}
 use Rattle.cli.specs.declared.explain.dictionary_entry.DictionaryEntry.{DictionaryEntry}
 use Rattle.cli.specs.declared.explain.dictionary_entry.TheConstants.{ENTRIES}
 use Rattle.commands.specs.Commands.{ExplainEnds}
@@ -7,9 +7,9 @@ use Rattle.commands.proofs.command.explain_command.Goals as goal
 
 pub returns-in-Some-clause-ends : goal.returns-in-Some-clause-ends
 returns-in-Some-clause-ends g c =
-    let told = c.tell_dictionary_entry.ensures in
+    let reports = c.tell_dictionary_entry.ensures in
     subst (λ (entry : Option DictionaryEntry). ExplainEnds entry (g.W.Sink.tape c.args.w.now) (g.W.Sink.tape c.tell_dictionary_entry.new.w) c.ending_after.result) (sym c.in-Some.is)
-    (told.0, told.1, c.ending_after.ensures.prints _ _ _ told.2, c.ending_after.ensures.failed)
+    (reports.0, reports.1, c.ending_after.ensures.prints _ _ _ reports.2, c.ending_after.ensures.failed)
 
 pub returns-in-Some-clause-ended : goal.returns-in-Some-clause-ended
 returns-in-Some-clause-ended g c = c.ending_after.ensures.ended _ _ _ c.tell_dictionary_entry.ensures.2

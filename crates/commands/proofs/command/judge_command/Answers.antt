@@ -1,5 +1,5 @@
 use Rattle.std.proofs.lemmas.Result.{err_from_is_err_and}
-use Rattle.commands.proofs.Judging.{trace_fails, trace_told}
+use Rattle.commands.proofs.Judging.{trace_fails, trace_reported}
 use Rattle.commands.proofs.command.judge_command.Goals as goal
 
 pub returns-in_err-verdict-clause-ends : goal.returns-in_err-verdict-clause-ends
@@ -12,6 +12,6 @@ returns-in_err-verdict-clause-ends g c =
 
 pub returns-clause-ends : goal.returns-clause-ends
 returns-clause-ends g c =
-    trace_told c.args.json (g.R.Source.reading c.args.r.now) (g.R.Source.reading c.judge_trace.new.source)
+    trace_reported c.args.json (g.R.Source.reading c.args.r.now) (g.R.Source.reading c.judge_trace.new.source)
     (g.W.Sink.tape c.args.w.now) (g.W.Sink.tape c.tell_verdict.new.w) c.in_ok-verdict.verdict c.tell_verdict.result
-    c.in_ok-verdict.ensures.judges c.tell_verdict.ensures.told
+    c.in_ok-verdict.ensures.judges c.tell_verdict.ensures.reports

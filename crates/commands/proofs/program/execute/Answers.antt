@@ -6,8 +6,8 @@ use Rattle.commands.proofs.program.execute.Goals as goal
 pub returns-clause-session : goal.returns-clause-session
 returns-clause-session g c is =
     in_folder c.args.command.now (option_copied c.as_deref-in-None.result)
-    (g.F.Folder.used c.args.folder.now) (g.F.Folder.used c.image_text.new.folder) (g.F.Folder.used c.ended.new.folder)
-    (g.R.Source.reading c.args.input.now) (g.R.Source.reading c.ended.new.r)
-    (g.W.Sink.tape c.args.out.now) (g.W.Sink.tape c.ended.new.w) c.ended.result
+    (g.F.Folder.used c.args.folder.now) (g.F.Folder.used c.image_text.new.folder) (g.F.Folder.used c.carry_out.new.folder)
+    (g.R.Source.reading c.args.input.now) (g.R.Source.reading c.carry_out.new.r)
+    (g.W.Sink.tape c.args.out.now) (g.W.Sink.tape c.carry_out.new.w) c.carry_out.result
     (copied_some c.as_deref-in-None.result ∙ c.as_deref-in-None.ensures.variant ∙ c.in_ok-image.ensures.named)
-    c.image_text.ensures.saved c.image_text.ensures.texts (c.ended.ensures.session is)
+    c.image_text.ensures.saved c.image_text.ensures.texts (c.carry_out.ensures.session is)

@@ -8,8 +8,8 @@ pub returns-in-Err-clause-unbuffered : goal.returns-in-Err-clause-unbuffered
 returns-in-Err-clause-unbuffered g c = λ is.
     record {
       same = refl;
-      status_is = c.told.ensures.status;
+      status_is = c.write_fault.ensures.status;
       said = _;
       says = _;
-      told = c.told.ensures.line;
+      reports = c.write_fault.ensures.line;
     }

@@ -7,7 +7,7 @@ use Rattle.crashlab.specs.declared.variant.Variant.TheVariants.{Right}
 use Rattle.crashlab.specs.declared.space.moves.Move.{Move}
 use Rattle.crashlab.specs.SearchStateWords.{search_state_words}
 use Rattle.crashlab.specs.Spaces.{first_search_state, rules}
-use Rattle.lock_explorer.specs.Finding.{IsFoundIn, IsLeast, NoneIsFound}
+use Rattle.lock_explorer.specs.FoundPaths.{IsFoundIn, IsShortestPath, NoneIsFound}
 use Rattle.commands.specs.declared.schedules.ending.Ending.{Ending}
 use Rattle.commands.specs.declared.schedules.fault.CommandFault.{CommandFault}
 use Rattle.cli.specs.declared.arguments.args.ExploreArgs.{ExploreArgs}
@@ -15,12 +15,12 @@ use Rattle.commands.specs.Explores.{StuckEnds, calls_of, layout_of, schedule_of}
 use Rattle.commands.specs.Endings.{Prints}
 use Rattle.commands.proofs.stuck.tell_stuck.Goals as goal
 
-module _ (args : ExploreArgs) (before now : Tape) (path told_path : List Move) (r : Result Ending CommandFault) (same : told_path ≡ path) (prints : Prints 1 (spelling (schedule_of args told_path)) before now r) where
+module _ (args : ExploreArgs) (before now : Tape) (path moves_path : List Move) (r : Result Ending CommandFault) (same : moves_path ≡ path) (prints : Prints 1 (spelling (schedule_of args moves_path)) before now r) where
   path_prints : Prints 1 (spelling (schedule_of args path)) before now r
   path_prints = subst (λ p. Prints 1 (spelling (schedule_of args p)) before now r) same prints
 
   ends_wrong :
-      args.variant ≢ Right → IsFoundIn args.variant (layout_of args) args.limit args.crashes (calls_of args) path → IsLeast args.variant (layout_of args) args.limit args.crashes (calls_of args) path
+      args.variant ≢ Right → IsFoundIn args.variant (layout_of args) args.limit args.crashes (calls_of args) path → IsShortestPath args.variant (layout_of args) args.limit args.crashes (calls_of args) path
       → StuckEnds args before now r
   ends_wrong wrong found least = inl (record { wrong = wrong; path = path; found = found; least = least; prints = path_prints })
 
@@ -38,7 +38,7 @@ returns-in-Ok-Fault-clause-ends g c =
     ends_wrong o _ _ c.in-Ok-Fault.path.items _ c.tell_path.result c.deref-in-Ok-Fault.ensures.value c.tell_path.ensures.prints
     (λ right. rw c.in-Ok-Fault.field-0-is at (rw c.in-Ok-Fault.is at (c.stuck_schedule-found.ensures.right right)))
     (subst (λ calls. IsFoundIn o.variant (layout_of o) o.limit o.crashes calls c.in-Ok-Fault.path.items) calls found)
-    (subst (λ calls. IsLeast o.variant (layout_of o) o.limit o.crashes calls c.in-Ok-Fault.path.items) calls least)
+    (subst (λ calls. IsShortestPath o.variant (layout_of o) o.limit o.crashes calls c.in-Ok-Fault.path.items) calls least)
 
 pub returns-in-Ok-Stuck-clause-ends : goal.returns-in-Ok-Stuck-clause-ends
 returns-in-Ok-Stuck-clause-ends g c =

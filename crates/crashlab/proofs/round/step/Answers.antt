@@ -4,10 +4,10 @@ use Rattle.crashlab.proofs.round.step.Goals as goal
 
 pub returns-in-Some-clause-ends : goal.returns-in-Some-clause-ends
 returns-in-Some-clause-ends c =
-    let it = c.job_on-told.ensures in
-    λ variant schedule played. step_ends variant _ _ _ played c.args.p it.accepted _ it.ok _ refl _ _ _ refl (it.told _ played.stands)
+    let it = c.job_on-reports.ensures in
+    λ variant schedule played. step_ends variant _ _ _ played c.args.p it.accepted _ it.ok _ refl _ _ _ refl (it.reports _ played.stands)
 
 pub returns-in-Ok-clause-ends : goal.returns-in-Ok-clause-ends
 returns-in-Ok-clause-ends c =
     let it = c.in-Ok.ensures in
-    λ variant schedule played. step_ends variant _ _ _ played c.args.p it.accepted _ it.ok _ refl _ _ _ refl (it.told _ played.stands)
+    λ variant schedule played. step_ends variant _ _ _ played c.args.p it.accepted _ it.ok _ refl _ _ _ refl (it.reports _ played.stands)

@@ -1,5 +1,5 @@
 use Rattle.std.proofs.Common.{◌≡◌, ◌+◌, ◌++◌, ◌∷◌, [], take, refl, sym, ap, ◌∙◌, arith}
-use Rattle.diagram.proofs.Common.{take_more, take_all, opened, deeds_of, verdict_on, hears_none, told_in, events_in}
+use Rattle.diagram.proofs.Common.{take_more, take_all, first_running_verdict, deeds_of, verdict_on, hears_none, reports_in, events_in}
 use Rattle.schedule.proofs.Closing.{ruled_on}
 use Rattle.diagram.proofs.Heard.{hears_row}
 use Rattle.diagram.proofs.deed_verdict.verdict_on.Goals as goal
@@ -18,5 +18,5 @@ loop-row-preserved c =
 pub returns : goal.returns
 returns c start keeps =
     let all : take c.loop-row.row-index c.args.rows.now ≡ c.args.rows.now = take_all c.loop-row.row-index c.args.rows.now (omega (arith, c.loop-row-test.false)) in
-    c.verdict.ensures ∙ ruled_on c.args.judge.now c.loop-row.judge opened c.loop-row.running_verdict _ start refl c.loop-row.invariant keeps
-    ∙ ap (λ rows. verdict_on start (deeds_of (told_in (events_in rows)))) all
+    c.verdict.ensures ∙ ruled_on c.args.judge.now c.loop-row.judge first_running_verdict c.loop-row.running_verdict _ start refl c.loop-row.invariant keeps
+    ∙ ap (λ rows. verdict_on start (deeds_of (reports_in (events_in rows)))) all

@@ -1,5 +1,5 @@
 use Rattle.std.proofs.Common.{◌≡◌, List, Err, ap, subst, ◌∙◌, ℕ}
-use Rattle.diagram.proofs.Common.{err_from_is_err_and, Image, Writes, run_on, LifelinePhase, Spells, Event, events_on, events_in}
+use Rattle.diagram.proofs.Common.{err_from_is_err_and, Image, Writes, run_on, LifelinePhase, WritesText, DiagramEvent, events_on, events_in}
 use Rattle.schedule.specs.declared.texts.head.Head.{Head}
 use Rattle.schedule.specs.Schedules.{head_of}
 use Rattle.diagram.specs.StepLines.{step_lines}
@@ -31,14 +31,14 @@ returns-in_err-write_steps-clause-follows g c start keeps =
     ap (λ (head : Head). step_lines head drawing.first c.in-Ok.image (events_in drawing.rows.items)) drawn.sizes.0
     ∙ ap (λ (first : LifelinePhase). step_lines (head_of schedule) first c.in-Ok.image (events_in drawing.rows.items)) drawn.sizes.1
     ∙ ap (λ (image : Image). step_lines (head_of schedule) c.args.first image (events_in drawing.rows.items)) c.in-Ok.ensures.ok
-    ∙ ap (λ (events : List Event). step_lines (head_of schedule) c.args.first (b.image_of c.args.machine.now) events) drawn.events in
+    ∙ ap (λ (events : List DiagramEvent). step_lines (head_of schedule) c.args.first (b.image_of c.args.machine.now) events) drawn.events in
     let t = g.W.Sink.tape c.args.w.now in
     let u = g.W.Sink.tape c.write_steps.new.w in
     let fault = c.in_err-write_steps.field-0.0 in
     let p = err_from_is_err_and c.from_residual.result c.from_residual.ensures.1 in
     rw (p.1, p.2)
     (lines_fail t u start b.image_of (run_on b 2 c.args.machine.now schedule.lines) _ fault
-    (subst (λ (text : List ℕ). Spells {A = Unit {0}} t u text (Err fault)) steps c.in_err-write_steps.ensures))
+    (subst (λ (text : List ℕ). WritesText {A = Unit {0}} t u text (Err fault)) steps c.in_err-write_steps.ensures))
 
 pub returns-clause-follows : goal.returns-clause-follows
 returns-clause-follows g c start keeps =
@@ -51,7 +51,7 @@ returns-clause-follows g c start keeps =
     ap (λ (head : Head). step_lines head drawing.first c.in-Ok.image (events_in drawing.rows.items)) drawn.sizes.0
     ∙ ap (λ (first : LifelinePhase). step_lines (head_of schedule) first c.in-Ok.image (events_in drawing.rows.items)) drawn.sizes.1
     ∙ ap (λ (image : Image). step_lines (head_of schedule) c.args.first image (events_in drawing.rows.items)) c.in-Ok.ensures.ok
-    ∙ ap (λ (events : List Event). step_lines (head_of schedule) c.args.first (b.image_of c.args.machine.now) events) drawn.events in
+    ∙ ap (λ (events : List DiagramEvent). step_lines (head_of schedule) c.args.first (b.image_of c.args.machine.now) events) drawn.events in
     let t = g.W.Sink.tape c.args.w.now in
     let u = g.W.Sink.tape c.write_steps.new.w in
     let v = g.W.Sink.tape c.write_end.new.w in

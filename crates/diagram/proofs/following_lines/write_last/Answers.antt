@@ -1,11 +1,11 @@
 use Rattle.diagram.proofs.Common.{err_from_is_err_and}
 use Rattle.diagram.specs.StepLines.{last_lines}
-use Rattle.diagram.proofs.Written.{fails_behind}
+use Rattle.diagram.proofs.Written.{fails_after}
 use Rattle.diagram.proofs.following_lines.write_last.Goals as goal
 
 pub returns-in_err-flush : goal.returns-in_err-flush
 returns-in_err-flush g c =
     let p = err_from_is_err_and c.from_residual-in_err-flush.result c.from_residual-in_err-flush.ensures.1 in
     rw (p.1, p.2)
-    (fails_behind (g.W.Sink.tape c.args.w.now) (g.W.Sink.tape c.write_image_and_verdict.new.w) (g.W.Sink.tape c.flush.new.self)
+    (fails_after (g.W.Sink.tape c.args.w.now) (g.W.Sink.tape c.write_image_and_verdict.new.w) (g.W.Sink.tape c.flush.new.self)
     (last_lines c.args.image.now c.args.verdict) c.in_ok-write_image_and_verdict.ensures c.in_err-flush.ensures.taken c.in_err-flush.ensures.failed)

@@ -1,5 +1,5 @@
 use Rattle.std.proofs.Common.{◌∷◌, [], List, map, sym, subst}
-use Rattle.diagram.proofs.Common.{Act, DiagramRow, row_of, events_shown}
+use Rattle.diagram.proofs.Common.{RowAct, DiagramRow, row_of, events_shown}
 use Rattle.diagram.specs.StepLines.{TellsObjects}
 use Rattle.diagram.proofs.Steps.{again_and_again}
 use Rattle.diagram.proofs.following_lines.write_shown.Goals as goal
@@ -9,7 +9,7 @@ returns-in-Silent g c =
     let t = g.W.Sink.tape c.args.w.now in
     let u = g.W.Sink.tape c.write_times.new.w in
     let p = c.args.row.now.p in
-    subst (λ (act : Act). TellsObjects t u c.args.layout.now c.args.played.now c.write_times.new.played (map row_of (events_shown p act)) c.write_times.result) (sym c.in-Silent.is)
+    subst (λ (act : RowAct). TellsObjects t u c.args.layout.now c.args.played.now c.write_times.new.played (map row_of (events_shown p act)) c.write_times.result) (sym c.in-Silent.is)
     (subst (λ (rows : List DiagramRow). TellsObjects t u c.args.layout.now c.args.played.now c.write_times.new.played rows c.write_times.result)
     (again_and_again p c.in-Silent.times c.in-Silent.happened) c.write_times.ensures)
 
@@ -18,7 +18,7 @@ returns-in-Telling g c =
     let t = g.W.Sink.tape c.args.w.now in
     let u = g.W.Sink.tape c.write_times-in-Telling.new.w in
     let p = c.args.row.now.p in
-    subst (λ (act : Act). TellsObjects t u c.args.layout.now c.args.played.now c.write_times-in-Telling.new.played (map row_of (events_shown p act)) c.write_times-in-Telling.result) (sym c.in-Telling.is)
+    subst (λ (act : RowAct). TellsObjects t u c.args.layout.now c.args.played.now c.write_times-in-Telling.new.played (map row_of (events_shown p act)) c.write_times-in-Telling.result) (sym c.in-Telling.is)
     (subst (λ (row : DiagramRow). TellsObjects t u c.args.layout.now c.args.played.now c.write_times-in-Telling.new.played (row ∷ []) c.write_times-in-Telling.result)
     c.row_of.ensures c.write_times-in-Telling.ensures)
 
@@ -27,6 +27,6 @@ returns-in-Fell g c =
     let t = g.W.Sink.tape c.args.w.now in
     let u = g.W.Sink.tape c.write_times-in-Fell.new.w in
     let p = c.args.row.now.p in
-    subst (λ (act : Act). TellsObjects t u c.args.layout.now c.args.played.now c.write_times-in-Fell.new.played (map row_of (events_shown p act)) c.write_times-in-Fell.result) (sym c.in-Fell.is)
-    (subst (λ (act : Act). TellsObjects t u c.args.layout.now c.args.played.now c.write_times-in-Fell.new.played (record { p = p; act = act } ∷ []) c.write_times-in-Fell.result)
+    subst (λ (act : RowAct). TellsObjects t u c.args.layout.now c.args.played.now c.write_times-in-Fell.new.played (map row_of (events_shown p act)) c.write_times-in-Fell.result) (sym c.in-Fell.is)
+    (subst (λ (act : RowAct). TellsObjects t u c.args.layout.now c.args.played.now c.write_times-in-Fell.new.played (record { p = p; act = act } ∷ []) c.write_times-in-Fell.result)
     c.in-Fell.is c.write_times-in-Fell.ensures)

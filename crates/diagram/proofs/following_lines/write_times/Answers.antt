@@ -1,5 +1,5 @@
 use Rattle.std.proofs.Common.{◌≡◌, ℕ, suc, ◌+◌, ◌-◌, Err, refl, sym, subst, ◌∙◌, arith}
-use Rattle.diagram.proofs.Common.{replicate, err_from_is_err_and, WritesFront, Writes, Spells}
+use Rattle.diagram.proofs.Common.{replicate, err_from_is_err_and, WritesFront, Writes, WritesText}
 use Rattle.diagram.specs.StepLines.{PlayedState, object_line, object_of, object_lines, objects_of, played_with, played_after}
 use Rattle.diagram.proofs.Written.{nothing_yet, one_more_part, all_parts, stops_within}
 use Rattle.diagram.proofs.following_lines.write_times.Goals as goal
@@ -22,7 +22,7 @@ returns-in_err-write_line g c =
     let p = err_from_is_err_and c.from_residual.result c.from_residual.ensures.1 in
     let whole = object_lines layout (objects_of c.args.played.now (replicate c.args.times row)) in
     let front = subst (λ (n : ℕ). WritesFront first.taken mid.taken whole (object_lines layout (objects_of played (replicate n row)))) count c.loop.invariant.0 in
-    let stopped = subst (λ (q : PlayedState). Spells {A = Unit {0}} mid last (object_line layout (object_of q row)) (Err c.in_err-write_line.field-0.0)) c.take.ensures c.in_err-write_line.ensures in
+    let stopped = subst (λ (q : PlayedState). WritesText {A = Unit {0}} mid last (object_line layout (object_of q row)) (Err c.in_err-write_line.field-0.0)) c.take.ensures c.in_err-write_line.ensures in
     rw (p.1, p.2)
     (stops_within first mid last whole (object_line layout (object_of (played_with played row) row)) (object_lines layout (objects_of (played_with played row) (replicate left row))) c.in_err-write_line.field-0.0 front c.loop.invariant.1 stopped, tt)
 
@@ -40,10 +40,10 @@ loop-preserved g c =
     let front = subst (λ (n : ℕ). WritesFront first.taken mid.taken whole (object_lines layout (objects_of played (replicate n row)))) count c.loop.invariant.0 in
     let written = subst (λ (q : PlayedState). Writes mid last (object_line layout (object_of q row))) c.take.ensures c.in_ok-write_line.ensures in
     let further = one_more_part first mid last whole (object_line layout (object_of (played_with played row) row)) (object_lines layout (objects_of (played_with played row) (replicate left row))) front written in
-    let behind = subst (λ (n : ℕ). played_after played (replicate n row) ≡ played_after c.args.played.now (replicate c.args.times row)) count c.loop.invariant.2 in (
+    let after_it = subst (λ (n : ℕ). played_after played (replicate n row) ≡ played_after c.args.played.now (replicate c.args.times row)) count c.loop.invariant.2 in (
       subst (λ (q : PlayedState). WritesFront first.taken last.taken whole (object_lines layout (objects_of q (replicate left row)))) (sym c.take.ensures) further,
       written.fine ∙ c.loop.invariant.1,
-      subst (λ (q : PlayedState). played_after q (replicate left row) ≡ played_after c.args.played.now (replicate c.args.times row)) (sym c.take.ensures) behind,
+      subst (λ (q : PlayedState). played_after q (replicate left row) ≡ played_after c.args.played.now (replicate c.args.times row)) (sym c.take.ensures) after_it,
     )
 
 pub returns : goal.returns

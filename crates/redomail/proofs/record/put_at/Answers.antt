@@ -1,5 +1,5 @@
 use Rattle.std.proofs.Common.{rules, ◌≡◌, ℕ, ◌+◌, ◌-◌, List, length, take, arith, length-take}
-use Rattle.redomail.proofs.Common.{held}
+use Rattle.redomail.proofs.Common.{saturate}
 use Rattle.redomail.proofs.Scripts.{step-record, step-commit, step-entry, step-last, step-count, step-disarm}
 use Rattle.redomail.specs.Layout.{IsLayout}
 use Rattle.redomail.specs.declared.layout.Layout.{Layout}
@@ -31,7 +31,7 @@ returns-in-0 c =
 pub returns-in-1 : goal.returns-in-1
 returns-in-1 c =
     let n = wide c.args.layout c.args.words.now c.requires.lawful (search (rules, c.told-words)) in
-    let e : c.saturating_add.result ≡ held (c.args.at + 1) = omega (arith, c.saturating_add.ensures) in
+    let e : c.saturating_add.result ≡ saturate (c.args.at + 1) = omega (arith, c.saturating_add.ensures) in
     rw e (step-count _ _ _ c.args.step (omega (arith, n)))
 
 pub returns-in_default : goal.returns-in_default

@@ -1,6 +1,6 @@
 use Rattle.std.proofs.Common.{◌≡◌, ◌+◌, ap, ◌∙◌, arith}
 use Rattle.redomail.specs.Layout.{place_at, last_at}
-use Rattle.rme_c.proofs.Common.{Layout, held, layout_of}
+use Rattle.rme_c.proofs.Common.{Layout, saturate, layout_of}
 use Rattle.rme_c.proofs.StoredAll.{record_row, commit, entry_row, numbered, counts, disarm}
 use Rattle.rme_c.proofs.appends.name_stores.Goals as goal
 
@@ -17,7 +17,7 @@ pub name_row-requires-2-clause-row : goal.name_row-requires-2-clause-row
 name_row-requires-2-clause-row c =
     λ j h.
     let p = c.args.p.now in
-    let placed : c.place.result ≡ held (place_at (layout_of p) c.args.entry.at + 0) = c.place.ensures ∙ ap (λ (l : Layout). held (place_at l c.args.entry.at + 0)) c.layout-layout.ensures in
+    let placed : c.place.result ≡ saturate (place_at (layout_of p) c.args.entry.at + 0) = c.place.ensures ∙ ap (λ (l : Layout). saturate (place_at l c.args.entry.at + 0)) c.layout-layout.ensures in
     entry_row p c.requires.eight c.args.entry.at c.args.entry.seq c.requires.fits _ _ j (omega arith) (omega (arith, c.saturating_add-place.ensures, placed)) h
 
 pub name-requires-2-clause-next : goal.name-requires-2-clause-next

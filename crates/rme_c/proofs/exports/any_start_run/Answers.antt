@@ -29,7 +29,7 @@ pub returns : goal.returns
 returns c =
     let e = c.rme_start-refused.ensures in
     let status = e.status in
-    let b = c.begun.ensures in
+    let b = c.run_at_start.ensures in
     let ok : c.rme_start-refused.result ≡ 0 = c.if-refused-ne0.false in
     record {
       code = b.code ∙ sym (ap (λ k. start_code k (machine_state_of c.rme_start-refused.new.p)) (sym status ∙ ok));

@@ -3,8 +3,8 @@ use Rattle.rme_c.proofs.exports.rme_feed.Goals as goal
 pub returns-in-Some-clause-exact : goal.returns-in-Some-clause-exact
 returns-in-Some-clause-exact c = c.counted_feed.ensures.exact
 
-pub returns-in-Some-clause-told : goal.returns-in-Some-clause-told
-returns-in-Some-clause-told c = c.counted_feed.ensures.told
+pub returns-in-Some-clause-reports : goal.returns-in-Some-clause-reports
+returns-in-Some-clause-reports c = c.counted_feed.ensures.reports
 
 pub returns-in-Some-clause-next : goal.returns-in-Some-clause-next
 returns-in-Some-clause-next c = c.counted_feed.ensures.next

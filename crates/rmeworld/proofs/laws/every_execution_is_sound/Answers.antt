@@ -1,5 +1,5 @@
 use Rattle.std.proofs.Common.{subst}
-use Rattle.rmeworld.proofs.Common.{Legal, nobody, IsLawful, World, nothing_shown, empty, EveryExecutionIsSound, at_first}
+use Rattle.rmeworld.proofs.Common.{Legal, nobody, IsLawful, World, nothing_shown, empty_state, EveryExecutionIsSound, at_first}
 use Rattle.rmeworld.proofs.Beginning.{later_is_sound}
 use Rattle.rmeworld.proofs.LawfulNow.{every_execution_leaves_an_image}
 use Rattle.rmeworld.proofs.Projection.{projected}
@@ -16,7 +16,7 @@ pub returns-clause-sound : goal.returns-clause-sound
 returns-clause-sound c = every c
 
 pub returns-clause-legal : goal.returns-clause-legal
-returns-clause-legal c = λ l limit execution layout h. legal_by l limit layout at_first (empty l.procs l.cap) execution (every c l limit execution layout h)
+returns-clause-legal c = λ l limit execution layout h. legal_by l limit layout at_first (empty_state l.procs l.cap) execution (every c l limit execution layout h)
 
 pub returns-clause-later : goal.returns-clause-later
 returns-clause-later c = later_is_sound

@@ -1,4 +1,4 @@
-use Rattle.execution.proofs.Tabled.{calls_keep_the_table}
+use Rattle.table_runs.proofs.Tabled.{calls_keep_the_table}
 use Rattle.robust.proofs.laws.calls_keep_the_table.Goals as goal
 
 pub returns : goal.returns

@@ -1,6 +1,6 @@
 use Rattle.std.proofs.Common.{◌≡◌, ◌++◌, map}
 use Rattle.std.specs.Vec.Iter.{into_iter_items}
-use Rattle.robust.specs.Working.{seat_of, seats_of}
+use Rattle.robust.specs.MemberLaws.{seat_of, seats_of}
 use Rattle.robust_tests.proofs.eight.join_all.Given as goal
 
 abbrev pub invariant-loop-thread : goal.invariant-loop-thread

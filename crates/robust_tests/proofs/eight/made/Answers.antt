@@ -1,5 +1,5 @@
 use Rattle.std.proofs.Common.{ap}
-use Rattle.robust.specs.Working.{seats_of}
+use Rattle.robust.specs.MemberLaws.{seats_of}
 use Rattle.robust_tests.proofs.eight.made.Goals as goal
 
 pub returns : goal.returns

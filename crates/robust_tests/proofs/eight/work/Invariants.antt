@@ -1,5 +1,5 @@
 use Rattle.std.proofs.Common.{◌≡◌}
-use Rattle.robust.specs.Working.{seat_of}
+use Rattle.robust.specs.MemberLaws.{seat_of}
 use Rattle.robust_tests.proofs.eight.work.Given as goal
 
 abbrev pub invariant-loop : goal.invariant-loop

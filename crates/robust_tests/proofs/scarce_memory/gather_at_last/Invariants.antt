@@ -1,4 +1,4 @@
-use Rattle.execution.specs.Gathering.{OneArena}
+use Rattle.table_runs.specs.GatheredRuns.{OneArena}
 use Rattle.robust_tests.proofs.scarce_memory.gather_at_last.Given as goal
 
 abbrev pub invariant-loop : goal.invariant-loop

@@ -3,7 +3,7 @@ use Rattle.std.specs.Prelude.{bytes_eq}
 use Rattle.std.proofs.lemmas.Bool.{both_ways}
 use Rattle.std.proofs.lemmas.Option.{get_or_from_slice_get}
 use Rattle.algorithm_texts.specs.declared.lines.Label.{Label}
-use Rattle.algorithm_texts.specs.Finishing.{is_label_in}
+use Rattle.algorithm_texts.specs.FinishedDrafts.{is_label_in}
 use Rattle.algorithm_texts.proofs.Fits.{labels_differ}
 use Rattle.algorithm_texts.proofs.RunMarks.{below_next}
 use Rattle.algorithm_texts.proofs.lines.Draft.check_labels.Goals as goal

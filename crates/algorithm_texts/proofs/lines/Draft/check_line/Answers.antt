@@ -1,7 +1,7 @@
 use Rattle.std.proofs.Common.{◌≡◌, ◌<◌, ◌≤◌, length, map, get_or, slice_get, refl, arith, rules}
 use Rattle.std.proofs.lemmas.Grind.{common_steps}
 use Rattle.std.proofs.lemmas.Option.{slice_get_read, slice_get_past, gets}
-use Rattle.algorithm_texts.specs.Drafts.{drafted}
+use Rattle.algorithm_texts.specs.Drafts.{draft_view}
 use Rattle.algorithm_texts.specs.Usage.{uses}
 use Rattle.algorithm_texts.proofs.Fits.{no_line_fits}
 use Rattle.algorithm_texts.proofs.Uses.{use_at, no_use_at}
@@ -17,6 +17,6 @@ check_form-requires-clause-there c =
 pub returns-in-None : goal.returns-in-None
 returns-in-None c =
     let lines = c.args.self.now.algorithm.lines.items in
-    let d = drafted c.args.self.now in
+    let d = draft_view c.args.self.now in
     let past : length lines ≤ c.args.place = first_of (search rules, grind (arith, common_steps), grind (arith, common_steps, gets)) in
     no_line_fits (uses d.lines) d.head.promises d.lasting (length d.names) c.args.call c.args.place (no_use_at lines c.args.place (slice_get_past lines c.args.place past))

@@ -1,5 +1,5 @@
 use Rattle.std.proofs.Common.{length}
-use Rattle.algorithm_texts.specs.Drafts.{drafted}
+use Rattle.algorithm_texts.specs.Drafts.{draft_view}
 use Rattle.algorithm_texts.specs.Lawful.{LineFits}
 use Rattle.algorithm_texts.specs.Usage.{uses}
 use Rattle.algorithm_texts.proofs.RunMarks.{below_next, all_within}
@@ -7,10 +7,10 @@ use Rattle.algorithm_texts.proofs.lines.Draft.check_lines.Goals as goal
 
 pub loop-place-preserved : goal.loop-place-preserved
 loop-place-preserved c =
-    let d = drafted c.args.self.now in
+    let d = draft_view c.args.self.now in
     below_next (λ at. LineFits (uses d.lines) d.head.promises d.lasting (length d.names) c.args.call at) c.args.call.«from» c.loop-place.place c.loop-place.invariant c.in_ok-check_line.ensures
 
 pub returns : goal.returns
 returns c =
-    let d = drafted c.args.self.now in
+    let d = draft_view c.args.self.now in
     all_within (λ at. LineFits (uses d.lines) d.head.promises d.lasting (length d.names) c.args.call at) c.args.call c.loop-place.place c.loop-place.invariant c.loop-place-test.false

@@ -1,7 +1,7 @@
 use Rattle.std.proofs.Common.{◌≡◌, ℕ, true, length, string_bytes, sym, ◌∙◌, arith}
 use Rattle.std.proofs.lemmas.Bool.{both_ways}
 use Rattle.std.proofs.lemmas.List.{length-map}
-use Rattle.algorithm_texts.specs.Drafts.{drafted}
+use Rattle.algorithm_texts.specs.Drafts.{draft_view}
 use Rattle.algorithm_texts.specs.Lawful.{HasLoop}
 use Rattle.algorithm_texts.specs.Usage.{sets, uses, passes_at}
 use Rattle.algorithm_texts.proofs.RunMarks.{below_next}
@@ -10,7 +10,7 @@ use Rattle.algorithm_texts.proofs.lines.Draft.check_loops.Goals.{else-uses_at-vi
 
 pub loop-name-preserved : goal.loop-name-preserved
 loop-name-preserved c = λ name less.
-    below_next (λ k. passes_at (sets k) (uses (drafted c.args.self.now).lines) c.args.place ≡ true → HasLoop (uses (drafted c.args.self.now).lines) c.args.call k → ⊥) 0 c.loop-name.name
+    below_next (λ k. passes_at (sets k) (uses (draft_view c.args.self.now).lines) c.args.place ≡ true → HasLoop (uses (draft_view c.args.self.now).lines) c.args.call k → ⊥) 0 c.loop-name.name
     (λ k l. c.loop-name.invariant k)
     (λ h loop. elim c.else-uses_at.branch [
       | else-uses_at-via-then-uses_at+else-has_line w ↦ both_ways w.has_line.result w.if-has_line.false (w.has_line.ensures.1 loop)

@@ -1,7 +1,7 @@
 use Rattle.std.proofs.Common.{◌≡◌, ℕ, true, length, string_bytes, ◌∙◌, arith}
 use Rattle.std.proofs.lemmas.Bool.{both_ways}
 use Rattle.std.proofs.lemmas.List.{length-map}
-use Rattle.algorithm_texts.specs.Drafts.{drafted}
+use Rattle.algorithm_texts.specs.Drafts.{draft_view}
 use Rattle.algorithm_texts.specs.Lawful.{IsKnown}
 use Rattle.algorithm_texts.specs.Usage.{reads, uses, passes_at}
 use Rattle.algorithm_texts.proofs.RunMarks.{below_next}
@@ -10,8 +10,8 @@ use Rattle.algorithm_texts.proofs.lines.Draft.check_read.Goals.{else-uses_at-via
 
 pub loop-name-preserved : goal.loop-name-preserved
 loop-name-preserved c = λ name less.
-    below_next (λ k. passes_at (reads k) (uses (drafted c.args.self.now).lines) c.args.place ≡ true
-    → IsKnown (uses (drafted c.args.self.now).lines) c.args.call (drafted c.args.self.now).lasting k c.args.place) 0 c.loop-name.name (λ k l. c.loop-name.invariant k)
+    below_next (λ k. passes_at (reads k) (uses (draft_view c.args.self.now).lines) c.args.place ≡ true
+    → IsKnown (uses (draft_view c.args.self.now).lines) c.args.call (draft_view c.args.self.now).lasting k c.args.place) 0 c.loop-name.name (λ k l. c.loop-name.invariant k)
     (λ h. elim c.else-uses_at.branch [
       | else-uses_at-via-then-uses_at+else-not-is_known w ↦ w.is_known.ensures w.if-not-is_known.false
       | else-uses_at-via-else-uses_at w ↦ absurd (both_ways c.uses_at.result w.if-uses_at.false (c.uses_at.ensures ∙ h))

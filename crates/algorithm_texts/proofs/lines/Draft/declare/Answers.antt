@@ -4,7 +4,7 @@ use Rattle.std.proofs.lemmas.Str.{IsUtf8-from_ascii}
 use Rattle.std.specs.Option.{option_map}
 use Rattle.algorithms.specs.declared.algorithm.Declaration.{Declaration}
 use Rattle.algorithm_texts.specs.Parts.{Term, term_of}
-use Rattle.algorithm_texts.specs.Drafts.{Drafted, drafted}
+use Rattle.algorithm_texts.specs.Drafts.{Drafted, draft_view}
 use Rattle.algorithm_texts.proofs.lines.Draft.declare.Goals as goal
 
 mapped : {A B : Type 0} (f : A → B) (now items : List A) (x : A) → now ≡ items ++ x ∷ [] → map f now ≡ map f items ++ f x ∷ []
@@ -25,5 +25,5 @@ returns-clause-ok c =
     let name = c.in_ok-name.ensures.ok (IsUtf8-from_ascii c.args.name.now c.requires) in
     let names : map (λ d. string_bytes d.name) now ≡ map (λ d. string_bytes d.name) old ++ c.args.name.now ∷ [] =
     mapped (λ d. string_bytes d.name) now old x c.in_ok-push.ensures.items ∙ ap (λ n. map (λ d. string_bytes d.name) old ++ n ∷ []) name in
-    same_columns (drafted c.args.self.now) _ _ _ _ _ _ names (mapped (λ d. d.each) now old x c.in_ok-push.ensures.items)
+    same_columns (draft_view c.args.self.now) _ _ _ _ _ _ names (mapped (λ d. d.each) now old x c.in_ok-push.ensures.items)
     (mapped (λ d. option_map (λ v. term_of v) d.bound) now old x c.in_ok-push.ensures.items)

@@ -1,17 +1,17 @@
 use Rattle.std.proofs.Common.{◌≡◌, ℕ, ◌+◌, ◌≤◌, true, length, leb, refl, sym, ap, ◌∙◌, subst}
 use Rattle.std.proofs.lemmas.List.{with_items_is}
 use Rattle.std.specs.Vec.{with_items}
-use Rattle.algorithm_texts.specs.declared.flow.Runs.TheVariants.{Without}
-use Rattle.algorithm_texts.specs.Drafts.{drafted}
-use Rattle.algorithm_texts.specs.Finishing.{is_in}
-use Rattle.algorithm_texts.specs.Marks.{Keeps}
+use Rattle.algorithm_texts.specs.declared.flow.RunKind.TheVariants.{Without}
+use Rattle.algorithm_texts.specs.Drafts.{draft_view}
+use Rattle.algorithm_texts.specs.FinishedDrafts.{is_in}
+use Rattle.algorithm_texts.specs.Marks.{KeepsMarks}
 use Rattle.algorithm_texts.specs.Runs.{HasNot}
 use Rattle.algorithm_texts.proofs.RunMarks.{comes_marked, start_marked, length-marks_from}
 use Rattle.algorithm_texts.proofs.lines.Draft.reached_without.Goals as goal
 
 pub returns : goal.returns
 returns c = λ at all within h.
-    let d = drafted c.args.self.now in
+    let d = draft_view c.args.self.now in
     let items = c.in_ok-marks.marks.items in
     let past = c.mark_past.new.marks in
     let marks = c.spread.new.marks in
@@ -19,8 +19,8 @@ returns c = λ at all within h.
     let before = c.as_mut_slice-2.ensures.value ∙ one in
     let now = with_items_is (with_items c.in_ok-marks.marks past) marks (c.spread.ensures.size ∙ c.as_mut_slice-2.ensures.len) in
     let long = c.mark_past.ensures.size ∙ ap length (c.as_mut_slice.ensures.value ∙ c.in_ok-marks.ensures) ∙ length-marks_from (length d.lines + 1) c.args.call.«from» (leb d.lasting c.args.name) in
-    let kept : Keeps items past = subst (λ ms. Keeps ms past) c.as_mut_slice.ensures.value c.mark_past.ensures.kept in
-    let keeps : Keeps past marks = subst (λ ms. Keeps ms marks) before c.spread.ensures.kept in
+    let kept : KeepsMarks items past = subst (λ ms. KeepsMarks ms past) c.as_mut_slice.ensures.value c.mark_past.ensures.kept in
+    let keeps : KeepsMarks past marks = subst (λ ms. KeepsMarks ms marks) before c.spread.ensures.kept in
     subst (λ ms. is_in ms at ≡ true) (sym now)
     (comes_marked d c.args.call (Without c.args.name) (HasNot d c.args.call c.args.name) marks (c.spread.ensures.size ∙ ap length before ∙ long) c.spread.ensures.closed
     (start_marked d c.args.call c.args.name c.args.reached.now items past marks (length d.lines + 1) refl c.in_ok-marks.ensures kept c.mark_past.ensures.marked long keeps all)

@@ -42,22 +42,22 @@ returns-in-Ok-clause-size c = λ bad.
     (finds_command _ c.in-Ok.matches words is c.in-Ok.ensures.matches) c.command_in.ensures.reads in
     size_refused words c.command_in.result bad c.command_in.ensures.sized answered.0 answered.1
 
-pub returns-in_ok-refused-in-Err-clause-refused : goal.returns-in_ok-refused-in-Err-clause-refused
-returns-in_ok-refused-in-Err-clause-refused c =
+pub returns-in_ok-fault_of_error-in-Err-clause-refused : goal.returns-in_ok-fault_of_error-in-Err-clause-refused
+returns-in_ok-fault_of_error-in-Err-clause-refused c =
     let words = texts_of c.args.words.now in
-    error_answered words (kind_of c.in-Err.error) c.in_ok-refused-in-Err.field-0 (has_kind _ words c.in-Err.error c.in_ok-parser.ensures c.in-Err.ensures.kinds)
-    c.in_ok-refused-in-Err.ensures
+    error_answered words (kind_of c.in-Err.error) c.in_ok-fault_of_error-in-Err.field-0 (has_kind _ words c.in-Err.error c.in_ok-parser.ensures c.in-Err.ensures.kinds)
+    c.in_ok-fault_of_error-in-Err.ensures
 
-pub returns-in_ok-refused-in-Err-clause-variant : goal.returns-in_ok-refused-in-Err-clause-variant
-returns-in_ok-refused-in-Err-clause-variant c = λ bad.
+pub returns-in_ok-fault_of_error-in-Err-clause-variant : goal.returns-in_ok-fault_of_error-in-Err-clause-variant
+returns-in_ok-fault_of_error-in-Err-clause-variant c = λ bad.
     let words = texts_of c.args.words.now in
-    variant_refused words (Err c.in_ok-refused-in-Err.field-0) bad tt
-    (error_answered words (kind_of c.in-Err.error) c.in_ok-refused-in-Err.field-0 (has_kind _ words c.in-Err.error c.in_ok-parser.ensures c.in-Err.ensures.kinds)
-    c.in_ok-refused-in-Err.ensures)
+    variant_refused words (Err c.in_ok-fault_of_error-in-Err.field-0) bad tt
+    (error_answered words (kind_of c.in-Err.error) c.in_ok-fault_of_error-in-Err.field-0 (has_kind _ words c.in-Err.error c.in_ok-parser.ensures c.in-Err.ensures.kinds)
+    c.in_ok-fault_of_error-in-Err.ensures)
 
-pub returns-in_ok-refused-in-Err-clause-size : goal.returns-in_ok-refused-in-Err-clause-size
-returns-in_ok-refused-in-Err-clause-size c = λ bad.
+pub returns-in_ok-fault_of_error-in-Err-clause-size : goal.returns-in_ok-fault_of_error-in-Err-clause-size
+returns-in_ok-fault_of_error-in-Err-clause-size c = λ bad.
     let words = texts_of c.args.words.now in
-    size_refused words (Err c.in_ok-refused-in-Err.field-0) bad tt tt
-    (error_answered words (kind_of c.in-Err.error) c.in_ok-refused-in-Err.field-0 (has_kind _ words c.in-Err.error c.in_ok-parser.ensures c.in-Err.ensures.kinds)
-    c.in_ok-refused-in-Err.ensures)
+    size_refused words (Err c.in_ok-fault_of_error-in-Err.field-0) bad tt tt
+    (error_answered words (kind_of c.in-Err.error) c.in_ok-fault_of_error-in-Err.field-0 (has_kind _ words c.in-Err.error c.in_ok-parser.ensures c.in-Err.ensures.kinds)
+    c.in_ok-fault_of_error-in-Err.ensures)

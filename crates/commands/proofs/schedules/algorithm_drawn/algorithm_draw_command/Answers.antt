@@ -20,4 +20,4 @@ returns-clause-ends g c =
     both_read (option_copied c.args.text) (λ (a : Algorithm) (s : Scheduled). DrawsAlgorithm c.args.args.now.svg a s (g.W.Sink.tape c.args.w.now) (g.W.Sink.tape c.draw_on_algorithm.new.w) c.draw_on_algorithm.result)
     (g.R.Source.reading c.args.r.now) (g.R.Source.reading c.schedule_read.new.r) (g.W.Sink.tape c.args.w.now) (g.W.Sink.tape c.draw_on_algorithm.new.w)
     c.draw_on_algorithm.result c.in_ok-algorithm.algorithm c.in_ok-schedule.schedule read.0
-    c.in_ok-algorithm.ensures.spells c.in_ok-algorithm.ensures.ends c.in_ok-algorithm.ensures.leads read.1 read.2 c.draw_on_algorithm.ensures.told
+    c.in_ok-algorithm.ensures.spells c.in_ok-algorithm.ensures.ends c.in_ok-algorithm.ensures.leads read.1 read.2 c.draw_on_algorithm.ensures.reports

@@ -1,20 +1,20 @@
 use Rattle.std.proofs.Common.{◌≡◌, ◌<◌, Some, None, length, slice_set, refl, sym, ap, ◌∙◌, subst, lt-ltb}
-use Rattle.crashlab.proofs.Common.{own_at, refill, words_of, mail_by, or_else, words_by, cells_by, the_deed, reading_of, Told, variant_stepped, variant_outcome, VariantState, machine_state_at, access_at, IsConfigured}
-use Rattle.crashlab.proofs.Common.{unless_step, stepped, stepped_by, stepped_if, advanced_by, advanced_if, found_by, outcome_of}
-use Rattle.rmecore.specs.Machine.{silent}
+use Rattle.crashlab.proofs.Common.{own_at, refill, words_of, mail_by, or_else, words_by, cells_by, the_deed, reading_of, IsDeedGiven, variant_stepped, variant_outcome, VariantState, machine_state_at, access_at, IsVariantConfigured}
+use Rattle.crashlab.proofs.Common.{unless_step, variant_step_report, stepped_by, stepped_if, advanced_by, advanced_if, found_by, outcome_of}
+use Rattle.rmecore.specs.Machine.{no_progress}
 use Rattle.crashlab.proofs.Scans.{plain_next}
 use Rattle.crashlab.proofs.Configurations.{machine_state_here, configured_stepped, configuration_within}
 use Rattle.crashlab.proofs.variant_world.VariantWorld.job_on.Goals as goal
 
 pub load-found-requires : goal.load-found-requires
 load-found-requires c =
-    let configured = subst IsConfigured c.self.view_is c.self.invariant in
+    let configured = subst IsVariantConfigured c.self.view_is c.self.invariant in
     configuration_within (machine_state_at c.args.self.now.processes c.args.p) c.args.access (configured.configurations c.args.p c.requires.below) c.requires.works.within c.word.ensures
     (ap length c.deref.ensures.value ∙ c.self.invariant.words_each ∙ ap (λ (s : VariantState). s.layout.procs) c.self.view_is)
 
 pub store-requires : goal.store-requires
 store-requires c =
-    let configured = subst IsConfigured c.self.view_is c.self.invariant in
+    let configured = subst IsVariantConfigured c.self.view_is c.self.invariant in
     configuration_within (machine_state_at c.args.self.now.processes c.args.p) c.args.access (configured.configurations c.args.p c.requires.below) c.requires.works.within refl
     (ap length c.deref_mut.ensures.value ∙ c.self.invariant.words_each ∙ ap (λ (s : VariantState). s.layout.procs) c.self.view_is)
 
@@ -42,15 +42,15 @@ value c = c.load-found.ensures ∙ (λ i. reading_of (own_at (c.deref.ensures.va
 pub returns-clause-accepted : goal.returns-clause-accepted
 returns-clause-accepted c = rw (lt-ltb c.args.p c.args.self.now.layout.procs c.requires.below) (ap unless_step (next c))
 
-pub returns-clause-told : goal.returns-clause-told
-returns-clause-told c =
+pub returns-clause-reports : goal.returns-clause-reports
+returns-clause-reports c =
     let s : VariantState = state c in
     let a = c.args.access in
-    let what : record { progress = silent; answer = c.job_on-answer.result } ≡ outcome_of s c.args.p a = sym c.job_on-answer.ensures.outcome ∙ (λ i. variant_outcome (sym (here c) i) (value c i)) in
-    let deed : the_deed (or_else None (mail_by s.layout c.args.p (words_of c.deref-3.result.now) a)) ≡ (stepped c.args.self.now c.args.p).deed =
+    let what : record { progress = no_progress; answer = c.job_on-answer.result } ≡ outcome_of s c.args.p a = sym c.job_on-answer.ensures.outcome ∙ (λ i. variant_outcome (sym (here c) i) (value c i)) in
+    let deed : the_deed (or_else None (mail_by s.layout c.args.p (words_of c.deref-3.result.now) a)) ≡ (variant_step_report c.args.self.now c.args.p).deed =
     (λ i. the_deed (or_else (what i).progress.outer (mail_by s.layout c.args.p (words_of (c.deref-3.ensures.value i)) a)))
     ∙ ap (λ (x : VariantState). (stepped_by x c.args.p a).deed) c.self.view_is ∙ ap (λ o. (stepped_if c.args.self.now c.args.p o).deed) (sym (next c)) in
-    λ history stands. subst (λ d. Told history d c.tell_step-made.new.judge c.tell_step-made.result) deed (c.tell_step-made.ensures.told history stands)
+    λ history stands. subst (λ d. IsDeedGiven history d c.tell_step-made.new.judge c.tell_step-made.result) deed (c.tell_step-made.ensures.reports history stands)
 
 pub returns-clause-ok : goal.returns-clause-ok
 returns-clause-ok c =

@@ -1,5 +1,5 @@
 use Rattle.std.proofs.Common.{[], None, ◌≡◌, replicate, sym, ap, ◌∙◌, subst, rules}
-use Rattle.crashlab.proofs.Common.{zeros, Layout, size, IsSize, IsLockWorld, IsConfigured, new_world}
+use Rattle.crashlab.proofs.Common.{zeros, Layout, size, IsSize, IsLockWorld, IsVariantConfigured, new_world}
 use Rattle.rmeworld.specs.WorldState.{new_refusal}
 use Rattle.rmeworld.proofs.Worlds.{size_held}
 use Rattle.crashlab.proofs.LockWorlds.{lock_new, lock_world}
@@ -22,7 +22,7 @@ is c =
     λ i. record { variant = c.args.variant; layout = layout c; limit = c.args.limit; words = words i; cells = cells i; processes = c.in_ok-processes.ensures.rest i }
 
 pub invariant_of-result : goal.invariant_of-result
-invariant_of-result c = subst IsConfigured (sym (is c)) (configured_new c.args.variant (layout c) c.args.limit (sized c))
+invariant_of-result c = subst IsVariantConfigured (sym (is c)) (configured_new c.args.variant (layout c) c.args.limit (sized c))
 
 pub returns-clause-ok : goal.returns-clause-ok
 returns-clause-ok c = is c

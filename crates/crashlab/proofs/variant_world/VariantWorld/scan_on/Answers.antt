@@ -1,5 +1,5 @@
 use Rattle.std.proofs.Common.{◌≡◌, ◌<◌, Some, length, slice_set, refl, sym, ap, ◌∙◌, subst, lt-ltb}
-use Rattle.crashlab.proofs.Common.{own_at, words_of, reading_of, variant_stepped, VariantState, machine_state_at, access_at, IsConfigured, unless_step, advanced_by, advanced_if, found_by}
+use Rattle.crashlab.proofs.Common.{own_at, words_of, reading_of, variant_stepped, VariantState, machine_state_at, access_at, IsVariantConfigured, unless_step, advanced_by, advanced_if, found_by}
 use Rattle.rmeworld.proofs.Advancing.{load_leaves}
 use Rattle.crashlab.proofs.Scans.{plain_next, scan_tells}
 use Rattle.crashlab.proofs.Configurations.{machine_state_here, configured_stepped, configuration_within}
@@ -7,7 +7,7 @@ use Rattle.crashlab.proofs.variant_world.VariantWorld.scan_on.Goals as goal
 
 pub load-found-requires : goal.load-found-requires
 load-found-requires c =
-    let configured = subst IsConfigured c.self.view_is c.self.invariant in
+    let configured = subst IsVariantConfigured c.self.view_is c.self.invariant in
     configuration_within (machine_state_at c.args.self.now.processes c.args.p) c.args.access (configured.configurations c.args.p c.requires.below) c.requires.goes_on.within c.word.ensures
     (ap length c.deref.ensures.value ∙ c.self.invariant.words_each ∙ ap (λ (s : VariantState). s.layout.procs) c.self.view_is)
 

@@ -1,6 +1,6 @@
 use Rattle.std.proofs.Common.{◌≡◌, [], Some, None, IfSome, length, slice_set, refl, sym, ap, ◌∙◌, subst, lt-ltb}
 use Rattle.crashlab.proofs.Common.{own_at, refill, words_of, Outcome, mail_by, or_else, words_by, cells_by, the_deed, reading_of, variant_next_access, variant_stepped, variant_outcome, VariantState}
-use Rattle.crashlab.proofs.Common.{machine_state_at, access_at, advance_refusal, unless_step, stepped, advanced, advanced_if, found_by, outcome_of, deeds_of, stepped_if}
+use Rattle.crashlab.proofs.Common.{machine_state_at, access_at, advance_refusal, unless_step, variant_step_report, variant_after_step, advanced_if, found_by, outcome_of, deeds_of, stepped_if}
 use Rattle.crashlab.proofs.Configurations.{machine_state_here, configured_stepped, in_words}
 use Rattle.crashlab.proofs.variant_world.VariantWorld.step_unobserved.Goals as goal
 
@@ -49,7 +49,7 @@ returns-clause-accepted c = λ _. subst (λ (x : VariantState). advance_refusal 
 pub returns-clause-silent : goal.returns-clause-silent
 returns-clause-silent c = λ _.
     let s : VariantState = state c in
-    subst (λ (x : VariantState). ((stepped x c.args.p).deed ≡ None) × ((stepped x c.args.p).answer ≡ None)) c.self.view_is
+    subst (λ (x : VariantState). ((variant_step_report x c.args.p).deed ≡ None) × ((variant_step_report x c.args.p).answer ≡ None)) c.self.view_is
     (subst (λ o. ((stepped_if s c.args.p o).deed ≡ None) × ((stepped_if s c.args.p o).answer ≡ None)) (sym (next c))
     (ap the_deed (silent c), ap (λ (o : Outcome). o.answer) (sym (what c)) ∙ (c.if-not-feed_silently.ensures.silent refl).1))
 
@@ -61,4 +61,4 @@ returns-clause-ok c = λ _.
     let cells = refill _ _ _ (c.store.auto.cells ∙ c.deref_mut-2.ensures.len) ∙ c.store.ensures.cells ∙ ap (λ ws. cells_by ws a) c.deref_mut-2.ensures.value in
     let is : c.feed_silently.new.self ≡ variant_stepped (machine_state_at s.processes c.args.p) (found_by s a) = c.if-not-feed_silently.ensures.exact refl ∙ (λ i. variant_stepped (sym (here c) i) (value c i)) in
     (λ i. record s { words = words i; cells = cells i; processes = slice_set s.processes c.args.p (is i) })
-    ∙ ap (advanced_if s c.args.p) (sym (next c)) ∙ ap (λ (x : VariantState). advanced x c.args.p) c.self.view_is
+    ∙ ap (advanced_if s c.args.p) (sym (next c)) ∙ ap (λ (x : VariantState). variant_after_step x c.args.p) c.self.view_is

@@ -11,12 +11,12 @@ returns-in-Some-clause-number g c =
 pub returns-then-is_some-clause-number : goal.returns-then-is_some-clause-number
 returns-then-is_some-clause-number g c =
     let count : c.args.n - c.loop-k.k ≡ suc (c.args.n - (c.loop-k.k + 1)) = omega (arith, c.loop-k-test.true) in
-    sym (way_answered g.M.Machine.behaviour c.args.p c.loop-k.k _ _ c.loop-k.machine c.in-Ok.stepped count c.in-Ok.ensures.accepted c.in-Ok.ensures.told (grind arith)) ∙ c.loop-k.invariant
+    sym (way_answered g.M.Machine.behaviour c.args.p c.loop-k.k _ _ c.loop-k.machine c.in-Ok.stepped count c.in-Ok.ensures.accepted c.in-Ok.ensures.reports (grind arith)) ∙ c.loop-k.invariant
 
 pub loop-k-preserved : goal.loop-k-preserved
 loop-k-preserved g c =
     let count : c.args.n - c.loop-k.k ≡ suc (c.args.n - (c.loop-k.k + 1)) = omega (arith, c.loop-k-test.true) in
-    sym (way_goes_on g.M.Machine.behaviour c.args.p c.loop-k.k _ _ c.loop-k.machine c.advance.new.self c.in-Ok.stepped count c.in-Ok.ensures.accepted c.in-Ok.ensures.told (grind arith) c.in-Ok.ensures.ok) ∙ c.loop-k.invariant
+    sym (way_goes_on g.M.Machine.behaviour c.args.p c.loop-k.k _ _ c.loop-k.machine c.advance.new.self c.in-Ok.stepped count c.in-Ok.ensures.accepted c.in-Ok.ensures.reports (grind arith) c.in-Ok.ensures.ok) ∙ c.loop-k.invariant
 
 pub returns-clause-number : goal.returns-clause-number
 returns-clause-number g c =

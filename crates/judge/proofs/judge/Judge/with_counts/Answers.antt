@@ -1,7 +1,7 @@
 use Rattle.std.proofs.lemmas.List.Sums.{count_by-le-length}
 use Rattle.std.specs.Prelude.{IfSome, is_some}
 use Rattle.std.proofs.Common.{◌≡◌, ◌<◌, ◌∙◌, ap, subst, arith, get_or, length, List, ℕ, [], slice_index, slice_index_or, if◌then◌else◌, refl, get_or-take, count_by, true, Option, Some, None, length-take}
-use Rattle.judge.proofs.Common.{length-map, get_or_default, bit_at, Out, is_named, state_of, false≢true, Message, is_by, IsNext}
+use Rattle.judge.proofs.Common.{length-map, get_or_default, bit_at, Out, is_named, state_of, false≢true, Message, is_by, IsNextMessage}
 use Rattle.judge.proofs.judge.Judge.with_counts.Goals as goal
 
 pub returns-clause-made : goal.returns-clause-made
@@ -58,5 +58,5 @@ invariant_of-result c =
           ap (λ xs. slice_index xs p) c.in_ok-counts.ensures.items ∙ (get_or-take start.procs c.args.counts.now p 0 below ∙ c.requires.counts p 0 low) in
           omega (arith, counted, count_by-le-length (is_by p) start.shown, shown);
       shown_low = omega (arith, holds.mail.room, shown);
-      room = λ e. let room = beside (IsNext start.procs start.shown) start.pending holds.mail.pending e in omega (arith, room, shown);
+      room = λ e. let room = beside (IsNextMessage start.procs start.shown) start.pending holds.mail.pending e in omega (arith, room, shown);
     }

@@ -1,11 +1,11 @@
 use Rattle.std.proofs.Common.{refl, arith}
-use Rattle.judge.proofs.Common.{empty, Lists, false≢true}
+use Rattle.judge.proofs.Common.{empty_state, Lists, false≢true}
 use Rattle.judge.proofs.Writes.{Lists-replicate, HasRows-replicate}
 use Rattle.judge.proofs.judge.Judge.with_nothing_shown.Goals as goal
 
 pub returns : goal.returns
 returns c = record {
-  state = empty c.args.procs c.args.cap;
+  state = empty_state c.args.procs c.args.cap;
   legal = refl;
   kept = record {
     procs = refl;

@@ -1,5 +1,5 @@
 use Rattle.std.proofs.Common.{◌≡◌, ℕ, ◌<◌}
-use Rattle.one_lock.specs.Lab.{messages_by, messages_sent}
+use Rattle.table_runs.specs.Lab.{messages_by, messages_sent}
 use Rattle.one_lock.proofs.lab.all_sent.are_all_sent.Given as goal
 
 abbrev pub invariant-loop-p : goal.invariant-loop-p

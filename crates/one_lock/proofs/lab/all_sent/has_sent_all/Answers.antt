@@ -1,5 +1,5 @@
 use Rattle.std.proofs.Common.{rules, ◌≡◌, ◌≢◌, ◌≤◌, ◌+◌, ℕ, take, sym, subst}
-use Rattle.one_lock.specs.Lab.{messages_by, messages_sent, words_sent}
+use Rattle.table_runs.specs.Lab.{messages_by, messages_sent, words_sent}
 use Rattle.one_lock.proofs.AllSent.{passes, adds}
 use Rattle.one_lock.proofs.lab.all_sent.has_sent_all.Goals.{then-message-p+else-sent-spec+else-message-sent+else-ne, else-message-p}
 use Rattle.one_lock.proofs.lab.all_sent.has_sent_all.Goals as goal

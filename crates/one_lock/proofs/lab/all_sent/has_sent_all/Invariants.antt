@@ -1,5 +1,5 @@
 use Rattle.std.proofs.Common.{◌≡◌, ◌≤◌, take}
-use Rattle.one_lock.specs.Lab.{messages_by, messages_sent}
+use Rattle.table_runs.specs.Lab.{messages_by, messages_sent}
 use Rattle.one_lock.proofs.lab.all_sent.has_sent_all.Given as goal
 
 abbrev pub invariant-loop-message : goal.invariant-loop-message

@@ -1,6 +1,6 @@
 use Rattle.std.proofs.Common.{◌≡◌, ◌∙◌, ◌++◌, map, All, sym, ap, subst}
 use Rattle.one_lock.proofs.LabCommon.{All-head, All-tail, All-push, into_iter_items, Spec, MayEnd, place_of}
-use Rattle.one_lock.proofs.Seats.{moved_on}
+use Rattle.table_runs.proofs.PartLists.{moved_on}
 use Rattle.one_lock.proofs.lab.crew.join_all.Goals as goal
 
 pub loop-thread-preserved : goal.loop-thread-preserved

@@ -1,6 +1,6 @@
 use Rattle.std.proofs.Common.{◌≡◌, ap}
 use Rattle.one_lock.proofs.LabCommon.{AllSent, Member, fault_by}
-use Rattle.one_lock.specs.declared.lab.lab_fault.LabFault.TheVariants.{Reply}
+use Rattle.table_runs.specs.declared.lab.lab_fault.LabFault.TheVariants.{Reply}
 use Rattle.one_lock.proofs.Endings.{all_more, all_of, is_of_least}
 use Rattle.one_lock.proofs.lab.crew.least_fault.Goals as goal
 

@@ -1,6 +1,6 @@
 use Rattle.std.proofs.Common.{rules, ◌≡◌, ◌∙◌, ◌++◌, map, All, ap, sym, subst, arith}
 use Rattle.one_lock.proofs.LabCommon.{All-head, All-tail, All-push, into_iter_items, place_of, CanSend}
-use Rattle.one_lock.proofs.Seats.{moved_on}
+use Rattle.table_runs.proofs.PartLists.{moved_on}
 use Rattle.one_lock.proofs.lab.crew.start_all.Goals as goal
 
 pub loop-member-preserved : goal.loop-member-preserved

@@ -3,7 +3,7 @@ use Rattle.rmeworld.specs.declared.call.Call.TheVariants.{Consistent}
 use Rattle.one_lock.proofs.Common.{falls_by}
 use Rattle.one_lock.specs.Member.{stands_mended}
 use Rattle.one_lock.specs.Answers.{mended_by}
-use Rattle.one_lock.proofs.Answered.{as_told}
+use Rattle.one_lock.proofs.Answered.{as_reported}
 use Rattle.one_lock.proofs.Concluded.{concluded_asked, concluded_counts, concluded_goes, concluded_stands}
 use Rattle.one_lock.proofs.member.Member.consistent.Goals as goal
 
@@ -21,11 +21,11 @@ pub returns-clause-fallen : goal.returns-clause-fallen
 returns-clause-fallen g c = c.conclude.ensures.fallen ∙ ap (falls_by c.conclude.result) c.in_ok-begin.ensures.fallen
 
 pub returns-clause-stands : goal.returns-clause-stands
-returns-clause-stands g c = λ unmended. concluded_stands c.args.self.now c.begin.new.self c.conclude.new.self _ _ c.conclude.result c.conclude.ensures.answer stands_mended c.mended-repaired.ensures.stands refl
+returns-clause-stands g c = λ unmended. concluded_stands c.args.self.now c.begin.new.self c.conclude.new.self _ _ c.conclude.result c.conclude.ensures.answer stands_mended c.mending_result-repaired.ensures.stands refl
 
 pub returns-clause-answered : goal.returns-clause-answered
 returns-clause-answered g c =
-    λ unmended. as_told g.S.Sizes.named mended_by c.args.self.now c.begin.new.self c.conclude.new.self _ _ Consistent _ _ _ c.conclude.result c.in_ok-begin.ensures.answered c.mended-repaired.ensures.told c.conclude.ensures.answer
+    λ unmended. as_reported g.S.Sizes.named mended_by c.args.self.now c.begin.new.self c.conclude.new.self _ _ Consistent _ _ _ c.conclude.result c.in_ok-begin.ensures.answered c.mending_result-repaired.ensures.fact c.conclude.ensures.answer
 
 pub returns-in_err-begin-clause-asked : goal.returns-in_err-begin-clause-asked
 returns-in_err-begin-clause-asked g c = λ unmended. c.in_err-begin.ensures.ended

@@ -3,7 +3,7 @@ use Rattle.rmeworld.specs.declared.call.Call.TheVariants.{Get}
 use Rattle.one_lock.proofs.Common.{Seat, falls_by}
 use Rattle.one_lock.specs.Member.{of_steps, stands_still}
 use Rattle.one_lock.specs.Answers.{word_by}
-use Rattle.one_lock.proofs.Answered.{as_told}
+use Rattle.one_lock.proofs.Answered.{as_reported}
 use Rattle.one_lock.proofs.Concluded.{concluded_asked, concluded_counts, concluded_goes, concluded_stands, concluded_faults}
 use Rattle.one_lock.proofs.member.Member.get.Goals as goal
 
@@ -28,7 +28,7 @@ returns-clause-faults g c = λ inside there. concluded_faults c.args.self.now c.
 
 pub returns-clause-answered : goal.returns-clause-answered
 returns-clause-answered g c =
-    λ inside there. as_told g.S.Sizes.named word_by c.args.self.now c.begin.new.self c.conclude.new.self _ _ (Get c.args.i) _ _ _ c.conclude.result c.in_ok-begin.ensures.answered c.word_read-word.ensures c.conclude.ensures.answer
+    λ inside there. as_reported g.S.Sizes.named word_by c.args.self.now c.begin.new.self c.conclude.new.self _ _ (Get c.args.i) _ _ _ c.conclude.result c.in_ok-begin.ensures.answered c.word_read-word.ensures c.conclude.ensures.answer
 
 pub returns-in_err-begin-clause-asked : goal.returns-in_err-begin-clause-asked
 returns-in_err-begin-clause-asked g c = λ inside there. c.in_err-begin.ensures.ended

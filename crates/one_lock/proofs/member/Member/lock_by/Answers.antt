@@ -2,7 +2,7 @@ use Rattle.std.proofs.Common.{◌≡◌, true, refl, ap, ◌∙◌}
 use Rattle.rmeworld.specs.declared.call.Call.TheVariants.{Lock}
 use Rattle.one_lock.proofs.Common.{entry_by, falls_by}
 use Rattle.one_lock.specs.Member.{of_lock, stands_entered}
-use Rattle.one_lock.proofs.Answered.{as_told}
+use Rattle.one_lock.proofs.Answered.{as_reported}
 use Rattle.one_lock.proofs.Concluded.{concluded_asked, concluded_counts, concluded_goes, concluded_stands, concluded_faults}
 use Rattle.one_lock.proofs.member.Member.lock_by.Goals as goal
 
@@ -20,14 +20,14 @@ pub returns-clause-fallen : goal.returns-clause-fallen
 returns-clause-fallen g c = c.conclude.ensures.fallen ∙ ap (falls_by c.conclude.result) c.in_ok-begin.ensures.fallen
 
 pub returns-clause-stands : goal.returns-clause-stands
-returns-clause-stands g c = λ out. concluded_stands c.args.self.now c.begin.new.self c.conclude.new.self _ _ c.conclude.result c.conclude.ensures.answer stands_entered c.entered-entry.ensures.stands refl
+returns-clause-stands g c = λ out. concluded_stands c.args.self.now c.begin.new.self c.conclude.new.self _ _ c.conclude.result c.conclude.ensures.answer stands_entered c.lock_result-entry.ensures.stands refl
 
 pub returns-clause-faults : goal.returns-clause-faults
-returns-clause-faults g c = λ out. concluded_faults c.args.self.now c.begin.new.self c.conclude.new.self _ _ c.conclude.result c.conclude.ensures.answer (λ e. of_lock e ≡ true) c.entered-entry.ensures.faults refl
+returns-clause-faults g c = λ out. concluded_faults c.args.self.now c.begin.new.self c.conclude.new.self _ _ c.conclude.result c.conclude.ensures.answer (λ e. of_lock e ≡ true) c.lock_result-entry.ensures.faults refl
 
 pub returns-clause-answered : goal.returns-clause-answered
 returns-clause-answered g c =
-    λ out. as_told g.S.Sizes.named entry_by c.args.self.now c.begin.new.self c.conclude.new.self _ _ Lock _ _ _ c.conclude.result c.in_ok-begin.ensures.answered c.entered-entry.ensures.told c.conclude.ensures.answer
+    λ out. as_reported g.S.Sizes.named entry_by c.args.self.now c.begin.new.self c.conclude.new.self _ _ Lock _ _ _ c.conclude.result c.in_ok-begin.ensures.answered c.lock_result-entry.ensures.fact c.conclude.ensures.answer
 
 pub returns-in_err-begin-clause-asked : goal.returns-in_err-begin-clause-asked
 returns-in_err-begin-clause-asked g c = λ out. c.in_err-begin.ensures.ended

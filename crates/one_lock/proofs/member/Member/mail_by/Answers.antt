@@ -5,7 +5,7 @@ use Rattle.one_lock.proofs.Concluded.{asked_then, counts_then, goes_then, conclu
 use Rattle.one_lock.proofs.member.Member.mail_by.Goals as goal
 
 pub conclude-requires-in-Err : goal.conclude-requires-in-Err
-conclude-requires-in-Err g c = λ f. subst (λ r. falls_by r f ≡ f) c.in-Err.is (c.entered-entry.ensures.falls f)
+conclude-requires-in-Err g c = λ f. subst (λ r. falls_by r f ≡ f) c.in-Err.is (c.lock_result-entry.ensures.falls f)
 
 pub returns-in-Err-clause-asked : goal.returns-in-Err-clause-asked
 returns-in-Err-clause-asked g c =
@@ -21,11 +21,11 @@ pub returns-in-Err-clause-fallen : goal.returns-in-Err-clause-fallen
 returns-in-Err-clause-fallen g c = c.conclude-in-Err.ensures.fallen ∙ ap (falls_by c.conclude-in-Err.result) c.in_ok-begin.ensures.fallen
 
 pub returns-in-Err-clause-stands : goal.returns-in-Err-clause-stands
-returns-in-Err-clause-stands g c = λ out. concluded_stands c.args.self.now c.begin.new.self c.conclude-in-Err.new.self _ _ c.conclude-in-Err.result c.conclude-in-Err.ensures.answer stands_out (c.entered-entry.ensures.stands ∙ ap stands_entered c.in-Err.is) refl
+returns-in-Err-clause-stands g c = λ out. concluded_stands c.args.self.now c.begin.new.self c.conclude-in-Err.new.self _ _ c.conclude-in-Err.result c.conclude-in-Err.ensures.answer stands_out (c.lock_result-entry.ensures.stands ∙ ap stands_entered c.in-Err.is) refl
 
 pub returns-in-Err-clause-faults : goal.returns-in-Err-clause-faults
 returns-in-Err-clause-faults g c =
-    λ out. concluded_faults c.args.self.now c.begin.new.self c.conclude-in-Err.new.self _ _ c.conclude-in-Err.result c.conclude-in-Err.ensures.answer (λ e. of_lock e ≡ true) (subst (λ r. IfErr r (λ e. of_lock e ≡ true)) c.in-Err.is c.entered-entry.ensures.faults) refl
+    λ out. concluded_faults c.args.self.now c.begin.new.self c.conclude-in-Err.new.self _ _ c.conclude-in-Err.result c.conclude-in-Err.ensures.answer (λ e. of_lock e ≡ true) (subst (λ r. IfErr r (λ e. of_lock e ≡ true)) c.in-Err.is c.lock_result-entry.ensures.faults) refl
 
 pub returns-in_err-begin-clause-asked : goal.returns-in_err-begin-clause-asked
 returns-in_err-begin-clause-asked g c = λ out. c.in_err-begin.ensures.ended

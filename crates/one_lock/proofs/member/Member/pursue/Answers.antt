@@ -1,5 +1,5 @@
 use Rattle.std.proofs.Common.{rules, ◌≡◌, ℕ, Some, None, IsNone, IsSome, refl, subst}
-use Rattle.one_lock.proofs.Common.{IsOwnTrail, TrailGrows, further, spent}
+use Rattle.one_lock.proofs.Common.{IsOwnTrail, TrailGrows, later_opening, turns_after_one}
 use Rattle.one_lock.proofs.Answered.{answered_by, given_up, goes_free, goes_blocked, still_none}
 use Rattle.one_lock.proofs.member.Member.pursue.Goals as goal
 
@@ -9,10 +9,10 @@ loop-preserved-then-outcome g c =
     let z = g.S.Sizes.named in
     let m = c.args.self.now in
     let none : c.in_ok-outcome.outcome.answer ≡ None = search rules in
-    let less : c.is_spent.new.left ≡ spent c.loop.left = search rules in
+    let less : c.is_spent.new.left ≡ turns_after_one c.loop.left = search rules in
     let some : c.loop.left ≡ Some 0 → ⊥ = search rules in
     let here = subst (λ (p : ℕ). TrailGrows z p c.loop.opening c.loop.self.trail c.in_ok-outcome.outcome c.step.new.self.trail) i.0.0 c.in_ok-outcome.ensures.grows in
-    let way = goes_blocked z m.process m.standing c.args.call c.args.turns c.loop.left m.trail c.loop.self.trail c.step.new.self.trail c.loop.opening c.in_ok-outcome.outcome i.6 here further c.is_spent.new.left none c.if-outcome.true refl some less in
+    let way = goes_blocked z m.process m.standing c.args.call c.args.turns c.loop.left m.trail c.loop.self.trail c.step.new.self.trail c.loop.opening c.in_ok-outcome.outcome i.6 here later_opening c.is_spent.new.left none c.if-outcome.true refl some less in
     let forever : IsNone c.args.turns → IsNone c.is_spent.new.left = λ n. still_none c.loop.left c.is_spent.new.left (i.4 n) less in
     search (rules, way, forever)
 
@@ -23,7 +23,7 @@ loop-preserved g c =
     let m = c.args.self.now in
     let none : c.in_ok-outcome.outcome.answer ≡ None = search rules in
     let here = subst (λ (p : ℕ). TrailGrows z p c.loop.opening c.loop.self.trail c.in_ok-outcome.outcome c.step.new.self.trail) i.0.0 c.in_ok-outcome.ensures.grows in
-    let way = goes_free z m.process m.standing c.args.call c.args.turns c.loop.left m.trail c.loop.self.trail c.step.new.self.trail c.loop.opening c.in_ok-outcome.outcome i.6 here further none c.if-outcome.false refl in
+    let way = goes_free z m.process m.standing c.args.call c.args.turns c.loop.left m.trail c.loop.self.trail c.step.new.self.trail c.loop.opening c.in_ok-outcome.outcome i.6 here later_opening none c.if-outcome.false refl in
     search (rules, way)
 
 pub returns-then-is_some-clause-answered : goal.returns-then-is_some-clause-answered

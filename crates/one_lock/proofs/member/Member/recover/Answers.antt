@@ -3,7 +3,7 @@ use Rattle.rmeworld.specs.declared.call.Call.TheVariants.{Recover}
 use Rattle.one_lock.proofs.Common.{falls_by}
 use Rattle.one_lock.specs.Member.{stands_found}
 use Rattle.one_lock.specs.Answers.{found_by}
-use Rattle.one_lock.proofs.Answered.{as_told}
+use Rattle.one_lock.proofs.Answered.{as_reported}
 use Rattle.one_lock.proofs.Concluded.{concluded_asked, concluded_counts, concluded_goes, concluded_stands}
 use Rattle.one_lock.proofs.member.Member.recover.Goals as goal
 
@@ -21,11 +21,11 @@ pub returns-clause-fallen : goal.returns-clause-fallen
 returns-clause-fallen g c = c.conclude.ensures.fallen ∙ ap (falls_by c.conclude.result) c.in_ok-begin.ensures.fallen
 
 pub returns-clause-stands : goal.returns-clause-stands
-returns-clause-stands g c = λ out. concluded_stands c.args.self.now c.begin.new.self c.conclude.new.self _ _ c.conclude.result c.conclude.ensures.answer stands_found c.found-found.ensures.stands refl
+returns-clause-stands g c = λ out. concluded_stands c.args.self.now c.begin.new.self c.conclude.new.self _ _ c.conclude.result c.conclude.ensures.answer stands_found c.recovery_result-found.ensures.stands refl
 
 pub returns-clause-answered : goal.returns-clause-answered
 returns-clause-answered g c =
-    λ out. as_told g.S.Sizes.named found_by c.args.self.now c.begin.new.self c.conclude.new.self _ _ Recover _ _ _ c.conclude.result c.in_ok-begin.ensures.answered c.found-found.ensures.told c.conclude.ensures.answer
+    λ out. as_reported g.S.Sizes.named found_by c.args.self.now c.begin.new.self c.conclude.new.self _ _ Recover _ _ _ c.conclude.result c.in_ok-begin.ensures.answered c.recovery_result-found.ensures.fact c.conclude.ensures.answer
 
 pub returns-in_err-begin-clause-asked : goal.returns-in_err-begin-clause-asked
 returns-in_err-begin-clause-asked g c = λ out. c.in_err-begin.ensures.ended

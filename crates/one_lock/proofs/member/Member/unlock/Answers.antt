@@ -2,7 +2,7 @@ use Rattle.std.proofs.Common.{◌≡◌, true, Ok, refl, ap, ◌∙◌}
 use Rattle.rmeworld.specs.declared.call.Call.TheVariants.{Unlock}
 use Rattle.one_lock.proofs.Common.{falls_by}
 use Rattle.one_lock.specs.Member.{of_steps, stands_out}
-use Rattle.one_lock.proofs.Answered.{as_told}
+use Rattle.one_lock.proofs.Answered.{as_reported}
 use Rattle.one_lock.proofs.Concluded.{concluded_asked, concluded_counts, concluded_goes, concluded_stands, concluded_faults}
 use Rattle.one_lock.proofs.member.Member.unlock.Goals as goal
 
@@ -27,7 +27,7 @@ returns-clause-faults g c = λ inside. concluded_faults c.args.self.now c.begin.
 
 pub returns-clause-answered : goal.returns-clause-answered
 returns-clause-answered g c =
-    λ inside. as_told g.S.Sizes.named (λ _. Ok tt) c.args.self.now c.begin.new.self c.conclude.new.self _ _ Unlock _ _ _ c.conclude.result c.in_ok-begin.ensures.answered refl c.conclude.ensures.answer
+    λ inside. as_reported g.S.Sizes.named (λ _. Ok tt) c.args.self.now c.begin.new.self c.conclude.new.self _ _ Unlock _ _ _ c.conclude.result c.in_ok-begin.ensures.answered refl c.conclude.ensures.answer
 
 pub returns-in_err-begin-clause-asked : goal.returns-in_err-begin-clause-asked
 returns-in_err-begin-clause-asked g c = λ inside. c.in_err-begin.ensures.ended

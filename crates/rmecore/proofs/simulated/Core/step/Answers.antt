@@ -1,5 +1,5 @@
 use Rattle.std.proofs.Common.{◌≡◌, ◌++◌, length, take, drop, sym, ap, ◌∙◌, subst}
-use Rattle.rmecore.proofs.Common.{kind_of, word_of, carried, InLock, performed, is_blocked, own_at, place_at, HasConfiguration, tally_at, counted, read}
+use Rattle.rmecore.proofs.Common.{kind_of, word_of, carried_value, InLock, words_performed, is_blocked, own_at, place_at, HasConfiguration, tally_at, tally_after_step, read}
 use Rattle.rmecore.proofs.CoreSteps.{refill, Moves, takes, configured_set, found_here, configuration_here, least_here, reached_more}
 use Rattle.rmecore.proofs.CoreTallies.{tallied_step, answered_step, no_glance, counted_here, done_here}
 use Rattle.rmecore.proofs.simulated.Core.step.Goals as goal
@@ -24,12 +24,12 @@ moves c =
       each = c.self.invariant.configured.processes_each;
       next = sym c.next.ensures.next ∙ c.in-Some.is;
       allowed = c.in-Some.ensures.allowed;
-      value = c.perform-value.ensures.value ∙ ap (λ w. carried c.in-Some.access (read (own_at w) (word_of c.in-Some.access))) c.deref_mut.ensures.value;
-      words_now = ap own_at (refilled c) ∙ c.perform-value.ensures.words ∙ ap (λ w. performed (own_at w) c.in-Some.access) c.deref_mut.ensures.value;
+      value = c.perform-value.ensures.value ∙ ap (λ w. carried_value c.in-Some.access (read (own_at w) (word_of c.in-Some.access))) c.deref_mut.ensures.value;
+      words_now = ap own_at (refilled c) ∙ c.perform-value.ensures.words ∙ ap (λ w. words_performed (own_at w) c.in-Some.access) c.deref_mut.ensures.value;
       moved = c.feed-progress.ensures.place;
     }
 
-count : (c : goal.After-word) → c.count.new.self ≡ counted (tally_at c.self.inside.tallies.items c.args.p) (is_blocked c.args.p (place_at c.self.inside.processes.items c.args.p) (kind_of c.in-Some.access) c.perform-value.result)
+count : (c : goal.After-word) → c.count.new.self ≡ tally_after_step (tally_at c.self.inside.tallies.items c.args.p) (is_blocked c.args.p (place_at c.self.inside.processes.items c.args.p) (kind_of c.in-Some.access) c.perform-value.result)
 count c = counted_here (moves c) c.self.inside.tallies.items c.self.invariant.configured.tallies_each c.index_mut.result.now c.index_mut.ensures.value c.feed-progress.result c.feed-progress.ensures.progress c.count.new.self c.count.ensures
 
 pub invariant_of-self-2 : goal.invariant_of-self-2

@@ -4,21 +4,21 @@ use Rattle.rmeworld.proofs.ImageForms.{not_all}
 use Rattle.rmeworld.proofs.Mapped.{mapped_on}
 use Rattle.rmeworld.proofs.image.form.numbers.Goals as goal
 
-pub returns-in_err-whole-clause-err : goal.returns-in_err-whole-clause-err
-returns-in_err-whole-clause-err c =
-    let p = err_from_is_err_and c.from_residual-in_err-whole.result c.from_residual-in_err-whole.ensures.1 in
+pub returns-in_err-whole_number-clause-err : goal.returns-in_err-whole_number-clause-err
+returns-in_err-whole_number-clause-err c =
+    let p = err_from_is_err_and c.from_residual-in_err-whole_number.result c.from_residual-in_err-whole_number.ensures.1 in
     rw (p.1, p.2) (inr (
-      c.in_err-whole.ensures.err.0,
+      c.in_err-whole_number.ensures.err.0,
       not_all whole_data c.args.value.now c.in-Some.items.now.items c.deref-item-items.result.now c.loop-item.item-index c.item-item.result
-          c.in-Some.ensures c.deref-item-items.ensures.value (omega arith) c.item-item.is c.in_err-whole.ensures.err.1,
+          c.in-Some.ensures c.deref-item-items.ensures.value (omega arith) c.item-item.is c.in_err-whole_number.ensures.err.1,
     ))
 
 pub loop-item-preserved : goal.loop-item-preserved
 loop-item-preserved c =
     let i = c.loop-item.invariant in
-    let here = sym c.in_ok-whole.ensures.ok ∙ ap view c.item-item.is in
+    let here = sym c.in_ok-whole_number.ensures.ok ∙ ap view c.item-item.is in
     record {
-      same = sym (mapped_on whole_data view c.loop-item.numbers.items _ c.deref-item-items.result.now c.loop-item.item-index c.item-item.result c.in_ok-whole.field-0 (sym i.same) c.push_reserved.ensures.items c.loop-item-test.true here);
+      same = sym (mapped_on whole_data view c.loop-item.numbers.items _ c.deref-item-items.result.now c.loop-item.item-index c.item-item.result c.in_ok-whole_number.field-0 (sym i.same) c.push_reserved.ensures.items c.loop-item-test.true here);
       count = omega (arith, c.push_reserved.ensures.len, i.count);
       room = omega (arith, c.push_reserved.ensures.capacity, i.room);
     }

@@ -11,5 +11,5 @@ returns-in-Free c =
     let is : c.outlook.result ≡ progress (standing now) (lock_access (standing now)) c.args.value = c.outlook.ensures ∙ ap (λ t. progress t (lock_access t) c.args.value) (sym lock) in
     let free : now.script_state ≡ Free = sym (ap (λ (s : MachineState). s.script_state) view) ∙ c.in-Free.is in
     let answer : by_lock c.self.inside.barred c.outlook.result.done ≡ by_lock now.barred (progress (standing now) (lock_access (standing now)) c.args.value).done = λ i. by_lock ((ap (λ (s : MachineState). s.barred) view) i) (is i).done in
-    let told : record { progress = c.outlook.result; answer = by_lock c.self.inside.barred c.outlook.result.done } ≡ outcome (with now Free) (next_access (with now Free)) c.args.value = (λ i. record { progress = is i; answer = answer i }) ∙ sym (lock_outcome now c.args.value) in
-    c.lock_outcome.ensures ∙ told ∙ ap (λ e. outcome (with now e) (next_access (with now e)) c.args.value) (sym free)
+    let reports : record { progress = c.outlook.result; answer = by_lock c.self.inside.barred c.outlook.result.done } ≡ outcome (with now Free) (next_access (with now Free)) c.args.value = (λ i. record { progress = is i; answer = answer i }) ∙ sym (lock_outcome now c.args.value) in
+    c.lock_outcome.ensures ∙ reports ∙ ap (λ e. outcome (with now e) (next_access (with now e)) c.args.value) (sym free)

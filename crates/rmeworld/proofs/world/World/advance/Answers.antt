@@ -1,10 +1,10 @@
 use Rattle.std.proofs.Common.{◌≡◌, ◌++◌, length, take, drop, slice_set, refl, sym, ap, ◌∙◌, subst}
-use Rattle.rmeworld.proofs.Common.{Access, kind_of, word_of, carried, refill, words_of, Advances, IsWorld, or_else, mail_by, words_by, cells_by, the_deed, list_of, WorldState}
+use Rattle.rmeworld.proofs.Common.{Access, kind_of, word_of, carried_value, refill, words_of, Advances, IsWorld, or_else, mail_by, words_by, cells_by, the_deed, list_of, WorldState}
 use Rattle.rmeworld.proofs.Taken.{IsNext, Fed, stays, takes}
 use Rattle.rmeworld.proofs.Worlds.{the_one}
 use Rattle.rmeworld.proofs.world.World.advance.Goals as goal
 
-abbrev new : goal.After-told → WorldState
+abbrev new : goal.After-step_report → WorldState
 new c = record {
   layout = c.self.inside.layout;
   limit = c.self.inside.limit;
@@ -15,17 +15,17 @@ new c = record {
   history = c.note.new.history.items;
 }
 
-next : (c : goal.After-told) → IsNext c.args.self.now c.args.p c.in_ok-step.step.access c.in_ok-step.step.found
+next : (c : goal.After-step_report) → IsNext c.args.self.now c.args.p c.in_ok-step.step.access c.in_ok-step.step.found
 next c = let it = c.in_ok-step.ensures in record { below = it.below; access = it.access; least = it.least; found = it.found }
 
-fed : (c : goal.After-told) → Fed c.args.self.now c.args.p c.in_ok-step.step.access c.in_ok-step.step.found c.feed-outcome.result c.told.result (new c)
+fed : (c : goal.After-step_report) → Fed c.args.self.now c.args.p c.in_ok-step.step.access c.in_ok-step.step.found c.feed-outcome.result c.step_report.result (new c)
 fed c =
     let a : Access = c.in_ok-step.step.access in
     let o = c.feed-outcome.result in
     let deeds : list_of c.deed_of-deed.result ≡ or_else o.progress.outer (mail_by c.self.inside.layout c.args.p (words_of c.self.inside.cells.items) a) =
     sym c.deed_of-deed.ensures ∙ ap (λ cells. or_else o.progress.outer (mail_by c.self.inside.layout c.args.p (words_of cells) a)) c.deref-2.ensures.value in
     let deed = sym (the_one c.deed_of-deed.result) ∙ ap the_deed deeds in
-    subst (λ s. Fed s c.args.p a c.in_ok-step.step.found o c.told.result (new c)) c.self.view_is (record {
+    subst (λ s. Fed s c.args.p a c.in_ok-step.step.found o c.step_report.result (new c)) c.self.view_is (record {
       before = c.index_mut.result.now;
       after = c.feed-outcome.new.self;
       tally = c.index_mut-2.result.now;
@@ -41,8 +41,8 @@ fed c =
       processes = refl;
       tallies = ap (slice_set c.self.inside.tallies.items c.args.p) c.count.ensures;
       history = c.note.ensures ∙ (λ i. c.in_ok-make_room.ensures.same i ++ deeds i);
-      tells = c.told.ensures ∙ (λ i. record {
-        happened = record { kind = kind_of a; word = word_of a; value = carried a c.in_ok-step.step.found; outer = o.progress.outer; done = o.progress.done };
+      tells = c.step_report.ensures ∙ (λ i. record {
+        happened = record { kind = kind_of a; word = word_of a; value = carried_value a c.in_ok-step.step.found; outer = o.progress.outer; done = o.progress.done };
         deed = deed i;
         answer = o.answer;
       });
@@ -51,7 +51,7 @@ fed c =
 pub invariant_of-self-2 : goal.invariant_of-self-2
 invariant_of-self-2 c = stays (subst IsWorld c.self.view_is c.self.invariant) (next c) (fed c)
 
-taken : (c : goal.After-told) → Advances c.args.self.now c.args.p c.told.result (new c)
+taken : (c : goal.After-step_report) → Advances c.args.self.now c.args.p c.step_report.result (new c)
 taken c = takes (subst IsWorld c.self.view_is c.self.invariant) (next c) (fed c)
 
 pub returns-clause-step : goal.returns-clause-step
@@ -63,8 +63,8 @@ returns-clause-kind c = (taken c).kind
 pub returns-clause-least : goal.returns-clause-least
 returns-clause-least c = (taken c).least
 
-pub returns-clause-told : goal.returns-clause-told
-returns-clause-told c = (taken c).told
+pub returns-clause-reports : goal.returns-clause-reports
+returns-clause-reports c = (taken c).reports
 
 pub returns-clause-ok : goal.returns-clause-ok
 returns-clause-ok c = (taken c).ok

@@ -1,6 +1,6 @@
 use Rattle.std.proofs.Common.{◌≡◌, slice_set, sym, ap, ◌∙◌, subst}
-use Rattle.rmeworld.proofs.Common.{IsWorld, Falls, crashed as machine_state_crashed, WorldState, Takes}
-use Rattle.rmeworld.specs.Replayed.{crashed}
+use Rattle.rmeworld.proofs.Common.{IsWorld, Falls, machine_after_crash as machine_state_crashed, WorldState, Takes}
+use Rattle.rmeworld.specs.Replayed.{world_after_crash}
 use Rattle.rmeworld.proofs.Worlds.{found, world_crash}
 use Rattle.rmeworld.proofs.WorldSteps.{crash_takes}
 use Rattle.rmeworld.proofs.world.World.crash.Goals as goal
@@ -11,7 +11,7 @@ state c = record { layout = c.self.inside.layout; limit = c.self.inside.limit; w
 abbrev new : goal.After-self-1 → WorldState
 new c = record (state c) { processes = slice_set c.self.inside.processes.items c.args.p c.crash.new.self; history = c.push.new.self.items }
 
-is : (c : goal.After-self-1) → new c ≡ crashed (state c) c.args.p
+is : (c : goal.After-self-1) → new c ≡ world_after_crash (state c) c.args.p
 is c =
     let dead = c.crash.ensures ∙ ap machine_state_crashed (sym (found (state c) c.args.p _ c.self.invariant c.if-p-self.false c.index_mut.ensures.value)) in
     λ i. record (state c) { processes = slice_set c.self.inside.processes.items c.args.p (dead i); history = c.in_ok-push.ensures.items i }

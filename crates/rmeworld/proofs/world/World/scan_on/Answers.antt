@@ -1,7 +1,7 @@
 use Rattle.std.proofs.Common.{◌++◌, slice_index_or, slice_set, refl, sym, ap, ◌∙◌, subst, append-nil}
-use Rattle.rmeworld.proofs.Common.{Access, word_of, own_at, words_of, Advances, GoesOn, IsWorld, prospect_of, silent_step, outcome, reading_of, WorldState}
+use Rattle.rmeworld.proofs.Common.{Access, word_of, own_at, words_of, Advances, ScanGoesOn, IsWorld, prospect_of, silent_step, outcome, reading_of, WorldState}
 use Rattle.rmeworld.proofs.Advancing.{scan_is_silent, scan_tells, load_leaves}
-use Rattle.rmeworld.proofs.Taken.{IsNext, Fed, stays, takes, told_by}
+use Rattle.rmeworld.proofs.Taken.{IsNext, Fed, stays, takes, reports_by}
 use Rattle.rmeworld.proofs.Worlds.{found}
 use Rattle.rmeworld.proofs.world.World.scan_on.Goals as goal
 
@@ -20,10 +20,10 @@ next c =
 world : (c : goal.After-self-2-1) → IsWorld c.args.self.now
 world c = subst IsWorld c.self.view_is c.self.invariant
 
-goes : (c : goal.After-self-2-1) → GoesOn c.index_mut.result.now c.args.scan c.args.access
+goes : (c : goal.After-self-2-1) → ScanGoesOn c.index_mut.result.now c.args.scan c.args.access
 goes c =
     let at = found c.args.self.now c.args.p c.index_mut.result.now (world c) c.requires.below (c.index_mut.ensures.value ∙ ap (λ (s : WorldState). slice_index_or s.processes c.args.p c.index_mut.result.now) c.self.view_is) in
-    subst (λ t. GoesOn t c.args.scan c.args.access) at c.requires.goes_on
+    subst (λ t. ScanGoesOn t c.args.scan c.args.access) at c.requires.goes_on
 
 fed : (c : goal.After-self-2-1) → Fed c.args.self.now c.args.p c.args.access c.load-found.result c.scan_on-scanned.result (silent_step c.args.access c.load-found.result) (new c)
 fed c =
@@ -49,7 +49,7 @@ fed c =
       processes = refl;
       tallies = ap (slice_set s.tallies c.args.p) c.count.ensures;
       history = sym (append-nil s.history) ∙ ap (λ ds. s.history ++ ds) (sym none);
-      tells = scan_tells s c.args.p c.index_mut.result.now c.args.scan a v (goes c) ∙ ap (told_by s c.args.p a v) (sym what);
+      tells = scan_tells s c.args.p c.index_mut.result.now c.args.scan a v (goes c) ∙ ap (reports_by s c.args.p a v) (sym what);
     })
 
 pub invariant_of-self : goal.invariant_of-self
@@ -59,7 +59,7 @@ taken : (c : goal.After-self-2-1) → Advances c.args.self.now c.args.p (silent_
 taken c = takes (world c) (next c) (fed c)
 
 pub returns-clause-advances : goal.returns-clause-advances
-returns-clause-advances c = subst (λ told. Advances c.args.self.now c.args.p told (new c)) (taken c).told (taken c)
+returns-clause-advances c = subst (λ reports. Advances c.args.self.now c.args.p reports (new c)) (taken c).reports (taken c)
 
 pub returns-clause-silent : goal.returns-clause-silent
-returns-clause-silent c = sym (taken c).told
+returns-clause-silent c = sym (taken c).reports

@@ -1,5 +1,5 @@
 use Rattle.std.proofs.Common.{◌≡◌, slice_set, Some, sym, ap, ◌∙◌, subst}
-use Rattle.rmeworld.proofs.Common.{fresh, IsWorld, started, Begins, next_process_state, process_state_of, machine_state_started, WorldState, machine_state_at, process_state_at, Takes}
+use Rattle.rmeworld.proofs.Common.{new_tally, IsWorld, world_after_start, Begins, next_process_state, process_state_of, machine_state_started, WorldState, machine_state_at, process_state_at, Takes}
 use Rattle.rmeworld.proofs.Worlds.{found, own_found, world_start}
 use Rattle.rmeworld.proofs.WorldSteps.{start_takes}
 use Rattle.rmeworld.proofs.world.World.start.Goals as goal
@@ -18,12 +18,12 @@ to : (c : goal.After-self-2-1) → next_process_state (machine_state_at (state c
 to c = (λ i. next_process_state (machine_state c i).layout (machine_state c i).limit (process_state_of (machine_state c i)) (Begins (machine_state c i).index c.args.call)) ∙ c.in_ok-start.ensures.process_state ∙ ap (λ s. Some (process_state_of s)) (begun c)
 
 abbrev new : goal.After-self-2-1 → WorldState
-new c = record (state c) { processes = slice_set c.self.inside.processes.items c.args.p c.start.new.self; tallies = slice_set c.self.inside.tallies.items c.args.p (fresh c.index.result.now) }
+new c = record (state c) { processes = slice_set c.self.inside.processes.items c.args.p c.start.new.self; tallies = slice_set c.self.inside.tallies.items c.args.p (new_tally c.index.result.now) }
 
-is : (c : goal.After-self-2-1) → new c ≡ started (state c) c.args.p c.args.call
+is : (c : goal.After-self-2-1) → new c ≡ world_after_start (state c) c.args.p c.args.call
 is c =
     let own = own_found (state c) c.args.p _ c.self.invariant c.if-p-self.false c.index.ensures in
-    λ i. record (state c) { processes = slice_set c.self.inside.processes.items c.args.p (begun c i); tallies = slice_set c.self.inside.tallies.items c.args.p (fresh (sym own i)) }
+    λ i. record (state c) { processes = slice_set c.self.inside.processes.items c.args.p (begun c i); tallies = slice_set c.self.inside.tallies.items c.args.p (new_tally (sym own i)) }
 
 pub invariant_of-self-2 : goal.invariant_of-self-2
 invariant_of-self-2 c = subst IsWorld (sym (is c)) (world_start (state c) c.args.p c.args.call c.self.invariant c.if-p-self.false (to c))

@@ -1,16 +1,16 @@
 use Rattle.std.proofs.Common.{◌≡◌, ℕ, List, ◌+◌, ◌*◌, ◌∙◌, Option, Some, None, IfSome, length, sym, ap, subst, arith}
-use Rattle.robust.proofs.AccessCommon.{Reply, Stored, Script, puts, store_steps, record_of, Mail, Setup, at_append, HasLeft, EndsIn, decided}
+use Rattle.robust.proofs.AccessCommon.{Reply, Stored, Script, puts, store_steps, record_of, Mail, Setup, at_append, HasLeft, EndsIn, append_decision}
 use Rattle.redomail.specs.Script.{Done}
 use Rattle.redomail.specs.Tasks.{early_reply, unless_replied}
 use Rattle.robust.proofs.FreeSteps.{ends_then}
-use Rattle.execution.specs.Under.{Appends}
-use Rattle.execution.proofs.Begun.{early_kind}
+use Rattle.table_runs.specs.Under.{Appends}
+use Rattle.table_runs.proofs.Begun.{early_kind}
 use Rattle.robust.proofs.FastAppend.{early_room}
 use Rattle.robust.proofs.access.fast_append.append.Goals as goal
 
 -- what is left of an append that has read its three words, from its early reply
 left_by : (s t : Setup) (by seq : ℕ) (value : List ℕ) (closed count last : ℕ) (o : Option Reply) → s ≡ t → early_reply s.layout.cap seq closed count last ≡ o
-    → decided t.layout by seq value closed count last ≡ unless_replied o (puts (store_steps t.layout by (record_of count seq value)) (Done Stored))
+    → append_decision t.layout by seq value closed count last ≡ unless_replied o (puts (store_steps t.layout by (record_of count seq value)) (Done Stored))
 left_by s t by seq value closed count last o same is =
     ap (λ p. unless_replied p (puts (store_steps t.layout by (record_of count seq value)) (Done Stored)))
     (ap (λ (x : Setup). early_reply x.layout.cap seq closed count last) (sym same) ∙ is)

@@ -1,5 +1,5 @@
 use Rattle.std.proofs.Common.{◌≡◌, ◌<◌, ◌≤◌, ℕ, ◌+◌, ◌*◌, ◌∷◌, length, drop, sym, ap, ◌∙◌, subst, arith}
-use Rattle.robust.proofs.AccessCommon.{held, last_at, place_at, record_of, held-small, step-commit, step-last, step-count, place_low, Setup, steps_of, stored_so_far}
+use Rattle.robust.proofs.AccessCommon.{saturate, last_at, place_at, record_of, held-small, step-commit, step-last, step-count, place_low, Setup, steps_of, stored_so_far}
 use Rattle.robust.proofs.FastAppend.{room_for, lawful, record_row, entry_row, disarm_may, all_five, all_stored, all_ends}
 use Rattle.robust.proofs.access.fast_append.store.Goals as goal
 
@@ -41,7 +41,7 @@ put_row-requires-2-clause-table c =
     let room = room_for e.setup.layout e.at sizes c.requires.room in
     let high = room.0 in
     let small = room.1 in
-    let is : c.place.result ≡ held (place_at e.setup.layout e.at + 0) = c.place.ensures in omega arith
+    let is : c.place.result ≡ saturate (place_at e.setup.layout e.at + 0) = c.place.ensures in omega arith
 
 pub put_row-requires-2-clause-row : goal.put_row-requires-2-clause-row
 put_row-requires-2-clause-row c =
@@ -51,7 +51,7 @@ put_row-requires-2-clause-row c =
     let high = room.0 in
     let small = room.1 in
     let near : place_at e.setup.layout e.at + (2 + length e.value) ≤ 900000 = omega arith in
-    let is : c.place.result ≡ held (place_at e.setup.layout e.at + 0) = c.place.ensures in
+    let is : c.place.result ≡ saturate (place_at e.setup.layout e.at + 0) = c.place.ensures in
     entry_row e (2 + c.width-row.result) c.place.result (omega arith) (omega arith) near
 
 pub put-requires-2-clause-at : goal.put-requires-2-clause-at
@@ -80,7 +80,7 @@ pub put-requires-3-clause-next : goal.put-requires-3-clause-next
 put-requires-3-clause-next c =
     let e = c.args.entry.now in
     let sizes = lawful c.args.port.now c.args.entry.now c.requires.of c.by-seat_view.ensures.seat_view in
-    let h : held (e.at + 1) ≡ e.at + 1 = held-small (e.at + 1) (let few = sizes.small in omega arith) in
+    let h : saturate (e.at + 1) ≡ e.at + 1 = held-small (e.at + 1) (let few = sizes.small in omega arith) in
     let k : ℕ = 2 * (2 + c.width-row.result) + 2 in
     subst (λ (n : ℕ). drop k (steps_of e) ≡ (2, n) ∷ drop (k + 1) (steps_of e)) h (step-count e.setup.layout e.own (record_of e.at e.seq e.value) k (omega arith))
 

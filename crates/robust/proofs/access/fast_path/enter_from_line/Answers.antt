@@ -24,4 +24,4 @@ returns-clause-enters c =
     let k = s.result.taken in
     let e = c.come_in-is_ruined in
     let p : Unanswered x k 0 s.new.port = subst (λ (b : Bool). Unanswered x k (if b then 1 else 0) s.new.port) c.if-passed.false s.ensures.unanswered in
-    enters_in x s.new.port e.new.port k e.result c.entered.result c.entered.ensures p s.ensures.same e.ensures.at e.ensures.clean e.ensures.ruined e.ensures.same free
+    enters_in x s.new.port e.new.port k e.result c.reached_by_entry.result c.reached_by_entry.ensures p s.ensures.same e.ensures.at e.ensures.clean e.ensures.ruined e.ensures.same free

@@ -15,7 +15,7 @@ loop-j-preserved c =
     let k : Kept (c.if-j-own.port, c.if-j-own.greatest, c.if-j-own.taken) = elim c.if-j-own.branch [
       | then-j-own w ↦
           let ne : j ≢ x.by = λ e. w.if-j-own.true (e ∙ sym c.by-own.ensures.is) in
-          subst Kept (λ n. (sym w.port-is n, sym (w.greatest-is ∙ w.greater-greatest.ensures) n, sym w.taken-is n)) (peeked x y j c.loop-j.greatest c.loop-j.taken i.way below ne w.load-number.new.self w.load-number.result w.load-number.ensures, (let few = i.few in omega arith))
+          subst Kept (λ n. (sym w.port-is n, sym (w.greatest-is ∙ w.max_of-greatest.ensures) n, sym w.taken-is n)) (peeked x y j c.loop-j.greatest c.loop-j.taken i.way below ne w.load-number.new.self w.load-number.result w.load-number.ensures, (let few = i.few in omega arith))
       | else-j-own w ↦
           let own : j ≡ x.by = w.if-j-own.false ∙ c.by-own.ensures.is in
           subst Kept (λ n. (sym w.port-is n, sym w.greatest-is n, sym w.taken-is n)) (passed_over x y j c.loop-j.greatest c.loop-j.taken i.way c.by-own.ensures.seat_view.below own, (let few = i.few in omega arith))

@@ -1,6 +1,6 @@
 use Rattle.std.proofs.Common.{subst, arith}
 use Rattle.robust.proofs.AccessCommon.{InTable}
-use Rattle.execution.proofs.Opens.{size_small}
+use Rattle.table_runs.proofs.Opens.{size_small}
 use Rattle.robust.proofs.access.port.index.Goals as goal
 
 pub overflow_add-result-in-Data : goal.overflow_add-result-in-Data

@@ -1,13 +1,13 @@
 use Rattle.std.proofs.Common.{◌≡◌, sym, subst}
-use Rattle.robust.proofs.AccessCommon.{Glance, glanced, step_of, AwaitsNothing}
+use Rattle.robust.proofs.AccessCommon.{Glance, glance_step, step_of, AwaitsNothing}
 use Rattle.rmecore.specs.declared.word.Word.{Word}
-use Rattle.execution.specs.Rule.{MayLoad, Did}
-use Rattle.execution.specs.declared.entry.Step.{Step}
+use Rattle.table_runs.specs.Rule.{MayLoad, Did}
+use Rattle.table_runs.specs.declared.entry.Step.{Step}
 use Rattle.robust.specs.declared.access.pending_events.PendingEvents.{PendingEvents}
 use Rattle.robust.proofs.access.table.glance.Goals as goal
 
 -- a step with nothing pending is a glance's
-is_glanced : (o : PendingEvents) (word : Word) → AwaitsNothing o → step_of o Glance word ≡ glanced word
+is_glanced : (o : PendingEvents) (word : Word) → AwaitsNothing o → step_of o Glance word ≡ glance_step word
 is_glanced o word n = λ i. record { crashed = n.0 i; start = n.1 i; kind = Glance; word = word }
 
 pub load_named-requires-clause-step : goal.load_named-requires-clause-step

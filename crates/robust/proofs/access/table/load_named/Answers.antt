@@ -1,5 +1,5 @@
 use Rattle.robust.proofs.AccessCommon.{step_of}
-use Rattle.execution.proofs.Keeps.{loads}
+use Rattle.table_runs.proofs.Keeps.{loads}
 use Rattle.robust.proofs.access.table.load_named.Goals as goal
 
 pub load-requires : goal.load-requires

@@ -1,5 +1,5 @@
 use Rattle.robust.proofs.AccessCommon.{step_of}
-use Rattle.execution.proofs.Keeps.{passes}
+use Rattle.table_runs.proofs.Keeps.{passes}
 use Rattle.robust.proofs.access.table.step_past_end_named.Goals as goal
 
 pub load-requires : goal.load-requires

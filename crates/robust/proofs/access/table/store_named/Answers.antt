@@ -1,5 +1,5 @@
 use Rattle.robust.proofs.AccessCommon.{step_of}
-use Rattle.execution.proofs.Keeps.{stores_kept}
+use Rattle.table_runs.proofs.Keeps.{stores_kept}
 use Rattle.robust.proofs.access.table.store_named.Goals as goal
 
 pub store-requires : goal.store-requires

@@ -1,13 +1,13 @@
 use Rattle.std.proofs.Common.{◌≡◌, ◌⊎◌, None, ℕ, length, Ok, IfOk, IfErr, OnOk, ap, ◌∙◌, subst, inr, arith}
-use Rattle.robust.proofs.Common.{Stored, Already, IsAmong, Append, Lock, Setup, ready, refusal_now, shown_by, Seated, began, ToldIn, WholeEnds, WholeFails, seat_of, ok_any}
-use Rattle.execution.proofs.WholeCalls.{err_more}
+use Rattle.robust.proofs.Common.{Stored, Already, IsAmong, Append, Lock, Setup, free_to_start, refusal_now, shown_by, Seated, began, ReportedIn, WholeEnds, WholeFails, seat_of, ok_any}
+use Rattle.table_runs.proofs.WholeCalls.{err_more}
 use Rattle.robust.proofs.Appended.{append_shown, append_tells}
 use Rattle.robust.proofs.Working.{mail_seat}
 use Rattle.robust.proofs.member.Member.append.Goals as goal
 
 pub returns-clause-replied : goal.returns-clause-replied
 returns-clause-replied g c =
-    subst (λ (x : Seated). IfOk c.mail.result (λ reply. (k : ℕ) × WholeEnds (began (ready x) Lock) k (Append c.args.seq c.args.value) (Ok reply) c.mail.new.self (g.C.CrashPlan.askings c.args.plan.now) (g.C.CrashPlan.askings c.mail.new.plan)))
+    subst (λ (x : Seated). IfOk c.mail.result (λ reply. (k : ℕ) × WholeEnds (began (free_to_start x) Lock) k (Append c.args.seq c.args.value) (Ok reply) c.mail.new.self (g.C.CrashPlan.askings c.args.plan.now) (g.C.CrashPlan.askings c.mail.new.plan)))
     c.self.view_is c.mail.ensures.replied
 
 pub returns-clause-fails : goal.returns-clause-fails
@@ -24,7 +24,7 @@ returns-clause-shown g c =
 
 pub returns-clause-tells : goal.returns-clause-tells
 returns-clause-tells g c =
-    subst (λ (x : Seated). IfOk c.mail.result (λ reply. ToldIn x c.args.seq reply c.mail.new.self)) c.self.view_is
+    subst (λ (x : Seated). IfOk c.mail.result (λ reply. ReportedIn x c.args.seq reply c.mail.new.self)) c.self.view_is
     (append_tells c.self.inside.call_driver c.mail.new.self c.args.seq c.args.value c.mail.result _ _ c.self.invariant c.setup.ensures.seat_view c.messages_were_sent.ensures.replies c.mail.ensures.accepted c.mail.ensures.fits c.mail.ensures.replied)
 
 pub returns-clause-seat : goal.returns-clause-seat
@@ -36,7 +36,7 @@ returns-clause-wide g c =
     ok_any c.mail.result _ (omega (arith, c.width.ensures.width, w, c.if-width-setup.false))
 
 pub returns-clause-accepted : goal.returns-clause-accepted
-returns-clause-accepted g c = subst (λ (x : Seated). OnOk c.mail.result (refusal_now (ready x) Lock ≡ None)) c.self.view_is c.mail.ensures.accepted
+returns-clause-accepted g c = subst (λ (x : Seated). OnOk c.mail.result (refusal_now (free_to_start x) Lock ≡ None)) c.self.view_is c.mail.ensures.accepted
 
 pub returns-clause-patient : goal.returns-clause-patient
 returns-clause-patient g c = c.mail.ensures.patient

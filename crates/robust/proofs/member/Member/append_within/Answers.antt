@@ -1,7 +1,7 @@
 use Rattle.std.proofs.Common.{◌≡◌, ◌≢◌, ◌⊎◌, ◌+◌, ◌≤◌, None, length, Ok, IfOk, IfErr, OnOk, ap, ◌∙◌, subst, inr, arith}
-use Rattle.robust.proofs.Common.{Stored, Already, IsAmong, Append, Lock, AlreadyIn, Setup, ready, refusal_now, shown_by, Seated, began, ToldIn, WholeEnds, WholeFails, seat_of, ok_any}
-use Rattle.execution.specs.WholeSteps.{most_whole}
-use Rattle.execution.proofs.WholeCalls.{ok_some, err_more}
+use Rattle.robust.proofs.Common.{Stored, Already, IsAmong, Append, Lock, AlreadyIn, Setup, free_to_start, refusal_now, shown_by, Seated, began, ReportedIn, WholeEnds, WholeFails, seat_of, ok_any}
+use Rattle.table_runs.specs.WholeSteps.{most_whole}
+use Rattle.table_runs.proofs.WholeCalls.{ok_some, err_more}
 use Rattle.robust.proofs.Appended.{append_shown, append_tells}
 use Rattle.robust.proofs.Working.{within_seat}
 use Rattle.robust.proofs.member.Member.append_within.Goals as goal
@@ -13,7 +13,7 @@ returns-clause-shown g c =
 
 pub returns-clause-tells : goal.returns-clause-tells
 returns-clause-tells g c =
-    subst (λ (x : Seated). IfOk c.mail_within.result (λ reply. ToldIn x c.args.seq reply c.mail_within.new.self)) c.self.view_is
+    subst (λ (x : Seated). IfOk c.mail_within.result (λ reply. ReportedIn x c.args.seq reply c.mail_within.new.self)) c.self.view_is
     (append_tells c.self.inside.call_driver c.mail_within.new.self c.args.seq c.args.value c.mail_within.result _ _ c.self.invariant c.setup.ensures.seat_view c.messages_were_sent.ensures.replies c.mail_within.ensures.accepted c.mail_within.ensures.fits (ok_some _ c.mail_within.result c.args.turns c.mail_within.ensures.replied))
 
 pub returns-clause-seat : goal.returns-clause-seat
@@ -26,11 +26,11 @@ returns-clause-wide g c =
     ok_any c.mail_within.result _ (omega (arith, c.width.ensures.width, w, c.if-width-setup.false))
 
 pub returns-clause-accepted : goal.returns-clause-accepted
-returns-clause-accepted g c = subst (λ (x : Seated). OnOk c.mail_within.result (refusal_now (ready x) Lock ≡ None)) c.self.view_is c.mail_within.ensures.accepted
+returns-clause-accepted g c = subst (λ (x : Seated). OnOk c.mail_within.result (refusal_now (free_to_start x) Lock ≡ None)) c.self.view_is c.mail_within.ensures.accepted
 
 pub returns-clause-replied : goal.returns-clause-replied
 returns-clause-replied g c =
-    subst (λ (x : Seated). IfOk c.mail_within.result (λ reply. WholeEnds (began (ready x) Lock) c.args.turns (Append c.args.seq c.args.value) (Ok reply) c.mail_within.new.self (g.C.CrashPlan.askings c.args.plan.now) (g.C.CrashPlan.askings c.mail_within.new.plan)))
+    subst (λ (x : Seated). IfOk c.mail_within.result (λ reply. WholeEnds (began (free_to_start x) Lock) c.args.turns (Append c.args.seq c.args.value) (Ok reply) c.mail_within.new.self (g.C.CrashPlan.askings c.args.plan.now) (g.C.CrashPlan.askings c.mail_within.new.plan)))
     c.self.view_is c.mail_within.ensures.replied
 
 pub returns-clause-fails : goal.returns-clause-fails

@@ -1,9 +1,9 @@
 use Rattle.std.proofs.Common.{rules, ◌≡◌, [], ◌∷◌, ap, ◌∙◌, subst}
 use Rattle.robust.proofs.Common.{seat_of, Answer, Mail, last_put, value_or, LastIsOwn, Served, Seated, began}
-use Rattle.execution.proofs.OneStep.{got}
+use Rattle.table_runs.proofs.OneStep.{got}
 use Rattle.redomail.specs.declared.reply.Reply.TheVariants.{Word}
 use Rattle.rmeworld.specs.declared.call.Call.TheVariants.{Get}
-use Rattle.execution.proofs.Board.{last_is_own_after}
+use Rattle.table_runs.proofs.Board.{last_is_own_after}
 use Rattle.robust.proofs.member.Member.get.Goals as goal
 
 pub returns-clause-last : goal.returns-clause-last

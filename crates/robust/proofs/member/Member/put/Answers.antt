@@ -1,6 +1,6 @@
 use Rattle.std.proofs.Common.{rules, ◌≡◌, [], ◌∷◌, Some, ap, ◌∙◌, subst}
 use Rattle.robust.proofs.Common.{seat_of, Answer, Mail, TakenStep, last_put, Served, Seated, began}
-use Rattle.execution.proofs.OneStep.{has_put}
+use Rattle.table_runs.proofs.OneStep.{has_put}
 use Rattle.rmeworld.specs.declared.call.Call.TheVariants.{Put}
 use Rattle.robust.proofs.member.Member.put.Goals as goal
 

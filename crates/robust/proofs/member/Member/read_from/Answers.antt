@@ -1,5 +1,5 @@
 use Rattle.std.proofs.Common.{◌∙◌}
-use Rattle.execution.proofs.Glanced.{either_way}
+use Rattle.table_runs.proofs.Glanced.{either_way}
 use Rattle.robust.proofs.member.Member.read_from.Goals as goal
 
 pub invariant_of-self : goal.invariant_of-self

@@ -1,5 +1,5 @@
 use Rattle.std.proofs.Common.{inl}
-use Rattle.schedule.proofs.ReplaysCommon.{empty, new_refusal, scheduled_with, layout_of}
+use Rattle.schedule.proofs.ReplaysCommon.{empty_state, new_refusal, scheduled_with, layout_of}
 use Rattle.schedule.proofs.Heading.{header_refused, no_memory}
 use Rattle.schedule.proofs.Judging.{stands_first}
 use Rattle.schedule.proofs.replays.replay_text.replay_new.Goals as goal
@@ -16,14 +16,14 @@ returns-in-Err-new-clause-of g c all read =
 
 pub returns-clause-of : goal.returns-clause-of
 returns-clause-of g c all read =
-    let start = empty c.args.head.procs c.args.head.cap in
+    let start = empty_state c.args.head.procs c.args.head.cap in
     let played = c.replay_in_place.ensures start all (stands_first start c.in-Ok-new.judge c.in-Ok-new.ensures.made) read in
     rw c.in-Ok.ensures.accepted (inl (rw (← c.in-Ok.ensures.ok) played))
 
 pub returns-clause-fine : goal.returns-clause-fine
 returns-clause-fine g c =
-    let start = empty c.args.head.procs c.args.head.cap in
+    let start = empty_state c.args.head.procs c.args.head.cap in
     let read = c.requires.read in
     let played = c.replay_in_place.ensures start read.0 (stands_first start c.in-Ok-new.judge c.in-Ok-new.ensures.made) read.1 in
-    let told = rw c.in-Ok.ensures.ok at played in
-    c.worlds_are_never_found_out.ensures.replayed (layout_of (scheduled_with (c.args.head, read.0))) c.args.head.limit read.0 _ _ c.replay_in_place.result c.in-Ok.ensures.accepted told
+    let reports = rw c.in-Ok.ensures.ok at played in
+    c.worlds_are_never_found_out.ensures.replayed (layout_of (scheduled_with (c.args.head, read.0))) c.args.head.limit read.0 _ _ c.replay_in_place.result c.in-Ok.ensures.accepted reports

@@ -1,5 +1,5 @@
 use Rattle.std.proofs.Common.{[], Err, sym, ap, ◌∙◌, lit<}
-use Rattle.schedule.proofs.ReplaysCommon.{empty, deed_at, opened, running_judge, trace_head_at}
+use Rattle.schedule.proofs.ReplaysCommon.{empty_state, deed_at, first_running_verdict, running_judge, trace_head_at}
 use Rattle.schedule.proofs.Heard.{hears_none}
 use Rattle.schedule.proofs.Judging.{none_refused, is_refused, stands_first}
 use Rattle.schedule.proofs.Staging.{first_fails, first_reads}
@@ -15,7 +15,7 @@ returns-in-Ok-new-clause-stands c =
       [],
       first_reads trace_head_at (λ h. deed_at h.width) c.args.line.now head c.in-Ok.ensures.head,
       none_refused head.procs head.cap (λ h. absurd (let no = c.in-Ok-new.ensures.procs.1 h in cc)) (λ h. absurd (let no = c.in-Ok-new.ensures.cap.1 h in cc)),
-      (judge, stands_first (empty head.procs head.cap) judge c.in-Ok-new.ensures.made, hears_none (running_judge judge opened)),
+      (judge, stands_first (empty_state head.procs head.cap) judge c.in-Ok-new.ensures.made, hears_none (running_judge judge first_running_verdict)),
     )
 
 pub returns-in-Some-clause-stands : goal.returns-in-Some-clause-stands

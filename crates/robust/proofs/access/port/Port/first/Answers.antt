@@ -1,6 +1,6 @@
 use Rattle.std.proofs.Common.{◌≡◌, sym, ap, ◌∙◌, arith}
 use Rattle.atomic_table.specs.Seated.{TableId}
-use Rattle.execution.proofs.Opens.{cut_rest, rest_step}
+use Rattle.table_runs.proofs.Opens.{cut_rest, rest_step}
 use Rattle.robust.proofs.access.port.Port.first.Goals as goal
 
 pub cut_off-own-requires : goal.cut_off-own-requires

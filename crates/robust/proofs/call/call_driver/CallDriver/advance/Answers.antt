@@ -1,7 +1,7 @@
 use Rattle.std.proofs.Common.{◌≡◌, Some, sym, ◌∙◌, subst}
 use Rattle.robust.proofs.CallCommon.{Access, IsAllowed, Seated, TakesStep, next_of}
 use Rattle.rmecore.specs.declared.access.Access.TheVariants.{Load}
-use Rattle.execution.proofs.Running.{next_same, may_advance, run_by_step, keeps, outcome_same}
+use Rattle.table_runs.proofs.Running.{next_same, may_advance, run_by_step, keeps, outcome_same}
 use Rattle.rmeworld.specs.MachineState.{next_access}
 use Rattle.robust.proofs.call.call_driver.CallDriver.advance.Goals as goal
 
@@ -43,6 +43,6 @@ returns-in-Some-default-Load c =
       next = next;
       may = may_advance x s a c.self.invariant e (subst (IsAllowed s) here w.ensures.allowed) v;
       advances = c.read-found.ensures;
-      told = c.scan_on.ensures.outcome ∙ outcome_same x s a v c.self.invariant e;
+      reports = c.scan_on.ensures.outcome ∙ outcome_same x s a v c.self.invariant e;
       steps = c.saturating_add-self-inside.ensures;
     })

@@ -1,8 +1,8 @@
 use Rattle.std.proofs.Common.{true, Some, None, Ok, List, [], ◌∷◌, refl, ap, ◌∙◌, inl}
-use Rattle.robust.proofs.CallCommon.{Answer, Mail, Unlocked, Clean, NumbersSpent, OwnerDied, NotRecoverable, Call as CallOf, Lock, Unlock, process_state_now, Fits, Leaves, IsFront, IsInner, on_err, cut_out}
+use Rattle.robust.proofs.CallCommon.{Answer, Mail, Unlocked, Clean, NumbersSpent, OwnerDied, NotRecoverable, Call as CallOf, Lock, Unlock, process_state_now, IsAnswerOf, Leaves, IsFront, IsInner, on_err, cut_out}
 use Rattle.robust.proofs.CallCommon.{whole_of, cut_of, cut_more, lock_is}
-use Rattle.execution.proofs.WholeSteps.{spent_whole, ruined_whole, late_whole, ruined_is, fits_some, none_at_most}
-use Rattle.execution.specs.declared.entry_kind.Entry.TheVariants as entry
+use Rattle.table_runs.proofs.WholeSteps.{spent_whole, ruined_whole, late_whole, ruined_is, fits_some, none_at_most}
+use Rattle.table_runs.specs.declared.entry_kind.Entry.TheVariants as entry
 use Rattle.robust.proofs.call.call_driver.CallDriver.come.Goals as goal
 
 pub returns-in_ok-reply-in-Clean-clause-comes : goal.returns-in_ok-reply-in-Clean-clause-comes
@@ -39,7 +39,7 @@ returns-in-None-clause-comes g c =
 
 pub returns-in_default-clause-comes : goal.returns-in_default-clause-comes
 returns-in_default-clause-comes g c =
-    let fits = fits_some c.args.answer c.in-Some.answer (λ (a : Answer). Fits Lock a × Leaves Lock a (process_state_now c.args.self.now.seat_view)) c.in-Some.is c.requires.leaves in
+    let fits = fits_some c.args.answer c.in-Some.answer (λ (a : Answer). IsAnswerOf Lock a × Leaves Lock a (process_state_now c.args.self.now.seat_view)) c.in-Some.is c.requires.leaves in
     let is = ruined_is c.in-Some.answer fits.0 c.in_default.not-Clean c.in_default.not-OwnerDied c.in_default.not-NumbersSpent in
     λ x turns n h. ruined_whole x c.args.self.now turns n _ c.args.task.now (lock_is x c.args.self.now turns n _ c.args.answer (Some NotRecoverable) (c.in-Some.is ∙ ap (λ a. Some a) is) h)
 

@@ -1,5 +1,5 @@
 use Rattle.std.proofs.Common.{◌≡◌, ◌-◌, ◌^◌, ◌≤◌, true, List, length, Some, None, sym, ap, ◌∙◌, subst, arith}
-use Rattle.robust.proofs.CallCommon.{Inside, Mail, Append, ProcessState, TakenStep, Ran, NeverCrashes, refusal_now, IsSeatView, process_state_now, SeatView, Seated, behind, append_begun, free_process_state}
+use Rattle.robust.proofs.CallCommon.{Inside, Mail, Append, ProcessState, TakenStep, Ran, NeverCrashes, refusal_now, IsSeatView, process_state_now, SeatView, Seated, after_further_start, append_begun, free_process_state}
 use Rattle.robust.proofs.FreeSteps.{seat}
 use Rattle.robust.proofs.FastCalls.{fast_answered, may_append, append_starts, is_wide, run_by_back}
 use Rattle.robust.proofs.call.call_driver.CallDriver.fast_append.Goals as goal
@@ -34,14 +34,14 @@ returns-clause-ran g c =
     let k = c.append-reply.result.1 in
     let z = c.append-reply.new.port in
     let small : w.steps ≤ 2 ^ 64 - 1 = omega arith in
-    let is = ap (λ (p : SeatView). record { seat_view = p; steps = w.steps }) c.begin.ensures ∙ ap (λ (u : Seated). behind u (Append c.args.seq c.args.value.now)) c.self.view_is in
+    let is = ap (λ (p : SeatView). record { seat_view = p; steps = w.steps }) c.begin.ensures ∙ ap (λ (u : Seated). after_further_start u (Append c.args.seq c.args.value.now)) c.self.view_is in
     subst (λ (u : Seated). (mine : List TakenStep) × Ran u (Some (Mail c.append-reply.result.0)) (seat z c.saturating_add-self-inside.result) mine × NeverCrashes (length mine) (g.C.CrashPlan.askings c.args.plan.now) (g.C.CrashPlan.askings c.count_without_crash.new.plan)) is
     (fast_answered c.begin.new.self z k w.steps c.saturating_add-self-inside.result _ _ small c.saturating_add-self-inside.ensures c.count_without_crash.ensures (Mail c.append-reply.result.0) c.append-reply.ensures.ends)
 
 pub returns-clause-seat_view : goal.returns-clause-seat_view
 returns-clause-seat_view g c =
     let w = c.self.inside in
-    let is = ap (λ (p : SeatView). record { seat_view = p; steps = w.steps }) c.begin.ensures ∙ ap (λ (u : Seated). behind u (Append c.args.seq c.args.value.now)) c.self.view_is in
+    let is = ap (λ (p : SeatView). record { seat_view = p; steps = w.steps }) c.begin.ensures ∙ ap (λ (u : Seated). after_further_start u (Append c.args.seq c.args.value.now)) c.self.view_is in
     subst (λ (u : Seated). IsSeatView u.seat_view) is c.by-seat_view.ensures.seat_view
 
 pub returns-clause-leaves : goal.returns-clause-leaves

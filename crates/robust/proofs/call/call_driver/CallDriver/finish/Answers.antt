@@ -1,11 +1,11 @@
 use Rattle.std.proofs.Common.{◌≡◌, None, Result, Err, refl, sym, ap, ◌∙◌, subst, inl, inr}
-use Rattle.robust.proofs.CallCommon.{Lock, Seated, ready, refusal_now, whole_asked, whole_cut}
+use Rattle.robust.proofs.CallCommon.{Lock, Seated, free_to_start, refusal_now, whole_asked, whole_cut}
 use Rattle.redomail.specs.declared.reply.Reply.{Reply}
-use Rattle.execution.specs.declared.lock_fault.LockFault.{LockFault}
-use Rattle.execution.specs.declared.lock_fault.LockFault.TheVariants.{Crashed, NotYet}
-use Rattle.execution.specs.Tabled.{CountsAtMost}
-use Rattle.execution.specs.WholeSteps.{most_inside}
-use Rattle.execution.proofs.Outside.{fallen_out}
+use Rattle.table_runs.specs.declared.lock_fault.LockFault.{LockFault}
+use Rattle.table_runs.specs.declared.lock_fault.LockFault.TheVariants.{Crashed, NotYet}
+use Rattle.table_runs.specs.Tabled.{CountsAtMost}
+use Rattle.table_runs.specs.WholeSteps.{most_inside}
+use Rattle.table_runs.proofs.Outside.{fallen_out}
 use Rattle.robust.proofs.call.call_driver.CallDriver.finish.Goals as goal
 
 -- a crash is no wait that ran out of turns
@@ -33,7 +33,7 @@ returns-in-Ok-clause-patient g c = c.in_ok-reply.ensures.patient
 
 pub returns-in-Ok-clause-out : goal.returns-in-Ok-clause-out
 returns-in-Ok-clause-out g c =
-    λ waits. subst (λ (u : Seated). refusal_now (ready u) Lock ≡ None) (sym c.in-Ok.ensures.goes_on.0) (c.come.ensures.out waits)
+    λ waits. subst (λ (u : Seated). refusal_now (free_to_start u) Lock ≡ None) (sym c.in-Ok.ensures.goes_on.0) (c.come.ensures.out waits)
 
 pub returns-in-Ok-clause-few : goal.returns-in-Ok-clause-few
 returns-in-Ok-clause-few g c =

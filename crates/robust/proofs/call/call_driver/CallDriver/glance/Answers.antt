@@ -1,4 +1,4 @@
-use Rattle.execution.proofs.Running.{run_by_look}
+use Rattle.table_runs.proofs.Running.{run_by_look}
 use Rattle.robust.proofs.call.call_driver.CallDriver.glance.Goals as goal
 
 pub invariant_of-self : goal.invariant_of-self

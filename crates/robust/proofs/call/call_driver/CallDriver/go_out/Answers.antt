@@ -1,5 +1,5 @@
 use Rattle.std.proofs.Common.{◌≡◌, true, None, sym, ap, ◌∙◌, subst}
-use Rattle.robust.proofs.CallCommon.{Inside, Leaving, Rest, Unlocked, Unlock, ProcessState, IsSeatView, process_state_now, SeatView, Seated, behind, free_process_state, EndsIn}
+use Rattle.robust.proofs.CallCommon.{Inside, Leaving, Rest, Unlocked, Unlock, ProcessState, IsSeatView, process_state_now, SeatView, Seated, after_further_start, free_process_state, EndsIn}
 use Rattle.robust.proofs.FastCalls.{free_of, may_unlock, unlock_begun, run_by_left}
 use Rattle.robust.proofs.call.call_driver.CallDriver.go_out.Goals as goal
 
@@ -23,10 +23,10 @@ invariant_of-self c =
 
 pub returns-clause-seat_view : goal.returns-clause-seat_view
 returns-clause-seat_view c =
-    let is = ap (λ (p : SeatView). record { seat_view = p; steps = c.self.inside.steps }) c.begin.ensures ∙ ap (λ (u : Seated). behind u Unlock) c.self.view_is in
+    let is = ap (λ (p : SeatView). record { seat_view = p; steps = c.self.inside.steps }) c.begin.ensures ∙ ap (λ (u : Seated). after_further_start u Unlock) c.self.view_is in
     subst (λ (u : Seated). IsSeatView u.seat_view) is c.by-seat_view.ensures.seat_view
 
 pub returns-clause-ends : goal.returns-clause-ends
 returns-clause-ends c =
-    let is = ap (λ (p : SeatView). record { seat_view = p; steps = c.self.inside.steps }) c.begin.ensures ∙ ap (λ (u : Seated). behind u Unlock) c.self.view_is in
+    let is = ap (λ (p : SeatView). record { seat_view = p; steps = c.self.inside.steps }) c.begin.ensures ∙ ap (λ (u : Seated). after_further_start u Unlock) c.self.view_is in
     subst (λ (u : Seated). EndsIn u.seat_view 2 Unlocked c.leave.new.port) is c.leave.ensures.ends

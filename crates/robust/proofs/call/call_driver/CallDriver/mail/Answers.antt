@@ -1,12 +1,12 @@
 use Rattle.std.proofs.Common.{Some, Ok, ap}
-use Rattle.robust.proofs.CallCommon.{Lock, Seated, ready, began, WholeEnds, WholeFails, ok_any, cut_out, lock_idle, ok_some, whole_fails, cut_fails, whole_replied, goes_idle, err_some}
-use Rattle.execution.proofs.WholeCalls.{task_fits}
+use Rattle.robust.proofs.CallCommon.{Lock, Seated, free_to_start, began, WholeEnds, WholeFails, ok_any, cut_out, lock_idle, ok_some, whole_fails, cut_fails, whole_replied, goes_idle, err_some}
+use Rattle.table_runs.proofs.WholeCalls.{task_fits}
 use Rattle.robust.proofs.call.call_driver.CallDriver.mail.Goals as goal
 
 pub returns-in-Ok-clause-replied : goal.returns-in-Ok-clause-replied
 returns-in-Ok-clause-replied g c =
     let ends = c.in-Ok.ensures.ends in
-    ok_some (λ k it. WholeEnds (began (ready c.args.self.now) Lock) k c.args.task.now (Ok it) c.finish.new.self (g.C.CrashPlan.askings c.args.plan.now) (g.C.CrashPlan.askings c.finish.new.plan)) c.finish.result ends.0
+    ok_some (λ k it. WholeEnds (began (free_to_start c.args.self.now) Lock) k c.args.task.now (Ok it) c.finish.new.self (g.C.CrashPlan.askings c.args.plan.now) (g.C.CrashPlan.askings c.finish.new.plan)) c.finish.result ends.0
     (whole_replied c.args.self.now c.set_out_lock.new.self c.finish.new.self ends.0 c.args.task.now (g.C.CrashPlan.askings c.args.plan.now) (g.C.CrashPlan.askings c.finish.new.plan)
     c.in_ok-set_out_lock.ensures.out.0 c.finish.result (c.finish.ensures.goes c.set_out_lock.new.self ends.0 (g.C.CrashPlan.askings c.args.plan.now) ends.1))
 

@@ -1,8 +1,8 @@
 use Rattle.std.proofs.Common.{◌≡◌, ◌≢◌, None, sym, ap, subst}
 use Rattle.robust.proofs.CallCommon.{Withdraw, refusal_now, Seated, lock_setup, err_any, ok_any, cut_out, busy_out, whole_fails, whole_replied, goes_idle, lock_idle, cut_fails}
-use Rattle.execution.specs.declared.lock_fault.LockFault.TheVariants.{AlreadyIn}
-use Rattle.execution.proofs.WholeCalls.{task_fits}
-use Rattle.execution.proofs.WholeSteps.{few_whole, few_lock}
+use Rattle.table_runs.specs.declared.lock_fault.LockFault.TheVariants.{AlreadyIn}
+use Rattle.table_runs.proofs.WholeCalls.{task_fits}
+use Rattle.table_runs.proofs.WholeSteps.{few_whole, few_lock}
 use Rattle.robust.proofs.call.call_driver.CallDriver.mail_within.Goals as goal
 
 pub returns-in-Err-clause-fails : goal.returns-in-Err-clause-fails

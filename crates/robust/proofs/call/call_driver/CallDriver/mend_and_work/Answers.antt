@@ -2,8 +2,8 @@ use Rattle.std.proofs.Common.{◌≡◌, List, [], ◌∷◌, refl, sym, subst, 
 use Rattle.robust.proofs.CallCommon.{Mail, Unlocked, NotRecoverable, Call as CallOf, Unlock, Consistent, IsFront, IsInner, on_err, cut_first, cut_then, two_done, front_one, front_all, unlocked_is}
 use Rattle.robust.proofs.CallCommon.{one_then, front_cons, mends_is}
 use Rattle.redomail.specs.declared.reply.Reply.TheVariants.{Mended}
-use Rattle.execution.proofs.WholeSteps.{mend_counts, ruined_counts, mend_few, ruined_few}
-use Rattle.execution.specs.declared.entry_kind.Entry.TheVariants.{OwnerDied}
+use Rattle.table_runs.proofs.WholeSteps.{mend_counts, ruined_counts, mend_few, ruined_few}
+use Rattle.table_runs.specs.declared.entry_kind.Entry.TheVariants.{OwnerDied}
 use Rattle.robust.proofs.call.call_driver.CallDriver.mend_and_work.Goals as goal
 
 pub returns-in_err-follow-clause-cut : goal.returns-in_err-follow-clause-cut

@@ -1,12 +1,12 @@
 use Rattle.std.proofs.Common.{◌≡◌, ℕ, ◌-◌, refl, sym, ◌∙◌, subst, arith}
-use Rattle.robust.proofs.CallCommon.{Data as DataAt, Looks, cells_of, entry_words, Glances, drop_none, told, count_within, reads_all, both_ok}
+use Rattle.robust.proofs.CallCommon.{Data as DataAt, Looks, cells_of, entry_words, Glances, drop_none, reports, count_within, reads_all, both_ok}
 use Rattle.robust.proofs.call.call_driver.CallDriver.read_from.Goals as goal
 
 pub glance-count-requires : goal.glance-count-requires
 glance-count-requires c = count_within c.args.self.now.seat_view.setup.layout
 
 pub entries-requires-clause-count : goal.entries-requires-clause-count
-entries-requires-clause-count c = told c.args.self.now.seat_view c.glance-count.new.self.seat_view 2 c.glance-count.result c.glance-count.ensures.seen
+entries-requires-clause-count c = reports c.args.self.now.seat_view c.glance-count.new.self.seat_view 2 c.glance-count.result c.glance-count.ensures.seen
 
 pub returns-then-place-count-clause-messages : goal.returns-then-place-count-clause-messages
 returns-then-place-count-clause-messages c =
@@ -29,4 +29,4 @@ returns-clause-messages c =
     let count = c.glance-count.result in
     let looks : Looks x.seat_view (DataAt 2) count y.seat_view = c.glance-count.ensures.seen in
     let steps : y.steps ≡ x.steps = c.glance-count.ensures.steps in
-    both_ok _ _ _ c.entries.result c.entries.ensures.messages c.entries.ensures.glances (λ v told glances. reads_all x place count y z v.items c.setup-setup.ensures.seat_view looks steps glances told)
+    both_ok _ _ _ c.entries.result c.entries.ensures.messages c.entries.ensures.glances (λ v reports glances. reads_all x place count y z v.items c.setup-setup.ensures.seat_view looks steps glances reports)

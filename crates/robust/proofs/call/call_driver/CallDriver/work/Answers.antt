@@ -1,7 +1,7 @@
 use Rattle.std.proofs.Common.{◌≡◌, List, [], ◌∷◌, sym, subst}
 use Rattle.robust.proofs.CallCommon.{Mail, Unlocked, Call as CallOf, Unlock, IsFront, on_err, cut_first, cut_then, two_done, front_one, front_all, unlocked_is}
 use Rattle.rmeworld.specs.OwnSteps.{most_steps}
-use Rattle.execution.proofs.WholeSteps.{work_counts, at_most_both}
+use Rattle.table_runs.proofs.WholeSteps.{work_counts, at_most_both}
 use Rattle.robust.proofs.call.call_driver.CallDriver.work.Goals as goal
 
 pub returns-in_err-answer-clause-cut : goal.returns-in_err-answer-clause-cut

@@ -1,5 +1,5 @@
 use Rattle.std.proofs.Common.{◌∷◌, ◌++◌, [], sym, subst, arith, length-append}
-use Rattle.schedule.proofs.ReplaysCommon.{deed_at, opened, running_judge, trace_head_at, Stands}
+use Rattle.schedule.proofs.ReplaysCommon.{deed_at, first_running_verdict, running_judge, trace_head_at, Stands}
 use Rattle.schedule.specs.declared.replays.stage.TraceStage.TheVariants as stages
 use Rattle.schedule.proofs.Heard.{hears_both}
 use Rattle.schedule.proofs.Staging.{more_reads, more_fails, more_faulty}
@@ -27,7 +27,7 @@ returns-in-Ok-read_deed-clause-stands c lines stands number =
       h.0 ++ deed ∷ [],
       more_reads trace_head_at (λ g. deed_at g.width) lines c.args.line.now head h.0 deed h.1 c.in-Ok-read_deed.ensures,
       h.2,
-      (h.3.0, h.3.1, hears_both (running_judge h.3.0 opened) (running_judge c.in-Judging.judge c.in-Judging.running_verdict) (running_judge c.hear.new.judge c.hear.new.self) h.0 (deed ∷ []) h.3.2 c.hear.ensures),
+      (h.3.0, h.3.1, hears_both (running_judge h.3.0 first_running_verdict) (running_judge c.in-Judging.judge c.in-Judging.running_verdict) (running_judge c.hear.new.judge c.hear.new.self) h.0 (deed ∷ []) h.3.2 c.hear.ensures),
     )
 
 pub returns-in-Err-read_deed-clause-stands : goal.returns-in-Err-read_deed-clause-stands

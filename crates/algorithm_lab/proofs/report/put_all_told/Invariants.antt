@@ -1,6 +1,0 @@
-use Rattle.std.proofs.Common.{◌≡◌, ◌++◌, take}
-use Rattle.algorithm_lab.specs.Reports.{told_text}
-use Rattle.algorithm_lab.proofs.report.put_all_told.Given as goal
-
-abbrev pub invariant-loop-one : goal.invariant-loop-one
-invariant-loop-one l = l.page.items ≡ l.fn.page.items ++ told_text l.algorithm (take l.one-index l.told)

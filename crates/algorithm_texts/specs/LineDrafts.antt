@@ -1,0 +1,346 @@
+-- Reading the lines of a call from the left: what each of them makes of a draft, or None where it is refused.
+use Rattle.std.specs.Prelude.{◌≡◌, ℕ, ◌+◌, nat_lt, nat_eq, Bool, true, false, ◌||◌, List, [], ◌∷◌, ◌++◌, length, drop, slice_get, slice_set, Option, Some, None, Result, Ok, Err, if◌then◌else◌, codes, bytes_eq, position}
+use Rattle.algorithms.specs.declared.fault.ReadFault.{ReadFault}
+use Rattle.algorithms.specs.declared.line.Members.{Members}
+use Rattle.algorithm_texts.specs.declared.lines.Block.{Block}
+use Rattle.algorithm_texts.specs.declared.lines.Block.TheVariants.{If, Else, For}
+use Rattle.algorithm_texts.specs.declared.lines.Opened.{Opened}
+use Rattle.algorithm_texts.specs.declared.tokens.Sign.TheVariants.{Assign, OpenIndex, CloseIndex, Colon}
+use Rattle.algorithm_texts.specs.declared.tokens.Token.{Token}
+use Rattle.algorithm_texts.specs.declared.tokens.Token.TheVariants.{Number, Word, Sign}
+use Rattle.algorithm_texts.specs.Parts.{Term, Formula, OperandPart, Value, Pair, Condition, Private, Number as NumberTerm, Me, Procs, Limit, Joined, value_in, condition_in, ◌>>=◌}
+use Rattle.algorithm_texts.specs.Grammar.{Scope, is_among, private_name_part}
+use Rattle.algorithm_texts.specs.Operands.{reserved, RefusesOperand}
+use Rattle.algorithm_texts.specs.Stacks.{read_part}
+use Rattle.algorithm_texts.specs.Fronts.{is_the_word, is_the_sign, letters_of, value_if, past_word, past_sign, is_over, deed_said, members_said, past_withdraw, value_tokens, value_rest, begins_no_simple}
+use Rattle.algorithm_texts.specs.Drafts.{SharedWord, DraftAction, Loading, Storing, Awaiting, LineForm, Accessing, Assigning, Noting, Going, Branching, Beginning, Repeating, Ending, leading, Drafted}
+
+-- what a function makes of a draft is what the definition gives, where that is something
+abbrev pub Drafts : {A : Type 0} → Drafted → Result A ReadFault → Option Drafted → Type 0
+Drafts now (Ok x) o = o ≡ Some now
+Drafts now (Err fault) o = RefusesOperand fault o
+
+-- ---- values
+
+abbrev pub read_value : Scope → List (List ℕ) → List Token → Option (Term × List (List ℕ))
+read_value scope names tokens = do
+  x ← read_part scope names tokens
+  v ← value_in x.0
+  Some (v, x.1)
+
+abbrev pub read_condition : Scope → List (List ℕ) → List Token → Option (Formula × List (List ℕ))
+read_condition scope names tokens = do
+  x ← read_part scope names tokens
+  c ← condition_in x.0
+  Some (c, x.1)
+
+-- ---- names
+
+abbrev pub scope_in : Drafted → Scope
+scope_in d = record { reserved = reserved; declared = d.declared; most = 32 }
+
+-- the words that are numbers
+abbrev pub is_constant : List ℕ → Bool
+is_constant word = bytes_eq word (codes "me") || bytes_eq word (codes "procs") || bytes_eq word (codes "limit")
+
+-- a word as a new name
+abbrev pub new_name_in : List ℕ → Option (List ℕ)
+new_name_in word = if is_constant word then None else if is_among reserved word then None else Some word
+
+abbrev pub new_name : Option Token → Option (List ℕ)
+new_name token = letters_of token >>= new_name_in
+
+-- a private name that a line sets, as a part, and the names after it
+abbrev pub name_set : Scope → List (List ℕ) → Option Token → Option (OperandPart × List (List ℕ))
+name_set scope names token = do
+  word ← new_name token
+  if is_among scope.declared word then None else private_name_part scope.most names word (position (λ name. bytes_eq name word) names)
+
+abbrev pub index_in : OperandPart → ℕ
+index_in (Value (Private k)) = k
+index_in (Value (NumberTerm n)) = 0
+index_in (Value Me) = 0
+index_in (Value Procs) = 0
+index_in (Value Limit) = 0
+index_in (Value (Joined o a b)) = 0
+index_in (Pair a b) = 0
+index_in (Condition c) = 0
+
+-- ---- parts of a line
+
+abbrev pub with_names : List (List ℕ) → Drafted → Drafted
+with_names names d = record d { names = names }
+
+-- a line at the end
+abbrev pub with_form : LineForm → Drafted → Drafted
+with_form form d = record d { lines = d.lines ++ record { number = d.number; form = form } ∷ [] }
+
+abbrev pub is_each : Option Bool → Bool
+is_each None = false
+is_each (Some each) = each
+
+-- the index of a word where there is one for each process, the tokens after it, and the names
+abbrev pub read_index : Scope → Bool → List (List ℕ) → List Token → Option (Option Term × List Token × List (List ℕ))
+read_index scope false names tokens = if is_the_sign (slice_get tokens 0) OpenIndex then None else Some (None, tokens, names)
+read_index scope true names tokens = do
+  inner ← past_sign tokens OpenIndex
+  v ← read_value scope names (value_tokens inner)
+  rest ← past_sign (value_rest inner) CloseIndex
+  Some (Some v.0, rest, v.1)
+
+-- a word of the k-th declaration
+abbrev pub read_word_of : Scope → List Bool → List (List ℕ) → ℕ → List Token → Option (SharedWord × List Token × List (List ℕ))
+read_word_of scope each names k tokens = do
+  i ← read_index scope (is_each (slice_get each k)) names (drop 1 tokens)
+  Some (record { declaration = k; index = i.0 }, i.1, i.2)
+
+abbrev pub read_word : Scope → List Bool → List (List ℕ) → List Token → Option (SharedWord × List Token × List (List ℕ))
+read_word scope each names tokens = do
+  name ← letters_of (slice_get tokens 0)
+  k ← position (λ other. bytes_eq other name) scope.declared
+  read_word_of scope each names k tokens
+
+abbrev pub read_deed : Drafted → List Token → Option Drafted
+read_deed d tokens = do
+  deed ← deed_said tokens
+  Some (with_form (Noting deed) d)
+
+abbrev pub read_access : Drafted → SharedWord → DraftAction → List Token → Option Drafted
+read_access d word act tokens = do
+  rest ← past_withdraw tokens
+  if is_over rest then Some (with_form (Accessing (record { word = word; act = act; may_withdraw = is_the_word (slice_get tokens 0) (codes "may") })) d)
+      else read_deed (with_form (Accessing (record { word = word; act = act; may_withdraw = is_the_word (slice_get tokens 0) (codes "may") })) d) rest
+
+abbrev pub read_until : Scope → List (List ℕ) → List Token → Option (Formula × List Token × List (List ℕ))
+read_until scope names tokens = do
+  inner ← past_word tokens (codes "until")
+  c ← read_condition scope names (value_tokens inner)
+  Some (c.0, value_rest inner, c.1)
+
+-- ---- statements that are no blocks
+
+abbrev pub read_awaited_word : Drafted → ℕ → SharedWord → List Token → Option Drafted
+read_awaited_word d name word tokens = do
+  until ← read_until (scope_in d) d.names tokens
+  read_access (with_names until.2 d) word (Awaiting name until.0) until.1
+
+abbrev pub read_awaited : Drafted → ℕ → List Token → Option Drafted
+read_awaited d name tokens = do
+  word ← read_word (scope_in d) d.each d.names tokens
+  read_awaited_word (with_names word.2 d) name word.0 word.1
+
+abbrev pub read_await_of : Drafted → ℕ → List Token → Option Drafted
+read_await_of d name tokens = do
+  rest ← past_sign tokens Assign
+  read_awaited d name rest
+
+abbrev pub read_await : Drafted → List Token → Option Drafted
+read_await d tokens = do
+  name ← name_set (scope_in d) d.names (slice_get tokens 0)
+  read_await_of (with_names name.1 d) (index_in name.0) (drop 1 tokens)
+
+abbrev pub read_store : Drafted → List Token → Option Drafted
+read_store d tokens = do
+  word ← read_word (scope_in d) d.each d.names tokens
+  inner ← past_sign word.1 Assign
+  v ← read_value (scope_in d) word.2 (value_tokens inner)
+  read_access (with_names v.1 d) word.0 (Storing v.0) (value_rest inner)
+
+-- a number or a sign
+abbrev pub is_no_word : Option Token → Bool
+is_no_word None = false
+is_no_word (Some (Number n)) = true
+is_no_word (Some (Word letters)) = false
+is_no_word (Some (Sign sign)) = true
+
+abbrev pub read_load : Drafted → ℕ → List Token → Option Drafted
+read_load d name tokens = do
+  word ← read_word (scope_in d) d.each d.names tokens
+  if is_no_word (slice_get word.1 0) then None else read_access (with_names word.2 d) word.0 (Loading name) word.1
+
+-- a shared word comes next
+abbrev pub begins_word : List (List ℕ) → Option Token → Option Token → Bool
+begins_word declared None second = false
+begins_word declared (Some (Number n)) second = false
+begins_word declared (Some (Word word)) second = is_among declared word || is_the_sign second OpenIndex
+begins_word declared (Some (Sign sign)) second = false
+
+abbrev pub read_assigned_value : Drafted → ℕ → List Token → Option Drafted
+read_assigned_value d name tokens = do
+  v ← read_value (scope_in d) d.names (value_tokens tokens)
+  value_if (is_over (value_rest tokens)) (Some (with_form (Assigning name v.0) (with_names v.1 d)))
+
+abbrev pub read_assigned : Drafted → ℕ → List Token → Option Drafted
+read_assigned d name tokens =
+    if begins_word d.declared (slice_get tokens 0) (slice_get tokens 1) then read_load d name tokens else read_assigned_value d name tokens
+
+abbrev pub read_set_to : Drafted → ℕ → List Token → Option Drafted
+read_set_to d name tokens = do
+  rest ← past_sign tokens Assign
+  read_assigned d name rest
+
+abbrev pub read_private_assignment : Drafted → List Token → Option Drafted
+read_private_assignment d tokens = do
+  name ← name_set (scope_in d) d.names (slice_get tokens 0)
+  read_set_to (with_names name.1 d) (index_in name.0) (drop 1 tokens)
+
+abbrev pub read_assignment : Drafted → List Token → Option Drafted
+read_assignment d tokens = do
+  first ← letters_of (slice_get tokens 0)
+  if is_among d.declared first then read_store d tokens
+      else if is_the_sign (slice_get tokens 1) OpenIndex then None
+      else if is_the_sign (slice_get tokens 1) Assign then read_private_assignment d tokens
+      else None
+
+-- the index of an answer
+abbrev pub answer_place : List (List ℕ) → List ℕ → Option ℕ → ℕ × List (List ℕ)
+answer_place answers answer (Some k) = (k, answers)
+answer_place answers answer None = (length answers, answers ++ answer ∷ [])
+
+abbrev pub placed_answer : List (List ℕ) → List ℕ → ℕ × List (List ℕ)
+placed_answer answers answer = answer_place answers answer (position (λ other. bytes_eq other answer) answers)
+
+abbrev pub with_answers : List (List ℕ) → Drafted → Drafted
+with_answers answers d = record d { answers = answers }
+
+abbrev pub read_done : Drafted → List Token → List ℕ → Option Drafted
+read_done d rest answer =
+    value_if (is_over rest) (Some (with_form (Ending (placed_answer d.answers answer).0) (with_answers (placed_answer d.answers answer).1 d)))
+
+abbrev pub with_jump : List ℕ → Drafted → Drafted
+with_jump name d = record d { jumps = d.jumps ++ record { place = length d.lines; name = name } ∷ [] }
+
+abbrev pub read_goto : Drafted → List Token → Option Drafted
+read_goto d rest = do
+  name ← new_name (slice_get rest 0)
+  value_if (is_over (drop 1 rest)) (Some (with_form (Going 0) (with_jump name d)))
+
+abbrev pub read_simple : Drafted → List Token → List ℕ → Option Drafted
+read_simple d tokens answer =
+    if is_the_word (slice_get tokens 0) (codes "goto") then read_goto d (drop 1 tokens)
+    else if is_the_word (slice_get tokens 0) (codes "done") then read_done d (drop 1 tokens) answer
+    else if is_the_word (slice_get tokens 0) (codes "this") then read_deed d tokens
+    else if is_the_word (slice_get tokens 0) (codes "await") then read_await d (drop 1 tokens)
+    else read_assignment d tokens
+
+-- ---- blocks
+
+abbrev pub opening : ℕ → Block → Drafted → Option Drafted
+opening place kind d =
+    if nat_lt (length d.opened) 16 then
+    Some (record d {
+      opened = record { place = place; first = length d.lines; kind = kind; block = length d.blocks } ∷ d.opened;
+      blocks = d.blocks ++ (length d.lines, length d.lines) ∷ [];
+    })
+    else None
+
+abbrev pub ended_at : List (ℕ × ℕ) → ℕ → ℕ → Option (ℕ × ℕ) → List (ℕ × ℕ)
+ended_at blocks at place None = blocks
+ended_at blocks at place (Some block) = slice_set blocks at (block.0, place)
+
+-- the innermost block ends here
+abbrev pub closing : Opened → List Opened → Drafted → Drafted
+closing o os d = record d { opened = os; blocks = ended_at d.blocks o.block (length d.lines) (slice_get d.blocks o.block) }
+
+-- the line at this place leads to the next line
+abbrev pub landing : ℕ → Drafted → Drafted
+landing at d = record d { lines = leading d.lines at (length d.lines) (slice_get d.lines at) }
+
+-- `if CONDITION then`, and the tokens after it
+abbrev pub read_test : Drafted → List Token → Option (Drafted × List Token)
+read_test d tokens = do
+  c ← read_condition (scope_in d) d.names (value_tokens tokens)
+  rest ← past_word (value_rest tokens) (codes "then")
+  Some (with_form (Branching c.0 0) (with_names c.1 d), rest)
+
+abbrev pub read_then : ℕ → Drafted → List Token → List ℕ → Option Drafted
+read_then place d tokens answer = do
+  now ← read_simple d tokens answer
+  Some (landing place now)
+
+abbrev pub read_if : Drafted → List Token → List ℕ → Option Drafted
+read_if d tokens answer = do
+  test ← read_test d tokens
+  if is_over test.1 then opening (length d.lines) If test.0
+      else if begins_no_simple test.1 then None
+      else read_then (length d.lines) test.0 test.1 answer
+
+abbrev pub is_loop_of : ℕ → Block → Bool
+is_loop_of name If = false
+is_loop_of name Else = false
+is_loop_of name (For other members) = nat_eq other name
+
+abbrev pub is_loop : Block → Bool
+is_loop If = false
+is_loop Else = false
+is_loop (For other members) = true
+
+-- a loop of this name is open
+abbrev pub is_looping : ℕ → List Opened → Bool
+is_looping name [] = false
+is_looping name (o ∷ os) = is_loop_of name o.kind || is_looping name os
+
+-- how many loops are open
+abbrev pub loops : List Opened → ℕ
+loops [] = 0
+loops (o ∷ os) = if is_loop o.kind then loops os + 1 else loops os
+
+abbrev pub loop_opened : ℕ → Members → Drafted → Option Drafted
+loop_opened name members d =
+    if is_looping name d.opened then None
+    else if nat_lt (loops d.opened) 2 then opening (length d.lines) (For name members) (with_form (Beginning name members 0) d)
+    else None
+
+abbrev pub read_for : Drafted → List Token → Option Drafted
+read_for d tokens = do
+  name ← name_set (scope_in d) d.names (slice_get tokens 0)
+  members ← members_said (drop 1 tokens)
+  if nat_lt (index_in name.0) d.lasting then None else loop_opened (index_in name.0) members (with_names name.1 d)
+
+abbrev pub else_after : Opened → Block → List Opened → Drafted → Option Drafted
+else_after o If os d = opening (length d.lines) Else (landing o.place (closing o os (with_form (Going 0) d)))
+else_after o Else os d = None
+else_after o (For name members) os d = None
+
+abbrev pub else_in : List Opened → Drafted → Option Drafted
+else_in [] d = None
+else_in (o ∷ os) d = else_after o o.kind os d
+
+abbrev pub read_else : Drafted → List Token → Option Drafted
+read_else d tokens = value_if (is_over tokens) (else_in d.opened d)
+
+-- the line that begins the next round of a loop
+abbrev pub going_round : ℕ → Block → Drafted → Drafted
+going_round first If d = d
+going_round first Else d = d
+going_round first (For name members) d = with_form (Repeating name members first) d
+
+abbrev pub end_in : List Opened → Drafted → Option Drafted
+end_in [] d = None
+end_in (o ∷ os) d = Some (landing o.place (closing o os (going_round o.first o.kind d)))
+
+abbrev pub read_end : Drafted → List Token → Option Drafted
+read_end d tokens = value_if (is_over tokens) (end_in d.opened d)
+
+-- the innermost block
+abbrev pub block_in : List Opened → Option ℕ
+block_in [] = None
+block_in (o ∷ os) = Some o.block
+
+abbrev pub with_label : List ℕ → Drafted → Drafted
+with_label name d = record d { labels = d.labels ++ record { name = name; place = length d.lines; block = block_in d.opened; number = d.number } ∷ [] }
+
+abbrev pub read_label : Drafted → List Token → Option Drafted
+read_label d tokens = do
+  name ← new_name (slice_get tokens 0)
+  value_if (is_over (drop 2 tokens)) (Some (with_label name d))
+
+-- a line of a call
+abbrev pub read_statement : Drafted → List Token → List ℕ → Option Drafted
+read_statement d tokens answer =
+    if is_the_word (slice_get tokens 0) (codes "if") then read_if d (drop 1 tokens) answer
+    else if is_the_word (slice_get tokens 0) (codes "for") then read_for d (drop 1 tokens)
+    else if is_the_word (slice_get tokens 0) (codes "else") then read_else d (drop 1 tokens)
+    else if is_the_word (slice_get tokens 0) (codes "end") then read_end d (drop 1 tokens)
+    else if is_the_sign (slice_get tokens 1) Colon then read_label d tokens
+    else read_simple d tokens answer

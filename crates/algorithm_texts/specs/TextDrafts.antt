@@ -1,0 +1,240 @@
+-- Reading the lines of a text from the left: what each of them makes of a draft, or None where it is refused.
+use Rattle.std.specs.Prelude.{◌≡◌, string_bytes, ℕ, ◌+◌, ◌==◌, nat_eq, nat_lt, Bool, true, false, ◌&&◌, ◌||◌, List, [], ◌∷◌, ◌++◌, length, drop, slice_get, Option, Some, None, if◌then◌else◌, codes}
+use Rattle.algorithms.specs.declared.algorithm.Algorithm.{Algorithm}
+use Rattle.algorithms.specs.declared.algorithm.AlgorithmCall.{AlgorithmCall}
+use Rattle.algorithms.specs.declared.algorithm.AlgorithmCall.TheVariants.{Lock, Unlock, Recover, Withdraw}
+use Rattle.algorithms.specs.declared.algorithm.Promises.{Promises}
+use Rattle.algorithm_texts.specs.declared.lines.CallRead.{CallRead}
+use Rattle.algorithm_texts.specs.declared.lines.Opened.{Opened}
+use Rattle.algorithm_texts.specs.declared.tokens.Sign.TheVariants.{Comma, OpenIndex, CloseIndex}
+use Rattle.algorithm_texts.specs.declared.tokens.Token.{Token}
+use Rattle.algorithm_texts.specs.declared.tokens.Token.TheVariants.{Number as NumberToken, Word, Sign}
+use Rattle.algorithm_texts.specs.Parts.{Term, Number, Private, Me, Procs, Limit, Joined, ◌>>=◌}
+use Rattle.algorithm_texts.specs.Grammar.{Scope, is_among}
+use Rattle.algorithm_texts.specs.Fronts.{is_the_word, is_the_sign, value_if, past_word, is_over, named_by, value_tokens, value_rest}
+use Rattle.algorithm_texts.specs.Drafts.{Drafted}
+use Rattle.algorithm_texts.specs.LineDrafts.{read_value, scope_in, new_name, with_names, read_statement}
+
+-- ---- calls
+
+abbrev pub call_words : List (List ℕ × AlgorithmCall)
+call_words =
+    (codes "lock", Lock)
+    ∷ (codes "unlock", Unlock)
+    ∷ (codes "recover", Recover)
+    ∷ (codes "withdraw", Withdraw)
+    ∷ []
+
+abbrev pub call_number : AlgorithmCall → ℕ
+call_number Lock = 0
+call_number Unlock = 1
+call_number Recover = 2
+call_number Withdraw = 3
+
+abbrev pub is_call : AlgorithmCall → CallRead → Bool
+is_call call read = nat_eq (call_number read.call) (call_number call)
+
+abbrev pub has_call : AlgorithmCall → List CallRead → Bool
+has_call call [] = false
+has_call call (c ∷ cs) = is_call call c || has_call call cs
+
+-- the call that was read last ends at this place
+abbrev pub ended_calls : ℕ → ℕ → List CallRead → List CallRead
+ended_calls to last [] = []
+ended_calls to last (c ∷ cs) = record { call = c.call; «from» = c.«from»; to = to; number = c.number; last = last } ∷ cs
+
+abbrev pub end_call_in : List Opened → ℕ → Drafted → Option Drafted
+end_call_in [] last d = Some (record d { calls = ended_calls (length d.lines) last d.calls })
+end_call_in (o ∷ os) last d = None
+
+abbrev pub end_call : ℕ → Drafted → Option Drafted
+end_call last d = end_call_in d.opened last d
+
+abbrev pub with_call : AlgorithmCall → Drafted → Drafted
+with_call call d = record d { calls = record { call = call; «from» = length d.lines; to = length d.lines; number = d.number; last = d.number } ∷ d.calls }
+
+abbrev pub read_call : Drafted → List Token → ℕ → Option Drafted
+read_call d tokens last = do
+  now ← end_call last d
+  call ← named_by call_words (slice_get tokens 0)
+  if is_over (drop 1 tokens) then (if has_call call now.calls then None else Some (with_call call now)) else None
+
+-- ---- declarations
+
+-- a name that is not declared yet
+abbrev pub undeclared_name : List (List ℕ) → List (List ℕ) → Option Token → Option (List ℕ)
+undeclared_name declared names token = do
+  word ← new_name token
+  if is_among declared word || is_among names word then None else Some word
+
+-- a value of numbers, `procs` and `limit` alone
+abbrev pub is_bound : Term → Bool
+is_bound (Number n) = true
+is_bound (Private k) = false
+is_bound Me = false
+is_bound Procs = true
+is_bound Limit = true
+is_bound (Joined o a b) = is_bound a && is_bound b
+
+-- `[procs]`, where it comes next, and the tokens after it
+abbrev pub read_each : List Token → Option (Bool × List Token)
+read_each tokens =
+    if is_the_sign (slice_get tokens 0) OpenIndex then
+    (if is_the_word (slice_get tokens 1) (codes "procs") && is_the_sign (slice_get tokens 2) CloseIndex then Some (true, drop 3 tokens) else None)
+    else Some (false, tokens)
+
+-- `up to VALUE`, where it comes next, and the private names after it
+abbrev pub read_limit : Scope → List (List ℕ) → List Token → Option (Option Term × List (List ℕ))
+read_limit scope names tokens = do
+  up ← past_word tokens (codes "up")
+  rest ← past_word up (codes "to")
+  v ← read_value scope names (value_tokens rest)
+  value_if (is_over (value_rest rest) && (is_bound v.0 && (length v.1 == length names))) (Some (Some v.0, v.1))
+
+abbrev pub read_bound : Scope → List (List ℕ) → List Token → Option (Option Term × List (List ℕ))
+read_bound scope names tokens = if is_over tokens then Some (None, names) else read_limit scope names tokens
+
+abbrev pub with_declaration : List ℕ → Bool → Option Term → Drafted → Drafted
+with_declaration name each bound d = record d {
+  declared = d.declared ++ name ∷ [];
+  each = d.each ++ each ∷ [];
+  head = record d.head { bounds = d.head.bounds ++ bound ∷ [] };
+}
+
+abbrev pub read_shared : Drafted → List Token → Option Drafted
+read_shared d tokens = do
+  name ← undeclared_name d.declared d.names (slice_get tokens 0)
+  each ← if nat_lt (length d.declared) 64 then read_each (drop 1 tokens) else None
+  bound ← read_bound (scope_in d) d.names each.1
+  Some (with_declaration name each.0 bound.0 (with_names bound.1 d))
+
+abbrev pub with_lasting : List ℕ → Drafted → Drafted
+with_lasting name d = record d { names = d.names ++ name ∷ []; lasting = length d.names + 1 }
+
+abbrev pub read_private : Drafted → List Token → Option Drafted
+read_private d tokens = do
+  name ← undeclared_name d.declared d.names (slice_get tokens 0)
+  value_if (nat_lt (length d.names) 32) (value_if (is_over (drop 1 tokens)) (Some (with_lasting name d)))
+
+abbrev pub read_declaration : Drafted → List Token → Option Drafted
+read_declaration d tokens =
+    if is_the_word (slice_get tokens 0) (codes "shared") then read_shared d (drop 1 tokens)
+    else if is_the_word (slice_get tokens 0) (codes "private") then read_private d (drop 1 tokens)
+    else None
+
+-- a line after the first two, where the line before it has this number
+abbrev pub read_line : Drafted → List Token → List ℕ → ℕ → Option Drafted
+read_line d tokens answer last =
+    if is_the_word (slice_get tokens 0) (codes "call") then read_call d (drop 1 tokens) last
+    else if length d.calls == 0 then read_declaration d tokens
+    else read_statement d tokens answer
+
+-- ---- the first two lines
+
+abbrev pub number_in : Option Token → Option ℕ
+number_in None = None
+number_in (Some (NumberToken n)) = Some n
+number_in (Some (Word letters)) = None
+number_in (Some (Sign sign)) = None
+
+-- the least and the greatest number of processes, and the tokens after them
+abbrev pub numbers_from : ℕ → List Token → Option (ℕ × ℕ × List Token)
+numbers_from least tokens = do
+  most ← number_in (slice_get tokens 2)
+  Some (least, most, drop 3 tokens)
+
+abbrev pub read_numbers : List Token → Option (ℕ × ℕ × List Token)
+read_numbers tokens = do
+  least ← number_in (slice_get tokens 0)
+  if is_the_word (slice_get tokens 1) (codes "to") then numbers_from least tokens else Some (least, least, drop 1 tokens)
+
+-- `algorithm NAME for LEAST to MOST processes`
+abbrev pub read_head_words : List Token → Option (List ℕ × ℕ × ℕ)
+read_head_words tokens = do
+  rest ← past_word tokens (codes "algorithm")
+  name ← new_name (slice_get rest 0)
+  following ← past_word (drop 1 rest) (codes "for")
+  n ← read_numbers following
+  end ← past_word n.2 (codes "processes")
+  value_if (is_over end) (Some (name, n.0, n.1))
+
+abbrev pub read_head : List Token → Option (List ℕ × ℕ × ℕ)
+read_head tokens = do
+  h ← read_head_words tokens
+  if (h.1 == 0) || (nat_lt h.2 h.1 || nat_lt 64 h.2) then None else Some h
+
+-- whether a promise comes next, and the tokens after it
+abbrev pub promise_at_front : List Token → List ℕ → Bool × List Token
+promise_at_front tokens word =
+    if is_the_sign (slice_get tokens 0) Comma && is_the_word (slice_get tokens 1) word then (true, drop 2 tokens) else (false, tokens)
+
+abbrev pub read_promises : List Token → Option Promises
+read_promises tokens = do
+  rest ← past_word tokens (codes "promises")
+  more ← past_word rest (codes "exclusion")
+  value_if (is_over (promise_at_front (promise_at_front more (codes "reentry")).1 (codes "order")).1)
+      (Some (record { reentry = (promise_at_front more (codes "reentry")).0; order = (promise_at_front (promise_at_front more (codes "reentry")).1 (codes "order")).0 }))
+
+-- an algorithm of this name with nothing in it
+pub record IsEmpty (a : Algorithm) (name : List ℕ) (least most : ℕ) : Type 0 where
+  pub named : string_bytes a.name ≡ name
+  pub least_is : a.least ≡ least
+  pub most_is : a.most ≡ most
+  pub no_declarations : a.declarations.items ≡ []
+  pub no_names : a.names.items ≡ []
+  pub none_last : a.lasting ≡ 0
+  pub no_answers : a.answers.items ≡ []
+  pub no_lines : a.lines.items ≡ []
+  pub no_entries : a.entries ≡ record { lock = 0; unlock = 0; recover = None; withdraw = None }
+
+-- ---- whole texts
+
+-- a line that is not empty, with its number
+pub record Spoken : Type 0 where
+  pub number : ℕ
+  pub tokens : List Token
+  pub answer : List ℕ
+
+-- a draft with nothing in it, after a line of this number
+abbrev pub empty_draft : List ℕ × ℕ × ℕ → Promises → ℕ → Drafted
+empty_draft head promises number = record {
+  head = record {
+    name = head.0;
+    least = head.1;
+    most = head.2;
+    promises = promises;
+    bounds = [];
+    entries = record { lock = 0; unlock = 0; recover = None; withdraw = None };
+  };
+  declared = [];
+  each = [];
+  lasting = 0;
+  number = number;
+  names = [];
+  answers = [];
+  lines = [];
+  opened = [];
+  blocks = [];
+  labels = [];
+  jumps = [];
+  calls = [];
+}
+
+abbrev pub with_number : ℕ → Drafted → Drafted
+with_number number d = record d { number = number }
+
+-- the lines after the first two
+abbrev pub read_lines : Drafted → List Spoken → Option Drafted
+read_lines d [] = end_call d.number d
+read_lines d (s ∷ ss) = do
+  now ← read_line (with_number s.number d) s.tokens s.answer d.number
+  read_lines now ss
+
+-- what all lines make
+abbrev pub read_text : List Spoken → Option Drafted
+read_text spoken = do
+  first ← slice_get spoken 0
+  second ← slice_get spoken 1
+  head ← read_head first.tokens
+  promises ← read_promises second.tokens
+  read_lines (empty_draft head promises second.number) (drop 2 spoken)

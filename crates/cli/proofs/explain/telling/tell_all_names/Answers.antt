@@ -1,5 +1,0 @@
-use Rattle.cli.proofs.Telling.{written}
-use Rattle.cli.proofs.explain.telling.tell_all_names.Goals as goal
-
-pub returns : goal.returns
-returns g c = written _ _ _ c.tell_names.result c.tell_names.ensures.told c.tell_names.ensures.beginning c.tell_names.ensures.failed

@@ -1,0 +1,209 @@
+//! The command `explore` on an algorithm's text.
+
+ghost use Rattle.std.specs.Prelude.{◌≡◌, false, IfErr, IfOk, OnOk, option_copied};
+ghost use Rattle.commands.specs.AlgorithmExplores.{AlgorithmExploreEnds, all_line_but, ExploresAlgorithm, SearchEnds, calls_had, calls_of as calls_asked, schedule_of as schedule_by};
+ghost use Rattle.commands.specs.AlgorithmFindings.{line_by, world_call};
+ghost use Rattle.commands.specs.Endings.{IsEnded, Prints};
+ghost use Rattle.schedule.specs.Schedules.{spelling};
+
+use crate::algorithm_starvation::tell_starving;
+use crate::explore_command::{put_call, tell_all, tell_within};
+use crate::progress::meter::Meter;
+use crate::progress::screen::Screen;
+use crate::progress::work::Work;
+use crate::schedules::algorithm::algorithm_read;
+use crate::schedules::ending::Ending;
+use crate::schedules::fault::CommandFault;
+use crate::schedules::findings::{tell_schedule, tell_text};
+use crate::schedules::line::left_out_line;
+use algorithm_explorer::{
+    AlgorithmBounds, AlgorithmExploreFault, AlgorithmMove, LeftOut, SearchOutcome,
+    shortest_algorithm_schedule,
+};
+use algorithms::{Algorithm, AlgorithmCall, Entries};
+use cli::arguments::args::{AlgorithmCalls, AlgorithmExploreArgs};
+use rmeworld::Call as WorldCall;
+use schedule::{Count, Line, Schedule, Sink};
+use std::alloc::{AllocError, Global};
+
+/// The calls that a text has.
+fn calls_had(entries: &Entries) -> AlgorithmCalls
+    ensures { result ≡ calls_had entries.now }
+{
+    AlgorithmCalls {
+        lock: true,
+        unlock: true,
+        recover: entries.recover.is_some(),
+        withdraw: entries.withdraw.is_some(),
+    }
+}
+
+/// The calls that the search starts, always in this order.
+pub(crate) fn calls_of(
+    alloc: Global,
+    algorithm: &Algorithm,
+    args: &AlgorithmExploreArgs,
+) -> Result<Vec<AlgorithmCall>, AllocError>
+    ensures { IfOk result (λ calls. calls.items ≡ calls_asked algorithm.now args.now) }
+{
+    let asked = match args.calls {
+        Some(asked) => asked,
+        None => calls_had(&algorithm.entries),
+    };
+    let mut calls = Vec::new(alloc);
+    put_call(&mut calls, asked.lock, AlgorithmCall::Lock)?;
+    put_call(&mut calls, asked.unlock, AlgorithmCall::Unlock)?;
+    put_call(&mut calls, asked.recover, AlgorithmCall::Recover)?;
+    put_call(&mut calls, asked.withdraw, AlgorithmCall::Withdraw)?;
+    Ok(calls)
+}
+
+/// A call as one of a schedule.
+fn world_call(call: AlgorithmCall) -> WorldCall
+    ensures { result ≡ world_call call }
+{
+    match call {
+        AlgorithmCall::Lock => WorldCall::Lock,
+        AlgorithmCall::Unlock => WorldCall::Unlock,
+        AlgorithmCall::Recover => WorldCall::Recover,
+        AlgorithmCall::Withdraw => WorldCall::Withdraw,
+    }
+}
+
+/// A move as a line of a schedule.
+fn line_of_move(made: &AlgorithmMove) -> Line
+    ensures { result ≡ line_by made.now }
+{
+    match *made {
+        AlgorithmMove::Start(p, call) => Line::Start(p, world_call(call)),
+        AlgorithmMove::Step(p) => Line::Step(p, Count::ONE),
+        AlgorithmMove::Crash(p) => Line::Crash(p),
+    }
+}
+
+/// The moves as a schedule.
+pub(crate) fn schedule_of(
+    alloc: Global,
+    args: &AlgorithmExploreArgs,
+    path: &[AlgorithmMove],
+) -> Result<Schedule, CommandFault>
+    ensures schedule { IfOk result (λ schedule. schedule ≡ schedule_by args.now path.now) }
+    ensures failed { IfErr result (λ fault. fault ≡ CommandFault.OutOfMemory) }
+{
+    let Ok(mut schedule) = Schedule::new(alloc, args.procs, args.limit, 1, 1) else {
+        return Err(CommandFault::OutOfMemory);
+    };
+    for made in path {
+        if schedule.push(line_of_move(made)).is_err() {
+            return Err(CommandFault::OutOfMemory);
+        }
+    }
+    Ok(schedule)
+}
+
+/// Writes the moves as a schedule.
+fn tell_path<W: Sink>(
+    alloc: Global,
+    args: &AlgorithmExploreArgs,
+    path: &[AlgorithmMove],
+    w: &mut W,
+) -> Result<Ending, CommandFault>
+    ensures prints { Prints 1 (spelling (schedule_by args.now path.now)) (W.tape w.old) (W.tape w.new) result }
+    ensures ended { IfOk result (IsEnded false (W.tape w.old).failures (W.tape w.new).failures) }
+{
+    let schedule = schedule_of(alloc, args, path)?;
+    tell_schedule(alloc, &schedule, w)
+}
+
+/// Writes that nothing was found in this many states, which are all, and which moves were left out, if any.
+fn tell_all_but<W: Sink>(
+    states: u64,
+    left_out: Option<LeftOut>,
+    w: &mut W,
+) -> Result<Ending, CommandFault>
+    ensures prints { Prints 0 (all_line_but states left_out) (W.tape w.old) (W.tape w.new) result }
+    ensures ended { IfOk result (IsEnded false (W.tape w.old).failures (W.tape w.new).failures) }
+{
+    let Some(left) = left_out else {
+        return tell_all(states, w);
+    };
+    let line = left_out_line(states, left);
+    tell_text(line.as_bytes(), 0, w)
+}
+
+/// Writes the schedule of fewest moves of the algorithm that goes wrong, or that there is none.
+fn tell_shortest<S: Screen, W: Sink>(
+    alloc: Global,
+    algorithm: Algorithm,
+    args: &AlgorithmExploreArgs,
+    screen: &mut S,
+    w: &mut W,
+) -> Result<Ending, CommandFault>
+    ensures ends { ExploresAlgorithm algorithm args.now (W.tape w.old) (W.tape w.new) result }
+    ensures ended { IfOk result (IsEnded false (W.tape w.old).failures (W.tape w.new).failures) }
+{
+    let bounds = AlgorithmBounds {
+        moves: args.moves,
+        states: args.states,
+    };
+    let calls = calls_of(alloc, &algorithm, args)?;
+    let mut meter = Meter::new(screen, Work::Search);
+    let found = shortest_algorithm_schedule(
+        alloc,
+        algorithm,
+        args.procs,
+        args.limit,
+        Some(args.crashes),
+        &calls,
+        &bounds,
+        &mut meter,
+    );
+    meter.end();
+    match found {
+        Ok(found) => match found.outcome {
+            SearchOutcome::Path(path) => tell_path(alloc, args, &path, w),
+            SearchOutcome::NoneWithin => tell_within(args.moves, w),
+            SearchOutcome::Nowhere(states) => tell_all_but(states, found.left_out, w),
+        },
+        Err(AlgorithmExploreFault::Refused(_)) => Err(CommandFault::BadSize),
+        Err(AlgorithmExploreFault::TooManyStates) => Err(CommandFault::TooManyStates),
+        Err(AlgorithmExploreFault::OutOfMemory) => Err(CommandFault::OutOfMemory),
+    }
+}
+
+/// Writes the schedule of fewest moves of the algorithm that goes wrong, or with `--starving` in which a process starves, or that
+/// there is none.
+fn search_algorithm<S: Screen, W: Sink>(
+    alloc: Global,
+    algorithm: Algorithm,
+    args: &AlgorithmExploreArgs,
+    screen: &mut S,
+    w: &mut W,
+) -> Result<Ending, CommandFault>
+    ensures ends { SearchEnds args.now.starving algorithm args.now (W.tape w.old) (W.tape w.new) result }
+    ensures ended { IfOk result (IsEnded false (W.tape w.old).failures (W.tape w.new).failures) }
+{
+    match args.starving {
+        Some(cycles) => tell_starving(alloc, algorithm, args, cycles, screen, w),
+        None => tell_shortest(alloc, algorithm, args, screen, w),
+    }
+}
+
+/// Runs `explore --algorithm`: reads the algorithm from its text, searches its schedules in this thread, and writes the schedule
+/// of fewest moves that goes wrong, or with `--starving` in which a process starves, or that there is none. Progress is shown on
+/// the screen. `Algorithm`: the text's fault. `BadSize`: the algorithm is not for this number of processes, or the limit is outside
+/// its range. `TooManyStates`: the search reached more states than it may keep.
+#[tactic(auto, using(crate::proofs::AlgorithmTexts::no_algorithm_alone))]
+pub fn algorithm_explore_command<S: Screen, W: Sink>(
+    alloc: Global,
+    args: &AlgorithmExploreArgs,
+    text: Option<&[u8]>,
+    screen: &mut S,
+    w: &mut W,
+) -> Result<Ending, CommandFault>
+    ensures ends { AlgorithmExploreEnds args.now (option_copied text.entry) (W.tape w.old) (W.tape w.new) result }
+    ensures ended { IfOk result (IsEnded false (W.tape w.old).failures (W.tape w.new).failures) }
+{
+    let algorithm = algorithm_read(alloc, text)?;
+    search_algorithm(alloc, algorithm, args, screen, w)
+}

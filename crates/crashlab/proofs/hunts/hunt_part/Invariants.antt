@@ -1,0 +1,5 @@
+use Rattle.crashlab.proofs.Drawn.{AreDrawn}
+use Rattle.crashlab.proofs.hunts.hunt_part.Given as goal
+
+abbrev pub invariant-loop : goal.invariant-loop
+invariant-loop l = AreDrawn l.fn.variant l.fn.seed l.fn.first l.fn.rounds l.fn.steps l.counter l.generator

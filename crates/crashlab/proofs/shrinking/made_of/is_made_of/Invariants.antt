@@ -1,7 +1,0 @@
-use Rattle.std.proofs.Common.{ℕ, ◌<◌}
-use Rattle.crashlab.specs.MadeOf.{IsSubsequence, moves_of}
-use Rattle.crashlab.proofs.shrinking.made_of.is_made_of.Given as goal
-
--- it holds of the processes so far
-abbrev pub invariant-loop-p : goal.invariant-loop-p
-invariant-loop-p l = (q : ℕ) → q < l.p → IsSubsequence (moves_of q l.now.lines) (moves_of q l.before.lines)

@@ -1,5 +1,0 @@
-use Rattle.crashlab.proofs.Shrunk.{like_copied}
-use Rattle.crashlab.proofs.shrinking.minimizing.shortened.Goals as goal
-
-pub returns-clause-like : goal.returns-clause-like
-returns-clause-like g c = like_copied (g.O.Oracle.is_wrong (g.O.Oracle.criterion_of c.args.oracle.now)) c.args.schedule.now c.copied.result c.requires c.copied.ensures

@@ -1,0 +1,10 @@
+use Rattle.diagram.proofs.Common.{err_from_is_err_and, end_in}
+use Rattle.diagram.proofs.Written.{fails_after}
+use Rattle.diagram.proofs.drawing_writer.write_end.Goals as goal
+
+pub returns-in_err-flush : goal.returns-in_err-flush
+returns-in_err-flush g c =
+    let p = err_from_is_err_and c.from_residual-in_err-flush.result c.from_residual-in_err-flush.ensures.1 in
+    rw (p.1, p.2)
+    (fails_after (g.W.Sink.tape c.args.w.now) (g.W.Sink.tape c.write_last.new.w) (g.W.Sink.tape c.flush.new.self)
+    (end_in c.args.diagram_layout.now.style c.args.diagram_layout.now c.args.end.now) c.in_ok-write_last.ensures c.in_err-flush.ensures.taken c.in_err-flush.ensures.failed)

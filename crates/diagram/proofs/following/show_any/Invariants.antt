@@ -1,6 +1,0 @@
-use Rattle.std.proofs.Common.{◌≡◌, drop}
-use Rattle.diagram.proofs.Common.{events_in}
-use Rattle.diagram.proofs.following.show_any.Given as goal
-
-abbrev pub invariant-loop-row : goal.invariant-loop-row
-invariant-loop-row l = events_in (drop l.row-index l.rows) ≡ events_in l.rows

@@ -1,8 +1,0 @@
-use Rattle.std.proofs.Common.{◌≡◌, drop}
-use Rattle.diagram.proofs.Common.{WritesFront, followed, events_in}
-use Rattle.diagram.proofs.following.write_rows.Given as goal
-
-abbrev pub invariant-loop-row : goal.invariant-loop-row
-invariant-loop-row g l =
-    WritesFront (g.W.Sink.tape l.fn.w).taken (g.W.Sink.tape l.w).taken (followed l.layout l.fn.lifeline_state.phases (events_in l.rows)) (followed l.layout l.lifeline_state.phases (events_in (drop l.row-index l.rows)))
-    × ((g.W.Sink.tape l.w).failures ≡ (g.W.Sink.tape l.fn.w).failures)

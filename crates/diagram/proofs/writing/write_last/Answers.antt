@@ -1,9 +1,0 @@
-use Rattle.diagram.proofs.Common.{err_from_is_err_and}
-use Rattle.diagram.proofs.NotEmpty.{end_some}
-use Rattle.diagram.proofs.Written.{wants_memory}
-use Rattle.diagram.proofs.writing.write_last.Goals as goal
-
-pub returns-in_err-put_end : goal.returns-in_err-put_end
-returns-in_err-put_end g c =
-    let p = err_from_is_err_and c.from_residual.result c.from_residual.ensures.1 in
-    rw (p.1, p.2) (wants_memory (g.W.Sink.tape c.args.w.now) _ (end_some _ _ _))

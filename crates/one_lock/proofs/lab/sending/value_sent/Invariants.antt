@@ -1,6 +1,0 @@
-use Rattle.std.proofs.Common.{◌≡◌, length, take}
-use Rattle.one_lock.specs.Lab.{words_sent}
-use Rattle.one_lock.proofs.lab.sending.value_sent.Given as goal
-
-abbrev pub invariant-loop-j : goal.invariant-loop-j
-invariant-loop-j l = (length l.words ≡ 8) × (take l.j l.words ≡ words_sent l.fn.p l.fn.seq l.j)

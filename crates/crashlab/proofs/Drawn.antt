@@ -71,18 +71,27 @@ no_jump g = refl
 
 -- ---- a round so far: the moves of its first k words, with the world, the judge, the observer and the generator after them
 
-pub record IsDrawn (variant : Variant) (steps : ℕ) (start : Lcg) (k : ℕ) (moves : List DrawnMove) (world : VariantState) (judge : Kept) (observations : List Observation) (g : Lcg) : Type 0 where
-  pub played : IsPlayed variant (drawn_moves_of moves) world judge
-  pub observes : Observes (seen_after variant moves) observations
-  pub rest : found_after variant [] (first_words pcg32 steps start) ≡ found_after variant moves (first_words pcg32 (steps - k) g)
-  pub on : g ≡ advance 64 multiplier_64 k start
+-- a round on a variant: the number of its words, and the generator at its start
+pub record DrawnRound : Type 0 where
+  pub variant : Variant
+  pub steps : ℕ
+  pub start : Lcg
+
+abbrev pub drawn_round : Variant → ℕ → Lcg → DrawnRound
+drawn_round variant steps start = record { variant = variant; steps = steps; start = start }
+
+pub record IsDrawn (round : DrawnRound) (k : ℕ) (moves : List DrawnMove) (world : VariantState) (judge : Kept) (observations : List Observation) (g : Lcg) : Type 0 where
+  pub played : IsPlayed round.variant (drawn_moves_of moves) world judge
+  pub observes : Observes (seen_after round.variant moves) observations
+  pub rest : found_after round.variant [] (first_words pcg32 round.steps round.start) ≡ found_after round.variant moves (first_words pcg32 (round.steps - k) g)
+  pub on : g ≡ advance 64 multiplier_64 k round.start
 
 pub drawn_first : (variant : Variant) (steps : ℕ) (start : Lcg) (world : VariantState) (judge : Kept) (observations : List Observation) → IsPlayed variant (drawn_moves_of []) world judge → Observes (λ p. []) observations
-    → IsDrawn variant steps start 0 [] world judge observations start
+    → IsDrawn (drawn_round variant steps start) 0 [] world judge observations start
 drawn_first variant steps start world judge observations played observes =
     record { played = played; observes = observes; rest = ap (λ n. found_after variant [] (first_words pcg32 n start)) (let e : steps ≡ steps - 0 = omega arith in e); on = no_jump start }
 
-module _ {variant : Variant} {steps : ℕ} {start : Lcg} {k : ℕ} {moves : List DrawnMove} {world : VariantState} {judge : Kept} {observations : List Observation} {g g' : Lcg} {word : ℕ} {made : DrawnMove} (so_far : IsDrawn variant steps start k moves world judge observations g) (more : k < steps) (next : (word, g') ≡ pcg32 g) (draws : (seen : ℕ → List Sight) → Observes seen observations → made ≡ move_of_word seen word) where
+module _ {variant : Variant} {steps : ℕ} {start : Lcg} {k : ℕ} {moves : List DrawnMove} {world : VariantState} {judge : Kept} {observations : List Observation} {g g' : Lcg} {word : ℕ} {made : DrawnMove} (so_far : IsDrawn (drawn_round variant steps start) k moves world judge observations g) (more : k < steps) (next : (word, g') ≡ pcg32 g) (draws : (seen : ℕ → List Sight) → Observes seen observations → made ≡ move_of_word seen word) where
   is : made ≡ move_of_word (seen_after variant moves) (pcg32 g).0
   is = draws (seen_after variant moves) so_far.observes ∙ ap (λ (p : ℕ × Lcg). move_of_word (seen_after variant moves) p.0) next
 
@@ -108,7 +117,7 @@ module _ {variant : Variant} {steps : ℕ} {start : Lcg} {k : ℕ} {moves : List
 
   -- the world refuses the move
   pub drawn_refused : {world' : VariantState} {judge' : Kept} {observations' : List Observation} → IsSome (refusal_of world made)
-      → (world' ≡ world) × (judge' ≡ judge) × (observations' ≡ observations) → IsDrawn variant steps start (k + 1) moves world' judge' observations' g'
+      → (world' ≡ world) × (judge' ≡ judge) × (observations' ≡ observations) → IsDrawn (drawn_round variant steps start) (k + 1) moves world' judge' observations' g'
   drawn_refused {world' = world'} {judge' = judge'} {observations' = observations'} refused same =
       record {
         played = subst (λ w. IsPlayed variant (drawn_moves_of moves) w judge') (sym same.0) (subst (λ j. IsPlayed variant (drawn_moves_of moves) world j) (sym same.1) so_far.played);
@@ -121,12 +130,12 @@ module _ {variant : Variant} {steps : ℕ} {start : Lcg} {k : ℕ} {moves : List
   -- the judge allows its deed
   pub drawn_on : {moves' : List DrawnMove} {world' : VariantState} {judge' : Kept} {observations' : List Observation} → refusal_of world made ≡ None → moves' ≡ moves ++ made ∷ []
       → EndsMove variant (with_line (drawn_moves_of moves) (line_by made)) world' judge' On → ((seen : ℕ → List Sight) → Observes seen observations → Observes (seen_after_move world made seen) observations')
-      → IsDrawn variant steps start (k + 1) moves' world' judge' observations' g'
+      → IsDrawn (drawn_round variant steps start) (k + 1) moves' world' judge' observations' g'
   drawn_on {moves' = moves'} {world' = world'} {judge' = judge'} {observations' = observations'} accepted added ends observes =
       let played : IsPlayed variant (drawn_moves_of (moves ++ made ∷ [])) world' judge' = subst (λ s. IsPlayed variant s world' judge') (sym (drawn_more moves made)) ends in
       let seen : seen_after_move world made (seen_after variant moves) ≡ seen_after variant (moves ++ made ∷ []) =
       ap (λ w. seen_after_move w made (seen_after variant moves)) so_far.played.reached ∙ sym (seen_more (first_world variant) (λ p. []) moves made) in
-      subst (λ ms. IsDrawn variant steps start (k + 1) ms world' judge' observations' g') (sym added) (record {
+      subst (λ ms. IsDrawn (drawn_round variant steps start) (k + 1) ms world' judge' observations' g') (sym added) (record {
         played = played;
         observes = subst (λ s. Observes s observations') seen (observes (seen_after variant moves) so_far.observes);
         rest = goes (moves ++ made ∷ []) (with_made accepted) (not_refused variant (moves ++ made ∷ []) judge' played.stands)
@@ -147,7 +156,7 @@ module _ {variant : Variant} {steps : ℕ} {start : Lcg} {k : ℕ} {moves : List
 
 -- all words are drawn
 pub drawn_all : {variant : Variant} {steps : ℕ} {start : Lcg} {k : ℕ} {moves : List DrawnMove} {world : VariantState} {judge : Kept} {observations : List Observation} {g : Lcg}
-    → IsDrawn variant steps start k moves world judge observations g → k ≡ steps
+    → IsDrawn (drawn_round variant steps start) k moves world judge observations g → k ≡ steps
     → (found_after variant [] (first_words pcg32 steps start) ≡ None) × (g ≡ advance 64 multiplier_64 steps start)
 drawn_all {variant = variant} {steps = steps} {start = start} {k = k} {moves = moves} {g = g} so_far all = (
   so_far.rest ∙ ap (λ n. found_after variant moves (first_words pcg32 n g)) (let e : steps - k ≡ 0 = omega (arith, all) in e) ∙ no_word variant moves g,

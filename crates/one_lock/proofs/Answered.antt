@@ -1,6 +1,6 @@
 -- The answer of a call, from the steps of its process.
 use Rattle.std.proofs.Common.{◌≡◌, ℕ, zero, suc, ◌+◌, ◌≤◌, ◌⊎◌, Bool, true, false, if◌then◌else◌, Option, Some, None, IsNone, IsSome, IfSome, List, [], ◌∷◌, ◌++◌, Result, Ok, Err, IfErr, refl, sym, ap, ◌∙◌, subst, inl, inr, arith, append_assoc}
-use Rattle.one_lock.proofs.Common.{Setup, IsReportedStep, Mirrors, TrailGrows, HasTakenSteps, Suffice, turns_after_one, IsAnsweredCall, ReturnsAnswer, IsReply, Trail, Seat, AreSizes}
+use Rattle.one_lock.proofs.Common.{Setup, IsReportedStep, Mirrors, TrailGrows, HasTakenSteps, Suffice, turns_after_one, IsAnsweredCall, AskedCall, asked_call, opening_of, ReturnsAnswer, IsReply, Trail, Seat, AreSizes}
 use Rattle.one_lock.proofs.Common.{crashed_if, opened_machine, moved_machine, answer_with, is_blocked_with, first_of, later_opening, opening_after, machine_after, blocked_along, events_along}
 use Rattle.one_lock.proofs.Common.{EndsAtLock, reply_by, entry_by}
 use Rattle.one_lock.proofs.UnderWay.{IsUnderWay, Leaves, is_begun, steps_on}
@@ -66,14 +66,14 @@ Runs standing call o s = ((o ≡ first_of standing call) × IsSize s.layout) ⊎
 
 -- The opening of a call's next step, after steps that gave no answer. They went from one trail to another, and these turns
 -- are left.
-pub record HasGone (named : Option Setup) (p : ℕ) (standing : MemberState) (call : Call) (turns left : Option ℕ) (from to : Trail) (o : Opening) : Type 0 where
+pub record HasGone (asked : AskedCall) (left : Option ℕ) (from to : Trail) (o : Opening) : Type 0 where
   pub before : List ℕ
-  pub taken : HasTakenSteps named p (first_of standing call) from.machine before
-  pub opens : o ≡ opening_after (first_of standing call) before
-  pub machine : to.machine ≡ machine_after (first_of standing call) from.machine before
+  pub taken : HasTakenSteps asked.named asked.process (opening_of asked) from.machine before
+  pub opens : o ≡ opening_after (opening_of asked) before
+  pub machine : to.machine ≡ machine_after (opening_of asked) from.machine before
   pub values : to.values ≡ from.values ++ before
-  pub turns_left : AreLeft turns (blocked_along (first_of standing call) from.machine before) left
-  pub runs : Runs standing call o to.machine
+  pub turns_left : AreLeft asked.turns (blocked_along (opening_of asked) from.machine before) left
+  pub runs : Runs asked.standing asked.call o to.machine
 
 left_first : (turns : Option ℕ) → AreLeft turns 0 turns
 left_first None = refl
@@ -83,7 +83,7 @@ append_none : (xs : List ℕ) → xs ++ [] ≡ xs
 append_none [] = refl
 append_none (x ∷ xs) = ap (λ (ys : List ℕ). x ∷ ys) (append_none xs)
 
-pub begins : (named : Option Setup) (p : ℕ) (s : MemberState) (call : Call) (turns : Option ℕ) (from : Trail) (o : Opening) → IsSize from.machine.layout → o ≡ first_of s call → HasGone named p s call turns turns from from o
+pub begins : (named : Option Setup) (p : ℕ) (s : MemberState) (call : Call) (turns : Option ℕ) (from : Trail) (o : Opening) → IsSize from.machine.layout → o ≡ first_of s call → HasGone (asked_call named p s call turns) turns from from o
 begins named p s call turns from o size is =
     record {
       before = [];
@@ -116,7 +116,7 @@ leaves standing call named p o s v (inr (later, under)) g =
     let here = steps_on s call g.turn.happened under m.event in
     subst (λ (w : ℕ). Leaves call (answer_with o s w) (moved_machine o s w)) g.value (subst (λ (x : Opening). Leaves call (answer_with x s g.turn.happened.value) (moved_machine x s g.turn.happened.value)) (sym later) here)
 
-module _ (named : Option Setup) (p : ℕ) (s : MemberState) (call : Call) (turns left : Option ℕ) (from mid to : Trail) (o : Opening) (outcome : Outcome) (way : HasGone named p s call turns left from mid o) (g : TrailGrows named p o mid outcome to) where
+module _ (named : Option Setup) (p : ℕ) (s : MemberState) (call : Call) (turns left : Option ℕ) (from mid to : Trail) (o : Opening) (outcome : Outcome) (way : HasGone (asked_call named p s call turns) left from mid o) (g : TrailGrows named p o mid outcome to) where
   abbrev first : Opening
   first = first_of s call
 
@@ -146,7 +146,7 @@ module _ (named : Option Setup) (p : ℕ) (s : MemberState) (call : Call) (turns
   left_then = subst (λ (y : Option Answer × MachineState). Leaves call y.0 y.1) (λ i. (sym g.3 i, sym (ap (λ (t : Trail). t.machine) g.1) i)) (leaves s call named p o mid.machine last way.runs g.2)
 
   answered : from.machine.index ≡ p → 1 ≤ from.machine.limit → AreSizes named from.machine.layout from.machine.limit
-      → (IsNone outcome.answer → (outcome.progress.blocked ≡ true) × (turns ≡ Some (blocked_along first from.machine way.before))) → IsAnsweredCall named p s call turns from to outcome.answer
+      → (IsNone outcome.answer → (outcome.progress.blocked ≡ true) × (turns ≡ Some (blocked_along first from.machine way.before))) → IsAnsweredCall (asked_call named p s call turns) from to outcome.answer
   answered index number sizes gives_up =
       record {
         index = index;
@@ -169,7 +169,7 @@ module _ (named : Option Setup) (p : ℕ) (s : MemberState) (call : Call) (turns
       table None is = tt
       table (Some a) is = has_events from.machine.layout from.machine.limit p named p s call from.machine way.before last a number (refl, refl, index) way.taken gives is
 
-  pub answered_by : from.machine.index ≡ p → 1 ≤ from.machine.limit → AreSizes named from.machine.layout from.machine.limit → IsSome outcome.answer → IsAnsweredCall named p s call turns from to outcome.answer
+  pub answered_by : from.machine.index ≡ p → 1 ≤ from.machine.limit → AreSizes named from.machine.layout from.machine.limit → IsSome outcome.answer → IsAnsweredCall (asked_call named p s call turns) from to outcome.answer
   answered_by index number sizes some = answered index number sizes (λ none. absurd (no outcome.answer some none))
     where
       no : (a : Option Answer) → IsSome a → IsNone a → ⊥
@@ -177,9 +177,9 @@ module _ (named : Option Setup) (p : ℕ) (s : MemberState) (call : Call) (turns
       no (Some a) some none = true≢false none
 
   -- blocked once more, with no turn left
-  pub given_up : from.machine.index ≡ p → 1 ≤ from.machine.limit → AreSizes named from.machine.layout from.machine.limit → outcome.answer ≡ None → outcome.progress.blocked ≡ true → left ≡ Some 0 → IsAnsweredCall named p s call turns from to None
+  pub given_up : from.machine.index ≡ p → 1 ≤ from.machine.limit → AreSizes named from.machine.layout from.machine.limit → outcome.answer ≡ None → outcome.progress.blocked ≡ true → left ≡ Some 0 → IsAnsweredCall (asked_call named p s call turns) from to None
   given_up index number sizes silent stands none =
-      subst (IsAnsweredCall named p s call turns from to) silent (answered index number sizes (λ n. (stands, none_left turns left (blocked_along first from.machine way.before) way.turns_left none)))
+      subst (IsAnsweredCall (asked_call named p s call turns) from to) silent (answered index number sizes (λ n. (stands, none_left turns left (blocked_along first from.machine way.before) way.turns_left none)))
     where
       no_some : (m : ℕ) → None ≡ Some m → ⊥
       no_some m e = cc
@@ -194,7 +194,7 @@ module _ (named : Option Setup) (p : ℕ) (s : MemberState) (call : Call) (turns
           let k_is : turns ≡ k = omega (arith, sum, zero) in
           ap Some k_is
 
-  goes : (new : Opening) (less : Option ℕ) → outcome.answer ≡ None → new ≡ later_opening → AreLeft turns (blocked_along first from.machine (way.before ++ last ∷ [])) less → HasGone named p s call turns less from to new
+  goes : (new : Opening) (less : Option ℕ) → outcome.answer ≡ None → new ≡ later_opening → AreLeft turns (blocked_along first from.machine (way.before ++ last ∷ [])) less → HasGone (asked_call named p s call turns) less from to new
   goes new less silent is are =
       record {
         before = way.before ++ last ∷ [];
@@ -210,14 +210,14 @@ module _ (named : Option Setup) (p : ℕ) (s : MemberState) (call : Call) (turns
   count b is = blocked_more first from.machine way.before last ∙ ap (λ (x : Bool). blocked_along first from.machine way.before + (if x then 1 else 0)) (blocked ∙ is)
 
   -- a step that was not blocked
-  pub goes_free : (new : Opening) → outcome.answer ≡ None → outcome.progress.blocked ≡ false → new ≡ later_opening → HasGone named p s call turns left from to new
+  pub goes_free : (new : Opening) → outcome.answer ≡ None → outcome.progress.blocked ≡ false → new ≡ later_opening → HasGone (asked_call named p s call turns) left from to new
   goes_free new silent free is =
       let none = count false free in
       let same : blocked_along first from.machine way.before ≡ blocked_along first from.machine (way.before ++ last ∷ []) = omega (arith, none) in
       goes new left silent is (subst (λ (k : ℕ). AreLeft turns k left) same way.turns_left)
 
   -- a step that was blocked, with a turn left for it
-  pub goes_blocked : (new : Opening) (less : Option ℕ) → outcome.answer ≡ None → outcome.progress.blocked ≡ true → new ≡ later_opening → (left ≡ Some 0 → ⊥) → less ≡ turns_after_one left → HasGone named p s call turns less from to new
+  pub goes_blocked : (new : Opening) (less : Option ℕ) → outcome.answer ≡ None → outcome.progress.blocked ≡ true → new ≡ later_opening → (left ≡ Some 0 → ⊥) → less ≡ turns_after_one left → HasGone (asked_call named p s call turns) less from to new
   goes_blocked new less silent stands is some fewer =
       let one = count true stands in
       let same : suc (blocked_along first from.machine way.before) ≡ blocked_along first from.machine (way.before ++ last ∷ []) = omega (arith, one) in
@@ -238,14 +238,14 @@ cut_off named by m call turns new e (inl crash) = record { fact = inl (ap Err cr
 cut_off named by m call turns new e (inr memory) = record { fact = inr (inl (ap Err memory)) }
 
 -- a call that is answered, but for its last asking
-pub as_reported : {T : Type 0} (named : Option Setup) (by : Option Answer → Result T LockFault) (m mid new : Seat) (kept lost : MemberState) (call : Call) (turns : Option ℕ) (a : Option Answer) (answer result : Result T LockFault) → IsAnsweredCall named m.process m.standing call turns m.trail mid.trail a → answer ≡ by a
+pub as_reported : {T : Type 0} (named : Option Setup) (by : Option Answer → Result T LockFault) (m mid new : Seat) (kept lost : MemberState) (call : Call) (turns : Option ℕ) (a : Option Answer) (answer result : Result T LockFault) → IsAnsweredCall (asked_call named m.process m.standing call turns) m.trail mid.trail a → answer ≡ by a
     → (((result ≡ answer) × (new ≡ record mid { standing = kept })) ⊎ ((result ≡ Err Crashed) × (new ≡ record mid { standing = lost }))) → ReturnsAnswer named by m call turns new result
 as_reported named by m mid new kept fell call turns a answer result fits fact (inl (same, k)) =
-    record { fact = inr (inr (a, (subst (λ (n : Trail). IsAnsweredCall named m.process m.standing call turns m.trail n a) (ap (λ (x : Seat). x.trail) (sym k)) fits, same ∙ fact))) }
+    record { fact = inr (inr (a, (subst (λ (n : Trail). IsAnsweredCall (asked_call named m.process m.standing call turns) m.trail n a) (ap (λ (x : Seat). x.trail) (sym k)) fits, same ∙ fact))) }
 as_reported named by m mid new kept fell call turns a answer result fits fact (inr (crash, k)) = record { fact = inl crash }
 
 -- the answer of a task
-pub replied_by : (named : Option Setup) (p : ℕ) (call : Call) (from to : Trail) (a : Option Answer) (reply : Reply) → IsSome a → IsAnsweredCall named p Mended call None from to a → reply ≡ reply_by a → IsReply named p call reply
+pub replied_by : (named : Option Setup) (p : ℕ) (call : Call) (from to : Trail) (a : Option Answer) (reply : Reply) → IsSome a → IsAnsweredCall (asked_call named p Mended call None) from to a → reply ≡ reply_by a → IsReply named p call reply
 replied_by named p call from to None reply some fits fact = absurd (true≢false (sym some))
 replied_by named p call from to (Some a) reply some fits fact = record { answer = a; from = from; to = to; answered = fits; is = fact }
 
@@ -254,7 +254,7 @@ pub cut_at_lock : (named : Option Setup) (m : Seat) (turns : Option ℕ) (to : T
 cut_at_lock named m turns to e (inl crash) = subst (EndsAtLock named m turns to) (sym crash) tt
 cut_at_lock named m turns to e (inr memory) = subst (EndsAtLock named m turns to) (sym memory) tt
 
-ends_at_lock : (named : Option Setup) (m : Seat) (turns : Option ℕ) (to : Trail) (a : Option Answer) → IsAnsweredCall named m.process m.standing Lock turns m.trail to a → IfErr (entry_by a) (EndsAtLock named m turns to)
+ends_at_lock : (named : Option Setup) (m : Seat) (turns : Option ℕ) (to : Trail) (a : Option Answer) → IsAnsweredCall (asked_call named m.process m.standing Lock turns) m.trail to a → IfErr (entry_by a) (EndsAtLock named m turns to)
 ends_at_lock named m turns to None is = is
 ends_at_lock named m turns to (Some Clean) is = tt
 ends_at_lock named m turns to (Some OwnerDied) is = tt
@@ -266,7 +266,7 @@ ends_at_lock named m turns to (Some (Mail reply)) is = tt
 ends_at_lock named m turns to (Some Withdrawn) is = tt
 
 -- a whole call whose lock was answered with a fault, but for its last asking
-pub locked_out : (named : Option Setup) (m mid new : Seat) (kept lost : MemberState) (turns : Option ℕ) (a : Option Answer) (e : LockFault) (entry : Result Entry LockFault) (result : Result Reply LockFault) → IsAnsweredCall named m.process m.standing Lock turns m.trail mid.trail a → entry ≡ entry_by a → entry ≡ Err e
+pub locked_out : (named : Option Setup) (m mid new : Seat) (kept lost : MemberState) (turns : Option ℕ) (a : Option Answer) (e : LockFault) (entry : Result Entry LockFault) (result : Result Reply LockFault) → IsAnsweredCall (asked_call named m.process m.standing Lock turns) m.trail mid.trail a → entry ≡ entry_by a → entry ≡ Err e
     → (((result ≡ Err e) × (new ≡ record mid { standing = kept })) ⊎ ((result ≡ Err Crashed) × (new ≡ record mid { standing = lost }))) → IfErr result (EndsAtLock named m turns new.trail)
 locked_out named m mid new kept fell turns a e entry result fits fact fault (inl (same, k)) =
     subst (λ (r : Result Reply LockFault). IfErr r (EndsAtLock named m turns new.trail)) (sym same) (subst (λ (n : Trail). EndsAtLock named m turns n e) (ap (λ (x : Seat). x.trail) (sym k)) (subst (λ (r : Result Entry LockFault). IfErr r (EndsAtLock named m turns mid.trail)) (sym fact ∙ fault) (ends_at_lock named m turns mid.trail a fits)))

@@ -11,7 +11,7 @@ use Rattle.redomail.specs.declared.reply.Reply.{Reply as ReplyOf}
 use Rattle.rmeworld.specs.declared.answer.Answer.TheVariants.{NumbersSpent as SpentAnswer}
 use Rattle.rmeworld.specs.declared.call.Call.TheVariants.{Lock, Append}
 use Rattle.table_runs.specs.declared.lock_fault.LockFault.{LockFault}
-use Rattle.one_lock.specs.Answers.{IsAnsweredCall, IsReply, EndsAtLock, entry_by}
+use Rattle.one_lock.specs.Answers.{IsAnsweredCall, asked_call, IsReply, EndsAtLock, entry_by}
 use Rattle.one_lock.specs.Whole.{Mends, TaskReplies, FollowsLock, Whole}
 use Rattle.one_lock.specs.Member.{Trail, stands_entered}
 use Rattle.one_lock.specs.LabEndings.{WasRuined}
@@ -111,7 +111,7 @@ reported_inside named p task kind from at replied (Err fault) mends (same, e) =
     reported_mending named p kind from at (Err fault) mends (ap Err f)
 
 -- a lock that found it, or what came after the lock
-reports_after : (named : Option Setup) (p : ℕ) (s : MemberState) (from at to : Trail) (task : Call) (a : Option Answer) (entry : Result Entry LockFault) → IsAnsweredCall named p s Lock None from at a → entry ≡ entry_by a → FollowsLock named p task entry at to (Err NotRecoverable) → WasRuined named p
+reports_after : (named : Option Setup) (p : ℕ) (s : MemberState) (from at to : Trail) (task : Call) (a : Option Answer) (entry : Result Entry LockFault) → IsAnsweredCall (asked_call named p s Lock None) from at a → entry ≡ entry_by a → FollowsLock named p task entry at to (Err NotRecoverable) → WasRuined named p
 reports_after named p s from at to task a (Ok kind) is fact works = reported_inside named p task kind at works.mended_at works.replied_at works.mended works.mends works.replies
 reports_after named p s from at to task a (Err fault) is fact (same, e) =
     let f : fault ≡ NotRecoverable = same_fault NotRecoverable fault e in
@@ -131,7 +131,7 @@ was_ruined named m new task (inr (inr whole)) = reports_after named m.process m.
 -- how a call may end a worker that a crash does not end
 pub ended_by : (named : Option Setup) (m new : Seat) (to : Trail) (task : Call) (e : LockFault) → KeepsProcess m new → of_wait e ≡ true → (e ≡ Crashed → ⊥) → EndsAtLock named m None to e → Whole named m task None new (Err e) → (s : Spec) → MayEnd named s new.process (Fault e)
 ended_by named m new to task NumbersSpent goes wait crash spent whole s =
-    inl (refl, record { standing = m.standing; from = m.trail; to = to; answered = subst (λ (p : ℕ). IsAnsweredCall named p m.standing Lock None m.trail to (Some SpentAnswer)) (sym goes.0) spent })
+    inl (refl, record { standing = m.standing; from = m.trail; to = to; answered = subst (λ (p : ℕ). IsAnsweredCall (asked_call named p m.standing Lock None) m.trail to (Some SpentAnswer)) (sym goes.0) spent })
 ended_by named m new to task NotRecoverable goes wait crash fact whole s = inr (inl (refl, subst (WasRuined named) (sym goes.0) (was_ruined named m new task whole)))
 ended_by named m new to task OutOfMemory goes wait crash fact whole s = inr (inr refl)
 ended_by named m new to task Crashed goes wait crash fact whole s = absurd (crash refl)

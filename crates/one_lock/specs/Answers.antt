@@ -119,28 +119,44 @@ turns_after_one None = None
 turns_after_one (Some zero) = Some zero
 turns_after_one (Some (suc turns)) = Some turns
 
--- A call of p took its trail from one to another. Its last step gave this answer, which fits the call and has the events that
--- the table of replies asks for. The steps before it gave none, and no more of them were blocked than the call had turns. Without an answer exactly as many were blocked, and
--- the last step too.
-pub record IsAnsweredCall (named : Option Setup) (p : ℕ) (standing : MemberState) (call : Call) (turns : Option ℕ) (from to : Trail) (answer : Option Answer) : Type 0 where
-  pub index : from.machine.index ≡ p
-  pub sizes : AreSizes named from.machine.layout from.machine.limit
+-- a call that a member is asked for: the sizes, if they are named, the process, where it stands, the call, and how often it may be blocked
+pub record AskedCall : Type 0 where
+  pub named : Option Setup
+  pub process : ℕ
+  pub standing : MemberState
+  pub call : Call
+  pub turns : Option ℕ
+
+abbrev pub asked_call : Option Setup → ℕ → MemberState → Call → Option ℕ → AskedCall
+asked_call named process standing call turns = record { named = named; process = process; standing = standing; call = call; turns = turns }
+
+-- its opening
+abbrev pub opening_of : AskedCall → Opening
+opening_of asked = first_of asked.standing asked.call
+
+-- The call took its trail from one to another. Its last step gave this answer, which fits the call and has the events that the
+-- table of replies asks for. The steps before it gave none, and no more of them were blocked than the call had turns. Without an
+-- answer exactly as many were blocked, and the last step too.
+pub record IsAnsweredCall (asked : AskedCall) (from to : Trail) (answer : Option Answer) : Type 0 where
+  pub index : from.machine.index ≡ asked.process
+  pub sizes : AreSizes asked.named from.machine.layout from.machine.limit
   pub before : List ℕ
   pub last : ℕ
-  pub taken : HasTakenSteps named p (first_of standing call) from.machine before
-  pub given : IsReportedStep named p (opening_after (first_of standing call) before) (machine_after (first_of standing call) from.machine before) last
-  pub answered : answer_with (opening_after (first_of standing call) before) (machine_after (first_of standing call) from.machine before) last ≡ answer
-  pub fits : IfSome answer (IsAnswerOf call)
-  pub events : IfSome answer (λ a. HasEvents from.machine.layout from.machine.limit p (crashed_if (is_lost standing) from.machine).mended call a (events_along (first_of standing call) from.machine (before ++ last ∷ [])))
+  pub taken : HasTakenSteps asked.named asked.process (opening_of asked) from.machine before
+  pub given : IsReportedStep asked.named asked.process (opening_after (opening_of asked) before) (machine_after (opening_of asked) from.machine before) last
+  pub answered : answer_with (opening_after (opening_of asked) before) (machine_after (opening_of asked) from.machine before) last ≡ answer
+  pub fits : IfSome answer (IsAnswerOf asked.call)
+  pub events : IfSome answer (λ a. HasEvents from.machine.layout from.machine.limit asked.process (crashed_if (is_lost asked.standing) from.machine).mended asked.call a (events_along (opening_of asked) from.machine (before ++ last ∷ [])))
   pub values : to.values ≡ from.values ++ (before ++ last ∷ [])
-  pub machine : to.machine ≡ machine_after (first_of standing call) from.machine (before ++ last ∷ [])
-  pub few : Suffice turns (blocked_along (first_of standing call) from.machine before)
+  pub machine : to.machine ≡ machine_after (opening_of asked) from.machine (before ++ last ∷ [])
+  pub few : Suffice asked.turns (blocked_along (opening_of asked) from.machine before)
   pub gives_up : IsNone answer
-      → (is_blocked_with (opening_after (first_of standing call) before) (machine_after (first_of standing call) from.machine before) last ≡ true) × (turns ≡ Some (blocked_along (first_of standing call) from.machine before))
+      → (is_blocked_with (opening_after (opening_of asked) before) (machine_after (opening_of asked) from.machine before) last ≡ true)
+      × (asked.turns ≡ Some (blocked_along (opening_of asked) from.machine before))
 
 -- The result of a member's call is the one of its process's answer, or the call was cut off.
 pub record ReturnsAnswer {T : Type 0} (named : Option Setup) (by : Option Answer → Result T LockFault) (old : Seat) (call : Call) (turns : Option ℕ) (new : Seat) (result : Result T LockFault) : Type 0 where
-  pub fact : (result ≡ Err Crashed) ⊎ ((result ≡ Err OutOfMemory) ⊎ ((answer : Option Answer) × (IsAnsweredCall named old.process old.standing call turns old.trail new.trail answer × (result ≡ by answer))))
+  pub fact : (result ≡ Err Crashed) ⊎ ((result ≡ Err OutOfMemory) ⊎ ((answer : Option Answer) × (IsAnsweredCall (asked_call named old.process old.standing call turns) old.trail new.trail answer × (result ≡ by answer))))
 
 -- the results of a lock (without an answer it has used up its turns), a recovery, a mending, a reading of the board, a call
 -- without a result, and a task, by the answer of the process
@@ -176,11 +192,11 @@ pub record IsReply (named : Option Setup) (p : ℕ) (call : Call) (reply : Reply
   pub answer : Answer
   pub from : Trail
   pub to : Trail
-  pub answered : IsAnsweredCall named p Mended call None from to (Some answer)
+  pub answered : IsAnsweredCall (asked_call named p Mended call None) from to (Some answer)
   pub is : reply ≡ reply_by (Some answer)
 
 -- A whole mailbox call that ends with what its lock was answered, after the lock's steps alone.
 abbrev pub EndsAtLock : Option Setup → Seat → Option ℕ → Trail → LockFault → Type 0
-EndsAtLock named old turns to NotYet = IsAnsweredCall named old.process old.standing Lock turns old.trail to None
-EndsAtLock named old turns to SpentFault = IsAnsweredCall named old.process old.standing Lock turns old.trail to (Some NumbersSpent)
+EndsAtLock named old turns to NotYet = IsAnsweredCall (asked_call named old.process old.standing Lock turns) old.trail to None
+EndsAtLock named old turns to SpentFault = IsAnsweredCall (asked_call named old.process old.standing Lock turns) old.trail to (Some NumbersSpent)
 EndsAtLock named old turns to _ = Unit {0}

@@ -14,7 +14,7 @@ use Rattle.table_runs.specs.declared.setup.Setup.{Setup}
 use Rattle.table_runs.specs.declared.lab.spec.Spec.{Spec}
 use Rattle.one_lock.specs.declared.member_state.MemberState.{MemberState}
 use Rattle.one_lock.specs.declared.member_state.MemberState.TheVariants.{Unmended}
-use Rattle.one_lock.specs.Answers.{IsAnsweredCall, IsReply, entry_by, mended_by}
+use Rattle.one_lock.specs.Answers.{IsAnsweredCall, asked_call, IsReply, entry_by, mended_by}
 use Rattle.table_runs.specs.Endings.{fault_by}
 use Rattle.one_lock.specs.Member.{Trail}
 use Rattle.table_runs.specs.Lab.{setup_of, words_sent}
@@ -41,13 +41,13 @@ pub record WasSpent (named : Option Setup) (p : ℕ) : Type 0 where
   pub standing : MemberState
   pub from : Trail
   pub to : Trail
-  pub answered : IsAnsweredCall named p standing Lock None from to (Some SpentAnswer)
+  pub answered : IsAnsweredCall (asked_call named p standing Lock None) from to (Some SpentAnswer)
 
 -- the answer of a lock of p, without a limit of turns, or of a mending of p shows that the lock is ruined
 abbrev pub IsRuin : Option Setup → ℕ → Trail → Trail → Option Answer → Type 0
 IsRuin named p from to answer =
-    ((standing : MemberState) × IsAnsweredCall named p standing Lock None from to answer × (entry_by answer ≡ Err NotRecoverable))
-    ⊎ (IsAnsweredCall named p Unmended Consistent None from to answer × (mended_by answer ≡ Err NotRecoverable))
+    ((standing : MemberState) × IsAnsweredCall (asked_call named p standing Lock None) from to answer × (entry_by answer ≡ Err NotRecoverable))
+    ⊎ (IsAnsweredCall (asked_call named p Unmended Consistent None) from to answer × (mended_by answer ≡ Err NotRecoverable))
 
 -- p has found the lock ruined, in a world with the sizes that are named
 pub record WasRuined (named : Option Setup) (p : ℕ) : Type 0 where

@@ -11,17 +11,17 @@ use Rattle.table_runs.specs.declared.lock_fault.LockFault.TheVariants.{Crashed, 
 use Rattle.table_runs.specs.declared.setup.Setup.{Setup}
 use Rattle.one_lock.specs.declared.member_state.MemberState.{MemberState}
 use Rattle.one_lock.specs.declared.member_state.MemberState.TheVariants.{Mended, Unmended}
-use Rattle.one_lock.specs.Answers.{IsAnsweredCall, entry_by, mended_by, reply_by}
+use Rattle.one_lock.specs.Answers.{IsAnsweredCall, asked_call, entry_by, mended_by, reply_by}
 use Rattle.one_lock.specs.Member.{Seat, Trail, stands_entered, stands_mended}
 
 -- p mends, if it has to
 abbrev pub Mends : Option Setup → ℕ → MemberState → Trail → Trail → Result Bool LockFault → Type 0
-Mends named p Unmended from to mended = (answer : Option Answer) × IsAnsweredCall named p Unmended Consistent None from to answer × (mended ≡ mended_by answer)
+Mends named p Unmended from to mended = (answer : Option Answer) × IsAnsweredCall (asked_call named p Unmended Consistent None) from to answer × (mended ≡ mended_by answer)
 Mends named p standing from to mended = (to ≡ from) × (mended ≡ Ok false)
 
 -- the task of p is given this reply; there is none where the mending found the lock ruined
 abbrev pub TaskReplies : Option Setup → ℕ → Call → Result Bool LockFault → Trail → Trail → Result Reply LockFault → Type 0
-TaskReplies named p task (Ok repaired) from to (Ok reply) = (answer : Option Answer) × IsAnsweredCall named p Mended task None from to answer × (reply ≡ reply_by answer)
+TaskReplies named p task (Ok repaired) from to (Ok reply) = (answer : Option Answer) × IsAnsweredCall (asked_call named p Mended task None) from to answer × (reply ≡ reply_by answer)
 TaskReplies named p task (Ok repaired) from to (Err e) = ⊥
 TaskReplies named p task (Err fault) from to reply = (to ≡ from) × (reply ≡ Err fault)
 
@@ -33,7 +33,7 @@ pub record WorksInside (named : Option Setup) (p : ℕ) (task : Call) (standing 
   pub replied_at : Trail
   pub replies : TaskReplies named p task mended mended_at replied_at reply
   pub left : Option Answer
-  pub leaves : IsAnsweredCall named p (stands_mended mended) Unlock None replied_at to left
+  pub leaves : IsAnsweredCall (asked_call named p (stands_mended mended) Unlock None) replied_at to left
 
 -- what follows the lock: where it did not enter, nothing
 abbrev pub FollowsLock : Option Setup → ℕ → Call → Result Entry LockFault → Trail → Trail → Result Reply LockFault → Type 0
@@ -44,7 +44,7 @@ FollowsLock named p task (Err fault) from to reply = (to ≡ from) × (reply ≡
 pub record IsMailboxCall (named : Option Setup) (old : Seat) (task : Call) (turns : Option ℕ) (to : Trail) (reply : Result Reply LockFault) : Type 0 where
   pub locked : Option Answer
   pub locked_at : Trail
-  pub locks : IsAnsweredCall named old.process old.standing Lock turns old.trail locked_at locked
+  pub locks : IsAnsweredCall (asked_call named old.process old.standing Lock turns) old.trail locked_at locked
   pub follows : FollowsLock named old.process task (entry_by locked) locked_at to reply
 
 -- the result of such a call; or it was cut off

@@ -5,7 +5,7 @@ ghost use Rattle.rmecore.specs.Simulated.{one_more};
 ghost use Rattle.one_lock.specs.Member.{KeepsProcess, AskedEach, AskedOnceMore, CountsSteps, CountsOn, falls_by, may_start, new_seat};
 ghost use Rattle.rmeworld.specs.MachineState.{IsSize};
 ghost use Rattle.rmeworld.specs.WorldState.{HasConfiguration};
-ghost use Rattle.one_lock.specs.Answers.{Mirrors, TrailGrows, IsAnsweredCall, turns_after_one};
+ghost use Rattle.one_lock.specs.Answers.{Mirrors, TrailGrows, IsAnsweredCall, asked_call, turns_after_one};
 ghost use Rattle.one_lock.specs.Execution.{AreSizes};
 ghost use Rattle.one_lock.specs.Trails.{IsOwnTrail, longer_trail, answer_with, is_blocked_with};
 
@@ -222,7 +222,8 @@ impl<L: Ledger, S: Sizes> Member<L, S> {
         ensures patient { IsNone turns → IfOk result (λ answer. IsSome answer) }
         ensures answered { IfOk result
             (λ answer.
-            IsAnsweredCall S.named self.old.process self.old.standing call turns self.old.trail self.new.trail answer) }
+            IsAnsweredCall (asked_call S.named self.old.process self.old.standing call turns) self.old.trail self.new.trail
+            answer) }
     {
         self.counted = 0;
         self.pursue(rt, plan, call, turns)
@@ -251,7 +252,8 @@ impl<L: Ledger, S: Sizes> Member<L, S> {
         ensures patient { IsNone turns → IfOk result (λ answer. IsSome answer) }
         ensures answered { IfOk result
             (λ answer.
-            IsAnsweredCall S.named self.old.process self.old.standing call turns self.old.trail self.new.trail answer) }
+            IsAnsweredCall (asked_call S.named self.old.process self.old.standing call turns) self.old.trail self.new.trail
+            answer) }
     {
         let mut left = turns;
         let mut opening = Opening {

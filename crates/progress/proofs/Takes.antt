@@ -49,10 +49,18 @@ pub takes_most : (b : Bool) (x : Own) (s : Place) → takes b x s ≤ 1
 takes_most b x Withdrawing = omega arith
 takes_most b x _ = takes_by_most b x.number x.inside
 
--- the words and the place after an event, where greatest was the greatest number before. It has grown by rise
-pub record Taken (k p q greatest old : ℕ) (gave : Bool) (x : Own) (s : Place) : Type 0 where
+-- the pair with which a process waits
+pub record WaitingPair : Type 0 where
+  pub number : ℕ
+  pub process : ℕ
+
+abbrev pub waiting_pair : ℕ → ℕ → WaitingPair
+waiting_pair number process = record { number = number; process = process }
+
+-- the words and the place of q after an event, where greatest was the greatest number before. It has grown by rise
+pub record Taken (pair : WaitingPair) (q greatest old : ℕ) (gave : Bool) (x : Own) (s : Place) : Type 0 where
   pub rise : ℕ
-  pub falls : takes (is_before x.number q k p) x s + rise ≤ old + one gave
+  pub falls : takes (is_before x.number q pair.number pair.process) x s + rise ≤ old + one gave
   pub number : x.number ≤ greatest + rise
   pub read : ReadsUpTo (greatest + rise) s
 
@@ -75,7 +83,7 @@ module _ (n limit k p q greatest : ℕ) (below : q < n) (low : p < n) (ne : q �
   ahead x = is_before x.number q k p
 
   abbrev Goes : ℕ → Bool → Own → Place → Type 0
-  Goes old gave x s = Taken k p q greatest old gave x s
+  Goes old gave x s = Taken (waiting_pair k p) q greatest old gave x s
 
   own_word : (P : Own → Type 0) (f : Own → Own) (r : ℕ) → (r == q) ≡ true → P (f (w.words q)) → P (put w.words r (f (w.words r)) q)
   own_word P f r e h = subst (λ r. P (put w.words r (f (w.words r)) q)) (sym (eqb-true r q e)) (subst P (sym (put_same w.words q (f (w.words q)))) h)

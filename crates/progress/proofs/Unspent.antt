@@ -12,7 +12,7 @@ use Rattle.progress.proofs.Short.{Kept, kept_after}
 use Rattle.progress.proofs.Sums.{total, total_changed, total_bound, total_least}
 use Rattle.progress.proofs.OwnFalls.{InLine}
 use Rattle.progress.proofs.Works.{In, not_entered, still_in, unpassed}
-use Rattle.progress.proofs.Takes.{takes, takes_most, takes_none, Taken}
+use Rattle.progress.proofs.Takes.{takes, takes_most, takes_none, Taken, waiting_pair}
 use Rattle.progress.proofs.Takes as Takes
 
 -- a process at its doorway has no number
@@ -61,7 +61,7 @@ module _ (n limit k p : ℕ) (low : p < n) (held : 0 < k) where
 
   module _ (w : World) (h : Kept n w) (line : In n limit k p low held w) (greatest : ℕ) (upto : NumbersUpTo greatest n w) where
     other : (e : Event) → May n limit w e → process e ≢ p
-        → Taken k p (process e) greatest (takes (is_before (w.words (process e)).number (process e) k p) (w.words (process e)) (w.places (process e))) (is_withdraw (w.places (process e)) e) (words_after_event w.words e (process e)) (goes n limit w e)
+        → Taken (waiting_pair k p) (process e) greatest (takes (is_before (w.words (process e)).number (process e) k p) (w.words (process e)) (w.places (process e))) (is_withdraw (w.places (process e)) e) (words_after_event w.words e (process e)) (goes n limit w e)
     other (Starts q call) may ne = Takes.starts n limit k p q greatest may.0 low ne held w line.number upto (w.places q) call may.1
     other (Crashes q) may ne = Takes.crashes n limit k p q greatest may.0 low ne held w line.number upto (w.places q) (h.sound.tied.fits q may.0)
     other (Steps q kind word v) may ne =

@@ -18,18 +18,18 @@ use Rattle.redomail.proofs.Applies.{store, apply_half, apply_whole}
 closed_on : (s : Mailbox) (x : ℕ) → x ≡ bit s.closed → x ≡ 1 → s.closed ≡ true
 closed_on s x e one = cond_both s.closed 1 0 (λ y. x ≡ y → s.closed ≡ true) (λ h _. h) (λ _ h. absurd (omega arith)) e
 
--- an append before it has read its words
-record Fresh (l : Layout) (p : ℕ) (m : Message) (s0 : Mailbox) (seq : ℕ) (value : List ℕ) (w : Words) (s : Mailbox) : Type 0 where
-  pub idle : Idle l p w s
-  pub same : s.shown ≡ s0.shown
-  pub mine : message p seq value ≡ m
-  pub wide : length value ≡ l.width
-
 module _ (l : Layout) (p : ℕ) (m : Message) (s0 : Mailbox) where
+  -- an append before it has read its words
+  record Fresh (seq : ℕ) (value : List ℕ) (w : Words) (s : Mailbox) : Type 0 where
+    pub idle : Idle l p w s
+    pub same : s.shown ≡ s0.shown
+    pub mine : message p seq value ≡ m
+    pub wide : length value ≡ l.width
+
   seen_idle : (w : Words) (s : Mailbox) → Idle l p w s → s.shown ≡ s0.shown → Seen l p m s0 w s
   seen_idle w s h same = (Shape-from_idle l p w s h, inl same)
 
-  decided_safe : (seq : ℕ) (value : List ℕ) (w : Words) (s : Mailbox) → Fresh l p m s0 seq value w s → Safe l p m s0 (append_decision l p seq value (w 1) (w 2) (w (last_at l p))) w s
+  decided_safe : (seq : ℕ) (value : List ℕ) (w : Words) (s : Mailbox) → Fresh seq value w s → Safe l p m s0 (append_decision l p seq value (w 1) (w 2) (w (last_at l p))) w s
   decided_safe seq value w s h =
       let P : Option Reply → Type 0 = λ o. Safe l p m s0 (unless_replied o (puts (store_steps l p (record_of (w 2) seq value)) (Done reply.Stored))) w s in
       let look = seen_idle w s h.idle h.same in
@@ -61,7 +61,7 @@ module _ (l : Layout) (p : ℕ) (m : Message) (s0 : Mailbox) where
         open_yet = open_yet;
       })))))
 
-  append_safe : (seq : ℕ) (value : List ℕ) (w : Words) (s : Mailbox) → Fresh l p m s0 seq value w s → Safe l p m s0 (append l p seq value) w s
+  append_safe : (seq : ℕ) (value : List ℕ) (w : Words) (s : Mailbox) → Fresh seq value w s → Safe l p m s0 (append l p seq value) w s
   append_safe seq value w s h =
       let look = seen_idle w s h.idle h.same in (look, (look, (look, decided_safe seq value w s h)))
 

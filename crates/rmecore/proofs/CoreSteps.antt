@@ -51,19 +51,29 @@ pub reads : (words : ℕ → Own) (a : Access) (v : ℕ) → KindFits a → v �
 reads words (Load kind word) v fits e load = sym e
 reads words (Store kind word y) v fits e load = cc
 
--- a step of one process's machine, over the words and beside the other processes
-pub record Moves (n limit p : ℕ) (words words' : List Own) (processes : List Standing) (s s' : Standing) (a : Access) (v : ℕ) : Type 0 where
-  pub here : standing_at processes p ≡ s
-  pub configuration : HasConfiguration n limit p s
-  pub below : p < n
-  pub each : length processes ≡ n
+-- one process of all, with the limit of its numbers
+pub record CoreFrame : Type 0 where
+  pub procs : ℕ
+  pub limit : ℕ
+  pub process : ℕ
+  pub processes : List Standing
+
+abbrev pub core_frame : ℕ → ℕ → ℕ → List Standing → CoreFrame
+core_frame procs limit process processes = record { procs = procs; limit = limit; process = process; processes = processes }
+
+-- a step of this process's machine, over the words and beside the other processes
+pub record Moves (frame : CoreFrame) (words words' : List Own) (s s' : Standing) (a : Access) (v : ℕ) : Type 0 where
+  pub here : standing_at frame.processes frame.process ≡ s
+  pub configuration : HasConfiguration frame.procs frame.limit frame.process s
+  pub below : frame.process < frame.procs
+  pub each : length frame.processes ≡ frame.procs
   pub next : next_access s ≡ Some a
   pub allowed : IsAllowed s a
   pub value : v ≡ carried_value a (read (own_at words) (word_of a))
   pub words_now : own_at words' ≡ words_performed (own_at words) a
   pub moved : s' ≡ record s { place = after_access s (next_access s) v }
 
-module _ {n limit p : ℕ} {words words' : List Own} {processes : List Standing} {s s' : Standing} {a : Access} {v : ℕ} (m : Moves n limit p words words' processes s s' a v) where
+module _ {n limit p : ℕ} {words words' : List Own} {processes : List Standing} {s s' : Standing} {a : Access} {v : ℕ} (m : Moves (core_frame n limit p processes) words words' s s' a v) where
   steps_to : next n limit p s.place (kind_of a) (word_of a) v ≡ next s.procs s.limit s.index s.place (kind_of a) (word_of a) (carried_value a v)
   steps_to =
       let again : carried_value a v ≡ v = settled a v _ m.value in

@@ -8,7 +8,7 @@ use Rattle.rmecore.proofs.Invariant.{Tied, put_same, put_other}
 use Rattle.rmecore.proofs.Phases.{tied_after}
 use Rattle.rmecore.proofs.Payments.{fewer}
 use Rattle.rmecore.proofs.Runs.{at_first, kept}
-use Rattle.rmecore.proofs.CoreSteps.{Moves, settled, at_here}
+use Rattle.rmecore.proofs.CoreSteps.{Moves, core_frame, settled, at_here}
 use Rattle.rmecore.proofs.Tallies.{never_glances, answered, tallied_on}
 use Rattle.rmecore.specs.declared.progress.Progress.{Progress}
 
@@ -90,14 +90,14 @@ module _ {old new : Simulated} (reached : IsReached old.procs old.limit (world_o
       all)
 
 -- the machine's access is never a glance
-pub no_glance : {n limit p : ℕ} {words words' : List Own} {processes : List Standing} {s s' : Standing} {a : Access} {v : ℕ} → Moves n limit p words words' processes s s' a v → is_glance (kind_of a) ≡ false
+pub no_glance : {n limit p : ℕ} {words words' : List Own} {processes : List Standing} {s s' : Standing} {a : Access} {v : ℕ} → Moves (core_frame n limit p processes) words words' s s' a v → is_glance (kind_of a) ≡ false
 no_glance {s = s} {a = a} m = let h : IfSome (next_access s) (λ a. is_glance (kind_of a) ≡ false) = never_glances s.limit s.index s.place in rw m.next at h
 
 pub own_here : (words : List Own) (p n : ℕ) (own : Own) → own ≡ slice_index_or words p own → p < n → length words ≡ n → own_at words p ≡ own
 own_here words p n own = at_here words p n own _
 
 -- the counts after the machine's step
-pub counted_here : {n limit p : ℕ} {words words' : List Own} {processes : List Standing} {s s' : Standing} {a : Access} {v : ℕ} → Moves n limit p words words' processes s s' a v
+pub counted_here : {n limit p : ℕ} {words words' : List Own} {processes : List Standing} {s s' : Standing} {a : Access} {v : ℕ} → Moves (core_frame n limit p processes) words words' s s' a v
     → (tallies : List Tally) → length tallies ≡ n → (t : Tally) → t ≡ slice_index_or tallies p t → (done : Progress) → done ≡ progress s (next_access s) v → (t' : Tally) → t' ≡ tally_after_step t done.blocked
     → t' ≡ tally_after_step (tally_at tallies p) (is_blocked p (place_at processes p) (kind_of a) v)
 counted_here {n = n} {p = p} {processes = processes} {s = s} {a = a} {v = v} m tallies each t is done reports t' counts =
@@ -109,7 +109,7 @@ counted_here {n = n} {p = p} {processes = processes} {s = s} {a = a} {v = v} m t
     let blocked : done.blocked ≡ is_blocked s.index s.place (kind_of a) (carried_value a v) = ap (λ (x : Progress). x.blocked) one in
     counts ∙ rw (here, place, blocked, index, again) refl
 
-pub done_here : {n limit p : ℕ} {words words' : List Own} {processes : List Standing} {s s' : Standing} {a : Access} {v : ℕ} → Moves n limit p words words' processes s s' a v → (done : Progress) → done ≡ progress s (next_access s) v
+pub done_here : {n limit p : ℕ} {words words' : List Own} {processes : List Standing} {s s' : Standing} {a : Access} {v : ℕ} → Moves (core_frame n limit p processes) words words' s s' a v → (done : Progress) → done ≡ progress s (next_access s) v
     → done.done ≡ answer (place_at processes p) (kind_of a) v
 done_here {p = p} {processes = processes} {s = s} {a = a} {v = v} m done reports =
     let place : place_at processes p ≡ s.place = ap (λ (x : Standing). x.place) m.here in

@@ -82,7 +82,7 @@ pub fn abstract_lock_refuses()
         ∷ Outer.Enter 1 ∷ []) → ⊥ }
     ensures not_reentered { Legal 2 nobody (Outer.Begin 0 ∷ Outer.Ready 0 ∷ Outer.Begin 1 ∷ Outer.Ready 1 ∷ Outer.Enter 0
         ∷ Outer.Crash 0 ∷ Outer.Enter 1 ∷ []) → ⊥ }
-    ensures overtaken_from_after { Legal 2 nobody (Outer.Begin 0 ∷ Outer.Ready 0 ∷ Outer.Begin 1 ∷ Outer.Ready 1
+    ensures overtaken_on_second_try { Legal 2 nobody (Outer.Begin 0 ∷ Outer.Ready 0 ∷ Outer.Begin 1 ∷ Outer.Ready 1
         ∷ Outer.Quit 1 ∷ Outer.Begin 1 ∷ Outer.Ready 1 ∷ Outer.Enter 1 ∷ []) → ⊥ }
     ensures overtaken { Legal 2 nobody (Outer.Begin 0 ∷ Outer.Ready 0 ∷ Outer.Begin 1 ∷ Outer.Ready 1 ∷ Outer.Enter 1 ∷ [])
         → ⊥ }
@@ -111,7 +111,7 @@ pub fn steps_of_a_call()
     ensures answered { (n limit p c k i : ℕ) (place : Place) (kind : Kind) (word : Word) (v steps : ℕ) → p < n
         → IsSome (next n limit p place kind word v) → is_glance kind ≡ false → ReadsBegun c k i place v
         → Pays n c k i place steps → IfSome (answer place kind v)
-        (λ abstract_after. own_steps n c k i abstract_after ≡ Some (if is_blocked p place kind v then steps else steps + 1)) }
+        (λ reply. own_steps n c k i reply ≡ Some (if is_blocked p place kind v then steps else steps + 1)) }
     ensures fresh_start { (n p k steps : ℕ) → p < n → Pays n 0 0 0 (Wait k (others n p) None) steps → steps ≡ n + 5 }
     ensures most { (n c k i : ℕ) (place : Place) (steps : ℕ) → 0 < n → is_idle place ≡ false → Pays n c k i place steps
         → steps < most_steps n }

@@ -13,7 +13,7 @@ use Rattle.redomail.specs.declared.deed.Deed.TheVariants as deed
 use Rattle.redomail.specs.declared.task.Task.TheVariants as task
 use Rattle.rmeworld.specs.declared.call.Call.TheVariants.{Get, Put}
 use Rattle.rmeworld.proofs.Holders.{At, one, putter_in, execution_comes}
-use Rattle.rmeworld.proofs.Knowing.{Post, PostAt}
+use Rattle.rmeworld.proofs.Knowing.{mail_store, Post, PostAt}
 use Rattle.rmeworld.proofs.Projection.{outers, at_lock_some, only_some, inside_some, some_of}
 use Rattle.rmeworld.proofs.Reaching.{origin}
 use Rattle.rmeworld.proofs.Sends.{Sends, append_sends, close_sends, ruin_sends, board_sends, consistent_sends}
@@ -81,7 +81,7 @@ module _ (l : Layout) (limit : ℕ) (layout : IsLayout l) (D : Deed → Type 0) 
   Steps w e s' = All D (mail_deeds l w.cells e) × Carries (who e) (cells_after l w.cells e) s'.script_state
 
   moves : (w : GlobalState) (ph : Phase) (m : Mailbox) (p : ℕ) (lock : Place) (b c : Bool) (script_state : ScriptState) (kind : Kind) (word : Word) (v : ℕ) (s' : ProcessState) → moved_by l limit p lock b c script_state kind word v ≡ Some s'
-      → (is_store kind ≡ false → reading w word ≡ v) → Post l p ph w.cells m b script_state lock → Carries p w.cells script_state → Steps w (Moves p kind word v) s'
+      → (is_store kind ≡ false → reading w word ≡ v) → Post l p ph (mail_store w.cells m) b script_state lock → Carries p w.cells script_state → Steps w (Moves p kind word v) s'
   moves w ph m p lock b c Free kind word v s' e reads post h =
       let r = at_lock_some l p lock b c (next l.procs limit p lock kind word v) s' e in (
         subst (All D) (sym (deeds_none l l.procs limit p lock r.place kind word v w.cells r.some)) (All-nil D),
@@ -116,7 +116,7 @@ module _ (l : Layout) (limit : ℕ) (layout : IsLayout l) (D : Deed → Type 0) 
       → (x : ProcessState) → PostAt l q (a.phase q) w.cells at.mail x → Carries q w.cells x.script_state → Carries q (cells_after l w.cells e) x.script_state
   stays w a at e q below lt ne puts x post h = by x.script_state post h (cases_Bool (puts_data e))
     where
-      by : (script_state : ScriptState) → Post l q (a.phase q) w.cells at.mail x.mended script_state x.lock → Carries q w.cells script_state → (puts_data e ≡ true) ⊎ (puts_data e ≡ false) → Carries q (cells_after l w.cells e) script_state
+      by : (script_state : ScriptState) → Post l q (a.phase q) (mail_store w.cells at.mail) x.mended script_state x.lock → Carries q w.cells script_state → (puts_data e ≡ true) ⊎ (puts_data e ≡ false) → Carries q (cells_after l w.cells e) script_state
       by Free k c d = tt
       by (Doing purpose left) k c (inl p) = absurd (ne (at.kept.sole q (who e) lt below (subst IsInSection (sym k.1) tt) (subst IsInSection (sym (puts p)) tt)))
       by (Doing purpose left) k c (inr f) = subst (λ u. Sends l q D left u) (sym (cells_kept l w.cells e f)) c

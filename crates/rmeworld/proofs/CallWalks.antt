@@ -1,7 +1,7 @@
 -- The steps of one call, of any process, from its own events alone.
 use Rattle.std.proofs.Common.{◌≡◌, ℕ, suc, ◌+◌, ◌<◌, Bool, true, false, if◌then◌else◌, List, [], ◌∷◌, length, Option, Some, None, IsSome, refl, sym, ap, ◌∙◌, subst, arith}
 use Rattle.rmeworld.proofs.Common.{Kind, Own, Word, Layout, Mended, Answer, Mail, Call, Unlock, Consistent, answer_at, blocked_by, next_or_same, Walks, blocked_in, and_answer, answers_in, last_process_state}
-use Rattle.rmeworld.proofs.Common.{WalksCall, CallsTakeTheirSteps, own_steps, ProcessState, WorldEvent, Begins, Moves, next_process_state, part_call, call_by, call_at}
+use Rattle.rmeworld.proofs.Common.{WalksCall, call_begin, CallsTakeTheirSteps, own_steps, ProcessState, WorldEvent, Begins, Moves, next_process_state, part_call, call_by, call_at}
 use Rattle.rmeworld.proofs.CallBounds.{fewer_at}
 use Rattle.rmeworld.proofs.CallSteps.{more, IsOver, To, step_by, start_to, over_rests}
 
@@ -19,13 +19,13 @@ counts true x k blocked h = omega arith
 counts false x k blocked h = omega arith
 
 module _ (l : Layout) (limit p : ℕ) (w : Own) (below : p < l.procs) where
-  moved : (m : Bool) (call : Call) (answers : List Answer) (process_state : ProcessState) (n n' b b' : ℕ) → n ≡ n' → b ≡ b' → WalksCall l w m call answers process_state n b → WalksCall l w m call answers process_state n' b'
-  moved m call answers process_state n n' b b' e f h = subst (λ x. WalksCall l w m call answers process_state x b') e (subst (λ x. WalksCall l w m call answers process_state n x) f h)
+  moved : (m : Bool) (call : Call) (answers : List Answer) (process_state : ProcessState) (n n' b b' : ℕ) → n ≡ n' → b ≡ b' → WalksCall l (call_begin w m) call answers process_state n b → WalksCall l (call_begin w m) call answers process_state n' b'
+  moved m call answers process_state n n' b b' e f h = subst (λ x. WalksCall l (call_begin w m) call answers process_state x b') e (subst (λ x. WalksCall l (call_begin w m) call answers process_state n x) f h)
 
   -- after one step, with this answer
   after_it : (o : Option Answer) (es : List WorldEvent) (process_state t : ProcessState) (m : Bool) (call : Call) (x k b : ℕ) → To l w process_state.mended (call_at process_state) o t x → call_at process_state ≡ Some call → (Some call ≡ Some Unlock → process_state.mended ≡ m) → k ≡ x + b → Walks l limit p w t es
-      → (To l w m (Some call) None t x → WalksCall l w m call (answers_in l limit t es) (last_process_state l limit t es) (k + length es) (b + blocked_in l limit t es))
-      → WalksCall l w m call (and_answer o (answers_in l limit t es)) (last_process_state l limit t es) (k + length es) (b + blocked_in l limit t es)
+      → (To l w m (Some call) None t x → WalksCall l (call_begin w m) call (answers_in l limit t es) (last_process_state l limit t es) (k + length es) (b + blocked_in l limit t es))
+      → WalksCall l (call_begin w m) call (and_answer o (answers_in l limit t es)) (last_process_state l limit t es) (k + length es) (b + blocked_in l limit t es)
   after_it None es process_state t m call x k b to is same sum walks rest = rest (to.0, to.1 ∙ is, (λ e. to.2 (is ∙ e) ∙ same e))
   after_it (Some a) [] process_state t m call x k b to is same sum walks rest =
       let own = to.2 in
@@ -38,7 +38,7 @@ module _ (l : Layout) (limit p : ℕ) (w : Own) (below : p < l.procs) where
   abbrev Telling : List WorldEvent → Type 0
   Telling es =
       (process_state : ProcessState) (m : Bool) (call : Call) (x k b : ℕ) → To l w m (Some call) None process_state x → k ≡ x + b → Walks l limit p w process_state es
-      → WalksCall l w m call (answers_in l limit process_state es) (last_process_state l limit process_state es) (k + length es) (b + blocked_in l limit process_state es)
+      → WalksCall l (call_begin w m) call (answers_in l limit process_state es) (last_process_state l limit process_state es) (k + length es) (b + blocked_in l limit process_state es)
 
   one_more : (kind : Kind) (word : Word) (v : ℕ) (es : List WorldEvent) → Telling es → Telling (Moves p kind word v ∷ es)
   one_more kind word v es rest process_state m call x k b to sum walks =

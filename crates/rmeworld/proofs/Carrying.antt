@@ -277,8 +277,8 @@ module _ (l : Layout) (limit : ℕ) (S : Type 0) where
           | inl holds ↦
               (let inside : t ≡ Inside = entry_inside at t holds in
               let checks : script_state_entered l p at t ≡ Doing Checking (script l p task.Check) = ap (λ (z : Bool). if z then Doing Checking (script l p task.Check) else Free) holds in
-              let place_after_start : put w.process_states p to p ≡ process_after_script (mended_entered b at t) c Checking (script l p task.Check) = put_same w.process_states p to ∙ (λ i. record { lock = inside i; mended = mended_entered b at t; barred = c; script_state = checks i }) in
-              finish (IsAt S Inside) ds P p below (mended_entered b at t) c Checking (script l p task.Check) (script_ends S (mended_entered b at t) c Checking (script l p task.Check) tt (refl, λ x. refl) (λ _ h. h)) w' now place_after_start
+              let place_now : put w.process_states p to p ≡ process_after_script (mended_entered b at t) c Checking (script l p task.Check) = put_same w.process_states p to ∙ (λ i. record { lock = inside i; mended = mended_entered b at t; barred = c; script_state = checks i }) in
+              finish (IsAt S Inside) ds P p below (mended_entered b at t) c Checking (script l p task.Check) (script_ends S (mended_entered b at t) c Checking (script l p task.Check) tt (refl, λ x. refl) (λ _ h. h)) w' now place_now
               (λ u h later. k u (matches_put v w u p t (words_after_event v.words (Steps p kind word x)) m (h.words ∙ words) (λ q ne. h.others q ne ∙ put_other w.process_states p to q ne) (subst (λ z. IsAt S z (u.process_states p)) (sym inside) h.here)) later))
           | inr fails ↦
               (let free : script_state_entered l p at t ≡ Free = ap (λ (z : Bool). if z then Doing Checking (script l p task.Check) else Free) fails in

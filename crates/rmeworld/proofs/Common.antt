@@ -82,7 +82,7 @@ pub use Rattle.rmeworld.specs.declared.purpose.Purpose.{Purpose}
 pub use Rattle.rmeworld.specs.declared.purpose.Purpose.TheVariants.{Ruining, Mending, Working, Checking}
 pub use Rattle.rmeworld.specs.WorldSteps.{Advances, IsLoad, ScanGoesOn, silent_outcome}
 pub use Rattle.rmeworld.specs.Answered.{answer_at, answer_by, by_lock, done_by, by_script, blocked_by}
-pub use Rattle.rmeworld.specs.CallWalk.{next_or_same, Walks, blocked_in, and_answer, answers_in, last_process_state, WalksCall, CallsTakeTheirSteps}
+pub use Rattle.rmeworld.specs.CallWalk.{next_or_same, Walks, blocked_in, and_answer, answers_in, last_process_state, WalksCall, call_begin, CallsTakeTheirSteps}
 pub use Rattle.rmeworld.specs.Entered.{is_entry, checks_done, mended_done}
 pub use Rattle.rmeworld.specs.ScriptStates.{script_state_of, HasStep, HoldsJob}
 pub use Rattle.rmeworld.specs.HomeState.{core_of}

@@ -7,8 +7,8 @@ use Rattle.rmeworld.proofs.Common.{Begins, Falls, Moves, Glances, who, process_a
 use Rattle.rmeworld.proofs.Common.{state_after_event, mail_deeds, deeds}
 use Rattle.rmeworld.specs.Law.{EventEndsAppend}
 use Rattle.rmeworld.proofs.Projection.{at_lock_some, only_some, some_of, outers}
-use Rattle.rmeworld.proofs.Knowing.{Post, PostAt}
-use Rattle.rmeworld.proofs.WorldEvents.{AllowsBy, judge_of, Kept, Outcome, nothing, begins, falls, gets, puts, locks}
+use Rattle.rmeworld.proofs.Knowing.{mail_store, Post, PostAt}
+use Rattle.rmeworld.proofs.WorldEvents.{AllowsBy, judge_of, Kept, Outcome, abstract_world, nothing, begins, falls, gets, puts, locks}
 
 some_by : (o : Option Place) (t : Place) → o ≡ Some t → IsSome o
 some_by o t e = rw e refl
@@ -43,23 +43,23 @@ module _ (l : Layout) (limit : ℕ) (layout : IsLayout l) where
   -- the state after one event, and the meaning of its answer
   abbrev pub Left : GlobalState → Abstract → Mailbox → WorldEvent → ProcessState → Type 0
   Left w a m e s' =
-      (o : Outcome l a w.cells m (who e) (lock_deed (w.process_states (who e)) e) (mail_deeds l w.cells e) (cells_after l w.cells e) s') × EventEndsAppend w e o.mail.shown
+      (o : Outcome l (abstract_world a w.cells m) (who e) (lock_deed (w.process_states (who e)) e) (mail_deeds l w.cells e) (cells_after l w.cells e) s') × EventEndsAppend w e o.mail.shown
 
   -- the same for a process at this place with this job
   abbrev Stepped : GlobalState → Abstract → Mailbox → ℕ → Place → ScriptState → Kind → Word → ℕ → ProcessState → Type 0
   Stepped w a m p lock script_state kind word v s' =
-      (o : Outcome l a w.cells m p (outer_by p lock script_state kind v) (mail_deeds l w.cells (Moves p kind word v)) (cells_after l w.cells (Moves p kind word v)) s') × ScriptStateTells p script_state v o.mail.shown
+      (o : Outcome l (abstract_world a w.cells m) p (outer_by p lock script_state kind v) (mail_deeds l w.cells (Moves p kind word v)) (cells_after l w.cells (Moves p kind word v)) s') × ScriptStateTells p script_state v o.mail.shown
 
   moves : (w : GlobalState) (a : Abstract) (m : Mailbox) (p : ℕ) → p < l.procs → Kept l a w.cells m → (lock : Place) (b c : Bool) (script_state : ScriptState) (kind : Kind) (word : Word) (v : ℕ) (s' : ProcessState)
-      → moved_by l limit p lock b c script_state kind word v ≡ Some s' → (is_store kind ≡ false → reading w word ≡ v) → AllowsBy l.procs a (outer_by p lock script_state kind v) → Post l p (a.phase p) w.cells m b script_state lock
+      → moved_by l limit p lock b c script_state kind word v ≡ Some s' → (is_store kind ≡ false → reading w word ≡ v) → AllowsBy l.procs a (outer_by p lock script_state kind v) → Post l p (a.phase p) (mail_store w.cells m) b script_state lock
       → Stepped w a m p lock script_state kind word v s'
   moves w a m p below k lock b c Free kind word v s' e reads may h =
       let r = at_lock_some l p lock b c (next l.procs limit p lock kind word v) s' e in
       let o = locks l a w.cells m p layout below k limit lock b c kind word v s' e may h in
       let same = cells_same l l.procs limit p lock r.place kind word v w.cells r.some in
       let none = deeds_none l l.procs limit p lock r.place kind word v w.cells r.some in (
-        subst (λ ds. Outcome l a w.cells m p (step_deed p lock kind v) ds (cells_after l w.cells (Moves p kind word v)) s') (sym none)
-            (subst (λ u. Outcome l a w.cells m p (step_deed p lock kind v) [] u s') (sym same) o),
+        subst (λ ds. Outcome l (abstract_world a w.cells m) p (step_deed p lock kind v) ds (cells_after l w.cells (Moves p kind word v)) s') (sym none)
+            (subst (λ u. Outcome l (abstract_world a w.cells m) p (step_deed p lock kind v) [] u s') (sym same) o),
         tt,
       )
   moves w a m p below k lock b c (Doing purpose (Get j rest)) Gets (DataAt i) v s' e reads may h =
@@ -72,7 +72,7 @@ module _ (l : Layout) (limit : ℕ) (layout : IsLayout l) where
       let both = and_parts (i == j) (v == x) r.0 in
       let at : i ≡ j = eqb-true i j both.0 in
       let value : v ≡ x = eqb-true v x both.1 in
-      let P : ℕ → ℕ → Words → Type 0 = λ i' v' u. (o : Outcome l a w.cells m p None (deeds_of_put l p w.cells i' v') u s') × ScriptStateTells p (Doing purpose (Put j x rest)) v' o.mail.shown in
+      let P : ℕ → ℕ → Words → Type 0 = λ i' v' u. (o : Outcome l (abstract_world a w.cells m) p None (deeds_of_put l p w.cells i' v') u s') × ScriptStateTells p (Doing purpose (Put j x rest)) v' o.mail.shown in
       let within : put_cell l w.cells (DataAt j) x ≡ put w.cells j x = rw (lt-ltb j (size l) h.2.safe.1) refl in
       let there : P j x (put_cell l w.cells (DataAt j) x) = subst (P j x) (sym within) (puts l a w.cells m p layout below k b c purpose j x rest s' r.1 h.1 h.2) in
       subst (λ i'. P i' v (put_cell l w.cells (DataAt i') v)) (sym at) (subst (λ v'. P j v' (put_cell l w.cells (DataAt j) v')) (sym value) there)
@@ -84,12 +84,12 @@ module _ (l : Layout) (limit : ℕ) (layout : IsLayout l) where
       let x = w.process_states p in (begins l a w.cells m p layout below k x.lock x.mended x.script_state call s' e h, tt)
   happens w a m (Falls p) s' below k e reads may h =
       let is : dead_process ≡ s' = cc in
-      (subst (λ x. Outcome l a w.cells m p (Some (Crash p)) [] w.cells x) is (falls l a w.cells m p layout below k may), tt)
+      (subst (λ x. Outcome l (abstract_world a w.cells m) p (Some (Crash p)) [] w.cells x) is (falls l a w.cells m p layout below k may), tt)
   happens w a m (Moves p kind word v) s' below k e reads may h =
       let x = w.process_states p in moves w a m p below k x.lock x.mended x.barred x.script_state kind word v s' e reads may h
   happens w a m (Glances p word v) s' below k e reads may h =
       let is : w.process_states p ≡ s' = cc in
-      (subst (λ x. Outcome l a w.cells m p None [] w.cells x) is (nothing l a w.cells m p layout below k (w.process_states p) h), tt)
+      (subst (λ x. Outcome l (abstract_world a w.cells m) p None [] w.cells x) is (nothing l a w.cells m p layout below k (w.process_states p) h), tt)
 
   sits : (a : Abstract) (w : Words) (m : Mailbox) → Kept l a w m → Sits l w (judge_of l a m)
   sits a w m k = record { shape = k.shape; rest = k.rest }
@@ -101,7 +101,7 @@ module _ (l : Layout) (limit : ℕ) (layout : IsLayout l) where
   abbrev pub AllPosts : Abstract → Words → Mailbox → (ℕ → ProcessState) → Type 0
   AllPosts a w m process_states = (q : ℕ) → q < l.procs → PostAt l q (a.phase q) w m (process_states q)
 
-  pub posts : (w : GlobalState) (a : Abstract) (m : Mailbox) (e : WorldEvent) (s' : ProcessState) (o : Outcome l a w.cells m (who e) (lock_deed (w.process_states (who e)) e) (mail_deeds l w.cells e) (cells_after l w.cells e) s') → AllPosts a w.cells m w.process_states
+  pub posts : (w : GlobalState) (a : Abstract) (m : Mailbox) (e : WorldEvent) (s' : ProcessState) (o : Outcome l (abstract_world a w.cells m) (who e) (lock_deed (w.process_states (who e)) e) (mail_deeds l w.cells e) (cells_after l w.cells e) s') → AllPosts a w.cells m w.process_states
       → AllPosts (done_by a (lock_deed (w.process_states (who e)) e)) (cells_after l w.cells e) o.mail (put w.process_states (who e) s')
   posts w a m e s' o all q lt =
       let a' : Abstract = done_by a (lock_deed (w.process_states (who e)) e) in

@@ -9,7 +9,7 @@ use Rattle.redomail.specs.declared.deed.Deed.TheVariants as deed
 use Rattle.judge.specs.Plain.{IsEndOf}
 use Rattle.rmeworld.proofs.Projection.{outers, projected, some_of}
 use Rattle.rmeworld.proofs.WorldEvents.{judge_of, AllowsBy, Kept}
-use Rattle.rmeworld.proofs.Knowing.{Post, PostAt}
+use Rattle.rmeworld.proofs.Knowing.{mail_store, Post, PostAt}
 use Rattle.rmeworld.proofs.Executions.{AllPosts, happens, head, posts}
 use Rattle.rmeworld.proofs.Reaching.{mail_own, done-and_then, origin}
 use Rattle.rmeworld.proofs.WorldTallies.{at_lock_some}
@@ -88,7 +88,7 @@ module _ (l : Layout) (limit : ℕ) where
   execution_back w (x ∷ xs) ys h = execution_back (state_after_event l limit w x) xs ys h.1
 
   -- a process that stores into a data word is inside
-  putter : (cells : Words) (a : Abstract) (m : Mailbox) (p : ℕ) (lock : Place) (b c : Bool) (script_state : ScriptState) (kind : Kind) (i v : ℕ) → IsSome (moved_by l limit p lock b c script_state kind (DataAt i) v) → Post l p (a.phase p) cells m b script_state lock → is_store kind ≡ true → a.phase p ≡ Within
+  putter : (cells : Words) (a : Abstract) (m : Mailbox) (p : ℕ) (lock : Place) (b c : Bool) (script_state : ScriptState) (kind : Kind) (i v : ℕ) → IsSome (moved_by l limit p lock b c script_state kind (DataAt i) v) → Post l p (a.phase p) (mail_store cells m) b script_state lock → is_store kind ≡ true → a.phase p ≡ Within
   putter cells a m p lock b c Free kind i v some post stores = absurd (not_data l.procs limit p lock kind i v (at_lock_some l p lock b c (next l.procs limit p lock kind (DataAt i) v) some))
   putter cells a m p lock b c (Doing purpose left) kind i v some post stores = post.1
 

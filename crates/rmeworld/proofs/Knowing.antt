@@ -38,17 +38,26 @@ pub record Work (l : Layout) (p : ℕ) (w : Words) (s : Mailbox) (b : Bool) (pur
   pub ends : Ends purpose b (answer left w) (final left w)
   pub mine : Mine purpose p m
 
-abbrev pub Post : Layout → ℕ → Phase → Words → Mailbox → Bool → ScriptState → Place → Type 0
-Post l p ph w s b (Doing purpose left) lock = (lock ≡ Inside) × (ph ≡ Within) × Work l p w s b purpose left
-Post l p ph w s b Free Inside = (ph ≡ Within) × (b ≡ true → Clean w)
-Post l p ph w s b Free Leaving = (ph ≡ Within) × (w 0 ≡ 0 → w 3 ≡ 0)
-Post l p ph w s b Free _ = Unit {0}
+-- the data words, and the mailbox that they hold
+pub record MailStore : Type 0 where
+  pub words : Words
+  pub mail : Mailbox
+
+abbrev pub mail_store : Words → Mailbox → MailStore
+mail_store words mail = record { words = words; mail = mail }
+
+-- what a process knows of them after an event
+abbrev pub Post : Layout → ℕ → Phase → MailStore → Bool → ScriptState → Place → Type 0
+Post l p ph store b (Doing purpose left) lock = (lock ≡ Inside) × (ph ≡ Within) × Work l p store.words store.mail b purpose left
+Post l p ph store b Free Inside = (ph ≡ Within) × (b ≡ true → Clean store.words)
+Post l p ph store b Free Leaving = (ph ≡ Within) × (store.words 0 ≡ 0 → store.words 3 ≡ 0)
+Post l p ph store b Free _ = Unit {0}
 
 abbrev pub PostAt : Layout → ℕ → Phase → Words → Mailbox → ProcessState → Type 0
-PostAt l p ph w s process_state = Post l p ph w s process_state.mended process_state.script_state process_state.lock
+PostAt l p ph w s process_state = Post l p ph (mail_store w s) process_state.mended process_state.script_state process_state.lock
 
 module _ (l : Layout) (p : ℕ) where
-  end_post : (ph : Phase) (w : Words) (s : Mailbox) (b : Bool) (purpose : Purpose) (a : Reply) → ph ≡ Within → Ends purpose b a w → Post l p ph w s (end_mended purpose b a) Free (end_place purpose a)
+  end_post : (ph : Phase) (w : Words) (s : Mailbox) (b : Bool) (purpose : Purpose) (a : Reply) → ph ≡ Within → Ends purpose b a w → Post l p ph (mail_store w s) (end_mended purpose b a) Free (end_place purpose a)
   end_post ph w s b Checking (Ruined true) h e = (h, λ z. absurd (omega arith))
   end_post ph w s b Checking (Ruined false) h e = (h, e)
   end_post ph w s b Checking _ h e = absurd (e)
@@ -64,7 +73,7 @@ module _ (l : Layout) (p : ℕ) where
   settled_post ph w s b c purpose (Done a) h k = end_post ph w s b purpose a h k.ends
 
   -- a process that isn't in knows nothing, and stays so
-  pub Post-out : (ph : Phase) (w w' : Words) (s s' : Mailbox) (b : Bool) (script_state : ScriptState) (lock : Place) → (ph ≡ Within → ⊥) → Post l p ph w s b script_state lock → Post l p ph w' s' b script_state lock
+  pub Post-out : (ph : Phase) (w w' : Words) (s s' : Mailbox) (b : Bool) (script_state : ScriptState) (lock : Place) → (ph ≡ Within → ⊥) → Post l p ph (mail_store w s) b script_state lock → Post l p ph (mail_store w' s') b script_state lock
   Post-out ph w w' s s' b (Doing purpose left) lock out k = absurd (out k.1)
   Post-out ph w w' s s' b Free Inside out k = absurd (out k.0)
   Post-out ph w w' s s' b Free Leaving out k = absurd (out k.0)

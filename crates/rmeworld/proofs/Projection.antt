@@ -63,14 +63,22 @@ settled_place b c purpose (Asks i rest) = ((refl, tt), inl refl)
 settled_place b c purpose (Writes i v rest) = ((refl, tt), inl refl)
 settled_place b c purpose (Done a) = (tt, end_places purpose a)
 
+-- the words of all, and the place of one process
+pub record LockView : Type 0 where
+  pub words : ℕ → Own
+  pub place : Place
+
+abbrev pub lock_view : (ℕ → Own) → Place → LockView
+lock_view words place = record { words = words; place = place }
+
 -- p's event in the lock's run: none, or one event
-abbrev Tells : ℕ → ℕ → ℕ → (ℕ → Own) → Place → Place → (ℕ → Own) → Option Outer → Option Event → Type 0
-Tells n limit p words lock lock' words' d None = (lock' ≡ lock) × (words' ≡ words) × (d ≡ None)
-Tells n limit p words lock lock' words' d (Some x) = (process x ≡ p) × (place_after_event n limit lock x ≡ Some lock') × (words_after_event words x ≡ words') × Reads words x × (d ≡ deed lock x)
+abbrev Tells : ℕ → ℕ → ℕ → LockView → LockView → Option Outer → Option Event → Type 0
+Tells n limit p before now d None = (now.place ≡ before.place) × (now.words ≡ before.words) × (d ≡ None)
+Tells n limit p before now d (Some x) = (process x ≡ p) × (place_after_event n limit before.place x ≡ Some now.place) × (words_after_event before.words x ≡ now.words) × Reads before.words x × (d ≡ deed before.place x)
 
 module _ (l : Layout) (limit : ℕ) (w : GlobalState) (p : ℕ) where
   abbrev Meets : Place → ProcessState → (ℕ → Own) → Option Outer → Option Event → Type 0
-  Meets lock s' words' d o = Tells l.procs limit p w.words lock s'.lock words' d o × Held s'.script_state s'.lock
+  Meets lock s' words' d o = Tells l.procs limit p (lock_view w.words lock) (lock_view words' s'.lock) d o × Held s'.script_state s'.lock
 
   by_lock : (lock : Place) (b c : Bool) (o : Option Place) (s' : ProcessState) (words' : ℕ → Own) (d : Option Outer) (x : Event) → at_lock l p lock b c o ≡ Some s' → process x ≡ p → place_after_event l.procs limit lock x ≡ o → words_after_event w.words x ≡ words' → (IsSome o → Reads w.words x)
       → d ≡ deed lock x → Meets lock s' words' d (Some x)
@@ -173,7 +181,7 @@ module _ (l : Layout) (limit : ℕ) where
     pub same : deeds n limit w events ≡ ds
     pub ends : final n limit w events ≡ end
 
-  go : (w : GlobalState) (p : ℕ) (s' : ProcessState) (words' : ℕ → Own) (d : Option Outer) (o : Option Event) (names : List Event) (ds : List Outer) (end : World) → p < n → Tells n limit p w.words (w.process_states p).lock s'.lock words' d o
+  go : (w : GlobalState) (p : ℕ) (s' : ProcessState) (words' : ℕ → Own) (d : Option Outer) (o : Option Event) (names : List Event) (ds : List Outer) (end : World) → p < n → Tells n limit p (lock_view w.words (w.process_states p).lock) (lock_view words' s'.lock) d o
       → Projected (record { words = words'; places = λ q. (put w.process_states p s' q).lock }) names ds end → Projected (core_of w) (event_then o names) (and_then d ds) end
   go w p s' words' d None names ds end below t rest =
       let same : record { words = words'; places = λ q. (put w.process_states p s' q).lock } ≡ core_of w =

@@ -10,7 +10,7 @@ use Rattle.redomail.specs.declared.deed.Deed.TheVariants as deed
 use Rattle.redomail.specs.declared.task.Task.TheVariants as task
 use Rattle.rmeworld.proofs.WorldEvents.{judge_of}
 use Rattle.rmeworld.proofs.Holders.{execution_comes, execution_front, execution_back}
-use Rattle.rmeworld.proofs.Knowing.{Post}
+use Rattle.rmeworld.proofs.Knowing.{mail_store, Post}
 use Rattle.rmeworld.proofs.Projection.{outers, only_some, some_of}
 use Rattle.rmeworld.proofs.Reaching.{all_after-append}
 use Rattle.rmeworld.proofs.ExecutionGrows.{deeds_more}
@@ -72,7 +72,7 @@ mail_led cap s (d ∷ ds) t h = mail_led cap (after s d) ds t h.1
 -- the end of an append with this reply: if every mailbox that is safe with it has T, the mailbox has T
 module _ (l : Layout) (limit p seq : ℕ) (value : List ℕ) (reply : Reply) (T : Mailbox → Type 0) (reports : (m : Message) (old : Mailbox) (w : Words) (now : Mailbox) → message p seq value ≡ m → Safe l p m old (Done reply) w now → T now) where
   last_step : (w : GlobalState) (a : Abstract) (m : Mailbox) (lock : Place) (b c : Bool) (left : Script Reply) (kind : Kind) (word : Word) (v : ℕ) (s' : ProcessState) → moved_by l limit p lock b c (Doing (Working (task.Append seq value)) left) kind word v ≡ Some s'
-      → (is_store kind ≡ false → reading w word ≡ v) → Post l p (a.phase p) w.cells m b (Doing (Working (task.Append seq value)) left) lock → tail left v ≡ Done reply
+      → (is_store kind ≡ false → reading w word ≡ v) → Post l p (a.phase p) (mail_store w.cells m) b (Doing (Working (task.Append seq value)) left) lock → tail left v ≡ Done reply
       → T (all_after (judge_of l a m) (mail_deeds l w.cells (Moves p kind word v))).mail
   last_step w a m lock b c (Asks j rest) Gets (DataAt i) v s' e reads post done =
       let work = post.2 in
@@ -93,10 +93,10 @@ module _ (l : Layout) (limit p seq : ℕ) (value : List ℕ) (reply : Reply) (T 
 
   -- and so in any process state with such a job
   ends : (w : GlobalState) (a : Abstract) (m : Mailbox) (lock : Place) (b c : Bool) (script_state : ScriptState) (left : Script Reply) (kind : Kind) (word : Word) (v : ℕ) (s' : ProcessState) → script_state ≡ Doing (Working (task.Append seq value)) left
-      → moved_by l limit p lock b c script_state kind word v ≡ Some s' → (is_store kind ≡ false → reading w word ≡ v) → Post l p (a.phase p) w.cells m b script_state lock → answer_by lock b c script_state kind v ≡ Some (Mail reply)
+      → moved_by l limit p lock b c script_state kind word v ≡ Some s' → (is_store kind ≡ false → reading w word ≡ v) → Post l p (a.phase p) (mail_store w.cells m) b script_state lock → answer_by lock b c script_state kind v ≡ Some (Mail reply)
       → T (all_after (judge_of l a m) (outer_deeds (outer_by p lock script_state kind v) ++ mail_deeds l w.cells (Moves p kind word v))).mail
   ends w a m lock b c script_state left kind word v s' is e reads post answer =
-      let P : ScriptState → Type 0 = λ x. moved_by l limit p lock b c x kind word v ≡ Some s' → Post l p (a.phase p) w.cells m b x lock → answer_by lock b c x kind v ≡ Some (Mail reply)
+      let P : ScriptState → Type 0 = λ x. moved_by l limit p lock b c x kind word v ≡ Some s' → Post l p (a.phase p) (mail_store w.cells m) b x lock → answer_by lock b c x kind v ≡ Some (Mail reply)
       → T (all_after (judge_of l a m) (outer_deeds (outer_by p lock x kind v) ++ mail_deeds l w.cells (Moves p kind word v))).mail in
       let here : P (Doing (Working (task.Append seq value)) left) = λ e2 post2 answer2. last_step w a m lock b c left kind word v s' e2 reads post2 (answers (task.Append seq value) b (tail left v) reply answer2) in
       subst P (sym is) here e post answer

@@ -17,7 +17,7 @@ use Rattle.redomail.proofs.Safe.{seen}
 use Rattle.judge.specs.Legal.{and_then}
 use Rattle.rmeworld.specs.declared.call.Call.TheVariants.{Get, Put}
 use Rattle.rmeworld.proofs.Projection.{at_lock_some, begun, inside_some}
-use Rattle.rmeworld.proofs.Knowing.{Clean, Work, Post, PostAt, settled_post, Post-out, checking, ruining, mending, appending, closing, getting, putting, work_tells}
+use Rattle.rmeworld.proofs.Knowing.{mail_store, Clean, Work, Post, PostAt, settled_post, Post-out, checking, ruining, mending, appending, closing, getting, putting, work_tells}
 
 abbrev pub AllowsBy : ℕ → Abstract → Option Outer → Type 0
 AllowsBy n a None = Unit {0}
@@ -41,16 +41,26 @@ shape_in l a w m p k below i = k.shape p (λ r lt j. k.sole r p lt below j i)
 clean_by : (l : Layout) (p : ℕ) (w : Words) (m : Mailbox) → Shape l p w m → (w 0 ≡ 0 → w 3 ≡ 0) → (w 3 ≡ 0) ⊎ (m.ruined ≡ true)
 clean_by l p w m h clean = elim (cases_Bool m.ruined) [ inl t ↦ inr t | inr f ↦ inl (clean (h.ruined ∙ ap bit f)) ]
 
-pub record Outcome (l : Layout) (a : Abstract) (w : Words) (m : Mailbox) (p : ℕ) (d : Option Outer) (ds : List Deed) (w' : Words) (process_state : ProcessState) : Type 0 where
+-- the lock without its words, the words, and the mailbox
+pub record AbstractWorld : Type 0 where
+  pub lock : Abstract
+  pub words : Words
   pub mail : Mailbox
-  pub leads : Leads (judge_of l a m) (outer_deeds d ++ ds) (judge_of l (done_by a d) mail)
-  pub kept : Kept l (done_by a d) w' mail
-  pub here : PostAt l p ((done_by a d).phase p) w' mail process_state
-  pub others : (q : ℕ) → q < l.procs → q ≢ p → (x : ProcessState) → PostAt l q (a.phase q) w m x → PostAt l q ((done_by a d).phase q) w' mail x
+
+abbrev pub abstract_world : Abstract → Words → Mailbox → AbstractWorld
+abstract_world lock words mail = record { lock = lock; words = words; mail = mail }
+
+-- after an event of p, with this deed of the lock and these of the mailbox
+pub record Outcome (l : Layout) (before : AbstractWorld) (p : ℕ) (d : Option Outer) (ds : List Deed) (w' : Words) (process_state : ProcessState) : Type 0 where
+  pub mail : Mailbox
+  pub leads : Leads (judge_of l before.lock before.mail) (outer_deeds d ++ ds) (judge_of l (done_by before.lock d) mail)
+  pub kept : Kept l (done_by before.lock d) w' mail
+  pub here : PostAt l p ((done_by before.lock d).phase p) w' mail process_state
+  pub others : (q : ℕ) → q < l.procs → q ≢ p → (x : ProcessState) → PostAt l q (before.lock.phase q) before.words before.mail x → PostAt l q ((done_by before.lock d).phase q) w' mail x
 
 module _ (l : Layout) (a : Abstract) (w : Words) (m : Mailbox) (p : ℕ) (layout : IsLayout l) (below : p < l.procs) (k : Kept l a w m) where
   abbrev Goes : Option Outer → ProcessState → Type 0
-  Goes d process_state = Outcome l a w m p d [] w process_state
+  Goes d process_state = Outcome l (abstract_world a w m) p d [] w process_state
 
   pub nothing : (process_state : ProcessState) → PostAt l p (a.phase p) w m process_state → Goes None process_state
   nothing process_state h = record { mail = m; leads = refl; kept = k; here = h; others = λ q lt ne x y. y }
@@ -134,7 +144,7 @@ module _ (l : Layout) (a : Abstract) (w : Words) (m : Mailbox) (p : ℕ) (layout
 
   -- a put of the process inside
   by_put : (i v : ℕ) (process_state : ProcessState) (t : Mailbox) → a.phase p ≡ phase.Inside → MailLeads l.cap m (deeds_of_put l p w i v) t → Shape l p (put w i v) t → PostAt l p (a.phase p) (put w i v) t process_state
-      → Outcome l a w m p None (deeds_of_put l p w i v) (put w i v) process_state
+      → Outcome l (abstract_world a w m) p None (deeds_of_put l p w i v) (put w i v) process_state
   by_put i v process_state t h leads shape here =
       let me : IsInSection (a.phase p) = subst IsInSection (sym h) tt in
       record {
@@ -160,7 +170,7 @@ module _ (l : Layout) (a : Abstract) (w : Words) (m : Mailbox) (p : ℕ) (layout
   away ph u x b c from Leaving h = absurd (h)
   away ph u x b c from _ h = tt
 
-  stay : (b c : Bool) (lock : Place) → Post l p (a.phase p) w m b Free lock → PostAt l p (a.phase p) w m (entry b c lock lock)
+  stay : (b c : Bool) (lock : Place) → Post l p (a.phase p) (mail_store w m) b Free lock → PostAt l p (a.phase p) w m (entry b c lock lock)
   stay b c Inside h = h
   stay b c _ h = h
 
@@ -189,7 +199,7 @@ module _ (l : Layout) (a : Abstract) (w : Words) (m : Mailbox) (p : ℕ) (layout
   plain b c from to (Some (Quit q)) h own may = by_deed (Quit q) (entry b c from to) own may tt (λ kept. away _ w m b c from to h)
   plain b c from to (Some _) h own may = absurd (own)
 
-  turned : (b c : Bool) (from to : Place) (d : Option Outer) → Turn p from to d → AllowsBy l.procs a d → Post l p (a.phase p) w m b Free from → Goes d (entry b c from to)
+  turned : (b c : Bool) (from to : Place) (d : Option Outer) → Turn p from to d → AllowsBy l.procs a d → Post l p (a.phase p) (mail_store w m) b Free from → Goes d (entry b c from to)
   turned b c from to d (Enters y unpassed looked e f g) may h =
       let may' : AllHold (needs l.procs a (Enter p)) = subst (AllowsBy l.procs a) g may in
       subst (λ x. Goes x (entry b c from to)) (sym g) (subst (λ x. Goes (Some (Enter p)) (entry b c x to)) (sym e) (subst (λ x. Goes (Some (Enter p)) (entry b c (Wait y unpassed looked) x)) (sym f) (enters b c y unpassed looked may')))
@@ -199,7 +209,7 @@ module _ (l : Layout) (a : Abstract) (w : Words) (m : Mailbox) (p : ℕ) (layout
       (by_deed (Reenter p) (entry b c (Reread call seen) Inside) refl may' tt (back_in b c call seen))))
   turned b c from to d (Exits e f g) may h =
       let may' : AllHold (needs l.procs a (Leave p)) = subst (AllowsBy l.procs a) g may in
-      let known : Post l p (a.phase p) w m b Free Leaving = subst (λ x. Post l p (a.phase p) w m b Free x) e h in
+      let known : Post l p (a.phase p) (mail_store w m) b Free Leaving = subst (λ x. Post l p (a.phase p) (mail_store w m) b Free x) e h in
       subst (λ x. Goes x (entry b c from to)) (sym g) (by_deed (Leave p) (entry b c from to) refl may' known.1 (λ kept. away _ w m b c from to f))
   turned b c from to d (Same e f) may h =
       subst (λ x. Goes x (entry b c from to)) (sym f) (nothing (entry b c from to) (subst (λ x. PostAt l p (a.phase p) w m (entry b c from x)) e (stay b c from h)))
@@ -209,7 +219,7 @@ module _ (l : Layout) (a : Abstract) (w : Words) (m : Mailbox) (p : ℕ) (layout
   falls may = by_deed (Crash p) dead_process refl may tt (λ kept. tt)
 
   -- starts
-  starts : (b : Bool) (lock : Place) (call : CoreCall) (to : Place) → place_after_start lock call ≡ Some to → (call ≡ core.Unlock → b ≡ true) → Post l p (a.phase p) w m b Free lock → PostAt l p (a.phase p) w m (entry b false lock to)
+  starts : (b : Bool) (lock : Place) (call : CoreCall) (to : Place) → place_after_start lock call ≡ Some to → (call ≡ core.Unlock → b ≡ true) → Post l p (a.phase p) (mail_store w m) b Free lock → PostAt l p (a.phase p) w m (entry b false lock to)
   starts b Rest core.Lock to e whole h = let is : Reread core.Lock [] ≡ to = cc in away (a.phase p) w m b false Rest to (subst Elsewhere is tt)
   starts b Rest core.Recover to e whole h = let is : Reread core.Recover [] ≡ to = cc in away (a.phase p) w m b false Rest to (subst Elsewhere is tt)
   starts b Dead core.Lock to e whole h = let is : Reread core.Lock [] ≡ to = cc in away (a.phase p) w m b false Dead to (subst Elsewhere is tt)
@@ -220,18 +230,18 @@ module _ (l : Layout) (a : Abstract) (w : Words) (m : Mailbox) (p : ℕ) (layout
   starts b (Wait y unpassed looked) core.Withdraw to e whole h = let is : Withdrawing ≡ to = cc in away (a.phase p) w m b false (Wait y unpassed looked) to (subst Elsewhere is tt)
   starts b _ _ to e whole h = absurd (cc)
 
-  by_start : (b : Bool) (lock : Place) (call : CoreCall) (s' : ProcessState) → at_lock l p lock b false (place_after_start lock call) ≡ Some s' → (call ≡ core.Unlock → b ≡ true) → Post l p (a.phase p) w m b Free lock → Goes None s'
+  by_start : (b : Bool) (lock : Place) (call : CoreCall) (s' : ProcessState) → at_lock l p lock b false (place_after_start lock call) ≡ Some s' → (call ≡ core.Unlock → b ≡ true) → Post l p (a.phase p) (mail_store w m) b Free lock → Goes None s'
   by_start b lock call s' e whole h =
       let r = at_lock_some l p lock b false (place_after_start lock call) s' e in
       subst (Goes None) r.process_state (nothing (entry b false lock r.place) (starts b lock call r.place r.some whole h))
 
-  by_script : (b : Bool) (lock : Place) (fits : Bool) (purpose : Purpose) (e : Script Reply) (s' : ProcessState) → (lock ≡ Inside) × (fits ≡ true) × (begun b purpose e ≡ s') → Post l p (a.phase p) w m b Free lock
+  by_script : (b : Bool) (lock : Place) (fits : Bool) (purpose : Purpose) (e : Script Reply) (s' : ProcessState) → (lock ≡ Inside) × (fits ≡ true) × (begun b purpose e ≡ s') → Post l p (a.phase p) (mail_store w m) b Free lock
       → (fits ≡ true → Shape l p w m → (b ≡ true → Clean w) → Work l p w m b purpose e) → Goes None s'
   by_script b lock fits purpose e s' r h work =
-      let known : Post l p (a.phase p) w m b Free Inside = subst (λ x. Post l p (a.phase p) w m b Free x) r.0 h in
+      let known : Post l p (a.phase p) (mail_store w m) b Free Inside = subst (λ x. Post l p (a.phase p) (mail_store w m) b Free x) r.0 h in
       subst (Goes None) r.2 (nothing (begun b purpose e) (refl, known.0, work r.1 (shape_of known.0) known.1))
 
-  pub begins : (lock : Place) (b : Bool) (script_state : ScriptState) (call : Call) (s' : ProcessState) → begun_from l p lock b script_state call ≡ Some s' → Post l p (a.phase p) w m b script_state lock → Goes None s'
+  pub begins : (lock : Place) (b : Bool) (script_state : ScriptState) (call : Call) (s' : ProcessState) → begun_from l p lock b script_state call ≡ Some s' → Post l p (a.phase p) (mail_store w m) b script_state lock → Goes None s'
   begins lock b Free Lock s' e h = by_start b lock core.Lock s' e (λ x. absurd (cc)) h
   begins lock b Free Recover s' e h = by_start b lock core.Recover s' e (λ x. absurd (cc)) h
   begins lock b Free Withdraw s' e h = by_start b lock core.Withdraw s' e (λ x. absurd (cc)) h
@@ -252,7 +262,7 @@ module _ (l : Layout) (a : Abstract) (w : Words) (m : Mailbox) (p : ℕ) (layout
 
   -- a step of a script, with the meaning of its answer
   abbrev pub Report : Option Outer → List Deed → Words → ProcessState → ScriptState → ℕ → Type 0
-  Report d ds u process_state script_state v = (o : Outcome l a w m p d ds u process_state) × ScriptStateTells p script_state v o.mail.shown
+  Report d ds u process_state script_state v = (o : Outcome l (abstract_world a w m) p d ds u process_state) × ScriptStateTells p script_state v o.mail.shown
 
   pub gets : (b c : Bool) (purpose : Purpose) (j : ℕ) (rest : ℕ → Script Reply) (v : ℕ) (s' : ProcessState) → process_after_script b c purpose (rest v) ≡ s' → w j ≡ v → a.phase p ≡ phase.Inside → Work l p w m b purpose (Asks j rest) → Report None [] w s' (Doing purpose (Asks j rest)) v
   unfolding nothing
@@ -276,7 +286,7 @@ module _ (l : Layout) (a : Abstract) (w : Words) (m : Mailbox) (p : ℕ) (layout
 
   -- a step of the lock
   pub locks : (limit : ℕ) (lock : Place) (b c : Bool) (kind : Kind) (word : Word) (v : ℕ) (s' : ProcessState) → at_lock l p lock b c (next l.procs limit p lock kind word v) ≡ Some s' → AllowsBy l.procs a (step_deed p lock kind v)
-      → Post l p (a.phase p) w m b Free lock → Goes (step_deed p lock kind v) s'
+      → Post l p (a.phase p) (mail_store w m) b Free lock → Goes (step_deed p lock kind v) s'
   locks limit lock b c kind word v s' e may h =
       let r = at_lock_some l p lock b c (next l.procs limit p lock kind word v) s' e in
       subst (Goes (step_deed p lock kind v)) r.process_state (turned b c lock r.place (step_deed p lock kind v) (turn l.procs limit p lock kind word v r.place r.some) may h)

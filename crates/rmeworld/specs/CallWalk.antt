@@ -54,21 +54,29 @@ abbrev pub last_process_state : Layout → ℕ → ProcessState → List WorldEv
 last_process_state l limit process_state [] = process_state
 last_process_state l limit process_state (e ∷ es) = last_process_state l limit (next_or_same l limit process_state e) es
 
+-- the process's words at a call's start, and whether it had mended the mailbox
+pub record CallBegin : Type 0 where
+  pub words : Own
+  pub mended : Bool
+
+abbrev pub call_begin : Own → Bool → CallBegin
+call_begin words mended = record { words = words; mended = mended }
+
 -- after these steps with these answers, the call is under way with fewer steps than its bound, or it has one answer and
 -- exactly the table's steps. Blocked steps are not counted
-abbrev pub WalksCall : Layout → Own → Bool → Call → List Answer → ProcessState → ℕ → ℕ → Type 0
-WalksCall l began mended call [] process_state steps blocked =
-    (call_at process_state ≡ Some call) × ((x : ℕ) × PaysAt l began process_state x × (steps ≡ x + blocked) × (x < most_steps l call))
-WalksCall l began mended call (a ∷ []) process_state steps blocked =
-    (call_at process_state ≡ None) × ((x : ℕ) × (own_steps l began mended call a ≡ Some x) × (steps ≡ x + blocked))
-WalksCall l began mended call (a ∷ b ∷ more) process_state steps blocked = ⊥
+abbrev pub WalksCall : Layout → CallBegin → Call → List Answer → ProcessState → ℕ → ℕ → Type 0
+WalksCall l began call [] process_state steps blocked =
+    (call_at process_state ≡ Some call) × ((x : ℕ) × PaysAt l began.words process_state x × (steps ≡ x + blocked) × (x < most_steps l call))
+WalksCall l began call (a ∷ []) process_state steps blocked =
+    (call_at process_state ≡ None) × ((x : ℕ) × (own_steps l began.words began.mended call a ≡ Some x) × (steps ≡ x + blocked))
+WalksCall l began call (a ∷ b ∷ more) process_state steps blocked = ⊥
 
 -- the law: a process starts a call that is allowed, and then takes steps
 abbrev pub CallsTakeTheirSteps : Type 0
 CallsTakeTheirSteps =
     (l : Layout) (limit p : ℕ) (began : Own) (process_state : ProcessState) (call : Call) (es : List WorldEvent) → p < l.procs → IsSome (next_process_state l limit process_state (Begins p call))
     → let first = next_or_same l limit process_state (Begins p call) in
-    Walks l limit p began first es → WalksCall l began process_state.mended call (answers_in l limit first es) (last_process_state l limit first es) (length es) (blocked_in l limit first es)
+    Walks l limit p began first es → WalksCall l (call_begin began process_state.mended) call (answers_in l limit first es) (last_process_state l limit first es) (length es) (blocked_in l limit first es)
 
 -- no number of the table is above the bound of its call
 abbrev pub NoCallTakesMore : Type 0

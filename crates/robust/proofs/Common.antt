@@ -49,7 +49,7 @@ pub use Rattle.table_runs.specs.WorkingMembers.{Seated, fell, began}
 pub use Rattle.table_runs.specs.Runs.{before, access_event, world_events, events_of_run, entries_of, IsRun, end_of, process_state_past, process_state_of, crash_first, AllowsEvents, has, word_count}
 pub use Rattle.table_runs.specs.AppendReplies.{ReportedIn}
 pub use Rattle.table_runs.specs.Under.{Appends, AllReplies, IsMendingReply}
-pub use Rattle.table_runs.specs.Whole.{WholeEnds, calls_inside, answers_inside, AppendFails, IsWholeOutcome, IsFront, AreCallsOf, WholeFails}
+pub use Rattle.table_runs.specs.Whole.{WholeEnds, calls_inside, answers_inside, AppendFails, append_request, IsWholeOutcome, IsFront, AreCallsOf, WholeFails}
 pub use Rattle.table_runs.proofs.Counted.{few_out, err_any, ok_any, called_counts}
 pub use Rattle.table_runs.proofs.Gathered.{all_left, all_right, knows_some, absorbs_on, knows_first, one_table, stays_on, looked_stays, found_first, knows_all, still_all, image_is, gathers, may_glance, all_some, looked, first_removed}
 pub use Rattle.table_runs.proofs.LawfulEnd.{length-counted, cells_counted, lawful_end}

@@ -1,7 +1,7 @@
 -- How a worker's append can fail, if its member is outside the section and its value has the right width.
 use Rattle.std.proofs.Common.{◌≡◌, ◌≢◌, ◌⊎◌, ℕ, ◌+◌, ◌-◌, ◌<◌, ◌≤◌, Bool, true, false, if◌then◌else◌, List, [], ◌++◌, length, Some, None, Result, Ok, Err, IfOk, IfErr, refl, sym, ap, ◌∙◌, subst, inl, inr, arith, append_assoc, append-nil}
 use Rattle.robust.proofs.Common.{TableId, Reply, IsAmong, Answer, Call, Append, Lock, is_idle, ReplyTells, TakenStep, LockFault, Crashed, NotYet, AlreadyIn, Setup, refusal_now, free_to_start, shown_by}
-use Rattle.robust.proofs.Common.{judged_by, process_state_now, Calls, Seated, fell, began, ReportedIn, Appends, Askings, WholeEnds, AppendFails, IsWholeOutcome, shown_on, RefusedAt, HasShown, seat_of}
+use Rattle.robust.proofs.Common.{judged_by, process_state_now, Calls, Seated, fell, began, ReportedIn, Appends, Askings, WholeEnds, AppendFails, append_request, IsWholeOutcome, shown_on, RefusedAt, HasShown, seat_of}
 use Rattle.rmecore.specs.declared.refusal.Refusal.TheVariants.{AlreadyIn as IsIn, CallUnderWay}
 use Rattle.redomail.specs.declared.reply.Reply.TheVariants as reply
 use Rattle.table_runs.specs.declared.lock_fault.LockFault.TheVariants.{NumbersSpent, NotRecoverable, BadWidth}
@@ -24,7 +24,7 @@ comes_left turns task e order answers blocked (inr (few, inr (inl h))) = inr (in
 comes_left turns task e order answers blocked (inr (few, inr (inr h))) = inr (inr (inr h.0))
 
 module _ (x y : Seated) (seq : ℕ) (value : List ℕ) (a b : Askings) where
-  fails_left : (turns : ℕ) (e : LockFault) → AppendFails x turns seq value y a b e → length value ≡ x.seat_view.setup.layout.width → refusal_now (free_to_start x) Lock ≡ None → IsLeft e
+  fails_left : (turns : ℕ) (e : LockFault) → AppendFails x turns (append_request seq value) y a b e → length value ≡ x.seat_view.setup.layout.width → refusal_now (free_to_start x) Lock ≡ None → IsLeft e
   fails_left turns e (inl h) wide may = absurd (h.1 wide)
   fails_left turns e (inr (fits, inl h)) wide may = absurd (idle_in (is_idle (process_state_now x.seat_view)) x refl h.1 may)
   fails_left turns e (inr (fits, inr (accepted, inl h))) wide may = inl h.0
@@ -36,13 +36,13 @@ module _ (x y : Seated) (seq : ℕ) (value : List ℕ) (a b : Askings) where
   not_in e (inr (inr (inl h))) = (λ k. absurd (cc), λ k. absurd (cc))
   not_in e (inr (inr (inr h))) = (λ k. absurd (cc), λ k. absurd (cc))
 
-  pub append_left : (r : Result Reply LockFault) → IfErr r (λ e. (turns : ℕ) × AppendFails x turns seq value y a b e) → length value ≡ x.seat_view.setup.layout.width → refusal_now (free_to_start x) Lock ≡ None → (r ≢ Err AlreadyIn) × (r ≢ Err BadWidth)
+  pub append_left : (r : Result Reply LockFault) → IfErr r (λ e. (turns : ℕ) × AppendFails x turns (append_request seq value) y a b e) → length value ≡ x.seat_view.setup.layout.width → refusal_now (free_to_start x) Lock ≡ None → (r ≢ Err AlreadyIn) × (r ≢ Err BadWidth)
   append_left (Ok reply) h wide may = (λ k. absurd (cc), λ k. absurd (cc))
   append_left (Err e) h wide may =
       let no = not_in e (fails_left h.0 e h.1 wide may) in
       (λ k. no.0 (let same : e ≡ AlreadyIn = cc in same), λ k. no.1 (let same : e ≡ BadWidth = cc in same))
 
-  pub append_faults : (r : Result Reply LockFault) (e : LockFault) → r ≡ Err e → IfErr r (λ e. (turns : ℕ) × AppendFails x turns seq value y a b e) → length value ≡ x.seat_view.setup.layout.width → refusal_now (free_to_start x) Lock ≡ None → e ≢ Crashed → IfErr r (λ e. e ≢ NotYet)
+  pub append_faults : (r : Result Reply LockFault) (e : LockFault) → r ≡ Err e → IfErr r (λ e. (turns : ℕ) × AppendFails x turns (append_request seq value) y a b e) → length value ≡ x.seat_view.setup.layout.width → refusal_now (free_to_start x) Lock ≡ None → e ≢ Crashed → IfErr r (λ e. e ≢ NotYet)
       → (e ≡ NumbersSpent) ⊎ (e ≡ NotRecoverable)
   append_faults (Ok reply) e is h wide may alive patient = absurd (cc)
   append_faults (Err f) e is h wide may alive patient =
@@ -68,14 +68,14 @@ pub grown_on : (x y z : Seated) → Grown x y → Grown y z → Grown x z
 grown_on x y z h g = (h.0 ++ g.0, g.1 ∙ ap (λ (es : List TakenStep). es ++ g.0) h.1 ∙ append_assoc x.seat_view.seen h.0 g.0)
 
 module _ (x y : Seated) (seq : ℕ) (value : List ℕ) (a b : Askings) where
-  fails_grow : (turns : ℕ) (e : LockFault) → AppendFails x turns seq value y a b e → Grown x y
+  fails_grow : (turns : ℕ) (e : LockFault) → AppendFails x turns (append_request seq value) y a b e → Grown x y
   fails_grow turns e (inl h) = still_grown x y h.2
   fails_grow turns e (inr (fits, inl h)) = still_grown x y h.2
   fails_grow turns e (inr (fits, inr (accepted, inl h))) = calls_grow x y h.1.0 h.1.1.calls
   fails_grow turns e (inr (fits, inr (accepted, inr h))) = calls_grow x y h.4.0 h.4.1.calls
 
   -- an append, however it ends
-  pub append_grows : (r : Result Reply LockFault) → IfOk r (λ reply. (turns : ℕ) × WholeEnds (began (free_to_start x) Lock) turns (Append seq value) (Ok reply) y a b) → IfErr r (λ e. (turns : ℕ) × AppendFails x turns seq value y a b e) → Grown x y
+  pub append_grows : (r : Result Reply LockFault) → IfOk r (λ reply. (turns : ℕ) × WholeEnds (began (free_to_start x) Lock) turns (Append seq value) (Ok reply) y a b) → IfErr r (λ e. (turns : ℕ) × AppendFails x turns (append_request seq value) y a b e) → Grown x y
   append_grows (Ok reply) h g = calls_grow x y h.1.4.0 h.1.4.1.calls
   append_grows (Err e) h g = fails_grow g.0 e g.1
 

@@ -1,7 +1,7 @@
 -- A worker's appends start only the calls that send its messages.
 use Rattle.std.proofs.Common.{◌≡◌, ◌⊎◌, ℕ, List, [], ◌∷◌, ◌++◌, Result, Ok, Err, IfOk, IfErr, All, refl, sym, ap, ◌∙◌, subst, inl, inr}
 use Rattle.robust.proofs.Common.{All-nil, All-cons, All-append, Reply, Answer, Call, Append, Lock, Unlock, Consistent, TakenStep, Entry as Entering, LockFault, starts, free_to_start, CutBy, Calls, own_of}
-use Rattle.robust.proofs.Common.{Seated, began, entries_of, Askings, WholeEnds, calls_inside, AppendFails, IsWholeOutcome, IsFront, AreCallsOf, all_left, own-append, OfStart, IsSending, AreSending, SendsOnly}
+use Rattle.robust.proofs.Common.{Seated, began, entries_of, Askings, WholeEnds, calls_inside, AppendFails, append_request, IsWholeOutcome, IsFront, AreCallsOf, all_left, own-append, OfStart, IsSending, AreSending, SendsOnly}
 use Rattle.table_runs.specs.declared.entry_kind.Entry.TheVariants as entering
 use Rattle.robust.proofs.ScriptStates.{each_start}
 use Rattle.robust.proofs.Working.{kept_ready}
@@ -74,13 +74,13 @@ module _ (width k : ℕ) where
     still : y ≡ x → SendsOnly width k y
     still e = subst (SendsOnly width k) (sym e) old
 
-    sends_fails : (turns : ℕ) (e : LockFault) → AppendFails x turns seq value y a b e → SendsOnly width k y
+    sends_fails : (turns : ℕ) (e : LockFault) → AppendFails x turns (append_request seq value) y a b e → SendsOnly width k y
     sends_fails turns e (inl h) = still h.2
     sends_fails turns e (inr (wide, inl h)) = still h.2
     sends_fails turns e (inr (wide, inr (may, inl h))) = sends_cut h.1
     sends_fails turns e (inr (wide, inr (may, inr h))) = sends_whole turns (Err e) h
 
     -- an append, however it ends
-    pub sends_append : (r : Result Reply LockFault) → IfOk r (λ reply. (turns : ℕ) × WholeEnds z turns (Append seq value) (Ok reply) y a b) → IfErr r (λ e. (turns : ℕ) × AppendFails x turns seq value y a b e) → SendsOnly width k y
+    pub sends_append : (r : Result Reply LockFault) → IfOk r (λ reply. (turns : ℕ) × WholeEnds z turns (Append seq value) (Ok reply) y a b) → IfErr r (λ e. (turns : ℕ) × AppendFails x turns (append_request seq value) y a b e) → SendsOnly width k y
     sends_append (Ok reply) h g = sends_whole h.0 (Ok reply) h.1
     sends_append (Err e) h g = sends_fails g.0 e g.1

@@ -1,7 +1,7 @@
 -- A worker that ends with NumbersSpent had that answer at one of its own steps.
 use Rattle.std.proofs.Common.{◌≡◌, ◌⊎◌, ℕ, List, [], ◌∷◌, ◌++◌, Result, Ok, Err, IfErr, refl, sym, ap, ◌∙◌, subst, inl, inr}
 use Rattle.robust.proofs.Common.{Reply, Answer, NumbersSpent as SpentAnswer, Call, Append, Lock, at_rest, TakenStep, LockFault, NotYet, Setup, ServedAll, answers_from, free_to_start, own_of, HasReadRuin}
-use Rattle.robust.proofs.Common.{Seated, began, events_of_run, process_state_past, Askings, WholeEnds, AppendFails, IsWholeOutcome, NumbersWereSpent}
+use Rattle.robust.proofs.Common.{Seated, began, events_of_run, process_state_past, Askings, WholeEnds, AppendFails, append_request, IsWholeOutcome, NumbersWereSpent}
 use Rattle.table_runs.proofs.Ordered.{own_now}
 use Rattle.robust.proofs.Working.{kept_ready}
 use Rattle.table_runs.proofs.Turned.{answers-append}
@@ -33,13 +33,13 @@ module _ (x y : Seated) (seq : ℕ) (value : List ℕ) (a b : Askings) where
       by (inr (few, inr (inl k))) = absurd (let ruined : NotRecoverable ≡ NumbersSpent = sym k.0 ∙ is in cc)
       by (inr (few, inr (inr k))) = absurd (let ruined : NotRecoverable ≡ NumbersSpent = sym k.0 ∙ is in cc)
 
-  fails_spent : (turns : ℕ) (e : LockFault) → e ≡ NumbersSpent → AppendFails x turns seq value y a b e → NumbersWereSpent y.seat_view.setup (own_of y.seat_view)
+  fails_spent : (turns : ℕ) (e : LockFault) → e ≡ NumbersSpent → AppendFails x turns (append_request seq value) y a b e → NumbersWereSpent y.seat_view.setup (own_of y.seat_view)
   fails_spent turns e is (inl h) = absurd (let k = h.0 in cc)
   fails_spent turns e is (inr (wide, inl h)) = absurd (let k = h.0 in cc)
   fails_spent turns e is (inr (wide, inr (may, inl h))) = absurd (let k = h.0 in cc)
   fails_spent turns e is (inr (wide, inr (may, inr h))) = whole_spent turns e is h
 
-  pub append_spent : (r : Result Reply LockFault) (e : LockFault) → r ≡ Err e → e ≡ NumbersSpent → IfErr r (λ e. (turns : ℕ) × AppendFails x turns seq value y a b e) → NumbersWereSpent y.seat_view.setup (own_of y.seat_view)
+  pub append_spent : (r : Result Reply LockFault) (e : LockFault) → r ≡ Err e → e ≡ NumbersSpent → IfErr r (λ e. (turns : ℕ) × AppendFails x turns (append_request seq value) y a b e) → NumbersWereSpent y.seat_view.setup (own_of y.seat_view)
   append_spent (Ok reply) e is spent h = absurd (cc)
   append_spent (Err f) e is spent h = fails_spent h.0 f (let same : f ≡ e = cc in same ∙ spent) h.1
 

@@ -1,6 +1,6 @@
 -- A worker's calls keep its seat.
 use Rattle.std.proofs.Common.{◌≡◌, ℕ, ◌+◌, ◌<◌, Bool, true, false, if◌then◌else◌, List, Result, Ok, Err, IfOk, IfErr, refl, sym, ap, ◌∙◌, subst, inl, inr, arith}
-use Rattle.robust.proofs.Common.{TableId, Reply, Call, Append, Lock, is_idle, TakenStep, LockFault, Setup, free_to_start, process_state_now, Calls, Seated, fell, began, Askings, WholeEnds, AppendFails, WholeFails, words_sent}
+use Rattle.robust.proofs.Common.{TableId, Reply, Call, Append, Lock, is_idle, TakenStep, LockFault, Setup, free_to_start, process_state_now, Calls, Seated, fell, began, Askings, WholeEnds, AppendFails, append_request, WholeFails, words_sent}
 use Rattle.robust.proofs.Common.{IsSending, seat_of}
 
 either : {A : Type 0} (f : Seated → A) (b : Bool) (x : Seated) → f (fell x) ≡ f x → f (if b then x else fell x) ≡ f x
@@ -25,13 +25,13 @@ fails_seat x turns task y a b e (inl h) = ap seat_of h.2
 fails_seat x turns task y a b e (inr (none, inl h)) = calls_seat (began (free_to_start x) Lock) y h.1.0 h.1.1.calls ∙ begun_seat x
 fails_seat x turns task y a b e (inr (none, inr h)) = whole_seat x turns task (Err e) y a b h
 
-append_seat : (x : Seated) (turns seq : ℕ) (value : List ℕ) (y : Seated) (a b : Askings) (e : LockFault) → AppendFails x turns seq value y a b e → seat_of y ≡ seat_of x
+append_seat : (x : Seated) (turns seq : ℕ) (value : List ℕ) (y : Seated) (a b : Askings) (e : LockFault) → AppendFails x turns (append_request seq value) y a b e → seat_of y ≡ seat_of x
 append_seat x turns seq value y a b e (inl h) = ap seat_of h.2
 append_seat x turns seq value y a b e (inr h) = fails_seat x turns _ y a b e h.1
 
 -- an append, however it ends
 pub sent_seat : (x y : Seated) (task : Call) (seq : ℕ) (value : List ℕ) (a b : Askings) (r : Result Reply LockFault)
-    → IfOk r (λ reply. (turns : ℕ) × WholeEnds (began (free_to_start x) Lock) turns task (Ok reply) y a b) → IfErr r (λ e. (turns : ℕ) × AppendFails x turns seq value y a b e) → seat_of y ≡ seat_of x
+    → IfOk r (λ reply. (turns : ℕ) × WholeEnds (began (free_to_start x) Lock) turns task (Ok reply) y a b) → IfErr r (λ e. (turns : ℕ) × AppendFails x turns (append_request seq value) y a b e) → seat_of y ≡ seat_of x
 sent_seat x y task seq value a b (Ok reply) h k = whole_seat x h.0 task (Ok reply) y a b h.1
 sent_seat x y task seq value a b (Err e) h k = append_seat x k.0 seq value y a b e k.1
 

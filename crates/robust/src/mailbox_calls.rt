@@ -9,7 +9,7 @@ ghost use Rattle.table_runs.specs.AppendReplies.{ReportedIn};
 ghost use Rattle.table_runs.specs.Under.{Appends};
 ghost use Rattle.robust.specs.MemberLaws.{seat_of};
 ghost use Rattle.table_runs.specs.WholeSteps.{most_whole};
-ghost use Rattle.table_runs.specs.Whole.{WholeEnds, WholeFails, AppendFails};
+ghost use Rattle.table_runs.specs.Whole.{WholeEnds, WholeFails, AppendFails, append_request};
 
 use crate::laws;
 use crate::member::Member;
@@ -44,7 +44,8 @@ impl Member {
         ensures replied { IfOk result (λ reply. WholeEnds (began (free_to_start self.old) Call.Lock) turns (Call.Append seq value)
             (Ok reply)
             self.new (C.askings plan.old) (C.askings plan.new)) }
-        ensures fails { IfErr result (AppendFails self.old turns seq value self.new (C.askings plan.old) (C.askings plan.new)) }
+        ensures fails { IfErr result (AppendFails self.old turns (append_request seq value) self.new (C.askings plan.old)
+            (C.askings plan.new)) }
         ensures few { OnOk result (self.new.steps ≤ most_whole self.old.seat_view.setup.layout (Call.Append seq value) + turns) }
         ensures few_out { IfErr result (λ e. e ≢ LockFault.AlreadyIn → e ≢ LockFault.BadWidth
             → self.new.steps ≤ most_whole self.old.seat_view.setup.layout (Call.Append seq value) + turns) }
@@ -111,7 +112,7 @@ impl Member {
             × WholeEnds (began (free_to_start self.old) Call.Lock) turns (Call.Append seq value) (Ok reply) self.new (C.askings plan.old)
             (C.askings plan.new)) }
         ensures fails { IfErr result (λ e. (turns : ℕ)
-            × AppendFails self.old turns seq value self.new (C.askings plan.old) (C.askings plan.new) e) }
+            × AppendFails self.old turns (append_request seq value) self.new (C.askings plan.old) (C.askings plan.new) e) }
         ensures patient { IfErr result (λ e. e ≢ LockFault.NotYet) }
         ensures kind { IfOk result (Appends seq) }
         ensures tells { IfOk result (λ reply. ReportedIn self.old seq reply self.new) }

@@ -1,7 +1,7 @@
 -- Calls in a row are calls.
 use Rattle.std.proofs.Common.{◌≡◌, ℕ, ◌+◌, ◌⊎◌, Bool, false, List, [], ◌∷◌, ◌++◌, length, Option, Some, None, All, refl, sym, ap, ◌∙◌, subst, inl, inr, arith, append-nil, append_assoc, length-append}
 use Rattle.table_runs.proofs.Common.{All-nil, All-cons, All-append, is_glance, Answer, Call, Lock, ProcessState, at_rest, TakenStep, Setup, and_call, starts, FirstStart, FirstCrash, answers_of}
-use Rattle.table_runs.proofs.Common.{blocked_of, Ran, CutOff, Crashes, StartsWith, FirstStarts, answers_from, blocked_from, ServedAll, CrashesIn, Askings, NeverCrashes, Fell, CutBy, CutIn, AnsweredBy, LockBy, LockEnds}
+use Rattle.table_runs.proofs.Common.{blocked_of, Ran, CutOff, Crashes, StartsWith, FirstStarts, answers_from, blocked_from, ServedAll, CrashesIn, Askings, NeverCrashes, Fell, CutBy, CutIn, AnsweredBy, call_series, LockBy, LockEnds}
 use Rattle.table_runs.proofs.Common.{SeatView, IsSeatView, EndsWith, Calls, Seated, many_more, fell, after_further_start, events_of_run, entries_of, process_state_past, process_state_of}
 use Rattle.table_runs.proofs.Runs.{own-append, spelled-append}
 use Rattle.table_runs.proofs.Leads.{gone-append}
@@ -150,17 +150,17 @@ one_asking : (m : List TakenStep) → (length m + 0) + 1 ≡ length m + 1
 one_asking m = omega arith
 
 -- the asking before the answer
-pub asked_after : (x y z : Seated) (order : List Call) (reports : List Answer) (j : ℕ) (a0 a1 a2 : Askings) → AnsweredBy 0 x order reports j y a0 a1 → z ≡ y → NeverCrashes 1 a1 a2 → AnsweredBy 1 x order reports j z a0 a2
+pub asked_after : (x y z : Seated) (order : List Call) (reports : List Answer) (j : ℕ) (a0 a1 a2 : Askings) → AnsweredBy 0 x (call_series order reports j) y a0 a1 → z ≡ y → NeverCrashes 1 a1 a2 → AnsweredBy 1 x (call_series order reports j) z a0 a2
 asked_after x y z order reports j a0 a1 a2 h e k = (h.0, subst (λ (u : Seated). ServedAll x order reports j u h.0) (sym e) h.1, asked_on h.2 k (one_asking h.0))
 
-pub cut_asked : (x y z : Seated) (c : Call) (cs : List Call) (reports : List Answer) (j : ℕ) (a0 a1 a2 : Askings) (Q : List Call → Type 0) → AnsweredBy 0 x (c ∷ cs) reports j y a0 a1 → z ≡ fell y → Fell 1 a1 a2 → Q (c ∷ cs) → CutBy x Q z a0 a2
+pub cut_asked : (x y z : Seated) (c : Call) (cs : List Call) (reports : List Answer) (j : ℕ) (a0 a1 a2 : Askings) (Q : List Call → Type 0) → AnsweredBy 0 x (call_series (c ∷ cs) reports j) y a0 a1 → z ≡ fell y → Fell 1 a1 a2 → Q (c ∷ cs) → CutBy x Q z a0 a2
 cut_asked x y z c cs reports j a0 a1 a2 Q h e k q = (h.0, crashes_after_it x y z c cs reports j h.0 h.1 Q e q, fell_on h.2 k (one_asking h.0))
 
-pub answered-append : (x y z : Seated) (c d : Call) (cs ds : List Call) (reports bs : List Answer) (j k more : ℕ) (a0 a1 a2 : Askings) → AnsweredBy 0 x (c ∷ cs) reports j y a0 a1 → AnsweredBy more y (d ∷ ds) bs k z a1 a2
-    → AnsweredBy more x (c ∷ cs ++ d ∷ ds) (reports ++ bs) (j + k) z a0 a2
+pub answered-append : (x y z : Seated) (c d : Call) (cs ds : List Call) (reports bs : List Answer) (j k more : ℕ) (a0 a1 a2 : Askings) → AnsweredBy 0 x (call_series (c ∷ cs) reports j) y a0 a1 → AnsweredBy more y (call_series (d ∷ ds) bs k) z a1 a2
+    → AnsweredBy more x (call_series (c ∷ cs ++ d ∷ ds) (reports ++ bs) (j + k)) z a0 a2
 answered-append x y z c d cs ds reports bs j k more a0 a1 a2 h t = (h.0 ++ t.0, served-append x y z c cs reports j h.0 h.1 d ds bs k t.0 t.1, asked_on h.2 t.2 (lengths h.0 t.0 more))
 
-pub cut_after : (x y z : Seated) (c : Call) (cs : List Call) (reports : List Answer) (j : ℕ) (a0 a1 a2 : Askings) (P Q : List Call → Type 0) → AnsweredBy 0 x (c ∷ cs) reports j y a0 a1 → CutBy y P z a1 a2 → Q (c ∷ cs) → ((ds : List Call) → P ds → Q (c ∷ cs ++ ds)) → CutBy x Q z a0 a2
+pub cut_after : (x y z : Seated) (c : Call) (cs : List Call) (reports : List Answer) (j : ℕ) (a0 a1 a2 : Askings) (P Q : List Call → Type 0) → AnsweredBy 0 x (call_series (c ∷ cs) reports j) y a0 a1 → CutBy y P z a1 a2 → Q (c ∷ cs) → ((ds : List Call) → P ds → Q (c ∷ cs ++ ds)) → CutBy x Q z a0 a2
 cut_after x y z c cs reports j a0 a1 a2 P Q h t first more = (h.0 ++ t.0, crashes_after x y z c cs reports j h.0 h.1 P Q t.0 t.1 first more, fell_on h.2 t.2 (lengths h.0 t.0 1))
 
 -- a call after another one

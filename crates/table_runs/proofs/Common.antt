@@ -41,7 +41,7 @@ pub use Rattle.rmeworld.specs.declared.call.Call.TheVariants.{Lock, Unlock, Cons
 pub use Rattle.rmeworld.specs.declared.purpose.Purpose.{Purpose}
 pub use Rattle.rmeworld.specs.declared.purpose.Purpose.TheVariants.{Checking, Ruining, Mending, Working}
 pub use Rattle.rmeworld.specs.Answered.{by_lock, by_reply, by_script, answer_at, blocked_by, answer_by}
-pub use Rattle.rmeworld.specs.CallWalk.{next_or_same, and_answer, answers_in, blocked_in, last_process_state, WalksCall, Walks}
+pub use Rattle.rmeworld.specs.CallWalk.{next_or_same, and_answer, answers_in, blocked_in, last_process_state, WalksCall, call_begin, Walks}
 pub use Rattle.rmeworld.specs.Entered.{is_entry}
 pub use Rattle.rmeworld.specs.OwnSteps.{most_steps, own_steps}
 pub use Rattle.rmeworld.specs.Refused.{is_idle, is_waiting, start_refusal, is_inside}
@@ -63,7 +63,7 @@ pub use Rattle.table_runs.specs.declared.setup.Setup.{Setup}
 pub use Rattle.table_runs.specs.Board.{is_data, or_earlier, last_put, value_or, LastIsOwn}
 pub use Rattle.crash_plans.specs.Plans.{Askings, many_more, NeverCrashes, Fell}
 pub use Rattle.table_runs.specs.Calls.{Served, and_call, starts, FirstStart, AreMoves, FirstCrash, answers_of, blocked_of, TakesSteps, blocks, Ran, CutOff, Crashes, StartsWith, FirstStarts, answers_from, blocked_from, ServedAll, CrashesIn, Turning, process_state_before, is_blocked_at, Going, Still}
-pub use Rattle.table_runs.specs.Faults.{CutBy, CutIn, AnsweredBy, LockBy, LockEnds, free_to_start, refusal_now, answer_of}
+pub use Rattle.table_runs.specs.Faults.{CutBy, CutIn, AnsweredBy, call_series, LockBy, LockEnds, free_to_start, refusal_now, answer_of}
 pub use Rattle.table_runs.specs.GatheredRuns.{OneArena, has_member, image_at, IsGlance, IsWholeView, IsGatheredRun, Gathers, Knows, Absorbs, AnswersAll, Looked, Stays}
 pub use Rattle.table_runs.specs.Headline.{deeds_of, judged_by, shown_by, process_state_at, AppendIsShown}
 pub use Rattle.table_runs.specs.StepBounds.{Within, exit_of, Lasts, LastsBy}
@@ -75,5 +75,5 @@ pub use Rattle.table_runs.specs.WorkingMembers.{Seated, began, fell, after_furth
 pub use Rattle.table_runs.specs.Runs.{before, access_event, world_events, events_of_run, entries_of, IsRun, end_of, process_state_past, process_state_of, has, index, InTable, AllowsEvents, word_count, IsBeyond, Shows, stores, crash_first}
 pub use Rattle.table_runs.specs.Tabled.{KeepsTable, CountsAtMost, words_begun, process_state_begun, table_steps, blocked_since, LockCounts, CallsKeepTheTable}
 pub use Rattle.table_runs.specs.Under.{AllReplies, IsMendingReply, Begun, Appends, under_place, IsWord, UnderScript, IsUnder, IsAnswerOf, Leaves, IsHolder, UnderBy}
-pub use Rattle.table_runs.specs.Whole.{IsTask, WholeEnds, AppendFails, IsWholeOutcome, IsFront, AreCallsOf, calls_inside, IsInner, Inner, WholeBy, WholeGoes, WholeFails}
+pub use Rattle.table_runs.specs.Whole.{IsTask, WholeEnds, AppendFails, IsWholeOutcome, IsFront, AreCallsOf, calls_inside, IsInner, Inner, WholeBy, whole_task, append_request, WholeGoes, WholeFails}
 pub use Rattle.table_runs.specs.WholeSteps.{mended_by, SumCounts, InsideCounts, both, table_sum, StoredAppendSteps, most_inside, most_whole}

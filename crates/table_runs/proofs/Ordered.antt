@@ -1,7 +1,7 @@
 -- A worker's appends start their calls in order, and a worker that is answered NotRecoverable has read the ruin.
 use Rattle.std.proofs.Common.{◌≡◌, ◌⊎◌, ℕ, Bool, true, false, List, [], ◌∷◌, ◌++◌, Option, Some, None, Result, Ok, Err, IfOk, IfErr, All, refl, sym, ap, ◌∙◌, subst, inl, inr}
 use Rattle.table_runs.proofs.Common.{All-head, All-tail, Reply, Answer, Call, Lock, Unlock, Consistent, Append, is_idle, TakenStep, Entry as Entering, LockFault, and_call, starts, FirstCrash, free_to_start}
-use Rattle.table_runs.proofs.Common.{IsGlance, process_state_now, Calls, own_of, last_call, last_of, MayStart, AreInWorkerOrder, Seated, began, entries_of, Askings, WholeEnds, AppendFails, IsWholeOutcome, IsFront, AreCallsOf, calls_inside}
+use Rattle.table_runs.proofs.Common.{IsGlance, process_state_now, Calls, own_of, last_call, last_of, MayStart, AreInWorkerOrder, Seated, began, entries_of, Askings, WholeEnds, AppendFails, append_request, IsWholeOutcome, IsFront, AreCallsOf, calls_inside}
 use Rattle.table_runs.specs.declared.entry_kind.Entry.TheVariants as entering
 use Rattle.table_runs.proofs.Outside.{ready_same}
 use Rattle.table_runs.proofs.Runs.{own-append}
@@ -112,13 +112,13 @@ module _ (x y : Seated) (seq : ℕ) (value : List ℕ) (a b : Askings) (old : In
   orders_whole turns r h =
       orders_calls x y _ h.4.0 h.4.1.calls h.4.1.crash (λ other. subst (CallsInOrder other) (sym h.4.1.started) (comes_order seq value other turns r h.0 h.1 h.2 h.3)) old
 
-  orders_fails : (turns : ℕ) (e : LockFault) → AppendFails x turns seq value y a b e → InOrder y
+  orders_fails : (turns : ℕ) (e : LockFault) → AppendFails x turns (append_request seq value) y a b e → InOrder y
   orders_fails turns e (inl h) = subst InOrder (sym h.2) old
   orders_fails turns e (inr (wide, inl h)) = subst InOrder (sym h.2) old
   orders_fails turns e (inr (wide, inr (may, inl h))) = orders_calls x y _ h.1.0 h.1.1.calls h.1.1.crash (λ other. cut_order seq value other h.1.0 h.1.1.started) old
   orders_fails turns e (inr (wide, inr (may, inr h))) = orders_whole turns (Err e) h
 
   -- an append, however it ends
-  pub orders_append : (r : Result Reply LockFault) → IfOk r (λ reply. (turns : ℕ) × WholeEnds (began (free_to_start x) Lock) turns (Append seq value) (Ok reply) y a b) → IfErr r (λ e. (turns : ℕ) × AppendFails x turns seq value y a b e) → InOrder y
+  pub orders_append : (r : Result Reply LockFault) → IfOk r (λ reply. (turns : ℕ) × WholeEnds (began (free_to_start x) Lock) turns (Append seq value) (Ok reply) y a b) → IfErr r (λ e. (turns : ℕ) × AppendFails x turns (append_request seq value) y a b e) → InOrder y
   orders_append (Ok reply) h g = orders_whole h.0 (Ok reply) h.1
   orders_append (Err e) h g = orders_fails g.0 e g.1

@@ -4,7 +4,7 @@ use Rattle.table_runs.proofs.Common.{cases_Bool, All-head, All-tail, Kind, Word,
 use Rattle.table_runs.proofs.Common.{Answer, NotRecoverable as RuinedAnswer, OwnerDied, Unlocked, Call, Lock, Append, Checking, Ruining, Mending, Working, by_lock, by_reply, by_script, answer_at, answer_by}
 use Rattle.table_runs.proofs.Common.{and_answer, is_idle, ScriptState, Free, Doing, ProcessState, next_process_state, WorldEvent, at_rest, Moves, process_after_script, moved_by, TakenStep, LockFault, Setup, AreMoves, answers_from}
 use Rattle.table_runs.proofs.Common.{ServedAll, process_state_before, free_to_start, process_state_now, own_of, last_call, last_of, AreInWorkerOrder, ReadsRuin, HasReadRuin, Seated, began, before, access_event, world_events, events_of_run}
-use Rattle.table_runs.proofs.Common.{IsRun, process_state_past, AllowsEvents, AllReplies, Askings, WholeEnds, AppendFails, IsWholeOutcome}
+use Rattle.table_runs.proofs.Common.{IsRun, process_state_past, AllowsEvents, AllReplies, Askings, WholeEnds, AppendFails, append_request, IsWholeOutcome}
 use Rattle.rmecore.specs.declared.core_done.CoreDone.{CoreDone}
 use Rattle.rmecore.specs.declared.core_done.CoreDone.TheVariants as ends
 use Rattle.rmecore.specs.declared.kind.Kind.TheVariants.{Get as Gets}
@@ -135,12 +135,12 @@ module _ (x y : Seated) (seq : ℕ) (value : List ℕ) (a b : Askings) (old : Ar
       by (inr (few, inr (inl k))) = served_reported x y h.0 h.1 [] [] h.2 h.4.0 h.4.1 old all k.2
       by (inr (few, inr (inr k))) = served_reported x y h.0 h.1 (OwnerDied ∷ []) (Unlocked ∷ []) h.2 h.4.0 h.4.1 old all k.2
 
-  fails_reported : (turns : ℕ) (e : LockFault) → e ≡ NotRecoverable → AppendFails x turns seq value y a b e → HasReadRuin (own_of y.seat_view)
+  fails_reported : (turns : ℕ) (e : LockFault) → e ≡ NotRecoverable → AppendFails x turns (append_request seq value) y a b e → HasReadRuin (own_of y.seat_view)
   fails_reported turns e is (inl h) = absurd (cc)
   fails_reported turns e is (inr (wide, inl h)) = absurd (cc)
   fails_reported turns e is (inr (wide, inr (may, inl h))) = absurd (let k = h.0 in cc)
   fails_reported turns e is (inr (wide, inr (may, inr h))) = whole_reported turns e is h
 
-  pub append_reported : (r : Result Reply LockFault) (e : LockFault) → r ≡ Err e → e ≡ NotRecoverable → IfErr r (λ e. (turns : ℕ) × AppendFails x turns seq value y a b e) → HasReadRuin (own_of y.seat_view)
+  pub append_reported : (r : Result Reply LockFault) (e : LockFault) → r ≡ Err e → e ≡ NotRecoverable → IfErr r (λ e. (turns : ℕ) × AppendFails x turns (append_request seq value) y a b e) → HasReadRuin (own_of y.seat_view)
   append_reported (Ok reply) e is ruined h = absurd (cc)
   append_reported (Err f) e is ruined h = fails_reported h.0 f (let same : f ≡ e = cc in same ∙ ruined) h.1

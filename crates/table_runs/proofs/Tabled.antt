@@ -1,6 +1,6 @@
 -- The own steps of a member's call are those of the table.
 use Rattle.std.proofs.Common.{◌≡◌, ℕ, suc, ◌+◌, ◌==◌, Bool, true, false, if◌then◌else◌, List, [], ◌∷◌, ◌++◌, length, Some, None, All, refl, sym, ap, ◌∙◌, subst, append_assoc, eqb-true, inl, inr}
-use Rattle.table_runs.proofs.Common.{cases_Bool, All-nil, All-cons, All-head, All-tail, is_glance, Answer, Call, answer_at, blocked_by, next_or_same, and_answer, answers_in, blocked_in, last_process_state, WalksCall, ProcessState, Begins}
+use Rattle.table_runs.proofs.Common.{cases_Bool, All-nil, All-cons, All-head, All-tail, is_glance, Answer, Call, answer_at, blocked_by, next_or_same, and_answer, answers_in, blocked_in, last_process_state, WalksCall, call_begin, ProcessState, Begins}
 use Rattle.table_runs.proofs.Common.{WorldEvent, Moves, GlobalState, Execution, own_world_events, TakenStep, Setup, FirstStart, AreMoves, FirstCrash, answers_of, blocked_of, answers_from, blocked_from, process_state_before}
 use Rattle.table_runs.proofs.Common.{SeatView, Calls, before, access_event, world_events, events_of_run, entries_of, IsRun, end_of, process_state_past, process_state_of, crash_first, KeepsTable, words_begun, process_state_begun, CallsKeepTheTable}
 use Rattle.rmeworld.proofs.CallWalks.{calls_take_their_steps}
@@ -93,7 +93,7 @@ module _ (s : Setup) (p : ℕ) where
   starts hs w true call ms execution is moves = starts_fallen s.layout s.limit p hs w call ms execution is moves
   starts hs w false call ms execution is moves = starts_never_crashes s.layout s.limit p hs w call ms execution is moves
 
-keeps : (x : SeatView) (call : Call) (answers : List Answer) (t : ProcessState) (blocked steps : ℕ) → WalksCall x.setup.layout (words_begun x) (process_state_begun x).mended call answers t steps blocked → KeepsTable x call answers blocked steps
+keeps : (x : SeatView) (call : Call) (answers : List Answer) (t : ProcessState) (blocked steps : ℕ) → WalksCall x.setup.layout (call_begin (words_begun x) (process_state_begun x).mended) call answers t steps blocked → KeepsTable x call answers blocked steps
 keeps x call [] t blocked steps h = (h.1.0, h.1.2, h.1.3)
 keeps x call (a ∷ []) t blocked steps h = h.1
 keeps x call (a ∷ b ∷ more) t blocked steps h = h
@@ -145,7 +145,7 @@ keeps_the_table x y call answers blocked mine calls crash started moved answered
     let reports = subst (λ (t : ProcessState). StartsAt s.layout s.limit p (words_begun x) (process_state_past s t (crash_first x.fallen p)) call m.steps) (process_state_in_run s x.seen p) begun in
     let last : ProcessState = last_process_state s.layout s.limit (start_of x call) m.steps in
     keeps x call answers last blocked (length mine)
-    (subst (λ (t : List Answer × ℕ × ℕ). WalksCall s.layout (words_begun x) (process_state_begun x).mended call t.0 last t.1 t.2) (λ i. ((m.answers ∙ answered) i, m.long i, (m.blocked ∙ blocks) i))
+    (subst (λ (t : List Answer × ℕ × ℕ). WalksCall s.layout (call_begin (words_begun x) (process_state_begun x).mended) call t.0 last t.1 t.2) (λ i. ((m.answers ∙ answered) i, m.long i, (m.blocked ∙ blocks) i))
     (calls_take_their_steps s.layout s.limit p (words_begun x) (process_state_begun x) call m.steps reports.0 reports.1 reports.2))
 
 pub calls_keep_the_table : CallsKeepTheTable

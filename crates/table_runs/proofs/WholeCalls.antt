@@ -1,7 +1,7 @@
 -- A whole mailbox call from its parts.
 use Rattle.std.proofs.Common.{◌≡◌, ℕ, ◌+◌, ◌≤◌, ◌⊎◌, Bool, true, List, [], ◌∷◌, Result, Ok, Err, Option, Some, None, IfOk, IfErr, refl, sym, ap, ◌∙◌, subst, inl, inr, arith, append-nil}
-use Rattle.table_runs.proofs.Common.{Reply, Answer, Call, is_idle, TakenStep, Entry as Entering, LockFault, Setup, starts, Ran, CutOff, Crashes, ServedAll, Askings, NeverCrashes, Fell, CutBy, CutIn, AnsweredBy, LockBy, free_to_start}
-use Rattle.table_runs.proofs.Common.{refusal_now, answer_of, IsSeatView, process_state_now, Seated, began, fell, after_further_start, IsAnswerOf, IsTask, WholeEnds, IsWholeOutcome, IsFront, AreCallsOf, calls_inside, IsInner, Inner, WholeBy}
+use Rattle.table_runs.proofs.Common.{Reply, Answer, Call, is_idle, TakenStep, Entry as Entering, LockFault, Setup, starts, Ran, CutOff, Crashes, ServedAll, Askings, NeverCrashes, Fell, CutBy, CutIn, AnsweredBy, call_series, LockBy, free_to_start}
+use Rattle.table_runs.proofs.Common.{refusal_now, answer_of, IsSeatView, process_state_now, Seated, began, fell, after_further_start, IsAnswerOf, IsTask, WholeEnds, IsWholeOutcome, IsFront, AreCallsOf, calls_inside, IsInner, Inner, WholeBy, whole_task}
 use Rattle.table_runs.proofs.Common.{WholeGoes, WholeFails, mended_by, SumCounts, InsideCounts}
 use Rattle.redomail.specs.declared.reply.Reply.TheVariants as reply
 use Rattle.rmeworld.specs.declared.call.Call.TheVariants as call
@@ -55,14 +55,14 @@ cut_first x z a0 a1 c Q first h = cut_more x z a0 a1 (λ (order : List Call). or
 
 -- one call and others after it
 module _ (x y z : Seated) (a0 a1 a2 : Askings) where
-  pub one_then : (c d : Call) (ds : List Call) (a b : Answer) (reports : List Answer) → a ≡ b → AnsweredBy 0 x (c ∷ []) (a ∷ []) 0 y a0 a1 → AnsweredBy 0 y (d ∷ ds) reports 0 z a1 a2 → AnsweredBy 0 x (c ∷ d ∷ ds) (b ∷ reports) 0 z a0 a2
-  one_then c d ds a b reports is h t = subst (λ (v : Answer). AnsweredBy 0 x (c ∷ d ∷ ds) (v ∷ reports) 0 z a0 a2) is (answered-append x y z c d [] ds (a ∷ []) reports 0 0 0 a0 a1 a2 h t)
+  pub one_then : (c d : Call) (ds : List Call) (a b : Answer) (reports : List Answer) → a ≡ b → AnsweredBy 0 x (call_series (c ∷ []) (a ∷ []) 0) y a0 a1 → AnsweredBy 0 y (call_series (d ∷ ds) reports 0) z a1 a2 → AnsweredBy 0 x (call_series (c ∷ d ∷ ds) (b ∷ reports) 0) z a0 a2
+  one_then c d ds a b reports is h t = subst (λ (v : Answer). AnsweredBy 0 x (call_series (c ∷ d ∷ ds) (v ∷ reports) 0) z a0 a2) is (answered-append x y z c d [] ds (a ∷ []) reports 0 0 0 a0 a1 a2 h t)
 
-  pub two_done : (c d : Call) (a b u v : Answer) → a ≡ b → u ≡ v → AnsweredBy 0 x (c ∷ []) (a ∷ []) 0 y a0 a1 → AnsweredBy 0 y (d ∷ []) (u ∷ []) 0 z a1 a2 → AnsweredBy 0 x (c ∷ d ∷ []) (b ∷ v ∷ []) 0 z a0 a2
-  two_done c d a b u v is so h t = subst (λ (w : Answer). AnsweredBy 0 x (c ∷ d ∷ []) (b ∷ w ∷ []) 0 z a0 a2) so (one_then c d [] a b (u ∷ []) is h t)
+  pub two_done : (c d : Call) (a b u v : Answer) → a ≡ b → u ≡ v → AnsweredBy 0 x (call_series (c ∷ []) (a ∷ []) 0) y a0 a1 → AnsweredBy 0 y (call_series (d ∷ []) (u ∷ []) 0) z a1 a2 → AnsweredBy 0 x (call_series (c ∷ d ∷ []) (b ∷ v ∷ []) 0) z a0 a2
+  two_done c d a b u v is so h t = subst (λ (w : Answer). AnsweredBy 0 x (call_series (c ∷ d ∷ []) (b ∷ w ∷ []) 0) z a0 a2) so (one_then c d [] a b (u ∷ []) is h t)
 
   -- cut off after the first
-  pub cut_then : (c : Call) (a : Answer) (P Q : List Call → Type 0) → AnsweredBy 0 x (c ∷ []) (a ∷ []) 0 y a0 a1 → CutBy y P z a1 a2 → Q (c ∷ []) → ((done : List Call) → P done → Q (c ∷ done)) → CutBy x Q z a0 a2
+  pub cut_then : (c : Call) (a : Answer) (P Q : List Call → Type 0) → AnsweredBy 0 x (call_series (c ∷ []) (a ∷ []) 0) y a0 a1 → CutBy y P z a1 a2 → Q (c ∷ []) → ((done : List Call) → P done → Q (c ∷ done)) → CutBy x Q z a0 a2
   cut_then c a P Q h t first more = cut_after x y z c [] (a ∷ []) 0 a0 a1 a2 P Q h t first more
 
 inner_comes : (turns : ℕ) (entry : Entering) (task : Call) (r : Result Reply LockFault) (order : List Call) (answers : List Answer) (blocked : ℕ) → blocked ≤ turns → Inner entry task r order answers → IsWholeOutcome turns task r (call.Lock ∷ order) (answer_of entry ∷ answers) blocked
@@ -83,11 +83,11 @@ counts_here : (x y z : Seated) (order : List Call) (answers : List Answer) (bloc
 counts_here x y z order answers blocked e h = subst (λ (u : Seated). SumCounts x order answers blocked u) (sym e) h
 
 module _ (x y z : Seated) (a0 a1 a2 : Askings) where
-  after_lock : (order : List Call) (a : Answer) (reports : List Answer) (j : ℕ) → (order ≡ [] → ⊥) → AnsweredBy 0 x (call.Lock ∷ []) (a ∷ []) j y a0 a1 → AnsweredBy 0 y order reports 0 z a1 a2 → AnsweredBy 0 x (call.Lock ∷ order) (a ∷ reports) (j + 0) z a0 a2
+  after_lock : (order : List Call) (a : Answer) (reports : List Answer) (j : ℕ) → (order ≡ [] → ⊥) → AnsweredBy 0 x (call_series (call.Lock ∷ []) (a ∷ []) j) y a0 a1 → AnsweredBy 0 y (call_series order reports 0) z a1 a2 → AnsweredBy 0 x (call_series (call.Lock ∷ order) (a ∷ reports) (j + 0)) z a0 a2
   after_lock [] a reports j some h t = absurd (some refl)
   after_lock (d ∷ ds) a reports j some h t = answered-append x y z call.Lock d [] ds (a ∷ []) reports j 0 0 a0 a1 a2 h t
 
-  pub whole_of : (turns : ℕ) (entry : Entering) (task : Call) (r : Result Reply LockFault) (order : List Call) (answers : List Answer) → LockBy 0 x turns (Some (answer_of entry)) y a0 a1 → Inner entry task r order answers → AnsweredBy 0 y order answers 0 z a1 a2 → InsideCounts y (mended_by true (answer_of entry)) order answers z → WholeBy 0 x turns task r z a0 a2
+  pub whole_of : (turns : ℕ) (entry : Entering) (task : Call) (r : Result Reply LockFault) (order : List Call) (answers : List Answer) → LockBy 0 x turns (Some (answer_of entry)) y a0 a1 → Inner entry task r order answers → AnsweredBy 0 y (call_series order answers 0) z a1 a2 → InsideCounts y (mended_by true (answer_of entry)) order answers z → WholeBy 0 x (whole_task turns task) r z a0 a2
   whole_of turns entry task r order answers h i t counts =
       let few : h.0 + 0 ≤ turns = (let k = h.1 in omega arith) in
       (call.Lock ∷ order, answer_of entry ∷ answers, h.0 + 0, inner_comes turns entry task r order answers (h.0 + 0) few i, after_lock order (answer_of entry) answers h.0 (inner_some entry task r order answers i) h.2 t, whole_counts x y z turns entry order answers a0 a1 h counts)
@@ -96,13 +96,13 @@ module _ (x y z : Seated) (a0 a1 a2 : Askings) where
   cut_of turns entry task h t =
       cut_after x y z call.Lock [] (answer_of entry ∷ []) h.0 a0 a1 a2 (IsInner entry task) (AreCallsOf task) h.2 t (within_lock task) (λ done p. within_inner entry task done p)
 
-  pub whole_asked : (turns : ℕ) (task : Call) (r : Result Reply LockFault) → WholeBy 0 x turns task r y a0 a1 → z ≡ y → NeverCrashes 1 a1 a2 → WholeEnds x turns task r z a0 a2
+  pub whole_asked : (turns : ℕ) (task : Call) (r : Result Reply LockFault) → WholeBy 0 x (whole_task turns task) r y a0 a1 → z ≡ y → NeverCrashes 1 a1 a2 → WholeEnds x turns task r z a0 a2
   whole_asked turns task r h e k = (h.0, h.1, h.2, h.3, asked_after x y z h.0 h.1 h.2 a0 a1 a2 h.4 e k, counts_here x y z h.0 h.1 h.2 e h.5)
 
-  cut_at_lock : (order more : List Call) (reports : List Answer) (j : ℕ) (task : Call) → order ≡ call.Lock ∷ more → AreCallsOf task (call.Lock ∷ more) → AnsweredBy 0 x order reports j y a0 a1 → z ≡ fell y → Fell 1 a1 a2 → CutBy x (AreCallsOf task) z a0 a2
-  cut_at_lock order more reports j task is in_it h e k = cut_asked x y z call.Lock more reports j a0 a1 a2 (AreCallsOf task) (subst (λ (o : List Call). AnsweredBy 0 x o reports j y a0 a1) is h) e k in_it
+  cut_at_lock : (order more : List Call) (reports : List Answer) (j : ℕ) (task : Call) → order ≡ call.Lock ∷ more → AreCallsOf task (call.Lock ∷ more) → AnsweredBy 0 x (call_series order reports j) y a0 a1 → z ≡ fell y → Fell 1 a1 a2 → CutBy x (AreCallsOf task) z a0 a2
+  cut_at_lock order more reports j task is in_it h e k = cut_asked x y z call.Lock more reports j a0 a1 a2 (AreCallsOf task) (subst (λ (o : List Call). AnsweredBy 0 x (call_series o reports j) y a0 a1) is h) e k in_it
 
-  pub whole_cut : (turns : ℕ) (task : Call) (r : Result Reply LockFault) → WholeBy 0 x turns task r y a0 a1 → z ≡ fell y → Fell 1 a1 a2 → CutBy x (AreCallsOf task) z a0 a2
+  pub whole_cut : (turns : ℕ) (task : Call) (r : Result Reply LockFault) → WholeBy 0 x (whole_task turns task) r y a0 a1 → z ≡ fell y → Fell 1 a1 a2 → CutBy x (AreCallsOf task) z a0 a2
   whole_cut turns task (Ok it) h e k = cut_at_lock h.0 (calls_inside h.3.1 task) h.1 h.2 task h.3.3 (inl (h.3.1, front_all (call.Lock ∷ calls_inside h.3.1 task))) h.4 e k
   whole_cut turns task (Err purpose) h e k = by_cause h.3
     where

@@ -1,7 +1,7 @@
 -- The steps that a whole mailbox call counts are the sum of the table, and at most its bound.
 use Rattle.std.proofs.Common.{◌≡◌, ℕ, ◌+◌, ◌*◌, ◌≤◌, Bool, true, false, List, [], ◌∷◌, Option, Some, None, IfSome, Err, refl, sym, ap, ◌∙◌, subst, inl, inr, arith}
-use Rattle.table_runs.proofs.Common.{Own, Layout, Reply, Mended, Answer, Call, Lock, Unlock, Consistent, Append, Close, most_steps, own_steps, Entry as Entering, Setup, Askings, AnsweredBy, LockBy, free_to_start, answer_of}
-use Rattle.table_runs.proofs.Common.{process_state_now, Seated, began, many_more, after_further_start, CountsAtMost, words_begun, process_state_begun, table_steps, IsAnswerOf, IsHolder, IsTask, WholeBy, mended_by, SumCounts, InsideCounts}
+use Rattle.table_runs.proofs.Common.{Own, Layout, Reply, Mended, Answer, Call, Lock, Unlock, Consistent, Append, Close, most_steps, own_steps, Entry as Entering, Setup, Askings, AnsweredBy, call_series, LockBy, free_to_start, answer_of}
+use Rattle.table_runs.proofs.Common.{process_state_now, Seated, began, many_more, after_further_start, CountsAtMost, words_begun, process_state_begun, table_steps, IsAnswerOf, IsHolder, IsTask, WholeBy, whole_task, mended_by, SumCounts, InsideCounts}
 use Rattle.table_runs.proofs.Common.{both, table_sum, StoredAppendSteps, most_inside, most_whole}
 use Rattle.rmeworld.specs.declared.answer.Answer.TheVariants as answer
 use Rattle.table_runs.specs.declared.lock_fault.LockFault.TheVariants as fault
@@ -36,7 +36,7 @@ entry_mends m entering.OwnerDied = refl
 abbrev One : Seated → Call → Answer → ℕ → Seated → Type 0
 One x call a blocked y = (k : ℕ) × (table_steps x.seat_view call a ≡ Some k) × (y.steps ≡ many_more (k + blocked) x.steps)
 
-one_counts : (x y : Seated) (call : Call) (a : Answer) (blocked more : ℕ) (a0 a1 : Askings) → AnsweredBy more x (call ∷ []) (a ∷ []) blocked y a0 a1 → One x call a blocked y
+one_counts : (x y : Seated) (call : Call) (a : Answer) (blocked more : ℕ) (a0 a1 : Askings) → AnsweredBy more x (call_series (call ∷ []) (a ∷ []) blocked) y a0 a1 → One x call a blocked y
 one_counts x y call a blocked more a0 a1 h =
     let reports = calls_keep_the_table x call (a ∷ []) blocked y h.0 h.1 in
     (reports.0, reports.1, h.1.steps ∙ ap (λ (n : ℕ). many_more n x.steps) reports.2)
@@ -53,18 +53,18 @@ inside_first x y z m n c a order answers k same mends reports steps h = (
 
 module _ (x y : Seated) (a : Answer) (a0 a1 : Askings) where
   -- the unlock
-  left_counts : (m : Bool) → a ≡ answer.Unlocked → (process_state_begun x.seat_view).mended ≡ m → AnsweredBy 0 x (Unlock ∷ []) (a ∷ []) 0 y a0 a1 → InsideCounts x m (Unlock ∷ []) (answer.Unlocked ∷ []) y
+  left_counts : (m : Bool) → a ≡ answer.Unlocked → (process_state_begun x.seat_view).mended ≡ m → AnsweredBy 0 x (call_series (Unlock ∷ []) (a ∷ []) 0) y a0 a1 → InsideCounts x m (Unlock ∷ []) (answer.Unlocked ∷ []) y
   left_counts m is mended h =
-      let t : AnsweredBy 0 x (Unlock ∷ []) (answer.Unlocked ∷ []) 0 y a0 a1 = subst (λ (u : Answer). AnsweredBy 0 x (Unlock ∷ []) (u ∷ []) 0 y a0 a1) is h in
+      let t : AnsweredBy 0 x (call_series (Unlock ∷ []) (answer.Unlocked ∷ []) 0) y a0 a1 = subst (λ (u : Answer). AnsweredBy 0 x (call_series (Unlock ∷ []) (u ∷ []) 0) y a0 a1) is h in
       let one = one_counts x y Unlock answer.Unlocked 0 0 a0 a1 t in
       inside_first x y y m m Unlock answer.Unlocked [] [] one.0 t.1.calls.setup refl (λ w. unlock_words x.seat_view.setup.layout x.seat_view.setup.layout w (words_begun x.seat_view) (process_state_begun x.seat_view).mended m one.0 mended one.1) one.2 (0, (λ w. refl), refl)
 
 module _ (x y z : Seated) (a b : Answer) (a0 a1 a2 : Askings) (idle : x.seat_view.start ≡ None) where
   -- the task and the unlock
   pub work_counts : (task : Call) (reply : Reply) → IsHolder (process_state_now x.seat_view) → (process_state_now x.seat_view).mended ≡ true → IsTask x.seat_view.setup.layout task → a ≡ answer.Mail reply → b ≡ answer.Unlocked
-      → AnsweredBy 0 x (task ∷ []) (a ∷ []) 0 y a0 a1 → AnsweredBy 0 y (Unlock ∷ []) (b ∷ []) 0 z a1 a2 → InsideCounts x true (task ∷ Unlock ∷ []) (answer.Mail reply ∷ answer.Unlocked ∷ []) z
+      → AnsweredBy 0 x (call_series (task ∷ []) (a ∷ []) 0) y a0 a1 → AnsweredBy 0 y (call_series (Unlock ∷ []) (b ∷ []) 0) z a1 a2 → InsideCounts x true (task ∷ Unlock ∷ []) (answer.Mail reply ∷ answer.Unlocked ∷ []) z
   work_counts task reply holder mended fits is so h t =
-      let d : AnsweredBy 0 x (task ∷ []) (answer.Mail reply ∷ []) 0 y a0 a1 = subst (λ (u : Answer). AnsweredBy 0 x (task ∷ []) (u ∷ []) 0 y a0 a1) is h in
+      let d : AnsweredBy 0 x (call_series (task ∷ []) (answer.Mail reply ∷ []) 0) y a0 a1 = subst (λ (u : Answer). AnsweredBy 0 x (call_series (task ∷ []) (u ∷ []) 0) y a0 a1) is h in
       let one = one_counts x y task (answer.Mail reply) 0 0 a0 a1 d in
       let still : (process_state_begun y.seat_view).mended ≡ true = still_mended x y task (answer.Mail reply) 0 d.0 idle d.1 fits holder mended in
       inside_first x y z true true task (answer.Mail reply) (Unlock ∷ []) (answer.Unlocked ∷ []) one.0 d.1.calls.setup (reply_keeps reply)
@@ -72,18 +72,18 @@ module _ (x y z : Seated) (a b : Answer) (a0 a1 a2 : Askings) (idle : x.seat_vie
 
   -- a mending that finds the lock ruined, and the unlock
   pub ruined_counts : IsHolder (process_state_now x.seat_view) → (process_state_now x.seat_view).mended ≡ false → a ≡ answer.NotRecoverable → b ≡ answer.Unlocked
-      → AnsweredBy 0 x (Consistent ∷ []) (a ∷ []) 0 y a0 a1 → AnsweredBy 0 y (Unlock ∷ []) (b ∷ []) 0 z a1 a2 → InsideCounts x false (Consistent ∷ Unlock ∷ []) (answer.NotRecoverable ∷ answer.Unlocked ∷ []) z
+      → AnsweredBy 0 x (call_series (Consistent ∷ []) (a ∷ []) 0) y a0 a1 → AnsweredBy 0 y (call_series (Unlock ∷ []) (b ∷ []) 0) z a1 a2 → InsideCounts x false (Consistent ∷ Unlock ∷ []) (answer.NotRecoverable ∷ answer.Unlocked ∷ []) z
   ruined_counts holder unmended is so h t =
-      let d : AnsweredBy 0 x (Consistent ∷ []) (answer.NotRecoverable ∷ []) 0 y a0 a1 = subst (λ (u : Answer). AnsweredBy 0 x (Consistent ∷ []) (u ∷ []) 0 y a0 a1) is h in
+      let d : AnsweredBy 0 x (call_series (Consistent ∷ []) (answer.NotRecoverable ∷ []) 0) y a0 a1 = subst (λ (u : Answer). AnsweredBy 0 x (call_series (Consistent ∷ []) (u ∷ []) 0) y a0 a1) is h in
       let one = one_counts x y Consistent answer.NotRecoverable 0 0 a0 a1 d in
       let still : (process_state_begun y.seat_view).mended ≡ false = still_unmended x y Consistent answer.NotRecoverable 0 d.0 idle d.1 refl refl holder unmended in
       inside_first x y z false false Consistent answer.NotRecoverable (Unlock ∷ []) (answer.Unlocked ∷ []) one.0 d.1.calls.setup refl (λ w. one.1) one.2 (left_counts y z b a1 a2 false so still t)
 
 -- a mending, and the calls after it
-pub mend_counts : (x y z : Seated) (a : Answer) (a0 a1 : Askings) (mended : Bool) (order : List Call) (answers : List Answer) → a ≡ answer.Mail (Mended mended) → AnsweredBy 0 x (Consistent ∷ []) (a ∷ []) 0 y a0 a1
+pub mend_counts : (x y z : Seated) (a : Answer) (a0 a1 : Askings) (mended : Bool) (order : List Call) (answers : List Answer) → a ≡ answer.Mail (Mended mended) → AnsweredBy 0 x (call_series (Consistent ∷ []) (a ∷ []) 0) y a0 a1
     → InsideCounts y true order answers z → InsideCounts x false (Consistent ∷ order) (answer.Mail (Mended mended) ∷ answers) z
 mend_counts x y z a a0 a1 mended order answers is h t =
-    let d : AnsweredBy 0 x (Consistent ∷ []) (answer.Mail (Mended mended) ∷ []) 0 y a0 a1 = subst (λ (u : Answer). AnsweredBy 0 x (Consistent ∷ []) (u ∷ []) 0 y a0 a1) is h in
+    let d : AnsweredBy 0 x (call_series (Consistent ∷ []) (answer.Mail (Mended mended) ∷ []) 0) y a0 a1 = subst (λ (u : Answer). AnsweredBy 0 x (call_series (Consistent ∷ []) (u ∷ []) 0) y a0 a1) is h in
     let one = one_counts x y Consistent (answer.Mail (Mended mended)) 0 0 a0 a1 d in
     inside_first x y z false true Consistent (answer.Mail (Mended mended)) order answers one.0 d.1.calls.setup refl (λ w. one.1) one.2 t
 
@@ -110,13 +110,13 @@ module _ (x y : Seated) (turns : ℕ) (a0 a1 : Askings) (task : Call) where
       let one = one_counts x y Lock a h.0 0 a0 a1 h.2 in
       (one.0 + 0, both_are (table_steps x.seat_view Lock a) (Some 0) one.0 0 one.1 refl, one.2 ∙ ap (λ (n : ℕ). many_more n x.steps) (let j = one.0 in let b = h.0 in let e : j + b ≡ (j + 0) + b = omega arith in e))
 
-  pub spent_whole : LockBy 0 x turns (Some answer.NumbersSpent) y a0 a1 → WholeBy 0 x turns task (Err fault.NumbersSpent) y a0 a1
+  pub spent_whole : LockBy 0 x turns (Some answer.NumbersSpent) y a0 a1 → WholeBy 0 x (whole_task turns task) (Err fault.NumbersSpent) y a0 a1
   spent_whole h = (Lock ∷ [], answer.NumbersSpent ∷ [], h.0, inr (h.1, inl (refl, refl, refl)), h.2, lock_sum answer.NumbersSpent h)
 
-  pub ruined_whole : LockBy 0 x turns (Some answer.NotRecoverable) y a0 a1 → WholeBy 0 x turns task (Err fault.NotRecoverable) y a0 a1
+  pub ruined_whole : LockBy 0 x turns (Some answer.NotRecoverable) y a0 a1 → WholeBy 0 x (whole_task turns task) (Err fault.NotRecoverable) y a0 a1
   ruined_whole h = (Lock ∷ [], answer.NotRecoverable ∷ [], h.0, inr (h.1, inr (inl (refl, refl, refl))), h.2, lock_sum answer.NotRecoverable h)
 
-  pub late_whole : LockBy 0 x turns None y a0 a1 → WholeBy 0 x turns task (Err fault.NotYet) y a0 a1
+  pub late_whole : LockBy 0 x turns None y a0 a1 → WholeBy 0 x (whole_task turns task) (Err fault.NotYet) y a0 a1
   late_whole h =
       let reports = calls_keep_the_table x Lock [] (turns + 1) y h.0 h.1 in
       (Lock ∷ [], [], turns + 1, inl (refl, refl, refl, refl), h, (reports.0, reports.2, h.1.steps ∙ ap (λ (n : ℕ). many_more n x.steps) reports.1))

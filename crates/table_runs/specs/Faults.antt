@@ -52,9 +52,19 @@ CutBy x Begun y old new = (mine : List TakenStep) × CrashesIn x Begun y mine ×
 abbrev pub CutIn : Seated → Call → Seated → (old new : Askings) → Type 0
 CutIn x call y old new = (mine : List TakenStep) × Crashes x call y mine × Fell (length mine + 1) old new
 
--- calls with their answers, and `more` askings beside those of their steps
-abbrev pub AnsweredBy : ℕ → Seated → List Call → List Answer → ℕ → Seated → (old new : Askings) → Type 0
-AnsweredBy more x order answers blocked y old new = (mine : List TakenStep) × ServedAll x order answers blocked y mine × NeverCrashes (length mine + more) old new
+-- calls one after another, with their answers, and how often their steps were blocked
+pub record CallSeries : Type 0 where
+  pub calls : List Call
+  pub answers : List Answer
+  pub blocked : ℕ
+
+abbrev pub call_series : List Call → List Answer → ℕ → CallSeries
+call_series calls answers blocked = record { calls = calls; answers = answers; blocked = blocked }
+
+-- such calls, and `more` askings beside those of their steps
+abbrev pub AnsweredBy : ℕ → Seated → CallSeries → Seated → (old new : Askings) → Type 0
+AnsweredBy more x series y old new =
+    (mine : List TakenStep) × ServedAll x series.calls series.answers series.blocked y mine × NeverCrashes (length mine + more) old new
 
 -- an answer of a call that was blocked `blocked` times
 abbrev pub AnsweredIn : Seated → Call → List Answer → ℕ → Seated → (old new : Askings) → Type 0
@@ -63,8 +73,8 @@ AnsweredIn x call answers blocked y old new = (mine : List TakenStep) × Served 
 -- how a lock ends that may be blocked `turns` times, from right after its start, with `more` askings beside those of its
 -- steps: with an answer after at most `turns` blocked readings, or without one after one more
 abbrev pub LockBy : ℕ → Seated → ℕ → Option Answer → Seated → (old new : Askings) → Type 0
-LockBy more x turns (Some a) y old new = (blocked : ℕ) × (blocked ≤ turns) × AnsweredBy more x (Lock ∷ []) (a ∷ []) blocked y old new
-LockBy more x turns None y old new = AnsweredBy more x (Lock ∷ []) [] (turns + 1) y old new
+LockBy more x turns (Some a) y old new = (blocked : ℕ) × (blocked ≤ turns) × AnsweredBy more x (call_series (Lock ∷ []) (a ∷ []) blocked) y old new
+LockBy more x turns None y old new = AnsweredBy more x (call_series (Lock ∷ []) [] (turns + 1)) y old new
 
 -- the same, up to the asking before the answer
 abbrev pub LockEnds : Seated → ℕ → Option Answer → Seated → (old new : Askings) → Type 0

@@ -13,7 +13,7 @@ use Rattle.table_runs.specs.declared.lock_fault.LockFault.TheVariants.{Crashed, 
 use Rattle.table_runs.specs.declared.entry_kind.Entry.{Entry as Entering}
 use Rattle.table_runs.specs.declared.entry_kind.Entry.TheVariants as entering
 use Rattle.table_runs.specs.WorkingMembers.{Seated, began}
-use Rattle.table_runs.specs.Faults.{refusal_now, free_to_start, CutBy, AnsweredBy, answer_of}
+use Rattle.table_runs.specs.Faults.{refusal_now, free_to_start, CutBy, AnsweredBy, call_series, answer_of}
 use Rattle.table_runs.specs.WholeSteps.{SumCounts}
 use Rattle.crash_plans.specs.Plans.{Askings}
 
@@ -52,15 +52,24 @@ IsWholeOutcome turns task (Err e) order answers blocked =
     ⊎ (e ≡ NotRecoverable) × (order ≡ Lock ∷ []) × (answers ≡ RuinedAnswer ∷ [])
     ⊎ (e ≡ NotRecoverable) × (order ≡ Lock ∷ Consistent ∷ Unlock ∷ []) × (answers ≡ OwnerDied ∷ RuinedAnswer ∷ Unlocked ∷ []))
 
+-- a whole call, whose lock may be blocked this often
+pub record WholeTask : Type 0 where
+  pub turns : ℕ
+  pub task : Call
+
+abbrev pub whole_task : ℕ → Call → WholeTask
+whole_task turns task = record { turns = turns; task = task }
+
 -- the whole call from right after the start of its lock, with `more` askings beside those of its steps: its outcome, its
 -- events, and its own steps by the table
-abbrev pub WholeBy : ℕ → Seated → ℕ → Call → Result Reply LockFault → Seated → (old new : Askings) → Type 0
-WholeBy more x turns task r y old new =
-    (order : List Call) × (answers : List Answer) × (blocked : ℕ) × IsWholeOutcome turns task r order answers blocked × AnsweredBy more x order answers blocked y old new × SumCounts x order answers blocked y
+abbrev pub WholeBy : ℕ → Seated → WholeTask → Result Reply LockFault → Seated → (old new : Askings) → Type 0
+WholeBy more x whole r y old new =
+    (order : List Call) × (answers : List Answer) × (blocked : ℕ) × IsWholeOutcome whole.turns whole.task r order answers blocked
+    × AnsweredBy more x (call_series order answers blocked) y old new × SumCounts x order answers blocked y
 
 -- the same, up to the asking before its one answer
 abbrev pub WholeEnds : Seated → ℕ → Call → Result Reply LockFault → Seated → (old new : Askings) → Type 0
-WholeEnds x turns task r y old new = WholeBy 1 x turns task r y old new
+WholeEnds x turns task r y old new = WholeBy 1 x (whole_task turns task) r y old new
 
 -- the first calls of a list
 abbrev pub IsFront : List Call → List Call → Type 0
@@ -88,8 +97,16 @@ WholeFails x turns task y old new e =
     × ((e ≡ Crashed) × CutBy (began (free_to_start x) Lock) (AreCallsOf task) y old new
     ⊎ WholeEnds (began (free_to_start x) Lock) turns task (Err e) y old new)
 
+-- what an append is asked for
+pub record AppendRequest : Type 0 where
+  pub seq : ℕ
+  pub value : List ℕ
+
+abbrev pub append_request : ℕ → List ℕ → AppendRequest
+append_request seq value = record { seq = seq; value = value }
+
 -- a value of another width is refused first, and the plan isn't asked
-abbrev pub AppendFails : Seated → ℕ → ℕ → List ℕ → Seated → (old new : Askings) → LockFault → Type 0
-AppendFails x turns seq value y old new e =
-    (e ≡ BadWidth) × (length value ≢ x.seat_view.setup.layout.width) × (y ≡ x) × (new ≡ old)
-    ⊎ (length value ≡ x.seat_view.setup.layout.width) × WholeFails x turns (Append seq value) y old new e
+abbrev pub AppendFails : Seated → ℕ → AppendRequest → Seated → (old new : Askings) → LockFault → Type 0
+AppendFails x turns request y old new e =
+    (e ≡ BadWidth) × (length request.value ≢ x.seat_view.setup.layout.width) × (y ≡ x) × (new ≡ old)
+    ⊎ (length request.value ≡ x.seat_view.setup.layout.width) × WholeFails x turns (Append request.seq request.value) y old new e

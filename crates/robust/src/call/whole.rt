@@ -11,9 +11,9 @@ ghost use Rattle.crash_plans.specs.Plans.{Askings};
 ghost use Rattle.table_runs.specs.WorkingMembers.{Seated, began};
 ghost use Rattle.table_runs.specs.Tabled.{CountsAtMost};
 ghost use Rattle.table_runs.specs.Under.{IsAnswerOf, Leaves, IsHolder};
-ghost use Rattle.table_runs.specs.Faults.{refusal_now, free_to_start, CutIn, CutBy, AnsweredBy, LockBy, answer_of};
+ghost use Rattle.table_runs.specs.Faults.{refusal_now, free_to_start, CutIn, CutBy, AnsweredBy, call_series, LockBy, answer_of};
 ghost use Rattle.table_runs.specs.WholeSteps.{InsideCounts, most_inside, most_whole};
-ghost use Rattle.table_runs.specs.Whole.{IsTask, IsFront, IsInner, AreCallsOf, Inner, WholeBy, WholeGoes, WholeEnds, WholeFails};
+ghost use Rattle.table_runs.specs.Whole.{IsTask, IsFront, IsInner, AreCallsOf, Inner, WholeBy, whole_task, WholeGoes, WholeEnds, WholeFails};
 
 use crate::call::call_driver::CallDriver;
 use crash_plans::CrashPlan;
@@ -29,7 +29,8 @@ impl CallDriver {
         requires idle { self.old.seat_view.start ≡ None }
         requires accepted { refusal_now self.old call.now ≡ None }
         requires brief { call.now ≢ Lock }
-        ensures answered { IfOk result (λ a. AnsweredBy 0 self.old (call.now ∷ []) (a ∷ []) 0 self.new (C.askings plan.old)
+        ensures answered { IfOk result (λ a. AnsweredBy 0 self.old (call_series (call.now ∷ []) (a ∷ []) 0) self.new
+            (C.askings plan.old)
             (C.askings plan.new)) }
         ensures leaves { IfOk result (λ a. IsAnswerOf call.now a × Leaves call.now a (process_state_now self.new.seat_view)) }
         ensures crashed { IfErr result (λ e. e ≡ LockFault.Crashed) }
@@ -55,7 +56,8 @@ impl CallDriver {
         requires task { IsTask self.old.seat_view.setup.layout task.now }
         ensures fits { IfOk result (λ reply. IsAnswerOf task.now (Mail reply)) }
         ensures out { OnOk result (refusal_now (free_to_start self.new) Lock ≡ None) }
-        ensures done { IfOk result (λ reply. AnsweredBy 0 self.old (task.now ∷ Unlock ∷ []) (Mail reply ∷ Unlocked ∷ []) 0
+        ensures done { IfOk result (λ reply. AnsweredBy 0 self.old (call_series (task.now ∷ Unlock ∷ [])
+            (Mail reply ∷ Unlocked ∷ []) 0)
             self.new (C.askings plan.old) (C.askings plan.new)) }
         ensures crashed { IfErr result (λ e. e ≡ LockFault.Crashed) }
         ensures cut { OnErr result (CutBy self.old (λ order. IsFront order (task.now ∷ Unlock ∷ [])) self.new (C.askings plan.old)
@@ -85,7 +87,7 @@ impl CallDriver {
         requires task { IsTask self.old.seat_view.setup.layout task.now }
         ensures done { IfOk result (λ r. (order : List CallOf) × (answers : List AnswerOf)
             × Inner Entry.OwnerDied task.now r order answers
-            × AnsweredBy 0 self.old order answers 0 self.new (C.askings plan.old) (C.askings plan.new)
+            × AnsweredBy 0 self.old (call_series order answers 0) self.new (C.askings plan.old) (C.askings plan.new)
             × InsideCounts self.old false order answers self.new) }
         ensures fits { IfOk result (λ r. IfOk r (λ reply. IsAnswerOf task.now (Mail reply))) }
         ensures out { OnOk result (refusal_now (free_to_start self.new) Lock ≡ None) }
@@ -121,7 +123,8 @@ impl CallDriver {
         ensures out { (answer ≡ None → refusal_now (free_to_start self.old) Lock ≡ None)
             → refusal_now (free_to_start self.new) Lock ≡ None }
         ensures comes { IfOk result (λ r. (x : Seated) (turns : ℕ) (a : Askings)
-            → LockBy 0 x turns answer self.old a (C.askings plan.old) → WholeBy 0 x turns task.now r self.new a (C.askings plan.new)) }
+            → LockBy 0 x turns answer self.old a (C.askings plan.old) → WholeBy 0 x (whole_task turns task.now) r self.new a
+            (C.askings plan.new)) }
         ensures patient { IfOk result (λ r. r ≡ Err LockFault.NotYet → answer ≡ None) }
         ensures stays { OnOk result (answer ≡ None → self.new ≡ self.old) }
         ensures crashed { IfErr result (λ e. e ≡ LockFault.Crashed) }

@@ -1,10 +1,10 @@
 use Rattle.std.proofs.Common.{List}
 use Rattle.crashlab.specs.declared.moves.DrawnMove.{DrawnMove}
-use Rattle.crashlab.proofs.Drawn.{IsDrawn}
+use Rattle.crashlab.proofs.Drawn.{IsDrawn, drawn_round}
 use Rattle.crashlab.proofs.hunts.scout.Given as goal
 
 abbrev pub invariant-loop : goal.invariant-loop
 invariant-loop l = record {
   moves : List DrawnMove;
-  drawn : IsDrawn l.fn.variant l.fn.steps l.initial.generator l.counter moves l.world l.judge l.observer l.generator;
+  drawn : IsDrawn (drawn_round l.fn.variant l.fn.steps l.initial.generator) l.counter moves l.world l.judge l.observer l.generator;
 }

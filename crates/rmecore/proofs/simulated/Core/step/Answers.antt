@@ -1,6 +1,6 @@
 use Rattle.std.proofs.Common.{◌≡◌, ◌++◌, length, take, drop, sym, ap, ◌∙◌, subst}
 use Rattle.rmecore.proofs.Common.{kind_of, word_of, carried_value, InLock, words_performed, is_blocked, own_at, place_at, HasConfiguration, tally_at, tally_after_step, read}
-use Rattle.rmecore.proofs.CoreSteps.{refill, Moves, takes, configured_set, found_here, configuration_here, least_here, reached_more}
+use Rattle.rmecore.proofs.CoreSteps.{refill, Moves, core_frame, takes, configured_set, found_here, configuration_here, least_here, reached_more}
 use Rattle.rmecore.proofs.CoreTallies.{tallied_step, answered_step, no_glance, counted_here, done_here}
 use Rattle.rmecore.proofs.simulated.Core.step.Goals as goal
 
@@ -15,7 +15,7 @@ perform-value-requires c =
 refilled : (c : goal.After-word) → take c.self.inside.words.len (c.perform-value.new.words ++ drop (length c.perform-value.new.words) c.self.inside.words.items) ≡ c.perform-value.new.words
 refilled c = refill _ _ _ (c.perform-value.auto.words ∙ c.deref_mut.ensures.len)
 
-moves : (c : goal.After-word) → Moves c.self.inside.procs c.self.inside.limit c.args.p c.self.inside.words.items (take c.self.inside.words.len (c.perform-value.new.words ++ drop (length c.perform-value.new.words) c.self.inside.words.items)) c.self.inside.processes.items c.index_mut-process.result.now c.feed-progress.new.self c.in-Some.access c.perform-value.result
+moves : (c : goal.After-word) → Moves (core_frame c.self.inside.procs c.self.inside.limit c.args.p c.self.inside.processes.items) c.self.inside.words.items (take c.self.inside.words.len (c.perform-value.new.words ++ drop (length c.perform-value.new.words) c.self.inside.words.items)) c.index_mut-process.result.now c.feed-progress.new.self c.in-Some.access c.perform-value.result
 moves c =
     record {
       here = found_here _ c.args.p _ _ c.index_mut-process.ensures.value c.if-p-self.false c.self.invariant.configured.processes_each;

@@ -1,36 +1,54 @@
 -- Lines that end a call in place of a way.
-use Rattle.std.proofs.Common.{◌≡◌, ℕ, zero, suc, ◌+◌, Bool, true, false, List, [], ◌∷◌, map, set, get_or, refl, ap, ◌∙◌, subst, inl, inr, arith}
+use Rattle.std.proofs.Common.{◌≡◌, ℕ, zero, suc, ◌+◌, ◌≤◌, Bool, List, [], ◌∷◌, length, map, set, get_or, refl, sym, ap, ◌∙◌, arith, add-one}
 use Rattle.algorithms.specs.declared.line.AlgorithmLine.{AlgorithmLine}
-use Rattle.algorithm_texts.specs.Drafts.{PlacedLine, Ending, line_of}
-use Rattle.algorithm_texts.specs.FinishedDrafts.{is_way, is_in, EndsAt, EndSome}
-
-pub none_end : (marks : List Bool) (place : ℕ) (lines : List PlacedLine) → EndSome marks place lines lines
-none_end marks place [] = tt
-none_end marks place (line ∷ lines) = (inl refl, none_end marks (place + 1) lines)
-
-ends_on : (mark : Bool) (a b c : PlacedLine) → EndsAt mark a b → EndsAt mark b c → EndsAt mark a c
-ends_on mark a b c (inl h) (inl k) = inl (k ∙ h)
-ends_on mark a b c (inl h) (inr k) = inr (subst (λ x. (mark ≡ false) × (is_way x.form ≡ true) × (c ≡ record { number = x.number; form = Ending 0 })) h k)
-ends_on mark a b c (inr h) (inl k) = inr (h.0, h.1, k ∙ h.2)
-ends_on mark a b c (inr h) (inr k) = inr (h.0, h.1, k.2 ∙ ap (λ x. record { number = x.number; form = Ending 0 }) h.2)
-
-pub end_more : (marks : List Bool) (place : ℕ) (a b c : List PlacedLine) → EndSome marks place a b → EndSome marks place b c → EndSome marks place a c
-end_more marks place [] [] [] h k = tt
-end_more marks place [] [] (z ∷ zs) h k = k
-end_more marks place [] (y ∷ ys) c h k = absurd h
-end_more marks place (x ∷ xs) [] c h k = absurd h
-end_more marks place (x ∷ xs) (y ∷ ys) [] h k = absurd k
-end_more marks place (x ∷ xs) (y ∷ ys) (z ∷ zs) h k = (ends_on (is_in marks place) x y z h.0 k.0, end_more marks (place + 1) xs ys zs h.1 k.1)
-
-set_from : (marks : List Bool) (place : ℕ) (lines : List AlgorithmLine) (i at : ℕ) (old new : AlgorithmLine) → at ≡ place + i → old ≡ get_or lines i old
-    → EndsAt (is_in marks at) (line_of old) (line_of new) → EndSome marks place (map line_of lines) (map line_of (set lines i new))
-set_from marks place [] i at old new p e h = tt
-set_from marks place (x ∷ xs) zero at old new p e h =
-    let here : at ≡ place = omega (arith, p) in
-    (subst (λ l. EndsAt (is_in marks place) (line_of l) (line_of new)) e (subst (λ (n : ℕ). EndsAt (is_in marks n) (line_of old) (line_of new)) here h), none_end marks (place + 1) (map line_of xs))
-set_from marks place (x ∷ xs) (suc k) at old new p e h = (inl refl, set_from marks (place + 1) xs k at old new (omega (arith, p)) e h)
+use Rattle.algorithm_texts.specs.Drafts.{PlacedLine, line_of}
+use Rattle.algorithm_texts.specs.FinishedDrafts.{is_in}
+use Rattle.algorithm_texts.specs.UnreachedLines.{ended_line, ended_at, ended_from}
 
 -- one line ends a call
-pub end_set : (marks : List Bool) (lines : List AlgorithmLine) (i : ℕ) (old new : AlgorithmLine) → old ≡ get_or lines i old → EndsAt (is_in marks i) (line_of old) (line_of new)
-    → EndSome marks 0 (map line_of lines) (map line_of (set lines i new))
-end_set marks lines i old new e h = set_from marks 0 lines i i old new (omega arith) e h
+pub end_set : (mark : Bool) (lines : List AlgorithmLine) (i : ℕ) (old new : AlgorithmLine) → old ≡ get_or lines i old → line_of new ≡ ended_line mark (line_of old)
+    → map line_of (set lines i new) ≡ ended_at mark i (map line_of lines)
+end_set mark [] i old new e h = refl
+end_set mark (x ∷ xs) zero old new e h = ap (λ (l : PlacedLine). l ∷ map line_of xs) (h ∙ ap (λ (l : AlgorithmLine). ended_line mark (line_of l)) e)
+end_set mark (x ∷ xs) (suc k) old new e h = ap (λ ls. line_of x ∷ ls) (end_set mark xs k old new e h)
+
+-- where there is no line, none ends a call
+pub end_past : (mark : Bool) (lines : List PlacedLine) (i : ℕ) → length lines ≤ i → ended_at mark i lines ≡ lines
+end_past mark [] i h = refl
+end_past mark (x ∷ xs) zero h = absurd (omega (arith, h))
+end_past mark (x ∷ xs) (suc k) h = ap (λ ls. x ∷ ls) (end_past mark xs k (omega (arith, h)))
+
+-- that many lines from a place on, of which the ways that are not marked end a call
+pub ended_front : ℕ → List Bool → ℕ → List PlacedLine → List PlacedLine
+ended_front zero marks place lines = lines
+ended_front (suc n) marks place [] = []
+ended_front (suc n) marks place (line ∷ lines) = ended_line (is_in marks place) line ∷ ended_front n marks (place + 1) lines
+
+front_from : (n : ℕ) (marks : List Bool) (place at : ℕ) (lines : List PlacedLine) → at ≡ place + n
+    → ended_at (is_in marks at) n (ended_front n marks place lines) ≡ ended_front (suc n) marks place lines
+unfolding ended_front
+front_from zero marks place at [] e = refl
+front_from zero marks place at (x ∷ xs) e =
+    let here : at ≡ place = omega (arith, e) in
+    ap (λ (k : ℕ). ended_line (is_in marks k) x ∷ xs) here
+front_from (suc n) marks place at [] e = refl
+front_from (suc n) marks place at (x ∷ xs) e = ap (λ ls. ended_line (is_in marks place) x ∷ ls) (front_from n marks (place + 1) at xs (omega (arith, e)))
+
+pub front_more : (n : ℕ) (marks : List Bool) (lines now : List PlacedLine) → now ≡ ended_front n marks 0 lines
+    → ended_at (is_in marks n) n now ≡ ended_front (n + 1) marks 0 lines
+front_more n marks lines now e =
+    ap (ended_at (is_in marks n) n) e ∙ front_from n marks 0 n lines (omega arith) ∙ ap (λ (k : ℕ). ended_front k marks 0 lines) (sym (add-one n))
+
+pub front_none : (marks : List Bool) (lines : List PlacedLine) → lines ≡ ended_front 0 marks 0 lines
+unfolding ended_front
+front_none marks lines = refl
+
+front_all_from : (n : ℕ) (marks : List Bool) (place : ℕ) (lines : List PlacedLine) → length lines ≤ n → ended_front n marks place lines ≡ ended_from marks place lines
+unfolding ended_front
+front_all_from zero marks place [] h = refl
+front_all_from zero marks place (x ∷ xs) h = absurd (omega (arith, h))
+front_all_from (suc n) marks place [] h = refl
+front_all_from (suc n) marks place (x ∷ xs) h = ap (λ ls. ended_line (is_in marks place) x ∷ ls) (front_all_from n marks (place + 1) xs (omega (arith, h)))
+
+pub front_all : (n : ℕ) (marks : List Bool) (lines : List PlacedLine) → length lines ≤ n → ended_front n marks 0 lines ≡ ended_from marks 0 lines
+front_all n marks lines h = front_all_from n marks 0 lines h

@@ -9,6 +9,11 @@ pub mod SpokenLines
 pub mod Endings
 pub mod Led
 pub mod RunMarks
+pub mod RoundMarks
+pub mod Heights
+pub mod Falls
+pub mod NotedLines
+pub mod RunChecks
 pub mod Uses
 pub mod Fits
 pub mod BlockTrees
@@ -16,6 +21,10 @@ pub mod BlockPaths
 pub mod ProgramTrees
 pub mod TreeLines
 pub mod LinesOnce
+pub mod RefusedLines
+pub mod FirstFaults
+pub mod RefusedCalls
 pub mod OneDraft
+pub mod LawfulRuns
 pub mod TextBeginnings
 pub mod Sayings

@@ -1,5 +1,5 @@
 -- A text has one list of lines.
-use Rattle.std.proofs.Common.{◌≡◌, ℕ, ◌+◌, Bool, true, false, not, eqb, ◌&&◌, List, [], ◌∷◌, ◌++◌, length, Result, Ok, refl, sym, ap, ◌∙◌, subst, inl, inr, append_assoc, arith}
+use Rattle.std.proofs.Common.{◌≡◌, ℕ, ◌+◌, Bool, true, false, ◌&&◌, List, [], ◌∷◌, ◌++◌, length, Result, Ok, refl, sym, ap, ◌∙◌, subst, inl, inr, append_assoc, arith}
 use Rattle.std.proofs.lemmas.Bool.{and_parts, false≢true}
 use Rattle.std.proofs.lemmas.Bool.Decides.{nat_tests}
 use Rattle.std.proofs.lemmas.List.{append-nil}
@@ -7,17 +7,13 @@ use Rattle.std.specs.List.{list_all}
 use Rattle.algorithms.specs.declared.fault.ReadFault.{ReadFault}
 use Rattle.algorithm_texts.specs.declared.tokens.Token.{Token}
 use Rattle.algorithm_texts.specs.Fronts.{is_over}
-use Rattle.algorithm_texts.specs.TextLines.{ended_lines, and_line, SayLines, TextSays}
+use Rattle.algorithm_texts.specs.TextLines.{ended_lines, is_no_feed, and_line, SayLines, TextSays}
 use Rattle.algorithm_texts.specs.TextDrafts.{Spoken}
 use Rattle.algorithm_texts.specs.Tokens.{is_printable, LineSays}
 use Rattle.algorithm_texts.proofs.LineTokens.{line_says_once}
 use Rattle.algorithm_texts.proofs.SpokenLines.{and_at}
 
 -- ---- line feeds
-
--- no line feed
-abbrev pub is_no_feed : ℕ → Bool
-is_no_feed byte = not (eqb byte 10)
 
 no_feed : (b : ℕ) → 10 ≡ b → is_no_feed b ≡ true → ⊥
 no_feed b e h = let feed : is_no_feed 10 ≡ true = subst (λ x. is_no_feed x ≡ true) (sym e) h in false≢true feed

@@ -14,9 +14,12 @@ use Rattle.algorithm_texts.specs.LineDrafts.{read_statement, scope_in}
 use Rattle.algorithm_texts.specs.TextDrafts.{Spoken, with_number, empty_draft, call_words, has_call, with_call, end_call_in, end_call, ended_calls, read_call, undeclared_name, read_each, read_bound, with_lasting, read_shared, read_private, read_declaration, read_line, read_lines, read_head, read_promises, read_text}
 use Rattle.algorithm_texts.specs.TextLines.{TextSays}
 use Rattle.algorithm_texts.specs.Blocks.{Block, lines_in, begins_block, divides, ends, draft_after_block, read_statements}
-use Rattle.algorithm_texts.specs.FinishedDrafts.{finished_draft, EndUnreached, with_lines}
-use Rattle.algorithm_texts.specs.Lawful.{IsLawfulDraft}
-use Rattle.algorithm_texts.specs.Programs.{CallLines, Program, calls_lines, program_lines, declarations_made, call_begun, calls_made, meaning_of, SpellsAlgorithm}
+use Rattle.algorithm_texts.specs.FinishedDrafts.{finished_draft, with_lines}
+use Rattle.algorithm_texts.specs.UnreachedLines.{EndUnreached}
+use Rattle.algorithm_texts.specs.Lawful.{CallsFit, NotesDeed}
+use Rattle.algorithm_texts.specs.Programs.{CallLines, Program, calls_lines, program_lines, declarations_made, call_begun, calls_made, meaning_of, SpellsAlgorithm, SpellsDraft}
+use Rattle.algorithm_texts.specs.Runs.{AllRuns}
+use Rattle.algorithms.specs.declared.line.AlgorithmDeed.TheVariants.{Enter, Leave}
 use Rattle.algorithm_texts.proofs.BlockTrees.{some_of, if_of, if_cond, on_all, rest_of, alone_rest, begins_calls, divides_calls, ends_calls}
 use Rattle.algorithm_texts.proofs.BlockPaths.{kinds, make_blocks}
 
@@ -244,25 +247,31 @@ text_makes_program spoken d e =
           ∙ r.means,
     )
 
--- the algorithm of a draft that is finished
-pub spelled : (text : List ℕ) (read ready checked : Draft) (spoken : List Spoken) → TextSays text spoken → read_text spoken ≡ Some (draft_view read)
-    → finished_draft (draft_view read) ≡ Some (draft_view ready) → IsLawfulDraft (draft_view ready) → EndUnreached (draft_view ready) (draft_view checked).lines
-    → draft_view checked ≡ with_lines (draft_view checked).lines (draft_view ready) → SpellsAlgorithm text checked.algorithm
-spelled text read ready checked spoken says reads finishes lawful ends kept =
-    let p = text_makes_program spoken (draft_view read) reads in
-    record {
-      program = p.0;
-      says = subst (λ ss. TextSays text ss) (sym p.1) says;
-      draft = draft_view ready;
-      means = ap (λ o. o >>= finished_draft) p.2 ∙ finishes;
-      lawful = lawful;
-      is_of = record {
-        head = ap (λ d. d.head) kept;
-        declared = ap (λ d. d.declared) kept;
-        each = ap (λ d. d.each) kept;
-        lasting = ap (λ d. d.lasting) kept;
-        names = ap (λ d. d.names) kept;
-        answers = ap (λ d. d.answers) kept;
-        lines = ends;
-      };
-    }
+-- the draft that a text spells
+pub spelled_draft : (text : List ℕ) (read ready : Drafted) (spoken : List Spoken) → TextSays text spoken → read_text spoken ≡ Some read → finished_draft read ≡ Some ready
+    → CallsFit ready → SpellsDraft text ready
+spelled_draft text read ready spoken says reads finishes fit =
+    let p = text_makes_program spoken read reads in
+    record { program = p.0; says = subst (λ ss. TextSays text ss) (sym p.1) says; means = ap (λ o. o >>= finished_draft) p.2 ∙ finishes; fit = fit }
+
+-- the algorithm of a draft whose runs do what they may, with the deeds of its lock and its unlock
+pub spelled : (text : List ℕ) (ready checked : Draft) → SpellsDraft text (draft_view ready) → AllRuns (draft_view ready)
+    → NotesDeed (draft_view ready) (draft_view ready).head.entries.lock Enter → NotesDeed (draft_view ready) (draft_view ready).head.entries.unlock Leave
+    → EndUnreached (draft_view ready) (draft_view checked).lines → draft_view checked ≡ with_lines (draft_view checked).lines (draft_view ready)
+    → SpellsAlgorithm text checked.algorithm
+spelled text ready checked spells runs enters leaves ends kept = record {
+  program = spells.program;
+  says = spells.says;
+  draft = draft_view ready;
+  means = spells.means;
+  lawful = record { calls = spells.fit; runs = runs; enters = enters; leaves = leaves };
+  is_of = record {
+    head = ap (λ d. d.head) kept;
+    declared = ap (λ d. d.declared) kept;
+    each = ap (λ d. d.each) kept;
+    lasting = ap (λ d. d.lasting) kept;
+    names = ap (λ d. d.names) kept;
+    answers = ap (λ d. d.answers) kept;
+    lines = ends;
+  };
+}

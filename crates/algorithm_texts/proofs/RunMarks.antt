@@ -1,15 +1,15 @@
 -- Marks of the places to which runs come.
 use Rattle.std.proofs.Common.{◌≡◌, ◌⊎◌, ℕ, zero, suc, ◌+◌, ◌<◌, ◌≤◌, Bool, true, false, cond, not, ◌&&◌, ◌||◌, ltb, leb, eqb, List, [], ◌∷◌, length, replicate, set, get_or, Option, Some, None, slice_get, refl, sym, ap, ◌∙◌, subst, inl, inr, arith}
-use Rattle.std.specs.List.{find, list_any, count_by}
+use Rattle.std.specs.List.{find, count_by}
 use Rattle.std.proofs.lemmas.Bool.{false≢true, both_ways, not-true, ltb-true, ltb-false, leb-true, le-leb, lt-ltb, eqb-true, eq-eqb}
-use Rattle.std.proofs.lemmas.Option.{slice_get-get_or, slice_get_past, slice_get_within, none-some, same_Some, cond_some}
+use Rattle.std.proofs.lemmas.Option.{slice_get-get_or, slice_get_past, none-some, same_Some}
 use Rattle.std.proofs.lemmas.List.{length-set, length-replicate}
 use Rattle.std.proofs.lemmas.List.Sums.{sum_by-set}
 use Rattle.algorithm_texts.specs.declared.flow.RunKind.{RunKind}
 use Rattle.algorithm_texts.specs.declared.lines.CallRead.{CallRead}
 use Rattle.algorithm_texts.specs.Drafts.{Drafted, PlacedLine}
 use Rattle.algorithm_texts.specs.FinishedDrafts.{is_in, is_marked, is_within}
-use Rattle.algorithm_texts.specs.Marks.{is_free, free_way, past_marked, marks_from, IsClosed, KeepsMarks}
+use Rattle.algorithm_texts.specs.Marks.{is_free, free_way, past_marked, marks_from, IsClosed, KeepsMarks, MarksReached}
 use Rattle.algorithm_texts.specs.Runs.{ways_after, ways_from, leads_to, RunComesTo, ComesOver, past_where, past_from, IsPlaceReached, HasNot}
 
 -- ---- tests
@@ -119,7 +119,7 @@ line_after least runs at way lines h = elim (true_or_false (ltb at (length lines
 ]
 
 -- such a line is of the call
-leads_within : (d : Drafted) (call : CallRead) (runs : RunKind) (at way : ℕ) → leads_to (ways_from d call runs at) way ≡ true → at < length d.lines
+pub leads_within : (d : Drafted) (call : CallRead) (runs : RunKind) (at way : ℕ) → leads_to (ways_from d call runs at) way ≡ true → at < length d.lines
 leads_within d call runs at way h = elim (true_or_false (is_within (call.«from», call.to) at)) [
   | inl t ↦ line_after d.head.least runs at way d.lines (sym (ap (λ b. leads_to (cond b (ways_after d.head.least runs at (slice_get d.lines at)) []) way) t) ∙ h)
   | inr f ↦ absurd (false≢true (sym (ap (λ b. leads_to (cond b (ways_after d.head.least runs at (slice_get d.lines at)) []) way) f) ∙ h))
@@ -242,9 +242,10 @@ pub record PastMarked (d : Drafted) (call : CallRead) (name : ℕ) (reached old 
   pub size : length marks ≡ length old
   pub kept : KeepsMarks old marks
   pub marked : (at : ℕ) → call.«from» ≤ at → at < place → (way : ℕ) → past_marked d call name reached at ≡ Some way → way < length marks → is_in marks way ≡ true
+  pub comes : (way : ℕ) → is_in marks way ≡ true → (is_in old way ≡ true) ⊎ ((at : ℕ) × (past_marked d call name reached at ≡ Some way))
 
 pub past_first : (d : Drafted) (call : CallRead) (name : ℕ) (reached old : List Bool) → PastMarked d call name reached old old call.«from»
-past_first d call name reached old = record { size = refl; kept = λ at h. h; marked = λ at a b. absurd (omega (arith, a, b)) }
+past_first d call name reached old = record { size = refl; kept = λ at h. h; marked = λ at a b. absurd (omega (arith, a, b)); comes = λ at h. inl h }
 
 pub past_on : (d : Drafted) (call : CallRead) (name : ℕ) (reached old marks : List Bool) (place way : ℕ) → PastMarked d call name reached old marks place
     → past_marked d call name reached place ≡ Some way → PastMarked d call name reached old (set marks way true) (place + 1)
@@ -257,6 +258,10 @@ past_on d call name reached old marks place way s e = record {
       (λ other f l. let same : way ≡ other = same_Some way other (sym e ∙ f) in
       subst (λ x. is_in (set marks way true) x ≡ true) same
       (set_marks marks way (subst (λ x. x < length marks) (sym same) (subst (λ (n : ℕ). other < n) (length-set marks way true) l))));
+  comes = λ other h. elim (marked_set marks way other h) [
+    | inl same ↦ inr (place, e ∙ ap Some (sym same))
+    | inr k ↦ s.comes other k
+  ];
 }
 
 pub past_skip : (d : Drafted) (call : CallRead) (name : ℕ) (reached old marks : List Bool) (place : ℕ) → PastMarked d call name reached old marks place
@@ -266,6 +271,7 @@ past_skip d call name reached old marks place s e = record {
   kept = s.kept;
   marked = below_next (λ at. (other : ℕ) → past_marked d call name reached at ≡ Some other → other < length marks → is_in marks other ≡ true) call.«from» place s.marked
       (λ other f l. absurd (none-some other (sym e ∙ f)));
+  comes = s.comes;
 }
 
 nothing : (b : Bool) (o : Option ℕ) → o ≡ None → cond b o None ≡ None
@@ -287,7 +293,7 @@ past_all d call name reached old marks place s end at way e =
 
 -- ---- marks at the beginning
 
-none_in : (n at : ℕ) → is_in (replicate n false) at ≡ true → ⊥
+pub none_in : (n at : ℕ) → is_in (replicate n false) at ≡ true → ⊥
 none_in zero at h = false≢true h
 none_in (suc n) zero h = false≢true h
 none_in (suc n) (suc at) h = none_in n at h
@@ -312,6 +318,29 @@ past_line d call name at way e = elim (true_or_false (ltb at (length d.lines))) 
       (ap (past_where name d.head.least (at + 1)) (slice_get_past d.lines at (ltb-false at (length d.lines) f)))) ∙ e))
 ]
 
+past_parts : (d : Drafted) (call : CallRead) (name : ℕ) (reached : List Bool) (at way : ℕ) → past_marked d call name reached at ≡ Some way
+    → (is_in reached at ≡ true) × (past_from d call name at ≡ Some way)
+past_parts d call name reached at way e = elim (true_or_false (is_in reached at)) [
+  | inl t ↦ (t, sym (ap (λ b. cond b (past_from d call name at) None) t) ∙ e)
+  | inr f ↦ absurd (none-some way (sym (ap (λ b. cond b (past_from d call name at) None) f) ∙ e))
+]
+
+first_not : (n from at lasting name : ℕ) → is_in (marks_from n from (leb lasting name)) at ≡ true → (at ≡ from) × (lasting ≤ name)
+first_not n from at lasting name h = elim (true_or_false (leb lasting name)) [
+  | inl t ↦ (first_in n from at (subst (λ b. is_in (marks_from n from b) at ≡ true) t h), leb-true lasting name t)
+  | inr f ↦ absurd (none_in n at (subst (λ b. is_in (marks_from n from b) at ≡ true) f h))
+]
+
+-- at places that are marked at first a run has not set the name
+pub start_not : (d : Drafted) (call : CallRead) (name : ℕ) (reached items past : List Bool) (n : ℕ) → items ≡ marks_from n call.«from» (leb d.lasting name)
+    → MarksReached d call reached
+    → ((way : ℕ) → is_in past way ≡ true → (is_in items way ≡ true) ⊎ ((at : ℕ) × (past_marked d call name reached at ≡ Some way)))
+    → (at : ℕ) → is_in past at ≡ true → HasNot d call name at
+start_not d call name reached items past n begun reaches comes at h = elim (comes at h) [
+  | inl k ↦ inl (first_not n call.«from» at d.lasting name (subst (λ ms. is_in ms at ≡ true) begun k))
+  | inr k ↦ let p = past_parts d call name reached k.0 at k.1 in inr (k.0, reaches.comes k.0 p.0, p.1)
+]
+
 -- where a run has not set the name is marked
 pub start_marked : (d : Drafted) (call : CallRead) (name : ℕ) (reached items past marks : List Bool) (n : ℕ) → n ≡ length d.lines + 1
     → items ≡ marks_from n call.«from» (leb d.lasting name) → KeepsMarks items past
@@ -324,3 +353,35 @@ start_marked d call name reached items past marks n size begun kept marked long 
     let line = past_line d call name h.0 at h.2 in
     let there : is_in reached h.0 ≡ true = all h.0 (omega (arith, line)) h.1 in
     keeps at (marked h.0 at (ap (λ b. cond b (past_from d call name h.0) None) there ∙ h.2) (omega (arith, within, size, long)))
+
+-- ---- marks that a loop sets
+
+-- the places so far that are asked for are marked, and no others but those that were
+pub record MarkedSo (from : ℕ) (Asked : ℕ → Type 0) (old marks : List Bool) (place : ℕ) : Type 0 where
+  pub size : length marks ≡ length old
+  pub kept : KeepsMarks old marks
+  pub marked : (at : ℕ) → from ≤ at → at < place → Asked at → at < length marks → is_in marks at ≡ true
+  pub comes : (at : ℕ) → is_in marks at ≡ true → (is_in old at ≡ true) ⊎ Asked at
+
+pub so_first : (from : ℕ) (Asked : ℕ → Type 0) (old : List Bool) → MarkedSo from Asked old old from
+so_first from Asked old = record { size = refl; kept = λ at h. h; marked = λ at a b. absurd (omega (arith, a, b)); comes = λ at h. inl h }
+
+pub so_on : (from : ℕ) (Asked : ℕ → Type 0) (old marks : List Bool) (place : ℕ) → MarkedSo from Asked old marks place → Asked place
+    → MarkedSo from Asked old (set marks place true) (place + 1)
+so_on from Asked old marks place s here = record {
+  size = length-set marks place true ∙ s.size;
+  kept = λ at h. set_keeps marks place at (s.kept at h);
+  marked = below_next (λ at. Asked at → at < length (set marks place true) → is_in (set marks place true) at ≡ true) from place
+      (λ at a b h l. set_keeps marks place at (s.marked at a b h (subst (λ (n : ℕ). at < n) (length-set marks place true) l)))
+      (λ h l. set_marks marks place (subst (λ (n : ℕ). place < n) (length-set marks place true) l));
+  comes = λ at h. elim (marked_set marks place at h) [ inl e ↦ inr (subst Asked (sym e) here) | inr k ↦ s.comes at k ];
+}
+
+pub so_skip : (from : ℕ) (Asked : ℕ → Type 0) (old marks : List Bool) (place : ℕ) → MarkedSo from Asked old marks place → (Asked place → ⊥)
+    → MarkedSo from Asked old marks (place + 1)
+so_skip from Asked old marks place s none = record {
+  size = s.size;
+  kept = s.kept;
+  marked = below_next (λ at. Asked at → at < length marks → is_in marks at ≡ true) from place s.marked (λ h l. absurd (none h));
+  comes = s.comes;
+}

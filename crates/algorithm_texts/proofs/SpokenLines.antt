@@ -5,7 +5,7 @@ use Rattle.std.proofs.lemmas.List.Elements.{All-append, All-cons, All-nil}
 use Rattle.std.specs.List.{All}
 use Rattle.algorithm_texts.specs.declared.tokens.Token.{Token}
 use Rattle.algorithm_texts.specs.Fronts.{is_over}
-use Rattle.algorithm_texts.specs.TextLines.{ended_lines, and_line, SayLines, TextSays}
+use Rattle.algorithm_texts.specs.TextLines.{ended_lines, and_line, SayLines, SaysBefore, TextSays}
 use Rattle.algorithm_texts.specs.TextDrafts.{Spoken}
 use Rattle.algorithm_texts.specs.Tokens.{LineSays}
 
@@ -37,23 +37,13 @@ ended_more (l ∷ ls) line = ap (λ bs. l ++ (10 ∷ bs)) (ended_more ls line) �
 pub all_more : (lines : List (List ℕ)) (line : List ℕ) → All (λ l. length l ≤ 1000) lines → length line ≤ 1000 → All (λ l. length l ≤ 1000) (lines ++ line ∷ [])
 all_more lines line h k = All-append (λ l. length l ≤ 1000) lines (line ∷ []) h (All-cons (λ l. length l ≤ 1000) line [] k (All-nil (λ l. length l ≤ 1000)))
 
--- what is read so far
-pub record SoFar (text rest : List ℕ) (number : ℕ) (spoken : List Spoken) : Type 0 where
-  pub lines : List (List ℕ)
-  pub bytes : text ≡ ended_lines lines ++ rest
-  pub count : number ≡ length lines + 1
-  pub few : length lines ≤ 4096
-  pub short : All (λ l. length l ≤ 1000) lines
-  pub say : SayLines 1 lines spoken
-  pub few_filled : length spoken ≤ 1024
-
 length_more : (lines : List (List ℕ)) (line : List ℕ) → length (lines ++ line ∷ []) ≡ length lines + 1
 length_more [] line = refl
 length_more (l ∷ ls) line = let h = length_more ls line in omega (arith, h)
 
-pub so_far_more : (text rest line after : List ℕ) (number next : ℕ) (spoken now : List Spoken) (tokens : List Token) (answer : List ℕ) → SoFar text rest number spoken
+pub so_far_more : (text rest line after : List ℕ) (number next : ℕ) (spoken now : List Spoken) (tokens : List Token) (answer : List ℕ) → SaysBefore text rest number spoken
     → rest ≡ line ++ (10 ∷ after) → LineSays line (Ok (tokens, answer)) → number ≤ 4096 → length line ≤ 1000 → next ≡ number + 1
-    → now ≡ spoken ++ and_line number tokens answer [] → length now ≤ 1024 → SoFar text after next now
+    → now ≡ spoken ++ and_line number tokens answer [] → length now ≤ 1024 → SaysBefore text after next now
 so_far_more text rest line after number next spoken now tokens answer h split says few short following added filled = record {
   lines = h.lines ++ line ∷ [];
   bytes = h.bytes ∙ ap (λ bs. ended_lines h.lines ++ bs) (split ∙ sym (append_assoc line (10 ∷ []) after)) ∙ sym (append_assoc (ended_lines h.lines) (line ++ (10 ∷ [])) after)
@@ -69,7 +59,7 @@ no_bytes : (bs : List ℕ) → length bs ≡ 0 → bs ≡ []
 no_bytes [] e = refl
 no_bytes (b ∷ bs) e = absurd (omega (arith, e))
 
-pub all_said : (text rest : List ℕ) (number : ℕ) (spoken : List Spoken) → SoFar text rest number spoken → length rest ≡ 0 → TextSays text spoken
+pub all_said : (text rest : List ℕ) (number : ℕ) (spoken : List Spoken) → SaysBefore text rest number spoken → length rest ≡ 0 → TextSays text spoken
 all_said text rest number spoken h none = record {
   lines = h.lines;
   bytes = h.bytes ∙ ap (λ bs. ended_lines h.lines ++ bs) (no_bytes rest none) ∙ append-nil (ended_lines h.lines);
@@ -79,7 +69,7 @@ all_said text rest number spoken h none = record {
   few_filled = h.few_filled;
 }
 
-pub none_so_far : (text : List ℕ) (spoken : List Spoken) → spoken ≡ [] → SoFar text text 1 spoken
+pub none_so_far : (text : List ℕ) (spoken : List Spoken) → spoken ≡ [] → SaysBefore text text 1 spoken
 none_so_far text spoken e = record {
   lines = [];
   bytes = refl;

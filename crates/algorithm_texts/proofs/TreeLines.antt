@@ -219,10 +219,10 @@ calls_begun cs xs x e = elim (true_or_false (eqb (length cs) 0)) [
 statement_line : (d now : Drafted) (s : Spoken) → IsIn (rest_of d) → is_the_word (slice_get s.tokens 0) (codes "call") ≡ false
     → read_statement (with_number s.number d) s.tokens s.answer ≡ Some now → read_line (with_number s.number d) s.tokens s.answer d.number ≡ Some now
 statement_line d now s h other e =
-    let empty_draft : eqb (length d.calls) 0 ≡ false = calls_begun d.calls h.0.1 h.0.0 h.0.2 in
+    let begun : eqb (length d.calls) 0 ≡ false = calls_begun d.calls h.0.1 h.0.0 h.0.2 in
     ap (λ b. cond b (read_call (with_number s.number d) (drop 1 s.tokens) d.number)
     (cond (eqb (length d.calls) 0) (read_declaration (with_number s.number d) s.tokens) (read_statement (with_number s.number d) s.tokens s.answer))) other
-    ∙ ap (λ b. cond b (read_declaration (with_number s.number d) s.tokens) (read_statement (with_number s.number d) s.tokens s.answer)) empty_draft
+    ∙ ap (λ b. cond b (read_declaration (with_number s.number d) s.tokens) (read_statement (with_number s.number d) s.tokens s.answer)) begun
     ∙ e
 
 alone_line : (d now : Drafted) (s : Spoken) → IsIn (rest_of d) → draft_after_statement d s ≡ Some now → read_line (with_number s.number d) s.tokens s.answer d.number ≡ Some now
@@ -259,7 +259,7 @@ block_lines (Line s rest) d now ss h e =
     let r = block_lines rest x.0 now ss (subst IsIn (sym one) h) x.2 in
     (line_more d x.0 s (lines_in rest ++ ss) (alone_line d x.0 s h x.1) ∙ r.0, r.1 ∙ one)
 block_lines (Enclosed s body t rest) d now ss h e =
-    let x = some_of (beginning d s) (λ empty_draft. draft_after_block body empty_draft >>= (λ inner. ending empty_draft.opened inner t >>= draft_after_block rest)) now e in
+    let x = some_of (beginning d s) (λ begun. draft_after_block body begun >>= (λ inner. ending begun.opened inner t >>= draft_after_block rest)) now e in
     let y = some_of (draft_after_block body x.0) (λ inner. ending x.0.opened inner t >>= draft_after_block rest) now x.2 in
     let z = some_of (ending x.0.opened y.0 t) (draft_after_block rest) now y.2 in
     let one : rest_of x.0 ≡ rest_of d = if_of (λ n. rest_of n ≡ rest_of d) (beginning d s) x.0 (begins_calls (with_number s.number d) s.tokens) x.1 in
@@ -276,7 +276,7 @@ block_lines (Enclosed s body t rest) d now ss h e =
       r.1 ∙ three,
     )
 block_lines (Divided s body o other t rest) d now ss h e =
-    let x = some_of (beginning d s) (λ empty_draft. draft_after_block body empty_draft >>= (λ inner. dividing empty_draft.opened inner o >>= (λ divided. draft_after_block other divided >>= (λ second.
+    let x = some_of (beginning d s) (λ begun. draft_after_block body begun >>= (λ inner. dividing begun.opened inner o >>= (λ divided. draft_after_block other divided >>= (λ second.
     ending divided.opened second t >>= draft_after_block rest)))) now e in
     let y = some_of (draft_after_block body x.0) (λ inner. dividing x.0.opened inner o >>= (λ divided. draft_after_block other divided >>= (λ second. ending divided.opened second t >>= draft_after_block rest))) now x.2 in
     let v = some_of (dividing x.0.opened y.0 o) (λ divided. draft_after_block other divided >>= (λ second. ending divided.opened second t >>= draft_after_block rest)) now y.2 in
@@ -309,7 +309,7 @@ block_lines (Divided s body o other t rest) d now ss h e =
 calls_read : (calls : List CallLines) (d now : Drafted) → NoCall d.declared → calls_made calls d ≡ Some now → read_lines d (calls_lines calls) ≡ Some now
 calls_read [] d now none e = e
 calls_read (c ∷ cs) d now none e =
-    let x = some_of (call_begun d c.first) (λ empty_draft. draft_after_block c.block empty_draft >>= calls_made cs) now e in
+    let x = some_of (call_begun d c.first) (λ begun. draft_after_block c.block begun >>= calls_made cs) now e in
     let y = some_of (draft_after_block c.block x.0) (calls_made cs) now x.2 in
     let w = cond_parts (is_the_word (slice_get c.first.tokens 0) (codes "call")) (read_call (with_number c.first.number d) (drop 1 c.first.tokens) d.number) x.0 x.1 in
     let begins = begins_call (with_number c.first.number d) (drop 1 c.first.tokens) d.number x.0 w.1 in

@@ -1,17 +1,13 @@
 -- A draft that was read becomes an algorithm: gotos lead to their labels, calls begin at their lines.
-use Rattle.std.specs.Prelude.{◌≡◌, ◌⊎◌, ℕ, ◌+◌, nat_lt, nat_le, Bool, true, false, not, ◌&&◌, ◌||◌, List, [], ◌∷◌, slice_get, Option, Some, None, if◌then◌else◌, bytes_eq, position}
-use Rattle.std.specs.List.{list_all}
+use Rattle.std.specs.Prelude.{ℕ, nat_lt, nat_le, Bool, true, false, ◌&&◌, List, [], ◌∷◌, slice_get, Option, Some, None, if◌then◌else◌, bytes_eq, position}
 use Rattle.algorithms.specs.Ranked.{has_round}
-use Rattle.algorithms.specs.declared.algorithm.Algorithm.{Algorithm}
-use Rattle.algorithms.specs.declared.algorithm.Entries.{Entries}
 use Rattle.algorithms.specs.declared.algorithm.AlgorithmCall.{AlgorithmCall}
 use Rattle.algorithms.specs.declared.algorithm.AlgorithmCall.TheVariants.{Lock, Unlock, Recover, Withdraw}
 use Rattle.algorithm_texts.specs.declared.lines.CallRead.{CallRead}
 use Rattle.algorithm_texts.specs.declared.lines.Jump.{Jump}
 use Rattle.algorithm_texts.specs.declared.lines.Label.{Label}
 use Rattle.algorithm_texts.specs.Parts.{◌>>=◌}
-use Rattle.algorithm_texts.specs.Operands.{names_of, declared_of}
-use Rattle.algorithm_texts.specs.Drafts.{LineForm, Accessing, Assigning, Noting, Going, Branching, Beginning, Repeating, Ending, PlacedLine, leading, head_of, each_of, answers_of, lines_of, Drafted}
+use Rattle.algorithm_texts.specs.Drafts.{LineForm, Accessing, Assigning, Noting, Going, Branching, Beginning, Repeating, Ending, PlacedLine, leading, Drafted}
 use Rattle.algorithm_texts.specs.TextDrafts.{is_call}
 
 -- ---- gotos
@@ -136,51 +132,3 @@ ways least next (Branching condition otherwise) = next ∷ (otherwise ∷ [])
 ways least next (Beginning name members after) = if has_round least members then next ∷ [] else next ∷ (after ∷ [])
 ways least next (Repeating name members body) = body ∷ (next ∷ [])
 ways least next (Ending answer) = []
-
--- a line at a place that is marked leads to such places alone
-abbrev pub line_stays : ℕ → List Bool → ℕ → LineForm → Bool
-line_stays least marks place form = not (is_in marks place) || list_all (is_in marks) (ways least (place + 1) form)
-
--- the lines from a place on lead from places that are marked to such places alone
-abbrev pub lines_stay : ℕ → List Bool → ℕ → List PlacedLine → Bool
-lines_stay least marks place [] = true
-lines_stay least marks place (line ∷ lines) = line_stays least marks place line.form && lines_stay least marks (place + 1) lines
-
-abbrev pub is_marked_where : List Bool → Option ℕ → Bool
-is_marked_where marks None = true
-is_marked_where marks (Some place) = is_in marks place
-
--- where calls begin is marked
-abbrev pub entries_marked : List Bool → Entries → Bool
-entries_marked marks entries =
-    is_in marks entries.lock
-    && (is_in marks entries.unlock && (is_marked_where marks entries.recover && is_marked_where marks entries.withdraw))
-
--- a line as it was, or the end of a call where it was such a way and is not marked
-abbrev pub EndsAt : Bool → PlacedLine → PlacedLine → Type 0
-EndsAt mark old new = (new ≡ old) ⊎ ((mark ≡ false) × (is_way old.form ≡ true) × (new ≡ record { number = old.number; form = Ending 0 }))
-
--- lines from a place on as they were, but for such ways that end a call
-abbrev pub EndSome : List Bool → ℕ → List PlacedLine → List PlacedLine → Type 0
-EndSome marks place [] [] = Unit {0}
-EndSome marks place [] (new ∷ news) = ⊥
-EndSome marks place (old ∷ olds) [] = ⊥
-EndSome marks place (old ∷ olds) (new ∷ news) = EndsAt (is_in marks place) old new × EndSome marks (place + 1) olds news
-
--- only lines to which no run comes end a call in place of a way: calls begin at places that are marked, all lines lead from such
--- places to such places, and lines at them are as they were
-pub record EndUnreached (d : Drafted) (lines : List PlacedLine) : Type 0 where
-  pub marks : List Bool
-  pub begin : entries_marked marks d.head.entries ≡ true
-  pub stay : lines_stay d.head.least marks 0 d.lines ≡ true
-  pub others : EndSome marks 0 d.lines lines
-
--- an algorithm is what a draft says
-pub record IsDraftOf (d : Drafted) (a : Algorithm) : Type 0 where
-  pub head : head_of a ≡ d.head
-  pub declared : declared_of a ≡ d.declared
-  pub each : each_of a ≡ d.each
-  pub lasting : a.lasting ≡ d.lasting
-  pub names : names_of a ≡ d.names
-  pub answers : answers_of a ≡ d.answers
-  pub lines : EndUnreached d (lines_of a)

@@ -13,6 +13,8 @@ pub mod FinishedDrafts
 pub mod Usage
 pub mod Runs
 pub mod Marks
+pub mod UnreachedLines
+pub mod Rounds
 pub mod Lawful
 pub mod Blocks
 pub mod Programs

@@ -1,12 +1,13 @@
 -- Marks of places, as the runs of a call are followed.
-use Rattle.std.specs.Prelude.{◌≡◌, ℕ, ◌<◌, nat_lt, Bool, true, false, not, ◌&&◌, List, [], ◌∷◌, length, replicate, slice_set, Option, Some, None, if◌then◌else◌}
+use Rattle.std.specs.Prelude.{◌≡◌, ℕ, ◌+◌, ◌<◌, ◌≤◌, nat_lt, Bool, true, false, not, ◌&&◌, List, [], ◌∷◌, length, replicate, slice_set, Option, Some, None, if◌then◌else◌}
 use Rattle.std.specs.List.{find}
 use Rattle.algorithm_texts.specs.declared.flow.RunKind.{RunKind}
 use Rattle.algorithm_texts.specs.declared.flow.Ways.{Ways}
 use Rattle.algorithm_texts.specs.declared.lines.CallRead.{CallRead}
 use Rattle.algorithm_texts.specs.Drafts.{Drafted}
-use Rattle.algorithm_texts.specs.FinishedDrafts.{is_in}
-use Rattle.algorithm_texts.specs.Runs.{ways_from, leads_to, past_from}
+use Rattle.algorithm_texts.specs.FinishedDrafts.{is_in, is_within}
+use Rattle.algorithm_texts.specs.Runs.{ways_from, leads_to, past_from, IsPlaceReached, is_seen}
+use Rattle.algorithm_texts.specs.Usage.{reads, uses, passes_at}
 
 abbrev pub and_then : Option ℕ → List ℕ → List ℕ
 and_then None rest = rest
@@ -44,3 +45,21 @@ KeepsMarks old new = (at : ℕ) → is_in old at ≡ true → is_in new at ≡ t
 abbrev pub marks_from : ℕ → ℕ → Bool → List Bool
 marks_from count first true = slice_set (replicate count false) first true
 marks_from count first false = replicate count false
+
+-- just the places to which runs of a call come are marked, among those of lines and the place after the last
+pub record MarksReached (d : Drafted) (call : CallRead) (marks : List Bool) : Type 0 where
+  pub size : length marks ≡ length d.lines + 1
+  pub comes : (at : ℕ) → is_in marks at ≡ true → IsPlaceReached d call at
+  pub all : (at : ℕ) → at ≤ length d.lines → IsPlaceReached d call at → is_in marks at ≡ true
+
+-- at this place, which is marked, a line of the call reads a name
+pub record ReadsMarked (d : Drafted) (call : CallRead) (name : ℕ) (marks : List Bool) (at : ℕ) : Type 0 where
+  pub within : is_within (call.«from», call.to) at ≡ true
+  pub reads_it : passes_at (reads name) (uses d.lines) at ≡ true
+  pub marked : is_in marks at ≡ true
+
+-- at this place, which is marked, an end or a deed of the call stands
+pub record SeenMarked (d : Drafted) (call : CallRead) (marks : List Bool) (at : ℕ) : Type 0 where
+  pub within : is_within (call.«from», call.to) at ≡ true
+  pub seen : passes_at is_seen (uses d.lines) at ≡ true
+  pub marked : is_in marks at ≡ true

@@ -7,8 +7,9 @@ use Rattle.algorithm_texts.specs.Drafts.{Drafted}
 use Rattle.algorithm_texts.specs.TextDrafts.{Spoken, with_number, empty_draft, end_call, read_call, read_declaration, read_head, read_promises}
 use Rattle.algorithm_texts.specs.TextLines.{TextSays}
 use Rattle.algorithm_texts.specs.Blocks.{Block, lines_in, draft_after_block}
-use Rattle.algorithm_texts.specs.FinishedDrafts.{finished_draft, IsDraftOf}
-use Rattle.algorithm_texts.specs.Lawful.{IsLawfulDraft}
+use Rattle.algorithm_texts.specs.FinishedDrafts.{finished_draft}
+use Rattle.algorithm_texts.specs.UnreachedLines.{IsDraftOf}
+use Rattle.algorithm_texts.specs.Lawful.{IsLawfulDraft, CallsFit}
 
 -- the line that begins a call, and the lines after it
 pub record CallLines : Type 0 where
@@ -39,8 +40,8 @@ call_begun d s = if is_the_word (slice_get s.tokens 0) (codes "call") then read_
 abbrev pub calls_made : List CallLines → Drafted → Option Drafted
 calls_made [] d = end_call d.number d
 calls_made (c ∷ cs) d = do
-  empty_draft ← call_begun d c.first
-  now ← draft_after_block c.block empty_draft
+  begun ← call_begun d c.first
+  now ← draft_after_block c.block begun
   calls_made cs now
 
 -- what a program means, with gotos that lead nowhere yet
@@ -50,6 +51,13 @@ meaning_of p = do
   promises ← read_promises p.promises.tokens
   declared ← declarations_made p.declarations (empty_draft head promises p.promises.number)
   calls_made p.calls declared
+
+-- the lines of a text are those of a program whose calls fit, and the draft is what it means
+pub record SpellsDraft (text : List ℕ) (d : Drafted) : Type 0 where
+  pub program : Program
+  pub says : TextSays text (program_lines program)
+  pub means : (meaning_of program >>= finished_draft) ≡ Some d
+  pub fit : CallsFit d
 
 -- the lines of a text are those of a program that keeps the rules, and the algorithm is what it means
 pub record SpellsAlgorithm (text : List ℕ) (a : Algorithm) : Type 0 where

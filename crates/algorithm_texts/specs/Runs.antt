@@ -1,13 +1,14 @@
 -- Runs of a call, from line to line. Which way a branch goes is not asked.
-use Rattle.std.specs.Prelude.{◌≡◌, ◌⊎◌, ℕ, zero, suc, ◌+◌, ◌≤◌, ◌<◌, nat_eq, Bool, true, false, not, ◌||◌, List, [], ◌∷◌, slice_get, length, Option, Some, None, if◌then◌else◌}
-use Rattle.std.specs.List.{list_any}
+use Rattle.std.specs.Prelude.{◌≡◌, ◌⊎◌, ℕ, zero, suc, ◌+◌, ◌≤◌, ◌<◌, nat_eq, nat_lt, Bool, true, false, not, ◌&&◌, ◌||◌, List, [], slice_get, length, Option, Some, None, if◌then◌else◌}
+use Rattle.std.specs.List.{list_all, list_any}
 use Rattle.algorithms.specs.Ranked.{has_round}
+use Rattle.algorithms.specs.declared.algorithm.AlgorithmCall.{AlgorithmCall}
 use Rattle.algorithm_texts.specs.declared.flow.RunKind.{RunKind}
 use Rattle.algorithm_texts.specs.declared.flow.RunKind.TheVariants.{All, Silent, Without}
 use Rattle.algorithm_texts.specs.declared.lines.CallRead.{CallRead}
 use Rattle.algorithm_texts.specs.declared.lines.Jump.{Jump}
-use Rattle.algorithm_texts.specs.Drafts.{LineForm, Accessing, Assigning, Noting, Going, Branching, Beginning, Repeating, Ending, PlacedLine, Drafted}
-use Rattle.algorithm_texts.specs.FinishedDrafts.{is_within, ways}
+use Rattle.algorithm_texts.specs.Drafts.{LineForm, Accessing, Noting, Going, Beginning, Repeating, Ending, PlacedLine, Drafted}
+use Rattle.algorithm_texts.specs.FinishedDrafts.{call_in, is_within, ways}
 use Rattle.algorithm_texts.specs.Usage.{reads, sets, begins_loop, ends_loop, uses, passes_at}
 
 -- ---- ways
@@ -94,11 +95,67 @@ is_seen (Noting deed) = true
 is_seen (Ending answer) = true
 is_seen other = false
 
--- runs of a call come to each line of the text, come to none after the last, have set each name before they read it, and make an
--- access before the first end or deed
+-- a line of the call stands at this place
+abbrev pub is_line_in : Drafted → CallRead → ℕ → Bool
+is_line_in d call at = is_within (call.«from», call.to) at && nat_lt at (length d.lines)
+
+-- the line at a place leads to lines of the call alone
+abbrev pub leads_in : Drafted → CallRead → ℕ → Bool
+leads_in d call at = list_all (is_line_in d call) (ways_from d call All at)
+
+-- from this place a run comes without an access to a line that leads back to it
+abbrev pub ReturnsSilently : Drafted → CallRead → ℕ → Type 0
+ReturnsSilently d call at =
+    (before : ℕ) × RunComesTo d call Silent (λ first. first ≡ at) before × (leads_to (ways_from d call Silent before) at ≡ true)
+
+-- runs of a call come to each line of the text
+abbrev pub EachIsReached : Drafted → CallRead → Type 0
+EachIsReached d call =
+    (at : ℕ) → is_within (call.«from», call.to) at ≡ true → passes_at (is_own d.jumps at) (uses d.lines) at ≡ true → IsPlaceReached d call at
+
+-- runs of a call come to its lines alone
+abbrev pub RunsStay : Drafted → CallRead → Type 0
+RunsStay d call = (at : ℕ) → IsPlaceReached d call at → is_line_in d call at ≡ true
+
+-- at this place a line of the call may read a name that is not set
+pub record ReadsUnset (d : Drafted) (call : CallRead) (name at : ℕ) : Type 0 where
+  pub within : is_within (call.«from», call.to) at ≡ true
+  pub reads_it : passes_at (reads name) (uses d.lines) at ≡ true
+  pub unset : IsReachedWithout d call name at
+
+-- runs of a call have set each name before they read it
+abbrev pub RunsSet : Drafted → CallRead → Type 0
+RunsSet d call = (name at : ℕ) → name < length d.names → ReadsUnset d call name at → ⊥
+
+-- runs of a call come to no line again without an access
+abbrev pub NoneReturns : Drafted → CallRead → Type 0
+NoneReturns d call = (at : ℕ) → IsPlaceReached d call at → ReturnsSilently d call at → ⊥
+
+-- runs of a call make an access before the first end or deed
+abbrev pub StepsComeFirst : Drafted → CallRead → Type 0
+StepsComeFirst d call =
+    (at : ℕ) → is_within (call.«from», call.to) at ≡ true → passes_at is_seen (uses d.lines) at ≡ true → IsReachedSilently d call at → ⊥
+
 pub record RunsFit (d : Drafted) (call : CallRead) : Type 0 where
-  pub reached : (at : ℕ) → is_within (call.«from», call.to) at ≡ true → passes_at (is_own d.jumps at) (uses d.lines) at ≡ true → IsPlaceReached d call at
-  pub ends : IsPlaceReached d call call.to → ⊥
-  pub set : (name at : ℕ) → name < length d.names → is_within (call.«from», call.to) at ≡ true → passes_at (reads name) (uses d.lines) at ≡ true
-      → IsReachedWithout d call name at → ⊥
-  pub steps : (at : ℕ) → is_within (call.«from», call.to) at ≡ true → passes_at is_seen (uses d.lines) at ≡ true → IsReachedSilently d call at → ⊥
+  pub reached : EachIsReached d call
+  pub stays : RunsStay d call
+  pub set : RunsSet d call
+  pub returns : NoneReturns d call
+  pub steps : StepsComeFirst d call
+
+-- ---- calls by their kinds
+
+-- the runs of the call of this kind do what they may, if it is there
+abbrev pub KindRuns : Drafted → AlgorithmCall → Type 0
+KindRuns d kind = (call : CallRead) → call_in kind d.calls ≡ Some call → RunsFit d call
+
+abbrev pub AllRuns : Drafted → Type 0
+AllRuns d = (kind : AlgorithmCall) → KindRuns d kind
+
+-- a run of the call of this kind comes to this place
+abbrev pub KindComesTo : Drafted → AlgorithmCall → ℕ → Type 0
+KindComesTo d kind at = (call : CallRead) × (call_in kind d.calls ≡ Some call) × IsPlaceReached d call at
+
+-- a run of one of the calls comes to this place
+abbrev pub RunsComeTo : Drafted → ℕ → Type 0
+RunsComeTo d at = (kind : AlgorithmCall) × KindComesTo d kind at

@@ -1,7 +1,9 @@
 -- The lines of a text: each is ended by a line feed, and says its tokens.
-use Rattle.std.specs.Prelude.{◌≡◌, ℕ, ◌+◌, ◌≤◌, List, [], ◌∷◌, ◌++◌, length, Option, Some, None, Ok, if◌then◌else◌}
+use Rattle.std.specs.Prelude.{◌≡◌, ◌⊎◌, ℕ, ◌+◌, ◌≤◌, List, [], ◌∷◌, ◌++◌, length, Option, Some, None, Ok, if◌then◌else◌, ◌==◌, Bool, not}
 use Rattle.std.specs.List.{All}
 use Rattle.algorithms.specs.declared.algorithm.Promises.{Promises}
+use Rattle.algorithms.specs.declared.fault.AlgorithmFault.{AlgorithmFault}
+use Rattle.algorithms.specs.declared.fault.AlgorithmFault.TheVariants.{OutOfMemory, At}
 use Rattle.algorithm_texts.specs.declared.tokens.Token.{Token}
 use Rattle.algorithm_texts.specs.declared.filled.Filled.{Filled}
 use Rattle.algorithm_texts.specs.Parts.{◌>>=◌}
@@ -29,6 +31,27 @@ SayLines number (line ∷ lines) spoken =
     × SayLines (number + 1) lines rest
     × (spoken ≡ and_line number tokens answer rest)
 
+-- a line of this number says tokens, within its limits
+abbrev pub SaysTokens : ℕ → List ℕ → Type 0
+SaysTokens number line = (number ≤ 4096) × (length line ≤ 1000) × (tokens : List Token) × (answer : List ℕ) × LineSays line (Ok (tokens, answer))
+
+-- the lines of a text before the one of this number say tokens, within their limits, and these bytes come after them
+pub record SaysBefore (text rest : List ℕ) (number : ℕ) (spoken : List Spoken) : Type 0 where
+  pub lines : List (List ℕ)
+  pub bytes : text ≡ ended_lines lines ++ rest
+  pub count : number ≡ length lines + 1
+  pub few : length lines ≤ 4096
+  pub short : All (λ line. length line ≤ 1000) lines
+  pub say : SayLines 1 lines spoken
+  pub few_filled : length spoken ≤ 1024
+
+abbrev pub SaysUpTo : List ℕ → ℕ → Type 0
+SaysUpTo text number = (rest : List ℕ) × (spoken : List Spoken) × SaysBefore text rest number spoken
+
+-- no line feed
+abbrev pub is_no_feed : ℕ → Bool
+is_no_feed byte = not (byte == 10)
+
 -- the lines of a text that are not empty, within their limits
 pub record TextSays (text : List ℕ) (spoken : List Spoken) : Type 0 where
   pub lines : List (List ℕ)
@@ -47,3 +70,25 @@ second_said None = None
 second_said (Some line) = do
   promises ← read_promises line.tokens.all.items
   Some (promises, line.number)
+
+-- ---- refusals
+
+-- a fault comes where this is not so, or memory runs out
+abbrev pub IsRefusalOf : AlgorithmFault → Type 0 → Type 0
+IsRefusalOf fault P = (fault ≡ OutOfMemory) ⊎ (P → ⊥)
+
+-- a fault comes where there is nothing, or memory runs out
+abbrev pub RefusesLines : {A : Type 0} → AlgorithmFault → Option A → Type 0
+RefusesLines fault o = (fault ≡ OutOfMemory) ⊎ (o ≡ None)
+
+-- a fault is at this line, or memory runs out
+abbrev pub IsAt : AlgorithmFault → ℕ → Type 0
+IsAt fault line = (fault ≡ OutOfMemory) ⊎ ((number : ℕ) × (fault ≡ At line number))
+
+-- a fault is at the first line with which this is no longer so, or memory runs out
+abbrev pub IsFirstFaultyLine : AlgorithmFault → (ℕ → Type 0) → Type 0
+IsFirstFaultyLine fault Upto = (fault ≡ OutOfMemory) ⊎ ((line number : ℕ) × (fault ≡ At line number) × Upto line × (Upto (line + 1) → ⊥))
+
+-- a text says tokens, or the fault is at the first line with which it no longer does
+abbrev pub IsFaultOfLines : List ℕ → AlgorithmFault → Type 0
+IsFaultOfLines text fault = ((spoken : List Spoken) × TextSays text spoken) ⊎ IsFirstFaultyLine fault (SaysUpTo text)

@@ -7,8 +7,8 @@ use Rattle.algorithms.specs.declared.line.AlgorithmDeed.{AlgorithmDeed}
 use Rattle.algorithms.specs.declared.line.AlgorithmDeed.TheVariants.{Begin, Ready, Enter, Reenter, Leave, Quit}
 use Rattle.algorithm_texts.specs.declared.usage.Usage.{Usage}
 use Rattle.algorithm_texts.specs.declared.usage.Usage.TheVariants.{Reads, Sets, Begins, Ends}
-use Rattle.algorithm_texts.specs.Parts.{Term, Number, Private, Me, Procs, Limit, Joined, Formula, Compare, ComparePairs, Both, Either, Negated}
-use Rattle.algorithm_texts.specs.Drafts.{DraftAction, Loading, Storing, Awaiting, LineForm, Accessing, Assigning, Noting, Going, Branching, Beginning, Repeating, Ending, PlacedLine, form_with_place}
+use Rattle.algorithm_texts.specs.Parts.{Term, Private, Joined, Formula, Compare, ComparePairs, Both, Either, Negated}
+use Rattle.algorithm_texts.specs.Drafts.{DraftAction, Loading, Storing, Awaiting, LineForm, Accessing, Assigning, Noting, Branching, Beginning, Repeating, PlacedLine, form_with_place}
 use Rattle.algorithm_texts.specs.TextDrafts.{call_number}
 
 -- ---- names

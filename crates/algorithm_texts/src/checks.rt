@@ -1,10 +1,10 @@
 //! The labels, the names, the deeds and the withdraws of a call that was read.
 
-ghost use Rattle.std.specs.Prelude.{◌≡◌, ◌&&◌, ◌≤◌, ◌<◌, ◌↔◌, ℕ, true, map, length, slice_get, bytes_eq, position, Some, OnOk, IsTrue};
-ghost use Rattle.algorithm_texts.specs.Drafts.{draft_view, form_of, form_with_place, line_of};
+ghost use Rattle.std.specs.Prelude.{◌≡◌, ◌&&◌, ◌||◌, ◌≤◌, ◌↔◌, true, false, not, map, slice_get, bytes_eq, position, Some, None, OnOk, OnErr, IsTrue};
+ghost use Rattle.algorithm_texts.specs.Drafts.{Drafted, draft_view, form_of, form_with_place, line_of};
 ghost use Rattle.algorithm_texts.specs.FinishedDrafts.{is_label_in, label_named, is_within, reachable_place, target_of, jump_led, jumps_led, call_led};
-ghost use Rattle.algorithm_texts.specs.Lawful.{LabelsDiffer, HasLine, HasLoop, IsInLoop, IsKnown, LineFits, LinesFit};
-ghost use Rattle.algorithm_texts.specs.Usage.{reads, sets, has_usage, deed_fits, fits, uses, passes_at};
+ghost use Rattle.algorithm_texts.specs.Lawful.{LabelsDiffer, HasLine, IsInLoop, IsKnown, ReadsKnown, SetsFree, LineFitsAt, AllLinesFit, LinesFit};
+ghost use Rattle.algorithm_texts.specs.Usage.{begins_loop, ends_loop, has_usage, deed_fits, fits, uses, passes_at};
 
 use crate::lines::{CallRead, Draft, Jump, Label, lead_line};
 use crate::usage::{Usage, has_usage};
@@ -41,7 +41,7 @@ fn place_named(labels: &[Label], call: CallRead, name: &[u8]) -> Option<usize>
 
 /// Whether the label at a place is the first of a call that has this name.
 fn is_first(labels: &[Label], call: CallRead, name: &[u8], at: usize) -> bool
-    ensures { result ≡ true → position (λ label. bytes_eq label.name name.now && is_label_in call label) labels.now ≡ Some at }
+    ensures { IsTrue result ↔ (position (λ label. bytes_eq label.name name.now && is_label_in call label) labels.now ≡ Some at) }
 {
     match place_named(labels, call, name) {
         Some(first) => first == at,
@@ -104,8 +104,9 @@ fn lead(
     call: CallRead,
     jump: Jump,
 ) -> Result<(), AlgorithmFault>
-    ensures { OnOk result (jump_led labels.now blocks.now call (map line_of lines.old.items) jump
+    ensures ok { OnOk result (jump_led labels.now blocks.now call (map line_of lines.old.items) jump
         ≡ Some (map line_of lines.new.items)) }
+    ensures err { OnErr result (jump_led labels.now blocks.now call (map line_of lines.old.items) jump ≡ None) }
 {
     let place = jump.place;
     match target(labels, blocks, call, jump) {
@@ -125,8 +126,9 @@ fn resolve(
     call: CallRead,
     jumps: &[Jump],
 ) -> Result<(), AlgorithmFault>
-    ensures { OnOk result (jumps_led labels.now blocks.now call jumps.now (map line_of lines.old.items)
+    ensures ok { OnOk result (jumps_led labels.now blocks.now call jumps.now (map line_of lines.old.items)
         ≡ Some (map line_of lines.new.items)) }
+    ensures err { OnErr result (jumps_led labels.now blocks.now call jumps.now (map line_of lines.old.items) ≡ None) }
 {
     for jump in jumps {
         if is_within((call.from, call.to), jump.place) {
@@ -138,7 +140,8 @@ fn resolve(
 
 /// The deed and the withdraw of one line.
 fn check_deed(promises: Promises, call: AlgorithmCall, form: &LineKind) -> Result<(), ReadFault>
-    ensures { OnOk result (fits promises call (form_of form.now) ≡ true) }
+    ensures ok { OnOk result (fits promises call (form_of form.now) ≡ true) }
+    ensures err { OnErr result (fits promises call (form_of form.now) ≡ false) }
 {
     match form {
         LineKind::Local(LocalLine::Note(deed)) => {
@@ -162,7 +165,8 @@ fn check_deed(promises: Promises, call: AlgorithmCall, form: &LineKind) -> Resul
 impl Draft {
     /// `NameTaken` at the first label whose name another one of the call has before it.
     fn check_labels(&self, call: CallRead) -> Result<(), AlgorithmFault>
-        ensures { OnOk result (LabelsDiffer (draft_view self.now).labels call) }
+        ensures ok { OnOk result (LabelsDiffer (draft_view self.now).labels call) }
+        ensures err { OnErr result (LabelsDiffer (draft_view self.now).labels call → ⊥) }
     {
         for (at, label) in self.labels.iter().enumerate() {
             if is_in(label, call)
@@ -196,23 +200,37 @@ impl Draft {
         false
     }
 
+    /// Whether a loop with this name is open at a place, where `inside` says whether one is before it.
+    fn is_open(&self, name: usize, place: usize, inside: bool) -> bool
+        ensures { result ≡ (inside || passes_at (begins_loop name) (uses (draft_view self.now).lines) place) }
+    {
+        inside || self.uses_at(Usage::Begins, name, place)
+    }
+
+    /// Whether it is open after that place too.
+    fn stays_open(&self, name: usize, place: usize, inside: bool) -> bool
+        ensures { result ≡ ((inside || passes_at (begins_loop name) (uses (draft_view self.now).lines) place)
+            && not (passes_at (ends_loop name) (uses (draft_view self.now).lines) place)) }
+    {
+        self.is_open(name, place, inside) && !self.uses_at(Usage::Ends, name, place)
+    }
+
     /// Whether a place is in a loop with this name.
     fn is_in_loop(&self, call: CallRead, name: usize, place: usize) -> bool
         requires { call.«from» ≤ place }
-        ensures { IsTrue result → IsInLoop (uses (draft_view self.now).lines) call name place }
+        ensures { IsTrue result ↔ IsInLoop (uses (draft_view self.now).lines) call name place }
     {
         let mut inside = false;
         for at in call.from..place {
-            inside = (inside || self.uses_at(Usage::Begins, name, at))
-                && !self.uses_at(Usage::Ends, name, at);
+            inside = self.stays_open(name, at, inside);
         }
-        inside || self.uses_at(Usage::Begins, name, place)
+        self.is_open(name, place, inside)
     }
 
     /// Whether a place knows this name.
     fn is_known(&self, call: CallRead, name: usize, place: usize) -> bool
         requires { call.«from» ≤ place }
-        ensures { IsTrue result → IsKnown (uses (draft_view self.now).lines) call (draft_view self.now).lasting name place }
+        ensures { IsTrue result ↔ IsKnown (uses (draft_view self.now).lines) call (draft_view self.now).lasting name place }
     {
         if self.has_line(call, Usage::Begins, name) {
             self.is_in_loop(call, name, place)
@@ -224,9 +242,8 @@ impl Draft {
     /// `UnknownName` where a line reads a name that it does not know.
     fn check_read(&self, call: CallRead, place: usize) -> Result<(), ReadFault>
         requires { call.«from» ≤ place }
-        ensures { OnOk result ((name : ℕ) → name < length (draft_view self.now).names
-            → passes_at (reads name) (uses (draft_view self.now).lines) place ≡ true
-            → IsKnown (uses (draft_view self.now).lines) call (draft_view self.now).lasting name place) }
+        ensures ok { OnOk result (ReadsKnown (draft_view self.now) call place) }
+        ensures err { OnErr result (ReadsKnown (draft_view self.now) call place → ⊥) }
     {
         for name in 0..self.algorithm.names.len() {
             if self.uses_at(Usage::Reads, name, place) && !self.is_known(call, name, place) {
@@ -238,9 +255,8 @@ impl Draft {
 
     /// `NotAssignable` where a line sets a name of a loop.
     fn check_loops(&self, call: CallRead, place: usize) -> Result<(), ReadFault>
-        ensures { OnOk result ((name : ℕ) → name < length (draft_view self.now).names
-            → passes_at (sets name) (uses (draft_view self.now).lines) place ≡ true
-            → HasLoop (uses (draft_view self.now).lines) call name → ⊥) }
+        ensures ok { OnOk result (SetsFree (draft_view self.now) call place) }
+        ensures err { OnErr result (SetsFree (draft_view self.now) call place → ⊥) }
     {
         for name in 0..self.algorithm.names.len() {
             if self.uses_at(Usage::Sets, name, place) && self.has_line(call, Usage::Begins, name) {
@@ -254,8 +270,8 @@ impl Draft {
     fn check_form(&self, call: CallRead, place: usize, form: &LineKind) -> Result<(), ReadFault>
         requires beginning { call.«from» ≤ place }
         requires there { slice_get (uses (draft_view self.now).lines) place ≡ Some (form_with_place 0 (form_of form.now)) }
-        ensures { OnOk result (LineFits (uses (draft_view self.now).lines) (draft_view self.now).head.promises (draft_view self.now).lasting
-            (length (draft_view self.now).names) call place) }
+        ensures ok { OnOk result (LineFitsAt (draft_view self.now) call place) }
+        ensures err { OnErr result (LineFitsAt (draft_view self.now) call place → ⊥) }
     {
         self.check_read(call, place)?;
         self.check_loops(call, place)?;
@@ -265,8 +281,8 @@ impl Draft {
     /// The names, the deed and the withdraw of the line at a place.
     fn check_line(&self, call: CallRead, place: usize) -> Result<(), AlgorithmFault>
         requires { call.«from» ≤ place }
-        ensures { OnOk result (LineFits (uses (draft_view self.now).lines) (draft_view self.now).head.promises (draft_view self.now).lasting
-            (length (draft_view self.now).names) call place) }
+        ensures ok { OnOk result (LineFitsAt (draft_view self.now) call place) }
+        ensures err { OnErr result (LineFitsAt (draft_view self.now) call place → ⊥) }
     {
         match self.algorithm.lines.get(place) {
             Some(line) => match self.check_form(call, place, &line.form) {
@@ -279,8 +295,8 @@ impl Draft {
 
     /// The names, the deeds and the withdraws of all lines of a call.
     fn check_lines(&self, call: CallRead) -> Result<(), AlgorithmFault>
-        ensures { OnOk result ((at : ℕ) → is_within (call.«from», call.to) at ≡ true → LineFits (uses (draft_view self.now).lines)
-            (draft_view self.now).head.promises (draft_view self.now).lasting (length (draft_view self.now).names) call at) }
+        ensures ok { OnOk result (AllLinesFit (draft_view self.now) call) }
+        ensures err { OnErr result (AllLinesFit (draft_view self.now) call → ⊥) }
     {
         for place in call.from..call.to {
             self.check_line(call, place)?;
@@ -288,19 +304,28 @@ impl Draft {
         Ok(())
     }
 
-    /// The labels, the names, the deeds and the withdraws of a call.
-    pub fn check_call(&mut self, call: CallRead) -> Result<(), AlgorithmFault>
-        ensures led { OnOk result (call_led (draft_view self.old) call ≡ Some (draft_view self.new)) }
-        ensures fits { OnOk result (LinesFit (draft_view self.new) call) }
+    /// Lets the gotos of a call lead to their labels.
+    fn lead_jumps(&mut self, call: CallRead) -> Result<(), AlgorithmFault>
+        ensures ok { OnOk result (call_led (draft_view self.old) call ≡ Some (draft_view self.new)) }
+        ensures err { OnErr result (call_led (draft_view self.old) call ≡ None) }
     {
-        self.check_labels(call)?;
         resolve(
             &mut self.algorithm.lines,
             self.labels.as_slice(),
             self.blocks.as_slice(),
             call,
             self.jumps.as_slice(),
-        )?;
+        )
+    }
+
+    /// The labels, the names, the deeds and the withdraws of a call.
+    pub fn check_call(&mut self, call: CallRead) -> Result<(), AlgorithmFault>
+        ensures led { OnOk result (call_led (draft_view self.old) call ≡ Some (draft_view self.new)) }
+        ensures fits { OnOk result (LinesFit (draft_view self.new) call) }
+        ensures err { OnErr result ((d : Drafted) → call_led (draft_view self.old) call ≡ Some d → LinesFit d call → ⊥) }
+    {
+        self.check_labels(call)?;
+        self.lead_jumps(call)?;
         self.check_lines(call)
     }
 }

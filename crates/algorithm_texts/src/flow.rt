@@ -1,18 +1,18 @@
 //! Where the runs of a call come. Which way a branch goes is not asked.
 
-ghost use Rattle.std.specs.Prelude.{◌≡◌, ◌+◌, ◌-◌, ◌^◌, ◌<◌, ◌≤◌, ℕ, true, [], ◌∷◌, None, Some, IfOk, MatchOption, length, slice_set, if◌then◌else◌};
+ghost use Rattle.std.specs.Prelude.{◌≡◌, ◌⊎◌, ◌+◌, ◌-◌, ◌^◌, ◌<◌, ◌≤◌, ℕ, true, [], ◌∷◌, None, Some, IfOk, MatchOption, length, slice_set, if◌then◌else◌};
 ghost use Rattle.std.specs.List.{find};
 ghost use Rattle.algorithm_texts.specs.Drafts.{draft_view, form_of, line_of, local_form};
 ghost use Rattle.algorithm_texts.specs.FinishedDrafts.{is_in, is_within, ways};
-ghost use Rattle.algorithm_texts.specs.Marks.{places_of_ways, is_free, free_of, free_way, past_marked, marks_from, IsClosed, KeepsMarks};
-ghost use Rattle.algorithm_texts.specs.Runs.{is_access, goes_on, ways_from, RunComesTo, IsPlaceReached, IsReachedWithout, way_past, past_from};
+ghost use Rattle.algorithm_texts.specs.Marks.{places_of_ways, is_free, free_of, free_way, past_marked, marks_from, IsClosed, KeepsMarks, MarksReached};
+ghost use Rattle.algorithm_texts.specs.Runs.{is_access, goes_on, ways_from, RunComesTo, IsReachedWithout, way_past, past_from};
 
 use crate::checks::is_within;
 use crate::lines::{CallRead, Draft};
 use crate::marks::is_in;
 use crate::usage::{begins_loop, ends_loop, sets};
 use algorithms::line::{LineKind, LocalLine};
-use algorithms::ranks::has_round;
+use algorithms::loops::has_round;
 use std::alloc::{AllocError, Global};
 
 /// Which runs are asked for.
@@ -164,6 +164,22 @@ pub fn mark(marks: &mut [bool], place: usize)
     }
 }
 
+/// Marks the places of a call that are reached.
+pub fn mark_all(marks: &mut [bool], call: CallRead, reached: &[bool])
+    ensures size { length marks.new ≡ length marks.old }
+    ensures kept { KeepsMarks marks.old marks.new }
+    ensures marked { (at : ℕ) → is_within (call.«from», call.to) at ≡ true → is_in reached.now at ≡ true
+        → at < length marks.new
+        → is_in marks.new at ≡ true }
+    ensures comes { (at : ℕ) → is_in marks.new at ≡ true → (is_in marks.old at ≡ true) ⊎ (is_in reached.now at ≡ true) }
+{
+    for place in call.from..call.to {
+        if is_in(reached, place) {
+            mark(marks, place);
+        }
+    }
+}
+
 /// Whether a place is not marked, and there is a mark for it.
 pub fn is_free(marks: &[bool], place: usize) -> bool
     ensures { result ≡ is_free marks.now place }
@@ -262,7 +278,7 @@ impl Draft {
     }
 
     /// A mark for each line and for the place after the last. That of the call's first line is set where `first`.
-    fn marks_from(
+    pub fn marks_from(
         &self,
         alloc: Global,
         call: CallRead,
@@ -315,6 +331,9 @@ impl Draft {
         ensures marked { (at way : ℕ) → past_marked (draft_view self.now) call name reached.now at ≡ Some way
             → way < length marks.new
             → is_in marks.new way ≡ true }
+        ensures comes { (way : ℕ) → is_in marks.new way ≡ true
+            → (is_in marks.old way ≡ true)
+            ⊎ ((at : ℕ) × (past_marked (draft_view self.now) call name reached.now at ≡ Some way)) }
     {
         for place in call.from..call.to {
             if let Some(way) = self.past_marked(call, name, reached, place) {
@@ -348,9 +367,10 @@ impl Draft {
         name: usize,
         reached: &[bool],
     ) -> Result<Vec<bool>, AllocError>
-        ensures { (at : ℕ)
-            → ((before : ℕ) → before ≤ length (draft_view self.now).lines → IsPlaceReached (draft_view self.now) call before
-            → is_in reached.now before ≡ true) → IfOk result (λ marks. at ≤ length (draft_view self.now).lines
+        requires { MarksReached (draft_view self.now) call reached.now }
+        ensures comes { IfOk result (λ marks. (at : ℕ) → is_in marks.items at ≡ true
+            → IsReachedWithout (draft_view self.now) call name at) }
+        ensures all { IfOk result (λ marks. (at : ℕ) → at ≤ length (draft_view self.now).lines
             → IsReachedWithout (draft_view self.now) call name at → is_in marks.items at ≡ true) }
     {
         let mut marks = self.marks_from(alloc, call, self.algorithm.lasting <= name)?;

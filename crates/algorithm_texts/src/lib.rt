@@ -7,6 +7,7 @@
 mod blocks;
 mod calls;
 mod checks;
+mod drafts;
 mod filled;
 mod flow;
 pub mod laws;

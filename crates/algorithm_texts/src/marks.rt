@@ -1,24 +1,16 @@
 //! Lines to which no run comes.
 
-ghost use Rattle.std.specs.Prelude.{◌≡◌, ◌&&◌, ◌+◌, not, map, slice_get};
+ghost use Rattle.std.specs.Prelude.{◌≡◌, ◌&&◌, ◌+◌, map};
 ghost use Rattle.std.specs.List.{list_all};
 ghost use Rattle.std.specs.Option.{option_copied};
 ghost use Rattle.algorithm_texts.specs.Drafts.{form_of, head_of, line_of, lines_of, local_form};
-ghost use Rattle.algorithm_texts.specs.FinishedDrafts.{is_way, is_in, ways, line_stays, lines_stay, is_marked_where, entries_marked, EndsAt, EndSome};
+ghost use Rattle.algorithm_texts.specs.FinishedDrafts.{is_way, is_in, ways};
+ghost use Rattle.algorithm_texts.specs.UnreachedLines.{line_stays, lines_stay, is_marked_where, entries_marked, ended_line, ended_at, ended_from};
 
-use crate::lines::CallRead;
 use algorithms::algorithm::{Algorithm, Entries};
 use algorithms::line::{AlgorithmLine, LineKind, LocalLine};
-use algorithms::ranks::has_round;
-
-/// Marks the places of a call that are reached.
-pub fn mark_all(marks: &mut [bool], call: CallRead, reached: &[bool]) {
-    for place in call.from..call.to {
-        if let Some(mark) = marks.get_mut(place) {
-            *mark = reached.get(place).copied().unwrap_or(false);
-        }
-    }
-}
+use algorithms::loops::has_round;
+use std::mem::replace;
 
 /// Whether a place is marked.
 pub fn is_in(marks: &[bool], place: usize) -> bool
@@ -61,15 +53,19 @@ fn form_stays(least: u64, marks: &[bool], next: usize, form: &LineKind) -> bool
     }
 }
 
-/// Whether the line at a place leads to places that are marked alone, where its own is.
+/// Whether the line at a place leads to places that are marked alone, where its own is, and else is a way without text of its own.
 fn line_stays(least: u64, marks: &[bool], place: usize, next: usize, line: &AlgorithmLine) -> bool
     requires { next ≡ place + 1 }
     ensures { result ≡ line_stays least marks.now place (form_of line.now.form) }
 {
-    !is_in(marks, place) || form_stays(least, marks, next, &line.form)
+    if is_in(marks, place) {
+        form_stays(least, marks, next, &line.form)
+    } else {
+        is_way(&line.form)
+    }
 }
 
-/// Whether all lines lead from places that are marked to such places alone.
+/// Whether all lines lead from places that are marked to such places alone, and all others are ways without text of their own.
 fn lines_stay(least: u64, marks: &[bool], lines: &[AlgorithmLine]) -> bool
     ensures { result ≡ lines_stay least marks.now 0 (map line_of lines.now) }
 {
@@ -104,7 +100,8 @@ fn entries_marked(marks: &[bool], entries: Entries) -> bool
                 && is_marked_where(marks, entries.withdraw)))
 }
 
-/// Whether calls begin at places that are marked, and all lines lead from such places to such places.
+/// Whether calls begin at places that are marked, all lines at such places lead to such places, and all others are ways without
+/// text of their own.
 pub fn runs_stay(algorithm: &Algorithm, marks: &[bool]) -> bool
     ensures { result ≡ (entries_marked marks.now (head_of algorithm.now).entries
         && lines_stay (head_of algorithm.now).least marks.now 0 (lines_of algorithm.now)) }
@@ -138,16 +135,17 @@ fn is_way(form: &LineKind) -> bool
 
 /// Lets a line end its call, where it is such a way and is not marked.
 fn end_way(line: &mut AlgorithmLine, mark: bool)
-    ensures { EndsAt mark (line_of line.old) (line_of line.new) }
+    ensures { line_of line.new ≡ ended_line mark (line_of line.old) }
 {
     if !mark && is_way(&line.form) {
-        line.form = LineKind::Done(0);
+        let form = replace(&mut line.form, LineKind::Done(0));
+        drop(form);
     }
 }
 
 /// Lets the line at a place end its call, where it is such a way and is not marked.
 fn end_at(lines: &mut Vec<AlgorithmLine>, place: usize, marks: &[bool])
-    ensures { EndSome marks.now 0 (map line_of lines.old.items) (map line_of lines.new.items) }
+    ensures { map line_of lines.new.items ≡ ended_at (is_in marks.now place) place (map line_of lines.old.items) }
 {
     let mark = is_in(marks, place);
     if let Some(line) = lines.get_mut(place) {
@@ -159,9 +157,9 @@ fn end_at(lines: &mut Vec<AlgorithmLine>, place: usize, marks: &[bool])
 /// always ends in `goto` or `done`, it is the way past an `else`, or back to the head of a loop. What it is does not matter,
 /// since no run comes there. But there may be no line to which it would lead, and an end leads to none.
 pub fn end_unmarked(lines: &mut Vec<AlgorithmLine>, marks: &[bool])
-    ensures { EndSome marks.now 0 (map line_of lines.old.items) (map line_of lines.new.items) }
+    ensures { map line_of lines.new.items ≡ ended_from marks.now 0 (map line_of lines.old.items) }
 {
-    for place in 0..marks.len() {
+    for place in 0..lines.len() {
         end_at(lines, place, marks);
     }
 }

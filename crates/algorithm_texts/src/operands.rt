@@ -1,11 +1,12 @@
 //! The parts of values and conditions, and what joins them.
 
-ghost use Rattle.std.specs.Prelude.{◌≡◌};
+ghost use Rattle.std.specs.Prelude.{◌≡◌, Some, MatchResult};
+ghost use Rattle.algorithms.specs.declared.fault.ReadFault.TheVariants.{BadForm as NoForm};
 ghost use Rattle.algorithm_texts.specs.declared.operands.Bracket.TheVariants.{Not as NotHead};
 ghost use Rattle.algorithm_texts.specs.declared.operands.Joint.TheVariants.{And as AndJoint, Or as OrJoint};
-ghost use Rattle.algorithm_texts.specs.Parts.{part_of, value_in, condition_in, join_of, operation_of, comparison_of, enclosed_part, enclosed_two, pair_of_parts};
+ghost use Rattle.algorithm_texts.specs.Parts.{part_of, formula_of, value_in, condition_in, join_of, operation_of, comparison_of, enclosed_part, enclosed_two, pair_of_parts};
 ghost use Rattle.algorithm_texts.specs.Grammar.{strength};
-ghost use Rattle.algorithm_texts.specs.Operands.{Makes, MakesValue, MakesCondition};
+ghost use Rattle.algorithm_texts.specs.Operands.{Makes, MakesValue, MakesCondition, RefusesOperand};
 
 use algorithms::condition::{Comparison, Condition, Pair};
 use algorithms::expression::{Expression, Operator};
@@ -38,6 +39,14 @@ pub enum Operand {
     Condition(Condition),
 }
 
+/// `BadForm`. It drops the parts that do not go together, so that no caller's proof drops each of their boxes.
+pub fn form_fault<T: Drop>(parts: T) -> ReadFault
+    ensures { result ≡ NoForm }
+{
+    drop(parts);
+    ReadFault::BadForm
+}
+
 impl Joint {
     /// How strongly it binds.
     pub fn strength(self) -> u8
@@ -60,7 +69,7 @@ impl Operand {
     {
         match self {
             Operand::Value(value) => Ok(value),
-            Operand::Pair(_) | Operand::Condition(_) => Err(ReadFault::BadForm),
+            other => Err(form_fault(other)),
         }
     }
 
@@ -84,8 +93,9 @@ fn operation(
 ) -> Result<Operand, ReadFault>
     ensures { Makes result (operation_of operator (part_of left) (part_of right)) }
 {
-    let left = Box::new(alloc, left.value()?)?;
-    let right = Box::new(alloc, right.value()?)?;
+    let (left, right) = (left.value(), right.value());
+    let left = Box::new(alloc, left?)?;
+    let right = Box::new(alloc, right?)?;
     Ok(Operand::Value(Expression::Joined(operator, left, right)))
 }
 
@@ -98,34 +108,43 @@ fn compare(comparison: Comparison, left: Operand, right: Operand) -> Result<Oper
             Operand::Value(right) => Ok(Operand::Condition(Condition::Compare(
                 comparison, left, right,
             ))),
-            Operand::Pair(_) | Operand::Condition(_) => Err(ReadFault::BadForm),
+            other => Err(form_fault((left, other))),
         },
         Operand::Pair(left) => match right {
             Operand::Pair(right) => Ok(Operand::Condition(Condition::ComparePairs(
                 comparison, left, right,
             ))),
-            Operand::Value(_) | Operand::Condition(_) => Err(ReadFault::BadForm),
+            other => Err(form_fault((left, other))),
         },
-        Operand::Condition(_) => Err(ReadFault::BadForm),
+        Operand::Condition(left) => Err(form_fault((left, right))),
     }
+}
+
+/// The part as a condition, in a box. `BadForm`: it is a pair or a value.
+fn boxed_condition(alloc: Global, part: Operand) -> Result<Box<Condition>, ReadFault>
+    ensures { MatchResult result
+        (λ boxed. condition_in (part_of part) ≡ Some (formula_of boxed.value))
+        (λ fault. RefusesOperand fault (condition_in (part_of part))) }
+{
+    Ok(Box::new(alloc, part.condition()?)?)
 }
 
 /// Two conditions, of which both have to hold.
 fn both(alloc: Global, left: Operand, right: Operand) -> Result<Operand, ReadFault>
     ensures { Makes result (join_of AndJoint (part_of left) (part_of right)) }
 {
-    let left = Box::new(alloc, left.condition()?)?;
-    let right = Box::new(alloc, right.condition()?)?;
-    Ok(Operand::Condition(Condition::And(left, right)))
+    let left = boxed_condition(alloc, left);
+    let right = boxed_condition(alloc, right);
+    Ok(Operand::Condition(Condition::And(left?, right?)))
 }
 
 /// Two conditions, of which one has to hold.
 fn either(alloc: Global, left: Operand, right: Operand) -> Result<Operand, ReadFault>
     ensures { Makes result (join_of OrJoint (part_of left) (part_of right)) }
 {
-    let left = Box::new(alloc, left.condition()?)?;
-    let right = Box::new(alloc, right.condition()?)?;
-    Ok(Operand::Condition(Condition::Or(left, right)))
+    let left = boxed_condition(alloc, left);
+    let right = boxed_condition(alloc, right);
+    Ok(Operand::Condition(Condition::Or(left?, right?)))
 }
 
 /// Two parts with what stands between them.
@@ -149,7 +168,7 @@ pub fn join(
 fn negation(alloc: Global, part: Operand) -> Result<Operand, ReadFault>
     ensures { Makes result (enclosed_part NotHead (part_of part)) }
 {
-    let condition = Box::new(alloc, part.condition()?)?;
+    let condition = boxed_condition(alloc, part)?;
     Ok(Operand::Condition(Condition::Not(condition)))
 }
 
@@ -163,7 +182,7 @@ pub fn enclose(alloc: Global, head: Bracket, part: Operand) -> Result<Operand, R
             Operand::Pair(_) => Err(ReadFault::BadForm),
             whole => Ok(whole),
         },
-        Bracket::Max | Bracket::Min => Err(ReadFault::BadForm),
+        Bracket::Max | Bracket::Min => Err(form_fault(part)),
     }
 }
 
@@ -171,9 +190,11 @@ pub fn enclose(alloc: Global, head: Bracket, part: Operand) -> Result<Operand, R
 fn pair(first: Operand, second: Operand) -> Result<Operand, ReadFault>
     ensures { Makes result (pair_of_parts (part_of first) (part_of second)) }
 {
-    let first = first.value()?;
-    let second = second.value()?;
-    Ok(Operand::Pair(Pair { first, second }))
+    let (first, second) = (first.value(), second.value());
+    Ok(Operand::Pair(Pair {
+        first: first?,
+        second: second?,
+    }))
 }
 
 /// Two parts in brackets.
@@ -187,7 +208,7 @@ pub fn enclose_two(
 {
     match head {
         Bracket::Plain => pair(first, second),
-        Bracket::Not => Err(ReadFault::BadForm),
+        Bracket::Not => Err(form_fault((first, second))),
         Bracket::Max => operation(alloc, Operator::Maximum, first, second),
         Bracket::Min => operation(alloc, Operator::Minimum, first, second),
     }

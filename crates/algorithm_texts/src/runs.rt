@@ -1,14 +1,17 @@
 //! What the runs of a call may do: which lines they come to, which names they have set, and when they make an access.
 
-ghost use Rattle.std.specs.Prelude.{◌≡◌, ◌≤◌, ◌<◌, ◌+◌, ℕ, true, None, Some, OnOk, IfOk, length, slice_get, map};
-ghost use Rattle.std.specs.List.{list_any};
-ghost use Rattle.algorithm_texts.specs.Drafts.{draft_view, form_of, line_of, local_form};
+ghost use Rattle.std.specs.Prelude.{◌≡◌, ◌⊎◌, ◌<◌, ℕ, true, false, None, Some, [], OnOk, OnErr, IfOk, IfErr, IfSome, IsTrue, IsFalse, MatchBool, MatchOption};
+ghost use Rattle.std.specs.List.{All as AllOf, list_all};
+ghost use Rattle.algorithm_texts.specs.declared.flow.RunKind.TheVariants.{All};
+ghost use Rattle.algorithm_texts.specs.Drafts.{draft_view, form_of, local_form};
 ghost use Rattle.algorithm_texts.specs.FinishedDrafts.{is_in, is_within};
-ghost use Rattle.algorithm_texts.specs.Marks.{is_free};
-ghost use Rattle.algorithm_texts.specs.Runs.{IsPlaceReached, IsReachedSilently, IsReachedWithout, has_jump, is_own, is_seen, RunsFit};
-ghost use Rattle.algorithm_texts.specs.Usage.{reads, uses, passes_at};
+ghost use Rattle.algorithm_texts.specs.Marks.{MarksReached, ReadsMarked, SeenMarked, and_then};
+ghost use Rattle.algorithm_texts.specs.Runs.{EachIsReached, ReadsUnset, RunsFit, RunsSet, RunsStay, StepsComeFirst, has_jump, is_line_in, is_own, is_seen, leads_in, ways_from};
+ghost use Rattle.algorithm_texts.specs.TextLines.{IsRefusalOf};
+ghost use Rattle.algorithm_texts.specs.Usage.{uses, passes_at};
 
-use crate::flow::{RunKind, is_free};
+use crate::checks::is_within;
+use crate::flow::RunKind;
 use crate::lines::{CallRead, Draft, Jump};
 use crate::marks::is_in;
 use crate::usage::Usage;
@@ -59,7 +62,8 @@ fn is_seen(form: &LineKind) -> bool
 
 /// The lesser of two places.
 fn earlier(first: Option<usize>, second: Option<usize>) -> Option<usize>
-    ensures { result ≡ None → (first ≡ None) × (second ≡ None) }
+    ensures none { result ≡ None → (first ≡ None) × (second ≡ None) }
+    ensures some { IfSome result (λ place. (first ≡ Some place) ⊎ (second ≡ Some place)) }
 {
     match (first, second) {
         (Some(first), Some(second)) => Some(first.min(second)),
@@ -99,9 +103,9 @@ impl Draft {
 
     /// `NeverReached` at the first line of the text to which no run comes.
     fn check_reached(&self, call: CallRead, reached: &[bool]) -> Result<(), AlgorithmFault>
-        ensures { OnOk result ((at : ℕ) → is_within (call.«from», call.to) at ≡ true
-            → passes_at (is_own (draft_view self.now).jumps at) (uses (draft_view self.now).lines) at ≡ true
-            → is_in reached.now at ≡ true) }
+        requires { MarksReached (draft_view self.now) call reached.now }
+        ensures ok { OnOk result (EachIsReached (draft_view self.now) call) }
+        ensures err { IfErr result (λ fault. IsRefusalOf fault (EachIsReached (draft_view self.now) call)) }
     {
         for place in call.from..call.to {
             if self.is_own_at(place) && !is_in(reached, place) {
@@ -111,11 +115,65 @@ impl Draft {
         Ok(())
     }
 
-    /// `FallsOff` where a run comes past the call's last line.
-    fn check_end(&self, call: CallRead, reached: &[bool]) -> Result<(), AlgorithmFault>
-        ensures { OnOk result (is_free reached.now call.to ≡ true) }
+    /// Whether a line of the call stands at a place.
+    fn is_line_in(&self, call: CallRead, place: usize) -> bool
+        ensures { result ≡ is_line_in (draft_view self.now) call place }
     {
-        if is_free(reached, call.to) {
+        is_within((call.from, call.to), place) && place < self.algorithm.lines.len()
+    }
+
+    /// Whether a way leads to a line of the call, if there is one.
+    fn way_stays(&self, call: CallRead, way: Option<usize>) -> bool
+        ensures { result ≡ list_all (is_line_in (draft_view self.now) call) (and_then way []) }
+    {
+        match way {
+            Some(place) => self.is_line_in(call, place),
+            None => true,
+        }
+    }
+
+    /// Whether the line at a place leads to lines of the call alone.
+    fn leads_in(&self, call: CallRead, place: usize) -> bool
+        ensures { result ≡ leads_in (draft_view self.now) call place }
+    {
+        let ways = self.ways_from(call, RunKind::All, place);
+        self.way_stays(call, ways.first) && self.way_stays(call, ways.second)
+    }
+
+    /// Whether all lines of the call at these places lead to lines of the call alone.
+    fn all_lead_in(&self, call: CallRead, places: &[bool]) -> bool
+        ensures { MatchBool result
+            ((at : ℕ) → is_within (call.«from», call.to) at ≡ true → is_in places.now at ≡ true
+            → leads_in (draft_view self.now) call at ≡ true)
+            ((at : ℕ) × (is_in places.now at ≡ true) × (leads_in (draft_view self.now) call at ≡ false)) }
+    {
+        for place in call.from..call.to {
+            if is_in(places, place) && !self.leads_in(call, place) {
+                return false;
+            }
+        }
+        true
+    }
+
+    /// Whether runs of the call come to its lines alone, where `reached` are the places to which they come.
+    fn stays_in_call(&self, call: CallRead, reached: &[bool]) -> bool
+        requires { MarksReached (draft_view self.now) call reached.now }
+        ensures yes { IsTrue result → RunsStay (draft_view self.now) call }
+        ensures no { IsFalse result → RunsStay (draft_view self.now) call → ⊥ }
+    {
+        if !self.is_line_in(call, call.from) {
+            return false;
+        }
+        self.all_lead_in(call, reached)
+    }
+
+    /// `FallsOff` where a run comes past the call's last line, or the call has no lines.
+    fn check_end(&self, call: CallRead, reached: &[bool]) -> Result<(), AlgorithmFault>
+        requires { MarksReached (draft_view self.now) call reached.now }
+        ensures ok { OnOk result (RunsStay (draft_view self.now) call) }
+        ensures err { IfErr result (λ fault. IsRefusalOf fault (RunsStay (draft_view self.now) call)) }
+    {
+        if self.stays_in_call(call, reached) {
             Ok(())
         } else {
             Err(ReadFault::FallsOff.at(call.last))
@@ -124,8 +182,8 @@ impl Draft {
 
     /// The first of these places whose line reads a name.
     fn first_read(&self, call: CallRead, name: usize, places: &[bool]) -> Option<usize>
-        ensures { result ≡ None → (at : ℕ) → is_within (call.«from», call.to) at ≡ true
-            → passes_at (reads name) (uses (draft_view self.now).lines) at ≡ true → is_in places.now at ≡ true → ⊥ }
+        ensures { MatchOption result ((at : ℕ) → ReadsMarked (draft_view self.now) call name places.now at → ⊥)
+            (λ at. ReadsMarked (draft_view self.now) call name places.now at) }
     {
         for place in call.from..call.to {
             if is_in(places, place) && self.uses_at(Usage::Reads, name, place) {
@@ -143,11 +201,9 @@ impl Draft {
         name: usize,
         reached: &[bool],
     ) -> Result<Option<usize>, AllocError>
-        requires { (at : ℕ) → at ≤ length (draft_view self.now).lines → IsPlaceReached (draft_view self.now) call at
-            → is_in reached.now at ≡ true }
-        ensures { IfOk result (λ first. first ≡ None → (at : ℕ) → is_within (call.«from», call.to) at ≡ true
-            → passes_at (reads name) (uses (draft_view self.now).lines) at ≡ true
-            → IsReachedWithout (draft_view self.now) call name at → ⊥) }
+        requires { MarksReached (draft_view self.now) call reached.now }
+        ensures { IfOk result (λ first. MatchOption first ((at : ℕ) → ReadsUnset (draft_view self.now) call name at → ⊥)
+            (λ at. ReadsUnset (draft_view self.now) call name at)) }
     {
         let without = self.reached_without(alloc, call, name, reached)?;
         Ok(self.first_read(call, name, without.as_slice()))
@@ -160,16 +216,14 @@ impl Draft {
         call: CallRead,
         reached: &[bool],
     ) -> Result<(), AlgorithmFault>
-        requires { (at : ℕ) → at ≤ length (draft_view self.now).lines → IsPlaceReached (draft_view self.now) call at
-            → is_in reached.now at ≡ true }
-        ensures { OnOk result ((name at : ℕ) → name < length (draft_view self.now).names
-            → is_within (call.«from», call.to) at ≡ true
-            → passes_at (reads name) (uses (draft_view self.now).lines) at ≡ true
-            → IsReachedWithout (draft_view self.now) call name at → ⊥) }
+        requires { MarksReached (draft_view self.now) call reached.now }
+        ensures ok { OnOk result (RunsSet (draft_view self.now) call) }
+        ensures err { IfErr result (λ fault. IsRefusalOf fault (RunsSet (draft_view self.now) call)) }
     {
         let mut first = None;
         for name in 0..self.algorithm.names.len() {
-            first = earlier(first, self.first_unset(alloc, call, name, reached)?);
+            let unset = self.first_unset(alloc, call, name, reached)?;
+            first = earlier(first, unset);
         }
         match first {
             Some(place) => Err(ReadFault::Unset.at(self.number_in(call, place))),
@@ -179,8 +233,8 @@ impl Draft {
 
     /// `NoStep` at the first end or deed among these places.
     fn check_silent(&self, call: CallRead, silent: &[bool]) -> Result<(), AlgorithmFault>
-        ensures { OnOk result ((at : ℕ) → is_within (call.«from», call.to) at ≡ true
-            → passes_at is_seen (uses (draft_view self.now).lines) at ≡ true → is_in silent.now at ≡ true → ⊥) }
+        ensures ok { OnOk result ((at : ℕ) → SeenMarked (draft_view self.now) call silent.now at → ⊥) }
+        ensures err { OnErr result ((at : ℕ) × SeenMarked (draft_view self.now) call silent.now at) }
     {
         for place in call.from..call.to {
             if is_in(silent, place) && self.is_seen_at(place) {
@@ -192,9 +246,8 @@ impl Draft {
 
     /// `NoStep` at the first end or deed that can come before the call's first access.
     fn check_steps(&self, alloc: Global, call: CallRead) -> Result<(), AlgorithmFault>
-        ensures { OnOk result ((at : ℕ) → is_within (call.«from», call.to) at ≡ true
-            → passes_at is_seen (uses (draft_view self.now).lines) at ≡ true → IsReachedSilently (draft_view self.now) call at
-            → ⊥) }
+        ensures ok { OnOk result (StepsComeFirst (draft_view self.now) call) }
+        ensures err { IfErr result (λ fault. IsRefusalOf fault (StepsComeFirst (draft_view self.now) call)) }
     {
         let silent = self.reached_places(alloc, call, RunKind::Silent)?;
         self.check_silent(call, silent.as_slice())
@@ -207,11 +260,9 @@ impl Draft {
         call: CallRead,
         reached: &[bool],
     ) -> Result<(), AlgorithmFault>
-        requires comes { (at : ℕ) → is_in reached.now at ≡ true → IsPlaceReached (draft_view self.now) call at }
-        requires all { (at : ℕ) → at ≤ length (draft_view self.now).lines → IsPlaceReached (draft_view self.now) call at
-            → is_in reached.now at ≡ true }
-        requires size { length reached.now ≡ length (draft_view self.now).lines + 1 }
-        ensures { OnOk result (RunsFit (draft_view self.now) call) }
+        requires { MarksReached (draft_view self.now) call reached.now }
+        ensures ok { OnOk result (RunsFit (draft_view self.now) call) }
+        ensures err { IfErr result (λ fault. IsRefusalOf fault (RunsFit (draft_view self.now) call)) }
     {
         self.check_reached(call, reached)?;
         self.check_end(call, reached)?;
@@ -222,7 +273,9 @@ impl Draft {
 
     /// Checks what the runs of the call may do, and answers which places they come to.
     pub fn check_runs(&self, alloc: Global, call: CallRead) -> Result<Vec<bool>, AlgorithmFault>
-        ensures { OnOk result (RunsFit (draft_view self.now) call) }
+        ensures ok { OnOk result (RunsFit (draft_view self.now) call) }
+        ensures marks { IfOk result (λ marks. MarksReached (draft_view self.now) call marks.items) }
+        ensures err { IfErr result (λ fault. IsRefusalOf fault (RunsFit (draft_view self.now) call)) }
     {
         let reached = self.reached_places(alloc, call, RunKind::All)?;
         self.check_places(alloc, call, reached.as_slice())?;

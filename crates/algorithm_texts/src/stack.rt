@@ -1,12 +1,12 @@
 //! What waits while a value or a condition is read.
 
-ghost use Rattle.std.specs.Prelude.{◌≡◌, ◌≤◌, ◌∷◌, [], List, ℕ, map, reverse, OnOk, IfErr, MatchOption};
+ghost use Rattle.std.specs.Prelude.{◌≡◌, ◌≤◌, ◌∷◌, [], List, ℕ, map, reverse, OnOk, IfOk, IfErr, MatchOption};
 ghost use Rattle.algorithms.specs.declared.fault.ReadFault.TheVariants.{OutOfMemory as NoMemory};
 ghost use Rattle.algorithm_texts.specs.Parts.{part_of};
-ghost use Rattle.algorithm_texts.specs.Stacks.{is_open, brackets, stack_reduction, reading_after_bracket, closes, halves};
+ghost use Rattle.algorithm_texts.specs.Stacks.{Opened, is_open, brackets, stack_reduction, reading_after_bracket, closes, halves};
 ghost use Rattle.algorithm_texts.specs.Operands.{waits_of, stack_of, Reduces, Turns};
 
-use crate::operands::{Bracket, Joint, Operand, enclose, enclose_two, join};
+use crate::operands::{Bracket, Joint, Operand, enclose, enclose_two, form_fault, join};
 use algorithms::fault::ReadFault;
 use std::alloc::Global;
 
@@ -102,6 +102,20 @@ fn count_brackets(all: &[Waiting]) -> usize
     count
 }
 
+/// Lets this wait again, and hands the part back. Where that fails, the part is dropped here.
+fn keep_waiting(stack: &mut Stack, last: Waiting, part: Operand) -> Result<Operand, ReadFault>
+    ensures ok { IfOk result (λ same. (same ≡ part) × (stack_of stack.new ≡ waits_of last ∷ stack_of stack.old)) }
+    ensures err { IfErr result (λ fault. fault ≡ NoMemory) }
+{
+    match stack.push(last) {
+        Ok(()) => Ok(part),
+        Err(fault) => {
+            drop(part);
+            Err(fault)
+        }
+    }
+}
+
 /// Joins a part to what waits, as far as the operators are at least this strong.
 pub fn reduce(
     alloc: Global,
@@ -116,13 +130,13 @@ pub fn reduce(
         match last {
             Waiting::Joint(left, joint) => {
                 if joint.strength() < least {
-                    stack.push(Waiting::Joint(left, joint))?;
+                    part = keep_waiting(stack, Waiting::Joint(left, joint), part)?;
                     return Ok(part);
                 }
                 part = join(alloc, joint, left, part)?;
             }
             other => {
-                stack.push(other)?;
+                part = keep_waiting(stack, other, part)?;
                 return Ok(part);
             }
         }
@@ -140,7 +154,21 @@ pub fn close(alloc: Global, stack: &mut Stack, part: Operand) -> Result<StackPla
         Some(Waiting::Half(head, first)) => {
             Ok(StackPlace::After(enclose_two(alloc, head, first, part)?))
         }
-        _ => Err(ReadFault::BadForm),
+        last => Err(form_fault((last, part))),
+    }
+}
+
+/// Lets an open bracket wait with its first part, after the comma.
+fn half(stack: &mut Stack, head: Bracket, first: Operand) -> Result<StackPlace, ReadFault>
+    ensures { (names : List (List ℕ)) → Turns names (stack_of stack.new) result
+        (halves names (Opened head ∷ stack_of stack.old) (part_of first)) }
+{
+    match head {
+        Bracket::Not => Err(form_fault(first)),
+        Bracket::Plain | Bracket::Max | Bracket::Min => {
+            stack.push(Waiting::Half(head, first))?;
+            Ok(StackPlace::Start)
+        }
     }
 }
 
@@ -150,14 +178,9 @@ pub fn comma(stack: &mut Stack, part: Operand) -> Result<StackPlace, ReadFault>
         (halves names (stack_of stack.old) (part_of part)) }
 {
     match stack.pop() {
-        Some(Waiting::Bracket(Bracket::Not)) => Err(ReadFault::BadForm),
-        Some(Waiting::Bracket(head)) => {
-            stack.push(Waiting::Half(head, part))?;
-            Ok(StackPlace::Start)
-        }
-        Some(Waiting::Half(_, _)) => Err(ReadFault::BadForm),
-        Some(Waiting::Joint(_, _)) => Err(ReadFault::BadForm),
-        None => Err(ReadFault::BadForm),
+        Some(Waiting::Bracket(head)) => half(stack, head, part),
+        Some(last) => Err(form_fault((last, part))),
+        None => Err(form_fault(part)),
     }
 }
 

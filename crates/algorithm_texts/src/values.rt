@@ -11,7 +11,7 @@ ghost use Rattle.algorithm_texts.specs.Operands.{stack_of, next_of, Turns, Makes
 ghost use Rattle.algorithm_texts.specs.LineDrafts.{read_value, read_condition};
 
 use crate::names::name_read;
-use crate::operands::{Bracket, Joint, Operand};
+use crate::operands::{Bracket, Joint, Operand, form_fault};
 use crate::stack::{Stack, StackPlace, Waiting, close, comma, open, reduce};
 use crate::tokens::{Sign, Token};
 use algorithms::algorithm::Algorithm;
@@ -144,7 +144,7 @@ fn join_by(
 {
     match joint_word(word) {
         Some(joint) => join_on(alloc, stack, part, joint),
-        None => Err(ReadFault::BadForm),
+        None => Err(form_fault(part)),
     }
 }
 
@@ -189,11 +189,15 @@ fn sign_after(
         Sign::Comma => comma_after(alloc, stack, part),
         Sign::Operator(operator) => join_on(alloc, stack, part, Joint::Operator(operator)),
         Sign::Comparison(comparison) => join_on(alloc, stack, part, Joint::Comparison(comparison)),
-        Sign::OpenIndex => Err(index_fault(&part)),
-        Sign::Assign => Err(ReadFault::BadForm),
-        Sign::Colon => Err(ReadFault::BadForm),
-        Sign::Open => Err(ReadFault::BadForm),
-        Sign::CloseIndex => Err(ReadFault::BadForm),
+        Sign::OpenIndex => {
+            let fault = index_fault(&part);
+            drop(part);
+            Err(fault)
+        }
+        Sign::Assign => Err(form_fault(part)),
+        Sign::Colon => Err(form_fault(part)),
+        Sign::Open => Err(form_fault(part)),
+        Sign::CloseIndex => Err(form_fault(part)),
     }
 }
 
@@ -210,7 +214,7 @@ fn go_on(
     match token {
         Token::Sign(sign) => sign_after(alloc, stack, part, *sign),
         Token::Word(word) => join_by(alloc, stack, part, word.as_bytes()),
-        Token::Number(_) => Err(ReadFault::BadForm),
+        Token::Number(_) => Err(form_fault(part)),
     }
 }
 
@@ -261,7 +265,7 @@ fn end(alloc: Global, stack: &mut Stack, place: StackPlace) -> Result<Operand, R
     let whole = reduce(alloc, stack, part, 1)?;
     match stack.pop() {
         None => Ok(whole),
-        Some(_) => Err(ReadFault::BadForm),
+        Some(last) => Err(form_fault((last, whole))),
     }
 }
 

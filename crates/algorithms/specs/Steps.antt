@@ -54,8 +54,8 @@ step_before_access a c words at line store = do
   access ← ok_or (access_of a.declarations.items c store line) (OutOfRange at)
   value ← ok_or (value_of words access) (Malformed at)
   goes ← ok_or (passes c (names_after_read line.action value store) line.action) (OutOfRange at)
-  move_to_state ← if goes then goes_on a c (at + 1) (names_after_read line.action value store) else Ok (stays at store)
-  Ok (record { at = at; access = access; value = value; moved = move_to_state })
+  moved ← if goes then goes_on a c (at + 1) (names_after_read line.action value store) else Ok (stays at store)
+  Ok (record { at = at; access = access; value = value; moved = moved })
 
 -- ---- a step in place: what it says, and what it has made of its process
 

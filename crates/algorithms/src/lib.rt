@@ -12,9 +12,9 @@ pub mod expression;
 pub mod fault;
 pub mod line;
 mod local;
+pub mod loops;
 pub mod noted;
 pub mod process;
-pub mod ranks;
 pub mod refusal;
 pub mod world;
 

@@ -1,6 +1,6 @@
 use Rattle.std.proofs.Common.{◌≡◌, map, drop}
 use Rattle.algorithm_texts.specs.Drafts.{line_of}
-use Rattle.algorithm_texts.specs.FinishedDrafts.{lines_stay}
+use Rattle.algorithm_texts.specs.UnreachedLines.{lines_stay}
 use Rattle.algorithm_texts.proofs.marks.lines_stay.Given as goal
 
 -- the lines that are left stay where all do

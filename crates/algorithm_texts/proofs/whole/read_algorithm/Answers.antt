@@ -1,10 +1,60 @@
+use Rattle.std.proofs.Common.{ap, inr, subst}
+use Rattle.std.proofs.lemmas.Result.{err_from_is_err_and}
+use Rattle.algorithms.specs.declared.line.AlgorithmDeed.TheVariants.{Enter, Leave}
+use Rattle.algorithm_texts.specs.Drafts.{Drafted, draft_view}
+use Rattle.algorithm_texts.specs.Lawful.{NotesDeed}
+use Rattle.algorithm_texts.specs.Programs.{program_lines}
+use Rattle.algorithm_texts.proofs.FirstFaults.{any_fault, lines_said}
+use Rattle.algorithm_texts.proofs.LawfulRuns.{deeds_refused, flow_refused}
+use Rattle.algorithm_texts.proofs.NotedLines.{noted_of}
+use Rattle.algorithm_texts.proofs.OneDraft.{no_algorithm, one_draft}
 use Rattle.algorithm_texts.proofs.ProgramTrees.{spelled}
 use Rattle.algorithm_texts.proofs.whole.read_algorithm.Goals as goal
 
 pub returns-clause-spells : goal.returns-clause-spells
 returns-clause-spells c =
-    let read = c.in_ok-draft.ensures in
-    let calls = c.in_ok-check_calls.ensures in
     let flow = c.in_ok-check_flow.ensures in
-    spelled c.args.text.now c.in_ok-draft.draft c.check_calls.new.draft c.check_flow.new.draft read.0 read.1 read.2 calls.finished
-    (record { lines = calls.fits; runs = flow.runs; withdraw = calls.withdraw }) flow.lines flow.kept
+    let deeds = c.in_ok-check_deeds.ensures in
+    let ready = draft_view c.in_ok-draft.draft in
+    let a = c.check_flow.new.draft.algorithm in
+    let entries = ap (λ (d : Drafted). d.head.entries) flow.kept in
+    let enters : NotesDeed ready ready.head.entries.lock Enter =
+    subst (λ k. NotesDeed ready k Enter) (ap (λ es. es.lock) entries) (noted_of ready a a.entries.lock Enter flow.lines entries deeds.enters) in
+    let leaves : NotesDeed ready ready.head.entries.unlock Leave =
+    subst (λ k. NotesDeed ready k Leave) (ap (λ es. es.unlock) entries) (noted_of ready a a.entries.unlock Leave flow.lines entries deeds.leaves) in
+    spelled c.args.text.now c.in_ok-draft.draft c.check_flow.new.draft c.in_ok-draft.ensures.ok flow.runs enters leaves flow.lines flow.kept
+
+pub returns-in_err-draft-clause-first : goal.returns-in_err-draft-clause-first
+returns-in_err-draft-clause-first c =
+    let p = err_from_is_err_and c.from_residual.result c.from_residual.ensures.1 in
+    rw (p.1, p.2) c.in_err-draft.ensures.first
+
+pub returns-in_err-draft-clause-refuses : goal.returns-in_err-draft-clause-refuses
+returns-in_err-draft-clause-refuses c =
+    let p = err_from_is_err_and c.from_residual.result c.from_residual.ensures.1 in
+    rw (p.1, p.2) (no_algorithm c.args.text.now _ c.in_err-draft.ensures.err)
+
+pub returns-in_err-check_flow-clause-first : goal.returns-in_err-check_flow-clause-first
+returns-in_err-check_flow-clause-first c =
+    let spells = c.in_ok-draft.ensures.ok in
+    any_fault c.from_residual-in_err-check_flow.result (lines_said c.args.text.now (program_lines spells.program) spells.says)
+
+pub returns-in_err-check_flow-clause-refuses : goal.returns-in_err-check_flow-clause-refuses
+returns-in_err-check_flow-clause-refuses c =
+    let p = err_from_is_err_and c.from_residual-in_err-check_flow.result c.from_residual-in_err-check_flow.ensures.1 in
+    let ready = draft_view c.in_ok-draft.draft in
+    rw (p.1, p.2) (flow_refused c.args.text.now ready _ (one_draft c.args.text.now ready c.in_ok-draft.ensures.ok) c.in_err-check_flow.ensures.err)
+
+pub returns-in_err-check_deeds-clause-first : goal.returns-in_err-check_deeds-clause-first
+returns-in_err-check_deeds-clause-first c =
+    let spells = c.in_ok-draft.ensures.ok in
+    any_fault c.from_residual-in_err-check_deeds.result (lines_said c.args.text.now (program_lines spells.program) spells.says)
+
+pub returns-in_err-check_deeds-clause-refuses : goal.returns-in_err-check_deeds-clause-refuses
+returns-in_err-check_deeds-clause-refuses c =
+    let p = err_from_is_err_and c.from_residual-in_err-check_deeds.result c.from_residual-in_err-check_deeds.ensures.1 in
+    let flow = c.in_ok-check_flow.ensures in
+    let ready = draft_view c.in_ok-draft.draft in
+    let a = c.check_flow.new.draft.algorithm in
+    rw (p.1, p.2) (inr (λ w. deeds_refused c.args.text.now ready a (one_draft c.args.text.now ready c.in_ok-draft.ensures.ok) flow.lines
+    (ap (λ (d : Drafted). d.head.entries) flow.kept) c.in_err-check_deeds.ensures.err w.0 w.1))

@@ -1,17 +1,32 @@
 use Rattle.std.proofs.Common.{◌≡◌, true, sym, ◌∙◌, subst}
+use Rattle.std.proofs.lemmas.Bool.{both_ways}
 use Rattle.std.proofs.lemmas.Option.{same_Some}
-use Rattle.std.proofs.lemmas.Result.{on_ok_weaker}
+use Rattle.std.proofs.lemmas.Result.{on_ok_weaker, on_err_weaker}
 use Rattle.algorithm_texts.specs.Drafts.{form_of, form_with_place}
 use Rattle.algorithm_texts.specs.Usage.{fits}
+use Rattle.algorithm_texts.proofs.RefusedCalls.{on_err}
 use Rattle.algorithm_texts.proofs.Uses.{fits_same}
 use Rattle.algorithm_texts.proofs.lines.Draft.check_form.Goals as goal
 
-pub returns : goal.returns
-returns c =
+pub returns-clause-ok : goal.returns-clause-ok
+returns-clause-ok c =
     let promises = c.args.self.now.algorithm.promises in
     let form = form_of c.args.form.now in
     on_ok_weaker c.check_deed.result (λ h. record {
-      known = c.in_ok-check_read.ensures;
-      free = c.in_ok-check_loops.ensures;
+      known = c.in_ok-check_read.ensures.ok;
+      free = c.in_ok-check_loops.ensures.ok;
       deed = λ other e. subst (λ x. fits promises c.args.call.call x ≡ true) (same_Some (form_with_place 0 form) other (sym c.requires.there ∙ e)) (fits_same promises c.args.call.call form ∙ h);
-    }) c.check_deed.ensures
+    }) c.check_deed.ensures.ok
+
+pub returns-clause-err : goal.returns-clause-err
+returns-clause-err c =
+    let promises = c.args.self.now.algorithm.promises in
+    let form = form_of c.args.form.now in
+    on_err_weaker c.check_deed.result
+    (λ f h. both_ways (fits promises c.args.call.call form) f (sym (fits_same promises c.args.call.call form) ∙ h.deed (form_with_place 0 form) c.requires.there)) c.check_deed.ensures.err
+
+pub returns-in_err-check_read-clause-err : goal.returns-in_err-check_read-clause-err
+returns-in_err-check_read-clause-err c = on_err c.from_residual.result (λ h. c.in_err-check_read.ensures.err h.known)
+
+pub returns-in_err-check_loops-clause-err : goal.returns-in_err-check_loops-clause-err
+returns-in_err-check_loops-clause-err c = on_err c.from_residual-in_err-check_loops.result (λ h. c.in_err-check_loops.ensures.err h.free)

@@ -1,4 +1,4 @@
-use Rattle.std.proofs.Common.{◌≡◌, ◌<◌, ◌≤◌, length, map, get_or, slice_get, refl, arith, rules}
+use Rattle.std.proofs.Common.{◌≡◌, ◌<◌, ◌≤◌, length, get_or, refl, arith, rules}
 use Rattle.std.proofs.lemmas.Grind.{common_steps}
 use Rattle.std.proofs.lemmas.Option.{slice_get_read, slice_get_past, gets}
 use Rattle.algorithm_texts.specs.Drafts.{draft_view}
@@ -14,8 +14,8 @@ check_form-requires-clause-there c =
     let at : c.in-Some.line.now ≡ get_or lines c.args.place c.in-Some.line.now = first_of (search rules, grind (arith, common_steps), grind (arith, common_steps, gets)) in
     use_at lines c.args.place c.in-Some.line.now (slice_get_read lines (length lines) c.args.place c.in-Some.line.now refl within at)
 
-pub returns-in-None : goal.returns-in-None
-returns-in-None c =
+pub returns-in-None-clause-ok : goal.returns-in-None-clause-ok
+returns-in-None-clause-ok c =
     let lines = c.args.self.now.algorithm.lines.items in
     let d = draft_view c.args.self.now in
     let past : length lines ≤ c.args.place = first_of (search rules, grind (arith, common_steps), grind (arith, common_steps, gets)) in

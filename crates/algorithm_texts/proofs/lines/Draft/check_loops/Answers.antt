@@ -1,4 +1,4 @@
-use Rattle.std.proofs.Common.{◌≡◌, ℕ, true, length, string_bytes, sym, ◌∙◌, arith}
+use Rattle.std.proofs.Common.{◌≡◌, ◌<◌, true, length, string_bytes, sym, ◌∙◌, arith}
 use Rattle.std.proofs.lemmas.Bool.{both_ways}
 use Rattle.std.proofs.lemmas.List.{length-map}
 use Rattle.algorithm_texts.specs.Drafts.{draft_view}
@@ -18,7 +18,13 @@ loop-name-preserved c = λ name less.
     ])
     name (omega arith) less
 
-pub returns : goal.returns
-returns c = λ name less.
+pub returns-clause-ok : goal.returns-clause-ok
+returns-clause-ok c = λ name less.
     let count = length-map c.args.self.now.algorithm.names.items (λ n. string_bytes n) in
     c.loop-name.invariant name (omega (arith, less, count, c.loop-name-test.false, c.len-name-end.ensures))
+
+pub returns-then-has_line-clause-err : goal.returns-then-has_line-clause-err
+returns-then-has_line-clause-err c = λ h.
+    let count = length-map c.args.self.now.algorithm.names.items (λ n. string_bytes n) in
+    let less : c.loop-name.name < length (draft_view c.args.self.now).names = omega (arith, count, c.loop-name-test.true, c.len-name-end.ensures) in
+    h c.loop-name.name less (sym c.uses_at.ensures ∙ c.if-uses_at.true) (c.has_line.ensures.0 c.if-has_line.true)

@@ -1,20 +1,28 @@
-use Rattle.std.proofs.Common.{◌≡◌, ◌⊎◌, true, false, sym, ◌∙◌, refl, inl, inr, subst}
-use Rattle.std.proofs.lemmas.Bool.{both_ways}
+use Rattle.std.proofs.Common.{◌≡◌, true, sym, ◌∙◌, refl, subst, arith, rules}
+use Rattle.std.proofs.lemmas.Bool.{false≢true}
+use Rattle.std.proofs.lemmas.Grind.{common_steps}
 use Rattle.algorithm_texts.specs.Drafts.{draft_view}
-use Rattle.algorithm_texts.specs.Usage.{uses, begins_loop, passes_at}
-use Rattle.algorithm_texts.specs.Lawful.{IsInLoop}
-use Rattle.algorithm_texts.proofs.Fits.{loop_on, loop_begun}
+use Rattle.algorithm_texts.specs.Usage.{uses, begins_loop, ends_loop, passes_at}
+use Rattle.algorithm_texts.proofs.Fits.{none_open, open_next, open_said, in_loop, in_loop_said, IsOpen}
 use Rattle.algorithm_texts.proofs.lines.Draft.is_in_loop.Goals as goal
-use Rattle.algorithm_texts.proofs.lines.Draft.is_in_loop.Goals.{then-inside, else-inside, then-uses_at, else-uses_at}
 
-here : (c : goal.Joined-uses_at) → c.if-inside.value ≡ true → IsInLoop (uses (draft_view c.args.self.now).lines) c.args.call c.args.name c.loop-at.at
-here c h = elim c.if-inside.branch [
-  | then-inside w ↦ c.loop-at.invariant w.if-inside.true
-  | else-inside w ↦ loop_begun (uses (draft_view c.args.self.now).lines) c.args.call c.args.name c.loop-at.at c.loop-at.auto.at (sym w.uses_at.ensures ∙ sym w.value-is ∙ h)
-]
+pub loop-at-init : goal.loop-at-init
+loop-at-init c = (λ h. absurd (false≢true h), λ s. absurd (none_open (uses (draft_view c.args.self.now).lines) c.args.call c.args.name c.args.call.«from» (omega arith) s))
 
 pub loop-at-preserved : goal.loop-at-preserved
-loop-at-preserved c = λ h. elim c.if-uses_at.branch [
-  | then-uses_at w ↦ loop_on (uses (draft_view c.args.self.now).lines) c.args.call c.args.name c.loop-at.at w.uses_at-then-uses_at.result (here c w.if-uses_at.true) w.uses_at-then-uses_at.ensures (sym w.inside-is ∙ h)
-  | else-uses_at w ↦ absurd (both_ways c.if-inside.value w.if-uses_at.false (sym w.inside-is ∙ h))
-]
+loop-at-preserved c =
+    let forms = uses (draft_view c.args.self.now).lines in (
+      λ h. open_next forms c.args.call c.args.name c.loop-at.at c.loop-at.inside c.loop-at.auto.at c.loop-at.invariant.0 (sym c.stays_open-inside.ensures ∙ h),
+      λ s. c.stays_open-inside.ensures
+          ∙ open_said forms c.args.call c.args.name c.loop-at.at c.loop-at.inside (passes_at (begins_loop c.args.name) forms c.loop-at.at)
+          (passes_at (ends_loop c.args.name) forms c.loop-at.at) c.loop-at.invariant.1 refl refl s,
+    )
+
+pub returns : goal.returns
+returns c =
+    let forms = uses (draft_view c.args.self.now).lines in
+    let at : c.loop-at.at ≡ c.args.place = first_of (search rules, grind (arith, common_steps)) in
+    let there = subst (λ x. (c.loop-at.inside ≡ true → IsOpen forms c.args.call c.args.name x) × (IsOpen forms c.args.call c.args.name x → c.loop-at.inside ≡ true)) at c.loop-at.invariant in (
+      λ h. in_loop forms c.args.call c.args.name c.args.place c.loop-at.inside c.requires there.0 (sym c.is_open.ensures ∙ h),
+      λ s. c.is_open.ensures ∙ in_loop_said forms c.args.call c.args.name c.args.place c.loop-at.inside (passes_at (begins_loop c.args.name) forms c.args.place) there.1 refl s,
+    )

@@ -22,3 +22,6 @@ loop-place-preserved c = elim c.match-past_marked.branch [
 pub returns-clause-marked : goal.returns-clause-marked
 returns-clause-marked c =
     past_all (draft_view c.args.self.now) c.args.call c.args.name c.args.reached.now c.args.marks.now c.loop-place.marks c.loop-place.place c.loop-place.invariant c.loop-place-test.false
+
+pub returns-clause-comes : goal.returns-clause-comes
+returns-clause-comes c = c.loop-place.invariant.comes

@@ -1,4 +1,4 @@
-use Rattle.std.proofs.Common.{◌≡◌, ℕ, ◌+◌, Bool, true, false, List, length, map, replicate, set, Vec, Global, sym, ap, ◌∙◌, arith}
+use Rattle.std.proofs.Common.{◌≡◌, ℕ, ◌+◌, Bool, true, false, List, length, replicate, set, Vec, Global, sym, ap, ◌∙◌, arith}
 use Rattle.std.proofs.lemmas.List.{with_items_is, length-set, length-map}
 use Rattle.algorithm_texts.specs.Drafts.{draft_view, line_of}
 use Rattle.algorithm_texts.specs.Marks.{marks_from}

@@ -1,8 +1,7 @@
-use Rattle.std.proofs.Common.{◌≡◌, ℕ, ◌+◌, true, length, map, sym, ap, ◌∙◌, subst, arith, rules}
-use Rattle.std.proofs.lemmas.List.{with_items_is, length-set, length-replicate}
+use Rattle.std.proofs.Common.{◌≡◌, ◌+◌, true, length, sym, ap, ◌∙◌, subst, arith}
+use Rattle.std.proofs.lemmas.List.{with_items_is}
 use Rattle.algorithm_texts.specs.Drafts.{draft_view}
 use Rattle.algorithm_texts.specs.FinishedDrafts.{is_in}
-use Rattle.algorithm_texts.specs.Marks.{marks_from}
 use Rattle.algorithm_texts.proofs.RunMarks.{first_in, first_marked, comes_other, comes_marked, length-marks_from}
 use Rattle.algorithm_texts.proofs.lines.Draft.reached_places.Goals as goal
 

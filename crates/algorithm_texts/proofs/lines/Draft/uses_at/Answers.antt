@@ -1,7 +1,6 @@
-use Rattle.std.proofs.Common.{◌≡◌, ◌<◌, ◌≤◌, length, get_or, Some, None, slice_get, refl, ap, ◌∙◌, arith, rules}
+use Rattle.std.proofs.Common.{◌≡◌, ◌<◌, ◌≤◌, length, get_or, refl, ◌∙◌, arith, rules}
 use Rattle.std.proofs.lemmas.Grind.{common_steps}
 use Rattle.std.proofs.lemmas.Option.{slice_get_read, slice_get_past, gets}
-use Rattle.algorithm_texts.specs.Drafts.{draft_view, form_of}
 use Rattle.algorithm_texts.specs.Usage.{has_usage}
 use Rattle.algorithm_texts.proofs.Uses.{passes_line, passes_none, usage_same}
 use Rattle.algorithm_texts.proofs.lines.Draft.uses_at.Goals as goal

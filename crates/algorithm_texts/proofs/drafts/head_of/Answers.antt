@@ -1,0 +1,10 @@
+use Rattle.std.proofs.Common.{sym, subst}
+use Rattle.algorithm_texts.specs.TextLines.{RefusesLines}
+use Rattle.algorithm_texts.specs.TextDrafts.{read_head}
+use Rattle.algorithm_texts.proofs.RefusedLines.{refuses_at}
+use Rattle.algorithm_texts.proofs.drafts.head_of.Goals as goal
+
+pub returns-in-Err-clause-err : goal.returns-in-Err-clause-err
+returns-in-Err-clause-err c =
+    subst (λ f. RefusesLines f (read_head c.args.line.now.tokens.all.items)) (sym c.at.ensures)
+    (refuses_at c.args.line.now.number c.in-Err.fault (read_head c.args.line.now.tokens.all.items) c.in-Err.ensures)

@@ -4,7 +4,6 @@ use Rattle.rmecore.specs.AbstractLock.{Abstract, nobody}
 use Rattle.rmecore.specs.World.{World, at_rest}
 use Rattle.rmecore.specs.declared.phase.Phase.{Phase}
 use Rattle.redomail.specs.declared.deed.Deed.{Deed}
-use Rattle.redomail.specs.declared.deed.Deed.TheVariants.{Outer}
 use Rattle.judge.specs.Legal.{judged_all}
 use Rattle.judge.proofs.Histories.{judged_all-append}
 use Rattle.algorithms.specs.Worlds.{new_refusal}
@@ -13,18 +12,10 @@ use Rattle.algorithms.specs.declared.algorithm.AlgorithmCall.{AlgorithmCall}
 use Rattle.algorithms.specs.declared.process.AlgorithmProcess.{AlgorithmProcess}
 use Rattle.algorithms.specs.declared.refusal.AlgorithmRefusal.TheVariants.{BadProcs, BadLimit}
 use Rattle.algorithm_lab.specs.Bakery.{IsBakery}
-use Rattle.algorithm_lab.specs.Monitors.{MonitorState, first_monitor, start_on, step_on, crash_on}
-use Rattle.algorithm_lab.specs.Moves.{MoveResult, begun_by, moved_by}
-use Rattle.algorithm_lab.specs.Runs.{deeds_of}
-use Rattle.algorithm_lab.specs.declared.run_report.TextReport.{TextReport}
-use Rattle.algorithm_lab.specs.declared.run_report.TextReport.TheVariants.{Did, Answered}
+use Rattle.algorithm_lab.specs.Monitors.{MonitorState, first_monitor, part_of_start, start_on, step_on, crash_on}
+use Rattle.algorithm_lab.specs.Moves.{MoveResult, moved_by}
 use Rattle.algorithm_lab.proofs.BakeryDeeds.{judge_at, deeds_said}
 use Rattle.algorithm_lab.proofs.BakeryWorlds.{state, Alike, Matches, start_matches, step_matches, crash_matches, first_alike}
-
-pub deeds_append : (reports more : List TextReport) → deeds_of (reports ++ more) ≡ deeds_of reports ++ deeds_of more
-deeds_append [] more = refl
-deeds_append (Did outer ∷ reports) more = ap (λ ds. Outer outer ∷ ds) (deeds_append reports more)
-deeds_append (Answered p answer ∷ reports) more = deeds_append reports more
 
 none_fits : (x y z u low up : Bool) → cond (x && y && z && u) (cond (low && up) None (Some BadLimit)) (Some BadProcs) ≡ None → (u ≡ true) × (up ≡ true)
 none_fits true true true true true true e = (refl, refl)
@@ -88,8 +79,8 @@ module _ (a : Algorithm) (b : IsBakery a) (n limit : ℕ) (most : n ≤ 64) (hig
   from_beside : (lock : Abstract) (make : MonitorState → MoveResult MonitorState) (m : MonitorState) → (h : Beside lock m) → LedBy lock make (state a b n limit most high h.rows h.processes h.now) → LedBy lock make m
   from_beside lock make m h led = subst (LedBy lock make) (sym h.is) led
 
-  pub start_led : (lock : Abstract) (m : MonitorState) (p : ℕ) (call : AlgorithmCall) → Beside lock m → LedBy lock (λ m. begun_by m (start_on m p call)) m
-  start_led lock m p call h = from_beside lock (λ m. begun_by m (start_on m p call)) m h (matched lock _ _ (start_matches a b n limit most high h.world lock h.rows h.processes h.now h.alike p call))
+  pub start_led : (lock : Abstract) (m : MonitorState) (p : ℕ) (call : AlgorithmCall) → Beside lock m → LedBy lock (λ m. moved_by m (part_of_start (start_on m p call))) m
+  start_led lock m p call h = from_beside lock (λ m. moved_by m (part_of_start (start_on m p call))) m h (matched lock _ _ (start_matches a b n limit most high h.world lock h.rows h.processes h.now h.alike p call))
 
   pub step_led : (lock : Abstract) (m : MonitorState) (p : ℕ) → Beside lock m → LedBy lock (λ m. moved_by m (step_on m p)) m
   step_led lock m p h = from_beside lock (λ m. moved_by m (step_on m p)) m h (matched lock _ _ (step_matches a b n limit most high h.world lock h.rows h.processes h.now h.alike p))

@@ -1,86 +1,73 @@
 -- A judge allows all that a run of the text reports, whatever its lines are.
-use Rattle.std.proofs.Common.{◌≡◌, ℕ, zero, suc, ◌+◌, ◌^◌, ◌≤◌, Bool, true, false, if◌then◌else◌, List, [], ◌∷◌, Option, Some, None, Result, Ok, Err, IfOk, refl, sym, ap, ◌∙◌, subst}
+use Rattle.std.proofs.Common.{◌≡◌, ℕ, ◌^◌, ◌≤◌, List, [], ◌++◌, Option, Some, None, Result, Ok, Err, IfOk, refl, sym, ap, ◌∙◌, subst}
 use Rattle.rmecore.specs.AbstractLock.{Abstract, nobody}
+use Rattle.rmeworld.specs.declared.call.Call.{Call}
 use Rattle.schedule.specs.Tapes.{Tape}
 use Rattle.schedule.specs.declared.lines.line.Line.{Line}
-use Rattle.schedule.specs.declared.lines.line.Line.TheVariants as lines
 use Rattle.schedule.specs.declared.replays.verdict.Verdict.{Verdict}
 use Rattle.schedule.specs.declared.replays.verdict.Verdict.TheVariants.{Fine}
 use Rattle.schedule.proofs.WorldRuns.{legal_is_fine}
-use Rattle.algorithms.specs.Worlds.{new_refusal}
+use Rattle.schedule.specs.Transitions.{Fell, Took}
+use Rattle.algorithms.specs.Worlds.{advance, new_refusal}
 use Rattle.algorithms.specs.declared.algorithm.Algorithm.{Algorithm}
 use Rattle.algorithms.specs.declared.algorithm.AlgorithmCall.{AlgorithmCall}
 use Rattle.algorithms.specs.declared.refusal.AlgorithmRefusal.{AlgorithmRefusal}
 use Rattle.algorithm_lab.specs.Bakery.{IsBakery}
-use Rattle.algorithm_lab.specs.Monitors.{MonitorState, EventPart, first_monitor, start_on, step_on, crash_on}
-use Rattle.algorithm_lab.specs.Moves.{begun_by, moved_by}
+use Rattle.algorithm_lab.specs.Monitors.{IsReportedPart, MonitorState, EventPart, first_monitor, left_by, part_of_start, refusal_by, start_on, step_on, crash_on}
+use Rattle.algorithm_lab.specs.Moves.{moved_by}
 use Rattle.algorithm_lab.specs.Replays.{run_unless, run_of, ReplaysAlgorithm}
 use Rattle.algorithm_lab.specs.Reports.{verdict_of}
-use Rattle.algorithm_lab.specs.Runs.{AlgorithmRun, deeds_of, call_of, run_after_reports, after_step, steps, run_of_start, run_of_crash, start_by, line_on, run_after_line, run_on}
+use Rattle.algorithm_lab.specs.Runs.{AlgorithmRun, deeds_of, call_of, event_reports, monitor_transitions, run_on, said_by, start_by, start_part}
+use Rattle.algorithm_lab.specs.declared.run_report.TextReport.{TextReport}
+use Rattle.algorithm_lab.proofs.Runs.{crash_appended, deeds_append, so_of_run, step_appended}
+use Rattle.algorithm_lab.specs.declared.monitor_event.MonitorStep.{MonitorStep}
 use Rattle.algorithm_lab.specs.declared.replay_fault.AlgorithmReplayFault.{AlgorithmReplayFault}
 use Rattle.algorithm_lab.specs.declared.run_refusal.RunRefusal.{RunRefusal}
 use Rattle.algorithm_lab.proofs.BakeryDeeds.{judge_at, deeds_said}
-use Rattle.algorithm_lab.proofs.BakeryJudged.{deeds_append, fitting, Beside, Led, first_beside, stays, led_on, start_led, step_led, crash_led}
+use Rattle.algorithm_lab.proofs.BakeryJudged.{fitting, Beside, Led, first_beside, stays, led_on, start_led, step_led, crash_led}
 
 module _ (a : Algorithm) (b : IsBakery a) (n limit : ℕ) (most : n ≤ 64) (high : limit ≤ 2 ^ 62) where
   abbrev BesideAt : Abstract → MonitorState → Type 0
   BesideAt lock m = Beside a b n limit most high lock m
 
-  -- a judge allows what a part of a run reports
-  abbrev Fits : {R : Type 0} → Abstract → AlgorithmRun R → Type 0
-  Fits lock run = Led a b n limit most high lock (deeds_of run.reports) run.left
+  -- a judge allows what is reported on the way from one monitor to another
+  abbrev Fits : MonitorState → List TextReport → MonitorState → Type 0
+  Fits m reports left = (lock : Abstract) → BesideAt lock m → Led a b n limit most high lock (deeds_of reports) left
 
-  -- after what is allowed
-  preceded_fits : {R : Type 0} (lock : Abstract) (first rest : AlgorithmRun R) → (led : Fits lock first) → Fits led.lock rest → Fits lock (run_after_reports first.reports rest)
-  preceded_fits lock first rest led later =
-      subst (λ ds. Led a b n limit most high lock ds rest.left) (sym (deeds_append first.reports rest.reports)) (led_on a b n limit most high lock (deeds_of first.reports) (deeds_of rest.reports) first.left rest.left led later)
+  both_fit : (m left last : MonitorState) (reports more : List TextReport) → Fits m reports left → Fits left more last → Fits m (reports ++ more) last
+  both_fit m left last reports more first later lock h =
+      let led = first lock h in
+      subst (λ ds. Led a b n limit most high lock ds last) (sym (deeds_append reports more)) (led_on a b n limit most high lock (deeds_of reports) (deeds_of more) left last led (later led.lock led.beside))
 
-  -- the steps after one
-  abbrev StepsFit : ℕ → ℕ → Type 0
-  StepsFit p k = (lock : Abstract) (m : MonitorState) → BesideAt lock m → Fits lock (steps p k m)
-
-  steps_fit : (p k : ℕ) (lock : Abstract) (m : MonitorState) → BesideAt lock m → Fits lock (steps p k m)
-  steps_fit p zero lock m h = stays a b n limit most high lock m h
-  steps_fit p (suc k) lock m h = by (step_on m p) (step_led a b n limit most high lock m p h) (λ l q beside. steps_fit p k l q beside)
+  -- a start reports nothing
+  start_fits : (m : MonitorState) (p : ℕ) (call : Call) → Fits m [] (left_by m (start_part m p call))
+  start_fits m p call lock h = by (call_of call)
     where
-      more : (part : EventPart) (ended : Bool) → Led a b n limit most high lock (deeds_of part.reports) part.left → StepsFit p k
-          → Fits lock (if ended then record { reports = part.reports; left = part.left; refused = None } else run_after_reports part.reports (steps p k part.left))
-      more part true led rest = led
-      more part false led rest =
-          let first : AlgorithmRun RunRefusal = record { reports = part.reports; left = part.left; refused = None } in
-          preceded_fits lock first (steps p k part.left) led (rest led.lock part.left led.beside)
-
-      by : (r : Result EventPart RunRefusal) → Led a b n limit most high lock (deeds_said (moved_by m r).said) (moved_by m r).left → StepsFit p k → Fits lock (after_step r m (steps p k))
-      by (Err e) led rest = led
-      by (Ok part) led rest = more part part.ended led rest
-
-  line_fits : (lock : Abstract) (m : MonitorState) (line : Line) → BesideAt lock m → Fits lock (line_on m line)
-  line_fits lock m (lines.Start p call) h = by (call_of call)
-    where
-      begun : (r : Result MonitorState RunRefusal) → Led a b n limit most high lock (deeds_said (begun_by m r).said) (begun_by m r).left → Fits lock (run_of_start m r)
+      begun : (r : Result MonitorState RunRefusal) → Led a b n limit most high lock (deeds_said (moved_by m (part_of_start r)).said) (moved_by m (part_of_start r)).left → Led a b n limit most high lock [] (left_by m (part_of_start r))
       begun (Ok left) led = led
       begun (Err e) led = led
 
-      by : (o : Option AlgorithmCall) → Fits lock (run_of_start m (start_by m p o))
+      by : (o : Option AlgorithmCall) → Led a b n limit most high lock [] (left_by m (part_of_start (start_by m p o)))
       by None = stays a b n limit most high lock m h
       by (Some c) = begun (start_on m p c) (start_led a b n limit most high lock m p c h)
-  line_fits lock m (lines.Step p k) h = steps_fit p k lock m h
-  line_fits lock m (lines.Crash p) h = by (crash_on m p) (crash_led a b n limit most high lock m p h)
-    where
-      by : (r : Result EventPart RunRefusal) → Led a b n limit most high lock (deeds_said (moved_by m r).said) (moved_by m r).left → Fits lock (run_of_crash m r)
-      by (Ok part) led = led
-      by (Err e) led = led
 
-  run_fits : (k : ℕ) (all : List Line) (lock : Abstract) (m : MonitorState) → BesideAt lock m → Fits lock (run_on k m all)
-  run_fits k [] lock m h = stays a b n limit most high lock m h
-  run_fits k (line ∷ all) lock m h = by (line_on m line).refused (line_fits lock m line h) (λ l beside. run_fits (k + 1) all l (line_on m line).left beside)
-    where
-      by : (o : Option RunRefusal) → Fits lock (line_on m line) → ((l : Abstract) → BesideAt l (line_on m line).left → Fits l (run_on (k + 1) (line_on m line).left all))
-          → Fits lock (run_after_line k (line_on m line) o (run_on (k + 1) (line_on m line).left all))
-      by (Some e) led rest = led
-      by None led rest =
-          let first : AlgorithmRun (ℕ × RunRefusal) = record { reports = (line_on m line).reports; left = (line_on m line).left; refused = None } in
-          preceded_fits lock first (run_on (k + 1) (line_on m line).left all) led (rest led.lock led.beside)
+  part_fits : (m left : MonitorState) (reports : List TextReport) (r : Result EventPart RunRefusal) (lock : Abstract) → IsReportedPart r [] reports left → Led a b n limit most high lock (deeds_said (moved_by m r).said) (moved_by m r).left
+      → Led a b n limit most high lock (deeds_of reports) left
+  part_fits m left reports (Ok part) lock is led = rw (is.0, is.1) led
+  part_fits m left reports (Err e) lock is led = absurd is
+
+  step_fits : (m : MonitorState) (p : ℕ) → refusal_by (step_on m p) ≡ None → Fits m (event_reports (Took p (said_by m p (advance m.world p)))) (left_by m (step_on m p))
+  step_fits m p taken lock h =
+      let step : MonitorStep = said_by m p (advance m.world p) in
+      let left : MonitorState = left_by m (step_on m p) in
+      part_fits m left (event_reports (Took p step)) (step_on m p) lock (step_appended m left p step [] (event_reports (Took p step)) (taken, refl, refl) refl) (step_led a b n limit most high lock m p h)
+
+  crash_fits : (m : MonitorState) (p : ℕ) → refusal_by (crash_on m p) ≡ None → Fits m (event_reports (Fell p (monitor_transitions.crash m p))) (left_by m (crash_on m p))
+  crash_fits m p taken lock h =
+      part_fits m (left_by m (crash_on m p)) (event_reports (Fell p (monitor_transitions.crash m p))) (crash_on m p) lock (crash_appended m p taken) (crash_led a b n limit most high lock m p h)
+
+  run_fits : (k : ℕ) (m : MonitorState) (all : List Line) → Fits m (run_on k m all).reports (run_on k m all).left
+  run_fits = so_of_run monitor_transitions event_reports Fits (λ m lock h. stays a b n limit most high lock m h) both_fit start_fits step_fits crash_fits
 
   -- what is said of a run from a new world
   pub record IsFine (run : AlgorithmRun (ℕ × RunRefusal)) : Type 0 where
@@ -89,7 +76,7 @@ module _ (a : Algorithm) (b : IsBakery a) (n limit : ℕ) (most : n ≤ 64) (hig
 
   pub new_is_fine : (all : List Line) → IsFine (run_on 2 (first_monitor a n limit) all)
   new_is_fine all =
-      let led = run_fits 2 all nobody (first_monitor a n limit) (first_beside a b n limit most high) in
+      let led = run_fits 2 (first_monitor a n limit) all nobody (first_beside a b n limit most high) in
       record { verdict = legal_is_fine 1 (judge_at n nobody) (judge_at n led.lock) _ led.judged; procs = ap (λ (m : MonitorState). m.world.procs) led.beside.is }
 
 -- the verdict of a replay, and the processes of its world

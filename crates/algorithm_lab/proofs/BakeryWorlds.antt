@@ -34,9 +34,9 @@ use Rattle.judge.specs.Legal.{judged_all}
 use Rattle.algorithms.specs.Arrivals.{◌>>=◌}
 use Rattle.algorithm_lab.specs.Bakery.{IsBakery}
 use Rattle.algorithm_lab.specs.Heard.{Heard, deeds_heard, heard_of_crash}
-use Rattle.algorithm_lab.specs.Monitors.{MonitorState, EventPart, answer_reports, first_monitor, is_idle, is_idle_process, part_of, phase_refusal, start_on, step_on, crash_on, then_in, unless as unless_heard}
+use Rattle.algorithm_lab.specs.Monitors.{MonitorState, EventPart, answer_reports, first_monitor, is_idle, is_idle_process, part_of, phase_refusal, part_of_start, start_on, step_on, crash_on, then_in, unless as unless_heard}
 use Rattle.algorithm_lab.specs.Refusals.{number_of as number_of_run}
-use Rattle.algorithm_lab.specs.Moves.{ScheduleMove, Start, Step, Crash, Tells, Refuses, MoveResult, all_said, left_by, core_call, answer_number, deed_report, refused_outcome, unless, step_outcome, step_by, lock_move, begun_by, moved_by, text_move, SameWords}
+use Rattle.algorithm_lab.specs.Moves.{ScheduleMove, Start, Step, Crash, Tells, Refuses, MoveResult, all_said, left_by, core_call, answer_number, deed_report, refused_outcome, unless, step_outcome, step_by, lock_move, moved_by, text_move, SameWords}
 use Rattle.algorithms.specs.Worlds.{AlgorithmWorldState, access_at, after_step, process_after_start, entry_of, resting, advance_in_world as said_of, words_after_access, taken_by, with_process}
 use Rattle.algorithms.specs.Steps.{step_before_access}
 use Rattle.algorithms.specs.declared.access.WordAccess.{WordAccess}
@@ -234,16 +234,16 @@ module _ (a : Algorithm) (b : IsBakery a) (n limit : ℕ) (most : n ≤ 64) (hig
 
     started_by : (p : ℕ) (call : AlgorithmCall) (t : AlgorithmProcess) (o : Option Refusal) → p < n → slice_get ts p ≡ Some t → lock_refusal (w.places p) (core_call call) ≡ o
         → StartIf a b n limit p t (phase_now p) call (unwrap_or (lock_started (w.places p) (core_call call)) (w.places p)) o
-        → Matches ab (unless o w (record { said = Tells []; left = after n limit w (Starts p (core_call call)) })) (begun_by m (start_on m p call))
+        → Matches ab (unless o w (record { said = Tells []; left = after n limit w (Starts p (core_call call)) })) (moved_by m (part_of_start (start_on m p call)))
     started_by p call t (Some r) own there e s =
         let why : start_on m p call ≡ Err s.refusal = start_there p call t there ∙ refused_by p call t (lock_number r) s in
-        subst (λ x. Matches ab (refused_outcome w r) (begun_by m x)) (sym why) (refuses r (number_of_run s.refusal) s.number_is)
+        subst (λ x. Matches ab (refused_outcome w r) (moved_by m (part_of_start x))) (sym why) (refuses r (number_of_run s.refusal) s.number_is)
     started_by p call t None own there e s =
         let event : Event = Starts p (core_call call) in
         let may : May n limit w event = (own, may_start (core_call call) (w.places p) e, tt) in
         let kept = keeps n limit w ab event may h.tied in
         let why : start_on m p call ≡ Ok (state rows (slice_set ts p s.process) ps) = start_there p call t there ∙ ap (λ x. start_by p x (process_after_start a (me p) t call)) s.allowed ∙ ap (start_by p None) s.is in
-        subst (λ x. Matches ab (record { said = Tells []; left = after n limit w event }) (begun_by m x)) (sym why)
+        subst (λ x. Matches ab (record { said = Tells []; left = after n limit w event }) (moved_by m (part_of_start x))) (sym why)
         (record {
           rows = rows;
           processes = slice_set ts p s.process;
@@ -274,7 +274,7 @@ module _ (a : Algorithm) (b : IsBakery a) (n limit : ℕ) (most : n ≤ 64) (hig
           | inr past ↦
               let o : MoveResult World = unless (lock_refusal (w.places p) (core_call call)) w (record { said = Tells []; left = after n limit w (Starts p (core_call call)) }) in
               subst (λ t. Matches ab (if t then o else refused_outcome w refusals.NoSuchProcess) (text_move m (Start p call))) (sym (le-ltb p n past))
-              (subst (λ x. Matches ab (refused_outcome w refusals.NoSuchProcess) (begun_by m x)) (sym (start_gone p call past)) (refuses refusals.NoSuchProcess (Some 3) refl))
+              (subst (λ x. Matches ab (refused_outcome w refusals.NoSuchProcess) (moved_by m (part_of_start x))) (sym (start_gone p call past)) (refuses refusals.NoSuchProcess (Some 3) refl))
         ]
 
     -- ---- crashes

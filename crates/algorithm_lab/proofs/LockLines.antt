@@ -25,8 +25,10 @@ use Rattle.rmecore.specs.declared.refusal.Refusal.{Refusal}
 use Rattle.rmecore.specs.declared.refusal.Refusal.TheVariants.{NoSuchProcess, NothingToDo}
 use Rattle.rmecore.proofs.Invariant.{put_same}
 use Rattle.redomail.specs.declared.deed.Deed.TheVariants.{Outer}
+use Rattle.schedule.proofs.Fragments.{preceded}
+use Rattle.schedule.specs.Fragments.{fragment_after_line}
 use Rattle.schedule.specs.Reports.{line_of_report as lock_line, reports_text as lock_text}
-use Rattle.schedule.specs.Runs.{Part as LockRun, LockReport, Did as LockDid, Answered as LockAnswered, did, answer_reports as lock_answered, reports_of, unless as lock_unless, part_after_line as lock_followed, steps as lock_steps, line_on as lock_line_on, run_on as lock_run_on}
+use Rattle.schedule.specs.Runs.{Part as LockRun, LockReport, Did as LockDid, Answered as LockAnswered, did, answer_reports as lock_answered, reports_of, unless as lock_unless, steps as lock_steps, line_on as lock_line_on, run_on as lock_run_on}
 use Rattle.schedule.specs.declared.lines.line.Line.{Line}
 use Rattle.schedule.specs.declared.lines.line.Line.TheVariants as lines
 use Rattle.algorithms.specs.declared.algorithm.Algorithm.{Algorithm}
@@ -34,14 +36,15 @@ use Rattle.algorithms.specs.declared.algorithm.AlgorithmCall.{AlgorithmCall}
 use Rattle.algorithms.specs.declared.process.AlgorithmProcess.{AlgorithmProcess}
 use Rattle.algorithm_lab.specs.Bakery.{IsBakery, answers}
 use Rattle.algorithm_lab.specs.LockLines.{IsOfLock, answer_of, lock_reported, call_refusal, lock_world_after_start as lock_started, step_refusal, value_of, lock_step_report, lock_world_after_step, if_there, image_of, lock_behaviour, refusal_with_number, SameRun}
-use Rattle.algorithm_lab.specs.Monitors.{MonitorState, EventPart, answer_reports, first_monitor, start_on, step_on, crash_on}
-use Rattle.algorithm_lab.specs.Moves.{MoveResult, Tells, Refuses, answer_number, deed_report, core_call, refused_outcome, unless, begun_by, moved_by, SameWords}
+use Rattle.algorithm_lab.specs.Monitors.{MonitorState, EventPart, answer_reports, first_monitor, part_of_start, start_on, step_on, crash_on}
+use Rattle.algorithm_lab.specs.Moves.{MoveResult, Tells, Refuses, answer_number, deed_report, core_call, refused_outcome, unless, moved_by, SameWords}
 use Rattle.algorithm_lab.specs.Refusals.{number_of as number_of_run}
 use Rattle.algorithm_lab.specs.Reports.{words_of_text, words_of_answer, line_of_report, reports_text, words_text}
-use Rattle.algorithm_lab.specs.Runs.{AlgorithmRun, call_of, run_after_reports, after_step, steps, run_of_start, run_of_crash, start_by, line_on, run_after_line, run_on}
+use Rattle.algorithm_lab.specs.Runs.{AlgorithmRun, call_of, start_by, line_on, run_on}
 use Rattle.algorithm_lab.specs.declared.run_refusal.RunRefusal.{RunRefusal}
 use Rattle.algorithm_lab.specs.declared.run_report.TextReport.{TextReport}
 use Rattle.algorithm_lab.specs.declared.run_report.TextReport.TheVariants.{Did, Answered}
+use Rattle.algorithm_lab.proofs.Runs.{part_run, steps, after_step, line_of_start, line_of_crash, first_step}
 use Rattle.algorithm_lab.proofs.LockGoesOn.{GoesOn, goes_on}
 use Rattle.algorithm_lab.proofs.BakeryWordLines.{end_lines}
 use Rattle.algorithm_lab.proofs.BakeryWorlds.{state, Alike, Matches, StepOf, start_matches, step_of, step_gone, crash_matches, same_words, first_alike}
@@ -152,7 +155,7 @@ module _ (a : Algorithm) (b : IsBakery a) (n limit : ℕ) (most : n ≤ 64) (hig
   if_by false o w out = refl
 
   start_by_both : (w : World) (m : MonitorState) (from : Abstract) (out : World) (o : Option Refusal) (r : Result MonitorState RunRefusal) → IsBeside w m
-      → Matches a b n limit most high from (unless o w (record { said = Tells []; left = out })) (begun_by m r) → SameLine (run_of_start m r) (lock_unless o w [] out)
+      → Matches a b n limit most high from (unless o w (record { said = Tells []; left = out })) (moved_by m (part_of_start r)) → SameLine (part_run m (part_of_start r)) (lock_unless o w [] out)
   start_by_both w m from out None (Ok left) h matches = record { reports = none_reported a; refused = refl; beside = moved _ _ from matches }
   start_by_both w m from out None (Err e) h matches = let said : Refuses (number_of_run e) ≡ Tells [] = said_same _ _ from matches in absurd (cc)
   start_by_both w m from out (Some refusal) (Ok left) h matches = let said : Tells [] ≡ Refuses (number_of refusal) = said_same _ _ from matches in absurd (cc)
@@ -163,7 +166,7 @@ module _ (a : Algorithm) (b : IsBakery a) (n limit : ℕ) (most : n ≤ 64) (hig
 
   crash_by_both : (w : World) (m : MonitorState) (from : Abstract) (p : ℕ) (t : Bool) (r : Result EventPart RunRefusal) → IsBeside w m
       → Matches a b n limit most high from (if t then record { said = Tells (Did (outers.Crash p) ∷ []); left = after n limit w (Crashes p) } else refused_outcome w NoSuchProcess) (moved_by m r)
-      → SameLine (run_of_crash m r) (lock_unless (if t then None else Some NoSuchProcess) w (LockDid (Outer (outers.Crash p)) ∷ []) (after n limit w (Crashes p)))
+      → SameLine (part_run m r) (lock_unless (if t then None else Some NoSuchProcess) w (LockDid (Outer (outers.Crash p)) ∷ []) (after n limit w (Crashes p)))
   crash_by_both w m from p true (Ok part) h matches =
       let said : Tells part.reports ≡ Tells (Did (outers.Crash p) ∷ []) = said_same _ _ from matches in
       let reports : part.reports ≡ Did (outers.Crash p) ∷ [] = cc in
@@ -199,7 +202,7 @@ module _ (a : Algorithm) (b : IsBakery a) (n limit : ℕ) (most : n ≤ 64) (hig
     beside : IsBeside lock.1 text.left
 
   abbrev text_more : ℕ → ℕ → Bool → EventPart → AlgorithmRun RunRefusal
-  text_more p k ended part = if ended then record { reports = part.reports; left = part.left; refused = None } else run_after_reports part.reports (steps p k part.left)
+  text_more p k ended part = if ended then record { reports = part.reports; left = part.left; refused = None } else preceded part.reports (steps p k part.left)
 
   -- a first step, and then the rest, which is the same on both sides
   step_then : (p k : ℕ) (ended : Bool) (part : EventPart) (first : List LockReport) (w : World) → SameReports a part.reports first → IsBeside w part.left
@@ -253,7 +256,7 @@ module _ (a : Algorithm) (b : IsBakery a) (n limit : ℕ) (most : n ≤ 64) (hig
           let first : List LockReport = reports_of p (option_map Outer outer) (option_map answer_of done) in
           let left : World = after n limit w (Steps p (kind_of acc) (word_of acc) (value_of w acc)) in
           let text : steps p (suc k) here ≡ text_more p k ended step.part =
-          ap (λ r. after_step r here (steps p k)) step.is ∙ ap (λ t. text_more p k t step.part) (step.ended ∙ ended_same done) in
+          first_step p k here ∙ ap (λ r. after_step r here (steps p k)) step.is ∙ ap (λ t. text_more p k t step.part) (step.ended ∙ ended_same done) in
           let lock : lock_steps (lock_behaviour n limit) p (suc k) w ≡ (first ++ (lock_more p k ended left).0, (lock_more p k ended left).1) = lock_steps_are p k w true (Some acc) (lt-ltb p n own) e in
           let said : Tells step.part.reports ≡ Tells (deed_report outer ++ answer_reports p (option_map answer_number done)) = said_same _ _ h.lock step.matches in
           let reports : step.part.reports ≡ deed_report outer ++ answer_reports p (option_map answer_number done) = cc in
@@ -287,7 +290,7 @@ module _ (a : Algorithm) (b : IsBakery a) (n limit : ℕ) (most : n ≤ 64) (hig
       ap (λ t. refused_first t (access limit p (w.places p))) is_there ∙ ap (refused_first there) is_access ∙ refuses in
       let lock : lock_line_on (lock_behaviour n limit) w (lines.Step p (suc k)) ≡ lock_line_of (Some refusal) ([], w) =
       lock_step_line p (suc k) w ∙ ap (λ r. lock_line_of r (lock_steps (lock_behaviour n limit) p (suc k) w)) first ∙ ap (lock_line_of (Some refusal)) none in
-      subst (λ run. SameLine run (lock_line_on (lock_behaviour n limit) w (lines.Step p (suc k)))) (sym (ap (λ r. after_step r m (steps p k)) text))
+      subst (λ run. SameLine run (lock_line_on (lock_behaviour n limit) w (lines.Step p (suc k)))) (sym (first_step p k m ∙ ap (λ r. after_step r m (steps p k)) text))
       (subst (SameLine (after_step (Err e) m (steps p k))) (sym lock) (record { reports = none_reported a; refused = ap Some number; beside = h }))
 
   step_line : (p k : ℕ) (w : World) (m : MonitorState) → IsBeside w m → SameLine (steps p (suc k) m) (lock_line_on (lock_behaviour n limit) w (lines.Step p (suc k)))
@@ -316,31 +319,32 @@ module _ (a : Algorithm) (b : IsBakery a) (n limit : ℕ) (most : n ≤ 64) (hig
           subst (SameLine (steps p (suc k) here)) (sym lock) (record { reports = both.reports; refused = ap (option_map number_of_run) both.refused; beside = both.beside })
 
   start_line : (p : ℕ) (w : World) (m : MonitorState) (o : Option AlgorithmCall) → IsSome o → IsBeside w m
-      → SameLine (run_of_start m (start_by m p o)) (lock_unless (if_there n p (call_refusal (w.places p) o)) w [] (lock_started n limit w p o))
+      → SameLine (part_run m (part_of_start (start_by m p o))) (lock_unless (if_there n p (call_refusal (w.places p) o)) w [] (lock_started n limit w p o))
   start_line p w m None some h = absurd (cc)
   start_line p w m (Some c) some h =
       let out : World = after n limit w (Starts p (core_call c)) in
       let refusal : Option Refusal = start_refusal (w.places p) (core_call c) in
       let here : MonitorState = text_state h.rows h.processes h.now in
-      subst (λ m. SameLine (run_of_start m (start_on m p c)) (lock_unless (if_there n p refusal) w [] out)) (sym h.is)
+      subst (λ m. SameLine (part_run m (part_of_start (start_on m p c))) (lock_unless (if_there n p refusal) w [] out)) (sym h.is)
       (start_by_both w here h.lock out (if_there n p refusal) (start_on here p c) (record { lock = h.lock; rows = h.rows; processes = h.processes; now = h.now; is = refl; alike = h.alike })
-      (subst (λ o. Matches a b n limit most high h.lock o (begun_by here (start_on here p c))) (if_by (nat_lt p n) refusal w (record { said = Tells []; left = out }))
+      (subst (λ o. Matches a b n limit most high h.lock o (moved_by here (part_of_start (start_on here p c)))) (if_by (nat_lt p n) refusal w (record { said = Tells []; left = out }))
       (start_matches a b n limit most high w h.lock h.rows h.processes h.now h.alike p c)))
 
   crash_line : (p : ℕ) (w : World) (m : MonitorState) → IsBeside w m
-      → SameLine (run_of_crash m (crash_on m p)) (lock_unless (if_there n p None) w (LockDid (Outer (outers.Crash p)) ∷ []) (after n limit w (Crashes p)))
+      → SameLine (part_run m (crash_on m p)) (lock_unless (if_there n p None) w (LockDid (Outer (outers.Crash p)) ∷ []) (after n limit w (Crashes p)))
   crash_line p w m h =
       let here : MonitorState = text_state h.rows h.processes h.now in
-      subst (λ m. SameLine (run_of_crash m (crash_on m p)) (lock_unless (if_there n p None) w (LockDid (Outer (outers.Crash p)) ∷ []) (after n limit w (Crashes p)))) (sym h.is)
+      subst (λ m. SameLine (part_run m (crash_on m p)) (lock_unless (if_there n p None) w (LockDid (Outer (outers.Crash p)) ∷ []) (after n limit w (Crashes p)))) (sym h.is)
       (crash_by_both w here h.lock p (nat_lt p n) (crash_on here p) (record { lock = h.lock; rows = h.rows; processes = h.processes; now = h.now; is = refl; alike = h.alike })
       (crash_matches a b n limit most high w h.lock h.rows h.processes h.now h.alike p))
 
   line_same : (w : World) (m : MonitorState) (line : Line) → IsOfLock line → IsBeside w m → SameLine (line_on m line) (lock_line_on (lock_behaviour n limit) w line)
   unfolding lock_line_on
-  line_same w m (lines.Start p call) of h = start_line p w m (call_of call) of h
+  line_same w m (lines.Start p call) of h =
+      subst (λ run. SameLine run (lock_line_on (lock_behaviour n limit) w (lines.Start p call))) (sym (line_of_start m p call)) (start_line p w m (call_of call) of h)
   line_same w m (lines.Step p zero) of h = absurd (omega (arith, of))
   line_same w m (lines.Step p (suc k)) of h = step_line p k w m h
-  line_same w m (lines.Crash p) of h = crash_line p w m h
+  line_same w m (lines.Crash p) of h = subst (λ run. SameLine run (lock_line_on (lock_behaviour n limit) w (lines.Crash p))) (sym (line_of_crash m p)) (crash_line p w m h)
 
   -- ---- runs
 
@@ -348,7 +352,7 @@ module _ (a : Algorithm) (b : IsBakery a) (n limit : ℕ) (most : n ≤ 64) (hig
   SameLines text lock = SamePart (refusal_with_number number_of_run) (refusal_with_number number_of) text lock
 
   followed_same : (k : ℕ) (text : AlgorithmRun RunRefusal) (lock : LockRun World Refusal) (o : Option RunRefusal) (lock_o : Option Refusal) (rest : AlgorithmRun (ℕ × RunRefusal)) (lock_rest : LockRun World (ℕ × Refusal))
-      → SameReports a text.reports lock.reports → IsBeside lock.left text.left → option_map number_of_run o ≡ option_map number_of lock_o → SameLines rest lock_rest → SameLines (run_after_line k text o rest) (lock_followed k lock lock_o lock_rest)
+      → SameReports a text.reports lock.reports → IsBeside lock.left text.left → option_map number_of_run o ≡ option_map number_of lock_o → SameLines rest lock_rest → SameLines (fragment_after_line k text o rest) (fragment_after_line k lock lock_o lock_rest)
   followed_same k text lock None None rest lock_rest reports beside same more = record { reports = reported_both a text.reports rest.reports lock.reports lock_rest.reports reports more.reports; refused = more.refused; beside = more.beside }
   followed_same k text lock (Some e) (Some refusal) rest lock_rest reports beside same more =
       let number : number_of_run e ≡ number_of refusal = cc in

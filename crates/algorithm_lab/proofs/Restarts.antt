@@ -1,11 +1,10 @@
 -- Monitors that begin anew.
-use Rattle.std.proofs.Common.{◌≡◌, ℕ, zero, suc, ◌+◌, Bool, true, false, if◌then◌else◌, List, [], ◌∷◌, length, replicate, Option, Some, None, Result, Ok, Err, refl, ◌∙◌}
+use Rattle.std.proofs.Common.{◌≡◌, ℕ, List, length, replicate, Option, Some, None, Result, Ok, Err, refl, ◌∙◌}
 use Rattle.std.specs.Prelude.{slice_set}
 use Rattle.std.proofs.lemmas.List.{length-replicate, length-set}
 use Rattle.rmecore.specs.declared.phase.Phase.{Phase}
 use Rattle.rmecore.specs.declared.phase.Phase.TheVariants.{Out}
 use Rattle.schedule.specs.declared.lines.line.Line.{Line}
-use Rattle.schedule.specs.declared.lines.line.Line.TheVariants.{Start, Step, Crash}
 use Rattle.algorithms.specs.Arrivals.{◌>>=◌}
 use Rattle.algorithms.proofs.Worlds.{stored_many}
 use Rattle.algorithms.specs.Steps.{advance_of}
@@ -17,8 +16,10 @@ use Rattle.algorithms.specs.declared.process.AlgorithmPlace.TheVariants.{Dead}
 use Rattle.algorithms.specs.declared.process.AlgorithmProcess.{AlgorithmProcess}
 use Rattle.algorithms.specs.declared.refusal.AlgorithmRefusal.{AlgorithmRefusal}
 use Rattle.algorithm_lab.specs.Heard.{deeds_heard, heard_of_crash}
-use Rattle.algorithm_lab.specs.Monitors.{MonitorState, EventPart, first_monitor, monitor_at_beginning, then_in, part_of, phase_of, start_refusal, unless, start_on, step_on, crash_on}
-use Rattle.algorithm_lab.specs.Runs.{after_step, steps, run_of_start, run_of_crash, call_of, start_by, line_on, run_after_line, run_on, run_after_reports}
+use Rattle.algorithm_lab.specs.Monitors.{MonitorState, EventPart, first_monitor, left_by, monitor_at_beginning, then_in, part_of, part_of_start, phase_of, start_refusal, unless, start_on, step_on, crash_on}
+use Rattle.algorithm_lab.specs.Runs.{call_of, event_reports, line_on, monitor_transitions, run_on, start_by}
+use Rattle.algorithm_lab.specs.declared.run_report.TextReport.{TextReport}
+use Rattle.algorithm_lab.proofs.Runs.{so_of_line, so_of_run}
 use Rattle.algorithm_lab.specs.declared.run_refusal.RunRefusal.{RunRefusal}
 
 abbrev zeros : List ℕ
@@ -57,26 +58,21 @@ restarted_twice m =
 -- ---- starts, steps and crashes
 
 -- what it leaves begins anew as this monitor does
-abbrev pub LeavesIn : MonitorState → Result MonitorState RunRefusal → Type 0
-LeavesIn m (Ok left) = monitor_at_beginning left ≡ monitor_at_beginning m
-LeavesIn m (Err e) = Unit {0}
+abbrev LeavesPart : MonitorState → Result EventPart RunRefusal → Type 0
+LeavesPart m r = monitor_at_beginning (left_by m r) ≡ monitor_at_beginning m
 
-abbrev pub LeavesPart : MonitorState → Result EventPart RunRefusal → Type 0
-LeavesPart m (Ok part) = monitor_at_beginning part.left ≡ monitor_at_beginning m
-LeavesPart m (Err e) = Unit {0}
-
-unless_leaves : (m : MonitorState) (o : Option RunRefusal) (r : Result MonitorState RunRefusal) → LeavesIn m r → LeavesIn m (unless o r)
+unless_leaves : (m : MonitorState) (o : Option RunRefusal) (r : Result MonitorState RunRefusal) → LeavesPart m (part_of_start r) → LeavesPart m (part_of_start (unless o r))
 unless_leaves m None r leaves = leaves
-unless_leaves m (Some e) r leaves = tt
+unless_leaves m (Some e) r leaves = refl
 
-start_leaves : (m : MonitorState) (p : ℕ) (call : AlgorithmCall) → LeavesIn m (start_on m p call)
+start_leaves : (m : MonitorState) (p : ℕ) (call : AlgorithmCall) → LeavesPart m (part_of_start (start_on m p call))
 start_leaves m p call = unless_leaves m (start_refusal m p call) _ (by (process_started m.world p call))
   where
-    by : (r : Result AlgorithmProcess AlgorithmRefusal) → LeavesIn m (then_in (λ w. record { world = w; phases = m.phases }) (r >>= λ process. Ok (with_process m.world p process)))
+    by : (r : Result AlgorithmProcess AlgorithmRefusal) → LeavesPart m (part_of_start (then_in (λ w. record { world = w; phases = m.phases }) (r >>= λ process. Ok (with_process m.world p process))))
     by (Ok process) = restarts_with m m.world.words (slice_set m.world.processes p process) m.phases refl (length-set m.world.processes p process) refl
-    by (Err e) = tt
+    by (Err e) = refl
 
-pub step_leaves : (m : MonitorState) (p : ℕ) → LeavesPart m (step_on m p)
+step_leaves : (m : MonitorState) (p : ℕ) → LeavesPart m (step_on m p)
 step_leaves m p = by (step_of_process m.world p)
   where
     by : (r : Result Taken AlgorithmRefusal)
@@ -86,9 +82,9 @@ step_leaves m p = by (step_of_process m.world p)
         restarts_with m (words_after_access m.world.words t.access.address t.access.stores) (slice_set m.world.processes p t.moved.process) after
         (stored_many m.world.words t.access.address t.access.stores) (length-set m.world.processes p t.moved.process)
         (length-set m.phases p (deeds_heard m.world.algorithm.promises p (phase_of m p) (advance_of t).noted).phase)
-    by (Err e) = tt
+    by (Err e) = refl
 
-pub crash_leaves : (m : MonitorState) (p : ℕ) → LeavesPart m (crash_on m p)
+crash_leaves : (m : MonitorState) (p : ℕ) → LeavesPart m (crash_on m p)
 crash_leaves m p = by (process_of m.world p)
   where
     by : (r : Result AlgorithmProcess AlgorithmRefusal)
@@ -96,46 +92,24 @@ crash_leaves m p = by (process_of m.world p)
     by (Ok process) =
         restarts_with m m.world.words (slice_set m.world.processes p (record { place = Dead; store = no_names })) (slice_set m.phases p (heard_of_crash m.world.algorithm.promises p (phase_of m p)).phase)
         refl (length-set m.world.processes p (record { place = Dead; store = no_names })) (length-set m.phases p (heard_of_crash m.world.algorithm.promises p (phase_of m p)).phase)
-    by (Err e) = tt
+    by (Err e) = refl
 
 -- ---- lines
 
-started_leaves : (m : MonitorState) (r : Result MonitorState RunRefusal) → LeavesIn m r → monitor_at_beginning (run_of_start m r).left ≡ monitor_at_beginning m
-started_leaves m (Ok left) leaves = leaves
-started_leaves m (Err e) leaves = refl
-
-crashed_leaves : (m : MonitorState) (r : Result EventPart RunRefusal) → LeavesPart m r → monitor_at_beginning (run_of_crash m r).left ≡ monitor_at_beginning m
-crashed_leaves m (Ok part) leaves = leaves
-crashed_leaves m (Err e) leaves = refl
-
-start_by_leaves : (m : MonitorState) (p : ℕ) (o : Option AlgorithmCall) → LeavesIn m (start_by m p o)
+start_by_leaves : (m : MonitorState) (p : ℕ) (o : Option AlgorithmCall) → LeavesPart m (part_of_start (start_by m p o))
 start_by_leaves m p (Some call) = start_leaves m p call
-start_by_leaves m p None = tt
+start_by_leaves m p None = refl
 
-steps_leave : (p n : ℕ) (m : MonitorState) → monitor_at_beginning (steps p n m).left ≡ monitor_at_beginning m
-steps_leave p zero m = refl
-steps_leave p (suc n) m = by (step_on m p) (step_leaves m p) (steps_leave p n)
-  where
-    ended : (part : EventPart) (b : Bool) → monitor_at_beginning part.left ≡ monitor_at_beginning m → monitor_at_beginning (steps p n part.left).left ≡ monitor_at_beginning part.left
-        → monitor_at_beginning (if b then record { reports = part.reports; left = part.left; refused = None } else run_after_reports part.reports (steps p n part.left)).left ≡ monitor_at_beginning m
-    ended part true leaves rest = leaves
-    ended part false leaves rest = rest ∙ leaves
-
-    by : (r : Result EventPart RunRefusal) → LeavesPart m r → ((other : MonitorState) → monitor_at_beginning (steps p n other).left ≡ monitor_at_beginning other) → monitor_at_beginning (after_step r m (steps p n)).left ≡ monitor_at_beginning m
-    by (Ok part) leaves rest = ended part part.ended leaves (rest part.left)
-    by (Err e) leaves rest = refl
+abbrev LeavesSame : MonitorState → List TextReport → MonitorState → Type 0
+LeavesSame m reports left = monitor_at_beginning left ≡ monitor_at_beginning m
 
 pub line_leaves : (m : MonitorState) (line : Line) → monitor_at_beginning (line_on m line).left ≡ monitor_at_beginning m
-line_leaves m (Start p call) = started_leaves m (start_by m p (call_of call)) (start_by_leaves m p (call_of call))
-line_leaves m (Step p n) = steps_leave p n m
-line_leaves m (Crash p) = crashed_leaves m (crash_on m p) (crash_leaves m p)
+line_leaves =
+    so_of_line monitor_transitions event_reports LeavesSame (λ m. refl) (λ m left last reports more first later. later ∙ first) (λ m p call. start_by_leaves m p (call_of call))
+    (λ m p taken. step_leaves m p) (λ m p taken. crash_leaves m p)
 
 -- what a run leaves begins anew as the monitor before it
 pub run_leaves : (k : ℕ) (m : MonitorState) (lines : List Line) → monitor_at_beginning (run_on k m lines).left ≡ monitor_at_beginning m
-run_leaves k m [] = refl
-run_leaves k m (line ∷ lines) = by (line_on m line).refused (run_leaves (k + 1) (line_on m line).left lines)
-  where
-    by : (o : Option RunRefusal) → monitor_at_beginning (run_on (k + 1) (line_on m line).left lines).left ≡ monitor_at_beginning (line_on m line).left
-        → monitor_at_beginning (run_after_line k (line_on m line) o (run_on (k + 1) (line_on m line).left lines)).left ≡ monitor_at_beginning m
-    by None rest = rest ∙ line_leaves m line
-    by (Some e) rest = line_leaves m line
+run_leaves =
+    so_of_run monitor_transitions event_reports LeavesSame (λ m. refl) (λ m left last reports more first later. later ∙ first) (λ m p call. start_by_leaves m p (call_of call))
+    (λ m p taken. step_leaves m p) (λ m p taken. crash_leaves m p)

@@ -3,7 +3,6 @@ use Rattle.std.specs.Prelude.{◌≡◌, ℕ, Bool, true, false, if◌then◌els
 use Rattle.rmecore.specs.declared.phase.Phase.{Phase}
 use Rattle.rmecore.specs.declared.phase.Phase.TheVariants.{Out, Inside}
 use Rattle.algorithms.specs.Worlds.{AlgorithmWorldState, first_world, process_of, entry_of, start, advance, crash, world_at_beginning as world_restarted}
-use Rattle.algorithms.specs.declared.access.Advanced.{Advanced}
 use Rattle.algorithms.specs.declared.algorithm.Algorithm.{Algorithm}
 use Rattle.algorithms.specs.declared.algorithm.AlgorithmCall.{AlgorithmCall}
 use Rattle.algorithms.specs.declared.algorithm.AlgorithmCall.TheVariants.{Lock, Unlock, Recover}
@@ -99,13 +98,29 @@ abbrev pub step_on : MonitorState → ℕ → Result EventPart RunRefusal
 step_on m p =
     then_in (λ s. part_of m p s.1 (deeds_heard m.world.algorithm.promises p (phase_of m p) s.0.noted) s.0.answer) (advance m.world p)
 
--- what a step of p says
-abbrev pub advanced_on : MonitorState → ℕ → Result Advanced RunRefusal
-advanced_on m p = then_in (λ s. s.0) (advance m.world p)
-
 -- a crash
 abbrev pub crash_on : MonitorState → ℕ → Result EventPart RunRefusal
 crash_on m p = then_in (λ w. part_of m p w (heard_of_crash m.world.algorithm.promises p (phase_of m p)) None) (crash m.world p)
+
+-- ---- what comes of a start, a step or a crash
+
+-- a start reports nothing
+abbrev pub part_of_start : Result MonitorState RunRefusal → Result EventPart RunRefusal
+part_of_start (Ok left) = Ok (record { reports = []; ended = false; left = left })
+part_of_start (Err e) = Err e
+
+abbrev pub reports_by : Result EventPart RunRefusal → List TextReport
+reports_by (Ok part) = part.reports
+reports_by (Err e) = []
+
+-- one that is refused changes nothing
+abbrev pub left_by : MonitorState → Result EventPart RunRefusal → MonitorState
+left_by m (Ok part) = part.left
+left_by m (Err e) = m
+
+abbrev pub refusal_by : Result EventPart RunRefusal → Option RunRefusal
+refusal_by (Ok part) = None
+refusal_by (Err e) = Some e
 
 -- ---- what a call that appends its report does
 

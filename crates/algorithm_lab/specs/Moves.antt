@@ -17,7 +17,7 @@ use Rattle.rmecore.specs.declared.refusal.Refusal.TheVariants.{NoSuchProcess, No
 use Rattle.algorithms.specs.Steps.{word_at}
 use Rattle.algorithms.specs.declared.algorithm.AlgorithmCall.{AlgorithmCall}
 use Rattle.algorithms.specs.declared.algorithm.AlgorithmCall.TheVariants as calls
-use Rattle.algorithm_lab.specs.Monitors.{MonitorState, EventPart, answer_reports, start_on, step_on, crash_on}
+use Rattle.algorithm_lab.specs.Monitors.{MonitorState, EventPart, answer_reports, part_of_start, start_on, step_on, crash_on}
 use Rattle.algorithm_lab.specs.Refusals.{number_of as number_of_run}
 use Rattle.algorithm_lab.specs.declared.run_refusal.RunRefusal.{RunRefusal}
 use Rattle.algorithm_lab.specs.declared.run_report.TextReport.{TextReport}
@@ -106,17 +106,13 @@ lock_move n limit w (Crash p) = if_there n w p (record { said = Tells (Did (oute
 
 -- ---- the text
 
-abbrev pub begun_by : MonitorState → Result MonitorState RunRefusal → MoveResult MonitorState
-begun_by m (Ok left) = record { said = Tells []; left = left }
-begun_by m (Err e) = record { said = Refuses (number_of_run e); left = m }
-
 abbrev pub moved_by : MonitorState → Result EventPart RunRefusal → MoveResult MonitorState
 moved_by m (Ok part) = record { said = Tells part.reports; left = part.left }
 moved_by m (Err e) = record { said = Refuses (number_of_run e); left = m }
 
 -- a move of the algorithm in the laboratory
 abbrev pub text_move : MonitorState → ScheduleMove → MoveResult MonitorState
-text_move m (Start p call) = begun_by m (start_on m p call)
+text_move m (Start p call) = moved_by m (part_of_start (start_on m p call))
 text_move m (Step p) = moved_by m (step_on m p)
 text_move m (Crash p) = moved_by m (crash_on m p)
 

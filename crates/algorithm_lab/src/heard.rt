@@ -1,8 +1,12 @@
 //! What a judge hears of the deeds that an algorithm's lines note.
 
-ghost use Rattle.std.specs.Prelude.{◌≡◌, ◌++◌, ◌∷◌, [], OnOk, IfOk};
+ghost use Rattle.std.specs.Prelude.{◌≡◌, ◌++◌, ◌∷◌, [], OnOk};
+ghost use Rattle.schedule.specs.Transitions.{Took, Fell};
 ghost use Rattle.algorithm_lab.specs.Heard.{doorway_reports, doorway_end_reports, entered_out_of_order, entry_reports, heard_of, phase_after, given_up, ended_by_crash, phase_crashed, heard_if, phase_if, deeds_heard, heard_of_crash};
+ghost use Rattle.algorithm_lab.specs.Monitors.{answer_reports};
+ghost use Rattle.algorithm_lab.specs.Runs.{event_reports};
 
+use crate::monitor_event::{MonitorCrash, MonitorStep};
 use crate::run_report::TextReport;
 use algorithms::{AlgorithmDeed, NotedDeeds, Promises};
 use rmecore::{Outer, Phase};
@@ -101,43 +105,80 @@ fn phase_after(deed: AlgorithmDeed, phase: Phase) -> Phase
     }
 }
 
-/// Adds what is heard of a deed, if there is one, and answers the phase after it.
-fn hear_one(
+/// The phase of a process after a deed, if there is one.
+fn phase_if(deed: Option<AlgorithmDeed>, phase: Phase) -> Phase
+    ensures { result ≡ phase_if deed phase }
+{
+    match deed {
+        None => phase,
+        Some(deed) => phase_after(deed, phase),
+    }
+}
+
+/// The phase of a process after the deeds that a step notes.
+pub fn phase_after_step(phase: Phase, noted: NotedDeeds) -> Phase
+    ensures { result ≡ phase_if noted.third (phase_if noted.second (phase_if noted.first phase)) }
+{
+    let second = phase_if(noted.first, phase);
+    phase_if(noted.third, phase_if(noted.second, second))
+}
+
+/// Adds what is heard of a deed, if there is one.
+fn put_if(
     reports: &mut Vec<TextReport>,
     promises: Promises,
     p: u64,
     phase: Phase,
     deed: Option<AlgorithmDeed>,
-) -> Result<Phase, AllocError>
-    ensures reports { OnOk result (reports.new.items ≡ reports.old.items ++ heard_if promises p phase deed) }
-    ensures phase { IfOk result (λ after. after ≡ phase_if deed phase) }
+) -> Result<(), AllocError>
+    ensures { OnOk result (reports.new.items ≡ reports.old.items ++ heard_if promises p phase deed) }
 {
     match deed {
-        None => Ok(phase),
-        Some(deed) => {
-            put_heard(reports, promises, p, phase, deed)?;
-            Ok(phase_after(deed, phase))
-        }
+        None => Ok(()),
+        Some(deed) => put_heard(reports, promises, p, phase, deed),
     }
 }
 
-/// Adds what is heard of a step of p, and answers the phase after it.
-pub(crate) fn hear(
+/// Adds what is heard of the deeds that a step of p notes.
+fn put_all_heard(
     reports: &mut Vec<TextReport>,
     promises: Promises,
     p: u64,
     phase: Phase,
     noted: NotedDeeds,
-) -> Result<Phase, AllocError>
-    ensures reports { OnOk result (reports.new.items ≡ reports.old.items ++ (deeds_heard promises p phase noted).reports) }
-    ensures phase { IfOk result (λ after. after ≡ (deeds_heard promises p phase noted).phase) }
+) -> Result<(), AllocError>
+    ensures { OnOk result (reports.new.items ≡ reports.old.items ++ (deeds_heard promises p phase noted).reports) }
 {
     if let (None, None, None) = (noted.first, noted.second, noted.third) {
-        return Ok(phase);
+        return Ok(());
     }
-    let second = hear_one(reports, promises, p, phase, noted.first)?;
-    let third = hear_one(reports, promises, p, second, noted.second)?;
-    hear_one(reports, promises, p, third, noted.third)
+    let second = phase_if(noted.first, phase);
+    let third = phase_if(noted.second, second);
+    put_if(reports, promises, p, phase, noted.first)?;
+    put_if(reports, promises, p, second, noted.second)?;
+    put_if(reports, promises, p, third, noted.third)
+}
+
+/// Adds the answer of p, if there is one.
+fn put_answer(
+    reports: &mut Vec<TextReport>,
+    p: u64,
+    answer: Option<usize>,
+) -> Result<(), AllocError>
+    ensures { OnOk result (reports.new.items ≡ reports.old.items ++ answer_reports p answer) }
+{
+    if let Some(answer) = answer {
+        reports.push(TextReport::Answered(p, answer))?;
+    }
+    Ok(())
+}
+
+/// Adds what a step of p reports.
+pub fn put_step(reports: &mut Vec<TextReport>, p: u64, step: &MonitorStep) -> Result<(), AllocError>
+    ensures { OnOk result (reports.new.items ≡ reports.old.items ++ event_reports (Took p step.now)) }
+{
+    put_all_heard(reports, step.promises, p, step.phase, step.advanced.noted)?;
+    put_answer(reports, p, step.advanced.answer)
 }
 
 /// Adds what a crash of p in this phase ends.
@@ -167,8 +208,8 @@ fn end_by_crash(
     }
 }
 
-/// The phase after a crash.
-fn phase_crashed(promises: Promises, phase: Phase) -> Phase
+/// The phase of a process after a crash.
+pub(crate) fn phase_crashed(promises: Promises, phase: Phase) -> Phase
     ensures { result ≡ phase_crashed promises phase }
 {
     match phase {
@@ -179,17 +220,14 @@ fn phase_crashed(promises: Promises, phase: Phase) -> Phase
     }
 }
 
-/// Adds what is heard of a crash of p, and answers the phase after it.
-pub(crate) fn hear_crash(
+/// Adds what a crash of p reports.
+pub fn put_crash(
     reports: &mut Vec<TextReport>,
-    promises: Promises,
     p: u64,
-    phase: Phase,
-) -> Result<Phase, AllocError>
-    ensures reports { OnOk result (reports.new.items ≡ reports.old.items ++ (heard_of_crash promises p phase).reports) }
-    ensures phase { IfOk result (λ after. after ≡ (heard_of_crash promises p phase).phase) }
+    crash: &MonitorCrash,
+) -> Result<(), AllocError>
+    ensures { OnOk result (reports.new.items ≡ reports.old.items ++ event_reports (Fell p crash.now)) }
 {
-    end_by_crash(reports, promises, p, phase)?;
-    put(reports, Outer::Crash(p))?;
-    Ok(phase_crashed(promises, phase))
+    end_by_crash(reports, crash.promises, p, crash.phase)?;
+    put(reports, Outer::Crash(p))
 }

@@ -3,10 +3,11 @@
 //! Main items: `Monitor`, `replay_algorithm`, `laws`.
 #![tactic(auto)]
 
-mod heard;
+pub mod heard;
 pub mod laws;
 pub mod line_play;
 pub mod monitor;
+pub mod monitor_event;
 pub mod replay;
 pub mod replay_fault;
 pub mod report;
@@ -14,8 +15,9 @@ pub mod run_refusal;
 pub mod run_report;
 pub mod verdict;
 
-pub use line_play::{play_line, play_lines};
+pub use line_play::{hear_lines, play_lines};
 pub use monitor::{Monitor, MonitorCheckpoint};
+pub use monitor_event::{MonitorCrash, MonitorStep};
 pub use replay::replay_algorithm;
 pub use replay_fault::AlgorithmReplayFault;
 pub use run_refusal::RunRefusal;

@@ -1,85 +1,57 @@
 //! Plays the lines of a schedule on a world of an algorithm.
 
-ghost use Rattle.std.specs.Prelude.{◌≡◌, None, Some, Ok, Err, IfOk, IfErr, OnOk, OnErr};
-ghost use Rattle.algorithm_lab.specs.Monitors.{IsRefusal};
-ghost use Rattle.algorithm_lab.specs.Runs.{call_of, steps, start_by, line_on, run_on, AddsRun};
+ghost use Rattle.std.specs.Prelude.{◌≡◌, IfOk, OnOk};
+ghost use Rattle.schedule.specs.Fragments.{itself, run_on as run_by};
+ghost use Rattle.schedule.specs.Plays.{PlaysAll};
+ghost use Rattle.algorithm_lab.specs.Runs.{monitor_transitions, run_on, AddsRun};
 
+use crate::heard::{put_crash, put_step};
 use crate::monitor::Monitor;
+use crate::monitor_event::{MonitorCrash, MonitorStep};
 use crate::run_refusal::RunRefusal;
 use crate::run_report::TextReport;
-use algorithms::{AlgorithmCall, AlgorithmRefusal};
-use rmeworld::Call as WorldCall;
-use schedule::Line;
+use schedule::{Line, Listener, OutOfMemory, PlayStop, play_lines as play_lines_of};
 use std::alloc::AllocError;
 
-/// The call of an algorithm that a line of a schedule starts, if it can have it.
-fn call_of(call: WorldCall) -> Option<AlgorithmCall>
-    ensures { result ≡ call_of call }
-{
-    match call {
-        WorldCall::Lock => Some(AlgorithmCall::Lock),
-        WorldCall::Unlock => Some(AlgorithmCall::Unlock),
-        WorldCall::Recover => Some(AlgorithmCall::Recover),
-        WorldCall::Withdraw => Some(AlgorithmCall::Withdraw),
-        WorldCall::Consistent
-        | WorldCall::Append { .. }
-        | WorldCall::Close
-        | WorldCall::Get(_)
-        | WorldCall::Put(_, _) => None,
+/// A list to which each event adds what it reports.
+impl Listener<Monitor> for Vec<TextReport> {
+    ghost use Rattle.algorithm_lab.specs.Runs.{report_effects};
+
+    type Stop = OutOfMemory;
+
+    ghost effects = { report_effects };
+
+    fn hear_step(&mut self, p: u64, step: &MonitorStep) -> Result<(), OutOfMemory> {
+        put_step(self, p, step)?;
+        Ok(())
+    }
+
+    fn hear_crash(&mut self, p: u64, crash: &MonitorCrash) -> Result<(), OutOfMemory> {
+        put_crash(self, p, crash)?;
+        Ok(())
+    }
+
+    fn skips_silent_steps(&self) -> bool {
+        false
     }
 }
 
-/// Takes at most n steps of p, until its call ends or a step is refused.
-fn take_steps(
+/// Plays the lines of a schedule, of which the first has number 2: the listener hears their events. Answers the line that is
+/// refused, and why, if one is. `Err`: out of memory, and the monitor is of no more use.
+pub fn hear_lines<L: Listener<Monitor>>(
     monitor: &mut Monitor,
-    p: u64,
-    n: u64,
-    reports: &mut Vec<TextReport>,
-) -> Result<(), RunRefusal>
-    ensures ok { OnOk result (AddsRun (steps p n monitor.old) reports.old.items reports.new.items monitor.new) }
-    ensures accepted { OnOk result ((steps p n monitor.old).refused ≡ None) }
-    ensures err { IfErr result (λ e. IsRefusal e → AddsRun (steps p n monitor.old) reports.old.items reports.new.items monitor.new) }
-    ensures refused { IfErr result (λ e. IsRefusal e → (steps p n monitor.old).refused ≡ Some e) }
+    listener: &mut L,
+    lines: &[Line],
+) -> Result<Option<(u64, RunRefusal)>, AllocError>
+    ensures { IfOk result (λ refused. PlaysAll L.effects listener.old listener.new
+        (run_by monitor_transitions itself 2 monitor.old lines.now) monitor.new refused) }
 {
-    for step in 0..n {
-        if monitor.step(p, reports)? {
-            return Ok(());
-        }
-    }
-    Ok(())
-}
-
-/// Starts a call of p, if an algorithm can have it.
-fn start(monitor: &mut Monitor, p: u64, call: WorldCall) -> Result<(), RunRefusal>
-    ensures ok { OnOk result (start_by monitor.old p (call_of call) ≡ Ok monitor.new) }
-    ensures refused { IfErr result (λ e. start_by monitor.old p (call_of call) ≡ Err e) }
-    ensures err { OnErr result (monitor.new ≡ monitor.old) }
-{
-    match call_of(call) {
-        Some(call) => monitor.start(p, call),
-        None => {
-            monitor.world().process(p)?;
-            Err(RunRefusal::Refused(AlgorithmRefusal::NoSuchCall))
-        }
-    }
-}
-
-/// Plays one line, and adds what it reports. After `OutOfMemory` the monitor is of no more use.
-pub fn play_line(
-    monitor: &mut Monitor,
-    line: &Line,
-    reports: &mut Vec<TextReport>,
-) -> Result<(), RunRefusal>
-    ensures ok { OnOk result (AddsRun (line_on monitor.old line.now) reports.old.items reports.new.items monitor.new) }
-    ensures accepted { OnOk result ((line_on monitor.old line.now).refused ≡ None) }
-    ensures err { IfErr result (λ e. IsRefusal e
-        → AddsRun (line_on monitor.old line.now) reports.old.items reports.new.items monitor.new) }
-    ensures refused { IfErr result (λ e. IsRefusal e → (line_on monitor.old line.now).refused ≡ Some e) }
-{
-    match *line {
-        Line::Start(p, call) => start(monitor, p, call),
-        Line::Step(p, count) => take_steps(monitor, p, count.get(), reports),
-        Line::Crash(p) => monitor.crash(p, reports),
+    match play_lines_of(monitor, listener, lines) {
+        Ok(()) => Ok(None),
+        Err((line, stop)) => match stop {
+            PlayStop::Refused(refusal) => Ok(Some((line, refusal))),
+            PlayStop::OutOfMemory | PlayStop::Stopped(_) => Err(AllocError),
+        },
     }
 }
 
@@ -93,14 +65,5 @@ pub fn play_lines(
     ensures run { OnOk result (AddsRun (run_on 2 monitor.old lines.now) reports.old.items reports.new.items monitor.new) }
     ensures refused { IfOk result (λ refused. refused ≡ (run_on 2 monitor.old lines.now).refused) }
 {
-    let mut number: u64 = 2;
-    for line in lines {
-        match play_line(monitor, line, reports) {
-            Ok(()) => {}
-            Err(RunRefusal::OutOfMemory) => return Err(AllocError),
-            Err(refusal) => return Ok(Some((number, refusal))),
-        }
-        number += 1;
-    }
-    Ok(None)
+    hear_lines(monitor, reports, lines)
 }

@@ -1,7 +1,7 @@
 -- The rows of an algorithm's run report just what the run reports.
-use Rattle.std.proofs.Common.{◌≡◌, ℕ, zero, suc, ◌+◌, ◌-◌, Bool, true, false, if◌then◌else◌, List, [], ◌∷◌, ◌++◌, map, length, slice_get, slice_set, Option, Some, None, is_some, Result, Ok, Err, ok_or, refl, sym, ap, ◌∙◌, append_assoc}
+use Rattle.std.proofs.Common.{◌≡◌, ℕ, zero, suc, ◌+◌, ◌-◌, Bool, true, false, if◌then◌else◌, List, [], ◌∷◌, ◌++◌, map, length, slice_get, slice_set, Option, Some, None, Result, Ok, Err, ok_or, refl, sym, ap, ◌∙◌, append_assoc}
 use Rattle.std.specs.List.{flat_map}
-use Rattle.diagram.proofs.Common.{append-nil, flat_map-append, Line, Start, Step, Crash}
+use Rattle.diagram.proofs.Common.{append-nil, flat_map-append, flat_map-cons, Line}
 use Rattle.algorithms.specs.Accesses.{access_of, passes, names_after_read}
 use Rattle.algorithms.specs.Arrivals.{Arrival, arrives, ◌>>=◌}
 use Rattle.algorithms.specs.LocalRuns.{nothing_noted}
@@ -17,17 +17,23 @@ use Rattle.algorithms.specs.declared.line.AccessLine.{AccessLine}
 use Rattle.algorithms.specs.declared.process.AlgorithmProcess.{AlgorithmProcess}
 use Rattle.algorithms.specs.declared.refusal.AlgorithmRefusal.{AlgorithmRefusal}
 use Rattle.algorithms.specs.declared.refusal.AlgorithmRefusal.TheVariants.{Malformed, OutOfRange}
-use Rattle.algorithm_lab.specs.Heard.{deeds_heard}
-use Rattle.algorithm_lab.specs.Monitors.{MonitorState, EventPart, crash_on, part_of, phase_of, then_in}
-use Rattle.algorithm_lab.specs.Runs.{AlgorithmRun, call_of, run_of_crash, run_after_line, line_on, run_on, start_by, run_of_start, steps}
-use Rattle.algorithm_lab.specs.Runs.{after_step as run_after}
+use Rattle.schedule.proofs.Fragments.{run_reported as reported_by_events}
+use Rattle.schedule.specs.Fragments.{itself, run_on as run_by}
+use Rattle.schedule.specs.Transitions.{RunEvent}
+use Rattle.schedule.specs.Transitions as events
+use Rattle.algorithm_lab.specs.Monitors.{MonitorState}
+use Rattle.algorithm_lab.specs.Runs.{AlgorithmRun, event_reports, monitor_transitions, run_on, said_by}
+use Rattle.algorithm_lab.specs.declared.monitor_event.MonitorCrash.{MonitorCrash}
+use Rattle.algorithm_lab.specs.declared.monitor_event.MonitorStep.{MonitorStep}
 use Rattle.algorithm_lab.specs.declared.run_refusal.RunRefusal.{RunRefusal}
 use Rattle.algorithm_lab.specs.declared.run_report.TextReport.{TextReport}
+use Rattle.diagram.proofs.AlgorithmRowEffects.{run_events}
+use Rattle.diagram.proofs.RunEvents.{Each, each_of_run, numbers}
 use Rattle.diagram.specs.declared.algorithm.row.AlgorithmAct.{AlgorithmAct}
 use Rattle.diagram.specs.declared.algorithm.row.AlgorithmAct.TheVariants.{Took, Blocked}
 use Rattle.diagram.specs.declared.algorithm.row.AlgorithmRow.{AlgorithmRow}
 use Rattle.diagram.specs.declared.phase.LifelinePhase.{LifelinePhase}
-use Rattle.diagram.specs.AlgorithmEvents.{AlgorithmEvent, act_of, crash_by, events_after, events_of, events_on, lifeline_phase, step_by, steps_of}
+use Rattle.diagram.specs.AlgorithmEvents.{AlgorithmEvent, drawn_event, drawn_events, events_on}
 use Rattle.diagram.specs.AlgorithmRows.{row_counted_again, counted_by, further_row, last_of, reported_by, reported_in, rows_of, with_counted, with_event, with_events}
 
 -- ---- a blocked reading reports nothing
@@ -115,22 +121,28 @@ quiet_of (Ok t) after s quiet e blocked =
     (sym (ap (λ (x : Advanced). x.noted) is) ∙ says.0, sym (ap (λ (x : Advanced). x.answer) is) ∙ says.1)
 quiet_of (Err x) after s quiet e blocked = absurd cc
 
--- the report of a step that says this
-abbrev step_part : MonitorState → ℕ → Advanced × AlgorithmWorldState → EventPart
-step_part m p s = part_of m p s.1 (deeds_heard m.world.algorithm.promises p (phase_of m p) s.0.noted) s.0.answer
-
 -- a blocked reading reports nothing, whatever else is
 abbrev IsSilent : AlgorithmAct → List TextReport → Type 0
 IsSilent (Blocked word value times) reports = reports ≡ []
 IsSilent act reports = Unit {0}
 
-silent_if : (m : MonitorState) (p : ℕ) (s : Advanced × AlgorithmWorldState) (blocked : Bool) → (blocked ≡ true → (s.0.noted ≡ nothing_noted) × (s.0.answer ≡ None))
-    → IsSilent (if blocked then Blocked s.0.access.address s.0.value 1 else Took s.0.access s.0.value) (step_part m p s).reports
-silent_if m p s false says = tt
-silent_if m p s true says = rw ((says refl).0, (says refl).1) refl
+-- a step that is blocked says nothing
+abbrev IsQuietEvent : RunEvent MonitorStep MonitorCrash → Type 0
+IsQuietEvent (events.Took p step) = step.advanced.blocked ≡ true → (step.advanced.noted ≡ nothing_noted) × (step.advanced.answer ≡ None)
+IsQuietEvent (events.Fell p crash) = Unit {0}
 
-step_silent : (m : MonitorState) (p : ℕ) (s : Advanced × AlgorithmWorldState) → advance m.world p ≡ Ok s → IsSilent (act_of s.0) (step_part m p s).reports
-step_silent m p s e = silent_if m p s s.0.blocked (quiet_of (step_of_process m.world p) (after_step m.world p) s (taken_quiet m.world p) e)
+said_quiet : (m : MonitorState) (p : ℕ) (r : Result (Advanced × AlgorithmWorldState) AlgorithmRefusal) → advance m.world p ≡ r → IsQuietEvent (events.Took p (said_by m p r))
+said_quiet m p (Ok s) is = quiet_of (step_of_process m.world p) (after_step m.world p) s (taken_quiet m.world p) is
+said_quiet m p (Err e) is = λ blocked. absurd (let no : false ≡ true = blocked in cc)
+
+silent_if : (p : ℕ) (step : MonitorStep) (blocked : Bool) → (blocked ≡ true → (step.advanced.noted ≡ nothing_noted) × (step.advanced.answer ≡ None))
+    → IsSilent (if blocked then Blocked step.advanced.access.address step.advanced.value 1 else Took step.advanced.access step.advanced.value) (event_reports (events.Took p step))
+silent_if p step false says = tt
+silent_if p step true says = rw ((says refl).0, (says refl).1) refl
+
+event_silent : (event : RunEvent MonitorStep MonitorCrash) → IsQuietEvent event → IsSilent (drawn_event event).act (drawn_event event).reports
+event_silent (events.Took p step) quiet = silent_if p step step.advanced.blocked quiet
+event_silent (events.Fell p crash) quiet = tt
 
 -- ---- the rows of events
 
@@ -166,8 +178,8 @@ rows_report : (p : ℕ) (act : AlgorithmAct) (phase : LifelinePhase) (reports : 
 rows_report p act phase [] = refl
 rows_report p act phase (t ∷ ts) = ap (λ (xs : List TextReport). t ∷ xs) (further_report p ts)
 
-event_reports : (rows : List AlgorithmRow) (e : AlgorithmEvent) → IsSilent e.act e.reports → reported_in (with_event rows e) ≡ reported_in rows ++ e.reports
-event_reports rows e silent = by (row_counted_again e.p e.act (last_of rows)) refl
+one_event_reports : (rows : List AlgorithmRow) (e : AlgorithmEvent) → IsSilent e.act e.reports → reported_in (with_event rows e) ≡ reported_in rows ++ e.reports
+one_event_reports rows e silent = by (row_counted_again e.p e.act (last_of rows)) refl
   where
     by : (o : Option AlgorithmRow) → row_counted_again e.p e.act (last_of rows) ≡ o → reported_in (with_counted rows e o) ≡ reported_in rows ++ e.reports
     by None is = flat_map-append (λ (row : AlgorithmRow). reported_by row.reports) rows (rows_of e) ∙ ap (λ (ts : List TextReport). reported_in rows ++ ts) (rows_report e.p e.act e.phase e.reports)
@@ -175,86 +187,15 @@ event_reports rows e silent = by (row_counted_again e.p e.act (last_of rows)) re
         let says = last_silent e.p e.act (last_of rows) row e.reports silent is in
         set_reports rows (length rows - 1) says.1.0 row says.1.1 says.1.2 ∙ sym (append-nil (reported_in rows)) ∙ ap (λ (ts : List TextReport). reported_in rows ++ ts) (sym says.0)
 
--- what events report
-abbrev reports_in : List AlgorithmEvent → List TextReport
-reports_in events = flat_map (λ event. event.reports) events
-
-abbrev AreSilent : List AlgorithmEvent → Type 0
-AreSilent [] = Unit {0}
-AreSilent (e ∷ es) = IsSilent e.act e.reports × AreSilent es
-
-events_report : (rows : List AlgorithmRow) (es : List AlgorithmEvent) → AreSilent es → reported_in (with_events rows es) ≡ reported_in rows ++ reports_in es
-events_report rows [] silent = sym (append-nil (reported_in rows))
-events_report rows (e ∷ es) silent =
-    events_report (with_event rows e) es silent.1 ∙ ap (λ (ts : List TextReport). ts ++ reports_in es) (event_reports rows e silent.0) ∙ append_assoc (reported_in rows) e.reports (reports_in es)
-
--- ---- the events of a run
-
--- events that report this, and a blocked one nothing
-record Report (events : List AlgorithmEvent) (reports : List TextReport) : Type 0 where
-  silent : AreSilent events
-  reported_is : reports_in events ≡ reports
-
-both_silent : (es fs : List AlgorithmEvent) → AreSilent es → AreSilent fs → AreSilent (es ++ fs)
-both_silent [] fs first second = second
-both_silent (e ∷ es) fs first second = (first.0, both_silent es fs first.1 second)
-
-both_report : (es fs : List AlgorithmEvent) (before after : List TextReport) → Report es before → Report fs after → Report (es ++ fs) (before ++ after)
-both_report es fs before after first second =
-    record {
-      silent = both_silent es fs first.silent second.silent;
-      reported_is = flat_map-append (λ (event : AlgorithmEvent). event.reports) es fs ∙ ap (λ (ts : List TextReport). ts ++ reports_in fs) first.reported_is ∙ ap (λ (ts : List TextReport). before ++ ts) second.reported_is;
-    }
-
-one_reports : (e : AlgorithmEvent) → IsSilent e.act e.reports → Report (e ∷ []) e.reports
-one_reports e silent = record { silent = (silent, tt); reported_is = append-nil e.reports }
-
-none_report : Report [] []
-none_report = record { silent = tt; reported_is = refl }
-
--- a step, and the steps after it unless it ends its call
-then_report : (e : AlgorithmEvent) (left m : MonitorState) (ended : Bool) (events : MonitorState → List AlgorithmEvent) (rest : MonitorState → AlgorithmRun RunRefusal) → IsSilent e.act e.reports → Report (events left) (rest left).reports
-    → Report ((e ∷ []) ++ events_after (Ok (record { reports = e.reports; ended = ended; left = left })) events) (run_after (Ok (record { reports = e.reports; ended = ended; left = left })) m rest).reports
-then_report e left m true events rest silent more = one_reports e silent
-then_report e left m false events rest silent more = both_report (e ∷ []) (events left) e.reports (rest left).reports (one_reports e silent) more
-
-step_report : (p n : ℕ) (m : MonitorState) (s : Result (Advanced × AlgorithmWorldState) AlgorithmRefusal) → advance m.world p ≡ s → ((x : MonitorState) → Report (steps_of p n x) (steps p n x).reports)
-    → Report (step_by p (then_in (λ (x : Advanced × AlgorithmWorldState). x.0) s) (then_in (step_part m p) s) ++ events_after (then_in (step_part m p) s) (steps_of p n)) (run_after (then_in (step_part m p) s) m (steps p n)).reports
-step_report p n m (Err e) is rest = none_report
-step_report p n m (Ok s) is rest =
-    let part : EventPart = step_part m p s in
-    then_report (record { p = p; act = act_of s.0; phase = lifeline_phase (phase_of part.left p); reports = part.reports }) part.left m part.ended (steps_of p n) (steps p n) (step_silent m p s is) (rest part.left)
-
-steps_report : (p n : ℕ) (m : MonitorState) → Report (steps_of p n m) (steps p n m).reports
-steps_report p zero m = none_report
-steps_report p (suc n) m = step_report p n m (advance m.world p) refl (steps_report p n)
-
-started_report : (m : MonitorState) (r : Result MonitorState RunRefusal) → Report [] (run_of_start m r).reports
-started_report m (Ok left) = none_report
-started_report m (Err e) = none_report
-
-crash_report : (p : ℕ) (m : MonitorState) (r : Result EventPart RunRefusal) → Report (crash_by p r) (run_of_crash m r).reports
-crash_report p m (Ok part) = one_reports _ tt
-crash_report p m (Err e) = none_report
-
-line_report : (m : MonitorState) (line : Line) → Report (events_of m line) (line_on m line).reports
-line_report m (Start p call) = started_report m (start_by m p (call_of call))
-line_report m (Step p n) = steps_report p n m
-line_report m (Crash p) = crash_report p m (crash_on m p)
-
--- a line, and the lines after it unless it is refused
-followed_report : (k : ℕ) (events after : List AlgorithmEvent) (line : AlgorithmRun RunRefusal) (refused : Option RunRefusal) (rest : AlgorithmRun (ℕ × RunRefusal)) → Report events line.reports → Report after rest.reports
-    → Report (events ++ (if is_some refused then [] else after)) (run_after_line k line refused rest).reports
-followed_report k events after line None rest first more = both_report events after line.reports rest.reports first more
-followed_report k events after line (Some e) rest first more =
-    record { silent = both_silent events [] first.silent tt; reported_is = ap reports_in (append-nil events) ∙ first.reported_is }
-
-lines_report : (k : ℕ) (m : MonitorState) (lines : List Line) → Report (events_on m lines) (run_on k m lines).reports
-lines_report k m [] = none_report
-lines_report k m (line ∷ lines) =
-    followed_report k (events_of m line) (events_on (line_on m line).left lines) (line_on m line) (line_on m line).refused (run_on (k + 1) (line_on m line).left lines) (line_report m line) (lines_report (k + 1) (line_on m line).left lines)
+events_report : (rows : List AlgorithmRow) (es : List (RunEvent MonitorStep MonitorCrash)) → Each IsQuietEvent es → reported_in (with_events rows (flat_map drawn_events es)) ≡ reported_in rows ++ flat_map event_reports es
+events_report rows [] quiet = sym (append-nil (reported_in rows))
+events_report rows (e ∷ es) quiet =
+    ap (λ (xs : List AlgorithmEvent). reported_in (with_events rows xs)) (flat_map-cons drawn_events e es) ∙ events_report (with_event rows (drawn_event e)) es quiet.1
+    ∙ ap (λ (ts : List TextReport). ts ++ flat_map event_reports es) (one_event_reports rows (drawn_event e) (event_silent e quiet.0)) ∙ append_assoc (reported_in rows) (event_reports e) (flat_map event_reports es)
+    ∙ ap (λ (ts : List TextReport). reported_in rows ++ ts) (sym (flat_map-cons event_reports e es))
 
 pub run_reported : (k : ℕ) (m : MonitorState) (lines : List Line) → reported_in (with_events [] (events_on m lines)) ≡ (run_on k m lines).reports
 run_reported k m lines =
-    let report = lines_report k m lines in
-    events_report [] (events_on m lines) report.silent ∙ report.reported_is
+    ap (λ (es : List AlgorithmEvent). reported_in (with_events [] es)) (run_events m lines)
+    ∙ events_report [] (run_by monitor_transitions itself 2 m lines).reports (each_of_run monitor_transitions IsQuietEvent (λ s p. said_quiet s p (advance s.world p) refl) (λ s p. tt) 2 m lines)
+    ∙ sym (ap (λ (run : AlgorithmRun (ℕ × RunRefusal)). run.reports) (reported_by_events monitor_transitions event_reports 2 m lines)) ∙ numbers monitor_transitions event_reports 2 k m lines

@@ -38,5 +38,5 @@ pub use Rattle.diagram.specs.Pictures.{around, key, class_of, lifeline_tops}
 unfoldable pub use Rattle.diagram.specs.Pictures.{keys, key_name, measured, line_looks, text_looks, step_mark, lifeline}
 pub use Rattle.diagram.specs.Rows.{events_in, EndsAs, IsRunEnd, IsJudged, events_shown, silent_step, deed_of}
 pub use Rattle.diagram.specs.RowCollections.{CollectsRun}
-pub use Rattle.diagram.specs.DiagramLayouts.{LifelineStateState, layout_of, lifeline_state_shown, lifeline_state_with}
+pub use Rattle.diagram.specs.DiagramLayouts.{LifelineView, layout_of, lifeline_state_shown, lifeline_state_with}
 pub use Rattle.diagram.specs.ShownRows.{ShownRowState}

@@ -16,7 +16,7 @@ pub mod Seen
 pub mod Watching
 pub mod Undone
 pub mod LinesReported
-pub mod AlgorithmSteps
+pub mod AlgorithmRowEffects
 pub mod AlgorithmDrawn
 pub mod AlgorithmSessions
 pub mod AlgorithmReported

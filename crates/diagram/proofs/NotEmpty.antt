@@ -1,6 +1,6 @@
 -- Texts that are not empty. Out of memory before such a text leaves some of it to write.
 use Rattle.std.proofs.Common.{◌≡◌, ℕ, ◌+◌, ◌-◌, Bool, List, [], ◌∷◌, ◌++◌, map, codes, get_or, refl}
-use Rattle.diagram.proofs.Common.{append_none, none_after, DiagramRow, LifelinePhase, Rest, End, DiagramEvent, row_of, phases_with, rows_text, run_text, row_spelled, rows_spelled, top_in, end_in, LifelineStateState}
+use Rattle.diagram.proofs.Common.{append_none, none_after, DiagramRow, LifelinePhase, Rest, End, DiagramEvent, row_of, phases_with, rows_text, run_text, row_spelled, rows_spelled, top_in, end_in, LifelineView}
 use Rattle.redomail.specs.declared.layout.Layout.{Layout}
 use Rattle.diagram.specs.declared.diagram_layout.DiagramLayout.{DiagramLayout}
 use Rattle.diagram.specs.declared.diagram_layout.Style.{Style}
@@ -59,11 +59,11 @@ pub end_some : (style : Style) (d : DiagramLayout) (end : End) → end_in style 
 end_some Text d end e = cons_some _ _ (none_after _ _ e)
 end_some Svg d end e = last_some (at_most_greatest (bottom_of d.rows + 24)) end e
 
-row_in_some : (style : Style) (d : DiagramLayout) (state : LifelineStateState) (row : ShownRowState) → row_spelled_in style d state row ≡ [] → ⊥
+row_in_some : (style : Style) (d : DiagramLayout) (state : LifelineView) (row : ShownRowState) → row_spelled_in style d state row ≡ [] → ⊥
 row_in_some Text d state row e = cons_some _ _ (none_after _ _ e)
 row_in_some Svg d state row e = picture_some _ _ _ _ row e
 
-pub row_some : (d : DiagramLayout) (state : LifelineStateState) (row : ShownRowState) → row_spelled d state row ≡ [] → ⊥
+pub row_some : (d : DiagramLayout) (state : LifelineView) (row : ShownRowState) → row_spelled d state row ≡ [] → ⊥
 row_some d state row e = row_in_some d.style d state row e
 
 -- the part above the rows
@@ -71,7 +71,7 @@ pub top_some : (style : Style) (mailbox : Bool) (d : DiagramLayout) (phases : Li
 top_some Text mailbox d phases e = cons_some _ _ (none_after _ _ e)
 top_some Svg mailbox d phases e = top_picture_some mailbox d.layout.procs (bottom_of d.rows) phases e
 
-pub drawing_some : (mailbox : Bool) (d : DiagramLayout) (state : LifelineStateState) (rows : List ShownRowState) (end : End) → spelled_from mailbox d state rows end ≡ [] → ⊥
+pub drawing_some : (mailbox : Bool) (d : DiagramLayout) (state : LifelineView) (rows : List ShownRowState) (end : End) → spelled_from mailbox d state rows end ≡ [] → ⊥
 unfolding spelled_from
 drawing_some mailbox d state rows end e =
     top_some d.style mailbox d state.phases (append_none (top_in d.style mailbox d state.phases) (rows_spelled d state rows ++ end_in d.style d end) e)

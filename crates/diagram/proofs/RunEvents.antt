@@ -1,7 +1,8 @@
 -- The events of a run, line by line, and what they report.
 use Rattle.std.proofs.Common.{◌≡◌, ℕ, zero, suc, ◌+◌, true, is_some, List, [], ◌∷◌, ◌++◌, Option, Some, None, refl, sym, ap, ◌∙◌}
-use Rattle.diagram.proofs.Common.{flat_map-cons, flat_map-append, Refusal, Line, Start, Step, Crash, Behaviour, steps, line_on, run_on, reports_by, transitions_of, DiagramEvent, Fell, reports_in, events_of, events_on}
+use Rattle.diagram.proofs.Common.{flat_map-cons, flat_map-append, Refusal, Line, Start, Step, Crash, Behaviour, steps, line_on, run_on, reports_by, transitions_of, DiagramEvent, Took, Fell, reports_in, events_of, events_on}
 use Rattle.schedule.proofs.Fragments.{line_reported, run_reported}
+use Rattle.algorithm_lab.proofs.Runs.{so_of_run}
 use Rattle.schedule.specs.Fragments.{Fragment, fragment_after_line, unless, itself, line_on as line_by, run_on as run_by}
 use Rattle.schedule.specs.Runs.{LockReport}
 use Rattle.schedule.specs.Transitions.{RunEvent as EventOf, Transitions}
@@ -12,18 +13,39 @@ reported_cons e es = flat_map-cons reports_by e es
 pub reported_append : (es fs : List DiagramEvent) → reports_in (es ++ fs) ≡ reports_in es ++ reports_in fs
 reported_append es fs = flat_map-append reports_by es fs
 
--- the numbers of lines change no event
-module _ {S T C R : Type 0} (m : Transitions S T C R) where
-  numbered : (j k : ℕ) (part : Fragment (EventOf T C) S R) (o : Option R) (one other : Fragment (EventOf T C) S (ℕ × R)) → one.reports ≡ other.reports
-      → (fragment_after_line j part o one).reports ≡ (fragment_after_line k part o other).reports
-  numbered j k part None one other same = ap (λ (es : List (EventOf T C)). part.reports ++ es) same
+-- the numbers of lines change nothing that a run reports
+module _ {S T C R X : Type 0} (m : Transitions S T C R) (report : EventOf T C → List X) where
+  numbered : (j k : ℕ) (part : Fragment X S R) (o : Option R) (one other : Fragment X S (ℕ × R)) → one.reports ≡ other.reports → (fragment_after_line j part o one).reports ≡ (fragment_after_line k part o other).reports
+  numbered j k part None one other same = ap (λ (xs : List X). part.reports ++ xs) same
   numbered j k part (Some e) one other same = refl
 
-  numbers : (j k : ℕ) (s : S) (lines : List Line) → (run_by m itself j s lines).reports ≡ (run_by m itself k s lines).reports
+  pub numbers : (j k : ℕ) (s : S) (lines : List Line) → (run_by m report j s lines).reports ≡ (run_by m report k s lines).reports
   numbers j k s [] = refl
   numbers j k s (line ∷ lines) =
-      let part = line_by m itself s line in
-      numbered j k part part.refused (run_by m itself (j + 1) part.left lines) (run_by m itself (k + 1) part.left lines) (numbers (j + 1) (k + 1) part.left lines)
+      let part = line_by m report s line in
+      numbered j k part part.refused (run_by m report (j + 1) part.left lines) (run_by m report (k + 1) part.left lines) (numbers (j + 1) (k + 1) part.left lines)
+
+  pub reports_go_on : (s : S) (line : Line) (rest : List Line) → (line_by m report s line).refused ≡ None
+      → (run_by m report 2 s (line ∷ rest)).reports ≡ (line_by m report s line).reports ++ (run_by m report 2 (line_by m report s line).left rest).reports
+  reports_go_on s line rest accepted =
+      let part = line_by m report s line in
+      ap (λ (o : Option R). (fragment_after_line 2 part o (run_by m report 3 part.left rest)).reports) accepted ∙ ap (λ (xs : List X). part.reports ++ xs) (numbers 3 2 part.left rest)
+
+module _ {T C : Type 0} (P : EventOf T C → Type 0) where
+  -- it is so of each event
+  abbrev pub Each : List (EventOf T C) → Type 0
+  Each [] = Unit {0}
+  Each (event ∷ events) = P event × Each events
+
+  each_both : (es fs : List (EventOf T C)) → Each es → Each fs → Each (es ++ fs)
+  each_both [] fs first second = second
+  each_both (e ∷ es) fs first second = (first.0, each_both es fs first.1 second)
+
+-- what is so of each step and of each crash is so of each event of a run
+module _ {S T C R : Type 0} (m : Transitions S T C R) (P : EventOf T C → Type 0) (steps_are : (s : S) (p : ℕ) → P (Took p (m.step s p))) (crashes_are : (s : S) (p : ℕ) → P (Fell p (m.crash s p))) where
+  pub each_of_run : (k : ℕ) (s : S) (lines : List Line) → Each P (run_by m itself k s lines).reports
+  each_of_run =
+      so_of_run m itself (λ s events left. Each P events) (λ s. tt) (λ s t u es fs first second. each_both P es fs first second) (λ s p call. tt) (λ s p taken. (steps_are s p, tt)) (λ s p taken. (crashes_are s p, tt))
 
 module _ {S : Type 0} (b : Behaviour S) where
   -- ---- what they report
@@ -99,10 +121,7 @@ module _ {S : Type 0} (b : Behaviour S) where
   events_go_on : (s : S) (line : Line) (rest : List Line) → (line_by (transitions_of b) itself s line).refused ≡ None
       → events_on b s (line ∷ rest) ≡ events_of b s line ++ events_on b (line_by (transitions_of b) itself s line).left rest
   unfolding events_on events_of
-  events_go_on s line rest accepted =
-      let part = line_by (transitions_of b) itself s line in
-      ap (λ (o : Option Refusal). (fragment_after_line 2 part o (run_by (transitions_of b) itself 3 part.left rest)).reports) accepted
-      ∙ ap (λ (es : List DiagramEvent). part.reports ++ es) (numbers (transitions_of b) 3 2 part.left rest)
+  events_go_on s line rest accepted = reports_go_on (transitions_of b) itself s line rest accepted
 
   pub line_goes_on : (k : ℕ) (s t : S) (line : Line) (lines rest : List Line) → lines ≡ line ∷ rest → (line_on b s line).refused ≡ None → t ≡ (line_on b s line).left
       → (events_on b s lines ≡ events_of b s line ++ events_on b t rest) × ((run_on b k s lines).refused ≡ (run_on b (k + 1) t rest).refused)

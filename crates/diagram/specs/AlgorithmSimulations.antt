@@ -1,24 +1,28 @@
 -- The simulation of an algorithm: a world of it with its monitor.
-use Rattle.std.specs.Prelude.{◌≡◌, ℕ, zero, suc, ◌+◌, List, [], ◌∷◌, ◌++◌, codes, Option, Some, None, Result, Ok, Err, if◌then◌else◌, refl}
+use Rattle.std.specs.Prelude.{◌≡◌, ℕ, List, [], ◌∷◌, ◌++◌, codes, Option, Some, None, refl}
 use Rattle.std.specs.List.{flat_map}
 use Rattle.schedule.specs.declared.lines.line.Line.{Line}
 use Rattle.schedule.specs.Schedules.{Scheduled}
+use Rattle.schedule.specs.declared.player.play_stop.PlayStop.{PlayStop}
+use Rattle.schedule.specs.declared.player.play_stop.PlayStop.TheVariants.{Refused}
+use Rattle.schedule.specs.declared.texts.fault.OutOfMemory.{OutOfMemory}
 use Rattle.algorithms.specs.declared.algorithm.Algorithm.{Algorithm}
 use Rattle.algorithm_lab.proofs.Restarts.{line_leaves}
-use Rattle.algorithm_lab.specs.Monitors.{MonitorState, EventPart, first_monitor, monitor_at_beginning, step_on}
+use Rattle.algorithm_lab.specs.Monitors.{MonitorState, first_monitor, monitor_at_beginning}
 use Rattle.algorithm_lab.specs.Refusals.{number_of}
 use Rattle.algorithm_lab.specs.Reports.{reports_text}
-use Rattle.algorithm_lab.specs.Runs.{AlgorithmRun, line_on}
+use Rattle.algorithm_lab.specs.Runs.{AlgorithmRun, line_on, monitor_transitions}
 use Rattle.algorithm_lab.specs.declared.run_refusal.RunRefusal.{RunRefusal}
 use Rattle.diagram.specs.declared.algorithm.row.AlgorithmAct.{AlgorithmAct}
 use Rattle.diagram.specs.declared.algorithm.row.AlgorithmAct.TheVariants.{Crashed}
+use Rattle.diagram.specs.declared.algorithm.row.AlgorithmRow.{AlgorithmRow}
 use Rattle.diagram.specs.declared.phase.LifelinePhase.{LifelinePhase}
 use Rattle.diagram.specs.AlgorithmEvents.{AlgorithmEvent, events_of}
-use Rattle.diagram.specs.AlgorithmRows.{sign_of}
+use Rattle.diagram.specs.AlgorithmRows.{reported_by, sign_of}
 use Rattle.diagram.specs.AlgorithmStandings.{algorithm_state_text}
 use Rattle.diagram.specs.LockSimulations.{most_steps}
 use Rattle.diagram.specs.Pictures.{around, class_of}
-use Rattle.diagram.specs.Semantics.{Semantics}
+use Rattle.diagram.specs.Semantics.{Semantics, steps_to_answer}
 use Rattle.diagram.specs.Sessions.{SessionState, at_schedule}
 
 -- ---- the steps of a line
@@ -39,11 +43,27 @@ event_text a event = event_line a event.p event.act event.phase ++ reports_text 
 abbrev pub events_text : Algorithm → List AlgorithmEvent → List ℕ
 events_text a events = flat_map (event_text a) events
 
+-- the same by the rows of events: a further row has no step of its own
+abbrev pub line_if : Algorithm → ℕ → AlgorithmAct → Option LifelinePhase → List ℕ
+line_if a p act None = []
+line_if a p act (Some phase) = event_line a p act phase
+
+abbrev pub row_line : Algorithm → AlgorithmRow → List ℕ
+row_line a row = line_if a row.p row.act row.phase ++ reports_text a (reported_by row.reports)
+
+abbrev pub rows_lines : Algorithm → List AlgorithmRow → List ℕ
+rows_lines a rows = flat_map (row_line a) rows
+
 -- ---- a line, which may be refused
 
 abbrev pub number_by : Option RunRefusal → Option ℕ
 number_by None = None
 number_by (Some refusal) = number_of refusal
+
+-- a line that is not played to its end is refused by this number
+abbrev pub HasNumber : PlayStop RunRefusal OutOfMemory → ℕ → Type 0
+HasNumber (Refused refusal) number = number_of refusal ≡ Some number
+HasNumber stop number = ⊥
 
 -- a line of steps that is refused in its midst leaves nothing of the steps before
 abbrev pub left_by : MonitorState → AlgorithmRun RunRefusal → Option RunRefusal → MonitorState
@@ -53,23 +73,6 @@ left_by m run (Some refusal) = m
 abbrev pub text_by : Algorithm → List AlgorithmEvent → Option RunRefusal → List ℕ
 text_by a events None = events_text a events
 text_by a events (Some refusal) = []
-
--- a step or a crash leaves this
-abbrev pub IsLeft : Result EventPart RunRefusal → MonitorState → Type 0
-IsLeft (Ok part) left = left ≡ part.left
-IsLeft (Err refusal) left = ⊥
-
--- ---- until a call is answered
-
--- the number of a step is this one where it is refused or ends its call
-abbrev pub count_by : Result EventPart RunRefusal → ℕ → (MonitorState → Option ℕ) → Option ℕ
-count_by (Ok part) k rest = if part.ended then Some k else rest part.left
-count_by (Err e) k rest = Some k
-
--- the number of the step of p that is refused or ends its call, where k came before and at most n come
-unfoldable pub count_on : ℕ → ℕ → ℕ → MonitorState → Option ℕ
-count_on p k zero m = None
-count_on p k (suc n) m = count_by (step_on m p) (k + 1) (count_on p (k + 1) n)
 
 -- ---- the whole
 
@@ -81,7 +84,7 @@ algorithm_semantics =
       after = λ m line. left_by m (line_on m line) (line_on m line).refused;
       steps_text = λ head m line. text_by m.world.algorithm (events_of m line) (line_on m line).refused;
       state_text = λ head m. algorithm_state_text m;
-      steps_to_answer = λ schedule m p. count_on p 0 most_steps m;
+      steps_to_answer = λ schedule m p. steps_to_answer monitor_transitions p 0 most_steps m;
     }
 
 -- a session over an algorithm at a schedule

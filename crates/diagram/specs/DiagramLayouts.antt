@@ -30,7 +30,7 @@ against (Refused line number verdict) = deed_against verdict
 
 -- the lifeline state: the phases of the processes, and the numbers of deeds and of rows, with the row that is drawn. The
 -- numbers stop at the greatest u64
-pub record LifelineStateState : Type 0 where
+pub record LifelineView : Type 0 where
   pub phases : List LifelinePhase
   pub deeds : ℕ
   pub rows : ℕ
@@ -40,7 +40,7 @@ abbrev pub deeds_with : Option Deed → ℕ → ℕ
 deeds_with deed n = if is_some deed then one_more n else n
 
 -- the lifeline state after a row in which p shows this phase and this deed
-abbrev pub lifeline_state_by : LifelineStateState → ℕ → Option LifelinePhase → Option Deed → LifelineStateState
+abbrev pub lifeline_state_by : LifelineView → ℕ → Option LifelinePhase → Option Deed → LifelineView
 lifeline_state_by lifeline_state p phase deed =
     record {
       phases = with_phase lifeline_state.phases p phase;
@@ -49,13 +49,13 @@ lifeline_state_by lifeline_state p phase deed =
     }
 
 -- the lifeline state after a row of a run of the lock
-abbrev pub lifeline_state_with : LifelineStateState → DiagramRow → LifelineStateState
+abbrev pub lifeline_state_with : LifelineView → DiagramRow → LifelineView
 lifeline_state_with lifeline_state row = lifeline_state_by lifeline_state row.p (phase_shown row.act) (deed_of row.act)
 
 -- the lifeline state after any row
-abbrev pub lifeline_state_shown : LifelineStateState → ShownRowState → LifelineStateState
+abbrev pub lifeline_state_shown : LifelineView → ShownRowState → LifelineView
 lifeline_state_shown lifeline_state row = lifeline_state_by lifeline_state row.p row.phase row.deed
 
 -- the row has the deed of this number
-abbrev pub is_deed : ℕ → LifelineStateState → ShownRowState → Bool
+abbrev pub is_deed : ℕ → LifelineView → ShownRowState → Bool
 is_deed at lifeline_state row = is_some row.deed && lifeline_state.deeds == at

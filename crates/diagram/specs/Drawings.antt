@@ -13,20 +13,20 @@ use Rattle.diagram.specs.declared.diagram_layout.Style.{Style}
 use Rattle.diagram.specs.declared.diagram_layout.Style.TheVariants.{Text, Svg}
 use Rattle.diagram.specs.Columns.{row_text, top_text, end_text}
 use Rattle.diagram.specs.Pictures.{row_picture, top_picture, end_picture, y_of, bottom_of}
-use Rattle.diagram.specs.DiagramLayouts.{LifelineStateState, lifeline_state_shown, is_deed, against, layout_of}
+use Rattle.diagram.specs.DiagramLayouts.{LifelineView, lifeline_state_shown, is_deed, against, layout_of}
 use Rattle.diagram.specs.ShownRows.{ShownRowState, shown_of}
 
 -- a row in this style
-abbrev pub row_spelled_in : Style → DiagramLayout → LifelineStateState → ShownRowState → List ℕ
+abbrev pub row_spelled_in : Style → DiagramLayout → LifelineView → ShownRowState → List ℕ
 row_spelled_in Text diagram_layout lifeline_state row = row_text lifeline_state.phases (is_deed diagram_layout.against lifeline_state row) row
 row_spelled_in Svg diagram_layout lifeline_state row = row_picture diagram_layout.layout.procs (y_of lifeline_state.rows) (bottom_of diagram_layout.rows - y_of lifeline_state.rows) (is_deed diagram_layout.against lifeline_state row) row
 
 -- a row, where the lifeline state has taken it
-abbrev pub row_spelled : DiagramLayout → LifelineStateState → ShownRowState → List ℕ
+abbrev pub row_spelled : DiagramLayout → LifelineView → ShownRowState → List ℕ
 row_spelled diagram_layout lifeline_state row = row_spelled_in diagram_layout.style diagram_layout lifeline_state row
 
 -- rows, where the lifeline state has taken those before them
-abbrev pub rows_spelled : DiagramLayout → LifelineStateState → List ShownRowState → List ℕ
+abbrev pub rows_spelled : DiagramLayout → LifelineView → List ShownRowState → List ℕ
 rows_spelled diagram_layout lifeline_state [] = []
 rows_spelled diagram_layout lifeline_state (row ∷ rows) =
     row_spelled diagram_layout (lifeline_state_shown lifeline_state row) row
@@ -47,13 +47,13 @@ abbrev pub diagram_layout_of : {R : Type 0} → Style → Head → List R → En
 diagram_layout_of style head rows end = record { style = style; layout = layout_of head; rows = length rows; against = against end }
 
 -- the drawing of rows, from the lifeline state before the first, with a lifeline of the mailbox or without
-unfoldable pub spelled_from : Bool → DiagramLayout → LifelineStateState → List ShownRowState → End → List ℕ
+unfoldable pub spelled_from : Bool → DiagramLayout → LifelineView → List ShownRowState → End → List ℕ
 spelled_from mailbox diagram_layout lifeline_state rows end =
     top_in diagram_layout.style mailbox diagram_layout lifeline_state.phases
     ++ (rows_spelled diagram_layout lifeline_state rows ++ end_in diagram_layout.style diagram_layout end)
 
 -- before the first row all processes are in the same phase
-abbrev pub lifelines_at_start : ℕ → LifelinePhase → LifelineStateState
+abbrev pub lifelines_at_start : ℕ → LifelinePhase → LifelineView
 lifelines_at_start procs first = record { phases = replicate procs first; deeds = 0; rows = 0 }
 
 -- the drawing of a run of the lock

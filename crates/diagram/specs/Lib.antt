@@ -17,6 +17,7 @@ pub mod LastSteps
 pub mod Repetitions
 pub mod RowCollections
 pub mod RowEffects
+pub mod AlgorithmRowEffects
 pub mod StepWriters
 pub mod Standings
 pub mod Requests

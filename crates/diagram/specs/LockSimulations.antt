@@ -1,18 +1,17 @@
 -- The simulation of the built-in lock: a world, and what its processes have shown.
-use Rattle.std.specs.Prelude.{ℕ, zero, suc, ◌+◌, List, [], Option, Some, None, is_some, if◌then◌else◌}
+use Rattle.std.specs.Prelude.{ℕ, List, []}
 use Rattle.redomail.specs.declared.layout.Layout.{Layout}
-use Rattle.rmeworld.specs.Behaviours.{Behaviour}
 use Rattle.rmeworld.specs.Replayed.{world_behaviour}
 use Rattle.rmeworld.specs.WorldState.{WorldState, new_world}
 use Rattle.schedule.specs.declared.lines.line.Line.{Line}
 use Rattle.schedule.specs.declared.texts.head.Head.{Head}
-use Rattle.schedule.specs.Runs.{line_on}
+use Rattle.schedule.specs.Runs.{line_on, transitions_of}
 use Rattle.schedule.specs.Schedules.{Scheduled, head_of}
 use Rattle.diagram.specs.DiagramLayouts.{layout_of}
 use Rattle.diagram.specs.Events.{events_of}
 use Rattle.diagram.specs.Followed.{run_text}
 use Rattle.diagram.specs.LastSteps.{LastStepsState, last_steps_after, no_last_steps, number_refused}
-use Rattle.diagram.specs.Semantics.{Semantics, lines_on}
+use Rattle.diagram.specs.Semantics.{Semantics, lines_on, steps_to_answer}
 use Rattle.diagram.specs.Sessions.{SessionState, at_schedule}
 use Rattle.diagram.specs.Standings.{state_text}
 
@@ -40,17 +39,6 @@ lock_of schedule = lines_on lock_with (first_lock (head_of schedule)) schedule.l
 abbrev pub steps_reported : Layout → LockSimulationState → Line → List ℕ
 steps_reported l lock line = run_text l lock.last_steps.phases (events_of world_behaviour lock.world line)
 
--- ---- until a call is answered
-
-module _ {S : Type 0} (b : Behaviour S) where
-  -- the number of the step of p that is refused or ends its call, where k came before and at most n come
-  unfoldable pub steps_to_answer : ℕ → ℕ → ℕ → S → Option ℕ
-  steps_to_answer p k zero s = None
-  steps_to_answer p k (suc n) s =
-      if is_some (b.advance_refusal s p) then Some (k + 1)
-      else if is_some (b.stepped s p).answer then Some (k + 1)
-      else steps_to_answer p (k + 1) n (b.advanced s p)
-
 -- the most steps of a line
 abbrev pub most_steps : ℕ
 most_steps = 1000000
@@ -65,7 +53,7 @@ lock_semantics =
       after = lock_with;
       steps_text = λ head lock line. steps_reported (layout_of head) lock line;
       state_text = λ head lock. state_text head.procs lock.world.words lock.last_steps;
-      steps_to_answer = λ schedule lock p. steps_to_answer world_behaviour p 0 most_steps (lock_of schedule).world;
+      steps_to_answer = λ schedule lock p. steps_to_answer (transitions_of world_behaviour) p 0 most_steps (lock_of schedule).world;
     }
 
 -- a session over the built-in lock at a schedule

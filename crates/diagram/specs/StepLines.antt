@@ -36,7 +36,7 @@ use Rattle.diagram.specs.declared.drawing.End.{End}
 use Rattle.diagram.specs.declared.drawing.End.TheVariants.{Judged, Refused}
 use Rattle.diagram.specs.declared.phase.LifelinePhase.{LifelinePhase}
 use Rattle.diagram.specs.declared.phase.LifelinePhase.TheVariants.{Rest}
-use Rattle.diagram.specs.DiagramLayouts.{LifelineStateState, lifeline_state_with, layout_of}
+use Rattle.diagram.specs.DiagramLayouts.{LifelineView, lifeline_state_with, layout_of}
 use Rattle.diagram.specs.Drawings.{WritesText}
 use Rattle.diagram.specs.Events.{DiagramEvent}
 use Rattle.diagram.specs.Followed.{row_of}
@@ -71,7 +71,7 @@ lock_with lock (Fell deed) = lock
 
 -- what has been played so far: the lifeline state, and the lock words
 pub record PlayedState : Type 0 where
-  pub lifelines : LifelineStateState
+  pub lifelines : LifelineView
   pub lock : List Own
 
 -- the same after a row

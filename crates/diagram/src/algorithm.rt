@@ -2,5 +2,5 @@
 
 pub mod laws;
 pub mod row;
-mod row_collector;
+pub(crate) mod row_collector;
 pub mod run_diagram;

@@ -20,9 +20,9 @@ pub struct LifelineState {
 }
 
 impl Model for LifelineState {
-    ghost use Rattle.diagram.specs.DiagramLayouts.{LifelineStateState};
+    ghost use Rattle.diagram.specs.DiagramLayouts.{LifelineView};
 
-    ghost Value = { LifelineStateState };
+    ghost Value = { LifelineView };
 
     ghost view = { λ p. record { phases = p.phases.items; deeds = p.deeds; rows = p.rows } };
 }

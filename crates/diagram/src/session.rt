@@ -1,8 +1,8 @@
 //! A session: a schedule that grows by a line at a time, and goes back.
 
-mod algorithm_line_play;
 mod algorithm_positions;
 mod algorithm_simulation;
+mod algorithm_step_lines;
 mod last_steps;
 pub mod laws;
 mod line_play;

@@ -38,11 +38,11 @@ hears_both a b c ds es first second s sits =
     let k = a.running_verdict.number in
     let mid = heard_with v s ds in
     let one = first s sits in
-    let verdict_at : with_more v k s ds ≡ b.running_verdict.verdict =
+    let verdict_same : with_more v k s ds ≡ b.running_verdict.verdict =
     ap (with_more v k s) (sym (append-nil ds)) ∙ one.1 [] ∙ no_more b.running_verdict.verdict b.running_verdict.number mid in
-    let two = second mid (λ fine. one.0 (sits (was_fine v k s ds (verdict_at ∙ fine)))) in
+    let two = second mid (λ fine. one.0 (sits (was_fine v k s ds (verdict_same ∙ fine)))) in
     let end : heard_with v s (ds ++ es) ≡ heard_with b.running_verdict.verdict mid es =
-    heard_both v k s ds es ∙ ap (λ (w : Verdict). heard_with w mid es) verdict_at in
+    heard_both v k s ds es ∙ ap (λ (w : Verdict). heard_with w mid es) verdict_same in
     rw end (λ keeps. two.0 (one.0 keeps), λ more. ap (with_more v k s) (append_assoc ds es more) ∙ one.1 (es ++ more) ∙ two.1 more)
 
 -- a judge that was asked allows the deed

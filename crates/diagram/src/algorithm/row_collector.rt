@@ -1,16 +1,14 @@
-//! Plays the lines of a schedule on a world of an algorithm, and collects the rows of its drawing.
+//! Collects the rows of a drawing of an algorithm's run.
 
-ghost use Rattle.std.specs.Prelude.{◌≡◌, ◌++◌, None, Some, IfOk, IfErr, OnOk, OnErr, drop, map};
-ghost use Rattle.algorithm_lab.specs.Monitors.{crash_on, has_ended, IsReportedPart, IsRefusal, step_on};
-ghost use Rattle.algorithm_lab.specs.Runs.{AddsRun, line_on, run_on, steps};
-ghost use Rattle.diagram.specs.AlgorithmEvents.{crash_by, events_of, events_on, step_event, steps_of};
-ghost use Rattle.diagram.specs.AlgorithmRows.{row_counted_again as counted_in, counted_by, further_row as further_of, last_of, rows_of, with_event, with_events};
+ghost use Rattle.std.specs.Prelude.{◌≡◌, ◌++◌, [], OnOk, drop, map};
+ghost use Rattle.diagram.specs.AlgorithmRows.{row_counted_again as counted_in, counted_by, further_row as further_of, last_of, rows_of, with_event};
 
 use crate::algorithm::row::{AlgorithmAct, AlgorithmRow, act_of, lifeline_phase};
 use crate::phase::LifelinePhase;
-use algorithm_lab::{Monitor, RunRefusal, TextReport, play_line};
-use schedule::Line;
-use std::alloc::AllocError;
+use algorithm_lab::heard::{phase_after_step, put_crash, put_step};
+use algorithm_lab::{Monitor, MonitorCrash, MonitorStep, TextReport};
+use schedule::{Listener, OutOfMemory};
+use std::alloc::{AllocError, Global};
 
 /// A row, counted once more, if this is the same blocked reading of the same process.
 fn counted_row(row: &AlgorithmRow, p: u64, act: AlgorithmAct) -> Option<AlgorithmRow>
@@ -117,123 +115,76 @@ fn note(
     Ok(())
 }
 
-/// Takes a step of p, and adds what it reports and its rows. Answers whether its call ends.
-fn take_step(
-    monitor: &mut Monitor,
-    rows: &mut Vec<AlgorithmRow>,
-    reports: &mut Vec<TextReport>,
-    p: u64,
-) -> Result<bool, RunRefusal>
-    ensures ok { OnOk result (IsReportedPart (step_on monitor.old p) reports.old.items reports.new.items monitor.new) }
-    ensures rows { OnOk result (rows.new.items ≡ with_events rows.old.items (step_event monitor.old p)) }
-    ensures ended { IfOk result (λ ended. has_ended (step_on monitor.old p) ≡ ended) }
-    ensures refused { IfErr result (λ e. IsRefusal e → (step_on monitor.old p ≡ Err e)) }
-    ensures err { IfErr result (λ e. IsRefusal e → (monitor.new ≡ monitor.old) × (reports.new.items ≡ reports.old.items)) }
-    ensures kept { IfErr result (λ e. IsRefusal e → (rows.new.items ≡ rows.old.items)) }
-{
-    let before = reports.len();
-    let advanced = monitor.advance(p, reports)?;
-    let phase = lifeline_phase(monitor.phase(p));
-    note(
-        rows,
-        p,
-        act_of(&advanced),
-        phase,
-        reports_after(reports.as_slice(), before),
-    )?;
-    Ok(advanced.answer.is_some())
+/// The rows of a drawing, and what they report. They hear the events of a run.
+#[derive(Drop)]
+pub(crate) struct AlgorithmRows {
+    pub rows: Vec<AlgorithmRow>,
+    pub reports: Vec<TextReport>,
+    /// A blocked reading that repeats the row before counts once more in it.
+    pub counts: bool,
 }
 
-/// Takes at most n steps of p, until its call ends or a step is refused.
-fn take_steps(
-    monitor: &mut Monitor,
-    rows: &mut Vec<AlgorithmRow>,
-    reports: &mut Vec<TextReport>,
-    p: u64,
-    n: u64,
-) -> Result<(), RunRefusal>
-    ensures ok { OnOk result (AddsRun (steps p n monitor.old) reports.old.items reports.new.items monitor.new) }
-    ensures accepted { OnOk result ((steps p n monitor.old).refused ≡ None) }
-    ensures rows { OnOk result (rows.new.items ≡ with_events rows.old.items (steps_of p n monitor.old)) }
-    ensures err { IfErr result (λ e. IsRefusal e → AddsRun (steps p n monitor.old) reports.old.items reports.new.items monitor.new) }
-    ensures refused { IfErr result (λ e. IsRefusal e → (steps p n monitor.old).refused ≡ Some e) }
-    ensures drawn { IfErr result (λ e. IsRefusal e → (rows.new.items ≡ with_events rows.old.items (steps_of p n monitor.old))) }
-{
-    for step in 0..n {
-        if take_step(monitor, rows, reports, p)? {
-            return Ok(());
+impl AlgorithmRows {
+    ghost use Rattle.diagram.specs.AlgorithmRowEffects.{rows_after};
+
+    /// No rows.
+    pub fn new(alloc: Global, counts: bool) -> AlgorithmRows
+        ensures counts { result.counts ≡ counts }
+        ensures rows { result.rows.items ≡ [] }
+        ensures reports { result.reports.items ≡ [] }
+    {
+        AlgorithmRows {
+            rows: Vec::new(alloc),
+            reports: Vec::new(alloc),
+            counts,
         }
     }
-    Ok(())
-}
 
-/// Crashes p, and adds what that reports and its rows.
-fn take_crash(
-    monitor: &mut Monitor,
-    rows: &mut Vec<AlgorithmRow>,
-    reports: &mut Vec<TextReport>,
-    p: u64,
-) -> Result<(), RunRefusal>
-    ensures ok { OnOk result (IsReportedPart (crash_on monitor.old p) reports.old.items reports.new.items monitor.new) }
-    ensures rows { OnOk result (rows.new.items ≡ with_events rows.old.items (crash_by p (crash_on monitor.old p))) }
-    ensures refused { IfErr result (λ e. IsRefusal e → (crash_on monitor.old p ≡ Err e)) }
-    ensures err { IfErr result (λ e. IsRefusal e → (monitor.new ≡ monitor.old) × (reports.new.items ≡ reports.old.items)) }
-    ensures kept { IfErr result (λ e. IsRefusal e → (rows.new.items ≡ rows.old.items)) }
-{
-    let before = reports.len();
-    monitor.crash(p, reports)?;
-    note(
-        rows,
-        p,
-        AlgorithmAct::Crashed,
-        LifelinePhase::Dead,
-        reports_after(reports.as_slice(), before),
-    )?;
-    Ok(())
-}
-
-/// Plays one line.
-fn take_line(
-    monitor: &mut Monitor,
-    rows: &mut Vec<AlgorithmRow>,
-    reports: &mut Vec<TextReport>,
-    line: &Line,
-) -> Result<(), RunRefusal>
-    ensures ok { OnOk result (AddsRun (line_on monitor.old line.now) reports.old.items reports.new.items monitor.new) }
-    ensures accepted { OnOk result ((line_on monitor.old line.now).refused ≡ None) }
-    ensures rows { OnOk result (rows.new.items ≡ with_events rows.old.items (events_of monitor.old line.now)) }
-    ensures err { IfErr result (λ e. IsRefusal e
-        → AddsRun (line_on monitor.old line.now) reports.old.items reports.new.items monitor.new) }
-    ensures refused { IfErr result (λ e. IsRefusal e → (line_on monitor.old line.now).refused ≡ Some e) }
-    ensures drawn { IfErr result (λ e. IsRefusal e → (rows.new.items ≡ with_events rows.old.items (events_of monitor.old line.now))) }
-{
-    match *line {
-        Line::Start(..) => play_line(monitor, line, reports),
-        Line::Step(p, count) => take_steps(monitor, rows, reports, p, count.get()),
-        Line::Crash(p) => take_crash(monitor, rows, reports, p),
-    }
-}
-
-/// Plays the lines of a schedule, of which the first has number 2. Adds what they report and their rows, and answers the line
-/// that is refused, and why, if one is.
-pub(crate) fn take_lines(
-    monitor: &mut Monitor,
-    rows: &mut Vec<AlgorithmRow>,
-    reports: &mut Vec<TextReport>,
-    lines: &[Line],
-) -> Result<Option<(u64, RunRefusal)>, AllocError>
-    ensures run { OnOk result (AddsRun (run_on 2 monitor.old lines.now) reports.old.items reports.new.items monitor.new) }
-    ensures refused { IfOk result (λ refused. refused ≡ (run_on 2 monitor.old lines.now).refused) }
-    ensures rows { OnOk result (rows.new.items ≡ with_events rows.old.items (events_on monitor.old lines.now)) }
-{
-    let mut number: u64 = 2;
-    for line in lines {
-        match take_line(monitor, rows, reports, line) {
-            Ok(()) => {}
-            Err(RunRefusal::OutOfMemory) => return Err(AllocError),
-            Err(refusal) => return Ok(Some((number, refusal))),
+    /// Takes an event that has reported all from this place on.
+    fn take(
+        &mut self,
+        p: u64,
+        act: AlgorithmAct,
+        phase: LifelinePhase,
+        from: usize,
+    ) -> Result<(), AllocError>
+        ensures counts { OnOk result (self.new.counts ≡ self.old.counts) }
+        ensures rows { OnOk result (self.new.rows.items ≡ rows_after self.old.counts self.old.rows.items
+            (record { p = p; act = act; phase = phase; reports = drop from self.old.reports.items })) }
+        ensures reports { OnOk result (self.new.reports.items ≡ self.old.reports.items) }
+    {
+        let reports = reports_after(self.reports.as_slice(), from);
+        if self.counts {
+            note(&mut self.rows, p, act, phase, reports)
+        } else {
+            put_rows(&mut self.rows, p, act, phase, reports)
         }
-        number += 1;
     }
-    Ok(None)
+}
+
+impl Listener<Monitor> for AlgorithmRows {
+    ghost use Rattle.diagram.specs.AlgorithmRowEffects.{algorithm_row_effects};
+
+    type Stop = OutOfMemory;
+
+    ghost effects = { algorithm_row_effects };
+
+    fn hear_step(&mut self, p: u64, step: &MonitorStep) -> Result<(), OutOfMemory> {
+        let before = self.reports.len();
+        put_step(&mut self.reports, p, step)?;
+        let after = phase_after_step(step.phase, step.advanced.noted);
+        self.take(p, act_of(&step.advanced), lifeline_phase(after), before)?;
+        Ok(())
+    }
+
+    fn hear_crash(&mut self, p: u64, crash: &MonitorCrash) -> Result<(), OutOfMemory> {
+        let before = self.reports.len();
+        put_crash(&mut self.reports, p, crash)?;
+        self.take(p, AlgorithmAct::Crashed, LifelinePhase::Dead, before)?;
+        Ok(())
+    }
+
+    fn skips_silent_steps(&self) -> bool {
+        false
+    }
 }

@@ -8,14 +8,14 @@ ghost use Rattle.diagram.specs.AlgorithmDrawings.{algorithm_text, answer_by, dra
 ghost use Rattle.diagram.specs.Drawings.{diagram_layout_of as diagram_layout_for, WritesText};
 
 use crate::algorithm::row::AlgorithmRow;
-use crate::algorithm::row_collector::take_lines;
+use crate::algorithm::row_collector::AlgorithmRows;
 use crate::diagram_layout::{Style, layout_with};
 use crate::drawing::End;
 use crate::drawing_writer::{Buffers, Outline, write_parts};
 use crate::lifeline_state::LifelineState;
 use crate::phase::LifelinePhase;
 use algorithm_lab::verdict::verdict_of;
-use algorithm_lab::{AlgorithmReplayFault, Monitor, RunRefusal};
+use algorithm_lab::{AlgorithmReplayFault, Monitor, RunRefusal, hear_lines};
 use algorithms::Algorithm;
 use schedule::texts::head::Head;
 use schedule::{ReplayFault, Schedule, Sink, Verdict};
@@ -51,9 +51,9 @@ fn play(
 ) -> Result<AlgorithmDrawing, AllocError>
     ensures { IfOk result (λ d. IsDrawing monitor.old schedule.now.lines d.rows.items d.verdict d.refused monitor.new) }
 {
-    let mut rows = Vec::new(alloc);
-    let mut reports = Vec::new(alloc);
-    let refused = take_lines(monitor, &mut rows, &mut reports, schedule.lines())?;
+    let mut rows = AlgorithmRows::new(alloc, true);
+    let refused = hear_lines(monitor, &mut rows, schedule.lines())?;
+    let AlgorithmRows { rows, reports, .. } = rows;
     let verdict = verdict_of(alloc, monitor.world().procs(), reports.as_slice())?;
     Ok(AlgorithmDrawing {
         rows,

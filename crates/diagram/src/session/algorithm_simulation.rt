@@ -3,12 +3,14 @@
 ghost use Rattle.algorithm_lab.proofs.Restarts.{restarted_twice};
 ghost use Rattle.diagram.specs.AlgorithmSimulations.{algorithm_semantics, begins_after_line};
 
-use crate::session::algorithm_line_play::{count_steps, number_of_refusal, put_line};
+use crate::algorithm::row_collector::AlgorithmRows;
 use crate::session::algorithm_positions::put_algorithm_state;
+use crate::session::algorithm_step_lines::{number_of, put_rows};
 use crate::session::simulation::Simulation;
+use crate::session::way::steps_to_answer;
 use algorithm_lab::Monitor;
 use schedule::texts::head::Head;
-use schedule::{Count, Line, Schedule};
+use schedule::{Count, Line, Schedule, play_line};
 use std::alloc::{AllocError, Global};
 
 impl Simulation for Monitor {
@@ -33,14 +35,14 @@ impl Simulation for Monitor {
         out: &mut Vec<u8>,
     ) -> Result<Option<u64>, AllocError> {
         let checkpoint = self.checkpoint(alloc)?;
-        let mut page = Vec::new(alloc);
-        match put_line(alloc, self, &mut page, line) {
+        let mut rows = AlgorithmRows::new(alloc, false);
+        match play_line(self, &mut rows, line) {
             Ok(()) => {
-                out.extend_from_slice(page.as_slice())?;
+                put_rows(out, self.world().algorithm(), rows.rows.as_slice())?;
                 Ok(None)
             }
-            Err(refusal) => {
-                let number = number_of_refusal(refusal)?;
+            Err(stop) => {
+                let number = number_of(stop)?;
                 self.go_back(checkpoint);
                 Ok(Some(number))
             }
@@ -59,7 +61,7 @@ impl Simulation for Monitor {
         p: u64,
     ) -> Result<Option<Count>, AllocError> {
         let checkpoint = self.checkpoint(alloc)?;
-        let steps = count_steps(alloc, self, p, 1_000_000)?;
+        let steps = steps_to_answer(self, p, 1_000_000)?;
         self.go_back(checkpoint);
         match steps {
             Some(steps) => Ok(Some(Count::new(steps).unwrap())),

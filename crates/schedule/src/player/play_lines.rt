@@ -105,7 +105,7 @@ fn take_shown_steps<M: Automaton, L: Listener<M>>(
 /// Takes at most n steps of p, until its call is answered.
 // Inline: one call a line.
 #[inline(always)]
-pub fn take_steps<M: Automaton, L: Listener<M>>(
+pub(crate) fn take_steps<M: Automaton, L: Listener<M>>(
     machine: &mut M,
     listener: &mut L,
     p: u64,

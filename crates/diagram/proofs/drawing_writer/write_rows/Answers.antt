@@ -1,5 +1,5 @@
 use Rattle.std.proofs.Common.{◌≡◌, ◌+◌, ◌∷◌, List, map, drop, [], refl, sym, ap, subst, ◌∙◌, arith}
-use Rattle.diagram.proofs.Common.{drop_more, length-drop, nil_from_length, err_from_is_err_and, WritesFront, row_spelled, rows_spelled, LifelineStateState, lifeline_state_shown, ShownRowState}
+use Rattle.diagram.proofs.Common.{drop_more, length-drop, nil_from_length, err_from_is_err_and, WritesFront, row_spelled, rows_spelled, LifelineView, lifeline_state_shown, ShownRowState}
 use Rattle.diagram.proofs.Written.{nothing_yet, one_more_part, all_parts, stops_within}
 use Rattle.diagram.proofs.drawing_writer.write_rows.Goals as goal
 
@@ -42,7 +42,7 @@ loop-row-preserved g c =
     let front = subst (λ (rs : List ShownRowState). WritesFront first.taken mid.taken whole (rows_spelled diagram_layout lifeline_state rs)) e c.loop-row.invariant.0 in
     let written = c.in_ok-write_row.ensures.written in
     let further = one_more_part first mid last whole (row_spelled diagram_layout next (shows item)) (rows_spelled diagram_layout next (map shows (drop (i + 1) rows))) front written in
-    (subst (λ (q : LifelineStateState). WritesFront first.taken last.taken whole (rows_spelled diagram_layout q (map shows (drop (i + 1) rows)))) (sym c.in_ok-write_row.ensures.taken) further, written.fine ∙ c.loop-row.invariant.1)
+    (subst (λ (q : LifelineView). WritesFront first.taken last.taken whole (rows_spelled diagram_layout q (map shows (drop (i + 1) rows)))) (sym c.in_ok-write_row.ensures.taken) further, written.fine ∙ c.loop-row.invariant.1)
 
 pub returns : goal.returns
 returns g c =

@@ -1,0 +1,19 @@
+//! What a step and a crash of a monitor's process say.
+
+use algorithms::{Advanced, Promises};
+use rmecore::Phase;
+
+/// A step: what it says in the world, the phase of its process before it, and what the algorithm promises.
+#[derive(Clone, Copy, Debug)]
+pub struct MonitorStep {
+    pub advanced: Advanced,
+    pub phase: Phase,
+    pub promises: Promises,
+}
+
+/// A crash: the phase of its process before it, and what the algorithm promises.
+#[derive(Clone, Copy, Debug)]
+pub struct MonitorCrash {
+    pub phase: Phase,
+    pub promises: Promises,
+}

@@ -1,5 +1,7 @@
 //! Worked rows of the search, and a small state space whose shortest path is known beforehand.
 
+#[cfg(test)]
+mod closed_sets;
 pub mod jugs;
 #[cfg(test)]
 mod scarce_memory;
@@ -7,6 +9,8 @@ mod scarce_memory;
 mod schedules;
 #[cfg(test)]
 mod searches;
+#[cfg(test)]
+mod set_walks;
 pub mod spins;
 #[cfg(test)]
 mod starving;

@@ -14,23 +14,23 @@ const JUGS: Jugs = Jugs {
 };
 
 /// Empty jugs; then 3 litres and 1, which poured together are four.
-const STATES: &str = "0040
-3140
+const STATES: &str = "00404
+31404
 ";
 
 /// Six moves of each, in their order.
-const SUCCESSORS: &str = "3040
-0540
-0040
-0040
-0040
-0040
-3140
-3540
-0140
-3040
-#3140
-3140
+const SUCCESSORS: &str = "30404
+05404
+00404
+00404
+00404
+00404
+31404
+35404
+01404
+30404
+#31404
+31404
 ";
 
 /// Whether the states of this text have these successors.
@@ -66,7 +66,7 @@ fn the_successors_of_two_states(rt: HostRuntime) -> Result<(), Fail> {
 fn lines_that_are_no_keys(rt: HostRuntime) -> Result<(), Fail> {
     let alloc = rt.alloc();
     assert!(rt;
-        is_refused(alloc, "0040\n040\n", 2, KeyFault::NoKey)
+        is_refused(alloc, "00404\n040\n", 2, KeyFault::NoKey)
             && is_refused(alloc, "00p0\n", 1, KeyFault::NoKey)
             && is_refused(alloc, "0040", 1, KeyFault::NoKey)
     );

@@ -3,7 +3,7 @@
 
 use crate::{
     bad_texts, drawings, hostile_texts, hunts, runs, schedules, searches, sessions, shrinks,
-    spelling, starving,
+    spelling, starving, stuck,
 };
 use std::alloc::Global;
 use std::test::Fail;
@@ -33,6 +33,8 @@ pub enum Kind {
     Session,
     /// A search for a process that starves.
     Starving,
+    /// A search for a stuck state.
+    Stuck,
 }
 
 /// A case: the words of its first line, what is given, and what comes of it.
@@ -88,6 +90,7 @@ fn put_outcome(
         Kind::Shrink => shrinks::put_least(alloc, words, given, text),
         Kind::Session => sessions::put_session(alloc, words, given, text),
         Kind::Starving => starving::put_starving(alloc, words, text),
+        Kind::Stuck => stuck::put_stuck(alloc, words, text),
     }
 }
 

@@ -2,7 +2,7 @@
 
 use crate::cases::{Kind, compare_cases};
 use crate::support::{number, put_schedule, text_named};
-use algorithm_explorer::{AlgorithmHuntFault, hunt_algorithm_schedule};
+use algorithm_explorer::{AlgorithmHuntFault, Unwatched, hunt_algorithm_schedule};
 use algorithm_texts::read_algorithm;
 use schedule::Schedule;
 use std::alloc::Global;
@@ -125,6 +125,7 @@ pub fn put_hunt(alloc: Global, words: &[&str; 8], text: &mut String) -> Result<(
         number(seed),
         number(rounds),
         number(steps),
+        &mut Unwatched,
     );
     put_answer(alloc, &found, *form == "lines", text)
 }

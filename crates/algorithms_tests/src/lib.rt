@@ -36,5 +36,7 @@ mod spelling;
 #[cfg(test)]
 mod starving;
 #[cfg(test)]
+mod stuck;
+#[cfg(test)]
 mod support;
 pub mod texts;

@@ -5,7 +5,9 @@ use crate::drawings::ALONE;
 use crate::reports::others::ONE_WORD;
 use crate::sinks::put_out;
 use crate::support::text_named;
-use algorithm_explorer::{AlgorithmHuntFault, hunt_algorithm_schedule, shrink_algorithm_schedule};
+use algorithm_explorer::{
+    AlgorithmHuntFault, Unwatched, hunt_algorithm_schedule, shrink_algorithm_schedule,
+};
 use algorithm_lab::AlgorithmReplayFault;
 use algorithm_texts::read_algorithm;
 use algorithms::Algorithm;
@@ -69,7 +71,16 @@ fn called(
     printed: &mut [u8],
 ) -> Outcome {
     match kind {
-        Kind::Hunt => match hunt_algorithm_schedule(alloc, algorithm, 2, 1, 2, 20, 1000) {
+        Kind::Hunt => match hunt_algorithm_schedule(
+            alloc,
+            algorithm,
+            2,
+            1,
+            2,
+            20,
+            1000,
+            &mut Unwatched,
+        ) {
             Ok(found) => lines_of(found),
             Err(AlgorithmHuntFault::OutOfMemory) => Outcome::OutOfMemory,
             Err(_) => Outcome::Otherwise,

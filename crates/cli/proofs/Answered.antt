@@ -119,7 +119,7 @@ good_hunt : (given : Given) (args : HuntArgs) → IsHunt given args → IsHuntSi
 good_hunt given args h sized (inl (some, inl size)) = size (subst₂ IsHuntSize h.rounds h.steps sized)
 good_hunt given args h sized (inl (some, inr (inl procs))) = no_both (first_of (codes "procs") given) h.no_procs procs
 good_hunt given args h sized (inl (some, inr (inr limit))) = no_both (first_of (codes "limit") given) h.no_limit limit
-good_hunt given args h sized (inr bad) = no_both (first_of (codes "algorithm") given) h.no_algorithm bad.0.algorithm
+good_hunt given args h sized (inr bad) = no_both (first_of (codes "algorithm") given) h.no_algorithm bad.0
 
 good_algorithm_hunt : (given : Given) (args : AlgorithmHuntArgs) → IsAlgorithmHunt given args → IsHuntSize args.rounds args.steps
     → IsBadHunt given ⊎ IsBadAlgorithmHunt given → ⊥
@@ -146,8 +146,9 @@ good_search given args h (inr bad) = no_both (first_of (codes "algorithm") given
 
 good_algorithm_search : (given : Given) (args : AlgorithmExploreArgs) → IsAlgorithmExplore given args → IsBadSearch given ⊎ IsBadAlgorithmSearch given → ⊥
 good_algorithm_search given args h (inl bad) = no_both (first_of (codes "variant") given) h.no_variant bad.0
-good_algorithm_search given args h (inr (search, inl bad)) = false≢true (sym bad ∙ h.known)
-good_algorithm_search given args h (inr (search, inr starving)) = good_cycles given args.starving h.starving h.no_bound starving
+good_algorithm_search given args h (inr (of_algorithm, inl bad)) = false≢true (sym bad ∙ h.known)
+good_algorithm_search given args h (inr (of_algorithm, inr (inl stuck))) = no_both (first_of (codes "moves") given) (h.unbounded (h.stuck ∙ stuck.0)) stuck.1
+good_algorithm_search given args h (inr (of_algorithm, inr (inr starving))) = good_cycles given args.starving h.starving h.no_bound starving
 
 good_size : (name : Text) (given : Given) (command : Command) → IsInRanges command → IsCommand name given command → IsOutOfRange name given → ⊥
 good_size name given (Run args) sized h (inl bad) = bad.1 (subst RunFits h.1 sized)
@@ -200,7 +201,7 @@ without_range name given (none, inl (is, lacks)) (inr (inr (too, inl bad))) = no
 without_range name given (none, inl (is, lacks)) (inr (inr (too, inr bad))) = lacks bad.0
 without_range name given (none, inr (inl (is, lacks))) (inl bad) = other_name (codes "hunt") (codes "run") name is refl bad.0
 without_range name given (none, inr (inl (is, lacks))) (inr (inl (too, inl bad))) = no_both (first_of (codes "variant") given) none bad.0
-without_range name given (none, inr (inl (is, lacks))) (inr (inl (too, inr bad))) = lacks bad.0
+without_range name given (none, inr (inl (is, lacks))) (inr (inl (too, inr bad))) = no_both (first_of (codes "algorithm") given) lacks bad.0
 without_range name given (none, inr (inl (is, lacks))) (inr (inr bad)) = other_name (codes "hunt") (codes "explore") name is refl bad.0
 without_range name given (none, inr (inr (is, lacks))) bad = sizeless (codes "shrink") name given is refl refl refl bad
 

@@ -89,21 +89,16 @@ pub record IsHunt (given : Given) (args : HuntArgs) : Type 0 where
   pub no_procs : IsNone (first_of (codes "procs") given)
   pub no_limit : IsNone (first_of (codes "limit") given)
 
--- an algorithm is given to a hunt, and the schedule found is not to be made least
-pub record IsHuntOfAlgorithm (given : Given) : Type 0 where
-  pub algorithm : IsSome (first_of (codes "algorithm") given)
-  pub no_shrink : is_set (codes "shrink") given ≡ false
-
 -- it is hunted by one thread, however many are asked for
 pub record IsAlgorithmHunt (given : Given) (args : AlgorithmHuntArgs) : Type 0 where
   pub algorithm : Some (string_bytes args.algorithm) ≡ first_of (codes "algorithm") given
   pub no_variant : IsNone (first_of (codes "variant") given)
-  pub hunt : IsHuntOfAlgorithm given
   pub procs : args.procs ≡ number_or 2 (codes "procs") given
   pub limit : args.limit ≡ number_or 1000000 (codes "limit") given
   pub seed : args.seed ≡ number_or 0 (codes "seed") given
   pub rounds : args.rounds ≡ rounds_of given
   pub steps : args.steps ≡ steps_of given
+  pub shrink : args.shrink ≡ is_set (codes "shrink") given
 
 pub record IsExplore (given : Given) (args : ExploreArgs) : Type 0 where
   pub variant : AsksFor [] given args.variant
@@ -128,7 +123,6 @@ pub record IsExplore (given : Given) (args : ExploreArgs) : Type 0 where
 -- an algorithm is given to a search, and no option that its search does not have
 pub record IsAlgorithmSearch (given : Given) : Type 0 where
   pub algorithm : IsSome (first_of (codes "algorithm") given)
-  pub no_stuck : is_set (codes "stuck") given ≡ false
   pub no_all_variables : is_set (codes "all-variables") given ≡ false
   pub no_cap : IsNone (first_of (codes "cap") given)
   pub no_width : IsNone (first_of (codes "width") given)
@@ -145,7 +139,10 @@ pub record IsAlgorithmExplore (given : Given) (args : AlgorithmExploreArgs) : Ty
   pub moves : args.moves ≡ number_or 18446744073709551615 (codes "moves") given
   pub states : args.states ≡ number_or 10000000 (codes "states") given
   pub limit : args.limit ≡ number_or 4 (codes "limit") given
+  pub stuck : args.stuck ≡ is_set (codes "stuck") given
   pub starving : AsksForCycles given args.starving
+  -- a search for stuck states or for starvation has no bound on moves
+  pub unbounded : args.stuck ≡ true → IsNone (first_of (codes "moves") given)
   pub no_bound : IsSome args.starving → IsNone (first_of (codes "moves") given)
 
 pub record IsJudge (given : Given) (args : JudgeArgs) : Type 0 where
@@ -239,7 +236,8 @@ IsBadSearch given =
 
 -- a call of an algorithm's search is none of an algorithm, or the same of its bound and its cycles
 abbrev pub IsBadAlgorithmSearch : Given → Type 0
-IsBadAlgorithmSearch given = IsAlgorithmSearch given × ((are_algorithm_calls given ≡ false) ⊎ IsBadStarving given)
+IsBadAlgorithmSearch given =
+    IsAlgorithmSearch given × ((are_algorithm_calls given ≡ false) ⊎ (IsStuckWithin given ⊎ IsBadStarving given))
 
 -- a size of its worlds is given to a hunt
 abbrev pub HasWorldSize : Given → Type 0
@@ -251,7 +249,7 @@ IsBadHunt given = IsSome (first_of (codes "variant") given) × ((IsHuntSize (rou
 
 -- the numbers of an algorithm's hunt are outside their ranges
 abbrev pub IsBadAlgorithmHunt : Given → Type 0
-IsBadAlgorithmHunt given = IsHuntOfAlgorithm given × (IsHuntSize (rounds_of given) (steps_of given) → ⊥)
+IsBadAlgorithmHunt given = IsSome (first_of (codes "algorithm") given) × (IsHuntSize (rounds_of given) (steps_of given) → ⊥)
 
 -- a number is outside its range, or a hunt or a search is bad
 abbrev pub IsOutOfRange : Text → Given → Type 0
@@ -286,7 +284,7 @@ HasNoBeginning name given = (name ≡ codes "step") × IsSome (first_of (codes "
 abbrev pub HasNoLock : Text → Given → Type 0
 HasNoLock name given = IsNone (first_of (codes "variant") given)
     × (((name ≡ codes "explore") × (IsAlgorithmSearch given → ⊥))
-    ⊎ (((name ≡ codes "hunt") × (IsHuntOfAlgorithm given → ⊥))
+    ⊎ (((name ≡ codes "hunt") × IsNone (first_of (codes "algorithm") given))
     ⊎ ((name ≡ codes "shrink") × IsNone (first_of (codes "algorithm") given))))
 
 -- words that `clap` takes are refused as it refuses words

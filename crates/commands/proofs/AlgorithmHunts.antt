@@ -1,14 +1,16 @@
 -- How a hunt on an algorithm ends that has found nothing.
-use Rattle.std.proofs.Common.{◌≡◌, ◌⊎◌, ◌↔◌, ℕ, ◌<◌, ◌≤◌, Option, Some, None, Result, Err, IsErrOf, inl, inr, refl, arith}
+use Rattle.std.proofs.Common.{◌≡◌, ◌⊎◌, ◌↔◌, ℕ, ◌<◌, ◌≤◌, Bool, true, false, Option, Some, None, IfSome, Result, Err, IsErrOf, inl, inr, refl, sym, subst, arith}
 use Rattle.algorithms.specs.Worlds.{new_refusal}
 use Rattle.algorithms.specs.declared.algorithm.Algorithm.{Algorithm}
 use Rattle.algorithms.specs.declared.refusal.AlgorithmRefusal.{AlgorithmRefusal}
 use Rattle.algorithm_explorer.specs.declared.hunt_fault.AlgorithmHuntFault.{AlgorithmHuntFault}
 use Rattle.algorithm_explorer.specs.declared.hunt_fault.AlgorithmHuntFault.TheVariants.{BadRounds, BadSteps, Refused, OutOfMemory}
+use Rattle.algorithm_explorer.specs.Hunted.{IsFoundByHunt}
+use Rattle.schedule.specs.Schedules.{Scheduled}
 use Rattle.schedule.specs.Tapes.{Tape}
 use Rattle.cli.specs.Sizes.{IsHuntSize}
 use Rattle.cli.specs.declared.arguments.args.AlgorithmHuntArgs.{AlgorithmHuntArgs}
-use Rattle.commands.specs.AlgorithmHunts.{HuntsAlgorithm, fault_of_hunt}
+use Rattle.commands.specs.AlgorithmHunts.{HuntsAlgorithm, IsWrittenFor, fault_of_hunt}
 
 no_rounds : (rounds steps : ℕ) → (rounds ≡ 0) ⊎ (10000 < rounds) → IsHuntSize rounds steps → ⊥
 no_rounds rounds steps (inl none) fits = omega (arith, none, fits.0.0)
@@ -35,3 +37,36 @@ not_hunted a args now found BadSteps is rounds steps refused =
 not_hunted a args now found (Refused e) is rounds steps refused =
     inr (inr (inl (refl, record { sizes = inr (no_world (new_refusal a args.procs args.limit) e (refused e is)); silent = record { taken = refl; fine = refl } })))
 not_hunted a args now found OutOfMemory is rounds steps refused = inr (inr (inr (refl, record { taken = refl; fine = refl })))
+
+-- nothing is written only where nothing is found
+pub nothing_found : (shrink : Bool) (a : Algorithm) (answer : Option Scheduled) → IsWrittenFor shrink a answer None → None ≡ answer
+nothing_found false a answer is = is
+nothing_found true a None is = is
+nothing_found true a (Some found) is = absurd is
+
+-- a schedule that is found, for which this one is written
+pub record IsFoundFor (args : AlgorithmHuntArgs) (a : Algorithm) (answer : Option Scheduled) (written : Scheduled) : Type 0 where
+  pub schedule : Scheduled
+  pub found : IsFoundByHunt a args.procs args.limit args.steps schedule
+  pub exact : Some schedule ≡ answer
+  pub of_it : IsWrittenFor args.shrink a (Some schedule) (Some written)
+
+some_answer : (args : AlgorithmHuntArgs) (shrink : Bool) (a : Algorithm) (answer : Option Scheduled) (written : Scheduled) → args.shrink ≡ shrink → IsWrittenFor shrink a answer (Some written)
+    → IfSome answer (IsFoundByHunt a args.procs args.limit args.steps) → IsFoundFor args a answer written
+some_answer args false a answer written asked is found = record {
+  schedule = written;
+  found = subst (λ o. IfSome o (IsFoundByHunt a args.procs args.limit args.steps)) (sym is) found;
+  exact = is;
+  of_it = subst (λ b. IsWrittenFor b a (Some written) (Some written)) (sym asked) refl;
+}
+some_answer args true a None written asked is found = absurd (cc is)
+some_answer args true a (Some schedule) written asked is found = record {
+  schedule = schedule;
+  found = found;
+  exact = refl;
+  of_it = subst (λ b. IsWrittenFor b a (Some schedule) (Some written)) (sym asked) is;
+}
+
+pub something_found : (args : AlgorithmHuntArgs) (a : Algorithm) (answer : Option Scheduled) (written : Scheduled) → IsWrittenFor args.shrink a answer (Some written)
+    → IfSome answer (IsFoundByHunt a args.procs args.limit args.steps) → IsFoundFor args a answer written
+something_found args a answer written is found = some_answer args args.shrink a answer written refl is found

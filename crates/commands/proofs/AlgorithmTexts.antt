@@ -6,6 +6,7 @@ use Rattle.algorithms.specs.declared.fault.AlgorithmFault.{AlgorithmFault}
 use Rattle.algorithms.specs.declared.fault.AlgorithmFault.TheVariants as of_reading
 use Rattle.algorithms.specs.declared.fault.ReadFault.{ReadFault}
 use Rattle.algorithm_texts.specs.Programs.{SpellsAlgorithm}
+use Rattle.algorithm_texts.specs.TextLines.{IsRefusalOf}
 use Rattle.cli.specs.Names.{number_of_algorithm_fault}
 use Rattle.schedule.specs.Schedules.{Scheduled, schedule_at}
 use Rattle.schedule.specs.Tapes.{Tape, Reading}
@@ -24,13 +25,16 @@ pub tells_fault : (line number : ℕ) (of_text : ReadFault) → ((1 ≤ number) 
 tells_fault line number of_text numbered = (of_text, refl, numbered)
 
 -- what tells a fault of a text names it, or is out of memory
-pub is_algorithm_fault : (fault : AlgorithmFault) (reports : CommandFault) → TellsFault fault reports → IsAlgorithmFault reports
-is_algorithm_fault (of_reading.At line number) reports tells = inr (line, tells.0, tells.1)
-is_algorithm_fault of_reading.OutOfMemory reports tells = inl tells
+pub is_algorithm_fault : (file : Option (List ℕ)) (fault : AlgorithmFault) (reports : CommandFault) → IsRefusalOf fault ((a : Algorithm) × SpellsAlgorithm (text_of file) a)
+    → TellsFault fault reports → IsAlgorithmFault file reports
+is_algorithm_fault file (of_reading.At line number) reports (inl memory) tells = absurd (cc)
+is_algorithm_fault file (of_reading.At line number) reports (inr none) tells = inr (line, tells.0, tells.1, λ a spells. none (a, spells))
+is_algorithm_fault file of_reading.OutOfMemory reports refuses tells = inl tells
 
 -- the algorithm's text is at fault: nothing was written
-pub no_algorithm_alone : {B : Type 0} (now : Tape) (fault : CommandFault) → IsAlgorithmFault fault → RefusesCommand now now IsAlgorithmFault (Err fault) ⊎ B
-no_algorithm_alone now fault is = inl (record { taken = refl; fine = refl }, (fault, refl, is))
+pub no_algorithm_alone : {B : Type 0} (file : Option (List ℕ)) (now : Tape) (fault : CommandFault) → IsAlgorithmFault file fault
+    → RefusesCommand now now (IsAlgorithmFault file) (Err fault) ⊎ B
+no_algorithm_alone file now fault is = inl (record { taken = refl; fine = refl }, (fault, refl, is))
 
 -- it was read
 pub algorithm_read : (file : Option (List ℕ)) (Holds : Algorithm → Type 0) (before now : Tape) (end : Result Ending CommandFault) (a : Algorithm)
@@ -38,14 +42,14 @@ pub algorithm_read : (file : Option (List ℕ)) (Holds : Algorithm → Type 0) (
 algorithm_read file Holds before now end a spells ends leads holds = inr (record { algorithm = a; spells = spells; ends = ends; leads = leads; holds = holds })
 
 -- the algorithm's text is at fault: nothing was read or written
-pub no_algorithm : {B : Type 0} (old : Reading) (now : Tape) (fault : CommandFault) → IsAlgorithmFault fault
-    → (RefusesCommand now now (IsUnreadAlgorithm old old) (Err fault) ⊎ B) × TellsReads old old (Err fault)
-no_algorithm old now fault is = (inl (record { taken = refl; fine = refl }, (fault, refl, inl is)), inl refl)
+pub no_algorithm : {B : Type 0} (file : Option (List ℕ)) (old : Reading) (now : Tape) (fault : CommandFault) → IsAlgorithmFault file fault
+    → (RefusesCommand now now (IsUnreadAlgorithm file old old) (Err fault) ⊎ B) × TellsReads old old (Err fault)
+no_algorithm file old now fault is = (inl (record { taken = refl; fine = refl }, (fault, refl, inl is)), inl refl)
 
 -- the schedule's text is at fault: nothing was written
-pub no_schedule : {B : Type 0} (old new : Reading) (now : Tape) (fault : CommandFault) → FailsToRead old new fault ⊎ IsWrongText old new fault
-    → TellsReads old new (Err fault) → (RefusesCommand now now (IsUnreadAlgorithm old new) (Err fault) ⊎ B) × TellsReads old new (Err fault)
-no_schedule old new now fault wrong reads = (inl (record { taken = refl; fine = refl }, (fault, refl, inr wrong)), reads)
+pub no_schedule : {B : Type 0} (file : Option (List ℕ)) (old new : Reading) (now : Tape) (fault : CommandFault) → FailsToRead old new fault ⊎ IsWrongText old new fault
+    → TellsReads old new (Err fault) → (RefusesCommand now now (IsUnreadAlgorithm file old new) (Err fault) ⊎ B) × TellsReads old new (Err fault)
+no_schedule file old new now fault wrong reads = (inl (record { taken = refl; fine = refl }, (fault, refl, inr wrong)), reads)
 
 fine_reads : (old new : Reading) (end : Result Ending CommandFault) → new.failures ≡ old.failures → TellsReads old new end
 fine_reads old new (Ok ending) fine = fine

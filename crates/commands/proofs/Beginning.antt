@@ -21,14 +21,14 @@ use Rattle.cli.specs.declared.arguments.args.Command.TheVariants.{Step, StepAlgo
 use Rattle.commands.specs.declared.schedules.fault.CommandFault.{CommandFault}
 use Rattle.commands.specs.declared.schedules.ending.Ending.{Ending}
 use Rattle.commands.specs.declared.schedules.fault.CommandFault.TheVariants.{OutOfMemory}
-use Rattle.commands.specs.Conversations.{BeginsWith, CantBegin, CantPlay, HoldsSession, IsRefusedLine, OpensSession, SessionEnds}
+use Rattle.commands.specs.Conversations.{BeginsWith, CantBegin, CantPlay, HasNoSchedule, HoldsSession, IsRefusedLine, OpensSession, SessionEnds, SessionMachine}
+use Rattle.commands.specs.Devices.{devices}
 use Rattle.commands.specs.Endings.{FailsIn, FailsToRead}
 use Rattle.commands.specs.Commands.{SessionEndsOf}
 use Rattle.commands.specs.Folders.{Used, is_session}
 use Rattle.commands.specs.Programs.{SessionEndsIn}
 use Rattle.commands.specs.Settings.{IsNoSchedule}
 use Rattle.commands.specs.Statuses.{fault_of_replay, fault_on_page}
-use Rattle.diagram.specs.LockSimulations.{lock_semantics, lock_session}
 use Rattle.diagram.specs.Sessions.{standing_text}
 
 -- why a replay to a page has no verdict: a line is refused, or memory has run out
@@ -65,43 +65,51 @@ no_memory None old now buffer text fault begins is = subst (λ (f : CommandFault
 
 -- the text is no schedule
 pub cant_read : (start : Option (List ℕ)) (old now : Reading) (buffer text : List ℕ) (fault : CommandFault) → BeginsWith start old now buffer text
-    → (fault ≡ OutOfMemory) ⊎ IsNoSchedule text fault → FailsToRead old now fault ⊎ CantBegin start old now fault
+    → (fault ≡ OutOfMemory) ⊎ IsNoSchedule text fault → FailsToRead old now fault ⊎ HasNoSchedule start old now fault
 cant_read start old now buffer text fault begins (inl memory) = inl (no_memory start old now buffer text fault begins memory)
-cant_read start old now buffer text fault begins (inr cant) = inr (text, buffer, begins, inl cant)
+cant_read start old now buffer text fault begins (inr cant) = inr (text, buffer, begins, cant)
 
--- its schedule can't be played
-pub cant_play : (start : Option (List ℕ)) (old now : Reading) (buffer text : List ℕ) (schedule : Scheduled) (fault : CommandFault) → BeginsWith start old now buffer text
-    → schedule_at text ≡ Ok schedule → (fault ≡ OutOfMemory) ⊎ CantPlay schedule fault → FailsToRead old now fault ⊎ CantBegin start old now fault
-cant_play start old now buffer text schedule fault begins reads (inl memory) = inl (no_memory start old now buffer text fault begins memory)
-cant_play start old now buffer text schedule fault begins reads (inr cant) = inr (text, buffer, begins, inr (schedule, reads, cant))
+module _ {S : Type 0} (machine : SessionMachine S) where
+  pub without_schedule : (start : Option (List ℕ)) (old now : Reading) (fault : CommandFault) → FailsToRead old now fault ⊎ HasNoSchedule start old now fault
+      → FailsToRead old now fault ⊎ CantBegin machine start old now fault
+  without_schedule start old now fault (inl fails) = inl fails
+  without_schedule start old now fault (inr none) = inr (inl none)
 
--- a session that doesn't begin has written nothing
-pub not_begun : (start : Option (List ℕ)) (old now : Reading) (used : Used) (tape : Tape) (fault : CommandFault)
-    → FailsToRead old now fault ⊎ CantBegin start old now fault → SessionEnds start old now used used tape tape (Err fault)
-not_begun start old now used tape fault why = inl (why, record { taken = refl; fine = refl }, refl)
+  -- the machine refuses the schedule
+  pub cant_play : (start : Option (List ℕ)) (old now : Reading) (buffer text : List ℕ) (schedule : Scheduled) (fault : CommandFault) → BeginsWith start old now buffer text
+      → schedule_at text ≡ Ok schedule → (fault ≡ OutOfMemory) ⊎ machine.refuses schedule fault → FailsToRead old now fault ⊎ CantBegin machine start old now fault
+  cant_play start old now buffer text schedule fault begins reads (inl memory) = inl (no_memory start old now buffer text fault begins memory)
+  cant_play start old now buffer text schedule fault begins reads (inr cant) = inr (inr (buffer, schedule, (text, begins, reads), cant))
 
--- the state at its begin was not written
-pub cut_at_start : (start : Option (List ℕ)) (old opened : Reading) (used : Used) (blank written : Tape) (buffer : List ℕ) (schedule : Scheduled) (fault : CommandFault)
-    → OpensSession start old opened buffer schedule → (world_run schedule).refused ≡ None
-    → FailsIn (standing_text lock_semantics (lock_session schedule)) blank written fault → SessionEnds start old opened used used blank written (Err fault)
-cut_at_start start old opened used blank written buffer schedule fault opens accepted fails =
-    inr (record { schedule = schedule; opened = opened; buffer = buffer; opens = opens; accepted = accepted; breaks = inl (refl, refl, fails) })
+  -- a session that doesn't begin has written nothing
+  pub not_begun : (start : Option (List ℕ)) (old now : Reading) (used : Used) (tape : Tape) (fault : CommandFault)
+      → FailsToRead old now fault ⊎ CantBegin machine start old now fault
+      → SessionEnds machine start (devices old used tape) (devices now used tape) (Err fault)
+  not_begun start old now used tape fault why = inl (why, record { taken = refl; fine = refl }, refl)
 
--- it has broken off after that
-pub cut_in_lines : (start : Option (List ℕ)) (old opened new : Reading) (before now : Used) (blank opening written : Tape) (buffer : List ℕ) (schedule : Scheduled)
-    (fault : ReplayFault) → OpensSession start old opened buffer schedule → (world_run schedule).refused ≡ None
-    → Writes blank opening (standing_text lock_semantics (lock_session schedule))
-    → HoldsSession lock_semantics (lock_session schedule) buffer opened new before now opening written (Err fault)
-    → SessionEnds start old new before now blank written (Err (fault_of_replay fault))
-cut_in_lines start old opened new before now blank opening written buffer schedule fault opens accepted wrote holds =
-    inr (record {
-      schedule = schedule;
-      opened = opened;
-      buffer = buffer;
-      opens = opens;
-      accepted = accepted;
-      breaks = inr (opening, wrote, (fault, refl, holds));
-    })
+  -- the state at its begin was not written
+  pub cut_at_start : (start : Option (List ℕ)) (old opened : Reading) (used : Used) (blank written : Tape) (buffer : List ℕ) (schedule : Scheduled) (fault : CommandFault)
+      → OpensSession start old opened buffer schedule → machine.accepts schedule
+      → FailsIn (standing_text machine.semantics (machine.session schedule)) blank written fault
+      → SessionEnds machine start (devices old used blank) (devices opened used written) (Err fault)
+  cut_at_start start old opened used blank written buffer schedule fault opens accepted fails =
+      inr (record { schedule = schedule; opened = opened; buffer = buffer; opens = opens; accepted = accepted; breaks = inl (refl, refl, fails) })
+
+  -- it has broken off after that
+  pub cut_in_lines : (start : Option (List ℕ)) (old opened new : Reading) (before now : Used) (blank opening written : Tape) (buffer : List ℕ) (schedule : Scheduled)
+      (fault : ReplayFault) → OpensSession start old opened buffer schedule → machine.accepts schedule
+      → Writes blank opening (standing_text machine.semantics (machine.session schedule))
+      → HoldsSession machine.semantics (machine.session schedule) buffer (devices opened before opening) (devices new now written) (Err fault)
+      → SessionEnds machine start (devices old before blank) (devices new now written) (Err (fault_of_replay fault))
+  cut_in_lines start old opened new before now blank opening written buffer schedule fault opens accepted wrote holds =
+      inr (record {
+        schedule = schedule;
+        opened = opened;
+        buffer = buffer;
+        opens = opens;
+        accepted = accepted;
+        breaks = inr (opening, wrote, (fault, refl, holds));
+      })
 
 -- a session reads standard input
 pub session_reads : (command : Command) → is_session command ≡ true → input_of command ≡ None
@@ -124,7 +132,8 @@ reads_no_file _ file name A e is some = cc
 -- a session that begins where nothing was written
 pub in_folder : (command : Command) (image : Option (List ℕ)) (before first now : Used) (old new : Reading) (blank written : Tape) (end : Result Ending CommandFault)
     → is_some image ≡ is_some (image_of_command command) → first.saved ≡ before.saved → first.texts ≡ before.texts
-    → SessionEndsOf command image old new first now blank written end → SessionEndsIn command before now old new blank written end
+    → SessionEndsOf command image (devices old first blank) (devices new now written) end
+    → SessionEndsIn command (devices old before blank) (devices new now written) end
 in_folder command image before first now old new blank written end named saved texts ends =
     inr (image, named, first, record { names = saved; texts = texts }, ends)
 

@@ -1,21 +1,20 @@
 -- If the schedule can't be read, nothing is written of its run.
 use Rattle.std.proofs.Common.{◌≤◌, ◌⊎◌, ℕ, List, Option, Err, refl, inl, inr, arith}
-use Rattle.crashlab.specs.declared.variant.Variant.{Variant}
 use Rattle.commands.specs.declared.schedules.fault.CommandFault.{CommandFault}
 use Rattle.schedule.specs.Tapes.{Tape, Reading}
 use Rattle.cli.specs.declared.arguments.args.DrawArgs.{DrawArgs}
-use Rattle.commands.specs.Draws.{DrawEnds, draw_manner}
+use Rattle.commands.specs.Draws.{DrawEnds, draw_request}
 use Rattle.commands.specs.Endings.{FailsToRead}
 use Rattle.commands.specs.Settings.{IsWrongText}
 use Rattle.commands.specs.Statuses.{status_of}
-use Rattle.commands.specs.Tellings.{Manner, TellsRead}
+use Rattle.commands.specs.Tellings.{RunRequest, TellsRead}
 
-pub untold : (variant : Variant) (manner : Manner) (image : Option (List ℕ)) (old new : Reading) (now : Tape) (fault : CommandFault)
-    → FailsToRead old new fault ⊎ IsWrongText old new fault → TellsRead variant manner image old new now now (Err fault)
-untold variant manner image old new now fault (inl fails) = inl (record { taken = refl; fine = refl }, (fault, refl, inl fails))
-untold variant manner image old new now fault (inr wrong) = inl (record { taken = refl; fine = refl }, (fault, refl, inr (inr wrong)))
+pub untold : (request : RunRequest) (image : Option (List ℕ)) (old new : Reading) (now : Tape) (fault : CommandFault)
+    → FailsToRead old new fault ⊎ IsWrongText old new fault → TellsRead request image old new now now (Err fault)
+untold request image old new now fault (inl fails) = inl (record { taken = refl; fine = refl }, (fault, refl, inl fails))
+untold request image old new now fault (inr wrong) = inl (record { taken = refl; fine = refl }, (fault, refl, inr (inr wrong)))
 
 pub unread : (args : DrawArgs) (image : Option (List ℕ)) (old new : Reading) (now : Tape) (fault : CommandFault) → 2 ≤ status_of fault
     → FailsToRead old new fault ⊎ IsWrongText old new fault → DrawEnds args image old new now now (Err fault)
 unread args image old new now fault least purpose =
-    (λ one right. omega (arith, one, least), untold args.variant (draw_manner args) image old new now fault purpose)
+    (λ one right. omega (arith, one, least), untold (draw_request args) image old new now fault purpose)

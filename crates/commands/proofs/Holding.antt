@@ -20,6 +20,7 @@ use Rattle.diagram.specs.Sessions.{SessionState, after_request, fault_text, next
 use Rattle.schedule.specs.declared.replays.replay_fault.ReplayFault.{ReplayFault}
 use Rattle.schedule.specs.declared.replays.replay_fault.ReplayFault.TheVariants as faults
 use Rattle.commands.specs.Conversations.{AreAnswers, BreaksOffIn, FailsBy, HoldsSession, IsAnswer, IsAnswerBy, IsBegun, IsBegunBy, IsSaved, WritesFile, WritesOr, after_line, file_in, last_text}
+use Rattle.commands.specs.Devices.{devices}
 use Rattle.commands.specs.Folders.{Used}
 
 -- ---- pieces of a text
@@ -169,7 +170,7 @@ module _ {S : Type 0} (b : Semantics S) where
   -- the line ends the session
   pub ends_here : (first s : SessionState S) (start line buffer page : List ℕ) (old now : Reading) (before mid used : Used) (blank written after : Tape)
       → Got first start old now before mid blank written s line buffer → reply_to (request_in s line) ≡ Quits → IsAnswer b s line mid used page
-      → Writes written after page → HoldsSession b first start old now before used blank after (Ok tt)
+      → Writes written after page → HoldsSession b first start (devices old before blank) (devices now used after) (Ok tt)
   ends_here first s start line buffer page old now before mid used blank written after h quits is wrote =
       let no = end_answer s line mid used page (reply_to (request_in s line)) quits quits is in (
         h.more,
@@ -198,7 +199,7 @@ module _ {S : Type 0} (b : Semantics S) where
   pub input_ends : (first s : SessionState S) (start buffer rest : List ℕ) (old now after : Reading) (before mid : Used) (blank written last : Tape) (more : List ℕ)
       → Going first start old now before mid blank written s buffer → after.given ≡ now.given ++ more → after.failures ≡ now.failures
       → after.ended ≡ true → rest ≡ buffer ++ more → parts_of rest ≡ rest ∷ [] → Writes written last (last_text s rest)
-      → HoldsSession b first start old after before mid blank last (Ok tt)
+      → HoldsSession b first start (devices old before blank) (devices after mid last) (Ok tt)
   input_ends first s start buffer rest old now after before mid blank written last more h given fine ended is one wrote =
       let parts : parts_of (start ++ (h.more ++ more)) ≡ h.lines ++ rest ∷ [] =
       ap parts_of (sym (append_assoc start h.more more)) ∙ parts_further (start ++ h.more) buffer more h.lines h.parts
@@ -235,7 +236,7 @@ module _ {S : Type 0} (b : Semantics S) where
   -- after the lines that were answered
   stops : (first s : SessionState S) (start buffer : List ℕ) (old now after : Reading) (before mid : Used) (blank written last : Tape) (more : List ℕ)
       → Going first start old now before mid blank written s buffer → after.given ≡ now.given ++ more → last.taken ≡ written.taken
-      → BreaksOffIn b first start old after before mid blank last
+      → BreaksOffIn b first start (devices old before blank) (devices after mid last)
   stops first s start buffer old now after before mid blank written last more h given taken = (
     h.more ++ more,
     given ∙ ap (λ (xs : List ℕ). xs ++ more) h.given ∙ append_assoc old.given h.more more,
@@ -261,7 +262,7 @@ module _ {S : Type 0} (b : Semantics S) where
   -- a flush fails
   pub flush_breaks : (first s : SessionState S) (start buffer : List ℕ) (old now : Reading) (before mid : Used) (blank written last : Tape)
       → Going first start old now before mid blank written s buffer → last.taken ≡ written.taken → last.failures ≡ min (written.failures + 1) (2 ^ 64 - 1)
-      → HoldsSession b first start old now before mid blank last (Err faults.Write)
+      → HoldsSession b first start (devices old before blank) (devices now mid last) (Err faults.Write)
   flush_breaks first s start buffer old now before mid blank written last h taken failed = (
     (h.fine, failed_once blank written last h.writes.fine failed),
     stops first s start buffer old now now before mid blank written last [] h (sym (append-nil now.given)) taken,
@@ -269,7 +270,7 @@ module _ {S : Type 0} (b : Semantics S) where
 
   -- memory has run out after the lines that were answered
   pub memory_breaks : (first s : SessionState S) (start buffer : List ℕ) (old now : Reading) (before mid : Used) (blank written : Tape)
-      → Going first start old now before mid blank written s buffer → HoldsSession b first start old now before mid blank written (Err faults.OutOfMemory)
+      → Going first start old now before mid blank written s buffer → HoldsSession b first start (devices old before blank) (devices now mid written) (Err faults.OutOfMemory)
   memory_breaks first s start buffer old now before mid blank written h =
       ((h.fine, h.writes.fine), stops first s start buffer old now now before mid blank written written [] h (sym (append-nil now.given)) refl)
 
@@ -288,7 +289,7 @@ module _ {S : Type 0} (b : Semantics S) where
 
   pub read_breaks : (first s : SessionState S) (start buffer : List ℕ) (old now after : Reading) (before mid : Used) (blank written tape : Tape) (fault : ReplayFault)
       → Going first start old now before mid blank written s buffer → tape.taken ≡ written.taken → tape.failures ≡ written.failures
-      → ((more : List ℕ) × (after.given ≡ now.given ++ more)) → FailsLine fault now after → HoldsSession b first start old after before mid blank tape (Err fault)
+      → ((more : List ℕ) × (after.given ≡ now.given ++ more)) → FailsLine fault now after → HoldsSession b first start (devices old before blank) (devices after mid tape) (Err fault)
   read_breaks first s start buffer old now after before mid blank written tape fault h taken fine (more, given) fails = (
     line_fails fault old now after blank written tape h.fine h.writes.fine fine fails,
     stops first s start buffer old now after before mid blank written tape more h given taken,
@@ -297,7 +298,7 @@ module _ {S : Type 0} (b : Semantics S) where
   -- memory has run out before the line was answered
   pub line_breaks : (first s : SessionState S) (start line buffer : List ℕ) (old now : Reading) (before mid used : Used) (blank written : Tape)
       → Got first start old now before mid blank written s line buffer → IsBegun b s line mid used
-      → HoldsSession b first start old now before used blank written (Err faults.OutOfMemory)
+      → HoldsSession b first start (devices old before blank) (devices now used written) (Err faults.OutOfMemory)
   line_breaks first s start line buffer old now before mid used blank written h begun = (
     (h.fine, h.writes.fine),
     (
@@ -326,7 +327,7 @@ module _ {S : Type 0} (b : Semantics S) where
   -- the answer to the line was not written whole
   pub answer_breaks : (first s : SessionState S) (start line buffer page : List ℕ) (old now : Reading) (before mid used : Used) (blank written last : Tape)
       → Got first start old now before mid blank written s line buffer → IsAnswer b s line mid used page → Begins written.taken last.taken page
-      → last.failures ≡ min (written.failures + 1) (2 ^ 64 - 1) → HoldsSession b first start old now before used blank last (Err faults.Write)
+      → last.failures ≡ min (written.failures + 1) (2 ^ 64 - 1) → HoldsSession b first start (devices old before blank) (devices now used last) (Err faults.Write)
   answer_breaks first s start line buffer page old now before mid used blank written last h is front failed = (
     (h.fine, failed_once blank written last h.writes.fine failed),
     (
@@ -350,7 +351,7 @@ module _ {S : Type 0} (b : Semantics S) where
   -- the fault of an unfinished last line was not written whole
   end_breaks : (first s : SessionState S) (start buffer rest : List ℕ) (old now after : Reading) (before mid : Used) (blank written last : Tape) (more : List ℕ)
       → Going first start old now before mid blank written s buffer → after.given ≡ now.given ++ more → rest ≡ buffer ++ more
-      → parts_of rest ≡ rest ∷ [] → Begins written.taken last.taken (last_text s rest) → BreaksOffIn b first start old after before mid blank last
+      → parts_of rest ≡ rest ∷ [] → Begins written.taken last.taken (last_text s rest) → BreaksOffIn b first start (devices old before blank) (devices after mid last)
   end_breaks first s start buffer rest old now after before mid blank written last more h given is one front = (
     h.more ++ more,
     given ∙ ap (λ (xs : List ℕ). xs ++ more) h.given ∙ append_assoc old.given h.more more,
@@ -411,7 +412,7 @@ module _ {S : Type 0} (b : Semantics S) where
       (result : Result (Unit {0}) ReplayFault)
       → read ≡ None → Going first start old now before mid blank written s buffer → tape.taken ≡ written.taken → tape.failures ≡ written.failures
       → IsLine read buffer rest now after → IfNone read (after.ended ≡ true) → after.failures ≡ now.failures → WritesOr tape last (last_text s rest) result
-      → HoldsSession b first start old after before mid blank last result
+      → HoldsSession b first start (devices old before blank) (devices after mid last) result
   got_none first s start buffer rest old now after before mid blank written tape last (Some w) result none h taken fine is ended same wrote = cc
   got_none first s start buffer rest old now after before mid blank written tape last None (Ok x) none h taken fine is ended same wrote =
       input_ends first s start buffer rest old now after before mid blank tape last is.0 (flushed first s start buffer old now before mid blank written tape h taken fine) is.1 same ended

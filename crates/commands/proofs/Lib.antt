@@ -4,6 +4,7 @@ pub mod AlgorithmPaths
 pub mod AlgorithmSessions
 pub mod AlgorithmShrinks
 pub mod AlgorithmStarving
+pub mod AlgorithmStuck
 pub mod AlgorithmTexts
 pub mod Draws
 pub mod Replays

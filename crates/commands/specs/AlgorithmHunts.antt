@@ -1,8 +1,8 @@
 -- How a hunt on an algorithm ends.
-use Rattle.std.specs.Prelude.{◌≡◌, ◌⊎◌, ℕ, List, Option, None, Some, Result, Err}
+use Rattle.std.specs.Prelude.{◌≡◌, ◌⊎◌, ℕ, Bool, true, false, List, Option, None, Some, Result, Err}
 use Rattle.algorithms.specs.Worlds.{new_refusal}
 use Rattle.algorithms.specs.declared.algorithm.Algorithm.{Algorithm}
-use Rattle.algorithm_explorer.specs.Hunted.{hunt_answer, IsFoundByHunt}
+use Rattle.algorithm_explorer.specs.Hunted.{hunt_answer, IsFoundByHunt, IsLeastOf}
 use Rattle.algorithm_explorer.specs.declared.hunt_fault.AlgorithmHuntFault.{AlgorithmHuntFault}
 use Rattle.algorithm_explorer.specs.declared.hunt_fault.AlgorithmHuntFault.TheVariants as of_hunt
 use Rattle.schedule.specs.Schedules.{Scheduled, spelling}
@@ -22,17 +22,28 @@ abbrev pub fault_of_hunt : AlgorithmHuntFault → CommandFault
 fault_of_hunt of_hunt.OutOfMemory = faults.OutOfMemory
 fault_of_hunt fault = faults.BadSize
 
--- the schedule that the hunt finds is written. It has at most the moves asked for, and its verdict is against
+-- what the hunt answers that is asked for
+abbrev pub answer_for : Algorithm → AlgorithmHuntArgs → Option Scheduled
+answer_for algorithm args = hunt_answer algorithm args.procs args.limit args.seed args.rounds args.steps
+
+-- what is written for what a hunt answers: that schedule, or a least one
+abbrev pub IsWrittenFor : Bool → Algorithm → Option Scheduled → Option Scheduled → Type 0
+IsWrittenFor false algorithm answer written = written ≡ answer
+IsWrittenFor true algorithm answer written = IsLeastOf algorithm answer written
+
+-- the hunt finds a schedule with at most the moves asked for, whose verdict is against. It is written, or a least one of it
 pub record TellsHunted (algorithm : Algorithm) (args : AlgorithmHuntArgs) (before now : Tape) (end : Result Ending CommandFault) : Type 0 where
   pub schedule : Scheduled
   pub found : IsFoundByHunt algorithm args.procs args.limit args.steps schedule
-  pub exact : Some schedule ≡ hunt_answer algorithm args.procs args.limit args.seed args.rounds args.steps
-  pub prints : Prints 1 (spelling schedule) before now end
+  pub exact : Some schedule ≡ answer_for algorithm args
+  pub written : Scheduled
+  pub of_it : IsWrittenFor args.shrink algorithm (Some schedule) (Some written)
+  pub prints : Prints 1 (spelling written) before now end
 
 -- the hunt finds nothing on worlds of these sizes, and that is written
 pub record TellsNothing (algorithm : Algorithm) (args : AlgorithmHuntArgs) (before now : Tape) (end : Result Ending CommandFault) : Type 0 where
   pub sizes : new_refusal algorithm args.procs args.limit ≡ None
-  pub none : None ≡ hunt_answer algorithm args.procs args.limit args.seed args.rounds args.steps
+  pub none : None ≡ answer_for algorithm args
   pub prints : Prints 0 nothing_line before now end
 
 -- the rounds or their moves are outside their ranges, or the algorithm has no world of these sizes, and nothing was written

@@ -28,12 +28,13 @@ use Rattle.cli.specs.Sizes.{HuntFits, RunFits}
 use Rattle.commands.specs.declared.schedules.ending.Ending.{Ending}
 use Rattle.commands.specs.declared.schedules.fault.CommandFault.{CommandFault}
 use Rattle.commands.specs.declared.schedules.fault.CommandFault.TheVariants.{BadSize, Member, OutOfMemory, Write}
-use Rattle.commands.specs.Conversations.{SessionEnds}
+use Rattle.commands.specs.Conversations.{SessionEnds, lock_machine}
+use Rattle.commands.specs.Devices.{Devices, devices}
 use Rattle.commands.specs.AlgorithmDraws.{AlgorithmDrawEnds}
 use Rattle.commands.specs.AlgorithmExplores.{AlgorithmExploreEnds}
 use Rattle.commands.specs.AlgorithmHunts.{AlgorithmHuntEnds}
 use Rattle.commands.specs.AlgorithmReplays.{AlgorithmReplayEnds}
-use Rattle.commands.specs.AlgorithmSessions.{RefusesText, SessionOn}
+use Rattle.commands.specs.AlgorithmSessions.{AlgorithmSessionEnds, RefusesText}
 use Rattle.commands.specs.AlgorithmShrinks.{AlgorithmShrinkEnds}
 use Rattle.commands.specs.AlgorithmTexts.{HoldsOfAlgorithm}
 use Rattle.commands.specs.Draws.{DrawEnds}
@@ -130,12 +131,17 @@ ExplainEnds (Some dictionary_entry) before now end =
     (meaning : Meaning) × (meaning.name.now ≡ name_of dictionary_entry) × Prints 0 (meaning_text meaning) before now end × IfErr end IsWriteFault
 ExplainEnds None before now end = Prints 0 (list_of ENTRIES) before now end × IfErr end IsWriteFault
 
--- how the session of a command ends, by the text of its image; by what was read of the input, kept and written
-abbrev pub SessionEndsOf : Command → Option (List ℕ) → Reading → Reading → Used → Used → Tape → Tape → Result Ending CommandFault → Type 0
-SessionEndsOf (Step file) image old new before now blank written end = SessionEnds image old new before now blank written end
-SessionEndsOf (StepAlgorithm algorithm) image old new before now blank written end =
-    RefusesText old new before now blank written end ⊎ HoldsOfAlgorithm image (λ a. SessionOn a old new before now blank written end)
-SessionEndsOf command image old new before now blank written end = ⊥
+-- how the session of a command ends, by the text of its image
+abbrev pub SessionEndsOf : Command → Option (List ℕ) → Devices → Devices → Result Ending CommandFault → Type 0
+SessionEndsOf (Step file) image before now end = SessionEnds lock_machine image before now end
+SessionEndsOf (StepAlgorithm algorithm) image before now end =
+    RefusesText image before now end ⊎ HoldsOfAlgorithm image (λ a. AlgorithmSessionEnds a before now end)
+SessionEndsOf command image before now end = ⊥
+
+-- the same of the files that it was asked for
+abbrev pub SessionEndsWith : Command → Option (List ℕ) → Reading → Reading → Tape → Tape → Result Ending CommandFault → Type 0
+SessionEndsWith command image old new before now end =
+    (first : Used) × (last : Used) × SessionEndsOf command image (devices old first before) (devices new last now) end
 
 -- by the command and the text of its image; by what was read of the input and written, before and after
 abbrev pub CommandEnds : Command → Option (List ℕ) → Reading → Reading → Tape → Tape → Result Ending CommandFault → Type 0
@@ -151,7 +157,6 @@ CommandEnds (Draw args) image old new before now end = DrawEnds args image old n
 CommandEnds (DrawAlgorithm args) image old new before now end = AlgorithmDrawEnds args.svg image old new before now end
 CommandEnds (Shrink args) image old new before now end = ShrinkEnds args old new before now end × TellsReads old new end
 CommandEnds (ShrinkAlgorithm args) image old new before now end = AlgorithmShrinkEnds image old new before now end
-CommandEnds (Step file) image old new before now end = (first : Used) × (last : Used) × SessionEnds image old new first last before now end
-CommandEnds (StepAlgorithm algorithm) image old new before now end =
-    (first : Used) × (last : Used) × SessionEndsOf (StepAlgorithm algorithm) image old new first last before now end
+CommandEnds (Step file) image old new before now end = SessionEndsWith (Step file) image old new before now end
+CommandEnds (StepAlgorithm algorithm) image old new before now end = SessionEndsWith (StepAlgorithm algorithm) image old new before now end
 CommandEnds (Explain dictionary_entry) image old new before now end = (new ≡ old) × ExplainEnds dictionary_entry before now end

@@ -8,6 +8,7 @@ use Rattle.schedule.specs.Tapes.{Tape, Reading, Begins, Writes}
 use Rattle.schedule.specs.Words.{parts_of, words_of}
 use Rattle.diagram.specs.declared.session.opened.SessionReply.{SessionReply}
 use Rattle.diagram.specs.declared.session.opened.SessionReply.TheVariants as replies
+use Rattle.commands.specs.Devices.{Devices, devices}
 use Rattle.commands.specs.Folders.{Used}
 use Rattle.commands.specs.Endings.{FailsIn, FailsToRead}
 use Rattle.commands.specs.Statuses.{fault_of_replay}
@@ -18,7 +19,7 @@ use Rattle.commands.specs.Settings.{IsNoSchedule, IsUnmade}
 use Rattle.rmecore.specs.declared.refusal.Refusal.{Refusal}
 use Rattle.rmecore.specs.Refused.{number_of}
 use Rattle.schedule.specs.Wholes.{Silent, world_run}
-use Rattle.diagram.specs.LockSimulations.{lock_semantics, lock_session}
+use Rattle.diagram.specs.LockSimulations.{LockSimulationState, lock_semantics, lock_session}
 use Rattle.diagram.specs.Semantics.{Semantics}
 use Rattle.diagram.specs.Sessions.{SessionState, after_request, standing_text, fault_text, next_number, reply_to, request_in, text_of_request}
 
@@ -131,19 +132,28 @@ module _ {S : Type 0} (b : Semantics S) where
     pub beginning : Begins (blank.taken ++ answers) written.taken text
 
   -- in the text that was read
-  abbrev pub BreaksOffIn : SessionState S → List ℕ → Reading → Reading → Used → Used → Tape → Tape → Type 0
-  BreaksOffIn session buffer old new before now blank written =
-      (text : List ℕ) × (new.given ≡ old.given ++ text) × BreaksOff session (buffer ++ text) before now blank written
+  abbrev pub BreaksOffIn : SessionState S → List ℕ → Devices → Devices → Type 0
+  BreaksOffIn session buffer before now =
+      (text : List ℕ) × (now.input.given ≡ before.input.given ++ text)
+      × BreaksOff session (buffer ++ text) before.files now.files before.output now.output
 
   -- what was read, kept and written of the lines of a session
-  abbrev pub HoldsSession : SessionState S → List ℕ → Reading → Reading → Used → Used → Tape → Tape → Result (Unit {0}) ReplayFault → Type 0
-  HoldsSession session buffer old new before now blank written (Ok x) =
-      (text : List ℕ) × (new.given ≡ old.given ++ text) × (new.failures ≡ old.failures)
-      × ((said : List ℕ) × Converses session (buffer ++ text) new.ended before now said × Writes blank written said)
-  HoldsSession session buffer old new before now blank written (Err fault) =
-      FailsBy fault old new blank written × BreaksOffIn session buffer old new before now blank written
+  abbrev pub HoldsSession : SessionState S → List ℕ → Devices → Devices → Result (Unit {0}) ReplayFault → Type 0
+  HoldsSession session buffer before now (Ok x) =
+      (text : List ℕ) × (now.input.given ≡ before.input.given ++ text) × (now.input.failures ≡ before.input.failures)
+      × ((said : List ℕ) × Converses session (buffer ++ text) now.input.ended before.files now.files said × Writes before.output now.output said)
+  HoldsSession session buffer before now (Err fault) =
+      FailsBy fault before.input now.input before.output now.output × BreaksOffIn session buffer before now
 
--- ---- the whole
+  -- a session has broken off after a schedule and this buffer were read: the state at its begin was not written, or what follows it. The
+  -- input had been read so far
+  abbrev pub BreaksAfter : SessionState S → List ℕ → Reading → Devices → Devices → CommandFault → Type 0
+  BreaksAfter session buffer opened before now fault =
+      (now.input ≡ opened) × (now.files ≡ before.files) × FailsIn (standing_text b session) before.output now.output fault
+      ⊎ ((opening : Tape) × Writes before.output opening (standing_text b session) × ((broke : ReplayFault) × (fault ≡ fault_of_replay broke)
+      × HoldsSession session buffer (devices opened before.files opening) now (Err broke)))
+
+-- ---- where a session begins
 
 -- this is the first line of what was read, with its LF, and what was read after it
 abbrev pub IsFirstLine : List ℕ → List ℕ → List ℕ → Type 0
@@ -164,6 +174,58 @@ BeginsWith None old now buffer text =
 abbrev pub OpensSession : Option (List ℕ) → Reading → Reading → List ℕ → Scheduled → Type 0
 OpensSession start old now buffer schedule = (text : List ℕ) × BeginsWith start old now buffer text × (schedule_at text ≡ Ok schedule)
 
+-- that text is no schedule
+abbrev pub HasNoSchedule : Option (List ℕ) → Reading → Reading → CommandFault → Type 0
+HasNoSchedule start old now fault = (text : List ℕ) × (buffer : List ℕ) × BeginsWith start old now buffer text × IsNoSchedule text fault
+
+-- ---- the whole, on a machine
+
+-- what a session shows of a machine, where it begins with a schedule, and which schedules it can begin with
+pub record SessionMachine (S : Type 0) : Type 1 where
+  pub semantics : Semantics S
+  pub session : Scheduled → SessionState S
+  pub accepts : Scheduled → Type 0
+  -- why it can't begin with this one
+  pub refuses : Scheduled → CommandFault → Type 0
+
+module _ {S : Type 0} (machine : SessionMachine S) where
+  -- why a session can't begin
+  abbrev pub CantBegin : Option (List ℕ) → Reading → Reading → CommandFault → Type 0
+  CantBegin start old now fault =
+      HasNoSchedule start old now fault
+      ⊎ ((buffer : List ℕ) × (schedule : Scheduled) × OpensSession start old now buffer schedule × machine.refuses schedule fault)
+
+  -- the state at its begin was written, and then the answers
+  pub record IsHeld (start : Option (List ℕ)) (before now : Devices) : Type 0 where
+    pub schedule : Scheduled
+    pub opened : Reading
+    pub buffer : List ℕ
+    pub opens : OpensSession start before.input opened buffer schedule
+    pub accepted : machine.accepts schedule
+    pub opening : Tape
+    pub first : Writes before.output opening (standing_text machine.semantics (machine.session schedule))
+    pub holds : HoldsSession machine.semantics (machine.session schedule) buffer (devices opened before.files opening) now (Ok tt)
+
+  -- it began with this schedule, and has broken off
+  pub record IsCutOff (start : Option (List ℕ)) (before now : Devices) (fault : CommandFault) : Type 0 where
+    pub schedule : Scheduled
+    pub opened : Reading
+    pub buffer : List ℕ
+    pub opens : OpensSession start before.input opened buffer schedule
+    pub accepted : machine.accepts schedule
+    pub breaks : BreaksAfter machine.semantics (machine.session schedule) buffer opened before now fault
+
+  -- how a session ends: at its end with status 0; or it can't begin, or a read or memory has failed, and nothing was written; or it has
+  -- broken off
+  abbrev pub SessionEnds : Option (List ℕ) → Devices → Devices → Result Ending CommandFault → Type 0
+  SessionEnds start before now (Ok ending) = (ending.status ≡ 0) × IsHeld start before now
+  SessionEnds start before now (Err fault) =
+      (FailsToRead before.input now.input fault ⊎ CantBegin start before.input now.input fault) × Silent before.output now.output
+      × (now.files ≡ before.files)
+      ⊎ IsCutOff start before now fault
+
+-- ---- the lock
+
 -- the world refuses this line of the schedule
 abbrev pub IsRefusedLine : Scheduled → CommandFault → Type 0
 IsRefusedLine schedule fault =
@@ -173,46 +235,12 @@ IsRefusedLine schedule fault =
 abbrev pub CantPlay : Scheduled → CommandFault → Type 0
 CantPlay schedule fault = IsUnmade schedule fault ⊎ IsRefusedLine schedule fault
 
--- the text is no schedule, or one that can't be played
-abbrev pub IsAtFault : List ℕ → CommandFault → Type 0
-IsAtFault text fault = IsNoSchedule text fault ⊎ ((schedule : Scheduled) × (schedule_at text ≡ Ok schedule) × CantPlay schedule fault)
-
--- why a session can't begin
-abbrev pub CantBegin : Option (List ℕ) → Reading → Reading → CommandFault → Type 0
-CantBegin start old now fault = (text : List ℕ) × (buffer : List ℕ) × BeginsWith start old now buffer text × IsAtFault text fault
-
--- the state at its begin was written, and then the answers
-pub record IsHeld (start : Option (List ℕ)) (old new : Reading) (before now : Used) (blank written : Tape) : Type 0 where
-  pub schedule : Scheduled
-  pub opened : Reading
-  pub buffer : List ℕ
-  pub opens : OpensSession start old opened buffer schedule
-  pub accepted : (world_run schedule).refused ≡ None
-  pub opening : Tape
-  pub first : Writes blank opening (standing_text lock_semantics (lock_session schedule))
-  pub holds : HoldsSession lock_semantics (lock_session schedule) buffer opened new before now opening written (Ok tt)
-
--- a session has broken off over this simulation, after this schedule and buffer were read: the state at its begin was not written, or
--- what follows it
-abbrev pub BreaksAfter : {S : Type 0} → Semantics S → SessionState S → List ℕ → Reading → Reading → Used → Used → Tape → Tape → CommandFault → Type 0
-BreaksAfter b session buffer opened new before now blank written fault =
-    (new ≡ opened) × (now ≡ before) × FailsIn (standing_text b session) blank written fault
-    ⊎ ((opening : Tape) × Writes blank opening (standing_text b session) × ((broke : ReplayFault) × (fault ≡ fault_of_replay broke)
-    × HoldsSession b session buffer opened new before now opening written (Err broke)))
-
--- it began with this schedule, and has broken off
-pub record IsCutOff (start : Option (List ℕ)) (old new : Reading) (before now : Used) (blank written : Tape) (fault : CommandFault) : Type 0 where
-  pub schedule : Scheduled
-  pub opened : Reading
-  pub buffer : List ℕ
-  pub opens : OpensSession start old opened buffer schedule
-  pub accepted : (world_run schedule).refused ≡ None
-  pub breaks : BreaksAfter lock_semantics (lock_session schedule) buffer opened new before now blank written fault
-
--- how a session ends: at its end with status 0; or it can't begin, or a read or memory has failed, and nothing was written; or it has
--- broken off
-abbrev pub SessionEnds : Option (List ℕ) → Reading → Reading → Used → Used → Tape → Tape → Result Ending CommandFault → Type 0
-SessionEnds start old new before now blank written (Ok ending) = (ending.status ≡ 0) × IsHeld start old new before now blank written
-SessionEnds start old new before now blank written (Err fault) =
-    (FailsToRead old new fault ⊎ CantBegin start old new fault) × Silent blank written × (now ≡ before)
-    ⊎ IsCutOff start old new before now blank written fault
+-- a session plays the schedule that it begins with
+abbrev pub lock_machine : SessionMachine LockSimulationState
+lock_machine =
+    record {
+      semantics = lock_semantics;
+      session = lock_session;
+      accepts = λ schedule. (world_run schedule).refused ≡ None;
+      refuses = CantPlay;
+    }

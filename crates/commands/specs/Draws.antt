@@ -8,7 +8,7 @@ use Rattle.commands.specs.declared.schedules.fault.CommandFault.{CommandFault}
 use Rattle.schedule.specs.Tapes.{Tape, Reading}
 use Rattle.cli.specs.declared.arguments.args.DrawArgs.{DrawArgs}
 use Rattle.commands.specs.Statuses.{status_ended}
-use Rattle.commands.specs.Tellings.{Manner, drawn_as, TellsRead}
+use Rattle.commands.specs.Tellings.{Manner, drawn_as, TellsRead, RunRequest}
 
 -- the style of a drawing
 abbrev pub style_of : Bool → Style
@@ -18,7 +18,10 @@ style_of svg = if svg then Svg else Text
 abbrev pub draw_manner : DrawArgs → Manner
 draw_manner args = drawn_as args.html (style_of args.svg)
 
+abbrev pub draw_request : DrawArgs → RunRequest
+draw_request args = record { variant = args.variant; manner = draw_manner args }
+
 -- no verdict is against the right lock
 abbrev pub DrawEnds : DrawArgs → Option (List ℕ) → Reading → Reading → Tape → Tape → Result Ending CommandFault → Type 0
 DrawEnds args image old new before now end =
-    (status_ended end ≡ 1 → args.variant ≢ Right) × TellsRead args.variant (draw_manner args) image old new before now end
+    (status_ended end ≡ 1 → args.variant ≢ Right) × TellsRead (draw_request args) image old new before now end

@@ -26,3 +26,4 @@ pub mod Programs
 pub mod Tallies
 pub mod Conversations
 pub mod Folders
+pub mod Devices

@@ -9,6 +9,7 @@ use Rattle.cli.specs.declared.arguments.args.Command.{Command}
 use Rattle.cli.specs.declared.arguments.words.WordsFault.{WordsFault}
 use Rattle.cli.specs.declared.arguments.words.WordsFault.TheVariants as words
 use Rattle.commands.specs.Commands.{CommandEnds, SessionEndsOf}
+use Rattle.commands.specs.Devices.{Devices, devices}
 use Rattle.commands.specs.Endings.{IsEnded}
 pub use Rattle.commands.specs.Folders.{Used, is_session}
 use Rattle.cli.specs.FilesNamed.{image_of, input_of, save_of}
@@ -66,11 +67,11 @@ abbrev pub EndsOnFile : Command → Tape → Tape → Result Ending CommandFault
 EndsOnFile command before now end = CantOpen before now end ⊎ ((last : Reading) × EndsBeside command nothing_read last before now end)
 
 -- a session on standard input, which begins where nothing was written to any file
-abbrev pub SessionEndsIn : Command → Used → Used → Reading → Reading → Tape → Tape → Result Ending CommandFault → Type 0
-SessionEndsIn command before now old new blank written end =
-    CantOpen blank written end × (new ≡ old) × SavesNone before now
-    ⊎ ((image : Option (List ℕ)) × (is_some image ≡ is_some (image_of command)) × (first : Used) × SavesNone before first
-    × SessionEndsOf command image old new first now blank written end)
+abbrev pub SessionEndsIn : Command → Devices → Devices → Result Ending CommandFault → Type 0
+SessionEndsIn command before now end =
+    CantOpen before.output now.output end × (now.input ≡ before.input) × SavesNone before.files now.files
+    ⊎ ((image : Option (List ℕ)) × (is_some image ≡ is_some (image_of command)) × (first : Used) × SavesNone before.files first
+    × SessionEndsOf command image (devices before.input first before.output) now end)
 
 -- without a fault, no write and no flush has failed
 abbrev pub IsFullyWritten : Tape → Tape → Result Ending CommandFault → Type 0
@@ -106,20 +107,20 @@ Finishes command before now output written ended end =
     ⊎ (written ≡ output) × (KeepsFault before now ended end ⊎ SavesLast command before now ended end)
 
 -- what is done for a command: standard input is read if and only if no file is named
-pub record ExecutesCommand (command : Command) (before now : Used) (old new : Reading) (blank written : Tape) (end : Result Ending CommandFault) : Type 0 where
+pub record ExecutesCommand (command : Command) (before now : Devices) (end : Result Ending CommandFault) : Type 0 where
   -- how it ended before its output was flushed, and what was kept and written by then
   pub used : Used
   pub output : Tape
   pub ended : Result Ending CommandFault
-  pub opens_all : OnOk end (now.opened ≡ opens_all command before.opened)
-  pub opens_some : OpensSome command before.opened now.opened
-  pub unsaved : is_session command ≡ false → SavesNone before used
-  pub session : is_session command ≡ true → SessionEndsIn command before used old new blank output ended
-  pub whole : IsFullyWritten blank written end
-  pub apart : is_some (input_of command) ≡ true → new ≡ old
-  pub on_input : input_of command ≡ None → EndsOnInput command old new blank output ended
-  pub on_file : is_some (input_of command) ≡ true → EndsOnFile command blank output ended
-  pub finishes : Finishes command used now output written ended end
+  pub opens_all : OnOk end (now.files.opened ≡ opens_all command before.files.opened)
+  pub opens_some : OpensSome command before.files.opened now.files.opened
+  pub unsaved : is_session command ≡ false → SavesNone before.files used
+  pub session : is_session command ≡ true → SessionEndsIn command before (devices now.input used output) ended
+  pub whole : IsFullyWritten before.output now.output end
+  pub apart : is_some (input_of command) ≡ true → now.input ≡ before.input
+  pub on_input : input_of command ≡ None → EndsOnInput command before.input now.input before.output output ended
+  pub on_file : is_some (input_of command) ≡ true → EndsOnFile command before.output output ended
+  pub finishes : Finishes command used now.files output now.output ended end
 
 -- the line of a fault, or nothing
 abbrev pub WritesFault : Tape → Tape → Result Ending CommandFault → Type 0
@@ -131,18 +132,20 @@ pub record EndsWithStatus (said says : Tape) (end : Result Ending CommandFault) 
   pub status_is : status ≡ status_ended end
   pub tells : WritesFault said says end
 
--- a command is carried out over a reader and two writers, and its fault reported. What is to be saved is the save of its end
-pub record CarriesOut (command : Command) (image : Option (List ℕ)) (old new : Reading) (blank written said says : Tape) (ending : Ending) : Type 0 where
-  pub end : Result Ending CommandFault
-  pub ends : CommandEnds command image old new blank written end
-  pub ended : IfOk end (IsEnded (is_some (save_of command)) blank.failures written.failures)
+-- a command is carried out over a reader and a writer
+pub record CarriesOut (command : Command) (image : Option (List ℕ)) (old new : Reading) (before now : Tape) (end : Result Ending CommandFault) : Type 0 where
+  pub ends : CommandEnds command image old new before now end
+  pub ended : IfOk end (IsEnded (is_some (save_of command)) before.failures now.failures)
+
+-- its fault is reported. What is to be saved is the save of its end
+pub record IsReported (said says : Tape) (end : Result Ending CommandFault) (ending : Ending) : Type 0 where
   pub closes : EndsWithStatus said says end ending.status
   pub save_is : ending.save ≡ save_ended end
 
 -- a command is carried out, and its fault reported
-abbrev pub Obeys : Command → Used → Used → Reading → Reading → Tape → Tape → Tape → Tape → ℕ → Type 0
-Obeys command before now old new blank written said says status =
-    (end : Result Ending CommandFault) × ExecutesCommand command before now old new blank written end × EndsWithStatus said says end status
+abbrev pub Obeys : Command → Devices → Devices → Tape → Tape → ℕ → Type 0
+Obeys command before now said says status =
+    (end : Result Ending CommandFault) × ExecutesCommand command before now end × EndsWithStatus said says end status
 
 -- ---- words that are no command
 
@@ -179,10 +182,11 @@ IsUnasked (Ok words) fault = IsWordsRefusal (texts_of words.items) fault
 IsUnasked (Err nothing_read) fault = fault ≡ nothing_read
 
 -- the command that the words spell is carried out, or only the fault of the words is reported
-abbrev pub IsProgram : GivenWords → Used → Used → Reading → Reading → Tape → Tape → Tape → Tape → ℕ → Type 0
-IsProgram words before now old new blank written said says status =
-    ((command : Command) × IsCommandAsked words command × Obeys command before now old new blank written said says status)
-    ⊎ ((fault : WordsFault) × IsUnasked words fault × ReportsWordsFault fault blank written said says status × (now ≡ before) × (new ≡ old))
+abbrev pub IsProgram : GivenWords → Devices → Devices → Tape → Tape → ℕ → Type 0
+IsProgram words before now said says status =
+    ((command : Command) × IsCommandAsked words command × Obeys command before now said says status)
+    ⊎ ((fault : WordsFault) × IsUnasked words fault × ReportsWordsFault fault before.output now.output said says status
+    × (now.files ≡ before.files) × (now.input ≡ before.input))
 
 -- ---- a process
 
@@ -193,7 +197,7 @@ pub record RunsWords (words : GivenWords) (before now : Used) (status : ℕ) : T
   pub written : Tape
   pub said : Tape
   pub says : Tape
-  pub is : IsProgram words before now nothing_read new blank written said says status
+  pub is : IsProgram words (devices nothing_read before blank) (devices new now written) said says status
 
 -- the output has no buffer: only that is reported
 pub record CantBuffer (before now : Used) (status : ℕ) : Type 0 where

@@ -19,7 +19,7 @@ use Rattle.commands.specs.declared.schedules.ending.Ending.{Ending}
 use Rattle.commands.specs.declared.schedules.fault.CommandFault.{CommandFault}
 use Rattle.commands.specs.Endings.{IsEnded, TellsReads}
 use Rattle.commands.specs.Statuses.{outcome, replay_status, status_after, status_ended}
-use Rattle.commands.specs.Tellings.{Manner, Replayed, TellsRead}
+use Rattle.commands.specs.Tellings.{Manner, Replayed, TellsRead, RunRequest}
 
 -- only the report of a schedule on the right lock is asked for
 abbrev pub IsPlainReplay : ReplayArgs → Option (List ℕ) → Type 0
@@ -28,6 +28,9 @@ IsPlainReplay args image = (image ≡ None) × (args.variant ≡ Right) × (args
 -- how the run is to be written
 abbrev pub replay_manner : ReplayArgs → Manner
 replay_manner args = Replayed args.each args.json (is_some args.save)
+
+abbrev pub replay_request : ReplayArgs → RunRequest
+replay_request args = record { variant = args.variant; manner = replay_manner args }
 
 -- the report of the schedule that was read was written, or the command answers why not
 abbrev pub TellsReplay : Reading → Reading → Tape → Tape → Result Ending CommandFault → Type 0
@@ -67,4 +70,4 @@ abbrev pub ReplayEnds : ReplayArgs → Option (List ℕ) → Reading → Reading
 ReplayEnds args image old new before now end =
     (status_ended end ≡ 1 → args.variant ≢ Right) × (IsPlainReplay args image → TellsReplay old new before now end)
     × (IsFromBeginning args image → IfOk end (λ ending. SavesLast old new ending.save))
-    × ((IsPlainReplay args image → ⊥) → TellsRead args.variant (replay_manner args) image old new before now end) × TellsReads old new end
+    × ((IsPlainReplay args image → ⊥) → TellsRead (replay_request args) image old new before now end) × TellsReads old new end

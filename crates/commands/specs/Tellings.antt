@@ -11,7 +11,7 @@ use Rattle.diagram.specs.declared.phase.LifelinePhase.{LifelinePhase}
 use Rattle.diagram.specs.declared.phase.LifelinePhase.TheVariants.{Rest, Dead}
 use Rattle.diagram.specs.declared.diagram_layout.Style.{Style}
 use Rattle.diagram.specs.Drawings.{diagram_layout_of, drawing_text}
-use Rattle.diagram.specs.Events.{events_on}
+use Rattle.diagram.specs.Events.{DiagramEvent, events_on}
 use Rattle.diagram.specs.Followed.{run_text, FollowsRun}
 use Rattle.diagram.specs.Pages.{page_text}
 use Rattle.diagram.specs.Rows.{events_in, EndsAs, IsJudged}
@@ -67,13 +67,32 @@ IsDrawingWritten before now text last (Err faults.Write) = Begins before.taken n
 IsDrawingWritten before now text last (Err faults.OutOfMemory) = BreaksOff before.taken now.taken text × (now.failures ≡ before.failures)
 IsDrawingWritten before now text last end = Writes before now text × (end ≡ ending_of last)
 
--- the rows of the drawing show exactly the steps and crashes of the schedule's run on a machine, and how it ends
-pub record DrawsMachineRun {S : Type 0} (b : Behaviour S) (start : State) (s : S) (first : LifelinePhase) (style : Style) (schedule : Scheduled) (before now : Tape) (end : Result Ending CommandFault) : Type 0 where
+-- a schedule that is played on a machine: the states in which its judge and the machine begin, and the phase of each process there
+pub record RunStart (S : Type 0) : Type 0 where
+  pub machine : Behaviour S
+  pub judged : State
+  pub first : S
+  pub phase : LifelinePhase
+  pub schedule : Scheduled
+
+abbrev pub run_start : {S : Type 0} → Behaviour S → State → S → LifelinePhase → Scheduled → RunStart S
+run_start machine judged first phase schedule = record { machine = machine; judged = judged; first = first; phase = phase; schedule = schedule }
+
+-- its run
+abbrev pub run_of : {S : Type 0} → RunStart S → Part S (ℕ × Refusal)
+run_of start = run_on start.machine 2 start.first start.schedule.lines
+
+-- the steps and crashes of its run
+abbrev pub run_events : {S : Type 0} → RunStart S → List DiagramEvent
+run_events start = events_on start.machine start.first start.schedule.lines
+
+-- the rows of the drawing show exactly the steps and crashes of the schedule's run, and how it ends
+pub record DrawsMachineRun {S : Type 0} (style : Style) (start : RunStart S) (before now : Tape) (end : Result Ending CommandFault) : Type 0 where
   pub rows : List DiagramRow
   pub last : End
-  pub shows : events_in rows ≡ events_on b s schedule.lines
-  pub ends_as : EndsAs start (run_on b 2 s schedule.lines) last
-  pub written : IsDrawingWritten before now (drawing_text (diagram_layout_of style (head_of schedule) rows last) first rows last) last end
+  pub shows : events_in rows ≡ run_events start
+  pub ends_as : EndsAs start.judged (run_of start) last
+  pub written : IsDrawingWritten before now (drawing_text (diagram_layout_of style (head_of start.schedule) rows last) start.phase rows last) last end
 
 -- a drawing in this style, or a page
 abbrev pub drawn_as : Bool → Style → Manner
@@ -81,14 +100,14 @@ drawn_as true style = Paged
 drawn_as false style = Drawn style
 
 -- the page is that of rows which show exactly the steps and crashes of the schedule's run, and of its first and last image
-pub record PagesRun {S : Type 0} (b : Behaviour S) (picture_of : S → Image) (start : State) (s : S) (first : LifelinePhase) (schedule : Scheduled) (before now : Tape) (end : Result Ending CommandFault) : Type 0 where
+pub record PagesRun {S : Type 0} (start : RunStart S) (before now : Tape) (end : Result Ending CommandFault) : Type 0 where
   pub rows : List DiagramRow
   pub last : End
   pub after : Image
-  pub shows : events_in rows ≡ events_on b s schedule.lines
-  pub ends_as : EndsAs start (run_on b 2 s schedule.lines) last
-  pub left : IsJudged last → after ≡ picture_of (run_on b 2 s schedule.lines).left
-  pub written : IsDrawingWritten before now (page_text (head_of schedule) first (picture_of s) rows after last) last end
+  pub shows : events_in rows ≡ run_events start
+  pub ends_as : EndsAs start.judged (run_of start) last
+  pub left : IsJudged last → after ≡ start.machine.image_of (run_of start).left
+  pub written : IsDrawingWritten before now (page_text (head_of start.schedule) start.phase (start.machine.image_of start.first) rows after last) last end
 
 -- this is the report of a run, of which no line is refused
 pub record IsReportOf {S : Type 0} (start : State) (picture_of : S → Image) (run : Part S (ℕ × Refusal)) (text : List ℕ) : Type 0 where
@@ -119,13 +138,15 @@ ReplaysObject before now start picture_of run (Err of_replay.OutOfMemory) = Sile
 ReplaysObject before now start picture_of run (Err fault) = ⊥
 
 -- the result of a replay that writes each step, as JSON or as text, or the report alone
-abbrev pub AnswersRun : {S : Type 0} → Bool → Bool → Behaviour S → (S → Image) → State → S → LifelinePhase → Scheduled → Tape → Tape → Result Verdict ReplayFault → Type 0
-AnswersRun true true b picture_of start s first schedule before now answer =
-    FollowsAsLines before now start picture_of (run_on b 2 s schedule.lines) (step_lines (head_of schedule) first (picture_of s) (events_on b s schedule.lines)) answer
-AnswersRun true false b picture_of start s first schedule before now answer =
-    FollowsRun before now start picture_of (run_on b 2 s schedule.lines) (run_text (sizes_of (head_of schedule)) (replicate schedule.procs first) (events_on b s schedule.lines)) answer
-AnswersRun false true b picture_of start s first schedule before now answer = ReplaysObject before now start picture_of (run_on b 2 s schedule.lines) answer
-AnswersRun false false b picture_of start s first schedule before now answer = Replays before now start picture_of (run_on b 2 s schedule.lines) answer
+abbrev pub AnswersRun : {S : Type 0} → Bool → Bool → RunStart S → Tape → Tape → Result Verdict ReplayFault → Type 0
+AnswersRun true true start before now answer =
+    FollowsAsLines before now start.judged start.machine.image_of (run_of start)
+    (step_lines (head_of start.schedule) start.phase (start.machine.image_of start.first) (run_events start)) answer
+AnswersRun true false start before now answer =
+    FollowsRun before now start.judged start.machine.image_of (run_of start)
+    (run_text (sizes_of (head_of start.schedule)) (replicate start.schedule.procs start.phase) (run_events start)) answer
+AnswersRun false true start before now answer = ReplaysObject before now start.judged start.machine.image_of (run_of start) answer
+AnswersRun false false start before now answer = Replays before now start.judged start.machine.image_of (run_of start) answer
 
 -- out of memory for the image that is to be saved, after a verdict
 abbrev pub WantsImage : Bool → Result Verdict ReplayFault → Result Ending CommandFault → Type 0
@@ -133,11 +154,11 @@ WantsImage saves answer end = (saves ≡ true) × IsOk answer × (end ≡ Err fa
 
 -- the run was written, and the command has that result; or it was out of memory for the image to be saved. The image is
 -- the one after the run
-pub record ReplaysRun {S : Type 0} (each json saves : Bool) (b : Behaviour S) (picture_of : S → Image) (start : State) (s : S) (first : LifelinePhase) (schedule : Scheduled) (before now : Tape) (end : Result Ending CommandFault) : Type 0 where
+pub record ReplaysRun {S : Type 0} (each json saves : Bool) (start : RunStart S) (before now : Tape) (end : Result Ending CommandFault) : Type 0 where
   pub answer : Result Verdict ReplayFault
-  pub answers : AnswersRun each json b picture_of start s first schedule before now answer
+  pub answers : AnswersRun each json start before now answer
   pub ends_so : (outcome end ≡ replay_status answer) ⊎ WantsImage saves answer end
-  pub last : IfOk end (λ ending. IfSome ending.save (λ text. text.items ≡ image_line (picture_of (run_on b 2 s schedule.lines).left)))
+  pub last : IfOk end (λ ending. IfSome ending.save (λ text. text.items ≡ image_line (start.machine.image_of (run_of start).left)))
 
 -- nothing is written: out of memory
 pub record Wants (before now : Tape) (end : Result Ending CommandFault) : Type 0 where
@@ -145,10 +166,10 @@ pub record Wants (before now : Tape) (end : Result Ending CommandFault) : Type 0
   pub memory : end ≡ Err faults.OutOfMemory
 
 -- the run is written in this manner, or there was no memory
-abbrev pub WritesRun : {S : Type 0} → Manner → Behaviour S → (S → Image) → State → S → LifelinePhase → Scheduled → Tape → Tape → Result Ending CommandFault → Type 0
-WritesRun (Drawn style) b picture_of start s first schedule before now end = DrawsMachineRun b start s first style schedule before now end ⊎ Wants before now end
-WritesRun Paged b picture_of start s first schedule before now end = PagesRun b picture_of start s first schedule before now end ⊎ Wants before now end
-WritesRun (Replayed each json saves) b picture_of start s first schedule before now end = ReplaysRun each json saves b picture_of start s first schedule before now end ⊎ Wants before now end
+abbrev pub WritesRun : {S : Type 0} → Manner → RunStart S → Tape → Tape → Result Ending CommandFault → Type 0
+WritesRun (Drawn style) start before now end = DrawsMachineRun style start before now end ⊎ Wants before now end
+WritesRun Paged start before now end = PagesRun start before now end ⊎ Wants before now end
+WritesRun (Replayed each json saves) start before now end = ReplaysRun each json saves start before now end ⊎ Wants before now end
 
 -- ---- the machine that is asked for
 
@@ -160,13 +181,13 @@ RefusesCommand before now Is end = Silent before now × ((fault : CommandFault) 
 abbrev pub TellsNew : Manner → Scheduled → Tape → Tape → Result Ending CommandFault → Type 0
 TellsNew manner schedule before now end =
     RefusesCommand before now (IsUnmade schedule) end
-    ⊎ WritesRun manner world_behaviour image_of (empty_state schedule.procs schedule.cap) (new_world (layout_of schedule) schedule.limit) Rest schedule before now end
+    ⊎ WritesRun manner (run_start world_behaviour (empty_state schedule.procs schedule.cap) (new_world (layout_of schedule) schedule.limit) Rest schedule) before now end
 
 -- on a new world of a variant
 abbrev pub TellsVariant : Variant → Manner → Scheduled → Tape → Tape → Result Ending CommandFault → Type 0
 TellsVariant variant manner schedule before now end =
     RefusesCommand before now (IsUnmade schedule) end
-    ⊎ WritesRun manner variants.variant_behaviour variants.image_of (empty_state schedule.procs schedule.cap) (variants.new_world variant (layout_of schedule) schedule.limit) Rest schedule before now end
+    ⊎ WritesRun manner (run_start variants.variant_behaviour (empty_state schedule.procs schedule.cap) (variants.new_world variant (layout_of schedule) schedule.limit) Rest schedule) before now end
 
 -- on the world of an image, all processes dead, with a judge that starts in the state of the image
 pub record TellsOn (image : Image) (manner : Manner) (schedule : Scheduled) (before now : Tape) (end : Result Ending CommandFault) : Type 0 where
@@ -174,7 +195,7 @@ pub record TellsOn (image : Image) (manner : Manner) (schedule : Scheduled) (bef
   pub fits : IsFitting image schedule
   pub start : Start
   pub begins : IsStartOf image start
-  pub tells : WritesRun manner world_behaviour image_of (state_of start) (image_world image) Dead schedule before now end
+  pub tells : WritesRun manner (run_start world_behaviour (state_of start) (image_world image) Dead schedule) before now end
 
 -- on the world of this image if it fits the header, or of the widened image
 abbrev pub TellsImage : Image → Manner → Scheduled → Tape → Tape → Result Ending CommandFault → Type 0
@@ -190,15 +211,20 @@ TellsSchedule variant None manner schedule before now end =
 
 -- ---- the whole
 
+-- what is asked for: a run on this variant, written in this manner
+pub record RunRequest : Type 0 where
+  pub variant : Variant
+  pub manner : Manner
+
 -- the run of the schedule that was read is written, on the image of the text that is given, if one is
-pub record TellsText (variant : Variant) (manner : Manner) (image : Option (List ℕ)) (old new : Reading) (before now : Tape) (end : Result Ending CommandFault) : Type 0 where
+pub record WritesReadRun (request : RunRequest) (image : Option (List ℕ)) (old new : Reading) (before now : Tape) (end : Result Ending CommandFault) : Type 0 where
   pub text : List ℕ
   pub read : WasRead old new text
   pub schedule : Scheduled
   pub spelled_so : schedule_at text ≡ Ok schedule
   pub picture : Option Image
   pub pictured : IsPicture image picture
-  pub reports : TellsSchedule variant picture manner schedule before now end
+  pub reports : TellsSchedule request.variant picture request.manner schedule before now end
 
 -- what is wrong with what was read: the image or the text; or a device or memory has failed
 abbrev pub IsUnreadable : Option (List ℕ) → Reading → Reading → CommandFault → Type 0
@@ -206,6 +232,6 @@ IsUnreadable image old new fault =
     FailsToRead old new fault ⊎ (IsWrongImage image fault ⊎ IsWrongText old new fault)
 
 -- the run is written, or the fault of what was to be read is answered
-abbrev pub TellsRead : Variant → Manner → Option (List ℕ) → Reading → Reading → Tape → Tape → Result Ending CommandFault → Type 0
-TellsRead variant manner image old new before now end =
-    RefusesCommand before now (IsUnreadable image old new) end ⊎ TellsText variant manner image old new before now end
+abbrev pub TellsRead : RunRequest → Option (List ℕ) → Reading → Reading → Tape → Tape → Result Ending CommandFault → Type 0
+TellsRead request image old new before now end =
+    RefusesCommand before now (IsUnreadable image old new) end ⊎ WritesReadRun request image old new before now end

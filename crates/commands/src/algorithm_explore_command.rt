@@ -1,12 +1,13 @@
 //! The command `explore` on an algorithm's text.
 
 ghost use Rattle.std.specs.Prelude.{◌≡◌, false, IfErr, IfOk, OnOk, option_copied};
-ghost use Rattle.commands.specs.AlgorithmExplores.{AlgorithmExploreEnds, all_line_but, ExploresAlgorithm, SearchEnds, calls_had, calls_of as calls_asked, schedule_of as schedule_by};
+ghost use Rattle.commands.specs.AlgorithmExplores.{AlgorithmExploreEnds, BothEnd, ShortestEnds, StarvingEnds, StuckEnds, all_line_but, ExploresAlgorithm, calls_had, calls_of as calls_asked, schedule_of as schedule_by};
 ghost use Rattle.commands.specs.AlgorithmFindings.{line_by, world_call};
 ghost use Rattle.commands.specs.Endings.{IsEnded, Prints};
 ghost use Rattle.schedule.specs.Schedules.{spelling};
 
 use crate::algorithm_starvation::tell_starving;
+use crate::algorithm_stuck::tell_stuck;
 use crate::explore_command::{put_call, tell_all, tell_within};
 use crate::progress::meter::Meter;
 use crate::progress::screen::Screen;
@@ -21,7 +22,7 @@ use algorithm_explorer::{
     shortest_algorithm_schedule,
 };
 use algorithms::{Algorithm, AlgorithmCall, Entries};
-use cli::arguments::args::{AlgorithmCalls, AlgorithmExploreArgs};
+use cli::arguments::args::{AlgorithmCalls, AlgorithmExploreArgs, Cycles};
 use rmeworld::Call as WorldCall;
 use schedule::{Count, Line, Schedule, Sink};
 use std::alloc::{AllocError, Global};
@@ -102,7 +103,7 @@ pub(crate) fn schedule_of(
 }
 
 /// Writes the moves as a schedule.
-fn tell_path<W: Sink>(
+pub(crate) fn tell_path<W: Sink>(
     alloc: Global,
     args: &AlgorithmExploreArgs,
     path: &[AlgorithmMove],
@@ -171,29 +172,79 @@ fn tell_shortest<S: Screen, W: Sink>(
     }
 }
 
-/// Writes the schedule of fewest moves of the algorithm that goes wrong, or with `--starving` in which a process starves, or that
-/// there is none.
-fn search_algorithm<S: Screen, W: Sink>(
+/// Reads the algorithm from its text, and writes the schedule of fewest moves that goes wrong, or that there is none.
+#[tactic(auto, using(crate::proofs::AlgorithmTexts::no_algorithm_alone))]
+fn search_shortest<S: Screen, W: Sink>(
     alloc: Global,
-    algorithm: Algorithm,
     args: &AlgorithmExploreArgs,
+    text: Option<&[u8]>,
     screen: &mut S,
     w: &mut W,
 ) -> Result<Ending, CommandFault>
-    ensures ends { SearchEnds args.now.starving algorithm args.now (W.tape w.old) (W.tape w.new) result }
+    ensures ends { ShortestEnds args.now (option_copied text.entry) (W.tape w.old) (W.tape w.new) result }
     ensures ended { IfOk result (IsEnded false (W.tape w.old).failures (W.tape w.new).failures) }
 {
-    match args.starving {
-        Some(cycles) => tell_starving(alloc, algorithm, args, cycles, screen, w),
-        None => tell_shortest(alloc, algorithm, args, screen, w),
-    }
+    let algorithm = algorithm_read(alloc, text)?;
+    tell_shortest(alloc, algorithm, args, screen, w)
+}
+
+/// The same with `--stuck`: the schedule that goes wrong, or else the one of fewest moves to a stuck state.
+#[tactic(auto, using(crate::proofs::AlgorithmTexts::no_algorithm_alone))]
+fn search_stuck<S: Screen, W: Sink>(
+    alloc: Global,
+    args: &AlgorithmExploreArgs,
+    text: Option<&[u8]>,
+    screen: &mut S,
+    w: &mut W,
+) -> Result<Ending, CommandFault>
+    ensures ends { StuckEnds args.now (option_copied text.entry) (W.tape w.old) (W.tape w.new) result }
+    ensures ended { IfOk result (IsEnded false (W.tape w.old).failures (W.tape w.new).failures) }
+{
+    let algorithm = algorithm_read(alloc, text)?;
+    tell_stuck(alloc, algorithm, args, screen, w)
+}
+
+/// The same with `--starving`: the schedule of fewest moves in which a process starves.
+#[tactic(auto, using(crate::proofs::AlgorithmTexts::no_algorithm_alone))]
+fn search_starving<S: Screen, W: Sink>(
+    alloc: Global,
+    args: &AlgorithmExploreArgs,
+    text: Option<&[u8]>,
+    cycles: Cycles,
+    screen: &mut S,
+    w: &mut W,
+) -> Result<Ending, CommandFault>
+    ensures ends { StarvingEnds cycles args.now (option_copied text.entry) (W.tape w.old) (W.tape w.new) result }
+    ensures ended { IfOk result (IsEnded false (W.tape w.old).failures (W.tape w.new).failures) }
+{
+    let algorithm = algorithm_read(alloc, text)?;
+    tell_starving(alloc, algorithm, args, cycles, screen, w)
+}
+
+/// Writes what the search for stuck states has found, and then what the one for a process that starves has. Each reads the text.
+fn search_both<S: Screen, W: Sink>(
+    alloc: Global,
+    args: &AlgorithmExploreArgs,
+    text: Option<&[u8]>,
+    cycles: Cycles,
+    screen: &mut S,
+    w: &mut W,
+) -> Result<Ending, CommandFault>
+    ensures ends { BothEnd cycles args.now (option_copied text.entry) (W.tape w.old) (W.tape w.new) result }
+    ensures ended { IfOk result (IsEnded false (W.tape w.old).failures (W.tape w.new).failures) }
+{
+    let first = search_stuck(alloc, args, text, screen, w)?;
+    let second = search_starving(alloc, args, text, cycles, screen, w)?;
+    Ok(Ending {
+        status: first.status.max(second.status),
+        save: None,
+    })
 }
 
 /// Runs `explore --algorithm`: reads the algorithm from its text, searches its schedules in this thread, and writes the schedule
-/// of fewest moves that goes wrong, or with `--starving` in which a process starves, or that there is none. Progress is shown on
-/// the screen. `Algorithm`: the text's fault. `BadSize`: the algorithm is not for this number of processes, or the limit is outside
-/// its range. `TooManyStates`: the search reached more states than it may keep.
-#[tactic(auto, using(crate::proofs::AlgorithmTexts::no_algorithm_alone))]
+/// of fewest moves that goes wrong, or that there is none; with `--stuck` also one to a stuck state, and with `--starving` one in
+/// which a process starves. Progress is shown on the screen. `Algorithm`: the text's fault. `BadSize`: the algorithm is not for this
+/// number of processes, or the limit is outside its range. `TooManyStates`: the search reached more states than it may keep.
 pub fn algorithm_explore_command<S: Screen, W: Sink>(
     alloc: Global,
     args: &AlgorithmExploreArgs,
@@ -204,6 +255,10 @@ pub fn algorithm_explore_command<S: Screen, W: Sink>(
     ensures ends { AlgorithmExploreEnds args.now (option_copied text.entry) (W.tape w.old) (W.tape w.new) result }
     ensures ended { IfOk result (IsEnded false (W.tape w.old).failures (W.tape w.new).failures) }
 {
-    let algorithm = algorithm_read(alloc, text)?;
-    search_algorithm(alloc, algorithm, args, screen, w)
+    match args.starving {
+        Some(cycles) if args.stuck => search_both(alloc, args, text, cycles, screen, w),
+        Some(cycles) => search_starving(alloc, args, text, cycles, screen, w),
+        None if args.stuck => search_stuck(alloc, args, text, screen, w),
+        None => search_shortest(alloc, args, text, screen, w),
+    }
 }

@@ -1,17 +1,25 @@
 //! The command `hunt` on an algorithm's text.
 
-ghost use Rattle.std.specs.Prelude.{◌≡◌, false, IfOk, option_copied};
-ghost use Rattle.commands.specs.AlgorithmHunts.{AlgorithmHuntEnds, fault_of_hunt, HuntsAlgorithm};
+ghost use Rattle.std.specs.Prelude.{◌≡◌, ◌<◌, ◌≤◌, ◌⊎◌, ◌↔◌, false, None, Some, IfOk, IfSome, IsErrOf, OnOk, option_copied};
+ghost use Rattle.algorithms.specs.Worlds.{new_refusal};
+ghost use Rattle.algorithms.specs.declared.refusal.AlgorithmRefusal.{AlgorithmRefusal as RefusalOf};
+ghost use Rattle.algorithm_explorer.specs.Hunted.{IsFoundByHunt};
+ghost use Rattle.commands.specs.AlgorithmHunts.{AlgorithmHuntEnds, answer_for, fault_of_hunt, HuntsAlgorithm, IsWrittenFor};
 ghost use Rattle.commands.specs.Endings.{IsEnded};
 
+use crate::progress::meter::Meter;
+use crate::progress::screen::Screen;
+use crate::progress::work::Work;
 use crate::schedules::algorithm::algorithm_read;
 use crate::schedules::ending::Ending;
 use crate::schedules::fault::CommandFault;
 use crate::schedules::findings::{tell_nothing, tell_schedule};
-use algorithm_explorer::{AlgorithmHuntFault, hunt_algorithm_schedule};
+use algorithm_explorer::{
+    AlgorithmHuntFault, Watch, hunt_algorithm_schedule, hunt_least_algorithm_schedule,
+};
 use algorithms::Algorithm;
 use cli::arguments::args::AlgorithmHuntArgs;
-use schedule::Sink;
+use schedule::{Schedule, Sink};
 use std::alloc::Global;
 
 /// The command's fault for a fault of a hunt.
@@ -26,25 +34,46 @@ fn hunt_fault(fault: AlgorithmHuntFault) -> CommandFault
     }
 }
 
-/// Writes the schedule that a hunt on the algorithm finds, or that there is none.
-fn tell_hunted<W: Sink>(
+/// Hunts on the algorithm. The schedule that is found is minimized if that is asked for.
+fn schedule_hunted<M: Watch>(
     alloc: Global,
     algorithm: Algorithm,
     args: &AlgorithmHuntArgs,
+    watch: &mut M,
+) -> Result<Option<Schedule>, AlgorithmHuntFault>
+    ensures written { IfOk result (IsWrittenFor args.now.shrink algorithm (answer_for algorithm args.now)) }
+    ensures found { OnOk result (IfSome (answer_for algorithm args.now)
+        (IsFoundByHunt algorithm args.now.procs args.now.limit args.now.steps)) }
+    ensures accepted { OnOk result (new_refusal algorithm args.now.procs args.now.limit ≡ None) }
+    ensures rounds { IsErrOf result AlgorithmHuntFault.BadRounds ↔ ((args.now.rounds ≡ 0) ⊎ (10000 < args.now.rounds)) }
+    ensures steps { IsErrOf result AlgorithmHuntFault.BadSteps
+        ↔ ((0 < args.now.rounds) × (args.now.rounds ≤ 10000) × ((args.now.steps ≡ 0) ⊎ (10000 < args.now.steps))) }
+    ensures refused { (e : RefusalOf) → IsErrOf result (AlgorithmHuntFault.Refused e)
+        → new_refusal algorithm args.now.procs args.now.limit ≡ Some e }
+{
+    let (procs, limit) = (args.procs, args.limit);
+    let (seed, rounds, steps) = (args.seed, args.rounds, args.steps);
+    if args.shrink {
+        hunt_least_algorithm_schedule(alloc, algorithm, procs, limit, seed, rounds, steps, watch)
+    } else {
+        hunt_algorithm_schedule(alloc, algorithm, procs, limit, seed, rounds, steps, watch)
+    }
+}
+
+/// Writes the schedule that a hunt on the algorithm finds, minimized if that is asked for, or that there is none.
+fn tell_hunted<S: Screen, W: Sink>(
+    alloc: Global,
+    algorithm: Algorithm,
+    args: &AlgorithmHuntArgs,
+    screen: &mut S,
     w: &mut W,
 ) -> Result<Ending, CommandFault>
     ensures ends { HuntsAlgorithm algorithm args.now (W.tape w.old) (W.tape w.new) result }
     ensures ended { IfOk result (IsEnded false (W.tape w.old).failures (W.tape w.new).failures) }
 {
-    let found = hunt_algorithm_schedule(
-        alloc,
-        algorithm,
-        args.procs,
-        args.limit,
-        args.seed,
-        args.rounds,
-        args.steps,
-    );
+    let mut meter = Meter::new(screen, Work::Hunt);
+    let found = schedule_hunted(alloc, algorithm, args, &mut meter);
+    meter.end();
     match found {
         Ok(Some(schedule)) => tell_schedule(alloc, &schedule, w),
         Ok(None) => tell_nothing(w),
@@ -53,18 +82,20 @@ fn tell_hunted<W: Sink>(
 }
 
 /// Runs `hunt --algorithm`: reads the algorithm from its text, draws schedules of it in this thread, and writes the first that
-/// goes wrong, or that there is none. `Algorithm`: the text's fault. `BadSize`: the algorithm is not for this number of processes,
-/// or another number is outside its range. Other faults are those of the writer and of memory.
+/// goes wrong, minimized if that is asked for, or that there is none. Progress is shown on the screen. `Algorithm`: the text's
+/// fault. `BadSize`: the algorithm is not for this number of processes, or another number is outside its range. Other faults are
+/// those of the writer and of memory.
 #[tactic(auto, using(crate::proofs::AlgorithmTexts::no_algorithm_alone))]
-pub fn algorithm_hunt_command<W: Sink>(
+pub fn algorithm_hunt_command<S: Screen, W: Sink>(
     alloc: Global,
     args: &AlgorithmHuntArgs,
     text: Option<&[u8]>,
+    screen: &mut S,
     w: &mut W,
 ) -> Result<Ending, CommandFault>
     ensures ends { AlgorithmHuntEnds args.now (option_copied text.entry) (W.tape w.old) (W.tape w.new) result }
     ensures ended { IfOk result (IsEnded false (W.tape w.old).failures (W.tape w.new).failures) }
 {
     let algorithm = algorithm_read(alloc, text)?;
-    tell_hunted(alloc, algorithm, args, w)
+    tell_hunted(alloc, algorithm, args, screen, w)
 }

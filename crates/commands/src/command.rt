@@ -1,13 +1,14 @@
 //! The commands, over a reader and two writers.
 
-ghost use Rattle.std.specs.Prelude.{◌≡◌, ℕ, List, IfErr, IfOk, is_some, option_copied, true, false};
+ghost use Rattle.std.specs.Prelude.{◌≡◌, Result, ℕ, List, IfErr, IfOk, is_some, option_copied, true, false};
 ghost use Rattle.schedule.specs.Tapes.{Tape};
 ghost use Rattle.cli.specs.Report.{IsWritten};
 ghost use Rattle.crashlab.specs.Hunts.{IsFound};
 ghost use Rattle.commands.specs.Commands.{CommandEnds, ExplainEnds, HuntEnds, JudgeEnds, SessionEndsOf, TellsFound, verdict_text};
+ghost use Rattle.commands.specs.Devices.{devices};
 ghost use Rattle.commands.specs.Endings.{IsEnded, Prints};
 ghost use Rattle.cli.specs.FilesNamed.{save_of};
-ghost use Rattle.commands.specs.Programs.{CarriesOut};
+ghost use Rattle.commands.specs.Programs.{CarriesOut, IsReported};
 ghost use Rattle.commands.specs.Folders.{is_session};
 ghost use Rattle.commands.specs.Statuses.{status_after};
 
@@ -202,8 +203,9 @@ pub fn carry_out<T: Threads + Wait + Sync, F: Folder, S: Screen, R: Source, W: S
     ensures ended { IfOk result (IsEnded (is_some (save_of command.now)) (W.tape w.old).failures (W.tape w.new).failures) }
     ensures opened { (F.used folder.new).opened ≡ (F.used folder.old).opened }
     ensures kept { is_session command.now ≡ false → F.used folder.new ≡ F.used folder.old }
-    ensures session { is_session command.now ≡ true → SessionEndsOf command.now (option_copied image.entry) (R.reading r.old)
-        (R.reading r.new) (F.used folder.old) (F.used folder.new) (W.tape w.old) (W.tape w.new) result }
+    ensures session { is_session command.now ≡ true → SessionEndsOf command.now (option_copied image.entry)
+        (devices (R.reading r.old) (F.used folder.old) (W.tape w.old))
+        (devices (R.reading r.new) (F.used folder.new) (W.tape w.new)) result }
 {
     match command {
         Command::Replay(args) => replay_command(alloc, args, image, r, w),
@@ -214,7 +216,7 @@ pub fn carry_out<T: Threads + Wait + Sync, F: Folder, S: Screen, R: Source, W: S
         Command::Shrink(args) => shrink_command(alloc, args, r, w),
         Command::ShrinkAlgorithm(_) => algorithm_shrink_command(alloc, image, r, w),
         Command::Hunt(args) => hunt_command(rt, alloc, args, screen, w),
-        Command::HuntAlgorithm(args) => algorithm_hunt_command(alloc, args, image, w),
+        Command::HuntAlgorithm(args) => algorithm_hunt_command(alloc, args, image, screen, w),
         Command::Explore(args) => explore_command(rt, alloc, args, screen, w),
         Command::ExploreAlgorithm(args) => {
             algorithm_explore_command(alloc, args, image, screen, w)
@@ -238,8 +240,8 @@ pub fn command_shown<T: Threads + Wait + Sync, S: Screen, R: Source, W: Sink, E:
     w: &mut W,
     e: &mut E,
 ) -> Ending
-    ensures ends { CarriesOut command.now (option_copied image.entry) (R.reading r.old) (R.reading r.new) (W.tape w.old)
-        (W.tape w.new) (E.tape e.old) (E.tape e.new) result }
+    ensures ends { (end : Result Ending CommandFault) × CarriesOut command.now (option_copied image.entry) (R.reading r.old)
+        (R.reading r.new) (W.tape w.old) (W.tape w.new) end × IsReported (E.tape e.old) (E.tape e.new) end result }
     ensures unsaved { is_some (save_of command.now) ≡ false → is_some result.save ≡ false }
 {
     let mut folder = NoFolder::new();
@@ -262,8 +264,8 @@ pub fn command<T: Threads + Wait + Sync, R: Source, W: Sink, E: Sink>(
     w: &mut W,
     e: &mut E,
 ) -> Ending
-    ensures ends { CarriesOut command.now (option_copied image.entry) (R.reading r.old) (R.reading r.new) (W.tape w.old)
-        (W.tape w.new) (E.tape e.old) (E.tape e.new) result }
+    ensures ends { (end : Result Ending CommandFault) × CarriesOut command.now (option_copied image.entry) (R.reading r.old)
+        (R.reading r.new) (W.tape w.old) (W.tape w.new) end × IsReported (E.tape e.old) (E.tape e.new) end result }
     ensures unsaved { is_some (save_of command.now) ≡ false → is_some result.save ≡ false }
 {
     command_shown(rt, alloc, command, image, &mut NoScreen, r, w, e)

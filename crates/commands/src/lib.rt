@@ -7,6 +7,7 @@ pub mod algorithm_explore_command;
 pub mod algorithm_fault;
 pub mod algorithm_hunt_command;
 mod algorithm_starvation;
+mod algorithm_stuck;
 pub mod command;
 pub mod disk;
 pub mod explore_command;

@@ -5,6 +5,7 @@ ghost use Rattle.commands.specs.Endings.{IsEnded};
 ghost use Rattle.schedule.specs.Tapes.{Writes};
 ghost use Rattle.cli.specs.FilesNamed.{image_of, input_of, save_of};
 ghost use Rattle.commands.specs.Lines.{IsLineWritten};
+ghost use Rattle.commands.specs.Devices.{devices};
 ghost use Rattle.commands.specs.Folders.{is_session};
 ghost use Rattle.commands.specs.Programs.{ReportsWordsFault, CantBuffer, EndsWithStatus, ExecutesCommand, EndsOnFile, EndsOnInput, Finishes, IsCommandAsked, IsProgram, IsUnasked, Obeys, opens_all, OpensSome, PrintsHelp, PrintsUsageError, RunsWords, SavesAll, SessionEndsIn, nothing_read};
 ghost use Rattle.commands.specs.Faults.{fault_of_opening, fault_of_saving};
@@ -118,8 +119,9 @@ fn execute<T: Threads + Wait + Sync, F: Folder, S: Screen, R: Source, W: Sink>(
     ensures opened { OpensSome command.now (F.used folder.old).opened (F.used folder.new).opened }
     ensures saved { is_session command.now ≡ false → (F.used folder.new).saved ≡ (F.used folder.old).saved }
     ensures texts { is_session command.now ≡ false → (F.used folder.new).texts ≡ (F.used folder.old).texts }
-    ensures session { is_session command.now ≡ true → SessionEndsIn command.now (F.used folder.old) (F.used folder.new)
-        (R.reading input.old) (R.reading input.new) (W.tape out.old) (W.tape out.new) result }
+    ensures session { is_session command.now ≡ true → SessionEndsIn command.now
+        (devices (R.reading input.old) (F.used folder.old) (W.tape out.old))
+        (devices (R.reading input.new) (F.used folder.new) (W.tape out.new)) result }
     ensures ended { IfOk result (IsEnded (is_some (save_of command.now)) (W.tape out.old).failures (W.tape out.new).failures) }
     ensures apart { is_some (input_of command.now) ≡ true → R.reading input.new ≡ R.reading input.old }
     ensures on_input { input_of command.now ≡ None → EndsOnInput command.now (R.reading input.old) (R.reading input.new)
@@ -207,8 +209,8 @@ fn execute_and_save<T: Threads + Wait + Sync, F: Folder, S: Screen, R: Source, W
     input: &mut R,
     out: &mut W,
 ) -> Result<Ending, CommandFault>
-    ensures { ExecutesCommand command.now (F.used folder.old) (F.used folder.new) (R.reading input.old) (R.reading input.new)
-        (W.tape out.old) (W.tape out.new) result }
+    ensures { ExecutesCommand command.now (devices (R.reading input.old) (F.used folder.old) (W.tape out.old))
+        (devices (R.reading input.new) (F.used folder.new) (W.tape out.new)) result }
 {
     let ended = execute(rt, alloc, command, folder, screen, input, out);
     finish(command, ended, folder, out)
@@ -236,8 +238,8 @@ pub fn obey<T: Threads + Wait + Sync, F: Folder, S: Screen, R: Source, W: Sink, 
     out: &mut W,
     err: &mut E,
 ) -> u8
-    ensures { Obeys command.now (F.used folder.old) (F.used folder.new) (R.reading input.old) (R.reading input.new)
-        (W.tape out.old) (W.tape out.new) (E.tape err.old) (E.tape err.new) result }
+    ensures { Obeys command.now (devices (R.reading input.old) (F.used folder.old) (W.tape out.old))
+        (devices (R.reading input.new) (F.used folder.new) (W.tape out.new)) (E.tape err.old) (E.tape err.new) result }
 {
     let end = execute_and_save(rt, alloc, command, folder, screen, input, out);
     close(end, err)
@@ -307,8 +309,8 @@ pub fn program<T: Threads + Wait + Sync, F: Folder, S: Screen, R: Source, W: Sin
     out: &mut W,
     err: &mut E,
 ) -> u8
-    ensures { IsProgram words (F.used folder.old) (F.used folder.new) (R.reading input.old) (R.reading input.new) (W.tape out.old)
-        (W.tape out.new) (E.tape err.old) (E.tape err.new) result }
+    ensures { IsProgram words (devices (R.reading input.old) (F.used folder.old) (W.tape out.old))
+        (devices (R.reading input.new) (F.used folder.new) (W.tape out.new)) (E.tape err.old) (E.tape err.new) result }
 {
     match parse_words(alloc, words) {
         Ok(command) => obey(rt, alloc, &command, folder, screen, input, out, err),

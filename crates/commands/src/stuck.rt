@@ -18,7 +18,7 @@ use schedule::Sink;
 use std::alloc::Global;
 
 /// Writes that none of this many states, which are all, is stuck.
-fn tell_never<W: Sink>(states: u64, w: &mut W) -> Result<Ending, CommandFault>
+pub(crate) fn tell_never<W: Sink>(states: u64, w: &mut W) -> Result<Ending, CommandFault>
     ensures prints { Prints 0 (never_line states) (W.tape w.old) (W.tape w.new) result }
     ensures ended { IfOk result (IsEnded false (W.tape w.old).failures (W.tape w.new).failures) }
 {

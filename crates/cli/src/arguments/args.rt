@@ -70,6 +70,8 @@ pub struct AlgorithmHuntArgs {
     pub rounds: u64,
     /// The number of moves of a round.
     pub steps: u64,
+    /// Shrink the schedule that was found.
+    pub shrink: bool,
 }
 
 /// The calls that a search starts.
@@ -143,6 +145,8 @@ pub struct AlgorithmExploreArgs {
     /// The most states that are kept.
     pub states: u64,
     pub limit: u64,
+    /// Whether it looks for stuck states, with no bound on the moves.
+    pub stuck: bool,
     /// The cycles in which it looks for a process that starves, with no bound on the moves.
     pub starving: Option<Cycles>,
 }

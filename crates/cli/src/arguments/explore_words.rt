@@ -192,7 +192,7 @@ fn algorithm_calls_of(
 fn without_mailbox(alloc: Global) -> Result<String, AllocError> {
     String::from_str(
         alloc,
-        "error: with '--algorithm <FILE>' there is no '--stuck', no '--all-variables', no '--cap' and no '--width'\n\nFor more information, try '--help'.\n",
+        "error: with '--algorithm <FILE>' there is no '--all-variables', no '--cap' and no '--width'\n\nFor more information, try '--help'.\n",
     )
 }
 
@@ -201,7 +201,6 @@ fn is_algorithm_search(matches: &ArgMatches<'_>) -> bool
     ensures { result ≡ true ↔ IsAlgorithmSearch (given_in matches.now) }
 {
     is_given(matches, "algorithm")
-        && !is_set(matches, "stuck")
         && !is_set(matches, "all-variables")
         && !is_given(matches, "cap")
         && !is_given(matches, "width")
@@ -225,6 +224,7 @@ fn algorithm_words(
         });
     }
     let calls = algorithm_calls_of(alloc, matches)?;
+    let stuck = stuck_of(matches)?;
     Ok(Command::ExploreAlgorithm(AlgorithmExploreArgs {
         algorithm: String::from_str(alloc, algorithm)?,
         procs: number_of(matches, "procs"),
@@ -233,6 +233,7 @@ fn algorithm_words(
         moves: number_or(matches, "moves", u64::MAX),
         states: number_or(matches, "states", 10_000_000),
         limit: number_or(matches, "limit", 4),
+        stuck,
         starving: starving_of(matches)?,
     }))
 }

@@ -11,7 +11,7 @@ use crate::arguments::words::{
     WordsFault, is_given, is_set, number_of, number_or, str_of, variant_of, without_lock,
 };
 use clap::ArgMatches;
-use std::alloc::{AllocError, Global};
+use std::alloc::Global;
 
 /// The rounds of a hunt and the moves of each, if they are in their ranges.
 fn sizes_of(matches: &ArgMatches<'_>) -> Result<(u64, u64), WordsFault>
@@ -30,14 +30,6 @@ fn sizes_of(matches: &ArgMatches<'_>) -> Result<(u64, u64), WordsFault>
     }
 }
 
-/// The error text for a least schedule of an algorithm.
-fn without_shrink(alloc: Global) -> Result<String, AllocError> {
-    String::from_str(
-        alloc,
-        "error: with '--algorithm <FILE>' there is no '--shrink'; 'rmelab shrink' minimizes the schedule found\n\nFor more information, try '--help'.\n",
-    )
-}
-
 /// A hunt on the algorithm with this text.
 fn algorithm_words(
     alloc: Global,
@@ -51,11 +43,6 @@ fn algorithm_words(
     if is_given(matches, "variant") {
         return Err(WordsFault::BadVariant);
     }
-    if is_set(matches, "shrink") {
-        return Err(WordsFault::Refused {
-            text: without_shrink(alloc)?,
-        });
-    }
     let (rounds, steps) = sizes_of(matches)?;
     Ok(Command::HuntAlgorithm(AlgorithmHuntArgs {
         algorithm: String::from_str(alloc, algorithm)?,
@@ -64,6 +51,7 @@ fn algorithm_words(
         seed: number_of(matches, "seed"),
         rounds,
         steps,
+        shrink: is_set(matches, "shrink"),
     }))
 }
 

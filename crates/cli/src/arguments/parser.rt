@@ -28,29 +28,29 @@ after a fault of a device, of memory or of a sender.\n\nExample: rmelab run --pr
 const HUNT_HELP: &str =
     "In: nothing; with --algorithm the algorithm's text: docs/use/algorithms.md. An algorithm is hunted by one \
 thread.\nOut: the schedule found, which `rmelab replay` with the same --variant or --algorithm replays to its fault, \
-or `nothing found`.\nShown: of a variant, on standard error, if that is a terminal, the rounds, the moves and the \
-moves a second, once a second while it works.\nExit status: 0 if nothing was found, 1 if a schedule was, 2 after a \
+or `nothing found`.\nShown: on standard error, if that is a terminal, the rounds, the moves and the moves a second, \
+once a second while it works.\nExit status: 0 if nothing was found, 1 if a schedule was, 2 after a \
 fault of the words or the algorithm, 3 after a fault of a device or of memory.\n\nExample: rmelab hunt --variant \
 no-look --seed 1 --rounds 10000 --steps 1000";
 
 const EXPLORE_HELP: &str =
-    "In: nothing; with --algorithm the algorithm's text: docs/use/algorithms.md. All schedules are tried whose \
-moves are the start of a call of --calls, one step, or a crash, of which there are at most --crashes: the shorter \
-before the longer. Two worlds are one state if their words, their processes, the judge and the crashes left are the \
-same; with --starving the judge is left out. Of a process those variables count that a move may still read; all do \
-with --all-variables, --stuck or, of a variant, --starving. An algorithm is searched by one thread.\nOut: the \
-schedule of fewest moves that goes wrong, which `rmelab replay` with the same --variant or --algorithm replays to \
-its fault; `nothing found within K moves`; or, if all was tried, `nothing found: all N states`; of an algorithm \
-with moves to values out of range `nothing found: all N states, M moves left out from line L`. With --stuck, if \
-none goes wrong: the schedule of fewest moves to a state from which no starts and steps bring each process to rest \
-with all lock words 0, unless by an unlock that ruins the lock; it replays to a fine verdict; or `never stuck: all \
-N states`. With --starving, whatever goes wrong: a schedule of fewest moves that ends with a cycle in which a \
-process starves, and the line `starves P cycle K`: process P, in the last K moves; or `never starving: all N \
-states`. With --stuck and --starving: both. Nothing is said of a greater size, limit or number of crashes.\nShown: \
-on standard error, if that is a terminal, the states, how many moves deep and the states a second, once a second \
-while it works.\nExit status: 0 if nothing was found, 1 if a schedule was, 2 after a fault of the words or the \
-algorithm, 3 after one of a device or of memory, or if there are more states than --states.\n\nExample: rmelab \
-explore --variant no-look --procs 2";
+    "In: nothing; with --algorithm the algorithm's text: docs/use/algorithms.md. All schedules are tried whose moves \
+are the start of a call of --calls, one step, or a crash, of which there are at most --crashes: the shorter before \
+the longer. Two worlds are one state if their words, their processes, the judge and the crashes left are the same; \
+with --starving the judge is left out. Of a process those variables count that a move may still read; all do with \
+--all-variables or, of a variant, --stuck or --starving. An algorithm is searched by one thread.\nOut: the schedule \
+of fewest moves that goes wrong, which `rmelab replay` with the same --variant or --algorithm replays to its fault; \
+`nothing found within K moves`; or, if all was tried, `nothing found: all N states`; of an algorithm with moves to \
+values out of range `nothing found: all N states, M moves left out from line L`. With --stuck, if none goes wrong: \
+the schedule of fewest moves to a state from which no starts and steps bring each process to rest with all lock \
+words 0, unless by an unlock that ruins the lock, or, of an algorithm, to rest outside and not in line; it replays \
+to a fine verdict; or `never stuck: all N states`. With --starving, whatever goes wrong: a schedule of fewest moves \
+that ends with a cycle in which a process starves, and the line `starves P cycle K`: process P, in the last K moves; \
+or `never starving: all N states`. With --stuck and --starving: both. Nothing is said of a greater size, limit or \
+number of crashes.\nShown: on standard error, if that is a terminal, the states, how many moves deep and the states \
+a second, once a second while it works.\nExit status: 0 if nothing was found, 1 if a schedule was, 2 after a fault \
+of the words or the algorithm, 3 after one of a device or of memory, or if there are more states than \
+--states.\n\nExample: rmelab explore --variant no-look --procs 2";
 
 const JUDGE_HELP: &str =
     "In: a trace: a header such as `trace 1 procs 2 cap 1`, then deeds such as `begin 0`, `ready 0`, `enter 0`.\nOut: \
@@ -165,10 +165,7 @@ fn hunt<'a>(alloc: Global) -> Result<Parser<'a>, AllocError>
         Argument::number("seed", "S", "The seed of the moves").as_required(),
         Argument::number("rounds", "R", "1 to 10000 rounds").as_required(),
         Argument::number("steps", "K", "1 to 10000 moves a round").as_required(),
-        Argument::flag(
-            "shrink",
-            "Minimize the schedule found, as `shrink` does; not with --algorithm",
-        ),
+        Argument::flag("shrink", "Minimize the schedule found, as `shrink` does"),
         Argument::number(
             "jobs",
             "N",
@@ -204,10 +201,7 @@ fn explore<'a>(alloc: Global) -> Result<Parser<'a>, AllocError>
             "W",
             "1 to 8 words a message; 1 without it; not with --algorithm",
         ),
-        Argument::flag(
-            "stuck",
-            "Look for stuck states too; not with --moves or --algorithm",
-        ),
+        Argument::flag("stuck", "Look for stuck states too; not with --moves"),
         Argument::starving(),
         Argument::flag(
             "all-variables",

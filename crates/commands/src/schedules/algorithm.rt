@@ -56,14 +56,16 @@ fn text_of(text: Option<&[u8]>) -> &[u8]
 }
 
 /// The algorithm that the text of a file spells. A text that spells none is a fault, of its first faulty line.
-#[tactic(auto, using(crate::proofs::AlgorithmTexts::is_algorithm_fault))]
 pub(crate) fn algorithm_read(alloc: Global, text: Option<&[u8]>) -> Result<Algorithm, CommandFault>
     ensures spells { IfOk result (SpellsAlgorithm (text_in (option_copied text.entry))) }
     ensures ends { IfOk result LocalLinesEnd }
     ensures leads { IfOk result AccessesLeadOn }
-    ensures unread { IfErr result IsAlgorithmFault }
+    ensures unread { IfErr result (IsAlgorithmFault (option_copied text.entry)) }
 {
-    read_algorithm(alloc, text_of(text)).map_err(text_fault)
+    match read_algorithm(alloc, text_of(text)) {
+        Ok(algorithm) => Ok(algorithm),
+        Err(fault) => Err(text_fault(fault)),
+    }
 }
 
 /// Plays the schedule on the algorithm, and writes its report.

@@ -13,7 +13,7 @@ ghost use Rattle.rmeworld.specs.WorldState.{image_world as world_of_image};
 ghost use Rattle.commands.specs.Endings.{IsEnded, TellsReads};
 ghost use Rattle.commands.specs.Draws.{DrawEnds, draw_manner, style_of};
 ghost use Rattle.commands.specs.Statuses.{status_after};
-ghost use Rattle.commands.specs.Tellings.{ending_of as ending_for, IsDrawingWritten, Paged, WritesRun, TellsImage, TellsNew, TellsSchedule, TellsVariant};
+ghost use Rattle.commands.specs.Tellings.{ending_of as ending_for, IsDrawingWritten, Paged, run_start, WritesRun, TellsImage, TellsNew, TellsSchedule, TellsVariant};
 ghost use Rattle.schedule.specs.Runs.{deeds_of, run_on};
 ghost use Rattle.schedule.specs.Verdicts.{verdict_on};
 
@@ -105,7 +105,7 @@ fn page_machine<M: Machine, W: Sink>(
     w: &mut W,
 ) -> Result<Ending, CommandFault>
     ensures draws { (start : State) → Keeps judge.old start
-        → WritesRun Paged M.behaviour M.behaviour.image_of start machine.old first schedule.now (W.tape w.old) (W.tape w.new) result }
+        → WritesRun Paged (run_start M.behaviour start machine.old first schedule.now) (W.tape w.old) (W.tape w.new) result }
     ensures status { (start : State) → Keeps judge.old start
         → IfOk result (λ ending. ending.status ≡ status_after
         (verdict_on start (deeds_of (run_on M.behaviour 2 machine.old schedule.now.lines).reports))) }
@@ -128,8 +128,8 @@ fn draw_machine<M: Machine, W: Sink>(
     w: &mut W,
 ) -> Result<Ending, CommandFault>
     ensures draws { (start : State) → Keeps judge.old start
-        → WritesRun (draw_manner args.now) M.behaviour M.behaviour.image_of start machine.old first schedule.now (W.tape w.old)
-        (W.tape w.new) result }
+        → WritesRun (draw_manner args.now) (run_start M.behaviour start machine.old first schedule.now) (W.tape w.old) (W.tape w.new)
+        result }
     ensures status { (start : State) → Keeps judge.old start
         → IfOk result (λ ending. ending.status ≡ status_after
         (verdict_on start (deeds_of (run_on M.behaviour 2 machine.old schedule.now.lines).reports))) }
@@ -203,8 +203,8 @@ fn draw_started<W: Sink>(
     requires lawful { IsLawfulImage image.now }
     requires begins { IsStartOf image.now start.now }
     requires judged { IsStart start.now }
-    ensures draws { WritesRun (draw_manner args.now) world_behaviour image_of (state_of start.now) (world_of_image image.now)
-        LifelinePhase.Dead schedule.now (W.tape w.old) (W.tape w.new) result }
+    ensures draws { WritesRun (draw_manner args.now) (run_start world_behaviour (state_of start.now) (world_of_image image.now)
+        LifelinePhase.Dead schedule.now) (W.tape w.old) (W.tape w.new) result }
     ensures fine { IfOk result (λ ending. ending.status ≡ 0) }
     ensures ended { IfOk result (IsEnded false (W.tape w.old).failures (W.tape w.new).failures) }
 {

@@ -15,7 +15,7 @@ ghost use Rattle.commands.specs.Endings.{IsEnded, TellsReads};
 ghost use Rattle.commands.specs.ReportObjects.{IsUnwritten, report_object as object_of};
 ghost use Rattle.commands.specs.Replays.{IsLast, IsPlayedToVerdict, IsReplayed, ReplayEnds, replay_manner, TellsReplay};
 ghost use Rattle.commands.specs.Statuses.{answer_of_replay, fault_in_memory, fault_on_page};
-ghost use Rattle.commands.specs.Tellings.{AnswersRun, ReplaysObject, WritesRun, TellsImage, TellsNew, TellsSchedule, TellsVariant};
+ghost use Rattle.commands.specs.Tellings.{AnswersRun, run_start, ReplaysObject, WritesRun, TellsImage, TellsNew, TellsSchedule, TellsVariant};
 
 use crate::schedules::ending::{Ending, status_after_verdict};
 use crate::schedules::fault::CommandFault;
@@ -108,8 +108,7 @@ fn report<M: Machine, W: Sink>(
         → IfOk result (IsPlayedToVerdict start (run_on M.behaviour 2 machine.old schedule.now.lines) machine.new
         (W.tape w.old).failures (W.tape w.new).failures) }
     ensures reports { (start : State) → Keeps judge.old start
-        → AnswersRun each json M.behaviour M.behaviour.image_of start machine.old first schedule.now (W.tape w.old) (W.tape w.new)
-        result }
+        → AnswersRun each json (run_start M.behaviour start machine.old first schedule.now) (W.tape w.old) (W.tape w.new) result }
 {
     match (each, json) {
         (true, true) => follow_as_lines(alloc, machine, judge, schedule, first, w),
@@ -134,7 +133,7 @@ fn play<M: Machine, W: Sink>(
         (W.tape w.old).failures (W.tape w.new).failures) }
     ensures reports { (start : State) → Keeps judge.old start
         → (answer : Result Verdict ReplayFault)
-        × AnswersRun args.now.each args.now.json M.behaviour M.behaviour.image_of start machine.old first schedule.now (W.tape w.old)
+        × AnswersRun args.now.each args.now.json (run_start M.behaviour start machine.old first schedule.now) (W.tape w.old)
         (W.tape w.new) answer × (result ≡ answer_of_replay answer) }
 {
     let each = args.each;
@@ -180,8 +179,8 @@ fn replay_machine<M: Machine, W: Sink>(
         → IfOk result (IsReplayed start (run_on M.behaviour 2 machine.old schedule.now.lines) M.behaviour.image_of
         (is_some args.now.save) (W.tape w.old).failures (W.tape w.new).failures) }
     ensures reports { (start : State) → Keeps judge.old start
-        → WritesRun (replay_manner args.now) M.behaviour M.behaviour.image_of start machine.old first schedule.now
-        (W.tape w.old) (W.tape w.new) result }
+        → WritesRun (replay_manner args.now) (run_start M.behaviour start machine.old first schedule.now) (W.tape w.old)
+        (W.tape w.new) result }
 {
     let verdict = play(alloc, machine, judge, schedule, first, args, w)?;
     let save = image_to_save(alloc, machine, args.save.is_some())?;
@@ -250,8 +249,8 @@ fn replay_started<W: Sink>(
     requires begins { IsStartOf image.now start.now }
     requires judged { IsStart start.now }
     ensures fine { IfOk result (λ ending. ending.status ≡ 0) }
-    ensures reports { WritesRun (replay_manner args.now) world_behaviour image_of
-        (state_of start.now) (world_of_image image.now) LifelinePhase.Dead schedule.now (W.tape w.old) (W.tape w.new) result }
+    ensures reports { WritesRun (replay_manner args.now) (run_start world_behaviour (state_of start.now)
+        (world_of_image image.now) LifelinePhase.Dead schedule.now) (W.tape w.old) (W.tape w.new) result }
     ensures ended { IfOk result (IsEnded (is_some args.now.save) (W.tape w.old).failures (W.tape w.new).failures) }
 {
     worlds_are_never_found_out();

@@ -3,9 +3,10 @@
 ghost use Rattle.std.specs.Prelude.{◌≡◌, ◌⊎◌, [], None, IfErr, IfOk, OnOk, option_copied, false};
 ghost use Rattle.algorithms.specs.Worlds.{new_refusal};
 ghost use Rattle.algorithm_lab.specs.Monitors.{first_monitor};
-ghost use Rattle.commands.specs.AlgorithmSessions.{HasNoHeader, HasNoWorld, RefusesText, SessionOn};
+ghost use Rattle.commands.specs.AlgorithmSessions.{AlgorithmSessionEnds, HasNoWorld, RefusesText};
 ghost use Rattle.commands.specs.AlgorithmTexts.{HoldsOfAlgorithm};
-ghost use Rattle.commands.specs.Conversations.{OpensSession};
+ghost use Rattle.commands.specs.Conversations.{HasNoSchedule, OpensSession};
+ghost use Rattle.commands.specs.Devices.{devices};
 ghost use Rattle.commands.specs.Endings.{FailsToRead, IsEnded};
 
 use crate::folder::Folder;
@@ -29,7 +30,7 @@ fn header_read<R: Source>(
     requires { buffer.old.items ≡ [] }
     ensures opens { IfOk result (OpensSession None (R.reading r.old) (R.reading r.new) buffer.new.items) }
     ensures unread { IfErr result (λ fault. FailsToRead (R.reading r.old) (R.reading r.new) fault
-        ⊎ HasNoHeader (R.reading r.old) (R.reading r.new) fault) }
+        ⊎ HasNoSchedule None (R.reading r.old) (R.reading r.new) fault) }
 {
     let text = header_text(alloc, r, buffer)?;
     schedule_of(alloc, &text)
@@ -63,8 +64,8 @@ fn hold_session<F: Folder, R: Source, W: Sink>(
     r: &mut R,
     w: &mut W,
 ) -> Result<Ending, CommandFault>
-    ensures ends { SessionOn algorithm (R.reading r.old) (R.reading r.new) (F.used folder.old) (F.used folder.new)
-        (W.tape w.old) (W.tape w.new) result }
+    ensures ends { AlgorithmSessionEnds algorithm (devices (R.reading r.old) (F.used folder.old) (W.tape w.old))
+        (devices (R.reading r.new) (F.used folder.new) (W.tape w.new)) result }
     ensures ended { IfOk result (IsEnded false (W.tape w.old).failures (W.tape w.new).failures) }
     ensures opened { (F.used folder.new).opened ≡ (F.used folder.old).opened }
 {
@@ -90,9 +91,10 @@ pub fn algorithm_session_command<F: Folder, R: Source, W: Sink>(
     r: &mut R,
     w: &mut W,
 ) -> Result<Ending, CommandFault>
-    ensures ends { RefusesText (R.reading r.old) (R.reading r.new) (F.used folder.old) (F.used folder.new) (W.tape w.old)
-        (W.tape w.new) result ⊎ HoldsOfAlgorithm (option_copied text.entry) (λ a. SessionOn a (R.reading r.old)
-        (R.reading r.new) (F.used folder.old) (F.used folder.new) (W.tape w.old) (W.tape w.new) result) }
+    ensures ends { RefusesText (option_copied text.entry) (devices (R.reading r.old) (F.used folder.old) (W.tape w.old))
+        (devices (R.reading r.new) (F.used folder.new) (W.tape w.new)) result ⊎ HoldsOfAlgorithm (option_copied text.entry)
+        (λ a. AlgorithmSessionEnds a (devices (R.reading r.old) (F.used folder.old) (W.tape w.old))
+        (devices (R.reading r.new) (F.used folder.new) (W.tape w.new)) result) }
     ensures ended { IfOk result (IsEnded false (W.tape w.old).failures (W.tape w.new).failures) }
     ensures opened { (F.used folder.new).opened ≡ (F.used folder.old).opened }
 {

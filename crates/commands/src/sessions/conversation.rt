@@ -5,6 +5,7 @@ ghost use Rattle.schedule.specs.Schedules.{spelling};
 ghost use Rattle.schedule.specs.Words.{parts_of};
 ghost use Rattle.diagram.specs.declared.session.opened.SessionReply.TheVariants.{Quits as ReplyQuits};
 ghost use Rattle.commands.specs.Conversations.{after_line, file_in, HoldsSession, IsAnswer, IsBegun, IsSaved, last_text, saved_text, WritesFile, WritesOr};
+ghost use Rattle.commands.specs.Devices.{devices};
 ghost use Rattle.diagram.specs.Sessions.{fault_text, next_number, reply_to, request_in};
 
 use crate::folder::Folder;
@@ -175,8 +176,9 @@ pub fn converse<V: Simulation, S: Source, W: Sink, F: Folder>(
     buffer: &mut Vec<u8>,
     w: &mut W,
 ) -> Result<(), ReplayFault>
-    ensures holds { HoldsSession V.semantics session.old buffer.old.items (S.reading r.old) (S.reading r.new)
-        (F.used folder.old) (F.used folder.new) (W.tape w.old) (W.tape w.new) result }
+    ensures holds { HoldsSession V.semantics session.old buffer.old.items
+        (devices (S.reading r.old) (F.used folder.old) (W.tape w.old))
+        (devices (S.reading r.new) (F.used folder.new) (W.tape w.new)) result }
     ensures opened { (F.used folder.new).opened ≡ (F.used folder.old).opened }
 {
     let mut page = Vec::new(alloc);

@@ -5,7 +5,8 @@ ghost use Rattle.schedule.specs.Schedules.{schedule_at};
 ghost use Rattle.schedule.specs.Tapes.{Writes};
 ghost use Rattle.schedule.specs.Wholes.{world_run};
 ghost use Rattle.diagram.specs.Sessions.{standing_text};
-ghost use Rattle.commands.specs.Conversations.{BeginsWith, CantBegin, CantPlay, OpensSession, SessionEnds};
+ghost use Rattle.commands.specs.Conversations.{BeginsWith, CantBegin, CantPlay, OpensSession, SessionEnds, lock_machine};
+ghost use Rattle.commands.specs.Devices.{devices};
 ghost use Rattle.commands.specs.Endings.{FailsIn, FailsToRead, IsEnded};
 ghost use Rattle.commands.specs.Settings.{IsNoSchedule};
 ghost use Rattle.commands.specs.Statuses.{fault_of_replay};
@@ -91,7 +92,7 @@ fn first_schedule<R: Source>(
     ensures opens { IfOk result (OpensSession (option_copied start.entry) (R.reading r.old) (R.reading r.new) buffer.new.items) }
     ensures accepted { IfOk result (λ schedule. (world_run schedule).refused ≡ None) }
     ensures refused { IfErr result (λ fault. FailsToRead (R.reading r.old) (R.reading r.new) fault
-        ⊎ CantBegin (option_copied start.entry) (R.reading r.old) (R.reading r.new) fault) }
+        ⊎ CantBegin lock_machine (option_copied start.entry) (R.reading r.old) (R.reading r.new) fault) }
 {
     let text = first_text(alloc, start, r, buffer)?;
     let schedule = schedule_of(alloc, &text)?;
@@ -125,8 +126,9 @@ pub fn session_command<F: Folder, R: Source, W: Sink>(
     r: &mut R,
     w: &mut W,
 ) -> Result<Ending, CommandFault>
-    ensures ends { SessionEnds (option_copied start.entry) (R.reading r.old) (R.reading r.new) (F.used folder.old)
-        (F.used folder.new) (W.tape w.old) (W.tape w.new) result }
+    ensures ends { SessionEnds lock_machine (option_copied start.entry)
+        (devices (R.reading r.old) (F.used folder.old) (W.tape w.old))
+        (devices (R.reading r.new) (F.used folder.new) (W.tape w.new)) result }
     ensures ended { IfOk result (IsEnded false (W.tape w.old).failures (W.tape w.new).failures) }
     ensures opened { (F.used folder.new).opened ≡ (F.used folder.old).opened }
 {

@@ -100,13 +100,13 @@ Options:
       --seed <S>          The seed of the moves
       --rounds <R>        1 to 10000 rounds
       --steps <K>         1 to 10000 moves a round
-      --shrink            Minimize the schedule found, as `shrink` does; not with --algorithm
+      --shrink            Minimize the schedule found, as `shrink` does
       --jobs <N>          N threads at once; without it, or 0, as many as there are processors
   -h, --help              Print help
 
 In: nothing; with --algorithm the algorithm's text: docs/use/algorithms.md. An algorithm is hunted by one thread.
 Out: the schedule found, which `rmelab replay` with the same --variant or --algorithm replays to its fault, or `nothing found`.
-Shown: of a variant, on standard error, if that is a terminal, the rounds, the moves and the moves a second, once a second while it works.
+Shown: on standard error, if that is a terminal, the rounds, the moves and the moves a second, once a second while it works.
 Exit status: 0 if nothing was found, 1 if a schedule was, 2 after a fault of the words or the algorithm, 3 after a fault of a device or of memory.
 
 Example: rmelab hunt --variant no-look --seed 1 --rounds 10000 --steps 1000
@@ -126,14 +126,14 @@ Options:
       --limit <L>         Numbers up to L; 4 without it
       --cap <M>           Room for M messages; 1 without it; not with --algorithm
       --width <W>         1 to 8 words a message; 1 without it; not with --algorithm
-      --stuck             Look for stuck states too; not with --moves or --algorithm
+      --stuck             Look for stuck states too; not with --moves
       --starving [<WHO>]  Look for a process that starves; WHO may give up: nobody, as without it, or any; not with --moves
       --all-variables     Distinguish states by dead variables too; not with --algorithm
       --jobs <N>          N threads at once; without it, or 0, as many as there are processors
   -h, --help              Print help
 
-In: nothing; with --algorithm the algorithm's text: docs/use/algorithms.md. All schedules are tried whose moves are the start of a call of --calls, one step, or a crash, of which there are at most --crashes: the shorter before the longer. Two worlds are one state if their words, their processes, the judge and the crashes left are the same; with --starving the judge is left out. Of a process those variables count that a move may still read; all do with --all-variables, --stuck or, of a variant, --starving. An algorithm is searched by one thread.
-Out: the schedule of fewest moves that goes wrong, which `rmelab replay` with the same --variant or --algorithm replays to its fault; `nothing found within K moves`; or, if all was tried, `nothing found: all N states`; of an algorithm with moves to values out of range `nothing found: all N states, M moves left out from line L`. With --stuck, if none goes wrong: the schedule of fewest moves to a state from which no starts and steps bring each process to rest with all lock words 0, unless by an unlock that ruins the lock; it replays to a fine verdict; or `never stuck: all N states`. With --starving, whatever goes wrong: a schedule of fewest moves that ends with a cycle in which a process starves, and the line `starves P cycle K`: process P, in the last K moves; or `never starving: all N states`. With --stuck and --starving: both. Nothing is said of a greater size, limit or number of crashes.
+In: nothing; with --algorithm the algorithm's text: docs/use/algorithms.md. All schedules are tried whose moves are the start of a call of --calls, one step, or a crash, of which there are at most --crashes: the shorter before the longer. Two worlds are one state if their words, their processes, the judge and the crashes left are the same; with --starving the judge is left out. Of a process those variables count that a move may still read; all do with --all-variables or, of a variant, --stuck or --starving. An algorithm is searched by one thread.
+Out: the schedule of fewest moves that goes wrong, which `rmelab replay` with the same --variant or --algorithm replays to its fault; `nothing found within K moves`; or, if all was tried, `nothing found: all N states`; of an algorithm with moves to values out of range `nothing found: all N states, M moves left out from line L`. With --stuck, if none goes wrong: the schedule of fewest moves to a state from which no starts and steps bring each process to rest with all lock words 0, unless by an unlock that ruins the lock, or, of an algorithm, to rest outside and not in line; it replays to a fine verdict; or `never stuck: all N states`. With --starving, whatever goes wrong: a schedule of fewest moves that ends with a cycle in which a process starves, and the line `starves P cycle K`: process P, in the last K moves; or `never starving: all N states`. With --stuck and --starving: both. Nothing is said of a greater size, limit or number of crashes.
 Shown: on standard error, if that is a terminal, the states, how many moves deep and the states a second, once a second while it works.
 Exit status: 0 if nothing was found, 1 if a schedule was, 2 after a fault of the words or the algorithm, 3 after one of a device or of memory, or if there are more states than --states.
 

@@ -71,7 +71,11 @@ width: 1, stuck: true, starving: Some(Any), all_variables: false, jobs: 0 })
 
 rmelab explore --algorithm a.lock --procs 2 --starving
 ExploreAlgorithm(AlgorithmExploreArgs { algorithm: \"a.lock\", procs: 2, calls: None, crashes: 0, moves: 18446744073709551615, \
-states: 10000000, limit: 4, starving: Some(Nobody) })
+states: 10000000, limit: 4, stuck: false, starving: Some(Nobody) })
+
+rmelab explore --algorithm a.lock --procs 2 --stuck --limit 1
+ExploreAlgorithm(AlgorithmExploreArgs { algorithm: \"a.lock\", procs: 2, calls: None, crashes: 0, moves: 18446744073709551615, \
+states: 10000000, limit: 1, stuck: true, starving: None })
 
 rmelab judge
 Judge(JudgeArgs { json: false, file: None })";

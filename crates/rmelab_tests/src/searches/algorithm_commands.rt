@@ -20,6 +20,8 @@ unlock 0
 step 0
 @text BAD_SIZE
 rmelab: bad size
+@text NOTHING_FOUND
+nothing found
 @text ALONE_DRAWN
 0                         1                         |
 . w flag[0]=1             .                         |
@@ -104,7 +106,9 @@ fn is_made_least(
         1,
     )?;
     output_of(rt, alloc, replay, text, &least, 1)?;
-    Ok(least.len() < found.len())
+    let at_once = format!(in alloc; "{hunt} --shrink")?;
+    let found_least = output_of(rt, alloc, &at_once, text, b"", 1)?;
+    Ok(least.len() < found.len() && found_least == least)
 }
 
 #[test]
@@ -119,6 +123,9 @@ fn hunted_schedules_are_made_least(rt: HostRuntime) -> Result<(), Fail> {
 const COMMANDS_ON_AN_ALGORITHM: &str = "
 @row rmelab hunt --algorithm a.lock --seed 1 --rounds 1 --steps 3 --jobs 4 @file a.lock PETERSON @file b.rme ALONE @out
 nothing found
+@row rmelab hunt --algorithm a.lock --seed 1 --rounds 1 --steps 3 --shrink @file a.lock PETERSON @file b.rme ALONE @out NOTHING_FOUND
+@row rmelab hunt --algorithm a.lock --seed 1 --rounds 1300 --steps 5 @file a.lock PETERSON @shown
+\r639 rounds, 3195 moves, 3195 moves a second\x1b[K\r1279 rounds, 6395 moves, 3197 moves a second\x1b[K\r\x1b[K@out NOTHING_FOUND
 @row rmelab hunt --algorithm a.lock --procs 3 --seed 1 --rounds 1 --steps 3 @file a.lock PETERSON @file b.rme ALONE @ends 2 @err BAD_SIZE
 @row rmelab shrink --algorithm a.lock b.rme @file a.lock PETERSON @file b.rme ALONE @out
 verdict fine
@@ -136,10 +143,7 @@ rmelab: line 1: refused 1
 @row rmelab hunt --seed 1 --rounds 0 --steps 1 --algorithm a.lock --variant right @ends 2 @err BAD_VARIANT
 @row rmelab hunt --seed 1 --rounds 0 --steps 1 --algorithm a.lock @ends 2 @err BAD_SIZE
 @row rmelab hunt --seed 1 --rounds 1 --steps 1 --variant right --limit 4 @ends 2 @err BAD_SIZE
-@row rmelab hunt --seed 1 --rounds 0 --steps 1 --algorithm a.lock --shrink @ends 2 @err
-error: with '--algorithm <FILE>' there is no '--shrink'; 'rmelab shrink' minimizes the schedule found
-
-For more information, try '--help'.
+@row rmelab hunt --seed 1 --rounds 0 --steps 1 --algorithm a.lock --shrink @ends 2 @err BAD_SIZE
 @row rmelab hunt --seed 1 --rounds 0 --steps 1 @ends 2 @err NO_LOCK
 @row rmelab shrink --algorithm a.lock --variant right @ends 2 @err BAD_VARIANT
 @row rmelab shrink a.rme @ends 2 @err NO_LOCK

@@ -6,7 +6,8 @@ use crate::support::invocation::{all_come_to, program_comes_to};
 use std::test::Fail;
 
 /// `TWO_AT_ONCE`: both read that nobody holds it before either has stored. `CRASH_INSIDE`: process 0 dies inside, comes back and
-/// gives way, and process 1 enters. `STARVES`: process 1 sees the flag of process 0 each time. `NO_MAILBOX`: the options of a
+/// gives way, and process 1 enters. `STARVES`: process 1 sees the flag of process 0 each time. `OUT_OF_NUMBERS`: process 1 waits for no
+/// number, process 0 for its doorway. `LEFT_HELD`: process 0 waits for itself. `NO_MAILBOX`: the options of a
 /// variant's search alone.
 pub const TEXTS: &str = "
 @text CRASH_INSIDE
@@ -60,6 +61,23 @@ step 0 3
 unlock 0
 step 1 2
 step 0
+@text STEM_OF_0
+rme 1 procs 2 limit 1 cap 1
+lock 0
+@text OUT_OF_NUMBERS
+rme 1 procs 2 limit 1 cap 1
+lock 0
+step 0
+step 0
+step 0
+lock 1
+step 1
+@text LEFT_HELD
+rme 1 procs 1 limit 1 cap 1
+lock 0
+step 0
+step 0
+crash 0
 @text BAD_SIZE
 rmelab: bad size
 @text UNREAD
@@ -69,7 +87,7 @@ rmelab: write failed
 @text BAD_VARIANT
 rmelab: bad variant
 @text NO_MAILBOX
-error: with '--algorithm <FILE>' there is no '--stuck', no '--all-variables', no '--cap' and no '--width'
+error: with '--algorithm <FILE>' there is no '--all-variables', no '--cap' and no '--width'
 
 For more information, try '--help'.
 ";
@@ -108,12 +126,38 @@ never starving: all 269 states
 @row rmelab explore --algorithm a.lock --procs 3 --starving @file a.lock PETERSON @ends 2 @err BAD_SIZE
 @row rmelab explore --algorithm a.lock --procs 2 --states 57 --starving @file a.lock PETERSON @ends 3 @err
 rmelab: too many states
-@row rmelab explore --algorithm a.lock --procs 2 --stuck --starving @ends 2 @err NO_MAILBOX
+@row rmelab explore --algorithm a.lock --procs 2 --stuck --states 58 @file a.lock PETERSON @out
+never stuck: all 58 states
+@row rmelab explore --algorithm a.lock --procs 2 --stuck --jobs 3 --limit 1 --crashes 1 @file a.lock PETERSON @out CRASH_INSIDE @ends 1
+@row rmelab explore --algorithm a.lock --procs 2 --stuck --limit 1 @file a.lock BAKERY_1974 @out OUT_OF_NUMBERS @ends 1
+@row rmelab explore --algorithm a.lock --procs 2 --stuck --limit 1 --calls lock @file a.lock BURNS @out STEM_OF_0 @ends 1
+@row rmelab explore --algorithm a.lock --procs 1 --stuck --limit 1 --crashes 1 @file a.lock ONE_WORD @out LEFT_HELD @ends 1
+@row rmelab explore --algorithm a.lock --procs 2 --stuck --starving --limit 1 @file a.lock PETERSON @out
+never stuck: all 58 states
+never starving: all 58 states
+@row rmelab explore --algorithm a.lock --procs 1 --starving --stuck --limit 1 --crashes 1 @file a.lock ONE_WORD @ends 1 @out
+rme 1 procs 1 limit 1 cap 1
+lock 0
+step 0
+step 0
+crash 0
+rme 1 procs 1 limit 1 cap 1
+lock 0
+step 0
+step 0
+crash 0
+lock 0
+step 0
+starves 0 cycle 1
+@row rmelab explore --algorithm a.lock --procs 2 --stuck --moves 9 @ends 2 @err BAD_SIZE
+@row rmelab explore --algorithm a.lock --procs 3 --stuck @file a.lock PETERSON @ends 2 @err BAD_SIZE
+@row rmelab explore --algorithm a.lock --procs 3 --stuck --starving @file a.lock PETERSON @ends 2 @err BAD_SIZE
+@row rmelab explore --algorithm a.lock --procs 2 --states 57 --stuck @file a.lock PETERSON @ends 3 @err
+rmelab: too many states
 @row rmelab explore --procs 2 --algorithm a.lock --variant right @ends 2 @err BAD_VARIANT
 @row rmelab explore --procs 2 --variant wrong --algorithm a.lock --stuck @ends 2 @err BAD_VARIANT
 @row rmelab explore --procs 2 --algorithm a.lock --calls lock,append @ends 2 @err BAD_SIZE
 @row rmelab explore --procs 2 --algorithm a.lock --calls consistent @ends 2 @err BAD_SIZE
-@row rmelab explore --procs 2 --algorithm a.lock --stuck @ends 2 @err NO_MAILBOX
 @row rmelab explore --procs 2 --algorithm a.lock --all-variables @ends 2 @err NO_MAILBOX
 @row rmelab explore --procs 2 --algorithm a.lock --calls run --cap 1 @ends 2 @err NO_MAILBOX
 @row rmelab explore --procs 2 --algorithm a.lock --width 1 @ends 2 @err NO_MAILBOX

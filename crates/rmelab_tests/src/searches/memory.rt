@@ -15,7 +15,8 @@ step 0 8
 @row rmelab explore --variant right --procs 1 --limit 1 --moves 3 @out
 nothing found within 3 moves
 @row rmelab explore --algorithm a.lock --procs 2 @file a.lock ONE_WORD @out TWO_AT_ONCE @ends 1
-@row rmelab explore --algorithm a.lock --procs 2 --stuck @ends 2 @err NO_MAILBOX
+@row rmelab explore --algorithm a.lock --procs 1 --stuck --limit 1 --crashes 1 @file a.lock ONE_WORD @out LEFT_HELD @ends 1
+@row rmelab explore --algorithm a.lock --procs 2 --cap 1 @ends 2 @err NO_MAILBOX
 @row rmelab explore --procs 2 @ends 2 @err NO_LOCK
 @row rmelab hunt --algorithm a.lock --seed 1 --rounds 1 --steps 3 @file a.lock PETERSON @out
 nothing found

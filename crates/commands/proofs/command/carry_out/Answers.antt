@@ -1,5 +1,6 @@
 use Rattle.std.proofs.Common.{subst, sym, option_copied}
 use Rattle.commands.specs.Commands.{CommandEnds, SessionEndsOf}
+use Rattle.commands.specs.Devices.{devices}
 use Rattle.commands.proofs.command.carry_out.Goals as goal
 
 -- a replay ends as `replay_command` says
@@ -97,12 +98,8 @@ pub returns-in-Step-clause-session : goal.returns-in-Step-clause-session
 returns-in-Step-clause-session g c = λ is.
     subst
     (λ command. SessionEndsOf command (option_copied c.args.image)
-    (g.R.Source.reading c.args.r.now)
-    (g.R.Source.reading c.session_command.new.r)
-    (g.F.Folder.used c.args.folder.now)
-    (g.F.Folder.used c.session_command.new.folder)
-    (g.W.Sink.tape c.args.w.now)
-    (g.W.Sink.tape c.session_command.new.w)
+    (devices (g.R.Source.reading c.args.r.now) (g.F.Folder.used c.args.folder.now) (g.W.Sink.tape c.args.w.now))
+    (devices (g.R.Source.reading c.session_command.new.r) (g.F.Folder.used c.session_command.new.folder) (g.W.Sink.tape c.session_command.new.w))
     c.session_command.result)
     (sym c.in-Step.is)
     c.session_command.ensures.ends
@@ -124,12 +121,8 @@ pub returns-in-StepAlgorithm-clause-session : goal.returns-in-StepAlgorithm-clau
 returns-in-StepAlgorithm-clause-session g c = λ is.
     subst
     (λ command. SessionEndsOf command (option_copied c.args.image)
-    (g.R.Source.reading c.args.r.now)
-    (g.R.Source.reading c.algorithm_session_command.new.r)
-    (g.F.Folder.used c.args.folder.now)
-    (g.F.Folder.used c.algorithm_session_command.new.folder)
-    (g.W.Sink.tape c.args.w.now)
-    (g.W.Sink.tape c.algorithm_session_command.new.w)
+    (devices (g.R.Source.reading c.args.r.now) (g.F.Folder.used c.args.folder.now) (g.W.Sink.tape c.args.w.now))
+    (devices (g.R.Source.reading c.algorithm_session_command.new.r) (g.F.Folder.used c.algorithm_session_command.new.folder) (g.W.Sink.tape c.algorithm_session_command.new.w))
     c.algorithm_session_command.result)
     (sym c.in-StepAlgorithm.is)
     c.algorithm_session_command.ensures.ends

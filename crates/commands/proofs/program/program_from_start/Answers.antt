@@ -1,5 +1,6 @@
 use Rattle.std.proofs.Common.{subst}
 use Rattle.schedule.specs.Tapes.{Reading}
+use Rattle.commands.specs.Devices.{devices}
 use Rattle.commands.specs.Programs.{IsProgram}
 use Rattle.commands.proofs.program.program_from_start.Goals as goal
 
@@ -13,7 +14,8 @@ returns g c is =
       says = g.E.Sink.tape c.program.new.err;
       is =
           subst
-          (λ (old : Reading). IsProgram c.args.words (g.F.Folder.used c.args.folder.now) (g.F.Folder.used c.program.new.folder) old (g.R.Source.reading c.program.new.input)
-          (g.W.Sink.tape c.args.out.now) (g.W.Sink.tape c.program.new.out) (g.E.Sink.tape c.args.err.now) (g.E.Sink.tape c.program.new.err) c.program.result)
+          (λ (old : Reading). IsProgram c.args.words (devices old (g.F.Folder.used c.args.folder.now) (g.W.Sink.tape c.args.out.now))
+          (devices (g.R.Source.reading c.program.new.input) (g.F.Folder.used c.program.new.folder) (g.W.Sink.tape c.program.new.out))
+          (g.E.Sink.tape c.args.err.now) (g.E.Sink.tape c.program.new.err) c.program.result)
           is c.program.ensures;
     }

@@ -10,7 +10,7 @@ pub returns-in_err-schedule-clause-ends : goal.returns-in_err-schedule-clause-en
 returns-in_err-schedule-clause-ends g c =
     let p = err_from_is_err_and c.from_residual-in_err-schedule.result c.from_residual-in_err-schedule.ensures.1 in
     rw (p.1, p.2) (
-    no_schedule (g.R.Source.reading c.args.r.now) (g.R.Source.reading c.schedule_read.new.r) (g.W.Sink.tape c.args.w.now) _
+    no_schedule (option_copied c.args.text) (g.R.Source.reading c.args.r.now) (g.R.Source.reading c.schedule_read.new.r) (g.W.Sink.tape c.args.w.now) _
     c.in_err-schedule.ensures.wrong c.in_err-schedule.ensures.unread
     )
 

@@ -1,6 +1,6 @@
 use Rattle.std.proofs.Common.{rules, option_copied, arith}
 use Rattle.std.proofs.lemmas.Result.{err_from_is_err_and}
-use Rattle.commands.specs.Replays.{replay_manner}
+use Rattle.commands.specs.Replays.{replay_request}
 use Rattle.commands.proofs.Draws.{untold}
 use Rattle.commands.proofs.schedules.replay_command.replay_command.Goals as goal
 
@@ -12,7 +12,7 @@ returns-in_err-schedule-clause-ends g c =
       search rules,
       λ new. tt,
       λ reports.
-          untold c.args.args.now.variant (replay_manner c.args.args.now) (option_copied c.args.image)
+          untold (replay_request c.args.args.now) (option_copied c.args.image)
           (g.R.Source.reading c.args.r.now)
           (g.R.Source.reading c.schedule_read.new.r)
           (g.W.Sink.tape c.args.w.now) _ c.in_err-schedule.ensures.wrong,

@@ -1,22 +1,25 @@
-use Rattle.std.proofs.Common.{refl}
+use Rattle.std.proofs.Common.{None, inr, refl}
 use Rattle.std.proofs.lemmas.Result.{err_from_is_err_and}
-use Rattle.commands.proofs.AlgorithmSessions.{cut_at_start, cut_in_lines, no_header, no_world}
+use Rattle.commands.specs.AlgorithmSessions.{algorithm_machine}
+use Rattle.commands.proofs.Beginning.{cut_at_start, cut_in_lines, without_schedule, not_begun}
 use Rattle.commands.proofs.sessions.algorithm.hold_session.Goals as goal
 
 pub returns-in_err-schedule-clause-ends : goal.returns-in_err-schedule-clause-ends
 returns-in_err-schedule-clause-ends g c =
     let p = err_from_is_err_and c.from_residual.result c.from_residual.ensures.1 in
     rw (p.1, p.2) (
-    no_header c.args.algorithm (g.R.Source.reading c.args.r.now) (g.R.Source.reading c.header_read.new.r) (g.F.Folder.used c.args.folder.now)
-    (g.W.Sink.tape c.args.w.now) _ c.in_err-schedule.ensures.unread
+    not_begun (algorithm_machine c.args.algorithm) None (g.R.Source.reading c.args.r.now) (g.R.Source.reading c.header_read.new.r)
+    (g.F.Folder.used c.args.folder.now) (g.W.Sink.tape c.args.w.now) _
+    (without_schedule (algorithm_machine c.args.algorithm) None (g.R.Source.reading c.args.r.now) (g.R.Source.reading c.header_read.new.r) _ c.in_err-schedule.ensures.unread)
     )
 
 pub returns-in_err-monitor-clause-ends : goal.returns-in_err-monitor-clause-ends
 returns-in_err-monitor-clause-ends g c =
     let p = err_from_is_err_and c.from_residual-in_err-monitor.result c.from_residual-in_err-monitor.ensures.1 in
     rw (p.1, p.2) (
-    no_world c.args.algorithm (g.R.Source.reading c.args.r.now) (g.R.Source.reading c.header_read.new.r) (g.F.Folder.used c.args.folder.now)
-    (g.W.Sink.tape c.args.w.now) c.header_read.new.buffer.items c.in_ok-schedule.schedule _ c.in_ok-schedule.ensures.opens c.in_err-monitor.ensures.unmade
+    not_begun (algorithm_machine c.args.algorithm) None (g.R.Source.reading c.args.r.now) (g.R.Source.reading c.header_read.new.r)
+    (g.F.Folder.used c.args.folder.now) (g.W.Sink.tape c.args.w.now) _
+    (inr (inr (c.header_read.new.buffer.items, c.in_ok-schedule.schedule, c.in_ok-schedule.ensures.opens, c.in_err-monitor.ensures.unmade)))
     )
 
 pub returns-clause-ends : goal.returns-clause-ends
@@ -40,7 +43,7 @@ pub returns-in_err-session-clause-ends : goal.returns-in_err-session-clause-ends
 returns-in_err-session-clause-ends g c =
     let p = err_from_is_err_and c.from_residual-in_err-session.result c.from_residual-in_err-session.ensures.1 in
     rw (p.1, p.2) (
-    cut_at_start c.args.algorithm (g.R.Source.reading c.args.r.now) (g.R.Source.reading c.header_read.new.r)
+    cut_at_start (algorithm_machine c.args.algorithm) None (g.R.Source.reading c.args.r.now) (g.R.Source.reading c.header_read.new.r)
     (g.F.Folder.used c.args.folder.now) (g.W.Sink.tape c.args.w.now) (g.W.Sink.tape c.args.w.now) c.header_read.new.buffer.items
     c.in_ok-schedule.schedule _ c.in_ok-schedule.ensures.opens c.in_ok-monitor.ensures.accepted (record { taken = refl; fine = refl })
     )
@@ -49,7 +52,7 @@ pub returns-in_err-write_state-clause-ends : goal.returns-in_err-write_state-cla
 returns-in_err-write_state-clause-ends g c =
     let p = err_from_is_err_and c.from_residual-in_err-write_state.result c.from_residual-in_err-write_state.ensures.1 in
     rw (p.1, p.2) (
-    cut_at_start c.args.algorithm (g.R.Source.reading c.args.r.now) (g.R.Source.reading c.header_read.new.r)
+    cut_at_start (algorithm_machine c.args.algorithm) None (g.R.Source.reading c.args.r.now) (g.R.Source.reading c.header_read.new.r)
     (g.F.Folder.used c.args.folder.now) (g.W.Sink.tape c.args.w.now) (g.W.Sink.tape c.write_state.new.w) c.header_read.new.buffer.items
     c.in_ok-schedule.schedule _ c.in_ok-schedule.ensures.opens c.in_ok-monitor.ensures.accepted
     (rw c.in_ok-monitor.ensures.made at (rw c.in_ok-session.ensures at c.in_err-write_state.ensures.failed))
@@ -61,7 +64,7 @@ returns-in_err-converse-clause-ends g c =
     let made = c.in_ok-monitor.ensures.made in
     let p = err_from_is_err_and c.from_residual-in_err-converse.result c.from_residual-in_err-converse.ensures.1 in
     rw (p.1, p.2) (
-    cut_in_lines c.args.algorithm (g.R.Source.reading c.args.r.now) (g.R.Source.reading c.header_read.new.r)
+    cut_in_lines (algorithm_machine c.args.algorithm) None (g.R.Source.reading c.args.r.now) (g.R.Source.reading c.header_read.new.r)
     (g.R.Source.reading c.converse.new.r) (g.F.Folder.used c.args.folder.now) (g.F.Folder.used c.converse.new.folder)
     (g.W.Sink.tape c.args.w.now) (g.W.Sink.tape c.write_state.new.w) (g.W.Sink.tape c.converse.new.w) c.header_read.new.buffer.items
     c.in_ok-schedule.schedule _ c.in_ok-schedule.ensures.opens c.in_ok-monitor.ensures.accepted

@@ -1,5 +1,6 @@
 use Rattle.std.proofs.Common.{rules, option_copied}
 use Rattle.std.proofs.lemmas.Result.{err_from_is_err_and}
+use Rattle.commands.specs.Conversations.{lock_machine}
 use Rattle.commands.proofs.Beginning.{cant_play}
 use Rattle.commands.proofs.sessions.session_loop.first_schedule.Goals as goal
 
@@ -7,7 +8,7 @@ pub returns-in_err-plays-clause-refused : goal.returns-in_err-plays-clause-refus
 returns-in_err-plays-clause-refused g c =
     let p = err_from_is_err_and c.from_residual-in_err-plays.result c.from_residual-in_err-plays.ensures.1 in
     rw (p.1, p.2)
-    (cant_play (option_copied c.args.start)
+    (cant_play lock_machine (option_copied c.args.start)
     (g.R.Source.reading c.args.r.now)
     (g.R.Source.reading c.first_text.new.r) c.first_text.new.buffer.items c.in_ok-text.text.items c.in_ok-schedule.schedule _ c.in_ok-text.ensures.begins
     (search (rules, c.in_ok-schedule.ensures.read)) c.in_err-plays.ensures.refused)

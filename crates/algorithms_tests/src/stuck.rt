@@ -1,0 +1,95 @@
+//! Searches for a stuck state: how many moves a shortest schedule to one has, or how many states there are. After the text a case
+//! has the sizes, how many crashes there may be, and which calls processes make.
+
+use crate::cases::{Kind, compare_cases};
+use crate::support::{number, text_named};
+use algorithm_explorer::{StuckOutcome, Unwatched, stuck_algorithm_schedule};
+use algorithm_texts::read_algorithm;
+use algorithms::AlgorithmCall;
+use std::alloc::Global;
+use std::fmt::Write;
+use std::test::Fail;
+
+/// From each state all come home: these locks are free of deadlocks, and one recovers.
+const NEVER: &str = "\
+== peterson 2 1 0 lock-and-unlock\n--\n58 states\n\
+== szymanski 2 1 0 lock-and-unlock\n--\n86 states\n\
+== lamport_fast 2 1 0 lock-and-unlock\n--\n386 states\n\
+== recoverable_peterson 2 1 any all\n--\n1342 states\n\
+";
+
+/// Nobody leaves; who has crashed waits for itself; and a number is needed above the limit.
+const STUCK: &str = "\
+== peterson 2 1 0 lock\n--\nstuck after 1 moves\n\
+== one_word 1 1 1 lock-and-unlock\n--\nstuck after 4 moves\n\
+== lamport_fast 2 1 1 lock-and-unlock\n--\nstuck after 6 moves\n\
+== bakery_1974 2 1 0 lock-and-unlock\n--\nstuck after 6 moves\n\
+== bakery_1974 2 3 0 lock-and-unlock\n--\nstuck after 24 moves\n\
+";
+
+/// A schedule that goes wrong comes first, and a world that there is not before all.
+const WRONG: &str = "\
+== one_word 2 1 1 lock-and-unlock\n--\nfault after 6 moves\n\
+== peterson 2 1 1 lock-and-unlock\n--\nfault after 13 moves\n\
+== peterson 3 1 0 lock-and-unlock\n--\nthe algorithm is not for this number of processes\n\
+";
+
+const CALLS: [AlgorithmCall; 4] = [
+    AlgorithmCall::Lock,
+    AlgorithmCall::Unlock,
+    AlgorithmCall::Recover,
+    AlgorithmCall::Withdraw,
+];
+
+/// The calls of a case.
+fn calls_named(name: &str) -> &'static [AlgorithmCall] {
+    match name {
+        "all" => &CALLS,
+        "lock" => &CALLS[..1],
+        _ => &CALLS[..2],
+    }
+}
+
+/// A search, as a case: the text, the sizes, the crashes and the calls.
+pub fn put_stuck(alloc: Global, words: &[&str; 8], text: &mut String) -> Result<(), Fail> {
+    let [name, procs, limit, crashes, calls, ..] = words;
+    let algorithm = read_algorithm(alloc, text_named(name))?;
+    let crashes = if *crashes == "any" {
+        None
+    } else {
+        Some(number(crashes))
+    };
+    let found = stuck_algorithm_schedule(
+        alloc,
+        algorithm,
+        number(procs),
+        number(limit),
+        crashes,
+        calls_named(calls),
+        100_000,
+        &mut Unwatched,
+    );
+    let written = match &found {
+        Ok(StuckOutcome::Fault(moves)) => writeln!(text, "fault after {} moves", moves.len()),
+        Ok(StuckOutcome::Stuck(moves)) => writeln!(text, "stuck after {} moves", moves.len()),
+        Ok(StuckOutcome::NeverStuck(states)) => writeln!(text, "{states} states"),
+        Err(fault) => writeln!(text, "{fault}"),
+    };
+    drop(found);
+    Ok(written?)
+}
+
+#[test]
+fn never_stuck(rt: HostRuntime) -> Result<(), Fail> {
+    compare_cases(rt.alloc(), Kind::Stuck, NEVER)
+}
+
+#[test]
+fn stuck_states(rt: HostRuntime) -> Result<(), Fail> {
+    compare_cases(rt.alloc(), Kind::Stuck, STUCK)
+}
+
+#[test]
+fn wrong_before_stuck(rt: HostRuntime) -> Result<(), Fail> {
+    compare_cases(rt.alloc(), Kind::Stuck, WRONG)
+}
